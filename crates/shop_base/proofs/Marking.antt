@@ -1,0 +1,107 @@
+-- The tables of marks that the check of an order keeps.
+use Rattle.std.proofs.Common.{◌≡◌, ◌≢◌, ℕ, ◌+◌, ◌<◌, ◌≤◌, List, Bool, true, false, length, get_or, set, MatchBool, arith, get_or-set_same, get_or-set_other, sym, inl, inr, replicate, refl, ap, ◌∙◌}
+use Rattle.std.proofs.lemmas.List.{get_or-replicate, get_or_past, length-replicate, length-set}
+use Rattle.std.proofs.lemmas.Bool.Decides.{eqb_tells}
+use Rattle.std.proofs.lemmas.Bool.{cases_lt, cases_order}
+use Rattle.shop_base.specs.declared.limits.TheConstants.{MAX_JOBS}
+use Rattle.shop_base.specs.Plan.{PlannedShop, job_at}
+use Rattle.shop_base.specs.ShapeFault.{IsGoodPlace}
+use Rattle.shop_base.specs.Marks.{AreMarks}
+
+-- a mark is right: it is set just where the fact holds
+abbrev pub IsRight : Bool → Type 0 → Type 0
+IsRight mark P = MatchBool mark P (P → ⊥)
+
+pub right_true : {b : Bool} {P : Type 0} → IsRight b P → b ≡ true → P
+right_true right is = rw is at right
+
+pub right_false : {b : Bool} {P : Type 0} → IsRight b P → b ≡ false → P → ⊥
+right_false right is = rw is at right
+
+-- the marks of the first n jobs are right, and no other is set
+pub record AreMarksBelow (marks : List Bool) (P : ℕ → Type 0) (n : ℕ) : Type 0 where
+  pub right : (j : ℕ) → j < n → IsRight (get_or marks j false) (P j)
+  pub unset : (j : ℕ) → n ≤ j → get_or marks j false ≡ false
+  pub size : length marks ≡ MAX_JOBS
+
+-- no mark is set at first
+pub unset_at : (size j : ℕ) → get_or (replicate size false) j false ≡ false
+unset_at size j = elim (cases_lt j size) [
+  | inl lower ↦ get_or-replicate size j false false lower
+  | inr higher ↦ get_or_past (replicate size false) j false (omega (arith, length-replicate size false))
+]
+
+pub marks_none : (P : ℕ → Type 0) → AreMarksBelow (replicate MAX_JOBS false) P 0
+marks_none P = record {
+  right = λ j lt. absurd (omega arith);
+  unset = λ j le. unset_at MAX_JOBS j;
+  size = length-replicate MAX_JOBS false;
+}
+
+module _ (marks : List Bool) (P : ℕ → Type 0) (n : ℕ) (below : AreMarksBelow marks P n) where
+  -- one more mark
+  pub marks_more : (b : Bool) → n < length marks → IsRight b (P n) → AreMarksBelow (set marks n b) P (n + 1)
+  marks_more b inside is = record {
+    right = λ j lt. elim (cases_order j n) [
+      | inl same ↦ rw same (rw (get_or-set_same marks n b false inside) is)
+      | inr other ↦ (let ne : j ≢ n = elim other [ inl l ↦ omega arith | inr g ↦ omega arith ] in
+          let lower : j < n = omega arith in
+          rw (get_or-set_other marks n j b false ne) (below.right j lower))
+    ];
+    unset = λ j le. (let ne : j ≢ n = omega arith in let le' : n ≤ j = omega arith in rw (get_or-set_other marks n j b false ne) (below.unset j le'));
+    size = length-set marks n b ∙ below.size;
+  }
+
+  -- none of the jobs past the marked ones is meant
+  pub marks_all : ((j : ℕ) → n ≤ j → P j → ⊥) → AreMarks marks P
+  marks_all past = λ j _. elim (cases_lt j n) [
+    | inl lower ↦ below.right j lower
+    | inr higher ↦ rw (below.unset j higher) (past j higher)
+  ]
+
+-- job j stands at one of the first n places of the order of machine m
+abbrev pub StandsBefore : PlannedShop → ℕ → ℕ → ℕ → Type 0
+StandsBefore p m n j = (a : ℕ) × (a < n) × (job_at p m a ≡ j)
+
+-- the first n places of an order are good, and their jobs are marked
+pub record ArePlacesChecked (p : PlannedShop) (m : ℕ) (listed : List Bool) (n : ℕ) : Type 0 where
+  pub good : (a : ℕ) → a < n → IsGoodPlace p m a
+  pub marks : AreMarks listed (StandsBefore p m n)
+  pub size : length listed ≡ MAX_JOBS
+
+-- no place was looked at
+pub places_none : (p : PlannedShop) (m : ℕ) → ArePlacesChecked p m (replicate MAX_JOBS false) 0
+places_none p m = record {
+  good = λ a lt. absurd (omega arith);
+  marks = λ j lt. rw (unset_at MAX_JOBS j) (λ stands. omega (arith, stands.1));
+  size = length-replicate MAX_JOBS false;
+}
+
+-- one more place doesn't concern any other job
+still : (p : PlannedShop) (m n j : ℕ) → j ≢ job_at p m n → (b : Bool) → IsRight b (StandsBefore p m n j) → IsRight b (StandsBefore p m (n + 1) j)
+still p m n j ne true stands = (stands.0, omega (arith, stands.1), stands.2)
+still p m n j ne false stands = λ more. stands (more.0, earlier more, more.2)
+  where
+    earlier : (more : StandsBefore p m (n + 1) j) → more.0 < n
+    earlier more = elim (cases_lt more.0 n) [
+      | inl lower ↦ lower
+      | inr higher ↦ (let same : more.0 ≡ n = omega (arith, more.1) in absurd (ne (sym more.2 ∙ ap (job_at p m) same)))
+    ]
+
+module _ (p : PlannedShop) (m : ℕ) (listed : List Bool) (n : ℕ) (checked : ArePlacesChecked p m listed n) where
+  -- one more good place, whose job is marked
+  pub places_more : job_at p m n < length listed → IsGoodPlace p m n → ArePlacesChecked p m (set listed (job_at p m n) true) (n + 1)
+  places_more inside good = record {
+    good = λ a lt. elim (cases_order a n) [
+      | inl same ↦ rw same good
+      | inr other ↦ (let lower : a < n = elim other [ inl l ↦ omega arith | inr g ↦ omega arith ] in checked.good a lower)
+    ];
+    marks = λ j lt. marks_more_at j (omega (arith, length-set listed (job_at p m n) true));
+    size = length-set listed (job_at p m n) true ∙ checked.size;
+  }
+    where
+      marks_more_at : (j : ℕ) → j < length listed → IsRight (get_or (set listed (job_at p m n) true) j false) (StandsBefore p m (n + 1) j)
+      marks_more_at j lt = elim (eqb_tells j (job_at p m n)) [
+        | inl same ↦ rw (same.1, get_or-set_same listed (job_at p m n) true false inside) (n, omega arith, refl)
+        | inr other ↦ rw (get_or-set_other listed (job_at p m n) j true false other.1) (still p m n j other.1 _ (checked.marks j lt))
+      ]

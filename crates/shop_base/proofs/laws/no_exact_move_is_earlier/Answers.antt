@@ -1,0 +1,5 @@
+use Rattle.shop_base.proofs.LowerBounds.{no_exact_move_is_earlier-holds}
+use Rattle.shop_base.proofs.laws.no_exact_move_is_earlier.Goals as goal
+
+pub returns : goal.returns
+returns c = no_exact_move_is_earlier-holds

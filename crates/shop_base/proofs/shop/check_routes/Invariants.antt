@@ -1,0 +1,6 @@
+use Rattle.shop_base.specs.Shop.{AreRoutes, lists_of}
+use Rattle.shop_base.proofs.shop.check_routes.Given as goal
+
+-- the routes checked so far are sound
+abbrev pub invariant-loop-job : goal.invariant-loop-job
+invariant-loop-job l = AreRoutes l.machines (lists_of l.routes) l.job

@@ -1,0 +1,7 @@
+use Rattle.std.proofs.Common.{◌≡◌, take, sum_by}
+use Rattle.shop_base.specs.Shop.{lists_of, route_work}
+use Rattle.shop_base.proofs.shop.total_work.Given as goal
+
+-- the work of the routes looked at
+abbrev pub invariant-loop-route : goal.invariant-loop-route
+invariant-loop-route l = l.work ≡ sum_by route_work (take l.route-index (lists_of l.routes))

@@ -1,0 +1,47 @@
+use Rattle.std.proofs.Common.{refl, inl, inr, ℕ, ◌≡◌, List, drop, length, nat_lt, lt-ltb, le-ltb, drop-cons, drop_of_length-le, if◌then◌else◌}
+use Rattle.std.proofs.lemmas.Bool.{cases_lt}
+use Rattle.std.proofs.lemmas.Bool.Decides.{not_from_Decides}
+use Rattle.shop_base.specs.declared.shop.Step.{Step}
+use Rattle.shop_base.specs.Shop.{step_at, no_step}
+use Rattle.shop_base.specs.Plan.{route}
+use Rattle.shop_base.specs.Cell.{made}
+use Rattle.shop_base.specs.Move.{Out, At}
+use Rattle.shop_base.specs.Examples.{target_on, in_series, go, series_after}
+use Rattle.shop_base.proofs.CellTests.{obey_decides, keeps_decides}
+use Rattle.shop_base.proofs.worked_runs.an_order_names_just_its_move.Goals as goal
+
+target_of_route : (steps : List Step) (k : ℕ) → (if nat_lt k (length steps) then At (step_at steps k).machine else Out) ≡ target_on (drop k steps)
+target_of_route steps k = elim (cases_lt k (length steps)) [
+  | inl within ↦ rw (lt-ltb k (length steps) within, drop-cons steps k no_step within)
+  | inr past ↦ rw (le-ltb k (length steps) past, drop_of_length-le steps past)
+]
+
+pub returns-clause-next : goal.returns-clause-next
+returns-clause-next c = λ p c j. target_of_route (route p j) (made c j)
+
+pub returns-clause-right : goal.returns-clause-right
+returns-clause-right c = (obey_decides in_series (series_after 4) (go 2 0 (At 0) (At 1))).0 refl
+
+pub returns-clause-later : goal.returns-clause-later
+returns-clause-later c = (obey_decides in_series (series_after 4) (go 3 0 (At 0) (At 1))).0 refl
+
+pub returns-clause-past : goal.returns-clause-past
+returns-clause-past c = not_from_Decides _ (obey_decides in_series (series_after 4) (go 1 0 (At 0) (At 1))) refl
+
+pub returns-clause-past_the_latest : goal.returns-clause-past_the_latest
+returns-clause-past_the_latest c = not_from_Decides _ (obey_decides in_series (series_after 4) (go 1_000_000_000_001 0 (At 0) (At 1))) refl
+
+pub returns-clause-other_source : goal.returns-clause-other_source
+returns-clause-other_source c = not_from_Decides _ (obey_decides in_series (series_after 4) (go 2 0 (At 1) (At 1))) refl
+
+pub returns-clause-other_target : goal.returns-clause-other_target
+returns-clause-other_target c = not_from_Decides _ (obey_decides in_series (series_after 4) (go 2 0 (At 0) Out)) refl
+
+pub returns-clause-not_ready : goal.returns-clause-not_ready
+returns-clause-not_ready c = not_from_Decides _ (obey_decides in_series (series_after 2) (go 2 0 (At 0) (At 1))) refl
+
+pub returns-clause-out_of_turn : goal.returns-clause-out_of_turn
+returns-clause-out_of_turn c = (obey_decides in_series (series_after 3) (go 2 1 Out (At 1))).0 refl
+
+pub returns-clause-against_plan : goal.returns-clause-against_plan
+returns-clause-against_plan c = not_from_Decides _ (keeps_decides in_series (series_after 3) 1) refl

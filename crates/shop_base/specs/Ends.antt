@@ -1,0 +1,49 @@
+use Rattle.std.specs.Prelude.{ℕ, zero, suc, ◌+◌, ◌<◌, ◌≤◌, length, nat_lt, if◌then◌else◌, ◌⊎◌, List, [], ◌∷◌}
+use Rattle.shop_base.specs.Shop.{operations_of}
+use Rattle.shop_base.specs.Plan.{PlannedShop, jobs, machines, order, clean, budget}
+use Rattle.shop_base.specs.Cell.{Cell, since, IsGone}
+use Rattle.shop_base.specs.Activity.{IsIdle}
+use Rattle.shop_base.specs.Run.{Event, Reported, Moved}
+
+-- the sum of f over the numbers below n
+abbrev pub sum_below : (ℕ → ℕ) → ℕ → ℕ
+sum_below f zero = 0
+sum_below f (suc n) = sum_below f n + f n
+
+-- how many cleanings of machine m there will be: one after each visit, none where it has no cleaning time
+abbrev pub cleanings_of : PlannedShop → ℕ → ℕ
+cleanings_of p m = if nat_lt 0 (clean p m) then length (order p m) else 0
+
+-- the stated number of reports: an arrival for each job, an end for each operation, and an end for each cleaning
+abbrev pub stated_number : PlannedShop → ℕ
+stated_number p = jobs p + operations_of p.shop + sum_below (cleanings_of p) (machines p)
+
+-- the run has ended: all jobs are gone, and nothing is going on
+pub record HasEnded (p : PlannedShop) (c : Cell) : Type 0 where
+  pub gone : (j : ℕ) → j < jobs p → IsGone p c j
+  pub idle : IsIdle p c
+
+-- job j is gone since a moment at most t
+pub record IsGoneBy (p : PlannedShop) (c : Cell) (j t : ℕ) : Type 0 where
+  pub gone : IsGone p c j
+  pub by : since c j ≤ t
+
+-- job j is out by its budget
+abbrev pub IsOutByBudget : PlannedShop → Cell → ℕ → Type 0
+IsOutByBudget p c j = IsGoneBy p c j (budget p j)
+
+-- job j is out by its budget, or its budget isn't past yet
+abbrev pub IsInTime : PlannedShop → Cell → ℕ → Type 0
+IsInTime p c j = IsOutByBudget p c j ⊎ (c.last ≤ budget p j)
+
+-- how many reports are among the events
+abbrev pub report_count : List Event → ℕ
+report_count [] = 0
+report_count (Reported r ∷ es) = report_count es + 1
+report_count (Moved o ∷ es) = report_count es
+
+-- how many moves are among the events
+abbrev pub move_count : List Event → ℕ
+move_count [] = 0
+move_count (Reported r ∷ es) = move_count es
+move_count (Moved o ∷ es) = move_count es + 1

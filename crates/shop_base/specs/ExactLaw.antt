@@ -1,0 +1,23 @@
+use Rattle.std.specs.Prelude.{ℕ, ◌≤◌, List, ◌∷◌, ◌++◌}
+use Rattle.shop_base.specs.declared.node.Node.{Node}
+use Rattle.shop_base.specs.Plan.{PlannedShop, IsWellShaped}
+use Rattle.shop_base.specs.Cell.{start, made, since, IsGone}
+use Rattle.shop_base.specs.Move.{MoveOrder}
+use Rattle.shop_base.specs.Run.{Event, Moved, IsRun, ends_in}
+use Rattle.shop_base.specs.Punctual.{AreExact}
+use Rattle.shop_base.specs.Graph.{node, leaving, Path}
+
+-- in a run whose reports are exact, a job that is gone isn't gone since before the length of any path to its leaving
+abbrev pub NoExactRunIsFaster : Type 0
+NoExactRunIsFaster =
+    (p : PlannedShop) (es : List Event) → IsWellShaped p → IsRun p es → AreExact p (start p) es
+    → (j : ℕ) (nodes : List Node) (n : ℕ) → Path p nodes (leaving p j) n → IsGone p (ends_in p es) j
+    → n ≤ since (ends_in p es) j
+
+-- in a run whose reports are exact, no move is made before the length of any path to the node that it makes
+abbrev pub NoExactMoveIsEarlier : Type 0
+NoExactMoveIsEarlier =
+    (p : PlannedShop) (es rest : List Event) (o : MoveOrder) → IsWellShaped p
+    → IsRun p (es ++ Moved o ∷ rest) → AreExact p (start p) (es ++ Moved o ∷ rest)
+    → (nodes : List Node) (n : ℕ) → Path p nodes (node o.job (made (ends_in p es) o.job)) n
+    → n ≤ o.at

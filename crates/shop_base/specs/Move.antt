@@ -1,0 +1,94 @@
+use Rattle.std.specs.Prelude.{◌≡◌, ℕ, zero, suc, ◌+◌, List, [], ◌∷◌, ◌++◌, slice_set, None, Some, true, false, nat_lt, if◌then◌else◌, ◌⊎◌}
+use Rattle.shop_base.specs.Plan.{PlannedShop, steps, machine_of, clean, order, Visits}
+use Rattle.shop_base.specs.Cell.{Cell, made, ready, entries, cleaning, IsFree}
+use Rattle.shop_base.specs.Report.{IsTimely}
+
+-- where a job is, or goes: out of the cell, or on a machine
+pub data Spot : Type 0 where
+  Out : Spot
+  At : (machine : ℕ) → Spot
+
+-- the machine of a job's last entry, out before the first
+abbrev pub source_after : PlannedShop → ℕ → ℕ → Spot
+source_after p j zero = Out
+source_after p j (suc k) = At (machine_of p j k)
+
+-- the source of job j's next move: the place where it is
+abbrev pub source : PlannedShop → Cell → ℕ → Spot
+source p c j = source_after p j (made c j)
+
+-- the target of job j's next move: the first machine of its remaining route, or out of the cell
+abbrev pub target : PlannedShop → Cell → ℕ → Spot
+target p c j = if nat_lt (made c j) (steps p j) then At (machine_of p j (made c j)) else Out
+
+-- job j can leave the cell: it has no remaining route
+abbrev pub CanLeave : PlannedShop → Cell → ℕ → Type 0
+CanLeave p c j = made c j ≡ steps p j
+
+-- job j can enter machine m, the first of its remaining route: no job is on it, and it isn't being cleaned
+pub record CanEnter (p : PlannedShop) (c : Cell) (j m : ℕ) : Type 0 where
+  pub next : Visits p j (made c j) m
+  pub free : IsFree p c m
+  pub is_clean : cleaning c m ≡ None
+
+-- a move of job j at moment t is possible
+pub record CanMove (p : PlannedShop) (c : Cell) (j t : ℕ) : Type 0 where
+  pub is_ready : ready c j ≡ true
+  pub way : CanLeave p c j ⊎ ((m : ℕ) × CanEnter p c j m)
+  pub timely : IsTimely c t
+
+-- one list begins another
+abbrev pub IsPrefix : List ℕ → List ℕ → Type 0
+IsPrefix front whole = (rest : List ℕ) × (whole ≡ front ++ rest)
+
+-- the next move of job j keeps the plan: it is a leaving, or the jobs that have then entered its machine are a prefix of that machine's order
+abbrev pub KeepsPlan : PlannedShop → Cell → ℕ → Type 0
+KeepsPlan p c j = (m : ℕ) → Visits p j (made c j) m → IsPrefix (entries c m ++ j ∷ []) (order p m)
+
+-- the machines once job j has left machine m at moment t: where m has a cleaning time, its cleaning begins
+abbrev pub with_departure : PlannedShop → Cell → ℕ → ℕ → Cell
+with_departure p c m t = if nat_lt 0 (clean p m)
+    then (record { jobs = c.jobs; machines = slice_set c.machines m (record { entries = entries c m; cleaning = Some t }); last = c.last })
+    else c
+
+-- the cell once a job has left its source
+abbrev pub after_leaving : PlannedShop → Cell → Spot → ℕ → Cell
+after_leaving p c Out t = c
+after_leaving p c (At m) t = with_departure p c m t
+
+-- the cell once job j has come to its target
+abbrev pub with_entry : Cell → ℕ → Spot → Cell
+with_entry c j Out = c
+with_entry c j (At m) = record {
+  jobs = c.jobs;
+  machines = slice_set c.machines m (record { entries = entries c m ++ j ∷ []; cleaning = cleaning c m });
+  last = c.last;
+}
+
+-- the cell with one more move of job j, made at moment t
+abbrev pub with_moved : Cell → ℕ → ℕ → Cell
+with_moved c j t = record {
+  jobs = slice_set c.jobs j (record { made = made c j + 1; ready = false; since = t });
+  machines = c.machines;
+  last = t;
+}
+
+-- the cell after a move of job j at moment t: it leaves its source, comes to its target, and has made one more move
+abbrev pub after_move : PlannedShop → Cell → ℕ → ℕ → Cell
+after_move p c j t = with_moved (with_entry (after_leaving p c (source p c j) t) j (target p c j)) j t
+
+-- an order to move: the job, where from, where to, and when
+pub record MoveOrder : Type 0 where
+  pub job : ℕ
+  pub source : Spot
+  pub target : Spot
+  pub at : ℕ
+
+-- the order that is job j's next move at moment t
+abbrev pub order_for : PlannedShop → Cell → ℕ → ℕ → MoveOrder
+order_for p c j t = record { job = j; source = source p c j; target = target p c j; at = t }
+
+-- the order is a possible move: it names the job's source and target
+pub record CanObey (p : PlannedShop) (c : Cell) (o : MoveOrder) : Type 0 where
+  pub can : CanMove p c o.job o.at
+  pub is_move : o ≡ order_for p c o.job o.at

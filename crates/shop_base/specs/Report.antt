@@ -1,0 +1,45 @@
+use Rattle.std.specs.Prelude.{ℕ, ◌≤◌, None, true, slice_set}
+use Rattle.shop_base.specs.declared.limits.TheConstants.{MAX_MOMENT}
+use Rattle.shop_base.specs.Plan.{PlannedShop}
+use Rattle.shop_base.specs.Cell.{Cell, job_in, machine_in}
+use Rattle.shop_base.specs.Activity.{Activity, Arrival, Operation, Cleaning, GoesOn}
+
+-- it is said that an activity has ended at a moment
+pub record Report : Type 0 where
+  pub ended : Activity
+  pub at : ℕ
+
+-- the moment isn't before the last one, nor past the latest
+pub record IsTimely (c : Cell) (t : ℕ) : Type 0 where
+  pub in_order : c.last ≤ t
+  pub in_range : t ≤ MAX_MOMENT
+
+-- the report is possible: its activity is going on, at a timely moment
+pub record CanReport (p : PlannedShop) (c : Cell) (r : Report) : Type 0 where
+  pub going : (due : ℕ) × GoesOn p c r.ended due
+  pub timely : IsTimely c r.at
+
+-- the cell once job j has become ready
+abbrev pub with_ready : Cell → ℕ → ℕ → Cell
+with_ready c j t = record {
+  jobs = slice_set c.jobs j (record { made = (job_in c j).made; ready = true; since = (job_in c j).since });
+  machines = c.machines;
+  last = t;
+}
+
+-- the cell once machine m is clean
+abbrev pub with_clean : Cell → ℕ → ℕ → Cell
+with_clean c m t = record {
+  jobs = c.jobs;
+  machines = slice_set c.machines m (record { entries = (machine_in c m).entries; cleaning = None });
+  last = t;
+}
+
+abbrev pub after_end : Cell → Activity → ℕ → Cell
+after_end c (Arrival j) t = with_ready c j t
+after_end c (Operation j m) t = with_ready c j t
+after_end c (Cleaning m) t = with_clean c m t
+
+-- the cell after a report: the job is ready, or the machine clean
+abbrev pub after_report : Cell → Report → Cell
+after_report c r = after_end c r.ended r.at

@@ -1,0 +1,83 @@
+use Rattle.std.specs.Prelude.{◌≡◌, ◌≢◌, ℕ, ◌<◌, ◌≤◌, length}
+use Rattle.shop_base.specs.declared.limits.TheConstants.{MAX_RELEASE, MAX_MOMENT, MAX_CLEAN}
+use Rattle.shop_base.specs.declared.shape_fault.ShapeFault.{ShapeFault}
+use Rattle.shop_base.specs.declared.shape_fault.ShapeFault.TheVariants.{ReleaseCount, BudgetCount, OrderCount, CleanCount, ReleaseTooLarge, BudgetTooLarge, CleanTooLarge, JobOutOfRange, NotOnRoute, JobTwice, JobMissing}
+use Rattle.shop_base.specs.Plan.{PlannedShop, jobs, machines, release, budget, clean, order, job_at, Visits, HasCleanCount, HasCounts, IsWithinLimits, IsOrder}
+
+-- the route of job j visits machine m
+abbrev pub IsVisitor : PlannedShop → ℕ → ℕ → Type 0
+IsVisitor p m j = (k : ℕ) × Visits p j k m
+
+-- job j stands in the order of machine m
+abbrev pub IsListed : PlannedShop → ℕ → ℕ → Type 0
+IsListed p m j = (a : ℕ) × (a < length (order p m)) × (job_at p m a ≡ j)
+
+-- the job at place a stands at no earlier place of the order of machine m
+abbrev pub IsFirstPlace : PlannedShop → ℕ → ℕ → Type 0
+IsFirstPlace p m a = (b : ℕ) → b < a → job_at p m b ≢ job_at p m a
+
+-- the job at place a of the order of machine m visits it, and stands at no earlier place
+pub record IsGoodPlace (p : PlannedShop) (m a : ℕ) : Type 0 where
+  pub visitor : IsVisitor p m (job_at p m a)
+  pub first : IsFirstPlace p m a
+
+-- the counts, the limits and the orders before machine m are sound
+pub record IsMachineReached (p : PlannedShop) (m : ℕ) : Type 0 where
+  pub in_range : m < machines p
+  pub counts : HasCounts p
+  pub limits : IsWithinLimits p
+  pub before : (n : ℕ) → n < m → IsOrder p n
+
+-- so are the places before place a
+pub record IsPlaceReached (p : PlannedShop) (m a : ℕ) : Type 0 where
+  pub reached : IsMachineReached p m
+  pub in_range : a < length (order p m)
+  pub before : (b : ℕ) → b < a → IsGoodPlace p m b
+
+-- so are all places, and no job before job j is missing
+pub record IsJobReached (p : PlannedShop) (m j : ℕ) : Type 0 where
+  pub reached : IsMachineReached p m
+  pub places : (a : ℕ) → a < length (order p m) → IsGoodPlace p m a
+  pub before : (i : ℕ) → i < j → IsVisitor p m i → IsListed p m i
+
+-- each of the first n numbers is within the limit
+abbrev pub AreWithin : (ℕ → ℕ) → ℕ → ℕ → Type 0
+AreWithin f n limit = (i : ℕ) → i < n → f i ≤ limit
+
+-- this is what is wrong first with the shape of a plan
+abbrev pub IsFirstShapeFault : PlannedShop → ShapeFault → Type 0
+IsFirstShapeFault p ReleaseCount = length p.plan.release ≢ jobs p
+IsFirstShapeFault p BudgetCount = (length p.plan.release ≡ jobs p) × (length p.plan.budget ≢ jobs p)
+IsFirstShapeFault p OrderCount =
+    (length p.plan.release ≡ jobs p) × (length p.plan.budget ≡ jobs p) × (length p.plan.order ≢ machines p)
+IsFirstShapeFault p CleanCount =
+    (length p.plan.release ≡ jobs p)
+    × (length p.plan.budget ≡ jobs p)
+    × (length p.plan.order ≡ machines p)
+    × (HasCleanCount p.plan.clean (machines p) → ⊥)
+IsFirstShapeFault p (ReleaseTooLarge job) =
+    HasCounts p × (job < jobs p) × AreWithin (release p) job MAX_RELEASE × (MAX_RELEASE < release p job)
+IsFirstShapeFault p (BudgetTooLarge job) =
+    HasCounts p
+    × AreWithin (release p) (jobs p) MAX_RELEASE
+    × (job < jobs p)
+    × AreWithin (budget p) job MAX_MOMENT
+    × (MAX_MOMENT < budget p job)
+IsFirstShapeFault p (CleanTooLarge machine) =
+    HasCounts p
+    × AreWithin (release p) (jobs p) MAX_RELEASE
+    × AreWithin (budget p) (jobs p) MAX_MOMENT
+    × (machine < machines p)
+    × AreWithin (clean p) machine MAX_CLEAN
+    × (MAX_CLEAN < clean p machine)
+IsFirstShapeFault p (JobOutOfRange machine place) = IsPlaceReached p machine place × (jobs p ≤ job_at p machine place)
+IsFirstShapeFault p (NotOnRoute machine place) =
+    IsPlaceReached p machine place
+    × (job_at p machine place < jobs p)
+    × (IsVisitor p machine (job_at p machine place) → ⊥)
+IsFirstShapeFault p (JobTwice machine place) =
+    IsPlaceReached p machine place
+    × IsVisitor p machine (job_at p machine place)
+    × (earlier : ℕ) × (earlier < place) × (job_at p machine earlier ≡ job_at p machine place)
+IsFirstShapeFault p (JobMissing machine job) =
+    IsJobReached p machine job × IsVisitor p machine job × (IsListed p machine job → ⊥)

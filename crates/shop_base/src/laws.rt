@@ -1,0 +1,81 @@
+//! The laws that hold of every run. Each is the contract of a function that does nothing, so a check of
+//! this crate proves it. `docs/LAWS.md` says them in plain words.
+
+ghost use Rattle.shop_base.specs.ChainLaw.{OneChainFitsAReport, EveryListHasOneControlledRun, NoTwoJobsAreOnOneMachine, AControlledRunIsARun};
+ghost use Rattle.shop_base.specs.NeverStuckLaw.{NoControlledRunIsStuck};
+ghost use Rattle.shop_base.specs.EndsLaw.{EndsOnTheStatedNumber, OrdersNeverOutnumberReports, MovesNeverOutnumberReports};
+ghost use Rattle.shop_base.specs.InTimeLaw.{PunctualRunsAreInTime};
+ghost use Rattle.shop_base.specs.CycleLaw.{ACycleStopsEveryRun};
+ghost use Rattle.shop_base.specs.ExactLaw.{NoExactRunIsFaster, NoExactMoveIsEarlier};
+ghost use Rattle.shop_base.specs.SerialLaw.{TheSerialPlanHasNoCycle};
+
+/// One chain: after each report that is possible at rest, in every run, exactly one list of moves keeps
+/// the plan and ends at rest. What a controller orders is no matter of choice.
+pub fn one_chain_fits_a_report()
+    ensures { OneChainFitsAReport }
+{}
+
+/// Every list of reports has exactly one controlled run: possible reports make their steps, the others
+/// change nothing.
+pub fn every_list_has_one_controlled_run()
+    ensures { EveryListHasOneControlledRun }
+{}
+
+/// Only allowed moves: a controlled run has only possible reports and possible, plan-keeping moves, and
+/// ends at rest with no two jobs on one machine.
+pub fn a_controlled_run_is_a_run()
+    ensures { AControlledRunIsARun }
+{}
+
+/// No two jobs are on one machine after any event of any run, by any controller.
+pub fn no_two_jobs_are_on_one_machine()
+    ensures { NoTwoJobsAreOnOneMachine }
+{}
+
+/// Never stuck: where ranks rise along every arc, a controlled run is at rest after every list of
+/// reports, and unless it has ended, an activity is going on that can be reported at the last moment.
+pub fn never_stuck()
+    ensures { NoControlledRunIsStuck }
+{}
+
+/// Ends on the stated number: after every list of reports, those accepted and those still to come are as
+/// many as the stated number, and the run has ended just where as many were accepted.
+pub fn ends_on_the_stated_number()
+    ensures { EndsOnTheStatedNumber }
+{}
+
+/// There are never more orders than accepted reports, nor more moves than reports in any run at all.
+pub fn orders_never_outnumber_reports()
+    ensures controlled { OrdersNeverOutnumberReports }
+    ensures any { MovesNeverOutnumberReports }
+{}
+
+/// In time: where moments are kept that fit every release and every arc, and no report was late, each
+/// job is gone by the moment kept for its leaving, or that moment isn't past yet; so where these moments
+/// meet the budgets, each job is in time.
+pub fn in_time()
+    ensures { PunctualRunsAreInTime }
+{}
+
+/// A cycle stops every run: whatever is reported and moved, at whatever moments and by any controller,
+/// some job isn't gone at the end.
+pub fn a_cycle_stops_every_run()
+    ensures { ACycleStopsEveryRun }
+{}
+
+/// No exact run is faster: where each report comes just when its activity is due, by any controller, no
+/// job is gone since before the length of any path to its leaving.
+pub fn no_exact_run_is_faster()
+    ensures { NoExactRunIsFaster }
+{}
+
+/// The same of each move: in an exact run none is made before the length of any path to its node.
+pub fn no_exact_move_is_earlier()
+    ensures { NoExactMoveIsEarlier }
+{}
+
+/// The serial plan has no cycle: where each machine takes its jobs in ascending order, no arcs lead in a
+/// circle.
+pub fn the_serial_plan_has_no_cycle()
+    ensures { TheSerialPlanHasNoCycle }
+{}

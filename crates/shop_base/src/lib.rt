@@ -1,0 +1,26 @@
+//! The blocking job shop: what an instance, a plan and a cell are, and the laws that hold of every run.
+//!
+//! Jobs, machines, steps and places are numbered from 0. Moments are whole time units, counted from
+//! moment 0. No call of this crate takes memory.
+#![tactic(auto)]
+
+pub mod laws;
+pub mod limits;
+mod node;
+mod plan;
+mod shape_check;
+mod shape_fault;
+mod shaped;
+mod shop;
+mod shop_fault;
+pub mod worked_runs;
+
+pub use node::Node;
+pub use plan::Plan;
+pub use shape_fault::ShapeFault;
+pub use shaped::{NotShaped, Shaped, shape};
+pub use shop::{JobNo, MachineNo, Moment, Shop, Step};
+pub use shop_fault::ShopFault;
+
+#[cfg(test)]
+mod tests;

@@ -1,0 +1,158 @@
+//! The checks of a plan's shape, in the order of their faults.
+
+ghost use Rattle.std.specs.Prelude.{◌≡◌, ℕ, ◌<◌, IfOk, OnOk, IfErr, MatchBool, length, slice_index, slice_index_or, []};
+ghost use Rattle.shop_base.specs.Shop.{IsShop, route_at, lists_of};
+ghost use Rattle.shop_base.specs.Plan.{PlannedShop, IsWellShaped, HasCounts, IsWithinLimits, IsOrder, jobs, machines, order, job_at};
+ghost use Rattle.shop_base.specs.ShapeFault.{IsFirstShapeFault, IsMachineReached, IsPlaceReached, IsGoodPlace, IsListed, IsVisitor};
+ghost use Rattle.shop_base.specs.Marks.{AreMarks, Reaches, IsFirstAbove};
+
+use crate::limits::{MAX_CLEAN, MAX_JOBS, MAX_MOMENT, MAX_RELEASE};
+use crate::plan::Plan;
+use crate::shape_fault::ShapeFault;
+use crate::shop::{JobNo, MachineNo, Moment, Shop, Step};
+
+/// The first fault of a plan's shape, if there is one.
+pub fn check_shape(shop: &Shop, plan: &Plan) -> Result<(), ShapeFault>
+    ensures sound { OnOk result (IsWellShaped (record { shop = shop.now; plan = plan.now })) }
+    ensures first_fault { IfErr result (IsFirstShapeFault (record { shop = shop.now; plan = plan.now })) }
+{
+    check_counts(shop, plan)?;
+    check_limits(shop, plan)?;
+    for machine in 0..shop.machines() {
+        check_order(shop, plan, machine)?;
+    }
+    Ok(())
+}
+
+fn check_counts(shop: &Shop, plan: &Plan) -> Result<(), ShapeFault>
+    ensures sound { OnOk result (HasCounts (record { shop = shop.now; plan = plan.now })) }
+    ensures first_fault { IfErr result (IsFirstShapeFault (record { shop = shop.now; plan = plan.now })) }
+{
+    if plan.release.len() != shop.jobs() as usize {
+        return Err(ShapeFault::ReleaseCount);
+    }
+    if plan.budget.len() != shop.jobs() as usize {
+        return Err(ShapeFault::BudgetCount);
+    }
+    if plan.order.len() != shop.machines() as usize {
+        return Err(ShapeFault::OrderCount);
+    }
+    match &plan.clean {
+        Some(times) if times.len() != shop.machines() as usize => Err(ShapeFault::CleanCount),
+        _ => Ok(()),
+    }
+}
+
+fn check_limits(shop: &Shop, plan: &Plan) -> Result<(), ShapeFault>
+    requires { HasCounts (record { shop = shop.now; plan = plan.now }) }
+    ensures sound { OnOk result (IsWithinLimits (record { shop = shop.now; plan = plan.now })) }
+    ensures first_fault { IfErr result (IsFirstShapeFault (record { shop = shop.now; plan = plan.now })) }
+{
+    let _jobs = shop.jobs();
+    if let Some(job) = first_above(&plan.release, MAX_RELEASE) {
+        return Err(ShapeFault::ReleaseTooLarge { job: job as u32 });
+    }
+    if let Some(job) = first_above(&plan.budget, MAX_MOMENT) {
+        return Err(ShapeFault::BudgetTooLarge { job: job as u32 });
+    }
+    if let Some(times) = &plan.clean {
+        if let Some(machine) = first_above(times, MAX_CLEAN) {
+            return Err(ShapeFault::CleanTooLarge {
+                machine: machine as u32,
+            });
+        }
+    }
+    Ok(())
+}
+
+fn first_above(moments: &[Moment], limit: Moment) -> Option<usize>
+    ensures { IsFirstAbove moments.now limit result }
+{
+    for (i, moment) in moments.iter().enumerate() {
+        if *moment > limit {
+            return Some(i);
+        }
+    }
+    None
+}
+
+fn check_order(shop: &Shop, plan: &Plan, machine: MachineNo) -> Result<(), ShapeFault>
+    requires { IsMachineReached (record { shop = shop.now; plan = plan.now }) machine }
+    ensures sound { OnOk result (IsOrder (record { shop = shop.now; plan = plan.now }) machine) }
+    ensures first_fault { IfErr result (IsFirstShapeFault (record { shop = shop.now; plan = plan.now })) }
+{
+    let visitors = visitors_of(shop, machine);
+    let listed = check_places(shop, plan, machine, &visitors)?;
+    for job in 0..shop.jobs() {
+        if visitors[job as usize] && !listed[job as usize] {
+            return Err(ShapeFault::JobMissing { machine, job });
+        }
+    }
+    Ok(())
+}
+
+/// Checks each place of the machine's order, and marks the jobs that stand in it.
+fn check_places(
+    shop: &Shop,
+    plan: &Plan,
+    machine: MachineNo,
+    visitors: &[bool; MAX_JOBS],
+) -> Result<[bool; MAX_JOBS], ShapeFault>
+    requires reached { IsMachineReached (record { shop = shop.now; plan = plan.now }) machine }
+    requires marked { AreMarks visitors.now (IsVisitor (record { shop = shop.now; plan = plan.now }) machine) }
+    ensures good { let p : PlannedShop = record { shop = shop.now; plan = plan.now } in
+        OnOk result ((a : ℕ) → a < length (order p machine) → IsGoodPlace p machine a) }
+    ensures listed { IfOk result (λ listed. AreMarks listed (IsListed (record { shop = shop.now; plan = plan.now }) machine)) }
+    ensures first_fault { IfErr result (IsFirstShapeFault (record { shop = shop.now; plan = plan.now })) }
+{
+    let order = order_of(plan, machine);
+    let mut listed = [false; MAX_JOBS];
+    for place in 0..order.len() {
+        let job = order[place];
+        if job >= shop.jobs() {
+            return Err(ShapeFault::JobOutOfRange { machine, place });
+        }
+        if !visitors[job as usize] {
+            return Err(ShapeFault::NotOnRoute { machine, place });
+        }
+        if listed[job as usize] {
+            return Err(ShapeFault::JobTwice { machine, place });
+        }
+        listed[job as usize] = true;
+    }
+    Ok(listed)
+}
+
+/// Marks the jobs whose routes visit the machine.
+fn visitors_of(shop: &Shop, machine: MachineNo) -> [bool; MAX_JOBS]
+    ensures { AreMarks result (λ j. Reaches (route_at shop.now.routes j) machine) }
+{
+    let mut visitors = [false; MAX_JOBS];
+    for job in 0..shop.jobs() {
+        visitors[job as usize] = is_visitor(shop, job, machine);
+    }
+    visitors
+}
+
+fn is_visitor(shop: &Shop, job: JobNo, machine: MachineNo) -> bool
+    requires { job < length shop.now.routes }
+    ensures { let found = Reaches (route_at shop.now.routes job) machine in MatchBool result found (found → ⊥) }
+{
+    match shop.route(job) {
+        Some(route) => reaches(route, machine),
+        None => false,
+    }
+}
+
+fn reaches(route: &[Step], machine: MachineNo) -> bool
+    ensures { MatchBool result (Reaches route.now machine) (Reaches route.now machine → ⊥) }
+{
+    route.iter().any(|step| step.machine == machine)
+}
+
+fn order_of(plan: &Plan, machine: MachineNo) -> &[JobNo]
+    requires { machine < length plan.now.order }
+    ensures { result.now ≡ slice_index_or plan.now.order machine [] }
+{
+    plan.order[machine as usize].as_slice()
+}

@@ -1,0 +1,244 @@
+//! Worked examples, computed on the definitions: each function does nothing, and its contract says what
+//! the definitions make of a plan, a list of events or a list of nodes that is written out.
+
+ghost use Rattle.std.specs.Prelude.{◌≡◌, ℕ, ◌≤◌, List, [], ◌∷◌, ◌++◌, take, drop, true};
+ghost use Rattle.shop_base.specs.declared.node.Node.{Node};
+ghost use Rattle.shop_base.specs.Plan.{PlannedShop, IsWellShaped};
+ghost use Rattle.shop_base.specs.Cell.{Cell, start, since, ready, remaining_route};
+ghost use Rattle.shop_base.specs.Cell.{IsOn, IsFree, IsGone};
+ghost use Rattle.shop_base.specs.Activity.{Arrival, Operation, Cleaning, GoesOn};
+ghost use Rattle.shop_base.specs.Report.{CanReport};
+ghost use Rattle.shop_base.specs.Move.{Out, At, target, CanMove, CanObey, KeepsPlan};
+ghost use Rattle.shop_base.specs.Run.{IsRun, IsAtRest, IsStuck};
+ghost use Rattle.shop_base.specs.Controlled.{IsStep, IsControlledRun};
+ghost use Rattle.shop_base.specs.Punctual.{IsPunctual, ArePunctual, AreExact};
+ghost use Rattle.shop_base.specs.Ends.{HasEnded, IsOutByBudget, IsInTime};
+ghost use Rattle.shop_base.specs.Ends.{stated_number, report_count, move_count};
+ghost use Rattle.shop_base.specs.Graph.{node, leaving, Arc, HasArc, Path, IsSimpleCycle};
+ghost use Rattle.shop_base.specs.Graph.{RanksRise, MomentsFit, MeetBudgets, IsSerial};
+ghost use Rattle.shop_base.specs.Examples.{in_series, with_cleaning, crossed, in_chain, in_ring, instant};
+ghost use Rattle.shop_base.specs.Examples.{arrive, finish, clean, go, target_on, exchange};
+ghost use Rattle.shop_base.specs.Examples.{series_moments, series_ranks, crossed_moments};
+ghost use Rattle.shop_base.specs.Examples.{series_reports, series_log, series_after, series_end};
+ghost use Rattle.shop_base.specs.Examples.{late_reports, late_log, late_after, late_end};
+ghost use Rattle.shop_base.specs.Examples.{waiting_reports, waiting_log, waiting_after, waiting_end};
+ghost use Rattle.shop_base.specs.Examples.{crossed_reports, crossed_log, crossed_end};
+ghost use Rattle.shop_base.specs.Examples.{chain_reports, chain_log, chain_after, chain_end};
+ghost use Rattle.shop_base.specs.Examples.{cleaned_reports, cleaned_log, cleaned_after, cleaned_end};
+ghost use Rattle.shop_base.specs.Examples.{refused_reports, refused_log, refused_after, refused_end};
+ghost use Rattle.shop_base.specs.Examples.{instant_reports, instant_log, instant_after, instant_end};
+
+/// Two jobs pass two machines, one behind the other. The first operation ends before its nominal time,
+/// so the run is punctual and not exact.
+pub fn two_jobs_in_series_run()
+    ensures shaped { IsWellShaped in_series }
+    ensures run { IsRun in_series series_log }
+    ensures controlled { IsControlledRun in_series series_reports series_log series_end }
+    ensures punctual { ArePunctual in_series (start in_series) series_log }
+    ensures early { AreExact in_series (start in_series) series_log → ⊥ }
+    ensures first_holder { IsOn in_series (series_after 2) 0 0 0 }
+    ensures first_due { GoesOn in_series (series_after 2) (Operation 0 0) 3 }
+    ensures second_awaited { GoesOn in_series (series_after 2) (Arrival 1) 0 }
+    ensures second_ready { ready (series_after 3) 1 ≡ true }
+    ensures second_waits { IsAtRest in_series (series_after 3) }
+    ensures partial { IsControlledRun in_series (take 2 series_reports) (take 3 series_log) (series_after 3) }
+    ensures unfinished { HasEnded in_series (series_after 3) → ⊥ }
+    ensures reports { (stated_number in_series ≡ 6) × (report_count series_log ≡ 6) }
+    ensures ended { HasEnded in_series series_end }
+    ensures first_gone { since series_end 0 ≡ 4 }
+    ensures second_gone { since series_end 1 ≡ 9 }
+    ensures first_out { IsOutByBudget in_series series_end 0 }
+    ensures second_out { IsOutByBudget in_series series_end 1 }
+    ensures last { series_end.last ≡ 9 }
+{}
+
+/// An order is possible only if it names the job's place, the next machine of its route, and a moment
+/// that isn't past.
+pub fn an_order_names_just_its_move()
+    ensures next { (p : PlannedShop) (c : Cell) (j : ℕ) → target p c j ≡ target_on (remaining_route p c j) }
+    ensures right { CanObey in_series (series_after 4) (go 2 0 (At 0) (At 1)) }
+    ensures later { CanObey in_series (series_after 4) (go 3 0 (At 0) (At 1)) }
+    ensures past { CanObey in_series (series_after 4) (go 1 0 (At 0) (At 1)) → ⊥ }
+    ensures past_the_latest { CanObey in_series (series_after 4) (go 1_000_000_000_001 0 (At 0) (At 1)) → ⊥ }
+    ensures other_source { CanObey in_series (series_after 4) (go 2 0 (At 1) (At 1)) → ⊥ }
+    ensures other_target { CanObey in_series (series_after 4) (go 2 0 (At 0) Out) → ⊥ }
+    ensures not_ready { CanObey in_series (series_after 2) (go 2 0 (At 0) (At 1)) → ⊥ }
+    ensures out_of_turn { CanObey in_series (series_after 3) (go 2 1 Out (At 1)) }
+    ensures against_plan { KeepsPlan in_series (series_after 3) 1 → ⊥ }
+{}
+
+/// With a report that comes after its due moment the run goes on as any other, but the jobs can miss
+/// their budgets.
+pub fn a_late_report_is_still_a_run()
+    ensures run { IsRun in_series late_log }
+    ensures controlled { IsControlledRun in_series late_reports late_log late_end }
+    ensures punctual_before { ArePunctual in_series (start in_series) (take 3 late_log) }
+    ensures late { IsPunctual in_series (late_after 3) (finish 4 0 0) → ⊥ }
+    ensures punctual_after { ArePunctual in_series (late_after 4) (drop 4 late_log) }
+    ensures ended { HasEnded in_series late_end }
+    ensures last { late_end.last ≡ 11 }
+    ensures first_gone { since late_end 0 ≡ 6 }
+    ensures second_gone { since late_end 1 ≡ 11 }
+    ensures first_over_budget { IsInTime in_series late_end 0 → ⊥ }
+    ensures second_over_budget { IsInTime in_series late_end 1 → ⊥ }
+    ensures late_by_another { IsPunctual with_cleaning (cleaned_after 11) (clean 13 1) → ⊥ }
+{}
+
+/// A run may leave a job waiting that could move. It is then no controlled run.
+pub fn a_run_need_not_be_eager()
+    ensures run { IsRun in_series waiting_log }
+    ensures not_at_rest { IsAtRest in_series (waiting_after 7) → ⊥ }
+    ensures not_controlled { (end : Cell) → IsControlledRun in_series waiting_reports waiting_log end → ⊥ }
+    ensures counts { (report_count waiting_log ≡ 6) × (move_count waiting_log ≡ 6) }
+    ensures ended { HasEnded in_series waiting_end }
+    ensures last { waiting_end.last ≡ 10 }
+{}
+
+/// Each of two jobs waits for the machine that the other holds. Their cycle has the length 0, so there
+/// are moments that fit every arc, and the run is stuck all the same.
+pub fn crossed_orders_get_stuck()
+    ensures shaped { IsWellShaped crossed }
+    ensures cycle { IsSimpleCycle crossed (node 0 1 ∷ node 1 1 ∷ []) }
+    ensures there { Arc crossed (node 0 1) (node 1 1) 0 }
+    ensures back { Arc crossed (node 1 1) (node 0 1) 0 }
+    ensures moments { MomentsFit crossed crossed_moments }
+    ensures run { IsRun crossed crossed_log }
+    ensures controlled { IsControlledRun crossed crossed_reports crossed_log crossed_end }
+    ensures exact { AreExact crossed (start crossed) crossed_log }
+    ensures first_holder { IsOn crossed crossed_end 0 0 0 }
+    ensures second_holder { IsOn crossed crossed_end 1 0 1 }
+    ensures first_ready { ready crossed_end 0 ≡ true }
+    ensures second_ready { ready crossed_end 1 ≡ true }
+    ensures stuck { IsStuck crossed crossed_end }
+    ensures first_inside { IsGone crossed crossed_end 0 → ⊥ }
+    ensures second_inside { IsGone crossed crossed_end 1 → ⊥ }
+{}
+
+/// Two jobs can't exchange their machines, though each move keeps the plan: moves come one after the
+/// other, and the first would go onto a machine that is held.
+pub fn a_swap_is_no_run()
+    ensures keeps_plan { KeepsPlan crossed crossed_end 0 }
+    ensures held { IsOn crossed crossed_end 1 0 1 }
+    ensures no_order { CanObey crossed crossed_end (go 4 0 (At 0) (At 1)) → ⊥ }
+    ensures no_moment { (t : ℕ) → CanMove crossed crossed_end 0 t → ⊥ }
+    ensures no_run { IsRun crossed (crossed_log ++ exchange) → ⊥ }
+{}
+
+/// Three orders can make a cycle of which no two do. The other direction, a list that comes round twice
+/// and one that isn't closed are no simple cycles.
+pub fn orders_in_a_ring_make_a_cycle()
+    ensures shaped { IsWellShaped in_ring }
+    ensures cycle { IsSimpleCycle in_ring (node 0 1 ∷ node 2 1 ∷ node 1 1 ∷ []) }
+    ensures first { Arc in_ring (node 0 1) (node 2 1) 0 }
+    ensures second { Arc in_ring (node 2 1) (node 1 1) 0 }
+    ensures third { Arc in_ring (node 1 1) (node 0 1) 0 }
+    ensures reversed { IsSimpleCycle in_ring (node 0 1 ∷ node 1 1 ∷ node 2 1 ∷ []) → ⊥ }
+    ensures not_closed { IsSimpleCycle in_ring (node 0 1 ∷ node 2 1 ∷ []) → ⊥ }
+    ensures empty { IsSimpleCycle in_ring [] → ⊥ }
+    ensures twice { IsSimpleCycle in_ring
+        (node 0 1 ∷ node 2 1 ∷ node 1 1 ∷ node 0 1 ∷ node 2 1 ∷ node 1 1 ∷ []) → ⊥ }
+{}
+
+/// The longest paths of a plan without a cycle, and arcs that there aren't. A blocking arc begins where
+/// a job leaves the machine, and is as long as the cleaning.
+pub fn paths_of_two_jobs_in_series()
+    ensures first { Path in_series (node 0 0 ∷ node 0 1 ∷ node 0 2 ∷ []) (leaving in_series 0) 5 }
+    ensures second { Path in_series (node 0 0 ∷ node 0 1 ∷ node 0 2 ∷ node 1 0 ∷ node 1 1 ∷ node 1 2 ∷ [])
+        (leaving in_series 1) 10 }
+    ensures first_longest { (nodes : List Node) (n : ℕ) → Path in_series nodes (leaving in_series 0) n → n ≤ 5 }
+    ensures second_longest { (nodes : List Node) (n : ℕ) → Path in_series nodes (leaving in_series 1) n → n ≤ 10 }
+    ensures cleaned { Path with_cleaning (node 0 0 ∷ node 0 1 ∷ node 0 2 ∷ node 1 0 ∷ node 1 1 ∷ node 1 2 ∷ [])
+        (leaving with_cleaning 1) 12 }
+    ensures longest_cleaned { (nodes : List Node) (n : ℕ) → Path with_cleaning nodes (leaving with_cleaning 1) n → n ≤ 12 }
+    ensures cleaning_arc { Arc with_cleaning (node 0 2) (node 1 0) 2 }
+    ensures bare_arc { Arc in_series (node 0 2) (node 1 0) 0 }
+    ensures not_from_entry { HasArc in_series (node 0 0) (node 1 1) → ⊥ }
+    ensures not_from_first_step { HasArc in_series (node 0 1) (node 1 0) → ⊥ }
+    ensures not_back { HasArc in_series (node 1 1) (node 0 1) → ⊥ }
+    ensures moments { MomentsFit in_series series_moments }
+    ensures budgets { MeetBudgets in_series series_moments }
+    ensures first_no_sooner { (kept : Node → ℕ) → MomentsFit in_series kept → 5 ≤ kept (leaving in_series 0) }
+    ensures second_no_sooner { (kept : Node → ℕ) → MomentsFit in_series kept → 10 ≤ kept (leaving in_series 1) }
+    ensures ranks { RanksRise in_series series_ranks }
+    ensures no_cycle { (nodes : List Node) → IsSimpleCycle in_series nodes → ⊥ }
+    ensures serial { IsSerial in_series }
+    ensures not_serial { IsSerial crossed → ⊥ }
+{}
+
+/// Three jobs pass three machines. The end of one operation on the last machine makes all three move,
+/// one after the other, and a controller doesn't stop before the last of these moves.
+pub fn three_machine_chain_run()
+    ensures shaped { IsWellShaped in_chain }
+    ensures run { IsRun in_chain chain_log }
+    ensures controlled { IsControlledRun in_chain chain_reports chain_log chain_end }
+    ensures exact { AreExact in_chain (start in_chain) chain_log }
+    ensures blocked { IsOn in_chain (chain_after 14) 1 1 1 }
+    ensures blocked_ready { ready (chain_after 14) 1 ≡ true }
+    ensures none_moves { IsStep in_chain (chain_after 12) (finish 3 1 1) [] }
+    ensures all_move { IsStep in_chain (chain_after 14) (finish 7 0 2) (0 ∷ 1 ∷ 2 ∷ []) }
+    ensures no_less { IsStep in_chain (chain_after 14) (finish 7 0 2) (0 ∷ 1 ∷ []) → ⊥ }
+    ensures no_other_order { IsStep in_chain (chain_after 14) (finish 7 0 2) (2 ∷ 1 ∷ 0 ∷ []) → ⊥ }
+    ensures path { Path in_chain
+        (node 0 0 ∷ node 0 1 ∷ node 0 2 ∷ node 0 3 ∷ node 1 2 ∷ node 1 3 ∷ node 2 2 ∷ node 2 3 ∷ [])
+        (leaving in_chain 2) 9 }
+    ensures reports { (stated_number in_chain ≡ 12) × (report_count chain_log ≡ 12) }
+    ensures ended { HasEnded in_chain chain_end }
+    ensures first_gone { since chain_end 0 ≡ 7 }
+    ensures second_gone { since chain_end 1 ≡ 8 }
+    ensures third_gone { since chain_end 2 ≡ 9 }
+    ensures last { chain_end.last ≡ 9 }
+{}
+
+/// A machine with a cleaning time is free once its job has left, and yet no job enters it before it is
+/// clean. The last cleaning is part of the run, though all jobs are gone before it.
+pub fn cleaning_delays_the_entry()
+    ensures shaped { IsWellShaped with_cleaning }
+    ensures run { IsRun with_cleaning cleaned_log }
+    ensures controlled { IsControlledRun with_cleaning cleaned_reports cleaned_log cleaned_end }
+    ensures exact { AreExact with_cleaning (start with_cleaning) cleaned_log }
+    ensures cleaning { GoesOn with_cleaning (cleaned_after 7) (Cleaning 1) 7 }
+    ensures no_other_cleaning { (due : ℕ) → GoesOn with_cleaning (cleaned_after 7) (Cleaning 0) due → ⊥ }
+    ensures free { IsFree with_cleaning (cleaned_after 7) 1 }
+    ensures second_ready { ready (cleaned_after 7) 1 ≡ true }
+    ensures second_keeps { KeepsPlan with_cleaning (cleaned_after 7) 1 }
+    ensures no_entry { CanObey with_cleaning (cleaned_after 7) (go 6 1 Out (At 1)) → ⊥ }
+    ensures no_moment { (t : ℕ) → CanMove with_cleaning (cleaned_after 7) 1 t → ⊥ }
+    ensures entry { CanObey with_cleaning (cleaned_after 8) (go 7 1 Out (At 1)) }
+    ensures reports { (stated_number with_cleaning ≡ 8) × (report_count cleaned_log ≡ 8) }
+    ensures first_gone { IsGone with_cleaning (cleaned_after 13) 0 }
+    ensures second_gone { IsGone with_cleaning (cleaned_after 13) 1 }
+    ensures unfinished { HasEnded with_cleaning (cleaned_after 13) → ⊥ }
+    ensures ended { HasEnded with_cleaning cleaned_end }
+    ensures first_out { since cleaned_end 0 ≡ 5 }
+    ensures second_out { since cleaned_end 1 ≡ 12 }
+    ensures last { cleaned_end.last ≡ 13 }
+{}
+
+/// Reports that aren't possible add nothing to the controlled run: of what isn't going on, of no machine
+/// of the shop, before the last moment, or past the latest moment of all.
+pub fn a_report_that_is_not_possible_adds_nothing()
+    ensures controlled { IsControlledRun with_cleaning refused_reports refused_log refused_end }
+    ensures not_cleaned { CanReport with_cleaning (refused_after 7) (clean 5 0) → ⊥ }
+    ensures no_machine { CanReport with_cleaning (refused_after 7) (clean 5 2) → ⊥ }
+    ensures past { CanReport with_cleaning (refused_after 7) (clean 4 1) → ⊥ }
+    ensures gone_job { CanReport with_cleaning (refused_after 7) (finish 5 0 1) → ⊥ }
+    ensures twice { CanReport with_cleaning (refused_after 7) (arrive 5 1) → ⊥ }
+    ensures no_job { CanReport with_cleaning (refused_after 7) (arrive 5 2) → ⊥ }
+    ensures latest { CanReport with_cleaning (refused_after 7) (clean 1_000_000_000_000 1) }
+    ensures too_late { CanReport with_cleaning (refused_after 7) (clean 1_000_000_000_001 1) → ⊥ }
+    ensures late { IsPunctual with_cleaning (refused_after 7) (clean 8 1) → ⊥ }
+    ensures reports { (stated_number with_cleaning ≡ 8) × (report_count refused_log ≡ 5) }
+    ensures unfinished { HasEnded with_cleaning refused_end → ⊥ }
+{}
+
+/// An operation with the nominal time 0 is reported as any other: its job enters, and leaves at the same
+/// moment.
+pub fn an_operation_without_length()
+    ensures shaped { IsWellShaped instant }
+    ensures controlled { IsControlledRun instant instant_reports instant_log instant_end }
+    ensures exact { AreExact instant (start instant) instant_log }
+    ensures due { GoesOn instant (instant_after 2) (Operation 0 0) 0 }
+    ensures path { Path instant (node 0 0 ∷ node 0 1 ∷ []) (leaving instant 0) 0 }
+    ensures ended { HasEnded instant instant_end }
+    ensures out { IsOutByBudget instant instant_end 0 }
+{}
