@@ -1,0 +1,11 @@
+pub mod Parts
+pub mod Digits
+pub mod Left
+pub mod Loops
+pub mod Numbers
+pub mod Jobs
+pub mod Heads
+pub mod Drafts
+pub mod Sections
+pub mod Shops
+pub mod Agreement

@@ -1,0 +1,54 @@
+-- The kinds of lines of an instance text (OR-Library, jobshop1).
+use Rattle.std.specs.Prelude.{◌≡◌, ℕ, Bool, not, ◌==◌, List, [], ◌∷◌, codes, filter}
+use Rattle.std.specs.List.{list_all, flat_map}
+use Rattle.shop_base.specs.declared.shop.Step.{Step}
+use Rattle.orlib_read.specs.Lines.{NumberedLine, lines_of, numbered_from}
+use Rattle.orlib_read.specs.Words.{words_of, AreNumbers}
+
+-- `+`
+abbrev pub is_plus : ℕ → Bool
+is_plus b = b == 43
+
+-- a filler line: its words, if it has any, consist of `+` alone
+abbrev pub is_filler : List ℕ → Bool
+is_filler line = list_all (list_all is_plus) (words_of line)
+
+-- a line that isn't filler
+abbrev pub is_told : NumberedLine → Bool
+is_told line = not (is_filler line.bytes)
+
+-- the lines of a text that aren't filler, numbered from a number on
+abbrev pub told_from : ℕ → List ℕ → List NumberedLine
+told_from number text = filter is_told (numbered_from number (lines_of text))
+
+-- the lines of a text that aren't filler, with their numbers from 1
+abbrev pub told_lines : List ℕ → List NumberedLine
+told_lines text = told_from 1 text
+
+-- an instance line: the word `instance`, and the name of an instance
+abbrev pub IsInstanceLine : NumberedLine → List ℕ → Type 0
+IsInstanceLine line name = words_of line.bytes ≡ codes "instance" ∷ name ∷ []
+
+-- an instance line, whatever its name, and any other line
+abbrev pub IsAnyInstanceLine : NumberedLine → Type 0
+IsAnyInstanceLine line = (name : List ℕ) × IsInstanceLine line name
+
+abbrev pub IsOtherLine : NumberedLine → Type 0
+IsOtherLine line = (name : List ℕ) → IsInstanceLine line name → ⊥
+
+-- the size line: exactly two numbers, of jobs and of machines
+abbrev pub IsSizeLine : NumberedLine → ℕ → ℕ → Type 0
+IsSizeLine line jobs machines = AreNumbers (words_of line.bytes) (jobs ∷ machines ∷ [])
+
+-- the machine and the nominal time of each step, in route order
+abbrev pub numbers_of : List Step → List ℕ
+numbers_of route = flat_map (λ step. step.machine ∷ step.nominal ∷ []) route
+
+-- a job line: pairs of machine and nominal time
+abbrev pub IsJobLine : NumberedLine → List Step → Type 0
+IsJobLine line route = AreNumbers (words_of line.bytes) (numbers_of route)
+
+-- a description is any line that is neither an instance line nor a size line
+pub record IsDescription (line : NumberedLine) : Type 0 where
+  pub no_instance_line : IsOtherLine line
+  pub no_size_line : (jobs machines : ℕ) → IsSizeLine line jobs machines → ⊥

@@ -1,0 +1,50 @@
+-- The words of a line, and which of them are numbers.
+use Rattle.std.specs.Prelude.{◌≡◌, ℕ, ◌+◌, ◌-◌, ◌*◌, ◌%◌, nat_le, nat_lt, Bool, true, false, ◌==◌, ◌||◌, ◌&&◌, if◌then◌else◌, List, [], ◌∷◌, Option, Some, None, length, filter, fold, IsTrue}
+use Rattle.std.specs.List.{list_all}
+use Rattle.orlib_read.specs.declared.words.TheConstants.{MOST_DIGITS}
+use Rattle.orlib_read.specs.Lines.{parts_of}
+
+-- a space or a tab
+abbrev pub is_blank : ℕ → Bool
+is_blank b = b == 32 || b == 9
+
+-- a row of at least one byte
+abbrev pub is_some_row : List ℕ → Bool
+is_some_row [] = false
+is_some_row (b ∷ bytes) = true
+
+-- the words of a line: the rows of bytes between its blanks
+abbrev pub words_of : List ℕ → List (List ℕ)
+words_of line = filter is_some_row (parts_of is_blank line)
+
+-- `0` to `9`
+abbrev pub is_digit : ℕ → Bool
+is_digit b = nat_le 48 b && nat_le b 57
+
+-- the number that digits stand for, in decimal
+abbrev pub value_of : List ℕ → ℕ
+value_of digits = fold (λ n digit. 10 * n + (digit - 48)) 0 digits
+
+-- some digits, leading zeros among them, but not too many
+abbrev pub is_number : List ℕ → Bool
+is_number word = nat_lt 0 (length word) && nat_le (length word) MOST_DIGITS && list_all is_digit word
+
+-- the word is this number
+pub record IsNumber (word : List ℕ) (n : ℕ) : Type 0 where
+  pub digits : IsTrue (is_number word)
+  pub value : n ≡ value_of word
+
+-- the number that a word is, if it is one
+abbrev pub number_of : List ℕ → Option ℕ
+number_of word = if is_number word then Some (value_of word) else None
+
+-- an odd number
+abbrev pub is_odd : ℕ → Bool
+is_odd n = n % 2 == 1
+
+-- the words are these numbers, in order
+abbrev pub AreNumbers : List (List ℕ) → List ℕ → Type 0
+AreNumbers [] [] = Unit {0}
+AreNumbers [] (n ∷ numbers) = ⊥
+AreNumbers (word ∷ words) [] = ⊥
+AreNumbers (word ∷ words) (n ∷ numbers) = IsNumber word n × AreNumbers words numbers

@@ -1,0 +1,49 @@
+//! The kinds of lines that are told apart: instance lines and size lines.
+
+ghost use Rattle.std.specs.Prelude.{◌≡◌, Some, None, is_some, MatchOption};
+ghost use Rattle.orlib_read.specs.Words.{words_of};
+ghost use Rattle.orlib_read.specs.Reading.{name_of, is_name, sizes_of};
+
+use crate::words::{next_word, number_of};
+
+/// The name on an instance line, none on another line.
+pub(crate) fn name_of(line: &[u8]) -> Option<&[u8]>
+    ensures { MatchOption result (name_of (words_of line.now) ≡ None)
+        (λ name. name_of (words_of line.now) ≡ Some name.now) }
+{
+    let (word, rest) = next_word(line)?;
+    let (name, rest) = next_word(rest)?;
+    if next_word(rest).is_some() || word != b"instance".as_slice() {
+        return None;
+    }
+    Some(name)
+}
+
+/// Whether the line is an instance line.
+pub(crate) fn is_instance_line(line: &[u8]) -> bool
+    ensures { result ≡ is_some (name_of (words_of line.now)) }
+{
+    name_of(line).is_some()
+}
+
+/// Whether the line is the instance line of this name.
+pub(crate) fn is_named(line: &[u8], name: &[u8]) -> bool
+    ensures { result ≡ is_name name.now (name_of (words_of line.now)) }
+{
+    match name_of(line) {
+        Some(other) => other == name,
+        None => false,
+    }
+}
+
+/// The jobs and the machines on a size line, none on another line.
+pub(crate) fn sizes_of(line: &[u8]) -> Option<(u32, u32)>
+    ensures { result ≡ sizes_of (words_of line.now) }
+{
+    let (jobs, rest) = next_word(line)?;
+    let (machines, rest) = next_word(rest)?;
+    if next_word(rest).is_some() {
+        return None;
+    }
+    Some((number_of(jobs)?, number_of(machines)?))
+}

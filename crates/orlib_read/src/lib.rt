@@ -1,0 +1,18 @@
+//! Instance texts of a job shop: OR-Library's jobshop1, one instance or a collection of named ones.
+#![tactic(auto)]
+
+mod draft;
+mod kinds;
+mod lines;
+mod named;
+mod or_fault;
+mod readers;
+mod reading;
+mod words;
+
+pub use named::Named;
+pub use or_fault::OrFault;
+pub use readers::{read_from_collection, read_instance};
+
+#[cfg(test)]
+mod tests;

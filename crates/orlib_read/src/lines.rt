@@ -1,0 +1,122 @@
+//! The lines of a text, from the front.
+
+ghost use Rattle.std.specs.Prelude.{◌≡◌, ◌∷◌, [], ⊤, ◌+◌, ◌<◌, ◌^◌, Bool, true, false, Some, None, length, position, IfSome, MatchOption};
+ghost use Rattle.orlib_read.specs.Lines.{is_line_feed, without_return};
+ghost use Rattle.orlib_read.specs.Kinds.{told_lines};
+ghost use Rattle.orlib_read.specs.Reading.{before_title, section_of};
+
+use crate::kinds::{is_instance_line, is_named};
+use crate::words::{is_filler, split_around};
+
+/// A line of a text and its number, from 1.
+#[derive(Clone, Copy)]
+pub(crate) struct Line<'a> {
+    pub number: usize,
+    pub bytes: &'a [u8],
+}
+
+/// The lines that are still to be read, of a text or of one section of it.
+#[derive(Clone, Copy)]
+pub(crate) struct Lines<'a> {
+    rest: &'a [u8],
+    before: usize,
+    in_section: bool,
+    ghost in_range: { before + length rest.now < 2 ^ 64 },
+}
+
+impl<'a> Lines<'a> {
+    ghost use Rattle.orlib_read.specs.Cursor.{line_of, raw_left, lines_left};
+
+    /// All lines of a text.
+    #[tactic(auto, unfolding(crate::specs::Cursor::lines_left, crate::specs::Cursor::raw_left))]
+    pub(crate) fn of(text: &'a [u8]) -> Lines<'a>
+        ensures lines { lines_left result ≡ told_lines text.now }
+        ensures whole { result.in_section ≡ false }
+    {
+        Lines {
+            rest: text,
+            before: 0,
+            in_section: false,
+        }
+    }
+
+    /// The lines of the section that begins after the first instance line of this name.
+    pub(crate) fn of_section(text: &'a [u8], name: &[u8]) -> Option<Lines<'a>>
+        ensures { MatchOption result (section_of name.now (told_lines text.now) ≡ None)
+            (λ lines. section_of name.now (told_lines text.now) ≡ Some (lines_left lines)) }
+    {
+        let mut lines = Lines::of(text);
+        while let Some((line, rest)) = lines.next_told() {
+            if is_named(line.bytes, name) {
+                return Some(rest.section());
+            }
+            lines = rest;
+        }
+        None
+    }
+
+    #[tactic(auto, unfolding(crate::specs::Cursor::lines_left, crate::specs::Cursor::raw_left))]
+    fn section(self) -> Lines<'a>
+        requires { self.in_section ≡ false }
+        ensures { lines_left result ≡ before_title (lines_left self.entry) }
+    {
+        Lines {
+            rest: self.rest,
+            before: self.before,
+            in_section: true,
+        }
+    }
+
+    fn next_line(self) -> Option<(Line<'a>, Lines<'a>)>
+        ensures line { MatchOption result (raw_left self.entry ≡ [])
+            (λ found. raw_left self.entry ≡ line_of found.0 ∷ raw_left found.1) }
+        ensures same { IfSome result (λ found. found.1.in_section ≡ self.entry.in_section) }
+    {
+        if self.rest.is_empty() {
+            return None;
+        }
+        let (line, rest) = split_around(self.rest, line_end(self.rest));
+        let line = Line {
+            number: self.before + 1,
+            bytes: without_return(line),
+        };
+        let lines = Lines {
+            rest,
+            before: line.number,
+            in_section: self.in_section,
+        };
+        Some((line, lines))
+    }
+
+    /// The next line that isn't filler, and the lines after it.
+    pub(crate) fn next_told(self) -> Option<(Line<'a>, Lines<'a>)>
+        ensures line { MatchOption result (lines_left self.entry ≡ [])
+            (λ found. lines_left self.entry ≡ line_of found.0 ∷ lines_left found.1) }
+        ensures same { IfSome result (λ found. found.1.in_section ≡ self.entry.in_section) }
+    {
+        let mut lines = self;
+        while let Some((line, rest)) = lines.next_line() {
+            if !is_filler(line.bytes) {
+                if self.in_section && is_instance_line(line.bytes) {
+                    return None;
+                }
+                return Some((line, rest));
+            }
+            lines = rest;
+        }
+        None
+    }
+}
+
+fn line_end(text: &[u8]) -> Option<usize>
+    ensures first { result ≡ position is_line_feed text.now }
+    ensures within { IfSome result (λ end. end < length text.now) }
+{
+    text.iter().position(|byte| *byte == b'\n')
+}
+
+fn without_return(line: &[u8]) -> &[u8]
+    ensures { result.now ≡ without_return line.now }
+{
+    line.strip_suffix(b"\r").unwrap_or(line)
+}

@@ -1,0 +1,82 @@
+//! The readers of instance texts.
+
+ghost use Rattle.std.specs.Prelude.{◌≡◌, ◌≢◌, List, ℕ, IfOk, IfErr, OnOk};
+ghost use Rattle.shop_base.specs.Shop.{JobShop, IsShop};
+ghost use Rattle.orlib_read.specs.declared.or_fault.OrFault.{OrFault};
+ghost use Rattle.orlib_read.specs.Kinds.{told_lines};
+ghost use Rattle.orlib_read.specs.Instance.{IsInstance, IsInstanceOf};
+ghost use Rattle.orlib_read.specs.Faults.{IsInstanceFault, IsInstanceOfFault};
+ghost use Rattle.orlib_read.specs.Answers.{IsRead, IsRefused};
+ghost use Rattle.orlib_read.specs.Reading.{Gives, instance_at, section_at};
+ghost use Rattle.orlib_read.specs.Views.{content_of, shop_of, IsShopFault};
+
+use crate::draft::Draft;
+use crate::lines::Lines;
+use crate::named::Named;
+use crate::or_fault::OrFault;
+use crate::reading::read_draft;
+use shop_base::Shop;
+use std::alloc::Global;
+
+/// Reads one instance: a description, if there is one, the size line, and a line per job.
+///
+/// Lines of `+` alone and lines without words are passed over everywhere, instance lines before the
+/// first other line.
+pub fn read_instance(alloc: Global, text: &[u8]) -> Result<Named, OrFault>
+    // What is read is the text's instance, and the text's instance is read.
+    ensures found { IfOk result (λ named. IsInstance text.now named.description.items named.shop) }
+    ensures only { (description : List ℕ) (shop : JobShop) → IsInstance text.now description shop → IsRead result description shop }
+
+    // A fault is what is wrong first, and what is wrong first is the fault.
+    ensures fault { IfErr result (λ fault. fault ≢ OrFault.Memory → IsInstanceFault text.now fault) }
+    ensures first { (fault : OrFault) → IsInstanceFault text.now fault → IsRefused result fault }
+{
+    make_named(alloc, instance_draft(alloc, text)?)
+}
+
+/// Reads the instance that stands in a collection between the first instance line of this name and the
+/// next instance line. What stands before, and after its last job line, isn't read.
+pub fn read_from_collection(alloc: Global, text: &[u8], name: &[u8]) -> Result<Named, OrFault>
+    // What is read is the instance of that name, and the instance of that name is read.
+    ensures found { IfOk result (λ named. IsInstanceOf text.now name.now named.description.items named.shop) }
+    ensures only { (description : List ℕ) (shop : JobShop) → IsInstanceOf text.now name.now description shop → IsRead result description shop }
+
+    // A fault is what is wrong first, and what is wrong first is the fault.
+    ensures fault { IfErr result (λ fault. fault ≢ OrFault.Memory → IsInstanceOfFault text.now name.now fault) }
+    ensures first { (fault : OrFault) → IsInstanceOfFault text.now name.now fault → IsRefused result fault }
+{
+    make_named(alloc, section_draft(alloc, text, name)?)
+}
+
+#[tactic(auto, unfolding(crate::specs::Reading::instance_at))]
+fn instance_draft(alloc: Global, text: &[u8]) -> Result<Draft<'_>, OrFault>
+    ensures { Gives content_of result (instance_at (told_lines text.now)) }
+{
+    let (draft, lines) = read_draft(alloc, Lines::of(text))?;
+    if let Some((line, _)) = lines.next_told() {
+        return Err(OrFault::Extra { line: line.number });
+    }
+    Ok(draft)
+}
+
+#[tactic(auto, unfolding(crate::specs::Reading::section_at))]
+fn section_draft<'a>(alloc: Global, text: &'a [u8], name: &[u8]) -> Result<Draft<'a>, OrFault>
+    ensures { Gives content_of result (section_at name.now (told_lines text.now)) }
+{
+    let Some(lines) = Lines::of_section(text, name) else {
+        return Err(OrFault::NoInstance);
+    };
+    let (draft, _) = read_draft(alloc, lines)?;
+    Ok(draft)
+}
+
+fn make_named(alloc: Global, draft: Draft) -> Result<Named, OrFault>
+    ensures description { IfOk result (λ named. named.description.items ≡ draft.entry.description.now) }
+    ensures shop { IfOk result (λ named. named.shop ≡ shop_of (content_of draft.entry)) }
+    ensures sound { OnOk result (IsShop (shop_of (content_of draft.entry))) }
+    ensures fault { IfErr result (λ fault. IsShopFault (content_of draft.entry) fault) }
+{
+    let shop = Shop::new(draft.machines, draft.routes).map_err(OrFault::Shop)?;
+    let description = Vec::from_slice(alloc, draft.description).map_err(|_| OrFault::Memory)?;
+    Ok(Named { description, shop })
+}

@@ -1,0 +1,149 @@
+//! One instance, line by line.
+
+ghost use Rattle.std.specs.Prelude.{◌≡◌, ◌∷◌, [], ◌+◌, ◌<◌, ◌^◌, MatchOption};
+ghost use Rattle.shop_base.specs.Shop.{lists_of};
+ghost use Rattle.orlib_read.specs.Words.{words_of};
+ghost use Rattle.orlib_read.specs.Cursor.{line_of, lines_left};
+ghost use Rattle.orlib_read.specs.Reading.{Gives, without_titles, head_at, step_at, steps_at, route_at, jobs_at, draft_at};
+ghost use Rattle.orlib_read.specs.Views.{head_of, content_of};
+
+use crate::draft::{Draft, Head};
+use crate::kinds::{is_instance_line, sizes_of};
+use crate::lines::{Line, Lines};
+use crate::or_fault::OrFault;
+use crate::words::{next_word, number_of, word_count};
+use shop_base::Step;
+use std::alloc::Global;
+
+/// The next line that isn't an instance line, and the lines after it.
+fn first_line<'a>(lines: Lines<'a>) -> Option<(Line<'a>, Lines<'a>)>
+    ensures { MatchOption result (without_titles (lines_left lines.entry) ≡ [])
+        (λ found. without_titles (lines_left lines.entry) ≡ line_of found.0 ∷ lines_left found.1) }
+{
+    let mut left = lines;
+    while let Some((line, rest)) = left.next_told() {
+        if !is_instance_line(line.bytes) {
+            return Some((line, rest));
+        }
+        left = rest;
+    }
+    None
+}
+
+#[tactic(auto, unfolding(crate::specs::Reading::head_at))]
+fn read_head<'a>(lines: Lines<'a>) -> Result<(Head<'a>, Lines<'a>), OrFault>
+    ensures { Gives (λ read. (head_of read.0, lines_left read.1)) result (head_at (without_titles (lines_left lines.entry))) }
+{
+    let Some((first, lines)) = first_line(lines) else {
+        return Err(OrFault::NoSizes);
+    };
+    if let Some((jobs, machines)) = sizes_of(first.bytes) {
+        let head = Head {
+            description: &[],
+            jobs,
+            machines,
+        };
+        return Ok((head, lines));
+    }
+    let Some((line, lines)) = lines.next_told() else {
+        return Err(OrFault::NoSizes);
+    };
+    let Some((jobs, machines)) = sizes_of(line.bytes) else {
+        return Err(OrFault::BadSizes { line: line.number });
+    };
+    let head = Head {
+        description: first.bytes,
+        jobs,
+        machines,
+    };
+    Ok((head, lines))
+}
+
+#[tactic(auto, unfolding(crate::specs::Reading::step_at))]
+fn step_of(line: usize, before: usize, machine: &[u8], nominal: &[u8]) -> Result<Step, OrFault>
+    requires { before + 2 < 2 ^ 64 }
+    ensures { Gives (λ step. step) result (step_at line before machine.now nominal.now) }
+{
+    let Some(machine) = number_of(machine) else {
+        return Err(OrFault::BadNumber {
+            line,
+            word: before + 1,
+        });
+    };
+    let Some(nominal) = number_of(nominal) else {
+        return Err(OrFault::BadNumber {
+            line,
+            word: before + 2,
+        });
+    };
+    Ok(Step {
+        machine,
+        nominal: u64::from(nominal),
+    })
+}
+
+/// The route on a job line.
+#[tactic(auto, unfolding(crate::specs::Reading::route_at))]
+fn route_of(alloc: Global, line: Line) -> Result<Vec<Step>, OrFault>
+    ensures { Gives (λ route. route.items) result (route_at (line_of line.entry)) }
+{
+    if word_count(line.bytes) % 2 == 1 {
+        return Err(OrFault::OddWords { line: line.number });
+    }
+    steps_of(alloc, line)
+}
+
+fn steps_of(alloc: Global, line: Line) -> Result<Vec<Step>, OrFault>
+    ensures { Gives (λ route. route.items) result (steps_at line.entry.number 0 (words_of line.entry.bytes.now)) }
+{
+    let mut route = Vec::new(alloc);
+    let mut before = 0;
+    let mut rest = line.bytes;
+    while let Some((machine, after)) = next_word(rest) {
+        let Some((nominal, after)) = next_word(after) else {
+            return Err(OrFault::OddWords { line: line.number });
+        };
+        let step = step_of(line.number, before, machine, nominal)?;
+        route.push(step).map_err(|_| OrFault::Memory)?;
+        before += 2;
+        rest = after;
+    }
+    Ok(route)
+}
+
+fn read_jobs<'a>(
+    alloc: Global,
+    jobs: u32,
+    lines: Lines<'a>,
+) -> Result<(Vec<Vec<Step>>, Lines<'a>), OrFault>
+    ensures { Gives (λ read. (lists_of read.0.items, lines_left read.1)) result (jobs_at 0 jobs (lines_left lines.entry)) }
+{
+    let mut routes = Vec::new(alloc);
+    let mut left = lines;
+    for job in 0..jobs {
+        let Some((line, rest)) = left.next_told() else {
+            return Err(OrFault::MissingJob { job });
+        };
+        let route = route_of(alloc, line)?;
+        routes.push(route).map_err(|_| OrFault::Memory)?;
+        left = rest;
+    }
+    Ok((routes, left))
+}
+
+#[tactic(auto, unfolding(crate::specs::Reading::draft_at))]
+pub(crate) fn read_draft<'a>(
+    alloc: Global,
+    lines: Lines<'a>,
+) -> Result<(Draft<'a>, Lines<'a>), OrFault>
+    ensures { Gives (λ read. (content_of read.0, lines_left read.1)) result (draft_at (lines_left lines.entry)) }
+{
+    let (head, lines) = read_head(lines)?;
+    let (routes, lines) = read_jobs(alloc, head.jobs, lines)?;
+    let draft = Draft {
+        description: head.description,
+        machines: head.machines,
+        routes,
+    };
+    Ok((draft, lines))
+}

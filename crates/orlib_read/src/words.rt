@@ -1,0 +1,114 @@
+//! The words of a line, and the numbers among them.
+
+ghost use Rattle.std.specs.Prelude.{◌≡◌, ◌∷◌, [], ⊤, ◌<◌, ◌≤◌, ℕ, Bool, Some, IsTrue, length, not, ◌||◌, position, IfSome, MatchOption};
+ghost use Rattle.std.specs.List.{before_first, after_first, list_all};
+ghost use Rattle.orlib_read.specs.Words.{is_blank, is_digit, is_number, words_of, value_of, number_of};
+ghost use Rattle.orlib_read.specs.Kinds.{is_plus};
+
+const MOST_DIGITS: usize = 9;
+
+fn is_blank(byte: u8) -> bool
+    ensures { result ≡ is_blank byte }
+{
+    byte == b' ' || byte == b'\t'
+}
+
+fn word_start(line: &[u8]) -> Option<usize>
+    ensures first { result ≡ position (λ byte. not (is_blank byte)) line.now }
+    ensures within { IfSome result (λ start. start < length line.now) }
+{
+    line.iter().position(|byte| !is_blank(*byte))
+}
+
+fn word_end(line: &[u8]) -> Option<usize>
+    ensures first { result ≡ position is_blank line.now }
+    ensures within { IfSome result (λ end. end < length line.now) }
+{
+    line.iter().position(|byte| is_blank(*byte))
+}
+
+/// The bytes before a place and those after it; where there is no place, all bytes and none.
+pub(crate) fn split_around(bytes: &[u8], place: Option<usize>) -> (&[u8], &[u8])
+    requires { IfSome place (λ place. place < length bytes.now) }
+    ensures before { (ends : ℕ → Bool) → place ≡ position ends bytes.now → result.0.now ≡ before_first ends bytes.now }
+    ensures after { (ends : ℕ → Bool) → place ≡ position ends bytes.now → result.1.now ≡ after_first ends bytes.now }
+{
+    match place {
+        Some(place) => (&bytes[..place], &bytes[place + 1..]),
+        None => (bytes, &[]),
+    }
+}
+
+/// The next word and the bytes after it, none where only blanks are left.
+pub(crate) fn next_word(line: &[u8]) -> Option<(&[u8], &[u8])>
+    ensures word { MatchOption result (words_of line.now ≡ [])
+        (λ found. words_of line.now ≡ found.0.now ∷ words_of found.1.now) }
+    ensures shorter { MatchOption result ⊤ (λ found. length found.1.now < length line.now) }
+{
+    let start = word_start(line)?;
+    let rest = &line[start..];
+    Some(split_around(rest, word_end(rest)))
+}
+
+/// Whether the line has no byte but blanks and `+`.
+pub(crate) fn is_filler(line: &[u8]) -> bool
+    ensures { result ≡ list_all (λ byte. is_blank byte || is_plus byte) line.now }
+{
+    line.iter().all(|byte| is_blank(*byte) || *byte == b'+')
+}
+
+fn is_digit(byte: u8) -> bool
+    ensures { result ≡ is_digit byte }
+{
+    byte.is_ascii_digit()
+}
+
+fn are_digits(word: &[u8]) -> bool
+    ensures { result ≡ list_all is_digit word.now }
+{
+    word.iter().all(|byte| is_digit(*byte))
+}
+
+fn is_number(word: &[u8]) -> bool
+    ensures { result ≡ is_number word.now }
+{
+    if word.is_empty() || word.len() > MOST_DIGITS {
+        return false;
+    }
+    are_digits(word)
+}
+
+fn value_of(digits: &[u8]) -> u32
+    requires { IsTrue (is_number digits.now) }
+    ensures { result ≡ value_of digits.now }
+{
+    let mut value = 0;
+    for digit in digits {
+        value = 10 * value + u32::from(*digit - b'0');
+    }
+    value
+}
+
+/// The number that the word is, if it is one.
+pub(crate) fn number_of(word: &[u8]) -> Option<u32>
+    ensures { result ≡ number_of word.now }
+{
+    if is_number(word) {
+        Some(value_of(word))
+    } else {
+        None
+    }
+}
+
+/// How many words are on the line.
+pub(crate) fn word_count(line: &[u8]) -> usize
+    ensures { result ≡ length (words_of line.now) }
+{
+    let mut count = 0;
+    let mut rest = line;
+    while let Some((_, after)) = next_word(rest) {
+        count += 1;
+        rest = after;
+    }
+    count
+}
