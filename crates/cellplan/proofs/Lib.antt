@@ -1,0 +1,5 @@
+pub mod Described
+pub mod Fits
+pub mod Getters
+pub mod Taken
+pub mod Telling

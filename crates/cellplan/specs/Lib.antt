@@ -1,0 +1,5 @@
+pub mod CommandLine
+pub mod Choice
+pub mod Statuses
+pub mod Instances
+pub mod Facts

@@ -1,0 +1,9 @@
+/// What a command prints on the standard output, and the status that the program then ends with.
+#[derive(Debug, Drop)]
+pub struct Answer {
+    pub text: Vec<u8>,
+    pub status: u8,
+}
+
+/// The status of a good answer.
+pub const GOOD: u8 = 0;

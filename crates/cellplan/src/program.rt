@@ -1,0 +1,148 @@
+//! The program: its words, what it reads, what it writes, and the status that it ends with.
+
+use crate::answer::{Answer, GOOD};
+use crate::command_fault::CommandFault;
+use crate::facts::facts_answer;
+use crate::files::{FileFault, read_file, read_whole};
+use crate::words::{Chosen, CommandName, WordsFault, read_words};
+use std::alloc::{AllocError, Global};
+use std::env;
+use std::io::{self, ErrorKind, Write};
+
+/// Why the program ends without an answer on the standard output.
+#[derive(Debug, Drop)]
+enum Failure {
+    /// The words of the command line are refused, with the text that says why.
+    Usage(String),
+    /// A word of the command line isn't UTF-8.
+    NotText,
+    /// The command has no answer yet.
+    NoAnswerYet,
+    Command(CommandFault),
+    File(FileFault),
+    Memory,
+    Write,
+}
+
+impl From<AllocError> for Failure {
+    fn from(_error: AllocError) -> Failure {
+        Failure::Memory
+    }
+}
+
+impl From<CommandFault> for Failure {
+    fn from(fault: CommandFault) -> Failure {
+        Failure::Command(fault)
+    }
+}
+
+impl From<FileFault> for Failure {
+    fn from(fault: FileFault) -> Failure {
+        Failure::File(fault)
+    }
+}
+
+/// Runs the program, and gives the status that it ends with.
+pub fn run(rt: &HostRuntime, alloc: Global) -> u8 {
+    let printed = match answer(rt, alloc) {
+        Ok(answer) => print(rt, &answer),
+        Err(failure) => Err(failure),
+    };
+    match printed {
+        Ok(status) => status,
+        Err(failure) => fail(rt, &failure),
+    }
+}
+
+/// The answer to the command line. Help that was asked for is a good answer.
+fn answer(rt: &HostRuntime, alloc: Global) -> Result<Answer, Failure> {
+    let words = program_words(rt, alloc)?;
+    let mut texts = Vec::new(alloc);
+    for word in &words {
+        texts.push(word.as_str()).map_err(AllocError::from)?;
+    }
+    match read_words(alloc, &texts) {
+        Ok(chosen) => command_answer(rt, alloc, &chosen),
+        Err(WordsFault::Usage { help: true, text }) => Ok(Answer {
+            text: text.into_bytes(),
+            status: GOOD,
+        }),
+        Err(WordsFault::Usage { help: false, text }) => Err(Failure::Usage(text)),
+        Err(WordsFault::Memory) => Err(Failure::Memory),
+    }
+}
+
+/// The words of the command line, the program's name first.
+fn program_words(rt: &HostRuntime, alloc: Global) -> Result<Vec<String>, Failure> {
+    let mut words = Vec::new(alloc);
+    for word in env::args(rt).map_err(words_failure)? {
+        words.push(word).map_err(AllocError::from)?;
+    }
+    Ok(words)
+}
+
+fn words_failure(error: io::Error) -> Failure {
+    match error.kind() {
+        ErrorKind::OutOfMemory => Failure::Memory,
+        _ => Failure::NotText,
+    }
+}
+
+fn command_answer(rt: &HostRuntime, alloc: Global, chosen: &Chosen) -> Result<Answer, Failure> {
+    let name = chosen.instance.as_ref().map(|name| name.as_bytes());
+    match chosen.name {
+        CommandName::Input => Ok(facts_answer(alloc, &read_whole(alloc, rt.stdin())?, None)?),
+        CommandName::Facts => Ok(facts_answer(alloc, &file(rt, alloc, chosen, 0)?, name)?),
+        _ => Err(Failure::NoAnswerYet),
+    }
+}
+
+/// The bytes of the file at a place of the command line.
+fn file(
+    rt: &HostRuntime,
+    alloc: Global,
+    chosen: &Chosen,
+    place: usize,
+) -> Result<Vec<u8>, FileFault> {
+    match chosen.files.get(place) {
+        Some(path) => read_file(rt, alloc, path.as_str()),
+        None => Err(FileFault::Read),
+    }
+}
+
+/// Writes the answer, and gives its status.
+fn print(rt: &HostRuntime, answer: &Answer) -> Result<u8, Failure> {
+    match io::writer(rt).write_all(&answer.text) {
+        Ok(()) => Ok(answer.status),
+        Err(_) => Err(Failure::Write),
+    }
+}
+
+/// Says on the standard error why there is no answer, and gives the status. Nothing is left to do where
+/// that can't be written.
+fn fail(rt: &HostRuntime, failure: &Failure) -> u8 {
+    let _ = match failure {
+        Failure::Usage(text) => eprint!(rt; "{text}"),
+        Failure::NotText => eprintln!(rt; "cellplan: a word of the command line isn't UTF-8"),
+        Failure::NoAnswerYet => eprintln!(rt; "cellplan: this command has no answer yet"),
+        Failure::Command(CommandFault::Instance(fault)) => eprintln!(rt;
+            "cellplan: instance: {fault}"
+        ),
+        Failure::Command(CommandFault::Memory)
+        | Failure::Memory
+        | Failure::File(FileFault::Memory) => { eprintln!(rt; "cellplan: out of memory") }
+        Failure::File(FileFault::Read) => eprintln!(rt; "cellplan: read"),
+        Failure::File(FileFault::TooLong) => eprintln!(rt; "cellplan: input too long"),
+        Failure::Write => eprintln!(rt; "cellplan: write"),
+    };
+    status_of(failure)
+}
+
+fn status_of(failure: &Failure) -> u8 {
+    match failure {
+        Failure::Usage(_) | Failure::NotText | Failure::NoAnswerYet => 2,
+        Failure::Command(fault) => fault.status(),
+        Failure::Memory | Failure::File(FileFault::Memory) => 4,
+        Failure::File(_) | Failure::Write => 5,
+    }
+}
