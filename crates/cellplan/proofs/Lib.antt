@@ -1,5 +1,1 @@
-pub mod Described
-pub mod Fits
-pub mod Getters
-pub mod Taken
 pub mod Telling

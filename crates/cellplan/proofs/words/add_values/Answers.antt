@@ -3,7 +3,7 @@ use Rattle.std.specs.String.{string_bytes}
 use Rattle.std.specs.Borrow.{Bor}
 use Rattle.std.proofs.lemmas.List.{take_all}
 use Rattle.clap.specs.Words.{found_of}
-use Rattle.cellplan.proofs.Getters.{one_more, values_given, values_left_out}
+use Rattle.cellplan.proofs.words.Getters.{one_more, values_given, values_left_out}
 use Rattle.cellplan.proofs.words.add_values.Goals as goal
 
 pub returns-in_default : goal.returns-in_default

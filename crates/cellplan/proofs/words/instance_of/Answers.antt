@@ -1,6 +1,6 @@
 use Rattle.std.proofs.Common.{codes}
 use Rattle.clap.specs.Words.{found_of}
-use Rattle.cellplan.proofs.Getters.{text_given, text_left_out}
+use Rattle.cellplan.proofs.words.Getters.{text_given, text_left_out}
 use Rattle.cellplan.proofs.words.instance_of.Goals as goal
 
 pub returns-in_ok-from_str-in-Some : goal.returns-in_ok-from_str-in-Some

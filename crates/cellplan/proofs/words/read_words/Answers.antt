@@ -1,6 +1,6 @@
 use Rattle.std.proofs.Common.{map, subst, sym}
 use Rattle.cellplan.specs.Choice.{Holds, IsFit}
-use Rattle.cellplan.proofs.Taken.{met, taken, taken_fits, told}
+use Rattle.cellplan.proofs.words.Taken.{met, taken, taken_fits, told}
 use Rattle.cellplan.proofs.words.read_words.Goals as goal
 
 pub chosen_by-requires : goal.chosen_by-requires

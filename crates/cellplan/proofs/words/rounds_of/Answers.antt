@@ -1,6 +1,6 @@
 use Rattle.std.proofs.Common.{◌∙◌, ◌≤◌, subst, sym, ℕ}
 use Rattle.clap.specs.Words.{found_of}
-use Rattle.cellplan.proofs.Getters.{rounds_read}
+use Rattle.cellplan.proofs.words.Getters.{rounds_read}
 use Rattle.std.specs.Str.Parse.{ExplainsUnsignedError, HasUnsignedDigitsIfOk, ParsesUnsigned}
 use Rattle.cellplan.proofs.words.rounds_of.Goals as goal
 

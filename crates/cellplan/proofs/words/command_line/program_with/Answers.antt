@@ -1,4 +1,4 @@
-use Rattle.cellplan.proofs.Described.{next_command}
+use Rattle.cellplan.proofs.words.Described.{next_command}
 use Rattle.cellplan.proofs.words.command_line.program_with.Goals as goal
 
 pub loop-name-preserved : goal.loop-name-preserved

@@ -22,7 +22,7 @@ use Rattle.cellplan.specs.declared.words.CommandName.{CommandName}
 use Rattle.cellplan.specs.declared.words.CommandName.TheVariants.{Facts, Shape as ShapeName, Check, Plan, Drive, Hub, Audit, Gantt}
 use Rattle.cellplan.specs.declared.words.WordsFault.{WordsFault}
 use Rattle.cellplan.specs.declared.words.WordsFault.TheVariants.{Usage, Memory}
-use Rattle.cellplan.proofs.Fits.{FitFound, PlainRule, PlainRules, both_none, found_fits, least_of}
+use Rattle.cellplan.proofs.words.Fits.{FitFound, PlainRule, PlainRules, both_none, found_fits, least_of}
 
 -- how many values an argument brings
 data Share : Type 0 where

@@ -1,0 +1,4 @@
+pub mod Described
+pub mod Fits
+pub mod Getters
+pub mod Taken
