@@ -1,12 +1,14 @@
--- The tables of marks that the check of an order keeps.
-use Rattle.std.proofs.Common.{◌≡◌, ◌≢◌, ℕ, ◌+◌, ◌<◌, ◌≤◌, List, Bool, true, false, length, get_or, set, MatchBool, arith, get_or-set_same, get_or-set_other, sym, inl, inr, replicate, refl, ap, ◌∙◌}
+-- The tables of marks that the checks of a route and of an order keep.
+use Rattle.std.proofs.Common.{◌≡◌, ◌≢◌, ℕ, ◌+◌, ◌<◌, ◌≤◌, List, Bool, true, false, length, get_or, set, MatchBool, arith, below_more, get_or-set_same, get_or-set_other, sym, inl, inr, replicate, refl, ap, ◌∙◌}
 use Rattle.std.proofs.lemmas.List.{get_or-replicate, get_or_past, length-replicate, length-set}
 use Rattle.std.proofs.lemmas.Bool.Decides.{eqb_tells}
 use Rattle.std.proofs.lemmas.Bool.{cases_lt, cases_order}
-use Rattle.shop_base.specs.declared.limits.TheConstants.{MAX_JOBS}
+use Rattle.shop_base.specs.declared.limits.TheConstants.{MAX_JOBS, MAX_MACHINES}
+use Rattle.shop_base.specs.declared.shop.Step.{Step}
+use Rattle.shop_base.specs.Shop.{step_at, AreSoundSteps, IsSoundStep}
 use Rattle.shop_base.specs.Plan.{PlannedShop, job_at}
 use Rattle.shop_base.specs.ShapeFault.{IsGoodPlace}
-use Rattle.shop_base.specs.Marks.{AreMarks}
+use Rattle.shop_base.specs.Marks.{AreMarks, IsVisitedBefore}
 
 -- a mark is right: it is set just where the fact holds
 abbrev pub IsRight : Bool → Type 0 → Type 0
@@ -59,34 +61,49 @@ module _ (marks : List Bool) (P : ℕ → Type 0) (n : ℕ) (below : AreMarksBel
     | inr higher ↦ rw (below.unset j higher) (past j higher)
   ]
 
--- job j stands at one of the first n places of the order of machine m
-abbrev pub StandsBefore : PlannedShop → ℕ → ℕ → ℕ → Type 0
-StandsBefore p m n j = (a : ℕ) × (a < n) × (job_at p m a ≡ j)
+-- j is the number of one of the first n places
+abbrev pub IsBefore : (ℕ → ℕ) → ℕ → ℕ → Type 0
+IsBefore number n j = (a : ℕ) × (a < n) × (number a ≡ j)
+
+-- no place was looked at
+pub before_none : (size : ℕ) (number : ℕ → ℕ) → AreMarks (replicate size false) (IsBefore number 0)
+before_none size number = λ j lt. rw (unset_at size j) (λ before. omega (arith, before.1))
+
+-- one more place doesn't concern any other number
+still : (number : ℕ → ℕ) (n j : ℕ) → j ≢ number n → (b : Bool) → IsRight b (IsBefore number n j) → IsRight b (IsBefore number (n + 1) j)
+still number n j ne true before = (before.0, omega (arith, before.1), before.2)
+still number n j ne false before = λ more. before (more.0, earlier more, more.2)
+  where
+    earlier : (more : IsBefore number (n + 1) j) → more.0 < n
+    earlier more = elim (cases_lt more.0 n) [
+      | inl lower ↦ lower
+      | inr higher ↦ (let same : more.0 ≡ n = omega (arith, more.1) in absurd (ne (sym more.2 ∙ ap number same)))
+    ]
+
+module _ (marks : List Bool) (number : ℕ → ℕ) (n : ℕ) (are : AreMarks marks (IsBefore number n)) (inside : number n < length marks) where
+  -- one more place, whose number is marked
+  pub before_more : AreMarks (set marks (number n) true) (IsBefore number (n + 1))
+  before_more = λ j lt. at j (omega (arith, length-set marks (number n) true))
+    where
+      at : (j : ℕ) → j < length marks → IsRight (get_or (set marks (number n) true) j false) (IsBefore number (n + 1) j)
+      at j lt = elim (eqb_tells j (number n)) [
+        | inl same ↦ rw (same.1, get_or-set_same marks (number n) true false inside) (n, omega arith, refl)
+        | inr other ↦ rw (get_or-set_other marks (number n) j true false other.1) (still number n j other.1 _ (are j lt))
+      ]
 
 -- the first n places of an order are good, and their jobs are marked
 pub record ArePlacesChecked (p : PlannedShop) (m : ℕ) (listed : List Bool) (n : ℕ) : Type 0 where
   pub good : (a : ℕ) → a < n → IsGoodPlace p m a
-  pub marks : AreMarks listed (StandsBefore p m n)
+  pub marks : AreMarks listed (IsBefore (job_at p m) n)
   pub size : length listed ≡ MAX_JOBS
 
 -- no place was looked at
 pub places_none : (p : PlannedShop) (m : ℕ) → ArePlacesChecked p m (replicate MAX_JOBS false) 0
 places_none p m = record {
   good = λ a lt. absurd (omega arith);
-  marks = λ j lt. rw (unset_at MAX_JOBS j) (λ stands. omega (arith, stands.1));
+  marks = before_none MAX_JOBS (job_at p m);
   size = length-replicate MAX_JOBS false;
 }
-
--- one more place doesn't concern any other job
-still : (p : PlannedShop) (m n j : ℕ) → j ≢ job_at p m n → (b : Bool) → IsRight b (StandsBefore p m n j) → IsRight b (StandsBefore p m (n + 1) j)
-still p m n j ne true stands = (stands.0, omega (arith, stands.1), stands.2)
-still p m n j ne false stands = λ more. stands (more.0, earlier more, more.2)
-  where
-    earlier : (more : StandsBefore p m (n + 1) j) → more.0 < n
-    earlier more = elim (cases_lt more.0 n) [
-      | inl lower ↦ lower
-      | inr higher ↦ (let same : more.0 ≡ n = omega (arith, more.1) in absurd (ne (sym more.2 ∙ ap (job_at p m) same)))
-    ]
 
 module _ (p : PlannedShop) (m : ℕ) (listed : List Bool) (n : ℕ) (checked : ArePlacesChecked p m listed n) where
   -- one more good place, whose job is marked
@@ -96,12 +113,30 @@ module _ (p : PlannedShop) (m : ℕ) (listed : List Bool) (n : ℕ) (checked : A
       | inl same ↦ rw same good
       | inr other ↦ (let lower : a < n = elim other [ inl l ↦ omega arith | inr g ↦ omega arith ] in checked.good a lower)
     ];
-    marks = λ j lt. marks_more_at j (omega (arith, length-set listed (job_at p m n) true));
+    marks = before_more listed (job_at p m) n checked.marks inside;
     size = length-set listed (job_at p m n) true ∙ checked.size;
   }
-    where
-      marks_more_at : (j : ℕ) → j < length listed → IsRight (get_or (set listed (job_at p m n) true) j false) (StandsBefore p m (n + 1) j)
-      marks_more_at j lt = elim (eqb_tells j (job_at p m n)) [
-        | inl same ↦ rw (same.1, get_or-set_same listed (job_at p m n) true false inside) (n, omega arith, refl)
-        | inr other ↦ rw (get_or-set_other listed (job_at p m n) j true false other.1) (still p m n j other.1 _ (checked.marks j lt))
-      ]
+
+-- the first n steps of a route are sound, and their machines are marked
+pub record AreStepsChecked (machines : ℕ) (route : List Step) (visited : List Bool) (n : ℕ) : Type 0 where
+  pub sound : AreSoundSteps machines route n
+  pub marks : AreMarks visited (IsVisitedBefore route n)
+  pub size : length visited ≡ MAX_MACHINES
+
+-- no step was looked at
+pub steps_none : (machines : ℕ) (route : List Step) → AreStepsChecked machines route (replicate MAX_MACHINES false) 0
+steps_none machines route = record {
+  sound = λ k lt. absurd (omega arith);
+  marks = before_none MAX_MACHINES (λ k. (step_at route k).machine);
+  size = length-replicate MAX_MACHINES false;
+}
+
+module _ (machines : ℕ) (route : List Step) (visited : List Bool) (n : ℕ) (checked : AreStepsChecked machines route visited n) where
+  -- one more sound step, whose machine is marked
+  pub steps_more : machines ≤ MAX_MACHINES → IsSoundStep machines route n
+      → AreStepsChecked machines route (set visited (step_at route n).machine true) (n + 1)
+  steps_more few sound = record {
+    sound = below_more _ _ checked.sound sound;
+    marks = before_more visited (λ k. (step_at route k).machine) n checked.marks (omega (arith, checked.size, sound.in_range));
+    size = length-set visited (step_at route n).machine true ∙ checked.size;
+  }

@@ -13,6 +13,7 @@ pub mod Punctual
 pub mod Ends
 pub mod ReportsLeft
 pub mod Graph
+pub mod NodeText
 pub mod Sound
 pub mod Timely
 pub mod ChainLaw

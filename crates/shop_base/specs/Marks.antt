@@ -11,6 +11,10 @@ AreMarks marks P = (j : ℕ) → j < length marks → MatchBool (slice_index_or 
 abbrev pub Reaches : List Step → ℕ → Type 0
 Reaches route m = (k : ℕ) × (k < length route) × ((step_at route k).machine ≡ m)
 
+-- one of the first n steps of the route is on machine m
+abbrev pub IsVisitedBefore : List Step → ℕ → ℕ → Type 0
+IsVisitedBefore route n m = (i : ℕ) × (i < n) × ((step_at route i).machine ≡ m)
+
 -- the first number over the limit, none where each is within it
 abbrev pub IsFirstAbove : List ℕ → ℕ → Option ℕ → Type 0
 IsFirstAbove numbers limit found =

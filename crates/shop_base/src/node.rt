@@ -1,3 +1,6 @@
+ghost use Rattle.std.specs.Prelude.{Some};
+ghost use Rattle.shop_base.specs.NodeText.{node_text};
+
 use crate::shop::JobNo;
 use std::fmt;
 
@@ -10,6 +13,8 @@ pub struct Node {
 }
 
 impl fmt::Display for Node {
+    ghost output = { λ v. Some (node_text v) };
+
     fn fmt<W: fmt::Write>(&self, f: &mut fmt::Formatter<W>) -> fmt::Result {
         write!(f, "{}.{}", self.job, self.place)
     }

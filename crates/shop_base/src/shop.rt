@@ -1,6 +1,7 @@
-ghost use Rattle.std.specs.Prelude.{◌≡◌, ℕ, ◌+◌, ◌^◌, ◌<◌, ◌≤◌, ◌↔◌, MatchOption, MatchBool, sum_by, IfOk, IfErr, OnOk, IsTrue, length, slice_get, Some};
-ghost use Rattle.shop_base.specs.Shop.{JobShop, IsShop, IsRoute, AreCounts, AreRoutes, IsSoundStep, IsFirstVisit, lists_of, operations_of, work_of, route_work, route_at};
-ghost use Rattle.shop_base.specs.ShopFault.{IsFirstFault, IsReached, IsStepReached, IsLaterVisit};
+ghost use Rattle.std.specs.Prelude.{◌≡◌, ℕ, ◌+◌, ◌^◌, ◌<◌, ◌≤◌, ◌↔◌, MatchOption, sum_by, IfOk, IfErr, OnOk, IsTrue, length, slice_get, Some};
+ghost use Rattle.shop_base.specs.Shop.{JobShop, IsShop, IsRoute, AreCounts, AreRoutes, IsSoundStep, lists_of, operations_of, work_of, route_work, route_at};
+ghost use Rattle.shop_base.specs.ShopFault.{IsFirstFault, IsReached, IsStepReached};
+ghost use Rattle.shop_base.specs.Marks.{AreMarks, IsVisitedBefore};
 
 use crate::limits::{MAX_JOBS, MAX_MACHINES, MAX_NOMINAL};
 use crate::shop_fault::ShopFault;
@@ -158,14 +159,24 @@ fn check_route(machines: u32, routes: &[Vec<Step>], job: usize) -> Result<(), Sh
     if route.is_empty() {
         return Err(ShopFault::EmptyRoute { job: job as u32 });
     }
+    let mut visited = [false; MAX_MACHINES as usize];
     for step in 0..route.len() {
-        check_step(machines, routes, job, step)?;
+        check_step(machines, routes, job, step, &visited)?;
+        visited[route[step].machine as usize] = true;
     }
     Ok(())
 }
 
-fn check_step(machines: u32, routes: &[Vec<Step>], job: usize, step: usize) -> Result<(), ShopFault>
-    requires { IsStepReached machines (lists_of routes.now) job step }
+/// Checks a step of a route, on whose earlier steps are the machines that are marked as visited.
+fn check_step(
+    machines: u32,
+    routes: &[Vec<Step>],
+    job: usize,
+    step: usize,
+    visited: &[bool; MAX_MACHINES as usize],
+) -> Result<(), ShopFault>
+    requires reached { IsStepReached machines (lists_of routes.now) job step }
+    requires marked { AreMarks visited.now (IsVisitedBefore (route_at (lists_of routes.now) job) step) }
     ensures sound { OnOk result (IsSoundStep machines (route_at (lists_of routes.now) job) step) }
     ensures first_fault { IfErr result (IsFirstFault machines (lists_of routes.now)) }
 {
@@ -174,26 +185,13 @@ fn check_step(machines: u32, routes: &[Vec<Step>], job: usize, step: usize) -> R
     if route[step].machine >= machines {
         return Err(ShopFault::MachineOutOfRange { job, step });
     }
-    if is_later_visit(route, step) {
+    if visited[route[step].machine as usize] {
         return Err(ShopFault::MachineTwice { job, step });
     }
     if route[step].nominal > MAX_NOMINAL {
         return Err(ShopFault::NominalTooLarge { job, step });
     }
     Ok(())
-}
-
-fn is_later_visit(route: &[Step], step: usize) -> bool
-    requires { step < length route.now }
-    ensures { MatchBool result (IsLaterVisit route.now step) (IsFirstVisit route.now step) }
-{
-    let machine = route[step].machine;
-    for earlier in 0..step {
-        if route[earlier].machine == machine {
-            return true;
-        }
-    }
-    false
 }
 
 fn steps_of(routes: &[Vec<Step>], job: usize) -> &[Step]

@@ -1,0 +1,5 @@
+use Rattle.shop_base.proofs.Marking.{steps_none}
+use Rattle.shop_base.proofs.shop.check_route.Goals as goal
+
+pub loop-step-init : goal.loop-step-init
+loop-step-init c = steps_none _ _
