@@ -1,14 +1,14 @@
 -- The tables of marks that the checks of a route and of an order keep.
-use Rattle.std.proofs.Common.{◌≡◌, ◌≢◌, ℕ, ◌+◌, ◌<◌, ◌≤◌, List, Bool, true, false, length, get_or, set, MatchBool, arith, below_more, get_or-set_same, get_or-set_other, sym, inl, inr, replicate, refl, ap, ◌∙◌}
+use Rattle.std.proofs.Common.{◌≡◌, ◌≢◌, ℕ, ◌+◌, ◌<◌, ◌≤◌, List, [], Bool, true, false, length, get_or, set, MatchBool, arith, below_more, get_or-set_same, get_or-set_other, sym, inl, inr, replicate, refl, ap, ◌∙◌}
 use Rattle.std.proofs.lemmas.List.{get_or-replicate, get_or_past, length-replicate, length-set}
 use Rattle.std.proofs.lemmas.Bool.Decides.{eqb_tells}
 use Rattle.std.proofs.lemmas.Bool.{cases_lt, cases_order}
 use Rattle.shop_base.specs.declared.limits.TheConstants.{MAX_JOBS, MAX_MACHINES}
 use Rattle.shop_base.specs.declared.shop.Step.{Step}
-use Rattle.shop_base.specs.Shop.{step_at, AreSoundSteps, IsSoundStep}
+use Rattle.shop_base.specs.Shop.{route_at, step_at, AreSoundSteps, IsSoundStep}
 use Rattle.shop_base.specs.Plan.{PlannedShop, job_at}
 use Rattle.shop_base.specs.ShapeFault.{IsGoodPlace}
-use Rattle.shop_base.specs.Marks.{AreMarks, IsVisitedBefore}
+use Rattle.shop_base.specs.Marks.{AreMarks, AreVisited, AreVisits, IsVisitedBefore}
 
 -- a mark is right: it is set just where the fact holds
 abbrev pub IsRight : Bool → Type 0 → Type 0
@@ -20,46 +20,12 @@ right_true right is = rw is at right
 pub right_false : {b : Bool} {P : Type 0} → IsRight b P → b ≡ false → P → ⊥
 right_false right is = rw is at right
 
--- the marks of the first n jobs are right, and no other is set
-pub record AreMarksBelow (marks : List Bool) (P : ℕ → Type 0) (n : ℕ) : Type 0 where
-  pub right : (j : ℕ) → j < n → IsRight (get_or marks j false) (P j)
-  pub unset : (j : ℕ) → n ≤ j → get_or marks j false ≡ false
-  pub size : length marks ≡ MAX_JOBS
-
 -- no mark is set at first
 pub unset_at : (size j : ℕ) → get_or (replicate size false) j false ≡ false
 unset_at size j = elim (cases_lt j size) [
   | inl lower ↦ get_or-replicate size j false false lower
   | inr higher ↦ get_or_past (replicate size false) j false (omega (arith, length-replicate size false))
 ]
-
-pub marks_none : (P : ℕ → Type 0) → AreMarksBelow (replicate MAX_JOBS false) P 0
-marks_none P = record {
-  right = λ j lt. absurd (omega arith);
-  unset = λ j le. unset_at MAX_JOBS j;
-  size = length-replicate MAX_JOBS false;
-}
-
-module _ (marks : List Bool) (P : ℕ → Type 0) (n : ℕ) (below : AreMarksBelow marks P n) where
-  -- one more mark
-  pub marks_more : (b : Bool) → n < length marks → IsRight b (P n) → AreMarksBelow (set marks n b) P (n + 1)
-  marks_more b inside is = record {
-    right = λ j lt. elim (cases_order j n) [
-      | inl same ↦ rw same (rw (get_or-set_same marks n b false inside) is)
-      | inr other ↦ (let ne : j ≢ n = elim other [ inl l ↦ omega arith | inr g ↦ omega arith ] in
-          let lower : j < n = omega arith in
-          rw (get_or-set_other marks n j b false ne) (below.right j lower))
-    ];
-    unset = λ j le. (let ne : j ≢ n = omega arith in let le' : n ≤ j = omega arith in rw (get_or-set_other marks n j b false ne) (below.unset j le'));
-    size = length-set marks n b ∙ below.size;
-  }
-
-  -- none of the jobs past the marked ones is meant
-  pub marks_all : ((j : ℕ) → n ≤ j → P j → ⊥) → AreMarks marks P
-  marks_all past = λ j _. elim (cases_lt j n) [
-    | inl lower ↦ below.right j lower
-    | inr higher ↦ rw (below.unset j higher) (past j higher)
-  ]
 
 -- j is the number of one of the first n places
 abbrev pub IsBefore : (ℕ → ℕ) → ℕ → ℕ → Type 0
@@ -140,3 +106,47 @@ module _ (machines : ℕ) (route : List Step) (visited : List Bool) (n : ℕ) (c
     marks = before_more visited (λ k. (step_at route k).machine) n checked.marks (omega (arith, checked.size, sound.in_range));
     size = length-set visited (step_at route n).machine true ∙ checked.size;
   }
+
+-- a route without steps visits nothing
+visited_none : (route : List Step) → length route ≡ 0 → AreVisited (replicate MAX_MACHINES false) route
+visited_none route empty = record {
+  marks = λ m lt. rw (unset_at MAX_MACHINES m) (λ visited. omega (arith, visited.1));
+  size = length-replicate MAX_MACHINES false;
+}
+
+-- for each of the first n jobs the machines that its route visits are marked, and no others
+pub record AreVisitsBelow (visits : List (List Bool)) (routes : List (List Step)) (n : ℕ) : Type 0 where
+  pub marks : (j : ℕ) → j < n → AreVisited (get_or visits j []) (route_at routes j)
+  pub unset : (j : ℕ) → n ≤ j → j < length visits → get_or visits j [] ≡ replicate MAX_MACHINES false
+  pub size : length visits ≡ MAX_JOBS
+
+-- no job was looked at
+pub visits_none : (routes : List (List Step)) → AreVisitsBelow (replicate MAX_JOBS (replicate MAX_MACHINES false)) routes 0
+visits_none routes =
+    let row : List Bool = replicate MAX_MACHINES false in
+    record {
+      marks = λ j lt. absurd (omega arith);
+      unset = λ j le lt. get_or-replicate MAX_JOBS j row [] (omega (arith, length-replicate MAX_JOBS row));
+      size = length-replicate MAX_JOBS row;
+    }
+
+module _ (visits : List (List Bool)) (routes : List (List Step)) (n : ℕ) (below : AreVisitsBelow visits routes n) where
+  -- one more job, whose machines are marked
+  pub visits_more : (row : List Bool) → n < length visits → AreVisited row (route_at routes n) → AreVisitsBelow (set visits n row) routes (n + 1)
+  visits_more row inside visited = record {
+    marks = λ j lt. elim (cases_order j n) [
+      | inl same ↦ rw (same, get_or-set_same visits n row [] inside) visited
+      | inr other ↦ (let ne : j ≢ n = elim other [ inl l ↦ omega arith | inr g ↦ omega arith ] in
+          let lower : j < n = omega arith in
+          rw (get_or-set_other visits n j row [] ne) (below.marks j lower))
+    ];
+    unset = λ j le lt. (let ne : j ≢ n = omega arith in get_or-set_other visits n j row [] ne ∙ below.unset j (omega arith) (omega (arith, length-set visits n row)));
+    size = length-set visits n row ∙ below.size;
+  }
+
+  -- there are no more jobs
+  pub visits_all : length routes ≤ n → AreVisits visits routes
+  visits_all end = λ j within. elim (cases_lt j n) [
+    | inl lower ↦ below.marks j lower
+    | inr higher ↦ rw (below.unset j higher within) (visited_none (route_at routes j) (ap length (get_or_past routes j [] (omega arith))))
+  ]

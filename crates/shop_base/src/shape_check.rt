@@ -1,15 +1,19 @@
 //! The checks of a plan's shape, in the order of their faults.
 
 ghost use Rattle.std.specs.Prelude.{◌≡◌, ℕ, ◌<◌, IfOk, OnOk, IfErr, MatchBool, length, slice_index, slice_index_or, []};
-ghost use Rattle.shop_base.specs.Shop.{IsShop, route_at, lists_of};
+ghost use Rattle.shop_base.specs.Shop.{route_at, step_at};
 ghost use Rattle.shop_base.specs.Plan.{PlannedShop, IsWellShaped, HasCounts, IsWithinLimits, IsOrder, jobs, machines, order, job_at};
+ghost use Rattle.shop_base.specs.declared.limits.TheConstants.{MAX_MACHINES};
 ghost use Rattle.shop_base.specs.ShapeFault.{IsFirstShapeFault, IsMachineReached, IsPlaceReached, IsGoodPlace, IsListed, IsVisitor};
-ghost use Rattle.shop_base.specs.Marks.{AreMarks, Reaches, IsFirstAbove};
+ghost use Rattle.shop_base.specs.Marks.{AreMarks, AreVisits, AreVisited, IsVisitedBefore, IsFirstAbove};
 
-use crate::limits::{MAX_CLEAN, MAX_JOBS, MAX_MOMENT, MAX_RELEASE};
+use crate::limits::{MAX_CLEAN, MAX_JOBS, MAX_MACHINES, MAX_MOMENT, MAX_RELEASE};
 use crate::plan::Plan;
 use crate::shape_fault::ShapeFault;
 use crate::shop::{JobNo, MachineNo, Moment, Shop, Step};
+
+/// For each job a mark for each machine, set where its route visits the machine.
+type Visits = [[bool; MAX_MACHINES as usize]; MAX_JOBS];
 
 /// The first fault of a plan's shape, if there is one.
 pub fn check_shape(shop: &Shop, plan: &Plan) -> Result<(), ShapeFault>
@@ -18,8 +22,9 @@ pub fn check_shape(shop: &Shop, plan: &Plan) -> Result<(), ShapeFault>
 {
     check_counts(shop, plan)?;
     check_limits(shop, plan)?;
+    let visits = visits_of(shop);
     for machine in 0..shop.machines() {
-        check_order(shop, plan, machine)?;
+        check_order(shop, plan, &visits, machine)?;
     }
     Ok(())
 }
@@ -76,15 +81,20 @@ fn first_above(moments: &[Moment], limit: Moment) -> Option<usize>
     None
 }
 
-fn check_order(shop: &Shop, plan: &Plan, machine: MachineNo) -> Result<(), ShapeFault>
-    requires { IsMachineReached (record { shop = shop.now; plan = plan.now }) machine }
+fn check_order(
+    shop: &Shop,
+    plan: &Plan,
+    visits: &Visits,
+    machine: MachineNo,
+) -> Result<(), ShapeFault>
+    requires reached { IsMachineReached (record { shop = shop.now; plan = plan.now }) machine }
+    requires marked { AreVisits visits.now shop.now.routes }
     ensures sound { OnOk result (IsOrder (record { shop = shop.now; plan = plan.now }) machine) }
     ensures first_fault { IfErr result (IsFirstShapeFault (record { shop = shop.now; plan = plan.now })) }
 {
-    let visitors = visitors_of(shop, machine);
-    let listed = check_places(shop, plan, machine, &visitors)?;
+    let listed = check_places(shop, plan, visits, machine)?;
     for job in 0..shop.jobs() {
-        if visitors[job as usize] && !listed[job as usize] {
+        if is_visitor(shop, visits, job, machine) && !listed[job as usize] {
             return Err(ShapeFault::JobMissing { machine, job });
         }
     }
@@ -95,11 +105,11 @@ fn check_order(shop: &Shop, plan: &Plan, machine: MachineNo) -> Result<(), Shape
 fn check_places(
     shop: &Shop,
     plan: &Plan,
+    visits: &Visits,
     machine: MachineNo,
-    visitors: &[bool; MAX_JOBS],
 ) -> Result<[bool; MAX_JOBS], ShapeFault>
     requires reached { IsMachineReached (record { shop = shop.now; plan = plan.now }) machine }
-    requires marked { AreMarks visitors.now (IsVisitor (record { shop = shop.now; plan = plan.now }) machine) }
+    requires marked { AreVisits visits.now shop.now.routes }
     ensures good { let p : PlannedShop = record { shop = shop.now; plan = plan.now } in
         OnOk result ((a : ℕ) → a < length (order p machine) → IsGoodPlace p machine a) }
     ensures listed { IfOk result (λ listed. AreMarks listed (IsListed (record { shop = shop.now; plan = plan.now }) machine)) }
@@ -112,7 +122,7 @@ fn check_places(
         if job >= shop.jobs() {
             return Err(ShapeFault::JobOutOfRange { machine, place });
         }
-        if !visitors[job as usize] {
+        if !is_visitor(shop, visits, job, machine) {
             return Err(ShapeFault::NotOnRoute { machine, place });
         }
         if listed[job as usize] {
@@ -123,31 +133,39 @@ fn check_places(
     Ok(listed)
 }
 
-/// Marks the jobs whose routes visit the machine.
-fn visitors_of(shop: &Shop, machine: MachineNo) -> [bool; MAX_JOBS]
-    ensures { AreMarks result (λ j. Reaches (route_at shop.now.routes j) machine) }
+/// Marks for each job the machines that its route visits.
+fn visits_of(shop: &Shop) -> Visits
+    ensures { AreVisits result shop.now.routes }
 {
-    let mut visitors = [false; MAX_JOBS];
+    let mut visits = [[false; MAX_MACHINES as usize]; MAX_JOBS];
     for job in 0..shop.jobs() {
-        visitors[job as usize] = is_visitor(shop, job, machine);
+        if let Some(route) = shop.route(job) {
+            visits[job as usize] = visited_by(route);
+        }
     }
-    visitors
+    visits
 }
 
-fn is_visitor(shop: &Shop, job: JobNo, machine: MachineNo) -> bool
-    requires { job < length shop.now.routes }
-    ensures { let found = Reaches (route_at shop.now.routes job) machine in MatchBool result found (found → ⊥) }
+/// Whether the route of the job visits the machine.
+fn is_visitor(shop: &Shop, visits: &Visits, job: JobNo, machine: MachineNo) -> bool
+    requires in_range { machine < MAX_MACHINES }
+    requires marked { AreVisits visits.now shop.now.routes }
+    ensures { let route = route_at shop.now.routes job in
+        let found = IsVisitedBefore route (length route) machine in MatchBool result found (found → ⊥) }
 {
-    match shop.route(job) {
-        Some(route) => reaches(route, machine),
-        None => false,
-    }
+    job < shop.jobs() && visits[job as usize][machine as usize]
 }
 
-fn reaches(route: &[Step], machine: MachineNo) -> bool
-    ensures { MatchBool result (Reaches route.now machine) (Reaches route.now machine → ⊥) }
+/// Marks the machines that the route visits.
+fn visited_by(route: &[Step]) -> [bool; MAX_MACHINES as usize]
+    requires { (k : ℕ) → k < length route.now → (step_at route.now k).machine < MAX_MACHINES }
+    ensures { AreVisited result route.now }
 {
-    route.iter().any(|step| step.machine == machine)
+    let mut visited = [false; MAX_MACHINES as usize];
+    for k in 0..route.len() {
+        visited[route[k].machine as usize] = true;
+    }
+    visited
 }
 
 fn order_of(plan: &Plan, machine: MachineNo) -> &[JobNo]

@@ -10,11 +10,11 @@ loop-place-preserved c =
     let is_order = c.order_of-order.ensures in
     let few = c.jobs.ensures.sound.counts.few_jobs in
     let is_job = rw is_order at c.if-job-jobs.false in
-    let is_marked = rw is_order at c.if-not-visitors-job.false in
+    let visit = right_true (rw is_order at c.is_visitor.ensures) c.if-not-is_visitor.false in
     let is_new = rw is_order at c.if-listed-job.false in
     rw is_order (places_more _ _ _ _ c.loop-place.invariant (omega (arith, c.loop-place.invariant.size, c.jobs.ensures.count))
     (record {
-      visitor = right_true (c.requires.marked _ (omega (arith, c.told-visitors, c.jobs.ensures.count))) is_marked;
+      visitor = (visit.0, record { within = visit.1; here = visit.2 });
       first = λ b before same. right_false (c.loop-place.invariant.marks _ (omega (arith, c.loop-place.invariant.size, c.jobs.ensures.count))) is_new (b, before, same);
     }))
 
