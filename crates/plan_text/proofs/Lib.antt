@@ -1,0 +1,6 @@
+pub mod Firsts
+pub mod Known
+pub mod Numbers
+pub mod Versions
+pub mod Tables
+pub mod Answering

@@ -1,0 +1,11 @@
+use Rattle.std.proofs.Common.{◌≡◌, ◌++◌, drop, None}
+use Rattle.toml.specs.View.{items_view}
+use Rattle.plan_text.specs.Faults.{number_faults, each_faults}
+use Rattle.plan_text.specs.Reading.{number_in, each_item}
+use Rattle.plan_text.proofs.values.moments_of.Given as goal
+
+abbrev pub invariant-loop-place : goal.invariant-loop-place
+invariant-loop-place l = record {
+  faults : each_faults (number_faults l.key None) l.place (items_view (drop l.place l.items)) ≡ each_faults (number_faults l.key None) 0 (items_view l.items);
+  numbers : l.moments.items ++ each_item number_in (items_view (drop l.place l.items)) ≡ each_item number_in (items_view l.items);
+}

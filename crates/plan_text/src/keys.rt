@@ -1,0 +1,86 @@
+//! The keys of a table.
+
+ghost use Rattle.std.specs.Prelude.{◌≡◌, IfOk, Some, option_map, string_bytes};
+ghost use Rattle.std.specs.List.{list_all};
+ghost use Rattle.std.specs.BTreeMap.{keys};
+ghost use Rattle.toml.specs.Data.{get_member};
+ghost use Rattle.toml.specs.View.{view, table_view};
+ghost use Rattle.plan_text.specs.Keys.{value_at, version_in};
+ghost use Rattle.plan_text.specs.Answers.{Passes};
+ghost use Rattle.plan_text.specs.Faults.{version_faults, has_cleaning, is_common_key, is_known_key, key_faults, missing_faults, missing_keys};
+
+use crate::plan_fault::PlanFault;
+use crate::plan_key::PlanKey;
+use toml::{Table, Value};
+
+/// The value of a key, if the table has one.
+pub(crate) fn value_of<'a>(table: &'a Table, key: &str) -> Option<&'a Value>
+    ensures { option_map (λ v. view v.now) result ≡ get_member key.now (table_view table.now) }
+{
+    table.get(key)
+}
+
+/// Whether the table's version is 2, that of plans with cleaning.
+pub(crate) fn check_version(table: &Table) -> Result<bool, PlanFault>
+    ensures faults { Passes (version_faults (version_in (table_view table.now))) result }
+    ensures value { IfOk result (λ cleaning. cleaning ≡ has_cleaning (version_in (table_view table.now))) }
+{
+    let Some(version) = value_of(table, "version") else {
+        return Ok(false);
+    };
+    match version.as_integer() {
+        Some(1) => Ok(false),
+        Some(2) => Ok(true),
+        _ => Err(PlanFault::BadVersion),
+    }
+}
+
+fn is_common(key: &str) -> bool
+    ensures { result ≡ is_common_key key.now }
+{
+    key == "version" || key == "release" || key == "budget" || key == "order"
+}
+
+fn is_known(key: &str, cleaning: bool) -> bool
+    ensures { result ≡ is_known_key cleaning key.now }
+{
+    is_common(key) || (cleaning && key == "clean")
+}
+
+fn are_known(table: &Table, cleaning: bool) -> bool
+    ensures { result ≡ list_all (λ key. is_known_key cleaning (string_bytes key)) (keys table.now) }
+{
+    table.keys().all(|key| is_known(key, cleaning))
+}
+
+/// Refuses a key that isn't one of the version's.
+pub(crate) fn check_known(table: &Table, cleaning: bool) -> Result<(), PlanFault>
+    ensures { Passes (key_faults cleaning (table_view table.now)) result }
+{
+    if !are_known(table, cleaning) {
+        return Err(PlanFault::UnknownKey);
+    }
+    Ok(())
+}
+
+fn check_key(table: &Table, key: PlanKey) -> Result<(), PlanFault>
+    ensures { Passes (missing_faults key (value_at (table_view table.now) key)) result }
+{
+    match value_of(table, key.name()) {
+        Some(_) => Ok(()),
+        None => Err(PlanFault::MissingKey { key }),
+    }
+}
+
+/// Refuses a table that lacks a key of its version.
+pub(crate) fn check_missing(table: &Table, cleaning: bool) -> Result<(), PlanFault>
+    ensures { Passes (missing_keys cleaning (table_view table.now)) result }
+{
+    check_key(table, PlanKey::Release)?;
+    check_key(table, PlanKey::Budget)?;
+    check_key(table, PlanKey::Order)?;
+    if cleaning {
+        check_key(table, PlanKey::Clean)?;
+    }
+    Ok(())
+}

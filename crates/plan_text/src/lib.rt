@@ -1,0 +1,13 @@
+//! Plan texts: TOML documents with the keys `release`, `budget` and `order`, and in version 2 `version`
+//! and `clean` too.
+#![tactic(auto)]
+
+mod keys;
+mod plan_fault;
+mod plan_key;
+mod read;
+mod values;
+
+pub use plan_fault::PlanFault;
+pub use plan_key::PlanKey;
+pub use read::read_plan;

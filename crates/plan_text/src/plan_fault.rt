@@ -1,0 +1,63 @@
+use crate::plan_key::PlanKey;
+use std::fmt;
+use thiserror::Error;
+
+/// Why a text is no plan, or a plan has no text: the first reason, in the order in which they stand here.
+/// In `release`, `budget`, `order` and `clean`, one after the other, it is the first from the first
+/// element on. Rows and places are numbered from 0; `row` is the machine, for elements of `order`.
+#[derive(Clone, Copy, Debug, PartialEq, Eq, Error)]
+pub enum PlanFault {
+    /// The bytes are no TOML document.
+    #[error("NotToml")]
+    NotToml,
+    /// There is a version, and it isn't the whole number 1 or 2.
+    #[error("BadVersion")]
+    BadVersion,
+    /// A key isn't one of the version's.
+    #[error("UnknownKey")]
+    UnknownKey,
+    /// The key isn't there.
+    #[error("MissingKey key {key}")]
+    MissingKey {
+        key: PlanKey,
+    },
+    /// The value of the key, or the row, isn't an array.
+    #[error("NotArray key {key}{}", RowText(*.row))]
+    NotArray {
+        key: PlanKey,
+        row: Option<usize>,
+    },
+    /// The element isn't a whole number.
+    #[error("NotWhole key {key}{} place {place}", RowText(*.row))]
+    NotWhole {
+        key: PlanKey,
+        row: Option<usize>,
+        place: usize,
+    },
+    /// The element is negative, or over what a moment or the number of a job can be.
+    #[error("OutOfRange key {key}{} place {place}", RowText(*.row))]
+    OutOfRange {
+        key: PlanKey,
+        row: Option<usize>,
+        place: usize,
+    },
+    /// Memory was wanting.
+    #[error("Memory")]
+    Memory,
+    /// The plan's text isn't read as this plan.
+    #[error("NotReadBack")]
+    NotReadBack,
+}
+
+/// The row in a fault's text, where there is one.
+#[derive(Drop)]
+struct RowText(Option<usize>);
+
+impl fmt::Display for RowText {
+    fn fmt<W: fmt::Write>(&self, f: &mut fmt::Formatter<W>) -> fmt::Result {
+        match self.0 {
+            Some(row) => write!(f, " row {row}"),
+            None => Ok(()),
+        }
+    }
+}

@@ -1,0 +1,129 @@
+//! The reader of plan texts.
+
+ghost use Rattle.std.specs.Prelude.{◌≡◌, ◌≢◌, ◌⊎◌, IfOk, IfErr, None, Some};
+ghost use Rattle.shop_base.specs.Shop.{lists_of};
+ghost use Rattle.shop_base.specs.Plan.{ShopPlan, list_of};
+ghost use Rattle.toml.specs.View.{table_view};
+ghost use Rattle.toml.specs.Errors.{IsMemory};
+ghost use Rattle.plan_text.specs.declared.plan_fault.PlanFault.{PlanFault};
+ghost use Rattle.plan_text.specs.Keys.{value_at};
+ghost use Rattle.plan_text.specs.Documents.{IsDocument, IsNoDocument, IsPlanText, IsFirstFault};
+ghost use Rattle.plan_text.specs.Answers.{IsPlanAnswer, IsFaultAnswer, Passes};
+ghost use Rattle.plan_text.specs.Reading.{numbers_in, rows_in, list_at, clean_in, plan_with, plan_in};
+ghost use Rattle.plan_text.specs.Faults.{list_faults, order_faults, faults_at, if_cleaning, list_values, faults_of};
+
+use crate::keys::{check_known, check_missing, check_version, value_of};
+use crate::plan_fault::PlanFault;
+use crate::plan_key::PlanKey;
+use crate::values::{moments_in, rows_in};
+use shop_base::{JobNo, Moment, Plan};
+use std::alloc::Global;
+use toml::Table;
+
+/// The moments of a key, where the table has it.
+fn moments_at(alloc: Global, table: &Table, key: PlanKey) -> Result<Vec<Moment>, PlanFault>
+    requires { key ≢ PlanKey.Order }
+    ensures faults { Passes (faults_at (list_faults key None) (value_at (table_view table.now) key)) result }
+    ensures value { IfOk result (λ moments. moments.items ≡ list_at numbers_in (value_at (table_view table.now) key)) }
+{
+    match value_of(table, key.name()) {
+        Some(value) => moments_in(alloc, key, value),
+        None => Ok(Vec::new(alloc)),
+    }
+}
+
+/// The rows of the order, where the table has one.
+fn rows_at(alloc: Global, table: &Table) -> Result<Vec<Vec<JobNo>>, PlanFault>
+    ensures faults { Passes (faults_at order_faults (value_at (table_view table.now) PlanKey.Order)) result }
+    ensures value { IfOk result (λ rows. lists_of rows.items ≡ list_at rows_in (value_at (table_view table.now) PlanKey.Order)) }
+{
+    match value_of(table, PlanKey::Order.name()) {
+        Some(value) => rows_in(alloc, value),
+        None => Ok(Vec::new(alloc)),
+    }
+}
+
+/// The cleaning times, where the table's version has some.
+fn clean_at(alloc: Global, table: &Table, cleaning: bool) -> Result<Option<Vec<Moment>>, PlanFault>
+    ensures faults { Passes (if_cleaning cleaning (faults_at (list_faults PlanKey.Clean None) (value_at (table_view table.now) PlanKey.Clean))) result }
+    ensures value { IfOk result (λ times. list_of times ≡ clean_in cleaning (table_view table.now)) }
+{
+    if !cleaning {
+        return Ok(None);
+    }
+    match moments_at(alloc, table, PlanKey::Clean) {
+        Ok(times) => Ok(Some(times)),
+        Err(fault) => Err(fault),
+    }
+}
+
+/// The plan of a table that has the keys of its version.
+fn lists_at(alloc: Global, table: &Table, cleaning: bool) -> Result<Plan, PlanFault>
+    ensures faults { Passes (list_values cleaning (table_view table.now)) result }
+    ensures value { IfOk result (λ plan. plan ≡ plan_with cleaning (table_view table.now)) }
+{
+    let release = moments_at(alloc, table, PlanKey::Release)?;
+    let budget = moments_at(alloc, table, PlanKey::Budget)?;
+    let order = rows_at(alloc, table)?;
+    let clean = clean_at(alloc, table, cleaning)?;
+    Ok(Plan {
+        release,
+        budget,
+        order,
+        clean,
+    })
+}
+
+/// The plan of a table.
+fn plan_of(alloc: Global, table: &Table) -> Result<Plan, PlanFault>
+    ensures faults { Passes (faults_of (table_view table.now)) result }
+    ensures value { IfOk result (λ plan. plan ≡ plan_in (table_view table.now)) }
+{
+    let cleaning = check_version(table)?;
+    check_known(table, cleaning)?;
+    check_missing(table, cleaning)?;
+    lists_at(alloc, table, cleaning)
+}
+
+/// The table of a text.
+fn table_of(alloc: Global, text: &[u8]) -> Result<Table, PlanFault>
+    ensures document { IfOk result (λ table. IsDocument text.now (table_view table)) }
+    ensures refused { IfErr result (λ fault. fault ≢ PlanFault.Memory → IsNoDocument text.now fault) }
+{
+    let Ok(text) = std::str::from_utf8(text) else {
+        return Err(PlanFault::NotToml);
+    };
+    match toml::table_from_str(alloc, text) {
+        Ok(table) => Ok(table),
+        Err(error) => Err(fault_of(&error)),
+    }
+}
+
+fn fault_of(error: &toml::de::Error) -> PlanFault
+    ensures memory { IsMemory error.now → result ≡ PlanFault.Memory }
+    ensures other { ¬ (IsMemory error.now) → result ≡ PlanFault.NotToml }
+{
+    if error.is_memory() {
+        PlanFault::Memory
+    } else {
+        PlanFault::NotToml
+    }
+}
+
+/// Reads a plan from the text of a TOML document.
+///
+/// The counts aren't checked here: the shape of a plan is.
+pub fn read_plan(alloc: Global, text: &[u8]) -> Result<Plan, PlanFault>
+    // What is read is the text's plan, and the text's plan is read.
+    ensures plan { IfOk result (λ plan. IsPlanText text.now plan) }
+    ensures only_plan { (plan : ShopPlan) → IsPlanText text.now plan → IsPlanAnswer result plan }
+
+    // A fault is what is wrong first, and what is wrong first is the fault.
+    ensures first_fault { IfErr result (λ fault. fault ≢ PlanFault.Memory → IsFirstFault text.now fault) }
+    ensures only_fault { (fault : PlanFault) → IsFirstFault text.now fault → IsFaultAnswer result fault }
+{
+    match table_of(alloc, text) {
+        Ok(table) => plan_of(alloc, &table),
+        Err(fault) => Err(fault),
+    }
+}
