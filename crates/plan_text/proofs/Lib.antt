@@ -4,3 +4,4 @@ pub mod Numbers
 pub mod Versions
 pub mod Tables
 pub mod Answering
+pub mod Rows

@@ -5,3 +5,4 @@ pub mod Faults
 pub mod Documents
 pub mod Answers
 pub mod Reading
+pub mod Lines
