@@ -1,0 +1,4 @@
+pub mod ArcKinds
+pub mod Paths
+pub mod NodeLists
+pub mod CycleParts

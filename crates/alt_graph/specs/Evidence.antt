@@ -1,0 +1,38 @@
+use Rattle.std.specs.Prelude.{◌≡◌, ℕ, ◌+◌, ◌<◌, ◌≤◌, ◌⊎◌, List, [], ◌∷◌, ◌++◌, All, length}
+use Rattle.shop_base.specs.declared.node.Node.{Node}
+use Rattle.shop_base.specs.Shop.{operations_of}
+use Rattle.shop_base.specs.Plan.{PlannedShop, jobs}
+use Rattle.shop_base.specs.Cell.{start, since, IsGone}
+use Rattle.shop_base.specs.Run.{Event, IsRun, ends_in}
+use Rattle.shop_base.specs.Punctual.{AreExact}
+use Rattle.shop_base.specs.Graph.{IsNode, IsSimpleCycle, Path}
+
+-- nodes are ordered by job, then by place
+abbrev pub IsBefore : Node → Node → Type 0
+IsBefore u v = (u.job < v.job) ⊎ ((u.job ≡ v.job) × (u.place < v.place))
+
+-- the evidence of a cycle: a simple cycle of nodes of the shop, the least of them first
+abbrev pub IsCycle : PlannedShop → List Node → Type 0
+IsCycle p [] = ⊥
+IsCycle p (u ∷ us) = IsSimpleCycle p (u ∷ us) × All (IsNode p) (u ∷ us) × All (IsBefore u) us
+
+-- how many nodes there are: each job has one for each step, and its leaving
+abbrev pub node_count : PlannedShop → ℕ
+node_count p = jobs p + operations_of p.shop
+
+-- the evidence of a moment that can't be earlier: a path of that length, with no more nodes than there are
+pub record IsChain (p : PlannedShop) (nodes : List Node) (n : ℕ) : Type 0 where
+  pub few : length nodes ≤ node_count p
+  pub path : (v : Node) × Path p nodes v n
+
+-- the list ends in this node
+abbrev pub EndsIn : List Node → Node → Type 0
+EndsIn nodes v = (front : List Node) × (nodes ≡ front ++ v ∷ [])
+
+-- whatever is reported and moved, at whatever moments, some job isn't gone
+abbrev pub IsNeverDone : PlannedShop → Type 0
+IsNeverDone p = (es : List Event) → IsRun p es → (j : ℕ) × (j < jobs p) × (IsGone p (ends_in p es) j → ⊥)
+
+-- in no run whose reports are exact is job j gone since before moment n
+abbrev pub IsNeverGoneBefore : PlannedShop → ℕ → ℕ → Type 0
+IsNeverGoneBefore p j n = (es : List Event) → IsRun p es → AreExact p (start p) es → IsGone p (ends_in p es) j → n ≤ since (ends_in p es) j
