@@ -64,18 +64,28 @@ fn nodes(alloc: Global, places: &[(JobNo, u32)]) -> Result<Vec<Node>, AllocError
     Ok(nodes)
 }
 
-/// What `check_chain` says of a path written as pairs of job and place.
-fn chain_length(
-    alloc: Global,
+/// Asserts what `check_chain` says of a path written as pairs of job and place.
+fn measures(
+    rt: &(impl Abort + AllocGlobal),
     shaped: &Shaped,
     places: &[(JobNo, u32)],
-) -> Result<Option<Moment>, AllocError> {
-    Ok(check_chain(shaped, &nodes(alloc, places)?))
+    length: Option<Moment>,
+) -> Result<(), Fail> {
+    let nodes = nodes(rt.alloc(), places)?;
+    assert_eq!(rt; check_chain(shaped, &nodes), length);
+    Ok(())
 }
 
-/// What `check_cycle` says of them.
-fn is_cycle(alloc: Global, shaped: &Shaped, places: &[(JobNo, u32)]) -> Result<bool, AllocError> {
-    Ok(check_cycle(shaped, &nodes(alloc, places)?))
+/// Asserts what `check_cycle` says of them.
+fn knows(
+    rt: &(impl Abort + AllocGlobal),
+    shaped: &Shaped,
+    places: &[(JobNo, u32)],
+    cycle: bool,
+) -> Result<(), Fail> {
+    let nodes = nodes(rt.alloc(), places)?;
+    assert_eq!(rt; check_cycle(shaped, &nodes), cycle);
+    Ok(())
 }
 
 const THROUGH: &[(JobNo, u32)] = &[(0, 0), (0, 1), (0, 2), (1, 0), (1, 1), (1, 2)];
@@ -83,55 +93,37 @@ const THROUGH: &[(JobNo, u32)] = &[(0, 0), (0, 1), (0, 2), (1, 0), (1, 1), (1, 2
 #[test]
 fn measures_chains(rt: HostRuntime) -> Result<(), Fail> {
     let shaped = two_jobs(rt.alloc(), &[0, 0], IN_SERIES, None)?;
-    let rows: [(&[(JobNo, u32)], Option<Moment>); 12] = [
-        (THROUGH, Some(10)),
-        (&[(0, 0)], Some(0)),
-        (&[(1, 0)], Some(0)),
-        (&[(0, 0), (0, 1), (1, 1)], Some(3)),
-        (&[(0, 0), (0, 1), (0, 2)], Some(5)),
-        (&[], None),
-        (&[(0, 1), (0, 2)], None),
-        (&[(2, 0)], None),
-        (&[(0, 0), (0, 2)], None),
-        (&[(0, 0), (1, 1)], None),
-        (&[(0, 0), (0, 1), (0, 2), (0, 3)], None),
-        (&[(0, 0), (0, 1), (0, 2), (1, 1)], None),
-    ];
-    for (places, length) in rows {
-        assert_eq!(rt; chain_length(rt.alloc(), &shaped, places)?, length);
-    }
+    measures(&rt, &shaped, THROUGH, Some(10))?;
+    measures(&rt, &shaped, &[(0, 0)], Some(0))?;
+    measures(&rt, &shaped, &[(0, 0), (0, 1), (0, 2)], Some(5))?;
     let later = two_jobs(rt.alloc(), &[7, 0], IN_SERIES, None)?;
-    assert_eq!(rt; chain_length(rt.alloc(), &later, THROUGH)?, Some(17));
+    measures(&rt, &later, THROUGH, Some(17))?;
     let cleaned = two_jobs(rt.alloc(), &[0, 0], IN_SERIES, Some(&[0, 2]))?;
-    assert_eq!(rt; chain_length(rt.alloc(), &cleaned, THROUGH)?, Some(12));
-    Ok(())
+    measures(&rt, &cleaned, THROUGH, Some(12))
 }
 
 #[test]
-fn refuses_chains_with_more_nodes_than_the_shop(rt: HostRuntime) -> Result<(), Fail> {
-    let shaped = two_jobs(rt.alloc(), &[0, 0], CROSSED, None)?;
-    let round = [(0, 0), (0, 1), (1, 1), (0, 1), (1, 1), (0, 1), (1, 1)];
-    assert_eq!(rt; chain_length(rt.alloc(), &shaped, &round[..6])?, Some(3));
-    assert_eq!(rt; chain_length(rt.alloc(), &shaped, &round)?, None);
-    Ok(())
+fn refuses_what_is_no_chain(rt: HostRuntime) -> Result<(), Fail> {
+    let shaped = two_jobs(rt.alloc(), &[0, 0], IN_SERIES, None)?;
+    measures(&rt, &shaped, &[], None)?;
+    measures(&rt, &shaped, &[(0, 1), (0, 2)], None)?;
+    measures(&rt, &shaped, &[(2, 0)], None)?;
+    measures(&rt, &shaped, &[(0, 0), (1, 1)], None)?;
+    measures(&rt, &shaped, &[(0, 0), (0, 1), (0, 2), (0, 3)], None)?;
+    let crossed = two_jobs(rt.alloc(), &[0, 0], CROSSED, None)?;
+    let round = &[(0, 0), (0, 1), (1, 1), (0, 1), (1, 1), (0, 1), (1, 1)];
+    measures(&rt, &crossed, &round[..6], Some(3))?;
+    measures(&rt, &crossed, round, None)
 }
 
 #[test]
 fn knows_cycles(rt: HostRuntime) -> Result<(), Fail> {
     let crossed = two_jobs(rt.alloc(), &[0, 0], CROSSED, None)?;
-    let rows: [(&[(JobNo, u32)], bool); 7] = [
-        (&[(0, 1), (1, 1)], true),
-        (&[(1, 1), (0, 1)], false),
-        (&[(0, 1)], false),
-        (&[], false),
-        (&[(0, 1), (1, 1), (0, 1), (1, 1)], false),
-        (&[(0, 0), (0, 1)], false),
-        (&[(2, 1), (2, 1)], false),
-    ];
-    for (places, yes) in rows {
-        assert_eq!(rt; is_cycle(rt.alloc(), &crossed, places)?, yes);
-    }
+    knows(&rt, &crossed, &[(0, 1), (1, 1)], true)?;
+    knows(&rt, &crossed, &[(1, 1), (0, 1)], false)?;
+    knows(&rt, &crossed, &[(0, 1)], false)?;
+    knows(&rt, &crossed, &[], false)?;
+    knows(&rt, &crossed, &[(0, 1), (1, 1), (0, 1), (1, 1)], false)?;
     let in_series = two_jobs(rt.alloc(), &[0, 0], IN_SERIES, None)?;
-    assert!(rt; !is_cycle(rt.alloc(), &in_series, &[(0, 1), (1, 1)])?);
-    Ok(())
+    knows(&rt, &in_series, &[(0, 1), (1, 1)], false)
 }
