@@ -67,63 +67,83 @@ fn nodes(alloc: Global, places: &[(JobNo, u32)]) -> Result<Vec<Node>, AllocError
 /// Asserts what `check_chain` says of a path written as pairs of job and place.
 fn measures(
     rt: &(impl Abort + AllocGlobal),
-    shaped: &Shaped,
+    shaped: Shaped,
     places: &[(JobNo, u32)],
     length: Option<Moment>,
 ) -> Result<(), Fail> {
     let nodes = nodes(rt.alloc(), places)?;
-    assert_eq!(rt; check_chain(shaped, &nodes), length);
+    assert_eq!(rt; check_chain(&shaped, &nodes), length);
     Ok(())
 }
 
 /// Asserts what `check_cycle` says of them.
 fn knows(
     rt: &(impl Abort + AllocGlobal),
-    shaped: &Shaped,
+    shaped: Shaped,
     places: &[(JobNo, u32)],
     cycle: bool,
 ) -> Result<(), Fail> {
     let nodes = nodes(rt.alloc(), places)?;
-    assert_eq!(rt; check_cycle(shaped, &nodes), cycle);
+    assert_eq!(rt; check_cycle(&shaped, &nodes), cycle);
     Ok(())
+}
+
+fn in_series(rt: &impl AllocGlobal) -> Result<Shaped, Fail> {
+    two_jobs(rt.alloc(), &[0, 0], &[&[0, 1], &[0, 1]], None)
+}
+
+fn crossed(rt: &impl AllocGlobal) -> Result<Shaped, Fail> {
+    two_jobs(rt.alloc(), &[0, 0], &[&[0, 1], &[1, 0]], None)
+}
+
+/// In series, with 7 for the release of job 0.
+fn later(rt: &impl AllocGlobal) -> Result<Shaped, Fail> {
+    two_jobs(rt.alloc(), &[7, 0], &[&[0, 1], &[0, 1]], None)
+}
+
+/// In series, with 2 for the cleaning of machine 1.
+fn cleaned(rt: &impl AllocGlobal) -> Result<Shaped, Fail> {
+    two_jobs(rt.alloc(), &[0, 0], &[&[0, 1], &[0, 1]], Some(&[0, 2]))
 }
 
 const THROUGH: &[(JobNo, u32)] = &[(0, 0), (0, 1), (0, 2), (1, 0), (1, 1), (1, 2)];
 
+const ROUND: &[(JobNo, u32)] = &[(0, 0), (0, 1), (1, 1), (0, 1), (1, 1), (0, 1)];
+
 #[test]
 fn measures_chains(rt: HostRuntime) -> Result<(), Fail> {
-    let shaped = two_jobs(rt.alloc(), &[0, 0], IN_SERIES, None)?;
-    measures(&rt, &shaped, THROUGH, Some(10))?;
-    measures(&rt, &shaped, &[(0, 0)], Some(0))?;
-    measures(&rt, &shaped, &[(0, 0), (0, 1), (0, 2)], Some(5))?;
-    let later = two_jobs(rt.alloc(), &[7, 0], IN_SERIES, None)?;
-    measures(&rt, &later, THROUGH, Some(17))?;
-    let cleaned = two_jobs(rt.alloc(), &[0, 0], IN_SERIES, Some(&[0, 2]))?;
-    measures(&rt, &cleaned, THROUGH, Some(12))
+    measures(&rt, in_series(&rt)?, THROUGH, Some(10))?;
+    measures(&rt, in_series(&rt)?, &[(0, 0)], Some(0))?;
+    measures(&rt, later(&rt)?, THROUGH, Some(17))?;
+    measures(&rt, cleaned(&rt)?, THROUGH, Some(12))
 }
 
 #[test]
 fn refuses_what_is_no_chain(rt: HostRuntime) -> Result<(), Fail> {
-    let shaped = two_jobs(rt.alloc(), &[0, 0], IN_SERIES, None)?;
-    measures(&rt, &shaped, &[], None)?;
-    measures(&rt, &shaped, &[(0, 1), (0, 2)], None)?;
-    measures(&rt, &shaped, &[(2, 0)], None)?;
-    measures(&rt, &shaped, &[(0, 0), (1, 1)], None)?;
-    measures(&rt, &shaped, &[(0, 0), (0, 1), (0, 2), (0, 3)], None)?;
-    let crossed = two_jobs(rt.alloc(), &[0, 0], CROSSED, None)?;
-    let round = &[(0, 0), (0, 1), (1, 1), (0, 1), (1, 1), (0, 1), (1, 1)];
-    measures(&rt, &crossed, &round[..6], Some(3))?;
-    measures(&rt, &crossed, round, None)
+    measures(&rt, in_series(&rt)?, &[], None)?;
+    measures(&rt, in_series(&rt)?, &[(0, 1), (0, 2)], None)?;
+    measures(&rt, in_series(&rt)?, &[(2, 0)], None)?;
+    measures(&rt, in_series(&rt)?, &[(0, 0), (1, 1)], None)
+}
+
+#[test]
+fn refuses_chains_with_more_nodes_than_the_shop(rt: HostRuntime) -> Result<(), Fail> {
+    measures(&rt, crossed(&rt)?, ROUND, Some(3))?;
+    let more = &[(0, 0), (0, 1), (1, 1), (0, 1), (1, 1), (0, 1), (1, 1)];
+    measures(&rt, crossed(&rt)?, more, None)
 }
 
 #[test]
 fn knows_cycles(rt: HostRuntime) -> Result<(), Fail> {
-    let crossed = two_jobs(rt.alloc(), &[0, 0], CROSSED, None)?;
-    knows(&rt, &crossed, &[(0, 1), (1, 1)], true)?;
-    knows(&rt, &crossed, &[(1, 1), (0, 1)], false)?;
-    knows(&rt, &crossed, &[(0, 1)], false)?;
-    knows(&rt, &crossed, &[], false)?;
-    knows(&rt, &crossed, &[(0, 1), (1, 1), (0, 1), (1, 1)], false)?;
-    let in_series = two_jobs(rt.alloc(), &[0, 0], IN_SERIES, None)?;
-    knows(&rt, &in_series, &[(0, 1), (1, 1)], false)
+    knows(&rt, crossed(&rt)?, &[(0, 1), (1, 1)], true)?;
+    knows(&rt, crossed(&rt)?, &[(1, 1), (0, 1)], false)?;
+    knows(&rt, crossed(&rt)?, &[(0, 1)], false)?;
+    knows(&rt, crossed(&rt)?, &[], false)
+}
+
+#[test]
+fn refuses_what_is_no_cycle(rt: HostRuntime) -> Result<(), Fail> {
+    let twice = &[(0, 1), (1, 1), (0, 1), (1, 1)];
+    knows(&rt, crossed(&rt)?, twice, false)?;
+    knows(&rt, in_series(&rt)?, &[(0, 1), (1, 1)], false)
 }
