@@ -61,7 +61,7 @@ fn machine_left(shaped: &Shaped, node: Node) -> Option<MachineNo>
     ensures machine { MatchOption result ((m : ℕ) → Leaves shaped.now node m → ⊥) (Leaves shaped.now node) }
     ensures sound { IsWellShaped shaped.now }
 {
-    let _jobs = shaped.shop();
+    let _shop = shaped.shop();
     if node.place == 0 {
         return None;
     }

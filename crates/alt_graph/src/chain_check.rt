@@ -1,6 +1,6 @@
 //! The check of a chain, a path to a job's leaving.
 
-ghost use Rattle.std.specs.Prelude.{◌≡◌, ◌≢◌, ℕ, ◌+◌, ◌<◌, ◌≤◌, ◌↔◌, IfSome, MatchOption, Some, [], ◌∷◌, length};
+ghost use Rattle.std.specs.Prelude.{◌≡◌, ℕ, ◌<◌, ◌≤◌, ◌↔◌, IfSome, MatchOption, Some, [], ◌∷◌};
 ghost use Rattle.shop_base.specs.declared.limits.TheConstants.{MAX_RELEASE};
 ghost use Rattle.shop_base.specs.Plan.{jobs, IsWellShaped};
 ghost use Rattle.shop_base.specs.Graph.{leaving, Path};

@@ -1,6 +1,6 @@
 //! The check of a cycle.
 
-ghost use Rattle.std.specs.Prelude.{◌≡◌, ◌≢◌, ◌<◌, ◌≤◌, ◌↔◌, All, IsTrue, MatchBool, length};
+ghost use Rattle.std.specs.Prelude.{◌<◌, ◌↔◌, All, IsTrue, length};
 ghost use Rattle.std.specs.Bool.{OnTrue};
 ghost use Rattle.shop_base.specs.Plan.{IsWellShaped};
 ghost use Rattle.shop_base.specs.Graph.{IsNode, ArcsLead, AreDistinct};
