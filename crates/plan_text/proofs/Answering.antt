@@ -5,11 +5,12 @@ use Rattle.shop_base.specs.Plan.{ShopPlan}
 use Rattle.toml.specs.Data.{Members}
 use Rattle.plan_text.specs.declared.plan_fault.PlanFault.{PlanFault}
 use Rattle.plan_text.specs.declared.plan_fault.PlanFault.TheVariants.{NotToml, BadVersion, UnknownKey, MissingKey, NotArray, NotWhole, OutOfRange, Memory, NotReadBack}
-use Rattle.plan_text.specs.Documents.{IsDocument, IsPlanText, IsFirstOf, IsFirstFault, IsNoDocument}
-use Rattle.plan_text.specs.Answers.{IsPlanAnswer, IsFaultAnswer, Passes}
-use Rattle.plan_text.specs.Faults.{faults_of}
+use Rattle.plan_text.specs.Documents.{IsDocument, IsPlanText, IsFirstFault, IsNoDocument}
+use Rattle.plan_text.specs.Answers.{IsPlanAnswer, IsFaultAnswer, IsFirstOf, Passes}
+use Rattle.plan_text.specs.Listing.{faults_of}
 use Rattle.plan_text.specs.Reading.{plan_in}
 use Rattle.plan_text.proofs.Tables.{table_found, table_only}
+use Rattle.plan_text.proofs.Turns.{listed_first, first_listed}
 
 -- a text has one table
 pub one_table : (text : List ℕ) (t u : Members) → IsDocument text t → IsDocument text u → t ≡ u
@@ -56,7 +57,7 @@ only_plan text t (Err fault) document first is plan h =
 pub first_fault : (text : List ℕ) (t : Members) (result : Result ShopPlan PlanFault) → IsDocument text t
     → Passes (faults_of t) result → IfErr result (λ fault. fault ≢ Memory → IsFirstFault text fault)
 first_fault text t (Ok plan) document none = tt
-first_fault text t (Err fault) document first = λ other. inr (record { table = t; document = document; first = first other })
+first_fault text t (Err fault) document first = λ other. inr (record { table = t; document = document; is = listed_first t fault (first other) })
 
 pub only_fault : (text : List ℕ) (t : Members) (result : Result ShopPlan PlanFault) → IsDocument text t
     → Passes (faults_of t) result → (fault : PlanFault) → IsFirstFault text fault → IsFaultAnswer result fault
@@ -64,13 +65,14 @@ only_fault text t (Ok plan) document none fault h = elim h [
   | inl without ↦ without.none t document
   | inr some ↦
       let same = one_table text t some.table document some.document in
-      rw (← same, none) at some.first
+      let listed = first_listed some.table fault some.is in
+      rw (← same, none) at listed
 ]
 only_fault text t (Err answered) document first fault h = elim h [
   | inl without ↦ absurd (without.none t document)
   | inr some ↦ λ other.
       let same = one_table text t some.table document some.document in
-      first_same (faults_of t) answered fault (first other) (rw same some.first)
+      first_same (faults_of t) answered fault (first other) (rw same (first_listed some.table fault some.is))
 ]
 
 -- ---- the text is no document

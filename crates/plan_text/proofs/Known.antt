@@ -12,8 +12,8 @@ use Rattle.plan_text.specs.declared.plan_key.PlanKey.TheVariants.{Release, Budge
 use Rattle.plan_text.specs.declared.plan_fault.PlanFault.TheVariants.{UnknownKey}
 use Rattle.plan_text.specs.Keys.{name_of}
 use Rattle.plan_text.specs.Plans.{IsCommonKey, IsKeyOf, HasOnlyKeys}
-use Rattle.plan_text.specs.Documents.{IsFirstOf}
-use Rattle.plan_text.specs.Faults.{is_common_key, is_known_key, key_faults}
+use Rattle.plan_text.specs.Answers.{IsFirstOf}
+use Rattle.plan_text.specs.Listing.{is_common_key, is_known_key, key_faults}
 
 -- ---- what the test of all keys tells
 
@@ -37,13 +37,13 @@ known_none cleaning (entry ∷ entries) h =
 
 -- ---- a known key
 
-same_bytes : (key name : List ℕ) → bytes_eq key name ≡ true → key ≡ name
+pub same_bytes : (key name : List ℕ) → bytes_eq key name ≡ true → key ≡ name
 same_bytes key name h = (bytes_eq-Decides key name).0 h
 
-test_bytes : (key name : List ℕ) → key ≡ name → bytes_eq key name ≡ true
+pub test_bytes : (key name : List ℕ) → key ≡ name → bytes_eq key name ≡ true
 test_bytes key name e = (bytes_eq-Decides key name).1 e
 
-common_key : (key : List ℕ) → is_common_key key ≡ true → IsCommonKey key
+pub common_key : (key : List ℕ) → is_common_key key ≡ true → IsCommonKey key
 common_key key h =
     elim (or_cases (bytes_eq key (codes "version") || bytes_eq key (name_of Release) || bytes_eq key (name_of Budget)) (bytes_eq key (name_of Order)) h) [
       | inr order ↦ inr (inr (inr (same_bytes key _ order)))
@@ -56,7 +56,7 @@ common_key key h =
       ]
     ]
 
-common_test : (key : List ℕ) → IsCommonKey key → is_common_key key ≡ true
+pub common_test : (key : List ℕ) → IsCommonKey key → is_common_key key ≡ true
 common_test key h = elim h [
   | inl version ↦ or_left _ _ (or_left _ _ (or_left _ _ (test_bytes key _ version)))
   | inr rest ↦ elim rest [

@@ -1,7 +1,9 @@
-pub mod Firsts
 pub mod Known
 pub mod Numbers
 pub mod Versions
 pub mod Tables
+pub mod Listed
+pub mod Has
+pub mod Turns
 pub mod Answering
 pub mod Rows

@@ -8,7 +8,7 @@ use Rattle.plan_text.specs.declared.plan_key.PlanKey.TheVariants.{Order}
 use Rattle.plan_text.specs.declared.plan_fault.PlanFault.{PlanFault}
 use Rattle.plan_text.specs.Keys.{limit_of}
 use Rattle.plan_text.specs.Numbers.{AreEach, IsNumber, IsNumberArray, IsRow, IsRowArray}
-use Rattle.plan_text.specs.Faults.{number_faults, each_faults, list_faults, row_faults, order_faults, faults_at, missing_faults}
+use Rattle.plan_text.specs.Listing.{number_faults, each_faults, list_faults, row_faults, order_faults, faults_at, missing_faults}
 use Rattle.plan_text.specs.Reading.{number_in, numbers_in, rows_in, each_item, list_at}
 
 -- no fault in two lists is none in each

@@ -5,7 +5,7 @@ use Rattle.toml.specs.Data.{Members}
 use Rattle.plan_text.specs.declared.plan_key.PlanKey.TheVariants.{Release, Budget, Order}
 use Rattle.plan_text.specs.Keys.{value_at, version_in}
 use Rattle.plan_text.specs.Plans.{IsPlanTable}
-use Rattle.plan_text.specs.Faults.{version_faults, has_cleaning, key_faults, missing_faults, missing_keys, list_faults, order_faults, faults_at, list_values, content_faults, faults_of}
+use Rattle.plan_text.specs.Listing.{version_faults, has_cleaning, key_faults, missing_faults, missing_keys, list_faults, order_faults, faults_at, list_values, content_faults, faults_of}
 use Rattle.plan_text.specs.Reading.{clean_in, plan_in, plan_with}
 use Rattle.plan_text.proofs.Known.{has_times, keys_found, keys_only}
 use Rattle.plan_text.proofs.Numbers.{none_parts, none_both, list_at_found, list_at_only, rows_at_found, rows_at_only}

@@ -5,7 +5,7 @@ use Rattle.toml.specs.Data.{Data, string, integer, float, boolean, datetime, arr
 use Rattle.plan_text.specs.declared.plan_key.PlanKey.TheVariants.{Clean}
 use Rattle.plan_text.specs.Keys.{value_at}
 use Rattle.plan_text.specs.Plans.{IsVersionOf, IsCleanArray}
-use Rattle.plan_text.specs.Faults.{version_faults, has_cleaning, if_cleaning, missing_faults, list_faults, faults_at}
+use Rattle.plan_text.specs.Listing.{version_faults, has_cleaning, if_cleaning, missing_faults, list_faults, faults_at}
 use Rattle.plan_text.specs.Reading.{clean_in}
 use Rattle.plan_text.proofs.Known.{has_times}
 use Rattle.plan_text.proofs.Numbers.{list_at_found, list_at_only}

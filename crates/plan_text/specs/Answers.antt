@@ -1,9 +1,8 @@
 -- What the reader of plan texts answers.
-use Rattle.std.specs.Prelude.{◌≡◌, ◌≢◌, List, [], Result, Ok, Err}
+use Rattle.std.specs.Prelude.{◌≡◌, ◌≢◌, List, [], ◌∷◌, Result, Ok, Err}
 use Rattle.shop_base.specs.Plan.{ShopPlan}
 use Rattle.plan_text.specs.declared.plan_fault.PlanFault.{PlanFault}
 use Rattle.plan_text.specs.declared.plan_fault.PlanFault.TheVariants.{Memory}
-use Rattle.plan_text.specs.Documents.{IsFirstOf}
 
 -- the answer is this plan, unless memory ran out
 abbrev pub IsPlanAnswer : Result ShopPlan PlanFault → ShopPlan → Type 0
@@ -14,6 +13,11 @@ IsPlanAnswer (Err fault) plan = fault ≡ Memory
 abbrev pub IsFaultAnswer : Result ShopPlan PlanFault → PlanFault → Type 0
 IsFaultAnswer (Ok answered) fault = ⊥
 IsFaultAnswer (Err answered) fault = answered ≢ Memory → answered ≡ fault
+
+-- the fault is the first of these
+abbrev pub IsFirstOf : List PlanFault → PlanFault → Type 0
+IsFirstOf [] fault = ⊥
+IsFirstOf (first ∷ rest) fault = first ≡ fault
 
 -- a check of which these are the faults passes where there is none, and else answers the first, unless memory ran out
 abbrev pub Passes : {A : Type 0} → List PlanFault → Result A PlanFault → Type 0

@@ -1,101 +1,118 @@
--- What is wrong with a TOML table as a plan: all of its faults, in the order in which the first one counts.
-use Rattle.std.specs.Prelude.{ℕ, ◌+◌, ◌==◌, ◌||◌, nat_lt, pos, negsuc, Bool, true, false, if◌then◌else◌, List, [], ◌∷◌, ◌++◌, codes, Option, None, Some}
-use Rattle.std.specs.Str.{bytes_eq}
-use Rattle.toml.specs.Data.{Data, integer, array, Items, no_items, item, Members, no_members, member}
+-- What can be wrong with a TOML table as a plan, and which fault comes first.
+use Rattle.std.specs.Prelude.{◌≡◌, ℕ, ◌<◌, ◌⊎◌, ℤ, pos, List, [], ◌∷◌, Option, None, Some}
+use Rattle.toml.specs.Data.{Data, integer, array, Items, get_item, Members, no_members, member}
 use Rattle.plan_text.specs.declared.plan_key.PlanKey.{PlanKey}
 use Rattle.plan_text.specs.declared.plan_key.PlanKey.TheVariants.{Release, Budget, Order, Clean}
 use Rattle.plan_text.specs.declared.plan_fault.PlanFault.{PlanFault}
-use Rattle.plan_text.specs.declared.plan_fault.PlanFault.TheVariants.{BadVersion, UnknownKey, MissingKey, NotArray, NotWhole, OutOfRange}
-use Rattle.plan_text.specs.Keys.{name_of, limit_of, value_at, version_in}
+use Rattle.plan_text.specs.declared.plan_fault.PlanFault.TheVariants.{NotToml, BadVersion, UnknownKey, MissingKey, NotArray, NotWhole, OutOfRange, Memory, NotReadBack}
+use Rattle.plan_text.specs.Keys.{name_of, value_at, version_in}
+use Rattle.plan_text.specs.Numbers.{IsNumber}
+use Rattle.plan_text.specs.Plans.{IsCommonKey}
 
--- the fault, where it is one
-abbrev pub unless : Bool → PlanFault → List PlanFault
-unless good fault = if good then [] else fault ∷ []
+-- the table's version is 2, that of plans with cleaning
+abbrev pub HasCleaning : Members → Type 0
+HasCleaning table = version_in table ≡ Some (integer (pos 2))
 
--- a stated version has to be the whole number 1 or 2
-abbrev pub version_faults : Option Data → List PlanFault
-version_faults None = []
-version_faults (Some (integer (pos n))) = unless (n == 1 || n == 2) BadVersion
-version_faults (Some (integer (negsuc n))) = BadVersion ∷ []
-version_faults (Some d) = BadVersion ∷ []
+-- the table states a version, and it isn't the whole number 1 or 2
+pub record HasBadVersion (table : Members) : Type 0 where
+  pub version : Data
+  pub stated : version_in table ≡ Some version
+  pub not_one : version ≡ integer (pos 1) → ⊥
+  pub not_two : version ≡ integer (pos 2) → ⊥
 
--- whether a stated version is 2, that of plans with cleaning
-abbrev pub has_cleaning : Option Data → Bool
-has_cleaning None = false
-has_cleaning (Some (integer (pos n))) = n == 2
-has_cleaning (Some (integer (negsuc n))) = false
-has_cleaning (Some d) = false
+-- the key is one of the table
+abbrev pub HasKey : List ℕ → Members → Type 0
+HasKey key no_members = ⊥
+HasKey key (member other d rest) = (key ≡ other) ⊎ HasKey key rest
 
--- whether a key is one of a plan text, with cleaning or without
-abbrev pub is_common_key : List ℕ → Bool
-is_common_key key = bytes_eq key (codes "version") || bytes_eq key (name_of Release) || bytes_eq key (name_of Budget) || bytes_eq key (name_of Order)
+-- the key is one of those of the table's version
+abbrev pub IsKnownKey : Members → List ℕ → Type 0
+IsKnownKey table key = IsCommonKey key ⊎ ((key ≡ name_of Clean) × HasCleaning table)
 
-abbrev pub is_known_key : Bool → List ℕ → Bool
-is_known_key true key = is_common_key key || bytes_eq key (name_of Clean)
-is_known_key false key = is_common_key key
+-- the table has a key that isn't
+pub record HasUnknownKey (table : Members) : Type 0 where
+  pub key : List ℕ
+  pub there : HasKey key table
+  pub unknown : IsKnownKey table key → ⊥
 
--- each key has to be one of the plan's
-abbrev pub key_faults : Bool → Members → List PlanFault
-key_faults cleaning no_members = []
-key_faults cleaning (member key d rest) = unless (is_known_key cleaning key) UnknownKey ++ key_faults cleaning rest
+-- the table's version wants the key
+abbrev pub IsWanted : Members → PlanKey → Type 0
+IsWanted table Clean = HasCleaning table
+IsWanted table key = Unit {0}
 
--- the key has to be there
-abbrev pub missing_faults : PlanKey → Option Data → List PlanFault
-missing_faults key None = MissingKey key ∷ []
-missing_faults key (Some d) = []
+-- the value stands where the table's version wants a list: at a key, or as a row of the order
+abbrev pub IsListAt : Members → PlanKey → Option ℕ → Data → Type 0
+IsListAt table key None d = IsWanted table key × (value_at table key ≡ Some d)
+IsListAt table Order (Some machine) d = (rows : Items) × (value_at table Order ≡ Some (array rows)) × (get_item machine rows ≡ Some d)
+IsListAt table key (Some machine) d = ⊥
 
--- an element has to be a whole number within the range
-abbrev pub number_faults : PlanKey → Option ℕ → ℕ → Data → List PlanFault
-number_faults key row place (integer (pos n)) = unless (nat_lt n (limit_of key)) (OutOfRange key row place)
-number_faults key row place (integer (negsuc n)) = OutOfRange key row place ∷ []
-number_faults key row place d = NotWhole key row place ∷ []
+-- the value stands where a number is wanted: at a place of a list, which for the order is a row
+abbrev pub IsElementAt : Members → PlanKey → Option ℕ → ℕ → Data → Type 0
+IsElementAt table Order None place d = ⊥
+IsElementAt table key row place d = (items : Items) × IsListAt table key row (array items) × (get_item place items ≡ Some d)
 
--- the faults of each item, from a place on
-abbrev pub each_faults : (ℕ → Data → List PlanFault) → ℕ → Items → List PlanFault
-each_faults faults place no_items = []
-each_faults faults place (item d ds) = faults place d ++ each_faults faults (place + 1) ds
+-- a value that has to be an array isn't
+pub record HasNoArray (table : Members) (key : PlanKey) (row : Option ℕ) : Type 0 where
+  pub value : Data
+  pub here : IsListAt table key row value
+  pub no_array : (items : Items) → value ≡ array items → ⊥
 
--- a list has to be an array of such elements
-abbrev pub list_faults : PlanKey → Option ℕ → Data → List PlanFault
-list_faults key row (array items) = each_faults (number_faults key row) 0 items
-list_faults key row d = NotArray key row ∷ []
+-- a value that has to be a whole number isn't
+pub record HasNoNumber (table : Members) (key : PlanKey) (row : Option ℕ) (place : ℕ) : Type 0 where
+  pub value : Data
+  pub here : IsElementAt table key row place value
+  pub no_number : (z : ℤ) → value ≡ integer z → ⊥
 
--- a row of the order has to be a list
-abbrev pub row_faults : ℕ → Data → List PlanFault
-row_faults machine d = list_faults Order (Some machine) d
+-- a whole number is none of the range
+pub record HasNumberOutside (table : Members) (key : PlanKey) (row : Option ℕ) (place : ℕ) : Type 0 where
+  pub number : ℤ
+  pub here : IsElementAt table key row place (integer number)
+  pub outside : (n : ℕ) → IsNumber key (integer number) n → ⊥
 
--- the order has to be an array of such rows
-abbrev pub order_faults : Data → List PlanFault
-order_faults (array items) = each_faults row_faults 0 items
-order_faults d = NotArray Order None ∷ []
+-- the table has the fault
+abbrev pub HasFault : Members → PlanFault → Type 0
+HasFault table NotToml = ⊥
+HasFault table BadVersion = HasBadVersion table
+HasFault table UnknownKey = HasUnknownKey table
+HasFault table (MissingKey key) = IsWanted table key × (value_at table key ≡ None)
+HasFault table (NotArray key row) = HasNoArray table key row
+HasFault table (NotWhole key row place) = HasNoNumber table key row place
+HasFault table (OutOfRange key row place) = HasNumberOutside table key row place
+HasFault table Memory = ⊥
+HasFault table NotReadBack = ⊥
 
--- the faults of a key's value, where there is one
-abbrev pub faults_at : (Data → List PlanFault) → Option Data → List PlanFault
-faults_at faults None = []
-faults_at faults (Some d) = faults d
+-- the keys in the order in which they are looked at
+abbrev pub place_of : PlanKey → ℕ
+place_of Release = 0
+place_of Budget = 1
+place_of Order = 2
+place_of Clean = 3
 
--- what counts in a version with cleaning alone
-abbrev pub if_cleaning : Bool → List PlanFault → List PlanFault
-if_cleaning cleaning faults = if cleaning then faults else []
+-- the turn of a list: its key, and for a row of the order the machine
+abbrev pub list_turn : PlanKey → Option ℕ → List ℕ → List ℕ
+list_turn key None rest = place_of key ∷ rest
+list_turn key (Some machine) rest = place_of key ∷ machine ∷ rest
 
--- the keys have to be there
-abbrev pub missing_keys : Bool → Members → List PlanFault
-missing_keys cleaning table = missing_faults Release (value_at table Release)
-    ++ (missing_faults Budget (value_at table Budget)
-    ++ (missing_faults Order (value_at table Order)
-    ++ if_cleaning cleaning (missing_faults Clean (value_at table Clean))))
+-- the turn of a fault: the version, the unknown keys, the missing keys, and then the lists, each from its first element on
+abbrev pub turn_of : PlanFault → List ℕ
+turn_of NotToml = []
+turn_of BadVersion = 0 ∷ []
+turn_of UnknownKey = 1 ∷ []
+turn_of (MissingKey key) = 2 ∷ place_of key ∷ []
+turn_of (NotArray key row) = 3 ∷ list_turn key row []
+turn_of (NotWhole key row place) = 3 ∷ list_turn key row (place ∷ [])
+turn_of (OutOfRange key row place) = 3 ∷ list_turn key row (place ∷ [])
+turn_of Memory = []
+turn_of NotReadBack = []
 
--- the lists have to be right
-abbrev pub list_values : Bool → Members → List PlanFault
-list_values cleaning table = faults_at (list_faults Release None) (value_at table Release)
-    ++ (faults_at (list_faults Budget None) (value_at table Budget)
-    ++ (faults_at order_faults (value_at table Order)
-    ++ if_cleaning cleaning (faults_at (list_faults Clean None) (value_at table Clean))))
+-- one turn comes before another, as words do in a dictionary
+abbrev pub IsBefore : List ℕ → List ℕ → Type 0
+IsBefore [] [] = ⊥
+IsBefore [] (n ∷ ns) = Unit {0}
+IsBefore (m ∷ ms) [] = ⊥
+IsBefore (m ∷ ms) (n ∷ ns) = (m < n) ⊎ ((m ≡ n) × IsBefore ms ns)
 
--- the faults of a table whose version has cleaning, or hasn't: keys that aren't known, missing keys, and then the lists
-abbrev pub content_faults : Bool → Members → List PlanFault
-content_faults cleaning table = key_faults cleaning table ++ (missing_keys cleaning table ++ list_values cleaning table)
-
--- all faults of a table, in the order in which the first one counts: the version comes before all else
-abbrev pub faults_of : Members → List PlanFault
-faults_of table = version_faults (version_in table) ++ content_faults (has_cleaning (version_in table)) table
+-- the table has the fault, and none whose turn comes before
+pub record IsFirstTableFault (table : Members) (fault : PlanFault) : Type 0 where
+  pub has : HasFault table fault
+  pub first : (other : PlanFault) → HasFault table other → IsBefore (turn_of other) (turn_of fault) → ⊥

@@ -4,7 +4,7 @@ use Rattle.shop_base.specs.Plan.{ShopPlan}
 use Rattle.toml.specs.Data.{Data, integer, array, Items, no_items, item, Members}
 use Rattle.plan_text.specs.declared.plan_key.PlanKey.TheVariants.{Release, Budget, Order, Clean}
 use Rattle.plan_text.specs.Keys.{value_at, version_in}
-use Rattle.plan_text.specs.Faults.{has_cleaning}
+use Rattle.plan_text.specs.Listing.{has_cleaning}
 
 -- a whole number
 abbrev pub number_in : Data → ℕ

@@ -7,7 +7,7 @@ ghost use Rattle.toml.specs.Data.{get_member};
 ghost use Rattle.toml.specs.View.{view, table_view};
 ghost use Rattle.plan_text.specs.Keys.{value_at, version_in};
 ghost use Rattle.plan_text.specs.Answers.{Passes};
-ghost use Rattle.plan_text.specs.Faults.{version_faults, has_cleaning, is_common_key, is_known_key, key_faults, missing_faults, missing_keys};
+ghost use Rattle.plan_text.specs.Listing.{version_faults, has_cleaning, is_common_key, is_known_key, key_faults, missing_faults, missing_keys};
 
 use crate::plan_fault::PlanFault;
 use crate::plan_key::PlanKey;

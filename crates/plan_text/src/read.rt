@@ -10,7 +10,7 @@ ghost use Rattle.plan_text.specs.Keys.{value_at};
 ghost use Rattle.plan_text.specs.Documents.{IsDocument, IsNoDocument, IsPlanText, IsFirstFault};
 ghost use Rattle.plan_text.specs.Answers.{IsPlanAnswer, IsFaultAnswer, Passes};
 ghost use Rattle.plan_text.specs.Reading.{numbers_in, rows_in, list_at, clean_in, plan_with, plan_in};
-ghost use Rattle.plan_text.specs.Faults.{list_faults, order_faults, faults_at, if_cleaning, list_values, faults_of};
+ghost use Rattle.plan_text.specs.Listing.{list_faults, order_faults, faults_at, if_cleaning, list_values, faults_of};
 
 use crate::keys::{check_known, check_missing, check_version, value_of};
 use crate::plan_fault::PlanFault;

@@ -5,7 +5,7 @@ ghost use Rattle.shop_base.specs.Shop.{lists_of};
 ghost use Rattle.toml.specs.View.{view, items_view};
 ghost use Rattle.plan_text.specs.Answers.{Passes};
 ghost use Rattle.plan_text.specs.Reading.{number_in, numbers_in, rows_in, each_item};
-ghost use Rattle.plan_text.specs.Faults.{number_faults, list_faults, row_faults, order_faults, each_faults};
+ghost use Rattle.plan_text.specs.Listing.{number_faults, list_faults, row_faults, order_faults, each_faults};
 
 use crate::plan_fault::PlanFault;
 use crate::plan_key::PlanKey;

@@ -1,6 +1,6 @@
 use Rattle.std.proofs.Common.{◌≡◌, ◌++◌, drop, None}
 use Rattle.toml.specs.View.{items_view}
-use Rattle.plan_text.specs.Faults.{number_faults, each_faults}
+use Rattle.plan_text.specs.Listing.{number_faults, each_faults}
 use Rattle.plan_text.specs.Reading.{number_in, each_item}
 use Rattle.plan_text.proofs.values.moments_of.Given as goal
 

@@ -1,7 +1,7 @@
 use Rattle.std.proofs.Common.{◌≡◌, ◌++◌, drop}
 use Rattle.shop_base.specs.Shop.{lists_of}
 use Rattle.toml.specs.View.{items_view}
-use Rattle.plan_text.specs.Faults.{row_faults, each_faults}
+use Rattle.plan_text.specs.Listing.{row_faults, each_faults}
 use Rattle.plan_text.specs.Reading.{numbers_in, each_item}
 use Rattle.plan_text.proofs.values.rows_of.Given as goal
 
