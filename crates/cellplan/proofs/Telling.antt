@@ -3,10 +3,8 @@ use Rattle.std.proofs.Common.{◌≡◌, ◌≢◌, ℕ, List, Option, Result, O
 use Rattle.shop_base.specs.Shop.{JobShop}
 use Rattle.orlib_read.specs.declared.named.Named.{Named}
 use Rattle.orlib_read.specs.declared.or_fault.OrFault.{OrFault}
-use Rattle.orlib_read.specs.declared.or_fault.OrFault.TheVariants.{NoInstance, NoSizes, BadSizes, MissingJob, BadNumber, OddWords, Extra, Shop, Memory as WantOfMemory}
+use Rattle.orlib_read.specs.declared.or_fault.OrFault.TheVariants.{Memory as WantOfMemory}
 use Rattle.orlib_read.specs.Answers.{IsRead, IsRefused}
-use Rattle.cellplan.specs.declared.command_fault.CommandFault.{CommandFault}
-use Rattle.cellplan.specs.declared.command_fault.CommandFault.TheVariants.{Instance, Memory}
 use Rattle.cellplan.specs.Instances.{HasFault, Holds, IsRightFault, IsInstanceRefusal, command_fault_of, told_of}
 
 pub told_found : (read : Result Named OrFault) (P : Named → Type 0) → IfOk read P → IfOk (told_of read) P

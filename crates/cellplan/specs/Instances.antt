@@ -6,7 +6,7 @@ use Rattle.orlib_read.specs.declared.or_fault.OrFault.TheVariants.{Memory as Wan
 use Rattle.orlib_read.specs.Instance.{IsInstance, IsInstanceOf}
 use Rattle.orlib_read.specs.Faults.{IsInstanceFault, IsInstanceOfFault}
 use Rattle.cellplan.specs.declared.command_fault.CommandFault.{CommandFault}
-use Rattle.cellplan.specs.declared.command_fault.CommandFault.TheVariants.{Instance, Memory}
+use Rattle.cellplan.specs.declared.command_fault.CommandFault.TheVariants.{Instance, Plan, Memory}
 
 -- the text tells this description and this shop: as one instance, or as a collection under a name
 abbrev pub Tells : List ℕ → Option (List ℕ) → List ℕ → JobShop → Type 0
@@ -31,6 +31,7 @@ told_of (Err fault) = Err (command_fault_of fault)
 -- the fault is the text's, or want of memory
 abbrev pub IsRightFault : List ℕ → Option (List ℕ) → CommandFault → Type 0
 IsRightFault text name (Instance fault) = (fault ≢ WantOfMemory) × HasFault text name fault
+IsRightFault text name (Plan fault) = ⊥
 IsRightFault text name Memory = Unit {0}
 
 -- the answer holds to the property, unless memory ran out
@@ -42,4 +43,5 @@ Holds (Err fault) P = fault ≡ Memory
 abbrev pub IsInstanceRefusal : {A : Type 0} → Result A CommandFault → OrFault → Type 0
 IsInstanceRefusal (Ok a) fault = ⊥
 IsInstanceRefusal (Err (Instance answered)) fault = answered ≡ fault
+IsInstanceRefusal (Err (Plan answered)) fault = ⊥
 IsInstanceRefusal (Err Memory) fault = Unit {0}

@@ -3,3 +3,5 @@ pub mod Choice
 pub mod Statuses
 pub mod Instances
 pub mod Facts
+pub mod Plans
+pub mod Shapes

@@ -7,3 +7,6 @@ pub struct Answer {
 
 /// The status of a good answer.
 pub const GOOD: u8 = 0;
+
+/// The status of an answer that refuses a plan or a log, or tells of a run that isn't finished.
+pub const REFUSED: u8 = 1;

@@ -2,6 +2,7 @@ ghost use Rattle.std.specs.Prelude.{◌≡◌};
 ghost use Rattle.cellplan.specs.Statuses.{status_of};
 
 use orlib_read::OrFault;
+use plan_text::PlanFault;
 use thiserror::Error;
 
 /// Why a command has no answer. `Memory` may stand in place of any other answer.
@@ -10,6 +11,9 @@ pub enum CommandFault {
     /// The instance's text is refused, for another cause than memory.
     #[error("Instance {0}")]
     Instance(OrFault),
+    /// The plan's text is refused, for another cause than memory.
+    #[error("Plan {0}")]
+    Plan(PlanFault),
     /// Memory was wanting.
     #[error("Memory")]
     Memory,
@@ -21,7 +25,7 @@ impl CommandFault {
         ensures { result ≡ status_of self.now }
     {
         match self {
-            CommandFault::Instance(_) => 3,
+            CommandFault::Instance(_) | CommandFault::Plan(_) => 3,
             CommandFault::Memory => 4,
         }
     }

@@ -8,8 +8,10 @@ pub mod answer;
 pub mod command_fault;
 pub mod facts;
 mod files;
+pub mod plans;
 mod print;
 mod program;
+pub mod shapes;
 pub mod words;
 
 use std::process::ExitCode;

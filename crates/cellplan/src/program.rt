@@ -2,9 +2,11 @@
 
 use crate::answer::{Answer, GOOD};
 use crate::command_fault::CommandFault;
-use crate::facts::facts_answer;
+use crate::facts::{facts_answer, load_instance};
 use crate::files::{FileFault, read_file, read_whole};
+use crate::shapes::shape_of;
 use crate::words::{Chosen, CommandName, WordsFault, read_words};
+use shop_base::Shop;
 use std::alloc::{AllocError, Global};
 use std::env;
 use std::io::{self, ErrorKind, Write};
@@ -93,8 +95,19 @@ fn command_answer(rt: &HostRuntime, alloc: Global, chosen: &Chosen) -> Result<An
     match chosen.name {
         CommandName::Input => Ok(facts_answer(alloc, &read_whole(alloc, rt.stdin())?, None)?),
         CommandName::Facts => Ok(facts_answer(alloc, &file(rt, alloc, chosen, 0)?, name)?),
+        CommandName::Shape => {
+            let shop = instance(rt, alloc, chosen)?;
+            Ok(shape_of(alloc, shop, &file(rt, alloc, chosen, 1)?)?)
+        }
         _ => Err(Failure::NoAnswerYet),
     }
+}
+
+/// The shop that the first file tells. It is read before any other file.
+fn instance(rt: &HostRuntime, alloc: Global, chosen: &Chosen) -> Result<Shop, Failure> {
+    let name = chosen.instance.as_ref().map(|name| name.as_bytes());
+    let named = load_instance(alloc, &file(rt, alloc, chosen, 0)?, name)?;
+    Ok(named.shop)
 }
 
 /// The bytes of the file at a place of the command line.
@@ -128,6 +141,7 @@ fn fail(rt: &HostRuntime, failure: &Failure) -> u8 {
         Failure::Command(CommandFault::Instance(fault)) => eprintln!(rt;
             "cellplan: instance: {fault}"
         ),
+        Failure::Command(CommandFault::Plan(fault)) => eprintln!(rt; "cellplan: plan: {fault}"),
         Failure::Command(CommandFault::Memory)
         | Failure::Memory
         | Failure::File(FileFault::Memory) => { eprintln!(rt; "cellplan: out of memory") }

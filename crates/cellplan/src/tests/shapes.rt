@@ -1,0 +1,91 @@
+use super::{COLLECTION, TWO};
+use crate::command_fault::CommandFault;
+use crate::shapes::shape_answer;
+use orlib_read::OrFault;
+use plan_text::{PlanFault, PlanKey};
+use std::test::Fail;
+
+#[test]
+fn tells_the_shape_of_plans(rt: HostRuntime) -> Result<(), Fail> {
+    let lines: [(&[u8], &[u8], u8); 7] = [
+        (
+            b"release = [0, 0]\nbudget = [5, 10]\norder = [[0, 1], [0, 1]]\n",
+            b"shaped\n",
+            0,
+        ),
+        (
+            b"release = [0, 0]\nbudget = [5, 10]\norder = [[0, 1], [0]]\n",
+            b"not shaped JobMissing machine 1 job 1\n",
+            1,
+        ),
+        (
+            b"release = [0, 0]\nbudget = [5, 10]\norder = [[0, 2], [0, 1]]\n",
+            b"not shaped JobOutOfRange machine 0 place 1\n",
+            1,
+        ),
+        (
+            b"release = [0, 0]\nbudget = [5, 10]\norder = [[0, 0], [0, 1]]\n",
+            b"not shaped JobTwice machine 0 place 1\n",
+            1,
+        ),
+        (
+            b"release = [0, 0]\nbudget = [5, 1000000000001]\norder = [[0, 1], [0, 1]]\n",
+            b"not shaped BudgetTooLarge job 1\n",
+            1,
+        ),
+        (
+            b"version = 2\nrelease = [0, 0]\nbudget = [5, 10]\norder = [[0, 1], [0, 1]]\nclean = [0]\n",
+            b"not shaped CleanCount\n",
+            1,
+        ),
+        (
+            b"version = 2\nrelease = [0, 0]\nbudget = [5, 10]\norder = [[0, 1], [0, 1]]\nclean = [0, 1000001]\n",
+            b"not shaped CleanTooLarge machine 1\n",
+            1,
+        ),
+    ];
+    for (plan, line, status) in lines {
+        let answer = shape_answer(rt.alloc(), TWO, None, plan)?;
+        assert_eq!(rt; answer.text.as_slice(), line);
+        assert_eq!(rt; answer.status, status);
+    }
+    Ok(())
+}
+
+#[test]
+fn tells_the_shape_for_an_instance_of_a_collection(rt: HostRuntime) -> Result<(), Fail> {
+    let plan = b"release = [0, 0]\nbudget = [5, 10]\norder = [[0, 1], [0, 1]]\n";
+    let answer = shape_answer(rt.alloc(), COLLECTION, Some(b"two"), plan)?;
+    assert_eq!(rt; answer.text.as_slice(), b"shaped\n".as_slice());
+    let answer = shape_answer(rt.alloc(), COLLECTION, Some(b"ft06"), plan)?;
+    assert_eq!(rt;
+        answer.text.as_slice(),
+        b"not shaped ReleaseCount\n".as_slice()
+    );
+    Ok(())
+}
+
+#[test]
+fn tells_which_text_is_refused(rt: HostRuntime) -> Result<(), Fail> {
+    let unknown = b"release = [0, 0]\nbudget = [5, 10]\norder = [[0, 1], [0, 1]]\nx = 1\n";
+    let faults: [(&[u8], &[u8], CommandFault); 4] = [
+        (TWO, unknown, CommandFault::Plan(PlanFault::UnknownKey)),
+        (
+            TWO,
+            b"release = [0, 0]\n",
+            CommandFault::Plan(PlanFault::MissingKey {
+                key: PlanKey::Budget,
+            }),
+        ),
+        (TWO, b"release = [", CommandFault::Plan(PlanFault::NotToml)),
+        (b"", unknown, CommandFault::Instance(OrFault::NoSizes)),
+    ];
+    for (instance, plan, fault) in faults {
+        let answer = shape_answer(rt.alloc(), instance, None, plan).map(|answer| answer.status);
+        assert_eq!(rt; answer, Err(fault));
+        assert_eq!(rt; fault.status(), 3);
+    }
+    let text = CommandFault::Plan(PlanFault::UnknownKey).to_string(rt.alloc())?;
+    assert_eq!(rt; text.as_str(), "Plan UnknownKey");
+    Ok(())
+}
