@@ -108,8 +108,8 @@ fn lines_of(alloc: Global, plan: &Plan) -> Result<String, AllocError>
 
 /// Writes a plan as the text of a TOML document, in three lines, or five for a plan with cleaning.
 ///
-/// The text is read again, and given only where the same plan came back. A moment that TOML's integers
-/// can't hold is the one reason why it doesn't.
+/// The text is read again, and given only where the same plan came back, as it doesn't where a moment is
+/// over TOML's greatest integer.
 pub fn plan_document(alloc: Global, plan: &Plan) -> Result<String, PlanFault>
     // The text is the plan's lines, and they are read as this plan.
     ensures lines { IfOk result (λ text. string_bytes text ≡ plan_lines plan.now) }
