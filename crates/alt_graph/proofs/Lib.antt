@@ -2,3 +2,15 @@ pub mod ArcKinds
 pub mod Paths
 pub mod NodeLists
 pub mod CycleParts
+pub mod Limits
+pub mod Filling
+pub mod Standing
+pub mod NodeNumbers
+pub mod SourceKinds
+pub mod Ranks
+pub mod Settling
+pub mod LongestPaths
+pub mod Walks
+pub mod Rings
+pub mod Graphs
+pub mod Chains

@@ -1,13 +1,30 @@
-//! The alternative graph of a planned shop (Mascis and Pacciarelli, EJOR 143, 2002): checks of the
-//! evidence for a refusal, which look at the plan and the evidence alone.
+//! The alternative graph of a planned shop (Mascis and Pacciarelli, EJOR 143, 2002): ranks and greatest
+//! lengths of its nodes where it has no cycle, else a cycle; and checks of the evidence for a refusal, which
+//! look at the plan and the evidence alone.
+//!
+//! A node is a job's entry of a step, or its leaving. Job arcs go from each place of a job to the next, with
+//! the nominal time of the step; a blocking arc goes from the entry that follows a job's step on a machine
+//! to the entry of the next job in that machine's order, with the machine's cleaning time.
 #![tactic(auto)]
 
 mod arcs;
 mod chain_check;
 mod cycle_check;
+mod numbers;
+mod ranking;
+mod readers;
+mod rounds;
+mod solving;
+mod sources;
+mod tables;
+mod times;
 
 pub use chain_check::check_chain;
 pub use cycle_check::check_cycle;
+pub use solving::{Solved, solve};
+pub use times::Times;
 
 #[cfg(test)]
 mod check_tests;
+#[cfg(test)]
+mod solve_tests;

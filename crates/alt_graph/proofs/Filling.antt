@@ -1,0 +1,130 @@
+-- The tables, filled row by row.
+use Rattle.std.proofs.Common.{◌≡◌, ◌≢◌, ℕ, ◌+◌, ◌*◌, ◌<◌, ◌≤◌, ◌++◌, ◌∷◌, [], List, length, get_or, set, arith, refl, sym, ap, ◌∙◌, get_or-set_same, get_or-set_other, inl, inr}
+use Rattle.std.proofs.lemmas.Bool.{cases_order}
+use Rattle.std.proofs.lemmas.List.{get_or_append_left, get_or_push, length_push}
+use Rattle.shop_base.specs.declared.limits.TheConstants.{MAX_MACHINES}
+use Rattle.shop_base.specs.Plan.{PlannedShop, jobs, machines, steps, machine_of, order, job_at, Visits, IsWellShaped}
+use Rattle.shop_base.proofs.Visits.{visits_once, visits_machine}
+use Rattle.alt_graph.specs.Tables.{AreFirsts, ArePlacesOf, cell_of, HasCells}
+use Rattle.alt_graph.proofs.Limits.{steps_few, place_job}
+
+-- ---- the numbers of the first nodes
+
+-- the numbers of the first nodes of the first n jobs, and next the number after them
+pub record AreFirstsBelow (p : PlannedShop) (firsts : List ℕ) (n next : ℕ) : Type 0 where
+  pub size : length firsts ≡ n + 1
+  pub begins : get_or firsts 0 0 ≡ 0
+  pub follows : (j : ℕ) → j < n → get_or firsts (j + 1) 0 ≡ get_or firsts j 0 + (steps p j + 1)
+  pub last : get_or firsts n 0 ≡ next
+  pub few : next ≤ n * (MAX_MACHINES + 1)
+
+pub firsts_none : (p : PlannedShop) → AreFirstsBelow p ([] ++ 0 ∷ []) 0 0
+firsts_none p = record {
+  size = refl;
+  begins = refl;
+  follows = λ j lt. absurd (omega arith);
+  last = refl;
+  few = omega arith;
+}
+
+module _ (p : PlannedShop) (firsts : List ℕ) (n next : ℕ) (below : AreFirstsBelow p firsts n next) where
+  earlier : (y j : ℕ) → j < n + 1 → get_or (firsts ++ y ∷ []) j 0 ≡ get_or firsts j 0
+  earlier y j lt = get_or_append_left firsts (y ∷ []) 0 j (omega (arith, below.size))
+
+  pub firsts_more : IsWellShaped p → n < jobs p → AreFirstsBelow p (firsts ++ (next + (steps p n + 1)) ∷ []) (n + 1) (next + (steps p n + 1))
+  firsts_more shaped inside =
+      let new = next + (steps p n + 1) in
+      let at : get_or (firsts ++ new ∷ []) (n + 1) 0 ≡ new = get_or_push firsts new 0 (n + 1) below.size in
+      record {
+        size = omega (arith, length_push firsts new, below.size);
+        begins = earlier new 0 (omega arith) ∙ below.begins;
+        follows = λ j lt. elim (cases_order j n) [
+          | inl same ↦ rw same (at ∙ ap (λ k. k + (steps p n + 1)) (sym (earlier new n (omega arith) ∙ below.last)))
+          | inr other ↦ (let lower : j < n = elim other [ inl l ↦ omega arith | inr g ↦ omega arith ] in
+              earlier new (j + 1) (omega arith) ∙ below.follows j lower ∙ ap (λ k. k + (steps p j + 1)) (sym (earlier new j (omega arith))))
+        ];
+        last = at;
+        few = omega (arith, below.few, steps_few p shaped n inside);
+      }
+
+  pub firsts_all : IsWellShaped p → n ≡ jobs p → AreFirsts p firsts
+  firsts_all shaped all = record {
+    size = below.size ∙ ap (λ k. k + 1) all;
+    begins = below.begins;
+    follows = λ j lt. below.follows j (omega arith);
+    few = omega (arith, ap (λ j. get_or firsts j 0) all, below.last, below.few, shaped.shop.counts.few_jobs);
+  }
+
+-- ---- the tables of steps and places
+
+-- a cell of the table
+pub cell_inside : (p : PlannedShop) (table : List ℕ) (m j : ℕ) → IsWellShaped p → HasCells p table → m < machines p → j < jobs p → cell_of m j < length table
+cell_inside p table m j shaped cells machine job = omega (arith, cells, shaped.shop.counts.few_jobs)
+
+-- the cells of different jobs, or machines, are different
+pub cells_apart : (p : PlannedShop) (m j n i : ℕ) → IsWellShaped p → j < jobs p → i < jobs p → (m ≡ n → j ≡ i → ⊥) → cell_of m j ≢ cell_of n i
+cells_apart p m j n i shaped one other apart same =
+    let few = shaped.shop.counts.few_jobs in
+    let machines_same : m ≡ n = omega arith in
+    let jobs_same : j ≡ i = omega arith in
+    apart machines_same jobs_same
+
+module _ (p : PlannedShop) (shaped : IsWellShaped p) (table : List ℕ) (cells : HasCells p table) where
+  -- the steps of job j are told, up to step n
+  abbrev pub AreStepsBelow : ℕ → ℕ → Type 0
+  AreStepsBelow j n = (k m : ℕ) → k < n → Visits p j k m → get_or table (cell_of m j) 0 ≡ k
+
+  -- one more step of job j
+  pub steps_more : (j n m : ℕ) → j < jobs p → Visits p j n m → AreStepsBelow j n
+      → (k l : ℕ) → k < n + 1 → Visits p j k l → get_or (set table (cell_of m j) n) (cell_of l j) 0 ≡ k
+  steps_more j n m job here below k l lt visits = elim (cases_order k n) [
+    | inl same ↦ (let is : l ≡ m = sym visits.here ∙ ap (machine_of p j) same ∙ here.here in
+        rw (is, same) (get_or-set_same table (cell_of m j) n 0 (cell_inside p table m j shaped cells (visits_machine p j n m shaped here) job)))
+    | inr other ↦ (
+        let lower : k < n = elim other [ inl less ↦ omega arith | inr more ↦ omega arith ] in
+        let apart : cell_of l j ≢ cell_of m j = cells_apart p l j m j shaped job job
+        (λ is _. let visits' : Visits p j k m = rw is at visits in absurd (omega (arith, visits_once p j k n m shaped visits' here))) in
+        rw (get_or-set_other table (cell_of m j) (cell_of l j) n 0 apart) (below k l lower visits))
+  ]
+
+  -- a step of job j is told in no cell of another job
+  pub steps_others : (j n m l i : ℕ) → j < jobs p → i < jobs p → i ≢ j → get_or (set table (cell_of m j) n) (cell_of l i) 0 ≡ get_or table (cell_of l i) 0
+  steps_others j n m l i job other apart = get_or-set_other table (cell_of m j) (cell_of l i) n 0 (cells_apart p l i m j shaped other job (λ _ same. apart same))
+
+  -- the places of machine m are told, up to place n
+  abbrev pub ArePlacesBelow : ℕ → ℕ → Type 0
+  ArePlacesBelow m n = (a : ℕ) → a < n → get_or table (cell_of m (job_at p m a)) 0 ≡ a
+
+  -- one more place of machine m
+  pub places_more : (m n : ℕ) → m < machines p → n < length (order p m) → ArePlacesBelow m n
+      → (a : ℕ) → a < n + 1 → get_or (set table (cell_of m (job_at p m n)) n) (cell_of m (job_at p m a)) 0 ≡ a
+  places_more m n machine within below a lt = elim (cases_order a n) [
+    | inl same ↦ rw same (get_or-set_same table (cell_of m (job_at p m n)) n 0 (cell_inside p table m (job_at p m n) shaped cells machine (place_job p shaped m n machine within)))
+    | inr other ↦ (
+        let lower : a < n = elim other [ inl less ↦ omega arith | inr more ↦ omega arith ] in
+        let inside : a < length (order p m) = omega arith in
+        let apart : cell_of m (job_at p m a) ≢ cell_of m (job_at p m n) = cells_apart p m (job_at p m a) m (job_at p m n) shaped
+        (place_job p shaped m a machine inside) (place_job p shaped m n machine within)
+        (λ _ same. absurd (omega (arith, (shaped.orders m machine).once a n inside within same))) in
+        rw (get_or-set_other table (cell_of m (job_at p m n)) (cell_of m (job_at p m a)) n 0 apart) (below a lower))
+  ]
+
+  -- a place of machine m is told in no cell of another machine
+  pub places_others : (m n l i : ℕ) → m < machines p → n < length (order p m) → i < jobs p → l ≢ m
+      → get_or (set table (cell_of m (job_at p m n)) n) (cell_of l i) 0 ≡ get_or table (cell_of l i) 0
+  places_others m n l i machine within other apart =
+      get_or-set_other table (cell_of m (job_at p m n)) (cell_of l i) n 0
+      (cells_apart p l i m (job_at p m n) shaped other (place_job p shaped m n machine within) (λ same _. apart same))
+
+-- the places of one more machine
+pub machines_more : (p : PlannedShop) (old new : List ℕ) (n : ℕ) → IsWellShaped p → n < machines p
+    → ((m : ℕ) → m < n → ArePlacesOf p old m) → ArePlacesOf p new n
+    → ((m j : ℕ) → j < jobs p → m ≢ n → get_or new (cell_of m j) 0 ≡ get_or old (cell_of m j) 0)
+    → (m : ℕ) → m < n + 1 → ArePlacesOf p new m
+machines_more p old new n shaped machine below noted others m lt = elim (cases_order m n) [
+  | inl same ↦ rw same noted
+  | inr other ↦ (
+      let lower : m < n = elim other [ inl less ↦ omega arith | inr more ↦ omega arith ] in
+      let apart : m ≢ n = omega arith in
+      λ a within. others m (job_at p m a) (place_job p shaped m a (omega arith) within) apart ∙ below m lower a within)
+]

@@ -1,0 +1,74 @@
+-- Where all nodes are ranked: greatest lengths, and no cycle.
+use Rattle.std.proofs.Common.{◌≡◌, ℕ, zero, suc, ◌<◌, ◌≤◌, ◌++◌, ◌∷◌, [], List, Option, None, Some, arith, refl, sym, subst}
+use Rattle.shop_base.specs.declared.node.Node.{Node}
+use Rattle.shop_base.specs.Plan.{PlannedShop, release}
+use Rattle.shop_base.specs.Graph.{node, IsNode, Path, begins, follows}
+use Rattle.shop_base.proofs.Cycles.{source_node}
+use Rattle.alt_graph.specs.declared.times.NodeTime.{NodeTime}
+use Rattle.alt_graph.specs.Tables.{AreFirsts}
+use Rattle.alt_graph.specs.Times.{NodeTimes, rank_of, earliest_of, before_of, IsAttained, LeadsBack, AreLinked, AreTimes, AreOrdered}
+use Rattle.alt_graph.specs.Ranking.{IsRanked, AreRanked}
+use Rattle.alt_graph.proofs.NodeNumbers.{node_same, numbers_count, number_inside, timed_node, node_timed}
+use Rattle.alt_graph.proofs.SourceKinds.{target_node}
+
+module _ (p : PlannedShop) (t : NodeTimes) (are : AreTimes p t) where
+  -- the job's release is the length of the path to its first place
+  pub path_begins : (v : Node) → IsNode p v → v.place ≡ 0 → earliest_of t v ≡ release p v.job → Path p (v ∷ []) v (earliest_of t v)
+  path_begins v is first at =
+      let same : node v.job 0 ≡ v = node_same (node v.job 0) v refl (sym first) in
+      subst (λ (n : ℕ). Path p (v ∷ []) v n) (sym at) (subst (λ (w : Node). Path p (w ∷ []) w (release p v.job)) same (begins v.job is.job))
+
+  -- the kept moment of each node is the length of a path
+  reached_below : (n : ℕ) (v : Node) → rank_of t v < n → IsNode p v → (nodes : List Node) × Path p nodes v (earliest_of t v)
+  reached_below zero v less is = absurd (omega arith)
+  reached_below (suc n) v less is = go (λ u. reached_below n u) (before_of t v) (are.attained v is)
+    where
+      go : ((u : Node) → rank_of t u < n → IsNode p u → (nodes : List Node) × Path p nodes u (earliest_of t u))
+          → (o : Option Node) → IsAttained p t v o → (nodes : List Node) × Path p nodes v (earliest_of t v)
+      go below None (first, at) = (v ∷ [], path_begins v is first at)
+      go below (Some u) (d, arc, at) =
+          let path = below u (omega (arith, are.rise u v d arc)) (source_node p u v d arc) in
+          (path.0 ++ v ∷ [], subst (λ (m : ℕ). Path p (path.0 ++ v ∷ []) v m) at (follows path.0 u v (earliest_of t u) d path.1 arc))
+
+  -- no path is longer
+  none_longer : (nodes : List Node) (v : Node) (n : ℕ) → Path p nodes v n → n ≤ earliest_of t v
+  none_longer nodes v n (begins j inside) = are.fit.releases j inside
+  none_longer nodes v n (follows front u w m d path arc) = omega (arith, none_longer front u m path, are.fit.arcs u w d arc)
+
+  pub ordered : AreOrdered p t
+  ordered = record {
+    times = are;
+    lengths = record {
+      reached = λ v is. reached_below (suc (rank_of t v)) v (omega arith) is;
+      greatest = none_longer;
+    };
+  }
+
+module _ (p : PlannedShop) (firsts : List ℕ) (are : AreFirsts p firsts) (rows : List NodeTime) (done : List Node)
+    (sound : AreRanked p (record { firsts = firsts; rows = rows }) done) (all : (v : Node) → IsNode p v → IsRanked (record { firsts = firsts; rows = rows }) v) where
+  abbrev times : NodeTimes
+  times = record { firsts = firsts; rows = rows }
+
+  -- ranked nodes have their times
+  pub all_times : AreTimes p times
+  all_times = record {
+    nodes = λ v. (node_timed p firsts are rows v, timed_node p firsts are rows v);
+    rise = λ u v d arc. (let is = target_node p u v d arc in (sound.placed v is (all v is)).rises u d arc);
+    few = λ v is. omega (arith, sound.within v is (all v is), sound.count, sound.size, numbers_count p firsts are);
+    fit = record {
+      releases = λ j inside. (let is : IsNode p (node j 0) = record { job = inside; place = omega arith } in (sound.placed (node j 0) is (all (node j 0) is)).released refl);
+      arcs = λ u v d arc. (let is = target_node p u v d arc in (sound.placed v is (all v is)).fits u d arc);
+    };
+    attained = λ v is. (sound.placed v is (all v is)).attained;
+  }
+
+  -- the nodes before them are ranked too
+  pub all_linked : AreLinked times
+  all_linked = record {
+    within = λ v timed. omega (arith, sound.size, number_inside p firsts are v (timed_node p firsts are rows v timed));
+    back = λ v timed. (let is = timed_node p firsts are rows v timed in leads v (before_of times v) (all_times.attained v is));
+  }
+    where
+      leads : (v : Node) (o : Option Node) → IsAttained p times v o → LeadsBack times v o
+      leads v None attained = tt
+      leads v (Some u) (d, arc, at) = (node_timed p firsts are rows u (source_node p u v d arc), all_times.rise u v d arc)

@@ -1,0 +1,203 @@
+-- One more ranked node.
+use Rattle.std.proofs.Common.{◌≡◌, ◌≢◌, ℕ, zero, suc, replicate, ◌+◌, ◌<◌, ◌≤◌, ◌++◌, ◌∷◌, [], List, length, get_or, set, sum_by, Option, None, Some, arith, refl, sym, ap, ◌∙◌, subst, ◌⊎◌, inl, inr}
+use Rattle.std.proofs.lemmas.Bool.{cases_lt}
+use Rattle.std.proofs.lemmas.Bool.Decides.{eqb_tells}
+use Rattle.std.proofs.lemmas.List.{get_or_append_left, get_or_push, length_push, length-set, get_or_past, get_or-replicate, length-replicate}
+use Rattle.std.proofs.lemmas.List.Sums.{sum_by-set, sum_by-cons}
+use Rattle.shop_base.specs.declared.node.Node.{Node}
+use Rattle.shop_base.specs.Plan.{PlannedShop, jobs}
+use Rattle.shop_base.specs.Graph.{node, IsNode, Arc}
+use Rattle.shop_base.proofs.Cycles.{source_node}
+use Rattle.alt_graph.specs.declared.times.NodeTime.{NodeTime}
+use Rattle.alt_graph.specs.declared.times.TheConstants.{UNRANKED}
+use Rattle.alt_graph.specs.declared.ranking.Longest.{Longest}
+use Rattle.alt_graph.specs.Tables.{AreFirsts}
+use Rattle.alt_graph.specs.Times.{NodeTimes, no_time, number_of, time_at, rank_of, before_of, IsAttained}
+use Rattle.alt_graph.specs.Ranking.{IsRanked, IsPlaced, IsLongest, IsLastOf, AreRanked, Grows, blank, ranked_at}
+use Rattle.alt_graph.proofs.NodeNumbers.{number_inside, time_same, time_other, cases_node}
+
+pub blank_unranked : (row : NodeTime) → row.rank ≡ UNRANKED → blank row ≡ 1
+blank_unranked row is = elim (eqb_tells row.rank UNRANKED) [
+  | inl same ↦ rw same.0 refl
+  | inr other ↦ absurd (other.1 is)
+]
+
+pub blank_ranked : (row : NodeTime) → row.rank ≢ UNRANKED → blank row ≡ 0
+blank_ranked row ranked = elim (eqb_tells row.rank UNRANKED) [
+  | inl same ↦ absurd (ranked same.1)
+  | inr other ↦ rw other.0 refl
+]
+
+-- a node stays placed where neither its row nor those of its sources change
+pub placed_still : (p : PlannedShop) (t s : NodeTimes) (v : Node) → time_at s v ≡ time_at t v
+    → ((u : Node) (d : ℕ) → Arc p u v d → time_at s u ≡ time_at t u) → IsPlaced p t v → IsPlaced p s v
+placed_still p t s v same sources placed = record {
+  rises = λ u d arc. omega (arith, ap (λ (row : NodeTime). row.rank) (sources u d arc), ap (λ (row : NodeTime). row.rank) same, placed.rises u d arc);
+  fits = λ u d arc. omega (arith, ap (λ (row : NodeTime). row.earliest) (sources u d arc), ap (λ (row : NodeTime). row.earliest) same, placed.fits u d arc);
+  released = λ first. omega (arith, ap (λ (row : NodeTime). row.earliest) same, placed.released first);
+  attained = subst (λ (o : Option Node). IsAttained p s v o) (sym (ap (λ (row : NodeTime). row.before) same)) (still (before_of t v) placed.attained);
+  bounded = omega (arith, ap (λ (row : NodeTime). row.earliest) same, ap (λ (row : NodeTime). row.rank) same, placed.bounded);
+}
+  where
+    still : (o : Option Node) → IsAttained p t v o → IsAttained p s v o
+    still None (first, is) = (first, ap (λ (row : NodeTime). row.earliest) same ∙ is)
+    still (Some u) (d, arc, is) = (d, arc, ap (λ (row : NodeTime). row.earliest + d) (sources u d arc) ∙ is ∙ sym (ap (λ (row : NodeTime). row.earliest) same))
+
+-- ---- no node is ranked at first
+
+sum_blank : (n : ℕ) → sum_by blank (replicate n no_time) ≡ n
+sum_blank zero = refl
+sum_blank (suc n) =
+    let more : sum_by blank (replicate (suc n) no_time) ≡ 1 + sum_by blank (replicate n no_time) = sum_by-cons blank no_time (replicate n no_time) in
+    omega (arith, more, sum_blank n)
+
+no_rank : (n i : ℕ) → (get_or (replicate n no_time) i no_time).rank ≡ UNRANKED
+no_rank n i = elim (cases_lt i n) [
+  | inl inside ↦ ap (λ (row : NodeTime). row.rank) (get_or-replicate n i no_time no_time inside)
+  | inr past ↦ ap (λ (row : NodeTime). row.rank) (get_or_past (replicate n no_time) i no_time (omega (arith, length-replicate n no_time)))
+]
+
+pub none_ranked : (p : PlannedShop) (firsts : List ℕ) (n : ℕ) → n ≡ get_or firsts (jobs p) 0 → AreRanked p (record { firsts = firsts; rows = replicate n no_time }) []
+none_ranked p firsts n is = record {
+  listed = λ i lt. absurd (omega arith);
+  ranks = λ i lt. absurd (omega arith);
+  within = λ v _ ranked. absurd (ranked (no_rank n (number_of firsts v)));
+  places = λ v _ ranked. absurd (ranked (no_rank n (number_of firsts v)));
+  placed = λ v _ ranked. absurd (ranked (no_rank n (number_of firsts v)));
+  count = omega (arith, sum_blank n, length-replicate n no_time);
+  size = length-replicate n no_time ∙ is;
+}
+
+-- ---- one more
+
+module _ (p : PlannedShop) (firsts : List ℕ) (are : AreFirsts p firsts) (rows : List NodeTime) (done : List Node)
+    (sound : AreRanked p (record { firsts = firsts; rows = rows }) done) where
+  abbrev now : NodeTimes
+  now = record { firsts = firsts; rows = rows }
+
+  -- there are fewer ranked nodes than numbers for ranks
+  pub few_done : length done < UNRANKED
+  few_done = omega (arith, sound.count, sound.size, are.few)
+
+  -- no more nodes are ranked than there are
+  pub done_within : length done ≤ get_or firsts (jobs p) 0
+  done_within = omega (arith, sound.count, sound.size)
+
+  module _ (v : Node) (is : IsNode p v) (unranked : rank_of now v ≡ UNRANKED) (longest : Longest)
+      (best : IsLongest p now (length done) (Arc p) v longest) where
+    abbrev pub next_row : NodeTime
+    next_row = record { rank = length done; earliest = longest.length; before = longest.before }
+
+    abbrev pub next_times : NodeTimes
+    next_times = record { firsts = firsts; rows = set rows (number_of firsts v) next_row }
+
+    at_new : time_at next_times v ≡ next_row
+    at_new = time_same p firsts are rows sound.size v is next_row
+
+    at_other : (u : Node) → IsNode p u → u ≢ v → time_at next_times u ≡ time_at now u
+    at_other u other apart = time_other p firsts are rows sound.size v is next_row u other apart
+
+    -- a ranked node keeps its row
+    keeps : (u : Node) → IsNode p u → IsRanked now u → time_at next_times u ≡ time_at now u
+    keeps u other ranked = at_other u other (λ same. ranked (ap (rank_of now) same ∙ unranked))
+
+    rank_new : rank_of next_times v ≡ length done
+    rank_new = ap (λ (row : NodeTime). row.rank) at_new
+
+    pub new_ranked : IsRanked next_times v
+    new_ranked same = omega (arith, few_done, rank_new, same)
+
+    -- all other nodes keep their rows
+    pub grows : Grows p now next_times (length done)
+    grows u other = elim (cases_node p firsts are u v other is) [
+      | inl same ↦ inr (ap (rank_of now) same ∙ unranked, omega (arith, ap (rank_of next_times) same, rank_new))
+      | inr apart ↦ inl (at_other u other apart)
+    ]
+
+    sources_keep : (w u : Node) (d : ℕ) → IsPlaced p now w → rank_of now w < UNRANKED → Arc p u w d → time_at next_times u ≡ time_at now u
+    sources_keep w u d placed few arc = keeps u (source_node p u w d arc) (λ same. omega (arith, placed.rises u d arc, same))
+
+    ranked_few : (u : Node) → IsNode p u → IsRanked now u → rank_of now u < UNRANKED
+    ranked_few u other ranked = omega (arith, sound.within u other ranked, few_done)
+
+    last_is : (o : Option Node) → IsLastOf p now v longest.length o → ((u : Node) (d : ℕ) → Arc p u v d → time_at next_times u ≡ time_at now u) → IsAttained p next_times v o
+    last_is None (first, same) sources = (first, ap (λ (row : NodeTime). row.earliest) at_new ∙ same)
+    last_is (Some u) (d, arc, same) sources = (d, arc, ap (λ (row : NodeTime). row.earliest + d) (sources u d arc) ∙ same ∙ sym (ap (λ (row : NodeTime). row.earliest) at_new))
+
+    new_placed : IsPlaced p next_times v
+    new_placed =
+        let sources : (u : Node) (d : ℕ) → Arc p u v d → time_at next_times u ≡ time_at now u = λ u d arc. keeps u (source_node p u v d arc) (best.ranked u d arc) in
+        record {
+          rises = λ u d arc. omega (arith, ap (λ (row : NodeTime). row.rank) (sources u d arc), rank_new, sound.within u (source_node p u v d arc) (best.ranked u d arc));
+          fits = λ u d arc. omega (arith, ap (λ (row : NodeTime). row.earliest) (sources u d arc), ap (λ (row : NodeTime). row.earliest) at_new, best.fits u d arc);
+          released = λ first. omega (arith, ap (λ (row : NodeTime). row.earliest) at_new, best.released first);
+          attained = subst (λ (o : Option Node). IsAttained p next_times v o) (sym (ap (λ (row : NodeTime). row.before) at_new)) (last_is longest.before best.attained sources);
+          bounded = omega (arith, ap (λ (row : NodeTime). row.earliest) at_new, rank_new, best.bounded);
+        }
+
+    earlier : (i : ℕ) → i < length done → ranked_at (done ++ v ∷ []) i ≡ ranked_at done i
+    earlier i lt = get_or_append_left done (v ∷ []) (node 0 0) i lt
+
+    newest : (i : ℕ) → length done ≡ i → ranked_at (done ++ v ∷ []) i ≡ v
+    newest i same = get_or_push done v (node 0 0) i same
+
+    cases_place : (i : ℕ) → i < length (done ++ v ∷ []) → (i < length done) ⊎ (length done ≡ i)
+    cases_place i lt = elim (cases_lt i (length done)) [
+      | inl lower ↦ inl lower
+      | inr higher ↦ inr (omega (arith, length_push done v))
+    ]
+
+    listed_more : (i : ℕ) → (i < length done) ⊎ (length done ≡ i) → IsNode p (ranked_at (done ++ v ∷ []) i)
+    listed_more i (inl lower) = subst (IsNode p) (sym (earlier i lower)) (sound.listed i lower)
+    listed_more i (inr same) = subst (IsNode p) (sym (newest i same)) is
+
+    ranks_more : (i : ℕ) → (i < length done) ⊎ (length done ≡ i) → rank_of next_times (ranked_at (done ++ v ∷ []) i) ≡ i
+    ranks_more i (inl lower) =
+        let ranked : IsRanked now (ranked_at done i) = λ same. omega (arith, few_done, sound.ranks i lower, same) in
+        ap (rank_of next_times) (earlier i lower) ∙ ap (λ (row : NodeTime). row.rank) (keeps (ranked_at done i) (sound.listed i lower) ranked) ∙ sound.ranks i lower
+    ranks_more i (inr same) = ap (rank_of next_times) (newest i same) ∙ rank_new ∙ same
+
+    -- another node has a rank only if it had one
+    had_rank : (u : Node) → IsNode p u → u ≢ v → IsRanked next_times u → IsRanked now u
+    had_rank u other apart ranked same = ranked (ap (λ (row : NodeTime). row.rank) (at_other u other apart) ∙ same)
+
+    within_more : (u : Node) → IsNode p u → (u ≡ v) ⊎ (u ≢ v) → IsRanked next_times u → rank_of next_times u < length (done ++ v ∷ [])
+    within_more u other (inl same) ranked = omega (arith, ap (rank_of next_times) same, rank_new, length_push done v)
+    within_more u other (inr apart) ranked =
+        omega (arith, ap (λ (row : NodeTime). row.rank) (at_other u other apart), sound.within u other (had_rank u other apart ranked), length_push done v)
+
+    places_more : (u : Node) → IsNode p u → (u ≡ v) ⊎ (u ≢ v) → IsRanked next_times u → ranked_at (done ++ v ∷ []) (rank_of next_times u) ≡ u
+    places_more u other (inl same) ranked = newest (rank_of next_times u) (sym (ap (rank_of next_times) same ∙ rank_new)) ∙ sym same
+    places_more u other (inr apart) ranked =
+        let ranked_now = had_rank u other apart ranked in
+        let rank_same : rank_of next_times u ≡ rank_of now u = ap (λ (row : NodeTime). row.rank) (at_other u other apart) in
+        ap (ranked_at (done ++ v ∷ [])) rank_same ∙ earlier (rank_of now u) (sound.within u other ranked_now) ∙ sound.places u other ranked_now
+
+    placed_more : (u : Node) → IsNode p u → (u ≡ v) ⊎ (u ≢ v) → IsRanked next_times u → IsPlaced p next_times u
+    placed_more u other (inl same) ranked = subst (λ (w : Node). IsPlaced p next_times w) (sym same) new_placed
+    placed_more u other (inr apart) ranked =
+        let ranked_now = had_rank u other apart ranked in
+        let placed = sound.placed u other ranked_now in
+        placed_still p now next_times u (at_other u other apart) (λ w d arc. sources_keep u w d placed (ranked_few u other ranked_now) arc) placed
+
+    -- the node is ranked next
+    pub ranked_more : AreRanked p next_times (done ++ v ∷ [])
+    ranked_more = record {
+      listed = λ i lt. listed_more i (cases_place i lt);
+      ranks = λ i lt. ranks_more i (cases_place i lt);
+      within = λ u other ranked. within_more u other (cases_node p firsts are u v other is) ranked;
+      places = λ u other ranked. places_more u other (cases_node p firsts are u v other is) ranked;
+      placed = λ u other ranked. placed_more u other (cases_node p firsts are u v other is) ranked;
+      count =
+          let inside : number_of firsts v < length rows = omega (arith, sound.size, number_inside p firsts are v is) in
+          omega (
+            arith,
+            length_push done v,
+            length-set rows (number_of firsts v) next_row,
+            sum_by-set blank rows (number_of firsts v) next_row no_time inside,
+            blank_unranked (time_at now v) unranked,
+            blank_ranked next_row (λ same. omega (arith, few_done, same)),
+            sound.count,
+          );
+      size = length-set rows (number_of firsts v) next_row ∙ sound.size;
+    }

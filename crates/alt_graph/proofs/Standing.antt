@@ -1,0 +1,59 @@
+-- Where jobs stand in the orders, by the tables, and what follows for blocking arcs.
+use Rattle.std.proofs.Common.{◌≡◌, ℕ, ◌+◌, ◌<◌, ◌≤◌, length, get_or, arith, sym, ◌∙◌, ap, subst}
+use Rattle.shop_base.specs.declared.node.Node.{Node}
+use Rattle.shop_base.specs.Plan.{PlannedShop, machines, steps, order, job_at, Visits, Stands, IsWellShaped}
+use Rattle.shop_base.proofs.Visits.{visits_job, visits_machine, visits-stands, stands_once}
+use Rattle.shop_base.proofs.Places.{stands_at}
+use Rattle.alt_graph.specs.declared.tables.Tables.{Tables}
+use Rattle.alt_graph.specs.Tables.{AreTables, cell_of}
+use Rattle.alt_graph.specs.Sources.{IsBlockingArc}
+
+module _ (p : PlannedShop) (shaped : IsWellShaped p) where
+  -- the place of a step's job, looked up
+  pub place_told : (tables : Tables) (j k m : ℕ) → AreTables p tables → Visits p j k m → Stands p m (get_or tables.places.items (cell_of m j) 0) j k
+  place_told tables j k m are visits =
+      let found = visits-stands p j k m shaped visits in
+      let stands : Stands p m found.0 j k = found.1 in
+      let told : get_or tables.places.items (cell_of m (job_at p m found.0)) 0 ≡ found.0 = are.places m (visits_machine p j k m shaped visits) found.0 stands.within in
+      let same : get_or tables.places.items (cell_of m j) 0 ≡ found.0 = ap (λ i. get_or tables.places.items (cell_of m i) 0) (sym stands.job) ∙ told in
+      rw same stands
+
+  -- the step of the job at a place, looked up
+  pub entry_told : (tables : Tables) (m a : ℕ) → AreTables p tables → m < machines p → a < length (order p m)
+      → Stands p m a (job_at p m a) (get_or tables.steps.items (cell_of m (job_at p m a)) 0)
+  entry_told tables m a are machine within =
+      let found = stands_at p m a shaped machine within in
+      let stands : Stands p m a (job_at p m a) found.0 = found.1 in
+      let told : get_or tables.steps.items (cell_of m (job_at p m a)) 0 ≡ found.0 =
+      are.steps (job_at p m a) (visits_job p (job_at p m a) found.0 m stands.visits) found.0 m stands.visits in
+      rw told stands
+
+  -- a step is on one machine
+  visits_here : (j k m n : ℕ) → Visits p j k m → Visits p j k n → m ≡ n
+  visits_here j k m n one other = sym one.here ∙ other.here
+
+  -- no blocking arc leads to the first of an order
+  pub first_free : (m a : ℕ) (v : Node) → a ≡ 0 → Stands p m a v.job v.place → (u : Node) (d : ℕ) → IsBlockingArc p u v d → ⊥
+  first_free m a v first stands u d arc =
+      let same : m ≡ arc.machine = visits_here v.job v.place m arc.machine stands.visits arc.enters.visits in
+      let here : Stands p m (arc.ahead + 1) v.job v.place = subst (λ n. Stands p n (arc.ahead + 1) v.job v.place) (sym same) arc.enters in
+      absurd (omega (arith, stands_once p m a (arc.ahead + 1) v.job v.place v.place shaped stands here))
+
+  -- no blocking arc leads from the last of an order
+  pub last_frees : (m a k : ℕ) (u : Node) → a + 1 ≡ length (order p m) → u.place ≡ k + 1 → Stands p m a u.job k → (v : Node) (d : ℕ) → IsBlockingArc p u v d → ⊥
+  last_frees m a k u last place stands v d arc =
+      let step : arc.step ≡ k = omega (arith, arc.place, place) in
+      let left : Stands p arc.machine arc.ahead u.job k = subst (λ n. Stands p arc.machine arc.ahead u.job n) step arc.left in
+      let same : m ≡ arc.machine = visits_here u.job k m arc.machine stands.visits left.visits in
+      let here : Stands p m arc.ahead u.job k = subst (λ n. Stands p n arc.ahead u.job k) (sym same) left in
+      let at : a ≡ arc.ahead = stands_once p m a arc.ahead u.job k k shaped stands here in
+      let after : Stands p m (arc.ahead + 1) v.job v.place = subst (λ n. Stands p n (arc.ahead + 1) v.job v.place) (sym same) arc.enters in
+      absurd (omega (arith, after.within))
+
+  -- no blocking arc leads from the first node of a job
+  pub start_frees : (u : Node) → u.place ≡ 0 → (v : Node) (d : ℕ) → IsBlockingArc p u v d → ⊥
+  start_frees u place v d arc = absurd (omega (arith, arc.place))
+
+  -- no blocking arc leads to a leaving
+  pub leaving_free : (v : Node) → steps p v.job ≤ v.place → (u : Node) (d : ℕ) → IsBlockingArc p u v d → ⊥
+  leaving_free v out u d arc = absurd (omega (arith, arc.enters.visits.within))

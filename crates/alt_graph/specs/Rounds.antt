@@ -1,0 +1,66 @@
+use Rattle.std.specs.Prelude.{◌≡◌, ◌≢◌, ℕ, ◌+◌, ◌-◌, ◌<◌, ◌≤◌, ◌⊎◌, List, length, sum_by, ◌==◌, if◌then◌else◌, slice_index, Option, MatchOption, Some}
+use Rattle.std.specs.Option.{ForSome}
+use Rattle.shop_base.specs.declared.node.Node.{Node}
+use Rattle.shop_base.specs.Plan.{PlannedShop}
+use Rattle.shop_base.specs.Graph.{IsNode, HasArc}
+use Rattle.alt_graph.specs.declared.times.TheConstants.{UNRANKED}
+use Rattle.alt_graph.specs.declared.sources.Source.{Source}
+use Rattle.alt_graph.specs.declared.rounds.Round.{Round}
+use Rattle.alt_graph.specs.Times.{NodeTimes, rank_of, number_of}
+use Rattle.alt_graph.specs.Ranking.{IsRanked, ranked_at}
+
+-- u comes before v, by job and then by place, or is v
+abbrev pub IsUpTo : Node → Node → Type 0
+IsUpTo u v = (u.job < v.job) ⊎ ((u.job ≡ v.job) × (u.place ≤ v.place))
+
+-- the node at a place of a round
+abbrev pub round_at : Round → ℕ → Node
+round_at round i = ranked_at round.nodes.items i
+
+-- how many nodes were followed
+abbrev pub round_length : Round → ℕ
+round_length round = length round.nodes.items
+
+-- distinct nodes, each with an arc to the one before it, and an arc from one of them to the last
+pub record IsRound (p : PlannedShop) (round : Round) : Type 0 where
+  pub start : round.start < round_length round
+  pub back : (i : ℕ) → i + 1 < round_length round → HasArc p (round_at round (i + 1)) (round_at round i)
+  pub closes : (i : ℕ) → i + 1 ≡ round_length round → HasArc p (round_at round round.start) (round_at round i)
+  pub apart : (i j : ℕ) → i < j → j < round_length round → round_at round i ≢ round_at round j
+
+-- the place that many arcs after a place of the cycle at the end of a round: each arc leads to the place before, and from the cycle's first place to its last
+abbrev pub IsPlaceAfter : Round → ℕ → ℕ → ℕ → Type 0
+IsPlaceAfter round place arcs there =
+    ((arcs ≤ place - round.start) × (there + arcs ≡ place)) ⊎ ((place - round.start < arcs) × (there + arcs ≡ place + (round_length round - round.start)))
+
+-- no node of the cycle comes before the one at this place
+pub record IsLeastPlace (round : Round) (place : ℕ) : Type 0 where
+  pub after : round.start ≤ place
+  pub within : place < round_length round
+  pub least : (i : ℕ) → round.start ≤ i → i < round_length round → IsUpTo (round_at round place) (round_at round i)
+
+-- the nodes of the cycle, along its arcs, from a place on
+pub record AreFrom (round : Round) (place : ℕ) (nodes : List Node) : Type 0 where
+  pub size : length nodes ≡ round_length round - round.start
+  pub there : (i : ℕ) → i < length nodes → (a : ℕ) × IsPlaceAfter round place i a × (ranked_at nodes i ≡ round_at round a)
+
+-- how many numbers have no place yet
+abbrev pub unseen : List ℕ → ℕ
+unseen seen = sum_by (λ place. if place == UNRANKED then 1 else 0) seen
+
+-- nodes without a rank, each with an arc to the one before it and the next one with an arc to the last; and for each number the place at which its node stands among them, if it does
+pub record IsWalk (p : PlannedShop) (t : NodeTimes) (nodes : List Node) (seen : List ℕ) (next : Node) : Type 0 where
+  pub size : length seen ≡ length t.rows
+  pub next_node : IsNode p next
+  pub next_free : rank_of t next ≡ UNRANKED
+  pub nodes_in : (i : ℕ) → i < length nodes → IsNode p (ranked_at nodes i)
+  pub back : (i : ℕ) → i + 1 < length nodes → HasArc p (ranked_at nodes (i + 1)) (ranked_at nodes i)
+  pub last : (i : ℕ) → i + 1 ≡ length nodes → HasArc p next (ranked_at nodes i)
+  pub marks : (i : ℕ) → i < length nodes → slice_index seen (number_of t.firsts (ranked_at nodes i)) ≡ i
+  pub marked_in : (v : Node) → IsNode p v → slice_index seen (number_of t.firsts v) ≢ UNRANKED → slice_index seen (number_of t.firsts v) < length nodes
+  pub marked : (v : Node) → IsNode p v → slice_index seen (number_of t.firsts v) ≢ UNRANKED → ranked_at nodes (slice_index seen (number_of t.firsts v)) ≡ v
+  pub count : length nodes + unseen seen ≡ length seen
+
+-- the source of an arc, if there is one, that has no rank
+abbrev pub IsFreeSource : NodeTimes → Option Source → Option Node → Type 0
+IsFreeSource t source found = MatchOption found (ForSome source (λ s. IsRanked t s.node)) (λ u. (d : ℕ) × (source ≡ Some (record { node = u; length = d })) × (rank_of t u ≡ UNRANKED))

@@ -1,0 +1,41 @@
+//! The numbers of nodes: job after job, and within a job by place.
+
+ghost use Rattle.std.specs.Prelude.{◌≡◌, ◌+◌, ◌<◌, IfOk, length};
+ghost use Rattle.shop_base.specs.Plan.{jobs, steps};
+ghost use Rattle.alt_graph.specs.Tables.{AreFirsts};
+ghost use Rattle.alt_graph.specs.Times.{number_of};
+
+use crate::readers::{job_count, route_of};
+use shop_base::{JobNo, Node, Shaped};
+use std::alloc::{AllocError, Global};
+
+/// The number of each job's first node, and last the count of all nodes.
+pub(crate) fn first_numbers(alloc: Global, shaped: &Shaped) -> Result<Vec<u32>, AllocError>
+    ensures { IfOk result (λ firsts. AreFirsts shaped.now firsts.items) }
+{
+    let jobs = job_count(shaped);
+    let mut firsts = Vec::with_capacity(alloc, jobs as usize + 1)?;
+    let mut next = 0;
+    firsts.push(next)?;
+    for job in 0..jobs {
+        next += step_count(shaped, job) + 1;
+        firsts.push(next)?;
+    }
+    Ok(firsts)
+}
+
+/// How many steps the job has.
+pub(crate) fn step_count(shaped: &Shaped, job: JobNo) -> u32
+    requires { job < jobs shaped.now }
+    ensures { result ≡ steps shaped.now job }
+{
+    route_of(shaped, job).len() as u32
+}
+
+/// The node's number.
+pub(crate) fn number(firsts: &[u32], node: Node) -> usize
+    requires { node.job < length firsts.now }
+    ensures { result ≡ number_of firsts.now node }
+{
+    firsts[node.job as usize] as usize + node.place as usize
+}

@@ -1,0 +1,165 @@
+//! A cycle, where nodes are left without a rank.
+
+ghost use Rattle.std.specs.Prelude.{◌≡◌, ◌+◌, ◌<◌, ◌≤◌, IfOk, MatchBool};
+ghost use Rattle.std.specs.Option.{ForSome};
+ghost use Rattle.shop_base.specs.Graph.{IsNode, HasArc};
+ghost use Rattle.alt_graph.specs.Evidence.{IsCycle};
+ghost use Rattle.alt_graph.specs.Tables.{AreTables};
+ghost use Rattle.alt_graph.specs.Times.{rank_of};
+ghost use Rattle.alt_graph.specs.Ranking.{so_far, AreRanked, AreSettled};
+ghost use Rattle.alt_graph.specs.Rounds.{IsUpTo, IsRound, IsPlaceAfter, IsLeastPlace, AreFrom, IsFreeSource, round_length};
+
+use crate::numbers::number;
+use crate::ranking::{Ranking, is_ranked};
+use crate::sources::{Source, blocking_source, job_source};
+use crate::tables::Tables;
+use crate::times::UNRANKED;
+use shop_base::{Node, Shaped};
+use std::alloc::{AllocError, Global};
+
+/// Nodes followed backwards along arcs, until one came again: the one at place `start`.
+#[derive(Drop)]
+pub(crate) struct Round {
+    pub nodes: Vec<Node>,
+    pub start: usize,
+}
+
+/// A cycle, its least node first, from a node without a rank.
+pub(crate) fn cycle_from(
+    alloc: Global,
+    shaped: &Shaped,
+    tables: &Tables,
+    ranking: &Ranking,
+    node: Node,
+) -> Result<Vec<Node>, AllocError>
+    requires node { IsNode shaped.now node }
+    requires unranked { rank_of (so_far tables.now ranking.now) node ≡ UNRANKED }
+    requires tables { AreTables shaped.now tables.now }
+    requires ranked { AreRanked shaped.now (so_far tables.now ranking.now) ranking.now.done.items }
+    requires settled { AreSettled shaped.now (so_far tables.now ranking.now) UNRANKED }
+    ensures { IfOk result (λ nodes. IsCycle shaped.now nodes.items) }
+{
+    let round = follow(alloc, shaped, tables, ranking, node)?;
+    let least = least_place(&round);
+    let nodes = turned(alloc, &round, least)?;
+    Ok(nodes)
+}
+
+/// Follows arcs backwards among the nodes without a rank, until a node comes again.
+fn follow(
+    alloc: Global,
+    shaped: &Shaped,
+    tables: &Tables,
+    ranking: &Ranking,
+    node: Node,
+) -> Result<Round, AllocError>
+    requires node { IsNode shaped.now node }
+    requires unranked { rank_of (so_far tables.now ranking.now) node ≡ UNRANKED }
+    requires tables { AreTables shaped.now tables.now }
+    requires ranked { AreRanked shaped.now (so_far tables.now ranking.now) ranking.now.done.items }
+    requires settled { AreSettled shaped.now (so_far tables.now ranking.now) UNRANKED }
+    ensures { IfOk result (IsRound shaped.now) }
+{
+    let mut seen = vec![in alloc; UNRANKED; ranking.rows.len()]?;
+    let mut nodes = Vec::with_capacity(alloc, ranking.rows.len())?;
+    let mut next = node;
+    let mut at = number(&tables.firsts, next);
+    'back: while seen[at] == UNRANKED {
+        seen[at] = nodes.len() as u32;
+        nodes.push(next)?;
+        next = free_source(shaped, tables, ranking, next);
+        at = number(&tables.firsts, next);
+    }
+    let start = seen[at] as usize;
+    Ok(Round { nodes, start })
+}
+
+/// A node without a rank from which an arc leads to the node.
+fn free_source(shaped: &Shaped, tables: &Tables, ranking: &Ranking, node: Node) -> Node
+    requires node { IsNode shaped.now node }
+    requires unranked { rank_of (so_far tables.now ranking.now) node ≡ UNRANKED }
+    requires tables { AreTables shaped.now tables.now }
+    requires ranked { AreRanked shaped.now (so_far tables.now ranking.now) ranking.now.done.items }
+    requires settled { AreSettled shaped.now (so_far tables.now ranking.now) UNRANKED }
+    ensures node { IsNode shaped.now result }
+    ensures unranked { rank_of (so_far tables.now ranking.now) result ≡ UNRANKED }
+    ensures arc { HasArc shaped.now result node }
+{
+    let source = job_source(shaped, node);
+    if let Some(free) = free_of(shaped, tables, ranking, source) {
+        return free;
+    }
+    let source = blocking_source(shaped, tables, node);
+    match free_of(shaped, tables, ranking, source) {
+        Some(free) => free,
+        None => unreachable!(),
+    }
+}
+
+/// The node from which the arc comes, if there is one and it has no rank.
+fn free_of(
+    shaped: &Shaped,
+    tables: &Tables,
+    ranking: &Ranking,
+    source: Option<Source>,
+) -> Option<Node>
+    requires node { ForSome source (λ s. IsNode shaped.now s.node) }
+    requires tables { AreTables shaped.now tables.now }
+    requires ranked { AreRanked shaped.now (so_far tables.now ranking.now) ranking.now.done.items }
+    ensures { IsFreeSource (so_far tables.now ranking.now) source result }
+{
+    match source {
+        Some(source) if !is_ranked(shaped, tables, ranking, source.node) => Some(source.node),
+        _ => None,
+    }
+}
+
+/// The nodes of the cycle at the end of the followed ones, along its arcs and from a place on.
+fn turned(alloc: Global, round: &Round, place: usize) -> Result<Vec<Node>, AllocError>
+    requires after { round.now.start ≤ place }
+    requires within { place < round_length round.now }
+    ensures { IfOk result (λ nodes. AreFrom round.now place nodes.items) }
+{
+    let count = round.nodes.len() - round.start;
+    let mut nodes = Vec::with_capacity(alloc, count)?;
+    for arcs in 0..count {
+        nodes.push(round.nodes[place_after(round, place, arcs)])?;
+    }
+    Ok(nodes)
+}
+
+/// The place that many arcs after a place of the cycle: an arc leads from each place to the one before it.
+fn place_after(round: &Round, place: usize, arcs: usize) -> usize
+    requires after { round.now.start ≤ place }
+    requires within { place < round_length round.now }
+    requires arcs { round.now.start + arcs < round_length round.now }
+    ensures place { IsPlaceAfter round.now place arcs result }
+    ensures within { result < round_length round.now }
+{
+    if arcs <= place - round.start {
+        place - arcs
+    } else {
+        place + (round.nodes.len() - round.start) - arcs
+    }
+}
+
+/// The place of the least node of the cycle.
+fn least_place(round: &Round) -> usize
+    requires { round.now.start < round_length round.now }
+    ensures { IsLeastPlace round.now result }
+{
+    let mut least = round.start;
+    for place in round.start..round.nodes.len() {
+        if is_before(round.nodes[place], round.nodes[least]) {
+            least = place;
+        }
+    }
+    least
+}
+
+/// Whether a node comes before another, by job and then by place.
+fn is_before(node: Node, other: Node) -> bool
+    ensures { MatchBool result (IsUpTo node other) (IsUpTo other node) }
+{
+    node.job < other.job || (node.job == other.job && node.place < other.place)
+}

@@ -1,0 +1,191 @@
+use super::*;
+use shop_base::{JobNo, MachineNo, Moment, Node, Plan, Shaped, Shop, Step, shape};
+use std::alloc::{AllocError, Global};
+use std::test::Fail;
+
+fn routes(alloc: Global, rows: &[&[(MachineNo, Moment)]]) -> Result<Vec<Vec<Step>>, AllocError> {
+    let mut routes = Vec::new(alloc);
+    for row in rows {
+        let mut route = Vec::new(alloc);
+        for &(machine, nominal) in *row {
+            route.push(Step { machine, nominal })?;
+        }
+        routes.push(route)?;
+    }
+    Ok(routes)
+}
+
+fn planned(alloc: Global, shop: Shop, plan: Plan) -> Result<Shaped, Fail> {
+    let _ = alloc;
+    match shape(shop, plan) {
+        Ok(shaped) => Ok(shaped),
+        Err(refused) => Err(refused.fault.into()),
+    }
+}
+
+/// Two jobs on two machines, crossing: job 0 on machine 0 and then 1, job 1 the other way round.
+fn two_jobs(alloc: Global, order: &[&[JobNo]], clean: Option<&[Moment]>) -> Result<Shaped, Fail> {
+    let shop = Shop::new(2, routes(alloc, &[&[(0, 3), (1, 2)], &[(1, 4), (0, 1)]])?)?;
+    let mut orders = Vec::new(alloc);
+    for row in order {
+        orders.push(row.to_vec(alloc)?)?;
+    }
+    let clean = match clean {
+        Some(times) => Some(times.to_vec(alloc)?),
+        None => None,
+    };
+    let plan = Plan {
+        release: [0, 0].to_vec(alloc)?,
+        budget: [5, 10].to_vec(alloc)?,
+        order: orders,
+        clean,
+    };
+    planned(alloc, shop, plan)
+}
+
+fn ordered(alloc: Global, shaped: &Shaped) -> Result<Option<Times>, Fail> {
+    match solve(alloc, shaped)? {
+        Solved::Ordered(times) => Ok(Some(times)),
+        Solved::Cyclic(_) => Ok(None),
+    }
+}
+
+fn cycle(alloc: Global, shaped: &Shaped) -> Result<Option<Vec<Node>>, Fail> {
+    match solve(alloc, shaped)? {
+        Solved::Ordered(_) => Ok(None),
+        Solved::Cyclic(nodes) => Ok(Some(nodes)),
+    }
+}
+
+const NODES: [Node; 6] = [
+    Node { job: 0, place: 0 },
+    Node { job: 0, place: 1 },
+    Node { job: 0, place: 2 },
+    Node { job: 1, place: 0 },
+    Node { job: 1, place: 1 },
+    Node { job: 1, place: 2 },
+];
+
+#[test]
+fn tells_the_times_of_two_jobs_in_series(rt: HostRuntime) -> Result<(), Fail> {
+    let shaped = two_jobs(rt.alloc(), &[&[0, 1], &[0, 1]], None)?;
+    let times = ordered(rt.alloc(), &shaped)?.ok_or("a cycle")?;
+    let earliest: [Moment; 6] = [0, 3, 5, 5, 9, 10];
+    for (i, moment) in earliest.iter().enumerate() {
+        assert_eq!(rt; times.earliest(NODES[i]), Some(*moment));
+        assert!(rt; times.rank(NODES[i]).is_some());
+    }
+    let chain = times.chain(rt.alloc(), NODES[5])?.ok_or("no chain")?;
+    assert_eq!(rt; chain.as_slice(), NODES.as_slice());
+    for node in [Node { job: 0, place: 3 }, Node { job: 2, place: 0 }] {
+        assert_eq!(rt; times.rank(node), None);
+        assert_eq!(rt; times.earliest(node), None);
+        assert!(rt; times.chain(rt.alloc(), node)?.is_none());
+    }
+    Ok(())
+}
+
+#[test]
+fn ranks_rise_along_the_arcs(rt: HostRuntime) -> Result<(), Fail> {
+    let shaped = two_jobs(rt.alloc(), &[&[0, 1], &[0, 1]], None)?;
+    let times = ordered(rt.alloc(), &shaped)?.ok_or("a cycle")?;
+    let arcs = [(0, 1), (1, 2), (3, 4), (4, 5), (1, 4), (2, 3)];
+    for (from, to) in arcs {
+        assert!(rt; times.rank(NODES[from]) < times.rank(NODES[to]));
+    }
+    Ok(())
+}
+
+#[test]
+fn finds_the_cycle_of_crossed_orders(rt: HostRuntime) -> Result<(), Fail> {
+    let shaped = two_jobs(rt.alloc(), &[&[0, 1], &[1, 0]], None)?;
+    let nodes = cycle(rt.alloc(), &shaped)?.ok_or("no cycle")?;
+    assert_eq!(rt; nodes.as_slice(), [NODES[1], NODES[4]].as_slice());
+    Ok(())
+}
+
+#[test]
+fn finds_the_cycle_of_a_ring(rt: HostRuntime) -> Result<(), Fail> {
+    let shop = Shop::new(
+        3,
+        routes(
+            rt.alloc(),
+            &[&[(0, 1), (1, 1)], &[(1, 1), (2, 1)], &[(2, 1), (0, 1)]],
+        )?,
+    )?;
+    let mut order = Vec::new(rt.alloc());
+    order.push([0, 2].to_vec(rt.alloc())?)?;
+    order.push([1, 0].to_vec(rt.alloc())?)?;
+    order.push([2, 1].to_vec(rt.alloc())?)?;
+    let plan = Plan {
+        release: [0, 0, 0].to_vec(rt.alloc())?,
+        budget: [100, 100, 100].to_vec(rt.alloc())?,
+        order,
+        clean: None,
+    };
+    let shaped = planned(rt.alloc(), shop, plan)?;
+    let nodes = cycle(rt.alloc(), &shaped)?.ok_or("no cycle")?;
+    let ring = [
+        Node { job: 0, place: 1 },
+        Node { job: 2, place: 1 },
+        Node { job: 1, place: 1 },
+    ];
+    assert_eq!(rt; nodes.as_slice(), ring.as_slice());
+    Ok(())
+}
+
+#[test]
+fn cleaning_delays_the_second_job(rt: HostRuntime) -> Result<(), Fail> {
+    let shaped = two_jobs(rt.alloc(), &[&[0, 1], &[0, 1]], Some(&[0, 2]))?;
+    let times = ordered(rt.alloc(), &shaped)?.ok_or("a cycle")?;
+    assert_eq!(rt; times.earliest(NODES[2]), Some(5));
+    assert_eq!(rt; times.earliest(NODES[5]), Some(12));
+    Ok(())
+}
+
+/// As many jobs and machines as there can be, each job on each machine, in the same order.
+fn crowd(alloc: Global) -> Result<Shaped, Fail> {
+    let mut routes = Vec::new(alloc);
+    let mut order = Vec::new(alloc);
+    let mut release = Vec::new(alloc);
+    for _ in 0..200 {
+        let mut route = Vec::new(alloc);
+        for machine in 0..100 {
+            route.push(Step {
+                machine,
+                nominal: 1,
+            })?;
+        }
+        routes.push(route)?;
+        release.push(0)?;
+    }
+    for _ in 0..100 {
+        let mut row = Vec::new(alloc);
+        for job in 0..200 {
+            row.push(job)?;
+        }
+        order.push(row)?;
+    }
+    let budget = release.as_slice().to_vec(alloc)?;
+    let plan = Plan {
+        release,
+        budget,
+        order,
+        clean: None,
+    };
+    planned(alloc, Shop::new(100, routes)?, plan)
+}
+
+#[test]
+fn solves_a_plan_at_the_limits(rt: HostRuntime) -> Result<(), Fail> {
+    let shaped = crowd(rt.alloc())?;
+    let times = ordered(rt.alloc(), &shaped)?.ok_or("a cycle")?;
+    let last = Node {
+        job: 199,
+        place: 100,
+    };
+    assert_eq!(rt; times.earliest(last), Some(299));
+    let chain = times.chain(rt.alloc(), last)?.ok_or("no chain")?;
+    assert!(rt; chain.len() > 100);
+    Ok(())
+}

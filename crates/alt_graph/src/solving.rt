@@ -1,0 +1,37 @@
+ghost use Rattle.std.specs.Prelude.{◌↔◌, IfOk};
+ghost use Rattle.alt_graph.specs.Solved.{OnOrdered, OnCyclic, IsCyclic, HasCycle};
+
+use crate::ranking::{first_unranked, rank_all};
+use crate::rounds::cycle_from;
+use crate::tables::tables_of;
+use crate::times::Times;
+use shop_base::{Node, Shaped};
+use std::alloc::{AllocError, Global};
+
+/// What the graph of a planned shop is like.
+#[derive(Debug, Drop)]
+pub enum Solved {
+    /// It has no cycle.
+    Ordered(Times),
+    /// It has this simple cycle: an arc leads from each node to the next, and from the last to the first,
+    /// which is the least by job and then by place.
+    Cyclic(Vec<Node>),
+}
+
+/// Ranks the nodes of the graph and finds the greatest lengths of the paths to them, or finds a cycle, in
+/// time and memory linear in the nodes and arcs and in the jobs times the machines.
+pub fn solve(alloc: Global, shaped: &Shaped) -> Result<Solved, AllocError>
+    ensures ordered { IfOk result (OnOrdered shaped.now) }
+    ensures cyclic { IfOk result (OnCyclic shaped.now) }
+    ensures exact { IfOk result (λ solved. IsCyclic solved ↔ HasCycle shaped.now) }
+{
+    let tables = tables_of(alloc, shaped)?;
+    let ranking = rank_all(alloc, shaped, &tables)?;
+    match first_unranked(shaped, &tables, &ranking) {
+        Some(node) => {
+            let nodes = cycle_from(alloc, shaped, &tables, &ranking, node)?;
+            Ok(Solved::Cyclic(nodes))
+        }
+        None => Ok(Solved::Ordered(Times::of(tables.firsts, ranking.rows))),
+    }
+}

@@ -1,0 +1,126 @@
+//! The arcs into a node and out of it.
+
+ghost use Rattle.std.specs.Prelude.{◌<◌, ◌≤◌, MatchOption, length};
+ghost use Rattle.shop_base.specs.Plan.{machines, order, steps, Visits, Stands, IsWellShaped};
+ghost use Rattle.shop_base.specs.Graph.{IsNode};
+ghost use Rattle.alt_graph.specs.Tables.{AreTables};
+ghost use Rattle.alt_graph.specs.Sources.{IsJobArc, IsBlockingArc, IsSource, IsTarget};
+
+use crate::readers::{clean_of, order_of, route_of};
+use crate::tables::{Tables, cell};
+use shop_base::{MachineNo, Moment, Node, Shaped};
+
+/// The node from which an arc comes, and the arc's length.
+#[derive(Clone, Copy)]
+pub(crate) struct Source {
+    pub node: Node,
+    pub length: Moment,
+}
+
+/// The job arc into the node, if there is one.
+pub(crate) fn job_source(shaped: &Shaped, node: Node) -> Option<Source>
+    requires { IsNode shaped.now node }
+    ensures { IsSource (IsJobArc shaped.now) node result }
+{
+    if node.place == 0 {
+        return None;
+    }
+    let place = node.place - 1;
+    let length = route_of(shaped, node.job)[place as usize].nominal;
+    let node = Node {
+        job: node.job,
+        place,
+    };
+    Some(Source { node, length })
+}
+
+/// The blocking arc into the node, if there is one.
+pub(crate) fn blocking_source(shaped: &Shaped, tables: &Tables, node: Node) -> Option<Source>
+    requires node { IsNode shaped.now node }
+    requires tables { AreTables shaped.now tables.now }
+    ensures { IsSource (IsBlockingArc shaped.now) node result }
+{
+    let machine = machine_at(shaped, node)?;
+    let place = place_on(shaped, tables, machine, node);
+    if place == 0 {
+        return None;
+    }
+    let entry = entry_at(shaped, tables, machine, place - 1);
+    let length = clean_of(shaped, machine);
+    let node = Node {
+        job: entry.job,
+        place: entry.place + 1,
+    };
+    Some(Source { node, length })
+}
+
+/// The node to which the job arc out of the node leads, if there is one.
+pub(crate) fn job_target(shaped: &Shaped, node: Node) -> Option<Node>
+    requires { IsNode shaped.now node }
+    ensures { IsTarget (IsJobArc shaped.now) node result }
+{
+    if node.place as usize == route_of(shaped, node.job).len() {
+        return None;
+    }
+    Some(Node {
+        job: node.job,
+        place: node.place + 1,
+    })
+}
+
+/// The node to which the blocking arc out of the node leads, if there is one.
+pub(crate) fn blocking_target(shaped: &Shaped, tables: &Tables, node: Node) -> Option<Node>
+    requires node { IsNode shaped.now node }
+    requires tables { AreTables shaped.now tables.now }
+    ensures { IsTarget (IsBlockingArc shaped.now) node result }
+{
+    if node.place == 0 {
+        return None;
+    }
+    let entry = Node {
+        job: node.job,
+        place: node.place - 1,
+    };
+    let machine = machine_at(shaped, entry)?;
+    let place = place_on(shaped, tables, machine, entry) + 1;
+    if place == order_of(shaped, machine).len() {
+        return None;
+    }
+    Some(entry_at(shaped, tables, machine, place))
+}
+
+/// The place of the node's job in the order of the machine that it enters.
+fn place_on(shaped: &Shaped, tables: &Tables, machine: MachineNo, node: Node) -> usize
+    requires visits { Visits shaped.now node.job node.place machine }
+    requires tables { AreTables shaped.now tables.now }
+    ensures { Stands shaped.now machine result node.job node.place }
+{
+    tables.places[cell(machine, node.job)] as usize
+}
+
+/// The job at a place of the machine's order, with its step there.
+fn entry_at(shaped: &Shaped, tables: &Tables, machine: MachineNo, place: usize) -> Node
+    requires machine { machine < machines shaped.now }
+    requires place { place < length (order shaped.now machine) }
+    requires tables { AreTables shaped.now tables.now }
+    ensures { Stands shaped.now machine place result.job result.place }
+{
+    let job = order_of(shaped, machine)[place];
+    let place = tables.steps[cell(machine, job)];
+    Node { job, place }
+}
+
+/// The machine that the node enters, if it isn't a leaving.
+fn machine_at(shaped: &Shaped, node: Node) -> Option<MachineNo>
+    requires { IsNode shaped.now node }
+    ensures machine { MatchOption result (steps shaped.now node.job ≤ node.place) (Visits shaped.now node.job node.place) }
+    ensures well_shaped { IsWellShaped shaped.now }
+{
+    let route = route_of(shaped, node.job);
+    let place = node.place as usize;
+    if place < route.len() {
+        Some(route[place].machine)
+    } else {
+        None
+    }
+}

@@ -1,0 +1,94 @@
+//! Where the jobs stand on the machines' routes and orders, to be looked up.
+
+ghost use Rattle.std.specs.Prelude.{◌≡◌, ℕ, ◌+◌, ◌*◌, ◌<◌, ◌≤◌, ◌≢◌, IfOk, OnOk, length, slice_index, slice_index_or, []};
+ghost use Rattle.shop_base.specs.Plan.{jobs, machines, route, order, job_at, Visits, IsWellShaped};
+ghost use Rattle.alt_graph.specs.Tables.{AreTables, AreStepsOf, ArePlacesOf, HasCells, cell_of};
+
+use crate::numbers::first_numbers;
+use crate::readers::{job_count, machine_count, order_of, route_of};
+use shop_base::limits::MAX_JOBS;
+use shop_base::{JobNo, MachineNo, Shaped, Step};
+use std::alloc::{AllocError, Global};
+
+/// The numbers of the jobs' first nodes; and for each machine and job the job's step on the machine and
+/// its place in the machine's order, if it visits that machine.
+#[derive(Drop)]
+pub(crate) struct Tables {
+    pub firsts: Vec<u32>,
+    pub steps: Vec<u32>,
+    pub places: Vec<u32>,
+}
+
+pub(crate) fn tables_of(alloc: Global, shaped: &Shaped) -> Result<Tables, AllocError>
+    ensures { IfOk result (AreTables shaped.now) }
+{
+    let _jobs = job_count(shaped);
+    let firsts = first_numbers(alloc, shaped)?;
+    let steps = steps_on_machines(alloc, shaped)?;
+    let places = places_in_orders(alloc, shaped)?;
+    Ok(Tables {
+        firsts,
+        steps,
+        places,
+    })
+}
+
+/// Where the machine and the job stand in a table.
+pub(crate) fn cell(machine: MachineNo, job: JobNo) -> usize
+    ensures { result ≡ cell_of machine job }
+{
+    machine as usize * MAX_JOBS + job as usize
+}
+
+/// A table without entries.
+fn no_cells(alloc: Global, shaped: &Shaped) -> Result<Vec<u32>, AllocError>
+    ensures { IfOk result (λ table. HasCells shaped.now table.items) }
+{
+    vec![in alloc; 0; machine_count(shaped) as usize * MAX_JOBS]
+}
+
+fn steps_on_machines(alloc: Global, shaped: &Shaped) -> Result<Vec<u32>, AllocError>
+    ensures cells { IfOk result (λ table. HasCells shaped.now table.items) }
+    ensures steps { IfOk result (λ table. (j : ℕ) → j < jobs shaped.now → AreStepsOf shaped.now table.items j) }
+{
+    let mut steps = no_cells(alloc, shaped)?;
+    for job in 0..job_count(shaped) {
+        note_steps(shaped, job, &mut steps);
+    }
+    Ok(steps)
+}
+
+fn note_steps(shaped: &Shaped, job: JobNo, steps: &mut [u32])
+    requires job { job < jobs shaped.now }
+    requires cells { HasCells shaped.now steps.old }
+    ensures noted { AreStepsOf shaped.now steps.new job }
+    ensures others { (m j : ℕ) → j < jobs shaped.now → j ≢ job → slice_index steps.new (cell_of m j) ≡ slice_index steps.old (cell_of m j) }
+{
+    let route = route_of(shaped, job);
+    for step in 0..route.len() {
+        steps[cell(route[step].machine, job)] = step as u32;
+    }
+}
+
+fn places_in_orders(alloc: Global, shaped: &Shaped) -> Result<Vec<u32>, AllocError>
+    ensures cells { IfOk result (λ table. HasCells shaped.now table.items) }
+    ensures places { IfOk result (λ table. (m : ℕ) → m < machines shaped.now → ArePlacesOf shaped.now table.items m) }
+{
+    let mut places = no_cells(alloc, shaped)?;
+    for machine in 0..machine_count(shaped) {
+        note_places(shaped, machine, &mut places);
+    }
+    Ok(places)
+}
+
+fn note_places(shaped: &Shaped, machine: MachineNo, places: &mut [u32])
+    requires machine { machine < machines shaped.now }
+    requires cells { HasCells shaped.now places.old }
+    ensures noted { ArePlacesOf shaped.now places.new machine }
+    ensures others { (m j : ℕ) → j < jobs shaped.now → m ≢ machine → slice_index places.new (cell_of m j) ≡ slice_index places.old (cell_of m j) }
+{
+    let order = order_of(shaped, machine);
+    for place in 0..order.len() {
+        places[cell(machine, order[place])] = place as u32;
+    }
+}

@@ -1,0 +1,156 @@
+ghost use Rattle.std.specs.Prelude.{◌≡◌, IfOk, MatchOption, IsSome, IfSome, reverse};
+ghost use Rattle.shop_base.specs.Plan.{PlannedShop};
+ghost use Rattle.shop_base.specs.Graph.{Path};
+ghost use Rattle.alt_graph.specs.Times.{NodeTimes, IsTimed, AreLinked, LeadsBack, AreTimes, rank_of, earliest_of, before_of, time_at};
+
+use crate::numbers::number;
+use shop_base::{Moment, Node};
+use std::alloc::{AllocError, Global};
+use std::marker::Model;
+
+/// The rank of a node that has none yet.
+pub(crate) const UNRANKED: u32 = u32::MAX;
+
+/// What is known of a node: its rank, the greatest length of a path to it, and the node before it on such a
+/// path, if it isn't the first.
+#[derive(Clone, Copy, Debug, Drop)]
+pub struct NodeTime {
+    pub rank: u32,
+    pub earliest: Moment,
+    pub before: Option<Node>,
+}
+
+/// The ranks of the nodes of a planned shop without a cycle, and the greatest lengths of the paths to them.
+/// Made by [`crate::solve`] alone.
+#[derive(Debug, Drop)]
+pub struct Times {
+    firsts: Vec<u32>,
+    rows: Vec<NodeTime>,
+}
+
+impl Model for Times {
+    ghost use Rattle.alt_graph.specs.Times.{NodeTimes, AreLinked};
+
+    ghost Value = { NodeTimes };
+
+    ghost view = { λ t. record { firsts = t.firsts.items; rows = t.rows.items } };
+
+    ghost invariant = { λ t. AreLinked (record { firsts = t.firsts.items; rows = t.rows.items }) };
+}
+
+impl Times {
+    pub(crate) fn of(firsts: Vec<u32>, rows: Vec<NodeTime>) -> Times
+        requires { AreLinked (record { firsts = firsts.items; rows = rows.items }) }
+        ensures { result ≡ record { firsts = firsts.items; rows = rows.items } }
+    {
+        Times { firsts, rows }
+    }
+
+    /// The node's rank, which rises strictly along every arc; none for a node that isn't of the shop.
+    pub fn rank(&self, node: Node) -> Option<u32>
+        ensures { MatchOption result (IsTimed self.now node → ⊥) (λ rank. IsTimed self.now node × (rank ≡ rank_of self.now node)) }
+    {
+        match time_in(&self.firsts, &self.rows, node) {
+            Some(time) => Some(time.rank),
+            None => None,
+        }
+    }
+
+    /// The greatest length of a path to the node, in time units: the moment at which it is reached at the
+    /// earliest. None for a node that isn't of the shop.
+    pub fn earliest(&self, node: Node) -> Option<Moment>
+        ensures { MatchOption result (IsTimed self.now node → ⊥) (λ earliest. IsTimed self.now node × (earliest ≡ earliest_of self.now node)) }
+    {
+        match time_in(&self.firsts, &self.rows, node) {
+            Some(time) => Some(time.earliest),
+            None => None,
+        }
+    }
+
+    /// A path of the greatest length to the node, from a job's first place on; none for a node that isn't
+    /// of the shop, which takes no memory.
+    pub fn chain(&self, alloc: Global, node: Node) -> Result<Option<Vec<Node>>, AllocError>
+        ensures outside { (IsTimed self.now node → ⊥) → result ≡ Ok None }
+        ensures inside { IsTimed self.now node → IfOk result IsSome }
+        ensures path { IfOk result (λ found. IfSome found (λ nodes. (p : PlannedShop) → AreTimes p self.now → Path p nodes.items node (earliest_of self.now node))) }
+    {
+        chain_in(alloc, &self.firsts, &self.rows, node)
+    }
+}
+
+/// What is known of the node, if it is known.
+fn time_in(firsts: &[u32], rows: &[NodeTime], node: Node) -> Option<NodeTime>
+    requires { AreLinked (record { firsts = firsts.now; rows = rows.now }) }
+    ensures { let t : NodeTimes = record { firsts = firsts.now; rows = rows.now } in
+        MatchOption result (IsTimed t node → ⊥) (λ time. IsTimed t node × (time ≡ time_at t node)) }
+{
+    let job = node.job as usize;
+    if job + 1 >= firsts.len() {
+        return None;
+    }
+    let at = number(firsts, node);
+    if at < firsts[job + 1] as usize {
+        Some(rows[at])
+    } else {
+        None
+    }
+}
+
+/// The node before a known one on a longest path to it, if there is one.
+fn before_in(firsts: &[u32], rows: &[NodeTime], node: Node) -> Option<Node>
+    requires linked { AreLinked (record { firsts = firsts.now; rows = rows.now }) }
+    requires timed { IsTimed (record { firsts = firsts.now; rows = rows.now }) node }
+    ensures before { result ≡ before_of (record { firsts = firsts.now; rows = rows.now }) node }
+    ensures back { LeadsBack (record { firsts = firsts.now; rows = rows.now }) node result }
+{
+    match time_in(firsts, rows, node) {
+        Some(time) => time.before,
+        None => unreachable!(),
+    }
+}
+
+/// A longest path to the node, if it is known.
+fn chain_in(
+    alloc: Global,
+    firsts: &[u32],
+    rows: &[NodeTime],
+    node: Node,
+) -> Result<Option<Vec<Node>>, AllocError>
+    requires { AreLinked (record { firsts = firsts.now; rows = rows.now }) }
+    ensures outside { (IsTimed (record { firsts = firsts.now; rows = rows.now }) node → ⊥) → result ≡ Ok None }
+    ensures inside { IsTimed (record { firsts = firsts.now; rows = rows.now }) node → IfOk result IsSome }
+    ensures path { let t : NodeTimes = record { firsts = firsts.now; rows = rows.now } in
+        IfOk result (λ found. IfSome found (λ nodes. (p : PlannedShop) → AreTimes p t → Path p nodes.items node (earliest_of t node))) }
+{
+    match time_in(firsts, rows, node) {
+        Some(time) => {
+            let mut nodes = walk_back(alloc, firsts, rows, node, time.rank)?;
+            nodes.reverse();
+            Ok(Some(nodes))
+        }
+        None => Ok(None),
+    }
+}
+
+/// The nodes of a longest path to the node, backwards; it has no more than its rank and one.
+fn walk_back(
+    alloc: Global,
+    firsts: &[u32],
+    rows: &[NodeTime],
+    node: Node,
+    rank: u32,
+) -> Result<Vec<Node>, AllocError>
+    requires linked { AreLinked (record { firsts = firsts.now; rows = rows.now }) }
+    requires timed { IsTimed (record { firsts = firsts.now; rows = rows.now }) node }
+    ensures { let t : NodeTimes = record { firsts = firsts.now; rows = rows.now } in
+        IfOk result (λ nodes. (p : PlannedShop) → AreTimes p t → Path p (reverse nodes.items) node (earliest_of t node)) }
+{
+    let mut nodes = Vec::with_capacity(alloc, rank as usize + 1)?;
+    let mut last = node;
+    'back: while let Some(before) = before_in(firsts, rows, last) {
+        nodes.push(last)?;
+        last = before;
+    }
+    nodes.push(last)?;
+    Ok(nodes)
+}
