@@ -5,7 +5,7 @@ use Rattle.std.proofs.lemmas.List.{get_or_append_left, get_or_push, length_push}
 use Rattle.shop_base.specs.declared.limits.TheConstants.{MAX_MACHINES}
 use Rattle.shop_base.specs.Plan.{PlannedShop, jobs, machines, steps, machine_of, order, job_at, Visits, IsWellShaped}
 use Rattle.shop_base.proofs.Visits.{visits_once, visits_machine}
-use Rattle.alt_graph.specs.Tables.{AreFirsts, ArePlacesOf, cell_of, HasCells}
+use Rattle.alt_graph.specs.Tables.{AreFirsts, ArePlacesOf, slot_of, HasSlots}
 use Rattle.alt_graph.proofs.Limits.{steps_few, place_job}
 
 -- ---- the numbers of the first nodes
@@ -57,69 +57,69 @@ module _ (p : PlannedShop) (firsts : List ℕ) (n next : ℕ) (below : AreFirsts
 
 -- ---- the tables of steps and places
 
--- a cell of the table
-pub cell_inside : (p : PlannedShop) (table : List ℕ) (m j : ℕ) → IsWellShaped p → HasCells p table → m < machines p → j < jobs p → cell_of m j < length table
-cell_inside p table m j shaped cells machine job = omega (arith, cells, shaped.shop.counts.few_jobs)
+-- a slot of the table
+pub slot_inside : (p : PlannedShop) (table : List ℕ) (m j : ℕ) → IsWellShaped p → HasSlots p table → m < machines p → j < jobs p → slot_of m j < length table
+slot_inside p table m j shaped slots machine job = omega (arith, slots, shaped.shop.counts.few_jobs)
 
--- the cells of different jobs, or machines, are different
-pub cells_apart : (p : PlannedShop) (m j n i : ℕ) → IsWellShaped p → j < jobs p → i < jobs p → (m ≡ n → j ≡ i → ⊥) → cell_of m j ≢ cell_of n i
-cells_apart p m j n i shaped one other apart same =
+-- the slots of different jobs, or machines, are different
+pub slots_apart : (p : PlannedShop) (m j n i : ℕ) → IsWellShaped p → j < jobs p → i < jobs p → (m ≡ n → j ≡ i → ⊥) → slot_of m j ≢ slot_of n i
+slots_apart p m j n i shaped one other apart same =
     let few = shaped.shop.counts.few_jobs in
     let machines_same : m ≡ n = omega arith in
     let jobs_same : j ≡ i = omega arith in
     apart machines_same jobs_same
 
-module _ (p : PlannedShop) (shaped : IsWellShaped p) (table : List ℕ) (cells : HasCells p table) where
+module _ (p : PlannedShop) (shaped : IsWellShaped p) (table : List ℕ) (slots : HasSlots p table) where
   -- the steps of job j are told, up to step n
   abbrev pub AreStepsBelow : ℕ → ℕ → Type 0
-  AreStepsBelow j n = (k m : ℕ) → k < n → Visits p j k m → get_or table (cell_of m j) 0 ≡ k
+  AreStepsBelow j n = (k m : ℕ) → k < n → Visits p j k m → get_or table (slot_of m j) 0 ≡ k
 
   -- one more step of job j
   pub steps_more : (j n m : ℕ) → j < jobs p → Visits p j n m → AreStepsBelow j n
-      → (k l : ℕ) → k < n + 1 → Visits p j k l → get_or (set table (cell_of m j) n) (cell_of l j) 0 ≡ k
+      → (k l : ℕ) → k < n + 1 → Visits p j k l → get_or (set table (slot_of m j) n) (slot_of l j) 0 ≡ k
   steps_more j n m job here below k l lt visits = elim (cases_order k n) [
     | inl same ↦ (let is : l ≡ m = sym visits.here ∙ ap (machine_of p j) same ∙ here.here in
-        rw (is, same) (get_or-set_same table (cell_of m j) n 0 (cell_inside p table m j shaped cells (visits_machine p j n m shaped here) job)))
+        rw (is, same) (get_or-set_same table (slot_of m j) n 0 (slot_inside p table m j shaped slots (visits_machine p j n m shaped here) job)))
     | inr other ↦ (
         let lower : k < n = elim other [ inl less ↦ omega arith | inr more ↦ omega arith ] in
-        let apart : cell_of l j ≢ cell_of m j = cells_apart p l j m j shaped job job
+        let apart : slot_of l j ≢ slot_of m j = slots_apart p l j m j shaped job job
         (λ is _. let visits' : Visits p j k m = rw is at visits in absurd (omega (arith, visits_once p j k n m shaped visits' here))) in
-        rw (get_or-set_other table (cell_of m j) (cell_of l j) n 0 apart) (below k l lower visits))
+        rw (get_or-set_other table (slot_of m j) (slot_of l j) n 0 apart) (below k l lower visits))
   ]
 
-  -- a step of job j is told in no cell of another job
-  pub steps_others : (j n m l i : ℕ) → j < jobs p → i < jobs p → i ≢ j → get_or (set table (cell_of m j) n) (cell_of l i) 0 ≡ get_or table (cell_of l i) 0
-  steps_others j n m l i job other apart = get_or-set_other table (cell_of m j) (cell_of l i) n 0 (cells_apart p l i m j shaped other job (λ _ same. apart same))
+  -- a step of job j is told in no slot of another job
+  pub steps_others : (j n m l i : ℕ) → j < jobs p → i < jobs p → i ≢ j → get_or (set table (slot_of m j) n) (slot_of l i) 0 ≡ get_or table (slot_of l i) 0
+  steps_others j n m l i job other apart = get_or-set_other table (slot_of m j) (slot_of l i) n 0 (slots_apart p l i m j shaped other job (λ _ same. apart same))
 
   -- the places of machine m are told, up to place n
   abbrev pub ArePlacesBelow : ℕ → ℕ → Type 0
-  ArePlacesBelow m n = (a : ℕ) → a < n → get_or table (cell_of m (job_at p m a)) 0 ≡ a
+  ArePlacesBelow m n = (a : ℕ) → a < n → get_or table (slot_of m (job_at p m a)) 0 ≡ a
 
   -- one more place of machine m
   pub places_more : (m n : ℕ) → m < machines p → n < length (order p m) → ArePlacesBelow m n
-      → (a : ℕ) → a < n + 1 → get_or (set table (cell_of m (job_at p m n)) n) (cell_of m (job_at p m a)) 0 ≡ a
+      → (a : ℕ) → a < n + 1 → get_or (set table (slot_of m (job_at p m n)) n) (slot_of m (job_at p m a)) 0 ≡ a
   places_more m n machine within below a lt = elim (cases_order a n) [
-    | inl same ↦ rw same (get_or-set_same table (cell_of m (job_at p m n)) n 0 (cell_inside p table m (job_at p m n) shaped cells machine (place_job p shaped m n machine within)))
+    | inl same ↦ rw same (get_or-set_same table (slot_of m (job_at p m n)) n 0 (slot_inside p table m (job_at p m n) shaped slots machine (place_job p shaped m n machine within)))
     | inr other ↦ (
         let lower : a < n = elim other [ inl less ↦ omega arith | inr more ↦ omega arith ] in
         let inside : a < length (order p m) = omega arith in
-        let apart : cell_of m (job_at p m a) ≢ cell_of m (job_at p m n) = cells_apart p m (job_at p m a) m (job_at p m n) shaped
+        let apart : slot_of m (job_at p m a) ≢ slot_of m (job_at p m n) = slots_apart p m (job_at p m a) m (job_at p m n) shaped
         (place_job p shaped m a machine inside) (place_job p shaped m n machine within)
         (λ _ same. absurd (omega (arith, (shaped.orders m machine).once a n inside within same))) in
-        rw (get_or-set_other table (cell_of m (job_at p m n)) (cell_of m (job_at p m a)) n 0 apart) (below a lower))
+        rw (get_or-set_other table (slot_of m (job_at p m n)) (slot_of m (job_at p m a)) n 0 apart) (below a lower))
   ]
 
-  -- a place of machine m is told in no cell of another machine
+  -- a place of machine m is told in no slot of another machine
   pub places_others : (m n l i : ℕ) → m < machines p → n < length (order p m) → i < jobs p → l ≢ m
-      → get_or (set table (cell_of m (job_at p m n)) n) (cell_of l i) 0 ≡ get_or table (cell_of l i) 0
+      → get_or (set table (slot_of m (job_at p m n)) n) (slot_of l i) 0 ≡ get_or table (slot_of l i) 0
   places_others m n l i machine within other apart =
-      get_or-set_other table (cell_of m (job_at p m n)) (cell_of l i) n 0
-      (cells_apart p l i m (job_at p m n) shaped other (place_job p shaped m n machine within) (λ same _. apart same))
+      get_or-set_other table (slot_of m (job_at p m n)) (slot_of l i) n 0
+      (slots_apart p l i m (job_at p m n) shaped other (place_job p shaped m n machine within) (λ same _. apart same))
 
 -- the places of one more machine
 pub machines_more : (p : PlannedShop) (old new : List ℕ) (n : ℕ) → IsWellShaped p → n < machines p
     → ((m : ℕ) → m < n → ArePlacesOf p old m) → ArePlacesOf p new n
-    → ((m j : ℕ) → j < jobs p → m ≢ n → get_or new (cell_of m j) 0 ≡ get_or old (cell_of m j) 0)
+    → ((m j : ℕ) → j < jobs p → m ≢ n → get_or new (slot_of m j) 0 ≡ get_or old (slot_of m j) 0)
     → (m : ℕ) → m < n + 1 → ArePlacesOf p new m
 machines_more p old new n shaped machine below noted others m lt = elim (cases_order m n) [
   | inl same ↦ rw same noted

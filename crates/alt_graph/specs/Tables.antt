@@ -11,26 +11,26 @@ pub record AreFirsts (p : PlannedShop) (firsts : List ℕ) : Type 0 where
   pub few : slice_index firsts (jobs p) ≤ MAX_JOBS * (MAX_MACHINES + 1)
 
 -- where machine m and job j stand in a table
-abbrev pub cell_of : ℕ → ℕ → ℕ
-cell_of m j = m * MAX_JOBS + j
+abbrev pub slot_of : ℕ → ℕ → ℕ
+slot_of m j = m * MAX_JOBS + j
 
--- a table has a cell for each machine and job
-abbrev pub HasCells : PlannedShop → List ℕ → Type 0
-HasCells p table = length table ≡ machines p * MAX_JOBS
+-- a table has a slot for each machine and job
+abbrev pub HasSlots : PlannedShop → List ℕ → Type 0
+HasSlots p table = length table ≡ machines p * MAX_JOBS
 
 -- the table tells the step of job j on each machine that it visits
 abbrev pub AreStepsOf : PlannedShop → List ℕ → ℕ → Type 0
-AreStepsOf p table j = (k m : ℕ) → Visits p j k m → slice_index table (cell_of m j) ≡ k
+AreStepsOf p table j = (k m : ℕ) → Visits p j k m → slice_index table (slot_of m j) ≡ k
 
 -- the table tells the place of each job in the order of machine m
 abbrev pub ArePlacesOf : PlannedShop → List ℕ → ℕ → Type 0
-ArePlacesOf p table m = (a : ℕ) → a < length (order p m) → slice_index table (cell_of m (job_at p m a)) ≡ a
+ArePlacesOf p table m = (a : ℕ) → a < length (order p m) → slice_index table (slot_of m (job_at p m a)) ≡ a
 
 -- of a well-shaped plan: the numbers of the jobs' first nodes, the jobs' steps on the machines, and their places in the machines' orders
 pub record AreTables (p : PlannedShop) (tables : Tables) : Type 0 where
   pub shaped : IsWellShaped p
   pub firsts : AreFirsts p tables.firsts.items
-  pub step_cells : HasCells p tables.steps.items
+  pub step_slots : HasSlots p tables.steps.items
   pub steps : (j : ℕ) → j < jobs p → AreStepsOf p tables.steps.items j
-  pub place_cells : HasCells p tables.places.items
+  pub place_slots : HasSlots p tables.places.items
   pub places : (m : ℕ) → m < machines p → ArePlacesOf p tables.places.items m

@@ -1,4 +1,5 @@
 ghost use Rattle.std.specs.Prelude.{◌↔◌, IfOk};
+ghost use Rattle.shop_base.specs.Plan.{IsWellShaped};
 ghost use Rattle.alt_graph.specs.Solved.{OnOrdered, OnCyclic, IsCyclic, HasCycle};
 
 use crate::ranking::{first_unranked, rank_all};
@@ -19,11 +20,12 @@ pub enum Solved {
 }
 
 /// Ranks the nodes of the graph and finds the greatest lengths of the paths to them, or finds a cycle, in
-/// time and memory linear in the nodes and arcs and in the jobs times the machines.
+/// time and memory linear in the nodes, the arcs and the machines. An error is want of memory.
 pub fn solve(alloc: Global, shaped: &Shaped) -> Result<Solved, AllocError>
     ensures ordered { IfOk result (OnOrdered shaped.now) }
     ensures cyclic { IfOk result (OnCyclic shaped.now) }
     ensures exact { IfOk result (λ solved. IsCyclic solved ↔ HasCycle shaped.now) }
+    ensures well_shaped { IsWellShaped shaped.now }
 {
     let tables = tables_of(alloc, shaped)?;
     let ranking = rank_all(alloc, shaped, &tables)?;

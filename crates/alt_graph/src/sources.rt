@@ -7,7 +7,7 @@ ghost use Rattle.alt_graph.specs.Tables.{AreTables};
 ghost use Rattle.alt_graph.specs.Sources.{IsJobArc, IsBlockingArc, IsSource, IsTarget};
 
 use crate::readers::{clean_of, order_of, route_of};
-use crate::tables::{Tables, cell};
+use crate::tables::{Tables, slot};
 use shop_base::{MachineNo, Moment, Node, Shaped};
 
 /// The node from which an arc comes, and the arc's length.
@@ -95,7 +95,7 @@ fn place_on(shaped: &Shaped, tables: &Tables, machine: MachineNo, node: Node) ->
     requires tables { AreTables shaped.now tables.now }
     ensures { Stands shaped.now machine result node.job node.place }
 {
-    tables.places[cell(machine, node.job)] as usize
+    tables.places[slot(machine, node.job)] as usize
 }
 
 /// The job at a place of the machine's order, with its step there.
@@ -106,7 +106,7 @@ fn entry_at(shaped: &Shaped, tables: &Tables, machine: MachineNo, place: usize) 
     ensures { Stands shaped.now machine place result.job result.place }
 {
     let job = order_of(shaped, machine)[place];
-    let place = tables.steps[cell(machine, job)];
+    let place = tables.steps[slot(machine, job)];
     Node { job, place }
 }
 

@@ -2,7 +2,7 @@
 
 ghost use Rattle.std.specs.Prelude.{◌≡◌, ℕ, ◌+◌, ◌*◌, ◌<◌, ◌≤◌, ◌≢◌, IfOk, OnOk, length, slice_index, slice_index_or, []};
 ghost use Rattle.shop_base.specs.Plan.{jobs, machines, route, order, job_at, Visits, IsWellShaped};
-ghost use Rattle.alt_graph.specs.Tables.{AreTables, AreStepsOf, ArePlacesOf, HasCells, cell_of};
+ghost use Rattle.alt_graph.specs.Tables.{AreTables, AreStepsOf, ArePlacesOf, HasSlots, slot_of};
 
 use crate::numbers::first_numbers;
 use crate::readers::{job_count, machine_count, order_of, route_of};
@@ -20,7 +20,8 @@ pub(crate) struct Tables {
 }
 
 pub(crate) fn tables_of(alloc: Global, shaped: &Shaped) -> Result<Tables, AllocError>
-    ensures { IfOk result (AreTables shaped.now) }
+    ensures tables { IfOk result (AreTables shaped.now) }
+    ensures well_shaped { IsWellShaped shaped.now }
 {
     let _jobs = job_count(shaped);
     let firsts = first_numbers(alloc, shaped)?;
@@ -34,24 +35,24 @@ pub(crate) fn tables_of(alloc: Global, shaped: &Shaped) -> Result<Tables, AllocE
 }
 
 /// Where the machine and the job stand in a table.
-pub(crate) fn cell(machine: MachineNo, job: JobNo) -> usize
-    ensures { result ≡ cell_of machine job }
+pub(crate) fn slot(machine: MachineNo, job: JobNo) -> usize
+    ensures { result ≡ slot_of machine job }
 {
     machine as usize * MAX_JOBS + job as usize
 }
 
 /// A table without entries.
-fn no_cells(alloc: Global, shaped: &Shaped) -> Result<Vec<u32>, AllocError>
-    ensures { IfOk result (λ table. HasCells shaped.now table.items) }
+fn no_slots(alloc: Global, shaped: &Shaped) -> Result<Vec<u32>, AllocError>
+    ensures { IfOk result (λ table. HasSlots shaped.now table.items) }
 {
     vec![in alloc; 0; machine_count(shaped) as usize * MAX_JOBS]
 }
 
 fn steps_on_machines(alloc: Global, shaped: &Shaped) -> Result<Vec<u32>, AllocError>
-    ensures cells { IfOk result (λ table. HasCells shaped.now table.items) }
+    ensures slots { IfOk result (λ table. HasSlots shaped.now table.items) }
     ensures steps { IfOk result (λ table. (j : ℕ) → j < jobs shaped.now → AreStepsOf shaped.now table.items j) }
 {
-    let mut steps = no_cells(alloc, shaped)?;
+    let mut steps = no_slots(alloc, shaped)?;
     for job in 0..job_count(shaped) {
         note_steps(shaped, job, &mut steps);
     }
@@ -60,21 +61,21 @@ fn steps_on_machines(alloc: Global, shaped: &Shaped) -> Result<Vec<u32>, AllocEr
 
 fn note_steps(shaped: &Shaped, job: JobNo, steps: &mut [u32])
     requires job { job < jobs shaped.now }
-    requires cells { HasCells shaped.now steps.old }
+    requires slots { HasSlots shaped.now steps.old }
     ensures noted { AreStepsOf shaped.now steps.new job }
-    ensures others { (m j : ℕ) → j < jobs shaped.now → j ≢ job → slice_index steps.new (cell_of m j) ≡ slice_index steps.old (cell_of m j) }
+    ensures others { (m j : ℕ) → j < jobs shaped.now → j ≢ job → slice_index steps.new (slot_of m j) ≡ slice_index steps.old (slot_of m j) }
 {
     let route = route_of(shaped, job);
     for step in 0..route.len() {
-        steps[cell(route[step].machine, job)] = step as u32;
+        steps[slot(route[step].machine, job)] = step as u32;
     }
 }
 
 fn places_in_orders(alloc: Global, shaped: &Shaped) -> Result<Vec<u32>, AllocError>
-    ensures cells { IfOk result (λ table. HasCells shaped.now table.items) }
+    ensures slots { IfOk result (λ table. HasSlots shaped.now table.items) }
     ensures places { IfOk result (λ table. (m : ℕ) → m < machines shaped.now → ArePlacesOf shaped.now table.items m) }
 {
-    let mut places = no_cells(alloc, shaped)?;
+    let mut places = no_slots(alloc, shaped)?;
     for machine in 0..machine_count(shaped) {
         note_places(shaped, machine, &mut places);
     }
@@ -83,12 +84,12 @@ fn places_in_orders(alloc: Global, shaped: &Shaped) -> Result<Vec<u32>, AllocErr
 
 fn note_places(shaped: &Shaped, machine: MachineNo, places: &mut [u32])
     requires machine { machine < machines shaped.now }
-    requires cells { HasCells shaped.now places.old }
+    requires slots { HasSlots shaped.now places.old }
     ensures noted { ArePlacesOf shaped.now places.new machine }
-    ensures others { (m j : ℕ) → j < jobs shaped.now → m ≢ machine → slice_index places.new (cell_of m j) ≡ slice_index places.old (cell_of m j) }
+    ensures others { (m j : ℕ) → j < jobs shaped.now → m ≢ machine → slice_index places.new (slot_of m j) ≡ slice_index places.old (slot_of m j) }
 {
     let order = order_of(shaped, machine);
     for place in 0..order.len() {
-        places[cell(machine, order[place])] = place as u32;
+        places[slot(machine, order[place])] = place as u32;
     }
 }

@@ -1,10 +1,10 @@
 use Rattle.std.proofs.Common.{ℕ, ◌<◌}
-use Rattle.alt_graph.specs.Tables.{ArePlacesOf, HasCells}
+use Rattle.alt_graph.specs.Tables.{ArePlacesOf, HasSlots}
 use Rattle.alt_graph.proofs.tables.places_in_orders.Given as goal
 
 -- the places of the machines looked at are told
 abbrev pub invariant-loop-machine : goal.invariant-loop-machine
 invariant-loop-machine l = record {
-  cells : HasCells l.shaped l.places.items;
+  slots : HasSlots l.shaped l.places.items;
   places : (m : ℕ) → m < l.machine → ArePlacesOf l.shaped l.places.items m;
 }

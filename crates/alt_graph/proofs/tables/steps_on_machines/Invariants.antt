@@ -1,10 +1,10 @@
 use Rattle.std.proofs.Common.{ℕ, ◌<◌}
-use Rattle.alt_graph.specs.Tables.{AreStepsOf, HasCells}
+use Rattle.alt_graph.specs.Tables.{AreStepsOf, HasSlots}
 use Rattle.alt_graph.proofs.tables.steps_on_machines.Given as goal
 
 -- the steps of the jobs looked at are told
 abbrev pub invariant-loop-job : goal.invariant-loop-job
 invariant-loop-job l = record {
-  cells : HasCells l.shaped l.steps.items;
+  slots : HasSlots l.shaped l.steps.items;
   steps : (j : ℕ) → j < l.job → AreStepsOf l.shaped l.steps.items j;
 }

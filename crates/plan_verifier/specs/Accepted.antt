@@ -1,0 +1,53 @@
+use Rattle.std.specs.Prelude.{ℕ, ◌<◌, ◌≤◌, List, ◌≡◌}
+use Rattle.shop_base.specs.declared.node.Node.{Node}
+use Rattle.shop_base.specs.Plan.{PlannedShop, jobs, budget, IsWellShaped}
+use Rattle.shop_base.specs.Graph.{leaving, IsSimpleCycle, Path, MeetBudgets}
+use Rattle.alt_graph.specs.Times.{NodeTimes, rank_of, earliest_of, AreOrdered}
+
+-- no arcs lead in a circle
+abbrev pub HasNoCycle : PlannedShop → Type 0
+HasNoCycle p = (nodes : List Node) → IsSimpleCycle p nodes → ⊥
+
+-- no path to the leaving of job j is longer than its budget
+abbrev pub IsWithinBudget : PlannedShop → ℕ → Type 0
+IsWithinBudget p j = (nodes : List Node) (n : ℕ) → Path p nodes (leaving p j) n → n ≤ budget p j
+
+-- a plan to be accepted: its graph has no cycle, and no path to a job's leaving is longer than its budget
+pub record IsAcceptable (p : PlannedShop) : Type 0 where
+  pub acyclic : HasNoCycle p
+  pub budgets : (j : ℕ) → j < jobs p → IsWithinBudget p j
+
+-- the greatest length of a path to the node
+pub record IsGreatest (p : PlannedShop) (v : Node) (n : ℕ) : Type 0 where
+  pub reached : (nodes : List Node) × Path p nodes v n
+  pub longest : (nodes : List Node) (k : ℕ) → Path p nodes v k → k ≤ n
+
+-- an accepted plan, with a rank and a moment for each node
+pub record VerifiedPlan : Type 0 where
+  pub planned : PlannedShop
+  pub times : NodeTimes
+
+-- the rank of a node of an accepted plan
+abbrev pub rank_at : VerifiedPlan → Node → ℕ
+rank_at v = rank_of v.times
+
+-- the moment kept for a node of an accepted plan: the greatest length of a path to it
+abbrev pub kept_at : VerifiedPlan → Node → ℕ
+kept_at v = earliest_of v.times
+
+-- what holds of an accepted plan: ranks rise along every arc, the kept moments respect each release and the length of every arc and are each the length of a path, and each leaving is within its budget
+pub record IsVerified (v : VerifiedPlan) : Type 0 where
+  pub shaped : IsWellShaped v.planned
+  pub ordered : AreOrdered v.planned v.times
+  pub budgets : MeetBudgets v.planned (kept_at v)
+
+-- the latest of all jobs' earliest leavings
+pub record IsMakespan (v : VerifiedPlan) (n : ℕ) : Type 0 where
+  pub latest : (j : ℕ) → j < jobs v.planned → kept_at v (leaving v.planned j) ≤ n
+  pub reached : (j : ℕ) × (j < jobs v.planned) × (kept_at v (leaving v.planned j) ≡ n)
+
+-- the first job whose kept leaving is past its budget
+pub record IsFirstPast (p : PlannedShop) (kept : Node → ℕ) (job : ℕ) : Type 0 where
+  pub inside : job < jobs p
+  pub past : budget p job < kept (leaving p job)
+  pub before : (i : ℕ) → i < job → kept (leaving p i) ≤ budget p i

@@ -1,0 +1,84 @@
+ghost use Rattle.std.specs.Prelude.{◌≡◌, ◌<◌, ◌≤◌, max, MatchOption, IfSome};
+ghost use Rattle.shop_base.specs.Plan.{jobs};
+ghost use Rattle.shop_base.specs.Graph.{leaving};
+ghost use Rattle.alt_graph.specs.Evidence.{IsNeverGoneBefore};
+ghost use Rattle.plan_verifier.specs.Accepted.{IsVerified, IsGreatest, IsMakespan, kept_at};
+
+use crate::leavings::leave_time;
+use alt_graph::Times;
+use shop_base::{JobNo, Moment, Shaped};
+use std::marker::Model;
+
+/// An accepted plan, with the ranks and the greatest lengths that show it. Made by [`crate::verify`] alone.
+#[derive(Debug, Drop)]
+pub struct Verified {
+    shaped: Shaped,
+    times: Times,
+}
+
+impl Model for Verified {
+    ghost use Rattle.plan_verifier.specs.Accepted.{VerifiedPlan, IsVerified};
+
+    ghost Value = { VerifiedPlan };
+
+    ghost view = { λ v. record { planned = v.shaped; times = v.times } };
+
+    ghost invariant = { λ v. IsVerified (record { planned = v.shaped; times = v.times }) };
+}
+
+impl Verified {
+    pub(crate) fn of(shaped: Shaped, times: Times) -> Verified
+        requires { IsVerified (record { planned = shaped; times = times }) }
+        ensures { result ≡ record { planned = shaped; times = times } }
+    {
+        Verified { shaped, times }
+    }
+
+    /// The moment by which the job has left as long as no activity outlasts its nominal time, and before
+    /// which it can't leave where each takes its full time; none for a number that is no job's.
+    pub fn earliest_leave(&self, job: JobNo) -> Option<Moment>
+        ensures greatest { let p = self.now.planned in
+            MatchOption result (jobs p ≤ job) (λ moment. (job < jobs p) × IsGreatest p (leaving p job) moment) }
+        ensures kept { IfSome result (λ moment. moment ≡ kept_at self.now (leaving self.now.planned job)) }
+        ensures no_faster { IfSome result (IsNeverGoneBefore self.now.planned job) }
+    {
+        if job < self.shaped.shop().jobs() {
+            Some(leave_time(&self.shaped, &self.times, job))
+        } else {
+            None
+        }
+    }
+
+    /// The latest of all jobs' earliest leavings.
+    pub fn makespan(&self) -> Moment
+        ensures { IsMakespan self.now result }
+    {
+        let mut makespan = 0;
+        for job in 0..self.shaped.shop().jobs() {
+            makespan = later(makespan, leave_time(&self.shaped, &self.times, job));
+        }
+        makespan
+    }
+
+    /// The plan.
+    pub fn shaped(&self) -> &Shaped
+        ensures { result.now ≡ self.now.planned }
+    {
+        &self.shaped
+    }
+
+    /// The plan, taken out.
+    pub fn into_shaped(self) -> Shaped
+        ensures { result ≡ self.planned }
+    {
+        let Verified { shaped, times: _ } = self;
+        shaped
+    }
+}
+
+/// The later of two moments.
+fn later(one: Moment, other: Moment) -> Moment
+    ensures { result ≡ max one other }
+{
+    if one < other { other } else { one }
+}
