@@ -1,2 +1,3 @@
 pub mod Telling
 pub mod PlanTelling
+pub mod CheckLines

@@ -6,7 +6,6 @@ use Rattle.plan_text.specs.declared.plan_fault.PlanFault.TheVariants.{Memory as 
 use Rattle.plan_text.specs.Documents.{IsPlanText, IsFirstFault}
 use Rattle.cellplan.specs.declared.command_fault.CommandFault.{CommandFault}
 use Rattle.cellplan.specs.declared.command_fault.CommandFault.TheVariants.{Instance, Plan, Memory}
-use Rattle.cellplan.specs.declared.answer.Answer.{Answer}
 use Rattle.cellplan.specs.Instances.{Tells, IsRightFault}
 
 -- the fault of a plan's reader as a command's
@@ -48,14 +47,14 @@ IsRightOfBoth instance name text (Instance fault) = IsRightFault instance name (
 IsRightOfBoth instance name text (Plan fault) = TellsAShop instance name × IsRightPlanFault text (Plan fault)
 IsRightOfBoth instance name text Memory = Unit {0}
 
--- the answer is the one that belongs to the plan that the text tells for this shop
-pub record IsOfPlan (shop : JobShop) (text : List ℕ) (Is : PlannedShop → Answer → Type 0) (answer : Answer) : Type 0 where
+-- the answer is one that belongs to the plan that the text tells for this shop
+pub record IsOfPlan {A : Type 0} (shop : JobShop) (text : List ℕ) (Is : PlannedShop → A → Type 0) (answer : A) : Type 0 where
   pub plan : ShopPlan
   pub tells : IsPlanText text plan
   pub is : Is (record { shop = shop; plan = plan }) answer
 
--- the answer is the one that belongs to the shop and the plan that the two texts tell
-pub record IsOfBoth (instance : List ℕ) (name : Option (List ℕ)) (text : List ℕ) (Is : PlannedShop → Answer → Type 0) (answer : Answer) : Type 0 where
+-- the answer is one that belongs to the shop and the plan that the two texts tell
+pub record IsOfBoth {A : Type 0} (instance : List ℕ) (name : Option (List ℕ)) (text : List ℕ) (Is : PlannedShop → A → Type 0) (answer : A) : Type 0 where
   pub planned : PlannedShop
   pub tell : TellBoth instance name text planned
   pub is : Is planned answer

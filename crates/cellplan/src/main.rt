@@ -5,9 +5,11 @@
 #![tactic(auto)]
 
 pub mod answer;
+pub mod checks;
 pub mod command_fault;
 pub mod facts;
 mod files;
+pub mod loading;
 pub mod plans;
 mod print;
 mod program;

@@ -4,6 +4,14 @@ ghost use Rattle.std.specs.Prelude.{◌≡◌, ◌++◌, OnOk, codes, decimal};
 
 use std::alloc::AllocError;
 
+/// Adds the words.
+pub fn push_words(text: &mut Vec<u8>, words: &[u8]) -> Result<(), AllocError>
+    ensures { OnOk result (text.new.items ≡ text.old.items ++ words.now) }
+{
+    text.extend_from_slice(words)?;
+    Ok(())
+}
+
 /// Adds the word, and after it the number in decimal.
 pub fn push_fact(text: &mut Vec<u8>, word: &[u8], number: u64) -> Result<(), AllocError>
     ensures { OnOk result (text.new.items ≡ text.old.items ++ word.now ++ decimal number) }

@@ -1,6 +1,7 @@
 //! The program: its words, what it reads, what it writes, and the status that it ends with.
 
 use crate::answer::{Answer, GOOD};
+use crate::checks::check_of;
 use crate::command_fault::CommandFault;
 use crate::facts::{facts_answer, load_instance};
 use crate::files::{FileFault, read_file, read_whole};
@@ -98,6 +99,10 @@ fn command_answer(rt: &HostRuntime, alloc: Global, chosen: &Chosen) -> Result<An
         CommandName::Shape => {
             let shop = instance(rt, alloc, chosen)?;
             Ok(shape_of(alloc, shop, &file(rt, alloc, chosen, 1)?)?)
+        }
+        CommandName::Check => {
+            let shop = instance(rt, alloc, chosen)?;
+            Ok(check_of(alloc, shop, &file(rt, alloc, chosen, 1)?)?)
         }
         _ => Err(Failure::NoAnswerYet),
     }

@@ -62,7 +62,8 @@ impl Verified {
 
     /// The plan.
     pub fn shaped(&self) -> &Shaped
-        ensures { result.now ≡ self.now.planned }
+        ensures same { result.now ≡ self.now.planned }
+        ensures verified { IsVerified self.now }
     {
         &self.shaped
     }

@@ -1,0 +1,161 @@
+use super::{COLLECTION, TWO};
+use crate::checks::check_answer;
+use crate::command_fault::CommandFault;
+use crate::loading::{Loaded, load};
+use alt_graph::{check_chain, check_cycle};
+use orlib_read::{OrFault, read_instance};
+use plan_text::{PlanFault, read_plan};
+use plan_verifier::Why;
+use shop_base::{ShapeFault, Shaped, shape};
+use std::alloc::Global;
+use std::test::Fail;
+
+const RING: &[u8] = b"ring\n3 3\n0 1 1 1\n1 1 2 1\n2 1 0 1\n";
+
+const CHAIN: &[u8] = b"chain\n3 3\n0 1 1 1 2 5\n0 1 1 1 2 1\n0 1 1 1 2 1\n";
+
+const CROSSED: &[u8] = b"release = [0, 0]\nbudget = [100, 100]\norder = [[0, 1], [1, 0]]\n";
+
+const IN_TIME: &[u8] = b"release = [0, 0]\nbudget = [5, 10]\norder = [[0, 1], [0, 1]]\n";
+
+const LATE: &[u8] = b"release = [0, 0]\nbudget = [5, 9]\norder = [[0, 1], [0, 1]]\n";
+
+const SHORT: &[u8] = b"release = [0, 0]\nbudget = [5, 10]\norder = [[0, 1], [0]]\n";
+
+#[test]
+fn tells_the_verdicts_on_plans(rt: HostRuntime) -> Result<(), Fail> {
+    let lines: [(&[u8], &[u8], &[u8], u8); 12] = [
+        (TWO, CROSSED, b"refused cycle 0.1 1.1\n", 1),
+        (
+            RING,
+            b"release = [0, 0, 0]\nbudget = [100, 100, 100]\norder = [[0, 2], [1, 0], [2, 1]]\n",
+            b"refused cycle 0.1 2.1 1.1\n",
+            1,
+        ),
+        (TWO, IN_TIME, b"accepted makespan 10 leaves 5 10\n", 0),
+        (TWO, LATE, b"refused late 1 10 0.0 0.1 0.2 1.0 1.1 1.2\n", 1),
+        (
+            TWO,
+            b"release = [0, 0]\nbudget = [4, 9]\norder = [[0, 1], [0, 1]]\n",
+            b"refused late 0 5 0.0 0.1 0.2\n",
+            1,
+        ),
+        (
+            CHAIN,
+            b"release = [0, 0, 0]\nbudget = [7, 8, 9]\norder = [[0, 1, 2], [0, 1, 2], [0, 1, 2]]\n",
+            b"accepted makespan 9 leaves 7 8 9\n",
+            0,
+        ),
+        (
+            b"z\n1 1\n0 0\n",
+            b"release = [0]\nbudget = [0]\norder = [[0]]\n",
+            b"accepted makespan 0 leaves 0\n",
+            0,
+        ),
+        (
+            TWO,
+            b"version = 2\nrelease = [0, 0]\nbudget = [5, 10]\norder = [[0, 1], [0, 1]]\nclean = [0, 2]\n",
+            b"refused late 1 12 0.0 0.1 0.2 1.0 1.1 1.2\n",
+            1,
+        ),
+        (
+            TWO,
+            b"version = 2\nrelease = [0, 0]\nbudget = [5, 12]\norder = [[0, 1], [0, 1]]\nclean = [0, 2]\n",
+            b"accepted makespan 12 leaves 5 12\n",
+            0,
+        ),
+        (TWO, SHORT, b"not shaped JobMissing machine 1 job 1\n", 1),
+        (
+            TWO,
+            b"release = [0, 0]\nbudget = [5, 10]\norder = [[0, 2], [0, 1]]\n",
+            b"not shaped JobOutOfRange machine 0 place 1\n",
+            1,
+        ),
+        (
+            TWO,
+            b"release = [0, 0]\nbudget = [5, 1000000000001]\norder = [[0, 1], [0, 1]]\n",
+            b"not shaped BudgetTooLarge job 1\n",
+            1,
+        ),
+    ];
+    for (instance, plan, line, status) in lines {
+        let answer = check_answer(rt.alloc(), instance, None, plan)?;
+        assert_eq!(rt; answer.text.as_slice(), line);
+        assert_eq!(rt; answer.status, status);
+    }
+    Ok(())
+}
+
+#[test]
+fn accepts_the_serial_plan_of_ft06(rt: HostRuntime) -> Result<(), Fail> {
+    let plan = b"release = [0, 0, 0, 0, 0, 0]\nbudget = [26, 60, 89, 117, 125, 152]\norder = [\n  \
+[0, 1, 2, 3, 4, 5],\n  [0, 1, 2, 3, 4, 5],\n  [0, 1, 2, 3, 4, 5],\n  [0, 1, 2, 3, 4, 5],\n  \
+[0, 1, 2, 3, 4, 5],\n  [0, 1, 2, 3, 4, 5],\n]\n";
+    let answer = check_answer(rt.alloc(), COLLECTION, Some(b"ft06"), plan)?;
+    let line = b"accepted makespan 152 leaves 26 60 89 117 125 152\n";
+    assert_eq!(rt; answer.text.as_slice(), line.as_slice());
+    assert_eq!(rt; answer.status, 0);
+    Ok(())
+}
+
+#[test]
+fn tells_which_text_has_no_verdict(rt: HostRuntime) -> Result<(), Fail> {
+    let unknown = b"release = [0, 0]\nbudget = [5, 10]\norder = [[0, 1], [0, 1]]\nx = 1\n";
+    let faults: [(&[u8], CommandFault); 2] = [
+        (TWO, CommandFault::Plan(PlanFault::UnknownKey)),
+        (b"", CommandFault::Instance(OrFault::NoSizes)),
+    ];
+    for (instance, fault) in faults {
+        let answer = check_answer(rt.alloc(), instance, None, unknown).map(|answer| answer.status);
+        assert_eq!(rt; answer, Err(fault));
+    }
+    Ok(())
+}
+
+#[test]
+fn loads_a_verdict(rt: HostRuntime) -> Result<(), Fail> {
+    match load(rt.alloc(), TWO, None, IN_TIME)? {
+        Loaded::Accepted(verified) => {
+            assert_eq!(rt; verified.makespan(), 10);
+            assert_eq!(rt; verified.earliest_leave(0), Some(5));
+            assert_eq!(rt; verified.earliest_leave(2), None);
+            assert_eq!(rt; verified.shaped().report_count(), 6);
+        }
+        _ => assert!(rt; false),
+    }
+    match load(rt.alloc(), TWO, None, SHORT)? {
+        Loaded::NotShaped(fault) => {
+            assert_eq!(rt; fault, ShapeFault::JobMissing { machine: 1, job: 1 });
+        }
+        _ => assert!(rt; false),
+    }
+    Ok(())
+}
+
+fn planned(alloc: Global, instance: &[u8], plan: &[u8]) -> Result<Shaped, Fail> {
+    let named = read_instance(alloc, instance)?;
+    match shape(named.shop, read_plan(alloc, plan)?) {
+        Ok(shaped) => Ok(shaped),
+        Err(refused) => Err(refused.fault.into()),
+    }
+}
+
+#[test]
+fn its_evidence_stands_the_checks(rt: HostRuntime) -> Result<(), Fail> {
+    match load(rt.alloc(), TWO, None, CROSSED)? {
+        Loaded::Refused(Why::Cycle(nodes)) => {
+            let shaped = planned(rt.alloc(), TWO, CROSSED)?;
+            assert!(rt; check_cycle(&shaped, &nodes));
+        }
+        _ => assert!(rt; false),
+    }
+    match load(rt.alloc(), TWO, None, LATE)? {
+        Loaded::Refused(Why::Late { job, leaves, chain }) => {
+            let shaped = planned(rt.alloc(), TWO, LATE)?;
+            assert_eq!(rt; job, 1);
+            assert_eq!(rt; check_chain(&shaped, &chain), Some(leaves));
+        }
+        _ => assert!(rt; false),
+    }
+    Ok(())
+}
