@@ -10,6 +10,3 @@ mod verifying;
 pub use verdict::{Verdict, Why};
 pub use verified::Verified;
 pub use verifying::verify;
-
-#[cfg(test)]
-mod tests;

@@ -142,18 +142,18 @@ fn planned(alloc: Global, instance: &[u8], plan: &[u8]) -> Result<Shaped, Fail> 
 
 #[test]
 fn its_evidence_stands_the_checks(rt: HostRuntime) -> Result<(), Fail> {
-    match load(rt.alloc(), TWO, None, CROSSED)? {
-        Loaded::Refused(Why::Cycle(nodes)) => {
-            let shaped = planned(rt.alloc(), TWO, CROSSED)?;
-            assert!(rt; check_cycle(&shaped, &nodes));
-        }
+    let shaped = planned(rt.alloc(), TWO, CROSSED)?;
+    let loaded = load(rt.alloc(), TWO, None, CROSSED)?;
+    match &loaded {
+        Loaded::Refused(Why::Cycle(nodes)) => assert!(rt; check_cycle(&shaped, nodes)),
         _ => assert!(rt; false),
     }
-    match load(rt.alloc(), TWO, None, LATE)? {
+    let shaped = planned(rt.alloc(), TWO, LATE)?;
+    let loaded = load(rt.alloc(), TWO, None, LATE)?;
+    match &loaded {
         Loaded::Refused(Why::Late { job, leaves, chain }) => {
-            let shaped = planned(rt.alloc(), TWO, LATE)?;
-            assert_eq!(rt; job, 1);
-            assert_eq!(rt; check_chain(&shaped, &chain), Some(leaves));
+            assert_eq!(rt; *job, 1);
+            assert_eq!(rt; check_chain(&shaped, chain), Some(*leaves));
         }
         _ => assert!(rt; false),
     }
