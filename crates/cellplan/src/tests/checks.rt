@@ -20,26 +20,24 @@ const IN_TIME: &[u8] = b"release = [0, 0]\nbudget = [5, 10]\norder = [[0, 1], [0
 
 const LATE: &[u8] = b"release = [0, 0]\nbudget = [5, 9]\norder = [[0, 1], [0, 1]]\n";
 
+const FIRST_LATE: &[u8] = b"release = [0, 0]\nbudget = [4, 9]\norder = [[0, 1], [0, 1]]\n";
+
+const LATE_BY_CLEANING: &[u8] =
+    b"version = 2\nrelease = [0, 0]\nbudget = [5, 10]\norder = [[0, 1], [0, 1]]\nclean = [0, 2]\n";
+
+const LOCKED_RING: &[u8] =
+    b"release = [0, 0, 0]\nbudget = [100, 100, 100]\norder = [[0, 2], [1, 0], [2, 1]]\n";
+
 const SHORT: &[u8] = b"release = [0, 0]\nbudget = [5, 10]\norder = [[0, 1], [0]]\n";
 
 #[test]
 fn tells_the_verdicts_on_plans(rt: HostRuntime) -> Result<(), Fail> {
     let lines: [(&[u8], &[u8], &[u8], u8); 12] = [
         (TWO, CROSSED, b"refused cycle 0.1 1.1\n", 1),
-        (
-            RING,
-            b"release = [0, 0, 0]\nbudget = [100, 100, 100]\norder = [[0, 2], [1, 0], [2, 1]]\n",
-            b"refused cycle 0.1 2.1 1.1\n",
-            1,
-        ),
+        (RING, LOCKED_RING, b"refused cycle 0.1 2.1 1.1\n", 1),
         (TWO, IN_TIME, b"accepted makespan 10 leaves 5 10\n", 0),
         (TWO, LATE, b"refused late 1 10 0.0 0.1 0.2 1.0 1.1 1.2\n", 1),
-        (
-            TWO,
-            b"release = [0, 0]\nbudget = [4, 9]\norder = [[0, 1], [0, 1]]\n",
-            b"refused late 0 5 0.0 0.1 0.2\n",
-            1,
-        ),
+        (TWO, FIRST_LATE, b"refused late 0 5 0.0 0.1 0.2\n", 1),
         (
             CHAIN,
             b"release = [0, 0, 0]\nbudget = [7, 8, 9]\norder = [[0, 1, 2], [0, 1, 2], [0, 1, 2]]\n",
@@ -54,7 +52,7 @@ fn tells_the_verdicts_on_plans(rt: HostRuntime) -> Result<(), Fail> {
         ),
         (
             TWO,
-            b"version = 2\nrelease = [0, 0]\nbudget = [5, 10]\norder = [[0, 1], [0, 1]]\nclean = [0, 2]\n",
+            LATE_BY_CLEANING,
             b"refused late 1 12 0.0 0.1 0.2 1.0 1.1 1.2\n",
             1,
         ),
@@ -140,22 +138,26 @@ fn planned(alloc: Global, instance: &[u8], plan: &[u8]) -> Result<Shaped, Fail> 
     }
 }
 
+/// Whether the plan is refused with evidence that stands its check.
+fn is_refused_justly(alloc: Global, instance: &[u8], plan: &[u8]) -> Result<bool, Fail> {
+    let shaped = planned(alloc, instance, plan)?;
+    let loaded = load(alloc, instance, None, plan)?;
+    Ok(match &loaded {
+        Loaded::Refused(Why::Cycle(nodes)) => check_cycle(&shaped, nodes),
+        Loaded::Refused(Why::Late { leaves, chain, .. }) => {
+            check_chain(&shaped, chain) == Some(*leaves)
+        }
+        _ => false,
+    })
+}
+
 #[test]
 fn its_evidence_stands_the_checks(rt: HostRuntime) -> Result<(), Fail> {
-    let shaped = planned(rt.alloc(), TWO, CROSSED)?;
-    let loaded = load(rt.alloc(), TWO, None, CROSSED)?;
-    match &loaded {
-        Loaded::Refused(Why::Cycle(nodes)) => assert!(rt; check_cycle(&shaped, nodes)),
-        _ => assert!(rt; false),
-    }
-    let shaped = planned(rt.alloc(), TWO, LATE)?;
-    let loaded = load(rt.alloc(), TWO, None, LATE)?;
-    match &loaded {
-        Loaded::Refused(Why::Late { job, leaves, chain }) => {
-            assert_eq!(rt; *job, 1);
-            assert_eq!(rt; check_chain(&shaped, chain), Some(*leaves));
-        }
-        _ => assert!(rt; false),
-    }
+    assert!(rt; is_refused_justly(rt.alloc(), TWO, CROSSED)?);
+    assert!(rt; is_refused_justly(rt.alloc(), RING, LOCKED_RING)?);
+    assert!(rt; is_refused_justly(rt.alloc(), TWO, LATE)?);
+    assert!(rt; is_refused_justly(rt.alloc(), TWO, FIRST_LATE)?);
+    assert!(rt; is_refused_justly(rt.alloc(), TWO, LATE_BY_CLEANING)?);
+    assert!(rt; !is_refused_justly(rt.alloc(), TWO, IN_TIME)?);
     Ok(())
 }
