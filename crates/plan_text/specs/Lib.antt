@@ -2,6 +2,7 @@ pub mod Keys
 pub mod Numbers
 pub mod Plans
 pub mod Faults
+pub mod RowText
 pub mod Listing
 pub mod Documents
 pub mod Answers

@@ -1,3 +1,6 @@
+ghost use Rattle.std.specs.Prelude.{Some};
+ghost use Rattle.plan_text.specs.RowText.{row_text};
+
 use crate::plan_key::PlanKey;
 use std::fmt;
 use thiserror::Error;
@@ -54,6 +57,8 @@ pub enum PlanFault {
 struct RowText(Option<usize>);
 
 impl fmt::Display for RowText {
+    ghost output = { λ text. Some (row_text text.0) };
+
     fn fmt<W: fmt::Write>(&self, f: &mut fmt::Formatter<W>) -> fmt::Result {
         match self.0 {
             Some(row) => write!(f, " row {row}"),

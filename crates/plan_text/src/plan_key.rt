@@ -1,4 +1,4 @@
-ghost use Rattle.std.specs.Prelude.{◌≡◌};
+ghost use Rattle.std.specs.Prelude.{◌≡◌, Some};
 ghost use Rattle.plan_text.specs.Keys.{name_of};
 
 use std::fmt;
@@ -31,6 +31,8 @@ impl PlanKey {
 }
 
 impl fmt::Display for PlanKey {
+    ghost output = { λ key. Some (name_of key) };
+
     fn fmt<W: fmt::Write>(&self, f: &mut fmt::Formatter<W>) -> fmt::Result {
         f.write_str(self.name())
     }
