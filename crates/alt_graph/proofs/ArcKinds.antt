@@ -1,104 +1,105 @@
--- The two kinds of arcs, and that one arc leads from a node to another.
-use Rattle.std.proofs.Common.{◌≡◌, ◌≢◌, ℕ, ◌+◌, ◌<◌, ◌≤◌, ◌⊎◌, inl, inr, refl, sym, ap, subst, ◌∙◌, arith, Option, None, Some, MatchOption, IfSome}
+-- The two kinds of arcs, and that each node has at most one arc in and one arc out of each kind.
+use Rattle.std.proofs.Common.{◌≡◌, ◌≢◌, ℕ, ◌+◌, ◌<◌, ◌≤◌, arith, refl, sym, ap, ◌∙◌, subst, ◌⊎◌, inl, inr, ⊎_elim, Option, None, Some, MatchOption}
 use Rattle.shop_base.specs.declared.node.Node.{Node}
-use Rattle.shop_base.specs.Plan.{PlannedShop, steps, machine_of, nominal, clean, order, Visits, IsWellShaped}
-use Rattle.shop_base.specs.Graph.{node, Arc, job_arc, blocking_arc, HasArc}
-use Rattle.shop_base.proofs.Visits.{visits_machine, visits-sound, visits-order}
-use Rattle.alt_graph.specs.declared.arcs.TheConstants.{MAX_ARC}
-use Rattle.alt_graph.specs.ArcParts.{Leaves, Enters, IsBehind}
+use Rattle.shop_base.specs.declared.limits.TheConstants.{MAX_NOMINAL}
+use Rattle.shop_base.specs.Plan.{PlannedShop, steps, nominal, clean, Stands, IsWellShaped}
+use Rattle.shop_base.specs.Graph.{node, IsNode, Arc, job_arc, blocking_arc, HasArc}
+use Rattle.shop_base.proofs.Visits.{steps_job, visits_job, visits_machine, visits-order, stands_once}
+use Rattle.shop_base.proofs.Places.{same_stand}
+use Rattle.alt_graph.specs.Sources.{IsJobArc, IsBlockingArc}
+use Rattle.alt_graph.proofs.NodeNumbers.{node_same}
 
--- v is the next place of u's job
-pub record IsNext (p : PlannedShop) (u v : Node) : Type 0 where
-  pub same_job : u.job ≡ v.job
-  pub next_place : v.place ≡ u.place + 1
-  pub within : u.place < steps p u.job
+-- each arc is of one of the two kinds
+pub arc_kind : (p : PlannedShop) (u v : Node) (d : ℕ) → Arc p u v d → IsJobArc p u v d ⊎ IsBlockingArc p u v d
+arc_kind p u v d (job_arc j k within) = inl (record { job = refl; place = refl; within = within; length = refl })
+arc_kind p u v d (blocking_arc m a i k j l one other) = inr (record { machine = m; ahead = a; step = k; left = one; enters = other; place = refl; length = refl })
 
--- directly behind u's job, v's job enters machine m, which u's job leaves
-pub record IsBlocked (p : PlannedShop) (u v : Node) (m : ℕ) : Type 0 where
-  pub leaves : Leaves p u m
-  pub enters : Enters p v m
-  pub behind : IsBehind (order p m) u.job v.job
+module _ (p : PlannedShop) (u v : Node) (d : ℕ) where
+  -- a job arc is one
+  pub job_arc_is : IsJobArc p u v d → Arc p u v d
+  job_arc_is is =
+      let there : node u.job (u.place + 1) ≡ v = node_same (node u.job (u.place + 1)) v is.job (sym is.place) in
+      subst (λ (w : Node). Arc p u w d) there (subst (λ (n : ℕ). Arc p u (node u.job (u.place + 1)) n) (sym is.length) (job_arc u.job u.place is.within))
 
--- an arc is a job's, or a blocking one
-abbrev pub ArcKind : PlannedShop → Node → Node → ℕ → Type 0
-ArcKind p u v d = (IsNext p u v × (d ≡ nominal p u.job u.place)) ⊎ ((m : ℕ) × IsBlocked p u v m × (d ≡ clean p m))
+  -- a blocking arc is one
+  pub blocking_arc_is : IsBlockingArc p u v d → Arc p u v d
+  blocking_arc_is is =
+      let here : node u.job (is.step + 1) ≡ u = node_same (node u.job (is.step + 1)) u refl (sym is.place) in
+      subst (λ (w : Node). Arc p w v d) here (subst (λ (n : ℕ). Arc p (node u.job (is.step + 1)) v n) (sym is.length)
+      (blocking_arc is.machine is.ahead u.job is.step v.job v.place is.left is.enters))
 
-pub kind_of_arc : (p : PlannedShop) (u v : Node) (d : ℕ) → Arc p u v d → ArcKind p u v d
-kind_of_arc p u v d (job_arc j k within) = inl (record { same_job = refl; next_place = refl; within = within }, refl)
-kind_of_arc p u v d (blocking_arc m a i k j l one other) =
-    inr (m, record { leaves = (k, refl, one.visits); enters = other.visits; behind = (a, other.within, one.job, other.job) }, refl)
+  -- an arc leads to a node of the shop
+  pub target_node : Arc p u v d → IsNode p v
+  target_node arc = go (arc_kind p u v d arc)
+    where
+      go : IsJobArc p u v d ⊎ IsBlockingArc p u v d → IsNode p v
+      go (inl is) =
+          let within : u.place < steps p v.job = subst (λ (j : ℕ). u.place < steps p j) is.job is.within in
+          record { job = steps_job p v.job u.place within; place = omega (arith, is.place) }
+      go (inr is) = record { job = visits_job p v.job v.place is.machine is.enters.visits; place = omega (arith, is.enters.visits.within) }
 
-pub next-arc : (p : PlannedShop) (u v : Node) → IsNext p u v → Arc p u v (nominal p u.job u.place)
-next-arc p u v next = subst (λ (w : Node). Arc p u w (nominal p u.job u.place)) target (job_arc u.job u.place next.within)
-  where
-    target : node u.job (u.place + 1) ≡ v
-    target = λ i. record { job = next.same_job i; place = (sym next.next_place) i }
+  -- no arc is longer than the longest nominal time
+  pub arc_short : IsWellShaped p → Arc p u v d → d ≤ MAX_NOMINAL
+  arc_short shaped arc = go (arc_kind p u v d arc)
+    where
+      go : IsJobArc p u v d ⊎ IsBlockingArc p u v d → d ≤ MAX_NOMINAL
+      go (inl is) = omega (arith, is.length, ((shaped.shop.routes u.job (steps_job p u.job u.place is.within)).steps u.place is.within).nominal)
+      go (inr is) = omega (arith, is.length, shaped.limits.cleanings is.machine (visits_machine p u.job is.step is.machine shaped is.left.visits))
 
-pub blocked-arc : (p : PlannedShop) (u v : Node) (m : ℕ) → IsBlocked p u v m → Arc p u v (clean p m)
-blocked-arc p u v m blocked =
-    let (k, place, left) = blocked.leaves in
-    let (a, within, ahead, behind) = blocked.behind in
-    let source : node u.job (k + 1) ≡ u = λ i. record { job = u.job; place = (sym place) i } in
-    subst (λ (w : Node). Arc p w v (clean p m)) source
-    (blocking_arc m a u.job k v.job v.place (record { within = omega arith; job = ahead; visits = left }) (record { within = within; job = behind; visits = blocked.enters }))
+module _ (p : PlannedShop) (shaped : IsWellShaped p) where
+  -- one job arc leads to a node
+  pub job_source_once : (u w v : Node) (d e : ℕ) → IsJobArc p u v d → IsJobArc p w v e → (u ≡ w) × (d ≡ e)
+  job_source_once u w v d e one other =
+      let same : u ≡ w = node_same u w (one.job ∙ sym other.job) (omega (arith, one.place, other.place)) in
+      (same, one.length ∙ ap (λ (x : Node). nominal p x.job x.place) same ∙ sym other.length)
 
--- a job doesn't stand behind itself
-pub blocked-apart : (p : PlannedShop) (u v : Node) (m : ℕ) → IsWellShaped p → IsBlocked p u v m → u.job ≢ v.job
-blocked-apart p u v m shaped blocked same =
-    let (a, within, ahead, behind) = blocked.behind in
-    let twice : a ≡ a + 1 = (visits-order p v.job v.place m shaped blocked.enters).once a (a + 1) (omega arith) within (ahead ∙ same ∙ sym behind) in
-    omega arith
+  -- one blocking arc leads to a node
+  pub blocking_source_once : (u w v : Node) (d e : ℕ) → IsBlockingArc p u v d → IsBlockingArc p w v e → (u ≡ w) × (d ≡ e)
+  blocking_source_once u w v d e one other =
+      let machines_same : one.machine ≡ other.machine = sym one.enters.visits.here ∙ other.enters.visits.here in
+      let enters : Stands p one.machine (other.ahead + 1) v.job v.place = subst (λ (m : ℕ). Stands p m (other.ahead + 1) v.job v.place) (sym machines_same) other.enters in
+      let after : one.ahead + 1 ≡ other.ahead + 1 = stands_once p one.machine (one.ahead + 1) (other.ahead + 1) v.job v.place v.place shaped one.enters enters in
+      let ahead : one.ahead ≡ other.ahead = omega arith in
+      let left : Stands p one.machine other.ahead w.job other.step = subst (λ (m : ℕ). Stands p m other.ahead w.job other.step) (sym machines_same) other.left in
+      let both = same_stand p one.machine one.ahead other.ahead u.job one.step w.job other.step shaped ahead one.left left in
+      (node_same u w both.0 (omega (arith, one.place, other.place, both.1)), one.length ∙ ap (clean p) machines_same ∙ sym other.length)
 
--- two nodes of one job have an arc only from a place to the next
-pub no_next : (p : PlannedShop) (u v : Node) → IsWellShaped p → u.job ≡ v.job → (IsNext p u v → ⊥) → HasArc p u v → ⊥
-no_next p u v shaped same none (d, arc) = go (kind_of_arc p u v d arc)
-  where
-    go : ArcKind p u v d → ⊥
-    go (inl (next, is)) = none next
-    go (inr (m, blocked, is)) = blocked-apart p u v m shaped blocked same
+  -- one job arc leads from a node
+  pub job_target_once : (u v w : Node) (d e : ℕ) → IsJobArc p u v d → IsJobArc p u w e → v ≡ w
+  job_target_once u v w d e one other = node_same v w (sym one.job ∙ other.job) (one.place ∙ sym other.place)
 
--- nodes of two jobs have an arc only where the one blocks the other
-pub no_blocked : (p : PlannedShop) (u v : Node) → u.job ≢ v.job → ((m : ℕ) → IsBlocked p u v m → ⊥) → HasArc p u v → ⊥
-no_blocked p u v apart none (d, arc) = go (kind_of_arc p u v d arc)
-  where
-    go : ArcKind p u v d → ⊥
-    go (inl (next, is)) = apart next.same_job
-    go (inr (m, blocked, is)) = none m blocked
+  -- one blocking arc leads from a node
+  pub blocking_target_once : (u v w : Node) (d e : ℕ) → IsBlockingArc p u v d → IsBlockingArc p u w e → v ≡ w
+  blocking_target_once u v w d e one other =
+      let steps_same : one.step ≡ other.step = omega (arith, one.place, other.place) in
+      let left : Stands p other.machine other.ahead u.job one.step = subst (λ (k : ℕ). Stands p other.machine other.ahead u.job k) (sym steps_same) other.left in
+      let machines_same : one.machine ≡ other.machine = sym one.left.visits.here ∙ left.visits.here in
+      let here : Stands p one.machine other.ahead u.job one.step = subst (λ (m : ℕ). Stands p m other.ahead u.job one.step) (sym machines_same) left in
+      let ahead : one.ahead ≡ other.ahead = stands_once p one.machine one.ahead other.ahead u.job one.step one.step shaped one.left here in
+      let after : one.ahead + 1 ≡ other.ahead + 1 = omega arith in
+      let enters : Stands p one.machine (other.ahead + 1) w.job w.place = subst (λ (m : ℕ). Stands p m (other.ahead + 1) w.job w.place) (sym machines_same) other.enters in
+      let both = same_stand p one.machine (one.ahead + 1) (other.ahead + 1) v.job v.place w.job w.place shaped after one.enters enters in
+      node_same v w both.0 both.1
 
--- two arcs from a node to another have one length
-pub arc_once : (p : PlannedShop) (u v : Node) (d e : ℕ) → IsWellShaped p → Arc p u v d → Arc p u v e → d ≡ e
-arc_once p u v d e shaped one other = go (kind_of_arc p u v d one) (kind_of_arc p u v e other)
-  where
-    go : ArcKind p u v d → ArcKind p u v e → d ≡ e
-    go (inl (next, is)) (inl (again, also)) = is ∙ sym also
-    go (inl (next, is)) (inr (m, blocked, also)) = absurd (blocked-apart p u v m shaped blocked next.same_job)
-    go (inr (m, blocked, is)) (inl (next, also)) = absurd (blocked-apart p u v m shaped blocked next.same_job)
-    go (inr (m, blocked, is)) (inr (n, again, also)) = is ∙ ap (clean p) (sym blocked.enters.here ∙ again.enters.here) ∙ sym also
+  -- a job doesn't stand behind itself
+  blocking_apart : (u v : Node) (d : ℕ) → IsBlockingArc p u v d → u.job ≢ v.job
+  blocking_apart u v d arc same =
+      let twice : arc.ahead ≡ arc.ahead + 1 =
+      (visits-order p v.job v.place arc.machine shaped arc.enters.visits).once arc.ahead (arc.ahead + 1) arc.left.within arc.enters.within (arc.left.job ∙ same ∙ sym arc.enters.job) in
+      omega arith
 
--- no arc is longer than the limit
-pub arc_short : (p : PlannedShop) (u v : Node) (d : ℕ) → IsWellShaped p → Arc p u v d → d ≤ MAX_ARC
-arc_short p u v d shaped arc = go (kind_of_arc p u v d arc)
-  where
-    go : ArcKind p u v d → d ≤ MAX_ARC
-    go (inl (next, is)) =
-        let visits : Visits p u.job u.place (machine_of p u.job u.place) = record { within = next.within; here = refl } in
-        omega (arith, (visits-sound p u.job u.place (machine_of p u.job u.place) shaped visits).nominal)
-    go (inr (m, blocked, is)) = omega (arith, shaped.limits.cleanings m (visits_machine p v.job v.place m shaped blocked.enters))
+  -- two arcs from a node to another have one length
+  pub arc_once : (u v : Node) (d e : ℕ) → Arc p u v d → Arc p u v e → d ≡ e
+  arc_once u v d e one other = go (arc_kind p u v d one) (arc_kind p u v e other)
+    where
+      go : IsJobArc p u v d ⊎ IsBlockingArc p u v d → IsJobArc p u v e ⊎ IsBlockingArc p u v e → d ≡ e
+      go (inl along) (inl again) = (job_source_once u u v d e along again).1
+      go (inl along) (inr blocked) = absurd (blocking_apart u v e blocked along.job)
+      go (inr blocked) (inl along) = absurd (blocking_apart u v d blocked along.job)
+      go (inr blocked) (inr again) = (blocking_source_once u u v d e blocked again).1
 
--- so is the one that is found
-pub found_short : (p : PlannedShop) (u v : Node) (found : Option ℕ) → IsWellShaped p → MatchOption found (HasArc p u v → ⊥) (Arc p u v) → IfSome found (λ d. d ≤ MAX_ARC)
-found_short p u v None shaped none = tt
-found_short p u v (Some d) shaped arc = arc_short p u v d shaped arc
-
--- a node's move leaves one machine at most
-pub leaves_once : (p : PlannedShop) (v : Node) (m n : ℕ) → Leaves p v m → Leaves p v n → m ≡ n
-leaves_once p v m n (k, place, left) (l, same, also) = let is : k ≡ l = omega arith in sym left.here ∙ ap (machine_of p v.job) is ∙ also.here
-
--- nothing is blocked across two machines
-pub no_blocked_across : (p : PlannedShop) (u v : Node) (m n : ℕ) → u.job ≢ v.job → Leaves p u m → Enters p v n → m ≢ n → HasArc p u v → ⊥
-no_blocked_across p u v m n apart leaves enters other = no_blocked p u v apart (λ h blocked. other (leaves_once p u m h leaves blocked.leaves ∙ sym blocked.enters.here ∙ enters.here))
-
--- nor where the one job doesn't stand directly behind the other
-pub no_blocked_behind : (p : PlannedShop) (u v : Node) (m : ℕ) → u.job ≢ v.job → Leaves p u m → (IsBehind (order p m) u.job v.job → ⊥) → HasArc p u v → ⊥
-no_blocked_behind p u v m apart leaves none =
-    no_blocked p u v apart (λ h blocked. none (subst (λ (n : ℕ). IsBehind (order p n) u.job v.job) (leaves_once p u h m blocked.leaves leaves) blocked.behind))
+-- without a job arc, an arc is a blocking one
+pub arc_blocks : (p : PlannedShop) (u v : Node) (found : Option ℕ) → ((d : ℕ) → IsJobArc p u v d → ⊥)
+    → MatchOption found ((d : ℕ) → IsBlockingArc p u v d → ⊥) (IsBlockingArc p u v) → MatchOption found (HasArc p u v → ⊥) (Arc p u v)
+arc_blocks p u v None none free = λ (d, arc). ⊎_elim (none d) (free d) (arc_kind p u v d arc)
+arc_blocks p u v (Some d) none blocked = blocking_arc_is p u v d blocked

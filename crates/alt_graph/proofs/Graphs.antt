@@ -8,15 +8,14 @@ use Rattle.alt_graph.specs.declared.times.NodeTime.{NodeTime}
 use Rattle.alt_graph.specs.Tables.{AreFirsts}
 use Rattle.alt_graph.specs.Times.{NodeTimes, rank_of, earliest_of, before_of, IsAttained, LeadsBack, AreLinked, AreTimes, AreOrdered}
 use Rattle.alt_graph.specs.Ranking.{IsRanked, AreRanked}
-use Rattle.alt_graph.proofs.NodeNumbers.{node_same, numbers_count, number_inside, timed_node, node_timed}
-use Rattle.alt_graph.proofs.SourceKinds.{target_node}
+use Rattle.alt_graph.proofs.NodeNumbers.{numbers_count, number_inside, timed_node, node_timed}
+use Rattle.alt_graph.proofs.ArcKinds.{target_node}
+use Rattle.alt_graph.proofs.Paths.{first_path}
 
 module _ (p : PlannedShop) (t : NodeTimes) (are : AreTimes p t) where
   -- the job's release is the length of the path to its first place
   pub path_begins : (v : Node) → IsNode p v → v.place ≡ 0 → earliest_of t v ≡ release p v.job → Path p (v ∷ []) v (earliest_of t v)
-  path_begins v is first at =
-      let same : node v.job 0 ≡ v = node_same (node v.job 0) v refl (sym first) in
-      subst (λ (n : ℕ). Path p (v ∷ []) v n) (sym at) (subst (λ (w : Node). Path p (w ∷ []) w (release p v.job)) same (begins v.job is.job))
+  path_begins v is first at = subst (λ (n : ℕ). Path p (v ∷ []) v n) (sym at) (first_path p v first is.job)
 
   -- the kept moment of each node is the length of a path
   reached_below : (n : ℕ) (v : Node) → rank_of t v < n → IsNode p v → (nodes : List Node) × Path p nodes v (earliest_of t v)

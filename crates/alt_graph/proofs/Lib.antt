@@ -6,7 +6,6 @@ pub mod Limits
 pub mod Filling
 pub mod Standing
 pub mod NodeNumbers
-pub mod SourceKinds
 pub mod Ranks
 pub mod Settling
 pub mod LongestPaths

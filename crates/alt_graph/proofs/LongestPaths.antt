@@ -10,7 +10,7 @@ use Rattle.alt_graph.specs.declared.ranking.Longest.{Longest}
 use Rattle.alt_graph.specs.Sources.{IsJobArc, IsBlockingArc}
 use Rattle.alt_graph.specs.Times.{NodeTimes, rank_of, earliest_of}
 use Rattle.alt_graph.specs.Ranking.{IsRanked, WaitsFor, IsLongest, IsLastOf, IsOver}
-use Rattle.alt_graph.proofs.SourceKinds.{arc_kind, job_arc_is, blocking_arc_is, job_source_once, blocking_source_once}
+use Rattle.alt_graph.proofs.ArcKinds.{arc_kind, job_arc_is, blocking_arc_is, job_source_once, blocking_source_once}
 
 module _ (p : PlannedShop) (shaped : IsWellShaped p) (t : NodeTimes) (n : ℕ) (v : Node) where
   -- only a job's first place has no job arc in

@@ -9,6 +9,7 @@ use Rattle.shop_base.specs.Graph.{node, leaving, Arc, HasArc, Path, begins, foll
 use Rattle.shop_base.proofs.LowerBounds.{no_exact_run_is_faster-holds}
 use Rattle.alt_graph.specs.Evidence.{node_count, IsChain, EndsIn, IsNeverGoneBefore}
 use Rattle.alt_graph.specs.Places.{node_at}
+use Rattle.alt_graph.proofs.NodeNumbers.{node_same}
 use Rattle.alt_graph.proofs.ArcKinds.{arc_once}
 
 -- two lists that end alike are alike before
@@ -61,15 +62,12 @@ path_once p _ _ _ _ _ _ shaped (follows nodes u v n d path arc) (follows others 
     let (front, end) = snoc_same nodes others v w same in
     let (before, so_far) = path_once p nodes others u x n m shaped path other front in
     let again : Arc p u v e = rw (before, end) also in
-    let added : d ≡ e = arc_once p u v d e shaped arc again in
+    let added : d ≡ e = arc_once p shaped u v d e arc again in
     (end, omega arith)
 
 -- a first place of a job of the shop is a path
 pub first_path : (p : PlannedShop) (v : Node) → v.place ≡ 0 → v.job < jobs p → Path p (v ∷ []) v (release p v.job)
-first_path p v first inside = subst (λ (w : Node). Path p (w ∷ []) w (release p w.job)) is (begins v.job inside)
-  where
-    is : node v.job 0 ≡ v
-    is = λ i. record { job = v.job; place = (sym first) i }
+first_path p v first inside = subst (λ (w : Node). Path p (w ∷ []) w (release p v.job)) (node_same (node v.job 0) v refl (sym first)) (begins v.job inside)
 
 pub start_path : (p : PlannedShop) (nodes : List Node) (v : Node) (n : ℕ) → 0 < length nodes → v ≡ node_at nodes 0 → Path p (v ∷ []) v n
     → Path p (take 1 nodes) (node_at nodes 0) n

@@ -11,7 +11,7 @@ use Rattle.alt_graph.specs.Sources.{IsJobArc, IsBlockingArc}
 use Rattle.alt_graph.specs.Times.{NodeTimes, time_at, rank_of}
 use Rattle.alt_graph.specs.Ranking.{IsRanked, AreRanked, Grows, IsSettled, AreSettled, ranked_at}
 use Rattle.alt_graph.proofs.NodeNumbers.{node_same}
-use Rattle.alt_graph.proofs.SourceKinds.{arc_kind}
+use Rattle.alt_graph.proofs.ArcKinds.{arc_kind}
 
 module _ (p : PlannedShop) where
   pub grows_not : (t : NodeTimes) (n : ℕ) → Grows p t t n

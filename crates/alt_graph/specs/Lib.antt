@@ -1,4 +1,3 @@
-pub mod ArcParts
 pub mod Evidence
 pub mod Places
 pub mod Times

@@ -1,4 +1,4 @@
-use Rattle.std.specs.Prelude.{◌≡◌, ℕ, ◌+◌, ◌<◌, Option, MatchOption}
+use Rattle.std.specs.Prelude.{◌≡◌, ℕ, ◌+◌, ◌<◌, List, length, slice_index, Option, MatchOption}
 use Rattle.shop_base.specs.declared.node.Node.{Node}
 use Rattle.shop_base.specs.Plan.{PlannedShop, steps, nominal, clean, Stands}
 use Rattle.alt_graph.specs.declared.sources.Source.{Source}
@@ -19,6 +19,10 @@ pub record IsBlockingArc (p : PlannedShop) (u v : Node) (d : ℕ) : Type 0 where
   pub enters : Stands p machine (ahead + 1) v.job v.place
   pub place : u.place ≡ step + 1
   pub length : d ≡ clean p machine
+
+-- job j stands directly behind job i in the order
+abbrev pub IsBehind : List ℕ → ℕ → ℕ → Type 0
+IsBehind order i j = (a : ℕ) × (a + 1 < length order) × (slice_index order a ≡ i) × (slice_index order (a + 1) ≡ j)
 
 -- the arc into v of one kind, if there is one
 abbrev pub IsSource : (Node → Node → ℕ → Type 0) → Node → Option Source → Type 0

@@ -1,7 +1,8 @@
 //! The routes and orders of a planned shop.
 
-ghost use Rattle.std.specs.Prelude.{◌≡◌, ◌<◌, ◌≤◌};
-ghost use Rattle.shop_base.specs.Plan.{jobs, machines, route, order, release, clean, IsWellShaped};
+ghost use Rattle.std.specs.Prelude.{◌≡◌, ◌<◌, ◌≤◌, MatchOption, IfSome};
+ghost use Rattle.shop_base.specs.Shop.{step_at};
+ghost use Rattle.shop_base.specs.Plan.{jobs, machines, route, steps, order, release, clean, Visits, IsWellShaped};
 
 use shop_base::limits::{MAX_JOBS, MAX_MACHINES};
 use shop_base::{JobNo, MachineNo, Moment, Shaped, Step};
@@ -34,6 +35,24 @@ pub(crate) fn route_of(shaped: &Shaped, job: JobNo) -> &[Step]
         Some(route) => route,
         None => unreachable!(),
     }
+}
+
+/// The step of a job at a place of its route.
+pub(crate) fn step_of(shaped: &Shaped, job: JobNo, place: u32) -> Option<Step>
+    ensures none { MatchOption result (steps shaped.now job ≤ place) (λ step. place < steps shaped.now job) }
+    ensures same { IfSome result (λ step. step ≡ step_at (route shaped.now job) place) }
+    ensures well_shaped { IsWellShaped shaped.now }
+{
+    shaped.shop().route(job)?.get(place as usize).copied()
+}
+
+/// The machine of that step.
+pub(crate) fn machine_at(shaped: &Shaped, job: JobNo, place: u32) -> Option<MachineNo>
+    ensures machine { MatchOption result (steps shaped.now job ≤ place) (Visits shaped.now job place) }
+    ensures well_shaped { IsWellShaped shaped.now }
+{
+    let step = step_of(shaped, job, place)?;
+    Some(step.machine)
 }
 
 /// The machine's order.

@@ -1,12 +1,12 @@
 //! The arcs into a node and out of it.
 
-ghost use Rattle.std.specs.Prelude.{◌<◌, ◌≤◌, MatchOption, length};
-ghost use Rattle.shop_base.specs.Plan.{machines, order, steps, Visits, Stands, IsWellShaped};
+ghost use Rattle.std.specs.Prelude.{◌<◌, length};
+ghost use Rattle.shop_base.specs.Plan.{machines, order, Visits, Stands, IsWellShaped};
 ghost use Rattle.shop_base.specs.Graph.{IsNode};
 ghost use Rattle.alt_graph.specs.Tables.{AreTables};
 ghost use Rattle.alt_graph.specs.Sources.{IsJobArc, IsBlockingArc, IsSource, IsTarget};
 
-use crate::readers::{clean_of, order_of, route_of};
+use crate::readers::{clean_of, machine_at, order_of, route_of, step_of};
 use crate::tables::{Tables, slot};
 use shop_base::{MachineNo, Moment, Node, Shaped};
 
@@ -19,14 +19,15 @@ pub(crate) struct Source {
 
 /// The job arc into the node, if there is one.
 pub(crate) fn job_source(shaped: &Shaped, node: Node) -> Option<Source>
-    requires { IsNode shaped.now node }
-    ensures { IsSource (IsJobArc shaped.now) node result }
+    ensures arc { IsSource (IsJobArc shaped.now) node result }
+    ensures well_shaped { IsWellShaped shaped.now }
 {
+    let _shop = shaped.shop();
     if node.place == 0 {
         return None;
     }
     let place = node.place - 1;
-    let length = route_of(shaped, node.job)[place as usize].nominal;
+    let length = step_of(shaped, node.job, place)?.nominal;
     let node = Node {
         job: node.job,
         place,
@@ -36,11 +37,10 @@ pub(crate) fn job_source(shaped: &Shaped, node: Node) -> Option<Source>
 
 /// The blocking arc into the node, if there is one.
 pub(crate) fn blocking_source(shaped: &Shaped, tables: &Tables, node: Node) -> Option<Source>
-    requires node { IsNode shaped.now node }
-    requires tables { AreTables shaped.now tables.now }
+    requires { AreTables shaped.now tables.now }
     ensures { IsSource (IsBlockingArc shaped.now) node result }
 {
-    let machine = machine_at(shaped, node)?;
+    let machine = machine_at(shaped, node.job, node.place)?;
     let place = place_on(shaped, tables, machine, node);
     if place == 0 {
         return None;
@@ -70,8 +70,7 @@ pub(crate) fn job_target(shaped: &Shaped, node: Node) -> Option<Node>
 
 /// The node to which the blocking arc out of the node leads, if there is one.
 pub(crate) fn blocking_target(shaped: &Shaped, tables: &Tables, node: Node) -> Option<Node>
-    requires node { IsNode shaped.now node }
-    requires tables { AreTables shaped.now tables.now }
+    requires { AreTables shaped.now tables.now }
     ensures { IsTarget (IsBlockingArc shaped.now) node result }
 {
     if node.place == 0 {
@@ -81,7 +80,7 @@ pub(crate) fn blocking_target(shaped: &Shaped, tables: &Tables, node: Node) -> O
         job: node.job,
         place: node.place - 1,
     };
-    let machine = machine_at(shaped, entry)?;
+    let machine = machine_at(shaped, entry.job, entry.place)?;
     let place = place_on(shaped, tables, machine, entry) + 1;
     if place == order_of(shaped, machine).len() {
         return None;
@@ -108,19 +107,4 @@ fn entry_at(shaped: &Shaped, tables: &Tables, machine: MachineNo, place: usize) 
     let job = order_of(shaped, machine)[place];
     let place = tables.steps[slot(machine, job)];
     Node { job, place }
-}
-
-/// The machine that the node enters, if it isn't a leaving.
-fn machine_at(shaped: &Shaped, node: Node) -> Option<MachineNo>
-    requires { IsNode shaped.now node }
-    ensures machine { MatchOption result (steps shaped.now node.job ≤ node.place) (Visits shaped.now node.job node.place) }
-    ensures well_shaped { IsWellShaped shaped.now }
-{
-    let route = route_of(shaped, node.job);
-    let place = node.place as usize;
-    if place < route.len() {
-        Some(route[place].machine)
-    } else {
-        None
-    }
 }

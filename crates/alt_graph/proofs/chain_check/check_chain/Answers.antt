@@ -3,6 +3,7 @@ use Rattle.std.proofs.lemmas.List.{take_all}
 use Rattle.shop_base.specs.Graph.{node}
 use Rattle.shop_base.proofs.Bounds.{operations_of-le}
 use Rattle.alt_graph.specs.Places.{node_at}
+use Rattle.alt_graph.proofs.ArcKinds.{arc_short}
 use Rattle.alt_graph.proofs.Paths.{path_begins, start_path, path_more, arc_missing, told_none, told_length, chain_no_faster}
 use Rattle.alt_graph.proofs.chain_check.check_chain.Goals as goal
 
@@ -24,12 +25,12 @@ pub overflow_add-length : goal.overflow_add-length
 overflow_add-length c =
     let (some, path, short) = c.loop-place.invariant in
     let shaped = c.in_ok-length.ensures.sound in
-    omega (arith, short, c.in_ok-length-2.ensures.short, c.count_nodes.ensures, operations_of-le _ shaped.shop, shaped.shop.counts.few_jobs)
+    omega (arith, short, arc_short _ _ _ _ c.in_ok-length.ensures.sound c.in_ok-length-2.ensures.exact, c.count_nodes.ensures, operations_of-le _ shaped.shop, shaped.shop.counts.few_jobs)
 
 pub loop-place-preserved : goal.loop-place-preserved
 loop-place-preserved c =
     let (some, path, short) = c.loop-place.invariant in
-    (omega arith, path_more c.args.shaped.now c.args.nodes.now c.loop-place.place c.loop-place.length c.in_ok-length-2.field-0 some (omega arith) path c.in_ok-length-2.ensures.exact, omega (arith, short, c.in_ok-length-2.ensures.short))
+    (omega arith, path_more c.args.shaped.now c.args.nodes.now c.loop-place.place c.loop-place.length c.in_ok-length-2.field-0 some (omega arith) path c.in_ok-length-2.ensures.exact, omega (arith, short, arc_short _ _ _ _ c.in_ok-length.ensures.sound c.in_ok-length-2.ensures.exact))
 
 pub returns-clause-exact : goal.returns-clause-exact
 returns-clause-exact c =

@@ -1,4 +1,4 @@
-use Rattle.std.proofs.Common.{Option, None, Some, MatchOption, inl}
+use Rattle.std.proofs.Common.{Option, None, Some, MatchOption}
 use Rattle.shop_base.specs.Plan.{PlannedShop, IsWellShaped}
 use Rattle.shop_base.specs.declared.node.Node.{Node}
 use Rattle.alt_graph.specs.declared.times.TheConstants.{UNRANKED}
@@ -7,7 +7,7 @@ use Rattle.alt_graph.specs.declared.ranking.Longest.{Longest}
 use Rattle.alt_graph.specs.Sources.{IsJobArc}
 use Rattle.alt_graph.specs.Times.{NodeTimes, rank_of}
 use Rattle.alt_graph.specs.Ranking.{WaitsFor, IsLongest, IsOver}
-use Rattle.alt_graph.proofs.SourceKinds.{arc_short, job_arc_is}
+use Rattle.alt_graph.proofs.ArcKinds.{arc_short, job_arc_is}
 use Rattle.alt_graph.proofs.LongestPaths.{longest_along, longest_release, waits_for}
 use Rattle.alt_graph.proofs.ranking.longest_in_job.Goals as goal
 use Rattle.std.proofs.Common.{ℕ, ◌≡◌}
@@ -18,10 +18,10 @@ over_job p shaped t n v s arc None free = waits_for p shaped t n v s (job_arc_is
 over_job p shaped t n v s arc (Some longest) over = longest_along p shaped t n v s longest arc over
 
 pub longest_over-requires-clause-short : goal.longest_over-requires-clause-short
-longest_over-requires-clause-short c = arc_short _ _ _ _ c.requires.tables.shaped (inl c.in-Some.ensures)
+longest_over-requires-clause-short c = arc_short _ _ _ _ c.requires.tables.shaped (job_arc_is _ _ _ _ c.in-Some.ensures.arc)
 
 pub returns-in-Some : goal.returns-in-Some
-returns-in-Some c = over_job _ c.requires.tables.shaped _ _ c.args.node c.in-Some.source c.in-Some.ensures c.longest_over.result c.longest_over.ensures
+returns-in-Some c = over_job _ c.requires.tables.shaped _ _ c.args.node c.in-Some.source c.in-Some.ensures.arc c.longest_over.result c.longest_over.ensures
 
 pub returns-in-None : goal.returns-in-None
-returns-in-None c = longest_release _ c.requires.tables.shaped _ _ c.args.node c.release_of.result c.requires.node c.in-None.ensures c.release_of.ensures.release
+returns-in-None c = longest_release _ c.requires.tables.shaped _ _ c.args.node c.release_of.result c.requires.node c.in-None.ensures.arc c.release_of.ensures.release

@@ -1,10 +1,9 @@
-use Rattle.std.proofs.Common.{inr}
-use Rattle.alt_graph.proofs.SourceKinds.{arc_short, blocking_arc_is}
+use Rattle.alt_graph.proofs.ArcKinds.{arc_short, blocking_arc_is}
 use Rattle.alt_graph.proofs.LongestPaths.{longest_alone, longest_both, waits_for}
 use Rattle.alt_graph.proofs.ranking.longest_to.Goals as goal
 
 pub longest_over-requires-clause-short : goal.longest_over-requires-clause-short
-longest_over-requires-clause-short c = arc_short _ _ _ _ c.requires.tables.shaped (inr c.in-Some.ensures)
+longest_over-requires-clause-short c = arc_short _ _ _ _ c.requires.tables.shaped (blocking_arc_is _ _ _ _ c.in-Some.ensures)
 
 pub returns-in_err-freed-in-Some : goal.returns-in_err-freed-in-Some
 returns-in_err-freed-in-Some c = rw c.from_residual-in_err-freed-in-Some.ensures

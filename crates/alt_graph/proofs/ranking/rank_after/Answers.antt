@@ -5,7 +5,7 @@ use Rattle.shop_base.specs.Graph.{node}
 use Rattle.alt_graph.specs.declared.times.TheConstants.{UNRANKED}
 use Rattle.alt_graph.specs.Sources.{IsJobArc, IsBlockingArc}
 use Rattle.alt_graph.specs.Ranking.{ranked_at, so_far, Grows, IsSettled}
-use Rattle.alt_graph.proofs.SourceKinds.{job_arc_is, target_node, job_target_once, blocking_target_once}
+use Rattle.alt_graph.proofs.ArcKinds.{job_arc_is, target_node, job_target_once, blocking_target_once}
 use Rattle.alt_graph.proofs.Ranks.{few_done}
 use Rattle.alt_graph.proofs.Settling.{grows_on, settled_still, settled_earlier, settled_next, target_settled}
 use Rattle.alt_graph.proofs.ranking.rank_after.Goals as goal

@@ -7,7 +7,7 @@ use Rattle.alt_graph.specs.declared.sources.Source.{Source}
 use Rattle.alt_graph.specs.Sources.{IsJobArc, IsBlockingArc, IsSource}
 use Rattle.alt_graph.specs.Times.{NodeTimes, rank_of}
 use Rattle.alt_graph.specs.Ranking.{so_far, IsRanked, AreRanked, IsSettled}
-use Rattle.alt_graph.proofs.SourceKinds.{arc_kind, job_arc_is, blocking_arc_is, job_source_once, blocking_source_once}
+use Rattle.alt_graph.proofs.ArcKinds.{arc_kind, job_arc_is, blocking_arc_is, job_source_once, blocking_source_once}
 use Rattle.alt_graph.proofs.Ranks.{few_done}
 use Rattle.alt_graph.proofs.Walks.{source_ranked}
 use Rattle.alt_graph.proofs.rounds.free_source.Goals as goal
@@ -28,7 +28,7 @@ never_ranked p t done v sound few free (inr (u, d, arc, after)) job blocking = g
 pub returns-in-Some-clause-arc : goal.returns-in-Some-clause-arc
 returns-in-Some-clause-arc c =
     let free = c.in-Some.ensures in
-    let arc : IsJobArc c.args.shaped.now c.in-Some.free c.args.node free.0 = subst (λ (o : Option Source). IsSource (IsJobArc c.args.shaped.now) c.args.node o) free.1 c.job_source-source.ensures in
+    let arc : IsJobArc c.args.shaped.now c.in-Some.free c.args.node free.0 = subst (λ (o : Option Source). IsSource (IsJobArc c.args.shaped.now) c.args.node o) free.1 c.job_source-source.ensures.arc in
     (free.0, job_arc_is _ _ _ _ arc)
 
 pub unreachable-requires : goal.unreachable-requires
@@ -38,7 +38,7 @@ unreachable-requires c =
     never_ranked p t c.args.ranking.now.done.items c.args.node c.requires.ranked
     (few_done p c.args.tables.now.firsts.items c.requires.tables.firsts c.args.ranking.now.rows.items c.args.ranking.now.done.items c.requires.ranked)
     c.requires.unranked (c.requires.settled c.args.node c.requires.node)
-    (source_ranked (IsJobArc p) (job_source_once p c.requires.tables.shaped) t c.args.node c.job_source-source.result c.job_source-source.ensures c.in_default.ensures)
+    (source_ranked (IsJobArc p) (job_source_once p c.requires.tables.shaped) t c.args.node c.job_source-source.result c.job_source-source.ensures.arc c.in_default.ensures)
     (source_ranked (IsBlockingArc p) (blocking_source_once p c.requires.tables.shaped) t c.args.node c.blocking_source-source.result c.blocking_source-source.ensures c.in-None.ensures)
 
 pub returns-clause-arc : goal.returns-clause-arc
