@@ -1,6 +1,6 @@
 -- Words that are numbers, and the kinds of lines that they make.
 use Rattle.std.proofs.Common.{◌≡◌, ℕ, suc, ◌+◌, ◌*◌, ◌%◌, ◌==◌, Bool, true, false, cond, List, [], ◌∷◌, ◌++◌, length, Option, Some, None, Result, Ok, Err, refl, sym, ap, subst, ◌∙◌, arith, inl, inr}
-use Rattle.std.specs.Prelude.{is_some, option_map, option_and_then, codes, ◌⊎◌}
+use Rattle.std.specs.Prelude.{is_some, is_err, option_map, option_and_then, codes, ◌⊎◌}
 use Rattle.std.specs.Str.{bytes_eq}
 use Rattle.std.proofs.lemmas.Bool.{eqb-true}
 use Rattle.std.proofs.lemmas.Option.{cond_some, none-some, same_Some}
@@ -12,7 +12,7 @@ use Rattle.orlib_read.specs.Lines.{NumberedLine}
 use Rattle.orlib_read.specs.Words.{words_of, value_of, is_number, number_of, IsNumber, AreNumbers, is_odd}
 use Rattle.orlib_read.specs.Kinds.{IsInstanceLine, IsAnyInstanceLine, IsOtherLine, IsSizeLine, IsJobLine, numbers_of}
 use Rattle.orlib_read.specs.Faults.{IsFirstNonNumber, IsOddLine, IsWordLine}
-use Rattle.orlib_read.specs.Reading.{◌>>=◌, name_of, is_instance_line, sizes_of, number_or, step_at, steps_at, route_at}
+use Rattle.orlib_read.specs.Reading.{◌>>=◌, Gives, name_of, is_instance_line, sizes_of, number_or, step_at, steps_at, route_at}
 use Rattle.orlib_read.proofs.Parts.{cases_bool}
 
 -- ---- what a step of reading gave
@@ -208,6 +208,16 @@ route_is line route h = steps_are line.number 0 (words_of line.bytes) route (cho
 pub route_again : (line : NumberedLine) (route : List Step) → IsJobLine line route → route_at line ≡ Ok route
 unfolding route_at
 route_again line route h = rw (job_line_even (words_of line.bytes) route h) (steps_again line.number 0 (words_of line.bytes) route h)
+
+pub route_even : (line : NumberedLine) → is_odd (length (words_of line.bytes)) ≡ false → steps_at line.number 0 (words_of line.bytes) ≡ route_at line
+unfolding route_at
+route_even line even = rw even refl
+
+-- where steps were read, they are the line's route
+pub route_read : {X : Type 0} (view : X → List Step) (read : Result X OrFault) (line : NumberedLine) → is_err read ≡ false
+    → Gives view read (steps_at line.number 0 (words_of line.bytes)) → Gives view read (route_at line)
+route_read view (Ok x) line no_err h = route_again line (view x) (steps_are line.number 0 (words_of line.bytes) (view x) h)
+route_read view (Err fault) line no_err h = absurd cc
 
 -- ---- faults of a job line
 

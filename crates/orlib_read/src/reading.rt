@@ -87,10 +87,12 @@ fn step_of(line: usize, before: usize, machine: &[u8], nominal: &[u8]) -> Result
 fn route_of(alloc: Global, line: Line) -> Result<Vec<Step>, OrFault>
     ensures { Gives (λ route. route.items) result (route_at (line_of line.entry)) }
 {
-    if word_count(line.bytes) % 2 == 1 {
+    let route = steps_of(alloc, line);
+    // An odd number of words comes before a word that isn't a number.
+    if route.is_err() && word_count(line.bytes) % 2 == 1 {
         return Err(OrFault::OddWords { line: line.number });
     }
-    steps_of(alloc, line)
+    route
 }
 
 fn steps_of(alloc: Global, line: Line) -> Result<Vec<Step>, OrFault>
