@@ -1,8 +1,8 @@
 //! The words of a line, and the numbers among them.
 
-ghost use Rattle.std.specs.Prelude.{◌≡◌, ◌∷◌, [], ⊤, ◌<◌, ◌≤◌, ℕ, Bool, Some, IsTrue, length, not, ◌||◌, position, IfSome, MatchOption};
+ghost use Rattle.std.specs.Prelude.{◌≡◌, ◌∷◌, [], ⊤, ◌<◌, ◌≤◌, ℕ, Bool, Some, length, not, ◌||◌, position, IfSome, MatchOption};
 ghost use Rattle.std.specs.List.{before_first, after_first, list_all};
-ghost use Rattle.orlib_read.specs.Words.{is_blank, is_digit, is_number, words_of, value_of, number_of};
+ghost use Rattle.orlib_read.specs.Words.{is_blank, is_digit, words_of, number_of};
 ghost use Rattle.orlib_read.specs.Kinds.{is_plus};
 
 const MOST_DIGITS: usize = 9;
@@ -63,41 +63,21 @@ fn is_digit(byte: u8) -> bool
     byte.is_ascii_digit()
 }
 
-fn are_digits(word: &[u8]) -> bool
-    ensures { result ≡ list_all is_digit word.now }
-{
-    word.iter().all(|byte| is_digit(*byte))
-}
-
-fn is_number(word: &[u8]) -> bool
-    ensures { result ≡ is_number word.now }
-{
-    if word.is_empty() || word.len() > MOST_DIGITS {
-        return false;
-    }
-    are_digits(word)
-}
-
-fn value_of(digits: &[u8]) -> u32
-    requires { IsTrue (is_number digits.now) }
-    ensures { result ≡ value_of digits.now }
-{
-    let mut value = 0;
-    for digit in digits {
-        value = 10 * value + u32::from(*digit - b'0');
-    }
-    value
-}
-
 /// The number that the word is, if it is one.
 pub(crate) fn number_of(word: &[u8]) -> Option<u32>
     ensures { result ≡ number_of word.now }
 {
-    if is_number(word) {
-        Some(value_of(word))
-    } else {
-        None
+    if word.is_empty() || word.len() > MOST_DIGITS {
+        return None;
     }
+    let mut value = 0;
+    for byte in word {
+        if !is_digit(*byte) {
+            return None;
+        }
+        value = 10 * value + u32::from(*byte - b'0');
+    }
+    Some(value)
 }
 
 /// How many words are on the line.
