@@ -7,6 +7,7 @@ ghost use Rattle.orlib_read.specs.Reading.{before_title, section_of};
 
 use crate::kinds::{is_instance_line, is_named};
 use crate::words::{is_filler, split_around};
+use memchr::memchr;
 
 /// A line of a text and its number, from 1.
 #[derive(Clone, Copy)]
@@ -112,7 +113,7 @@ fn line_end(text: &[u8]) -> Option<usize>
     ensures first { result ≡ position is_line_feed text.now }
     ensures within { IfSome result (λ end. end < length text.now) }
 {
-    text.iter().position(|byte| *byte == b'\n')
+    memchr(b'\n', text)
 }
 
 fn without_return(line: &[u8]) -> &[u8]
