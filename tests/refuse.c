@@ -25,7 +25,6 @@ static int refused(void) {
   if (!next) next = (type)dlsym(RTLD_NEXT, name)
 
 typedef void *(*malloc_t)(size_t);
-typedef void *(*calloc_t)(size_t, size_t);
 typedef void *(*realloc_t)(void *, size_t);
 typedef void *(*aligned_t)(size_t, size_t);
 typedef int (*posix_t)(void **, size_t, size_t);

@@ -10,11 +10,11 @@ ghost use Rattle.plan_text.specs.Documents.{IsPlanText, IsFirstFault};
 ghost use Rattle.plan_verifier.specs.Accepted.{kept_at};
 ghost use Rattle.cellplan.specs.Instances.{HasFault, Holds, IsInstanceRefusal};
 ghost use Rattle.cellplan.specs.Plans.{TellBoth, TellsAShop, IsRightOfBoth, IsRightPlanFault, IsPlanRefusal, IsOfPlan, IsOfBoth};
-ghost use Rattle.cellplan.specs.Checks.{IsLoaded, IsCheckLine, IsAcceptedLine, IsLineOf, node_words, moment_words, leavings_of, cycle_line, late_line};
+ghost use Rattle.cellplan.specs.Checks.{IsCheckLine, IsAcceptedLine, IsLineOf, node_words, moment_words, leavings_of, cycle_line, late_line};
 
 use crate::answer::{Answer, GOOD, REFUSED};
 use crate::command_fault::CommandFault;
-use crate::facts::load_instance;
+use crate::instances::load_instance;
 use crate::loading::{Loaded, load_for};
 use crate::print::{end_line, push_fact, push_words};
 use crate::shapes::not_shaped_answer;
@@ -22,9 +22,9 @@ use plan_verifier::{Verified, Why};
 use shop_base::{JobNo, Moment, Node, Shop};
 use std::alloc::{AllocError, Global};
 
-/// The verdict on a plan for an instance: accepted, with the makespan and each job's latest leaving moment, or
-/// refused, with the evidence. Without a name the first text is one instance, else a collection with an
-/// instance of this name.
+/// The verdict on a plan for an instance: accepted, with the makespan and each job's earliest leaving, or refused,
+/// with the evidence. Without a name the first text is one instance, else a collection with an instance of
+/// this name.
 pub fn check_answer(
     alloc: Global,
     instance: &[u8],

@@ -1,17 +1,16 @@
 //! The command `facts`.
 
-ghost use Rattle.std.specs.Prelude.{◌≡◌, ◌+◌, ◌^◌, ◌<◌, ℕ, List, IfOk, IfErr};
+ghost use Rattle.std.specs.Prelude.{◌≡◌, ◌+◌, ◌<◌, ℕ, List, IfOk, IfErr};
 ghost use Rattle.std.specs.Option.{option_copied};
-ghost use Rattle.shop_base.specs.Shop.{JobShop, operations_of};
+ghost use Rattle.shop_base.specs.Shop.{JobShop};
 ghost use Rattle.orlib_read.specs.declared.or_fault.OrFault.{OrFault};
-ghost use Rattle.orlib_read.specs.declared.named.Named.{Named};
 ghost use Rattle.cellplan.specs.Facts.{facts_line, AreFacts, AreToldFacts};
-ghost use Rattle.cellplan.specs.Instances.{Tells, HasFault, Holds, IsRightFault, IsInstanceRefusal, told_of};
+ghost use Rattle.cellplan.specs.Instances.{Tells, HasFault, Holds, IsRightFault, IsInstanceRefusal};
 
 use crate::answer::{Answer, GOOD};
 use crate::command_fault::CommandFault;
+use crate::instances::load_instance;
 use crate::print::{end_line, push_fact};
-use orlib_read::{Named, OrFault, read_from_collection, read_instance};
 use shop_base::Shop;
 use std::alloc::{AllocError, Global};
 
@@ -32,34 +31,6 @@ pub fn facts_answer(
     let named = load_instance(alloc, instance, name)?;
     let text = facts_text(alloc, &named.shop).map_err(|_| CommandFault::Memory)?;
     Ok(Answer { text, status: GOOD })
-}
-
-/// The instance that the text tells.
-pub fn load_instance(
-    alloc: Global,
-    instance: &[u8],
-    name: Option<&[u8]>,
-) -> Result<Named, CommandFault>
-    ensures found { IfOk result (λ named. Tells instance.now (option_copied name.entry) named.description.items named.shop) }
-    ensures only { (description : List ℕ) (shop : JobShop) → Tells instance.now (option_copied name.entry) description shop
-        → Holds result (λ named. (named.description.items ≡ description) × (named.shop ≡ shop)) }
-    ensures fault { IfErr result (IsRightFault instance.now (option_copied name.entry)) }
-    ensures first { (fault : OrFault) → HasFault instance.now (option_copied name.entry) fault → IsInstanceRefusal result fault }
-{
-    match name {
-        Some(name) => told(read_from_collection(alloc, instance, name)),
-        None => told(read_instance(alloc, instance)),
-    }
-}
-
-fn told(read: Result<Named, OrFault>) -> Result<Named, CommandFault>
-    ensures { result ≡ told_of read }
-{
-    match read {
-        Ok(named) => Ok(named),
-        Err(OrFault::Memory) => Err(CommandFault::Memory),
-        Err(fault) => Err(CommandFault::Instance(fault)),
-    }
 }
 
 fn facts_text(alloc: Global, shop: &Shop) -> Result<Vec<u8>, AllocError>

@@ -1,6 +1,6 @@
 //! Files and the standard input, read whole.
 
-ghost use Rattle.std.specs.Prelude.{◌≡◌, ◌≤◌, IfOk, IfSome, vec_len};
+ghost use Rattle.std.specs.Prelude.{◌≡◌, ◌≢◌, ◌<◌, ◌≤◌, IfOk, IfErr, IfSome, length, vec_len};
 
 use std::alloc::Global;
 use std::fs;
@@ -31,6 +31,7 @@ pub fn read_file<R: Files>(rt: &R, alloc: Global, path: &str) -> Result<Vec<u8>,
 pub fn read_whole<R: Read + Drop>(alloc: Global, reader: R) -> Result<Vec<u8>, FileFault>
     ensures within { IfOk result (λ bytes. vec_len bytes ≤ MAX_BYTES) }
     ensures whole { IfOk result (λ bytes. IfSome (R.remaining reader) (λ all. bytes.items ≡ all)) }
+    ensures too_long { IfErr result (λ fault. fault ≡ FileFault.TooLong → IfSome (R.remaining reader) (λ all. MAX_BYTES < length all)) }
 {
     let mut bytes = Vec::new(alloc);
     let mut limited = reader.take(MAX_BYTES as u64 + 1);
@@ -41,7 +42,9 @@ pub fn read_whole<R: Read + Drop>(alloc: Global, reader: R) -> Result<Vec<u8>, F
     }
 }
 
-fn fault_of(error: io::Error) -> FileFault {
+fn fault_of(error: io::Error) -> FileFault
+    ensures { result ≢ FileFault.TooLong }
+{
     match error.kind() {
         ErrorKind::OutOfMemory => FileFault::Memory,
         _ => FileFault::Read,

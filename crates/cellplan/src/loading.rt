@@ -1,6 +1,6 @@
 //! An instance and a plan, read and judged.
 
-ghost use Rattle.std.specs.Prelude.{◌≡◌, IfOk, IfErr};
+ghost use Rattle.std.specs.Prelude.{IfOk, IfErr};
 ghost use Rattle.std.specs.Option.{option_copied};
 ghost use Rattle.shop_base.specs.Plan.{ShopPlan, PlannedShop, IsWellShaped};
 ghost use Rattle.orlib_read.specs.declared.or_fault.OrFault.{OrFault};
@@ -11,7 +11,7 @@ ghost use Rattle.cellplan.specs.Plans.{TellBoth, TellsAShop, IsRightOfBoth, IsRi
 ghost use Rattle.cellplan.specs.Checks.{IsLoaded};
 
 use crate::command_fault::CommandFault;
-use crate::facts::load_instance;
+use crate::instances::load_instance;
 use crate::plans::load_plan;
 use plan_verifier::{Verdict, Verified, Why, verify};
 use shop_base::{Plan, ShapeFault, Shaped, Shop, shape};

@@ -9,6 +9,7 @@ pub mod checks;
 pub mod command_fault;
 pub mod facts;
 mod files;
+pub mod instances;
 pub mod loading;
 pub mod plans;
 mod print;

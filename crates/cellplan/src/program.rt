@@ -3,8 +3,9 @@
 use crate::answer::{Answer, GOOD};
 use crate::checks::check_of;
 use crate::command_fault::CommandFault;
-use crate::facts::{facts_answer, load_instance};
+use crate::facts::facts_answer;
 use crate::files::{FileFault, read_file, read_whole};
+use crate::instances::load_instance;
 use crate::shapes::shape_of;
 use crate::words::{Chosen, CommandName, WordsFault, read_words};
 use shop_base::Shop;

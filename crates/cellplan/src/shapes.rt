@@ -1,6 +1,6 @@
 //! The command `shape`.
 
-ghost use Rattle.std.specs.Prelude.{◌≡◌, ◌++◌, ℕ, List, IfOk, IfErr, codes};
+ghost use Rattle.std.specs.Prelude.{◌≡◌, IfOk, IfErr, codes};
 ghost use Rattle.std.specs.Option.{option_copied};
 ghost use Rattle.shop_base.specs.Plan.{ShopPlan, PlannedShop};
 ghost use Rattle.orlib_read.specs.declared.or_fault.OrFault.{OrFault};
@@ -12,7 +12,7 @@ ghost use Rattle.cellplan.specs.Shapes.{IsShapeLine, IsRefusedLine};
 
 use crate::answer::{Answer, GOOD, REFUSED};
 use crate::command_fault::CommandFault;
-use crate::facts::load_instance;
+use crate::instances::load_instance;
 use crate::plans::load_plan;
 use crate::print::end_line;
 use shop_base::{Plan, ShapeFault, Shop, shape};

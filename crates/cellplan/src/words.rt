@@ -1,11 +1,11 @@
 //! The words of the command line, and what they ask for.
 
-ghost use Rattle.std.specs.Prelude.{◌≡◌, ◌≤◌, ◌++◌, List, ℕ, [], IfOk, IfErr, OnOk, codes, length, map, option_map};
+ghost use Rattle.std.specs.Prelude.{◌≡◌, ◌≤◌, ◌++◌, [], IfOk, IfErr, OnOk, codes, map, option_map};
 ghost use Rattle.std.specs.String.{string_bytes};
 ghost use Rattle.clap.specs.Words.{found_of, kind_of, rows_of, subcommand_rows_of};
 ghost use Rattle.clap.specs.Words.{one_of};
 ghost use Rattle.cellplan.specs.declared.words.CommandName.{CommandName};
-ghost use Rattle.cellplan.specs.Choice.{FitsRounds, Holds, IsFit, IsWithin, TakesFiles, Tells, TellsOneOf};
+ghost use Rattle.cellplan.specs.Choice.{FitsRounds, Holds, IsFit, IsWithin, Tells, TellsOneOf};
 ghost use Rattle.cellplan.specs.Choice.{files_in, found_in, instance_in, reasons_in, rounds_in, values_of, word_of};
 
 mod command_line;

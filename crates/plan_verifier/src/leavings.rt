@@ -1,6 +1,6 @@
 //! The leavings of the jobs, and their greatest lengths.
 
-ghost use Rattle.std.specs.Prelude.{◌≡◌, ℕ, ◌<◌, ◌≤◌, MatchOption};
+ghost use Rattle.std.specs.Prelude.{◌≡◌, ◌<◌, MatchOption};
 ghost use Rattle.shop_base.specs.Plan.{jobs, route, budget, IsWellShaped};
 ghost use Rattle.shop_base.specs.Graph.{leaving, MeetBudgets};
 ghost use Rattle.alt_graph.specs.Times.{AreOrdered, earliest_of};

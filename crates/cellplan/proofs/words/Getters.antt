@@ -20,9 +20,6 @@ text_given f id bytes o s h is e = ap (λ x. Some x) e ∙ sym (ap (option_map (
 pub text_left_out : (f : Found) (id : Text) (o : Option (Bor Text)) → option_map (λ t. t.now) o ≡ first_value f id → o ≡ None → None ≡ first_of id (rows_of f)
 text_left_out f id o h is = sym (ap (option_map (λ t. t.now)) is) ∙ h ∙ first_value-rows f id
 
-texts_behind : Bor (List (Bor Text)) → List Text
-texts_behind s = map (λ v. v.now) s.now
-
 pub values_given : (f : Found) (id : Text) (o : Option (Bor (List (Bor Text)))) (s : Bor (List (Bor Text)))
     → option_map (λ (t : Bor (List (Bor Text))). map (λ v. v.now) t.now) o ≡ option_map raw_values (matched_of f id) → o ≡ Some s
     → map (λ v. v.now) s.now ≡ values_of id (rows_of f)

@@ -28,11 +28,29 @@ const LATE_BY_CLEANING: &[u8] =
 const LOCKED_RING: &[u8] =
     b"release = [0, 0, 0]\nbudget = [100, 100, 100]\norder = [[0, 2], [1, 0], [2, 1]]\n";
 
-const SHORT: &[u8] = b"release = [0, 0]\nbudget = [5, 10]\norder = [[0, 1], [0]]\n";
+/// Plans that aren't well shaped for the two jobs, each with its line.
+const NOT_SHAPED: [(&[u8], &[u8]); 4] = [
+    (
+        b"release = [0, 0]\nbudget = [5, 10]\norder = [[0, 1], [0]]\n",
+        b"not shaped JobMissing machine 1 job 1\n",
+    ),
+    (
+        b"release = [0, 0]\nbudget = [5, 10]\norder = [[0, 2], [0, 1]]\n",
+        b"not shaped JobOutOfRange machine 0 place 1\n",
+    ),
+    (
+        b"release = [0, 0]\nbudget = [5, 10]\norder = [[0, 0], [0, 1]]\n",
+        b"not shaped JobTwice machine 0 place 1\n",
+    ),
+    (
+        b"release = [0, 0]\nbudget = [5, 1000000000001]\norder = [[0, 1], [0, 1]]\n",
+        b"not shaped BudgetTooLarge job 1\n",
+    ),
+];
 
 #[test]
 fn tells_the_verdicts_on_plans(rt: HostRuntime) -> Result<(), Fail> {
-    let lines: [(&[u8], &[u8], &[u8], u8); 12] = [
+    let lines: [(&[u8], &[u8], &[u8], u8); 9] = [
         (TWO, CROSSED, b"refused cycle 0.1 1.1\n", 1),
         (RING, LOCKED_RING, b"refused cycle 0.1 2.1 1.1\n", 1),
         (TWO, IN_TIME, b"accepted makespan 10 leaves 5 10\n", 0),
@@ -61,19 +79,6 @@ fn tells_the_verdicts_on_plans(rt: HostRuntime) -> Result<(), Fail> {
             b"version = 2\nrelease = [0, 0]\nbudget = [5, 12]\norder = [[0, 1], [0, 1]]\nclean = [0, 2]\n",
             b"accepted makespan 12 leaves 5 12\n",
             0,
-        ),
-        (TWO, SHORT, b"not shaped JobMissing machine 1 job 1\n", 1),
-        (
-            TWO,
-            b"release = [0, 0]\nbudget = [5, 10]\norder = [[0, 2], [0, 1]]\n",
-            b"not shaped JobOutOfRange machine 0 place 1\n",
-            1,
-        ),
-        (
-            TWO,
-            b"release = [0, 0]\nbudget = [5, 1000000000001]\norder = [[0, 1], [0, 1]]\n",
-            b"not shaped BudgetTooLarge job 1\n",
-            1,
         ),
     ];
     for (instance, plan, line, status) in lines {
@@ -121,11 +126,29 @@ fn loads_a_verdict(rt: HostRuntime) -> Result<(), Fail> {
         }
         _ => assert!(rt; false),
     }
-    match load(rt.alloc(), TWO, None, SHORT)? {
-        Loaded::NotShaped(fault) => {
-            assert_eq!(rt; fault, ShapeFault::JobMissing { machine: 1, job: 1 });
-        }
-        _ => assert!(rt; false),
+    Ok(())
+}
+
+#[test]
+fn tells_which_plans_are_not_shaped(rt: HostRuntime) -> Result<(), Fail> {
+    let faults = [
+        ShapeFault::JobMissing { machine: 1, job: 1 },
+        ShapeFault::JobOutOfRange {
+            machine: 0,
+            place: 1,
+        },
+        ShapeFault::JobTwice {
+            machine: 0,
+            place: 1,
+        },
+        ShapeFault::BudgetTooLarge { job: 1 },
+    ];
+    for ((plan, line), first) in NOT_SHAPED.into_iter().zip(faults) {
+        let answer = check_answer(rt.alloc(), TWO, None, plan)?;
+        assert_eq!(rt; answer.text.as_slice(), line);
+        assert_eq!(rt; answer.status, 1);
+        let loaded = load(rt.alloc(), TWO, None, plan)?;
+        assert!(rt; matches!(&loaded, Loaded::NotShaped(fault) if *fault == first));
     }
     Ok(())
 }

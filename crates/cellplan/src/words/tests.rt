@@ -14,13 +14,24 @@ fn reads_each_command(rt: HostRuntime) {
     let alloc = rt.alloc();
     for (line, wanted) in [
         ("cellplan", "Input [] None 20"),
-        ("cellplan facts E1", r#"Facts ["E1"] None 20"#),
+        ("cellplan facts two.txt", r#"Facts ["two.txt"] None 20"#),
         (
-            "cellplan facts C1 --instance ft06",
-            r#"Facts ["C1"] Some("ft06") 20"#,
+            "cellplan facts all.txt --instance ft06",
+            r#"Facts ["all.txt"] Some("ft06") 20"#,
         ),
-        ("cellplan shape E1 B", r#"Shape ["E1", "B"] None 20"#),
-        ("cellplan check E1 B", r#"Check ["E1", "B"] None 20"#),
+        (
+            "cellplan facts all.txt --instance ft07",
+            r#"Facts ["all.txt"] Some("ft07") 20"#,
+        ),
+        ("cellplan facts all.txt", r#"Facts ["all.txt"] None 20"#),
+        (
+            "cellplan shape two.txt day.toml",
+            r#"Shape ["two.txt", "day.toml"] None 20"#,
+        ),
+        (
+            "cellplan check two.txt day.toml",
+            r#"Check ["two.txt", "day.toml"] None 20"#,
+        ),
         (
             "cellplan check --instance x a b",
             r#"Check ["a", "b"] Some("x") 20"#,
@@ -33,23 +44,38 @@ fn reads_each_command(rt: HostRuntime) {
             "cellplan check a b --instance x",
             r#"Check ["a", "b"] Some("x") 20"#,
         ),
-        ("cellplan plan E1 B", r#"Plan ["E1", "B"] None 20"#),
         (
-            "cellplan plan E1 B --rounds 0",
-            r#"Plan ["E1", "B"] None 0"#,
+            "cellplan plan two.txt day.toml",
+            r#"Plan ["two.txt", "day.toml"] None 20"#,
         ),
         (
-            "cellplan plan --rounds 1000 E1 B --instance x",
-            r#"Plan ["E1", "B"] Some("x") 1000"#,
+            "cellplan plan two.txt day.toml --rounds 0",
+            r#"Plan ["two.txt", "day.toml"] None 0"#,
         ),
-        ("cellplan drive E1 B", r#"Drive ["E1", "B"] None 20"#),
-        ("cellplan hub E1 B C", r#"Hub ["E1", "B", "C"] None 20"#),
         (
-            "cellplan hub E1 B --instance x C",
-            r#"Hub ["E1", "B", "C"] Some("x") 20"#,
+            "cellplan plan --rounds 1000 two.txt day.toml --instance x",
+            r#"Plan ["two.txt", "day.toml"] Some("x") 1000"#,
         ),
-        ("cellplan audit E1 B L", r#"Audit ["E1", "B", "L"] None 20"#),
-        ("cellplan gantt E1 B L", r#"Gantt ["E1", "B", "L"] None 20"#),
+        (
+            "cellplan drive two.txt day.toml",
+            r#"Drive ["two.txt", "day.toml"] None 20"#,
+        ),
+        (
+            "cellplan hub two.txt day.toml night.toml",
+            r#"Hub ["two.txt", "day.toml", "night.toml"] None 20"#,
+        ),
+        (
+            "cellplan hub two.txt day.toml --instance x night.toml",
+            r#"Hub ["two.txt", "day.toml", "night.toml"] Some("x") 20"#,
+        ),
+        (
+            "cellplan audit two.txt day.toml day.log",
+            r#"Audit ["two.txt", "day.toml", "day.log"] None 20"#,
+        ),
+        (
+            "cellplan gantt two.txt day.toml day.log",
+            r#"Gantt ["two.txt", "day.toml", "day.log"] None 20"#,
+        ),
     ] {
         let chosen = read(alloc, line).expect(&rt, line);
         assert!(rt; chosen.as_str() == wanted, "{line} gives {chosen}");
@@ -61,7 +87,7 @@ fn refuses_other_words(rt: HostRuntime) {
     let alloc = rt.alloc();
     for (line, wants_help, part) in [
         (
-            "cellplan paint E1",
+            "cellplan paint two.txt",
             false,
             "unrecognized subcommand 'paint'",
         ),
@@ -71,20 +97,24 @@ fn refuses_other_words(rt: HostRuntime) {
             "unexpected argument '--instance'",
         ),
         ("cellplan facts", false, "<FILE>"),
-        ("cellplan facts E1 E2", false, "unexpected argument 'E2'"),
-        ("cellplan check E1", false, "<PLAN>"),
         (
-            "cellplan check E1 B --rounds 3",
+            "cellplan facts two.txt more.txt",
+            false,
+            "unexpected argument 'more.txt'",
+        ),
+        ("cellplan check two.txt", false, "<PLAN>"),
+        (
+            "cellplan check two.txt day.toml --rounds 3",
             false,
             "unexpected argument '--rounds'",
         ),
         (
-            "cellplan plan E1 B --rounds 1001",
+            "cellplan plan two.txt day.toml --rounds 1001",
             false,
             "1001 is not in 0..=1000",
         ),
-        ("cellplan hub E1", false, "<PLAN>"),
-        ("cellplan gantt E1 B", false, "<LOG>"),
+        ("cellplan hub two.txt", false, "<PLAN>"),
+        ("cellplan gantt two.txt day.toml", false, "<LOG>"),
         ("cellplan --help", true, "Usage: cellplan [COMMAND]"),
         (
             "cellplan audit --help",

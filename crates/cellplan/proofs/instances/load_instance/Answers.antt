@@ -1,5 +1,5 @@
 use Rattle.cellplan.proofs.Telling.{told_only, told_first}
-use Rattle.cellplan.proofs.facts.load_instance.Goals as goal
+use Rattle.cellplan.proofs.instances.load_instance.Goals as goal
 
 pub returns-in-Some-clause-first : goal.returns-in-Some-clause-first
 returns-in-Some-clause-first c = λ fault has. (let in_section = rw c.in-Some.is at has in
