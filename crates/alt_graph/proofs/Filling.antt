@@ -1,10 +1,9 @@
 -- The tables, filled row by row.
-use Rattle.std.proofs.Common.{◌≡◌, ◌≢◌, ℕ, ◌+◌, ◌*◌, ◌<◌, ◌≤◌, ◌++◌, ◌∷◌, [], List, length, get_or, set, arith, refl, sym, ap, ◌∙◌, get_or-set_same, get_or-set_other, inl, inr}
+use Rattle.std.proofs.Common.{◌≡◌, ◌≢◌, ℕ, ◌+◌, ◌*◌, ◌<◌, ◌≤◌, ◌++◌, ◌∷◌, [], List, length, get_or, set, arith, sym, ap, ◌∙◌, get_or-set_same, get_or-set_other, inl, inr}
 use Rattle.std.proofs.lemmas.Bool.{cases_order}
 use Rattle.std.proofs.lemmas.List.{get_or_append_left, get_or_push, length_push}
 use Rattle.shop_base.specs.declared.limits.TheConstants.{MAX_MACHINES}
-use Rattle.shop_base.specs.Plan.{PlannedShop, jobs, machines, steps, machine_of, order, job_at, Visits, IsWellShaped}
-use Rattle.shop_base.proofs.Visits.{visits_once, visits_machine}
+use Rattle.shop_base.specs.Plan.{PlannedShop, jobs, machines, steps, order, job_at, IsWellShaped}
 use Rattle.alt_graph.specs.Tables.{AreFirsts, ArePlacesOf, slot_of, HasSlots}
 use Rattle.alt_graph.proofs.Limits.{steps_few, place_job}
 
@@ -17,15 +16,6 @@ pub record AreFirstsBelow (p : PlannedShop) (firsts : List ℕ) (n next : ℕ) :
   pub follows : (j : ℕ) → j < n → get_or firsts (j + 1) 0 ≡ get_or firsts j 0 + (steps p j + 1)
   pub last : get_or firsts n 0 ≡ next
   pub few : next ≤ n * (MAX_MACHINES + 1)
-
-pub firsts_none : (p : PlannedShop) → AreFirstsBelow p ([] ++ 0 ∷ []) 0 0
-firsts_none p = record {
-  size = refl;
-  begins = refl;
-  follows = λ j lt. absurd (omega arith);
-  last = refl;
-  few = omega arith;
-}
 
 module _ (p : PlannedShop) (firsts : List ℕ) (n next : ℕ) (below : AreFirstsBelow p firsts n next) where
   earlier : (y j : ℕ) → j < n + 1 → get_or (firsts ++ y ∷ []) j 0 ≡ get_or firsts j 0
@@ -70,27 +60,6 @@ slots_apart p m j n i shaped one other apart same =
     apart machines_same jobs_same
 
 module _ (p : PlannedShop) (shaped : IsWellShaped p) (table : List ℕ) (slots : HasSlots p table) where
-  -- the steps of job j are told, up to step n
-  abbrev pub AreStepsBelow : ℕ → ℕ → Type 0
-  AreStepsBelow j n = (k m : ℕ) → k < n → Visits p j k m → get_or table (slot_of m j) 0 ≡ k
-
-  -- one more step of job j
-  pub steps_more : (j n m : ℕ) → j < jobs p → Visits p j n m → AreStepsBelow j n
-      → (k l : ℕ) → k < n + 1 → Visits p j k l → get_or (set table (slot_of m j) n) (slot_of l j) 0 ≡ k
-  steps_more j n m job here below k l lt visits = elim (cases_order k n) [
-    | inl same ↦ (let is : l ≡ m = sym visits.here ∙ ap (machine_of p j) same ∙ here.here in
-        rw (is, same) (get_or-set_same table (slot_of m j) n 0 (slot_inside p table m j shaped slots (visits_machine p j n m shaped here) job)))
-    | inr other ↦ (
-        let lower : k < n = elim other [ inl less ↦ omega arith | inr more ↦ omega arith ] in
-        let apart : slot_of l j ≢ slot_of m j = slots_apart p l j m j shaped job job
-        (λ is _. let visits' : Visits p j k m = rw is at visits in absurd (omega (arith, visits_once p j k n m shaped visits' here))) in
-        rw (get_or-set_other table (slot_of m j) (slot_of l j) n 0 apart) (below k l lower visits))
-  ]
-
-  -- a step of job j is told in no slot of another job
-  pub steps_others : (j n m l i : ℕ) → j < jobs p → i < jobs p → i ≢ j → get_or (set table (slot_of m j) n) (slot_of l i) 0 ≡ get_or table (slot_of l i) 0
-  steps_others j n m l i job other apart = get_or-set_other table (slot_of m j) (slot_of l i) n 0 (slots_apart p l i m j shaped other job (λ _ same. apart same))
-
   -- the places of machine m are told, up to place n
   abbrev pub ArePlacesBelow : ℕ → ℕ → Type 0
   ArePlacesBelow m n = (a : ℕ) → a < n → get_or table (slot_of m (job_at p m a)) 0 ≡ a

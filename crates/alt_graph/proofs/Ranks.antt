@@ -1,5 +1,5 @@
 -- One more ranked node.
-use Rattle.std.proofs.Common.{◌≡◌, ◌≢◌, ℕ, zero, suc, replicate, ◌+◌, ◌<◌, ◌≤◌, ◌++◌, ◌∷◌, [], List, length, get_or, set, sum_by, Option, None, Some, arith, refl, sym, ap, ◌∙◌, subst, ◌⊎◌, inl, inr}
+use Rattle.std.proofs.Common.{◌≡◌, ◌≢◌, ℕ, zero, suc, replicate, ◌+◌, ◌<◌, ◌++◌, ◌∷◌, [], List, length, get_or, set, sum_by, Option, None, Some, arith, refl, sym, ap, ◌∙◌, subst, ◌⊎◌, inl, inr}
 use Rattle.std.proofs.lemmas.Bool.{cases_lt}
 use Rattle.std.proofs.lemmas.Bool.Decides.{eqb_tells}
 use Rattle.std.proofs.lemmas.List.{get_or_append_left, get_or_push, length_push, length-set, get_or_past, get_or-replicate, length-replicate}
@@ -13,7 +13,8 @@ use Rattle.alt_graph.specs.declared.times.TheConstants.{UNRANKED}
 use Rattle.alt_graph.specs.declared.ranking.Longest.{Longest}
 use Rattle.alt_graph.specs.Tables.{AreFirsts}
 use Rattle.alt_graph.specs.Times.{NodeTimes, no_time, number_of, time_at, rank_of, before_of, IsAttained}
-use Rattle.alt_graph.specs.Ranking.{IsRanked, IsPlaced, IsLongest, IsLastOf, AreRanked, Grows, blank, ranked_at}
+use Rattle.alt_graph.specs.Ranking.{IsRanked, IsPlaced, IsLongest, IsLastOf, AreRanked, Grows, blank}
+use Rattle.alt_graph.specs.Places.{node_at}
 use Rattle.alt_graph.proofs.NodeNumbers.{number_inside, time_same, time_other, cases_node}
 
 pub blank_unranked : (row : NodeTime) → row.rank ≡ UNRANKED → blank row ≡ 1
@@ -79,10 +80,6 @@ module _ (p : PlannedShop) (firsts : List ℕ) (are : AreFirsts p firsts) (rows 
   pub few_done : length done < UNRANKED
   few_done = omega (arith, sound.count, sound.size, are.few)
 
-  -- no more nodes are ranked than there are
-  pub done_within : length done ≤ get_or firsts (jobs p) 0
-  done_within = omega (arith, sound.count, sound.size)
-
   module _ (v : Node) (is : IsNode p v) (unranked : rank_of now v ≡ UNRANKED) (longest : Longest)
       (best : IsLongest p now (length done) (Arc p) v longest) where
     abbrev pub next_row : NodeTime
@@ -135,10 +132,10 @@ module _ (p : PlannedShop) (firsts : List ℕ) (are : AreFirsts p firsts) (rows 
           bounded = omega (arith, ap (λ (row : NodeTime). row.earliest) at_new, rank_new, best.bounded);
         }
 
-    earlier : (i : ℕ) → i < length done → ranked_at (done ++ v ∷ []) i ≡ ranked_at done i
+    earlier : (i : ℕ) → i < length done → node_at (done ++ v ∷ []) i ≡ node_at done i
     earlier i lt = get_or_append_left done (v ∷ []) (node 0 0) i lt
 
-    newest : (i : ℕ) → length done ≡ i → ranked_at (done ++ v ∷ []) i ≡ v
+    newest : (i : ℕ) → length done ≡ i → node_at (done ++ v ∷ []) i ≡ v
     newest i same = get_or_push done v (node 0 0) i same
 
     cases_place : (i : ℕ) → i < length (done ++ v ∷ []) → (i < length done) ⊎ (length done ≡ i)
@@ -147,14 +144,14 @@ module _ (p : PlannedShop) (firsts : List ℕ) (are : AreFirsts p firsts) (rows 
       | inr higher ↦ inr (omega (arith, length_push done v))
     ]
 
-    listed_more : (i : ℕ) → (i < length done) ⊎ (length done ≡ i) → IsNode p (ranked_at (done ++ v ∷ []) i)
+    listed_more : (i : ℕ) → (i < length done) ⊎ (length done ≡ i) → IsNode p (node_at (done ++ v ∷ []) i)
     listed_more i (inl lower) = subst (IsNode p) (sym (earlier i lower)) (sound.listed i lower)
     listed_more i (inr same) = subst (IsNode p) (sym (newest i same)) is
 
-    ranks_more : (i : ℕ) → (i < length done) ⊎ (length done ≡ i) → rank_of next_times (ranked_at (done ++ v ∷ []) i) ≡ i
+    ranks_more : (i : ℕ) → (i < length done) ⊎ (length done ≡ i) → rank_of next_times (node_at (done ++ v ∷ []) i) ≡ i
     ranks_more i (inl lower) =
-        let ranked : IsRanked now (ranked_at done i) = λ same. omega (arith, few_done, sound.ranks i lower, same) in
-        ap (rank_of next_times) (earlier i lower) ∙ ap (λ (row : NodeTime). row.rank) (keeps (ranked_at done i) (sound.listed i lower) ranked) ∙ sound.ranks i lower
+        let ranked : IsRanked now (node_at done i) = λ same. omega (arith, few_done, sound.ranks i lower, same) in
+        ap (rank_of next_times) (earlier i lower) ∙ ap (λ (row : NodeTime). row.rank) (keeps (node_at done i) (sound.listed i lower) ranked) ∙ sound.ranks i lower
     ranks_more i (inr same) = ap (rank_of next_times) (newest i same) ∙ rank_new ∙ same
 
     -- another node has a rank only if it had one
@@ -166,12 +163,12 @@ module _ (p : PlannedShop) (firsts : List ℕ) (are : AreFirsts p firsts) (rows 
     within_more u other (inr apart) ranked =
         omega (arith, ap (λ (row : NodeTime). row.rank) (at_other u other apart), sound.within u other (had_rank u other apart ranked), length_push done v)
 
-    places_more : (u : Node) → IsNode p u → (u ≡ v) ⊎ (u ≢ v) → IsRanked next_times u → ranked_at (done ++ v ∷ []) (rank_of next_times u) ≡ u
+    places_more : (u : Node) → IsNode p u → (u ≡ v) ⊎ (u ≢ v) → IsRanked next_times u → node_at (done ++ v ∷ []) (rank_of next_times u) ≡ u
     places_more u other (inl same) ranked = newest (rank_of next_times u) (sym (ap (rank_of next_times) same ∙ rank_new)) ∙ sym same
     places_more u other (inr apart) ranked =
         let ranked_now = had_rank u other apart ranked in
         let rank_same : rank_of next_times u ≡ rank_of now u = ap (λ (row : NodeTime). row.rank) (at_other u other apart) in
-        ap (ranked_at (done ++ v ∷ [])) rank_same ∙ earlier (rank_of now u) (sound.within u other ranked_now) ∙ sound.places u other ranked_now
+        ap (node_at (done ++ v ∷ [])) rank_same ∙ earlier (rank_of now u) (sound.within u other ranked_now) ∙ sound.places u other ranked_now
 
     placed_more : (u : Node) → IsNode p u → (u ≡ v) ⊎ (u ≢ v) → IsRanked next_times u → IsPlaced p next_times u
     placed_more u other (inl same) ranked = subst (λ (w : Node). IsPlaced p next_times w) (sym same) new_placed

@@ -5,34 +5,27 @@ use Rattle.std.proofs.lemmas.List.{get_or_default}
 use Rattle.shop_base.specs.declared.node.Node.{Node}
 use Rattle.shop_base.specs.Plan.{PlannedShop}
 use Rattle.shop_base.proofs.Cycles.{source_node}
-use Rattle.shop_base.specs.Graph.{node, IsNode, HasArc, ArcsLead, IsNew, AreDistinct}
+use Rattle.shop_base.specs.Graph.{node, IsNode, HasArc, ArcsLead}
 use Rattle.alt_graph.specs.declared.rounds.Round.{Round}
+use Rattle.alt_graph.proofs.NodeLists.{distinct_from}
 use Rattle.alt_graph.proofs.NodeNumbers.{node_same}
 use Rattle.alt_graph.specs.Evidence.{IsBefore, IsCycle}
-use Rattle.alt_graph.specs.Ranking.{ranked_at}
 use Rattle.alt_graph.specs.Rounds.{IsUpTo, IsRound, IsPlaceAfter, IsLeastPlace, AreFrom, round_at, round_length}
+use Rattle.alt_graph.specs.Places.{node_at}
 
 -- distinct nodes, each with an arc to the next and the last with one to the first, which is the least
 pub record IsRing (p : PlannedShop) (nodes : List Node) : Type 0 where
   pub some : 0 < length nodes
-  pub arcs : (i : ℕ) → suc i < length nodes → HasArc p (ranked_at nodes i) (ranked_at nodes (suc i))
-  pub closes : (i : ℕ) → suc i ≡ length nodes → HasArc p (ranked_at nodes i) (ranked_at nodes 0)
-  pub apart : (i j : ℕ) → i < j → j < length nodes → ranked_at nodes i ≢ ranked_at nodes j
-  pub least : (i : ℕ) → i < length nodes → IsUpTo (ranked_at nodes 0) (ranked_at nodes i)
+  pub arcs : (i : ℕ) → suc i < length nodes → HasArc p (node_at nodes i) (node_at nodes (suc i))
+  pub closes : (i : ℕ) → suc i ≡ length nodes → HasArc p (node_at nodes i) (node_at nodes 0)
+  pub apart : (i j : ℕ) → i < j → j < length nodes → node_at nodes i ≢ node_at nodes j
+  pub least : (i : ℕ) → i < length nodes → IsUpTo (node_at nodes 0) (node_at nodes i)
 
 lead_from : (p : PlannedShop) (u : Node) (us : List Node) (v : Node)
-    → ((i : ℕ) → suc i < length (u ∷ us) → HasArc p (ranked_at (u ∷ us) i) (ranked_at (u ∷ us) (suc i)))
-    → ((i : ℕ) → suc i ≡ length (u ∷ us) → HasArc p (ranked_at (u ∷ us) i) v) → ArcsLead p u us v
+    → ((i : ℕ) → suc i < length (u ∷ us) → HasArc p (node_at (u ∷ us) i) (node_at (u ∷ us) (suc i)))
+    → ((i : ℕ) → suc i ≡ length (u ∷ us) → HasArc p (node_at (u ∷ us) i) v) → ArcsLead p u us v
 lead_from p u [] v arcs closes = closes 0 refl
 lead_from p u (w ∷ ws) v arcs closes = (arcs 0 (omega arith), lead_from p w ws v (λ i lt. arcs (suc i) (omega arith)) (λ i same. closes (suc i) (omega arith)))
-
-new_from : (u : Node) (us : List Node) → ((i : ℕ) → i < length us → u ≢ ranked_at us i) → IsNew u us
-new_from u [] apart = tt
-new_from u (w ∷ ws) apart = (apart 0 (omega arith), new_from u ws (λ i lt. apart (suc i) (omega arith)))
-
-distinct_from : (us : List Node) → ((i j : ℕ) → i < j → j < length us → ranked_at us i ≢ ranked_at us j) → AreDistinct us
-distinct_from [] apart = tt
-distinct_from (u ∷ us) apart = (new_from u us (λ j lt. apart 0 (suc j) (omega arith) (omega arith)), distinct_from us (λ i j lt within. apart (suc i) (suc j) (omega arith) (omega arith)))
 
 -- another node that isn't before the first one is behind it
 behind_first : (u v : Node) → u ≢ v → IsUpTo u v → IsBefore u v
@@ -46,21 +39,21 @@ behind_first u v apart (inr (same, less)) = elim (cases_order u.place v.place) [
 -- such a list is a cycle, its least node first
 pub ring_cycle : (p : PlannedShop) (nodes : List Node) → IsRing p nodes → IsCycle p nodes
 ring_cycle p [] ring = absurd (omega (arith, ring.some))
-ring_cycle p (u ∷ us) ring = ((distinct_from (u ∷ us) ring.apart, lead_from p u us u ring.arcs ring.closes), of_shop, least)
+ring_cycle p (u ∷ us) ring = ((distinct_from (u ∷ us) (λ j within i lt. ring.apart i j lt within), lead_from p u us u ring.arcs ring.closes), of_shop, least)
   where
     least : All (IsBefore u) us
     least = λ k d lt. subst (IsBefore u) (get_or_default us k (node 0 0) d lt)
-        (behind_first u (ranked_at us k) (ring.apart 0 (suc k) (omega arith) (omega arith)) (ring.least (suc k) (omega arith)))
+        (behind_first u (node_at us k) (ring.apart 0 (suc k) (omega arith) (omega arith)) (ring.least (suc k) (omega arith)))
 
-    source_at : (i : ℕ) → i < length (u ∷ us) → (v : Node) × HasArc p (ranked_at (u ∷ us) i) v
+    source_at : (i : ℕ) → i < length (u ∷ us) → (v : Node) × HasArc p (node_at (u ∷ us) i) v
     source_at i lt = elim (cases_lt (suc i) (length (u ∷ us))) [
-      | inl lower ↦ (ranked_at (u ∷ us) (suc i), ring.arcs i lower)
-      | inr higher ↦ (ranked_at (u ∷ us) 0, ring.closes i (omega arith))
+      | inl lower ↦ (node_at (u ∷ us) (suc i), ring.arcs i lower)
+      | inr higher ↦ (node_at (u ∷ us) 0, ring.closes i (omega arith))
     ]
 
     of_shop : All (IsNode p) (u ∷ us)
     of_shop = λ k d lt. subst (IsNode p) (get_or_default (u ∷ us) k (node 0 0) d lt)
-        (let found = source_at k lt in source_node p (ranked_at (u ∷ us) k) found.0 found.1.0 found.1.1)
+        (let found = source_at k lt in source_node p (node_at (u ∷ us) k) found.0 found.1.0 found.1.1)
 
 module _ (p : PlannedShop) (round : Round) (is : IsRound p round) (place : ℕ) (least : IsLeastPlace round place) (nodes : List Node) (from : AreFrom round place nodes) where
   abbrev start : ℕ
@@ -121,7 +114,7 @@ module _ (p : PlannedShop) (round : Round) (is : IsRound p round) (place : ℕ) 
         let first = from.there 0 (omega arith) in
         let here = from.there i within in
         let inside = place_within i here.0 within here.1 in
-        subst (λ (w : Node). IsUpTo (ranked_at nodes 0) w) (sym here.2)
+        subst (λ (w : Node). IsUpTo (node_at nodes 0) w) (sym here.2)
         (subst (λ (w : Node). IsUpTo w (round_at round here.0)) (sym (first.2 ∙ ap (round_at round) (first_place first.0 first.1)))
         (least.least here.0 inside.0 inside.1));
   }

@@ -9,14 +9,12 @@ use Rattle.alt_graph.specs.declared.times.NodeTime.{NodeTime}
 use Rattle.alt_graph.specs.declared.times.TheConstants.{UNRANKED}
 use Rattle.alt_graph.specs.Sources.{IsJobArc, IsBlockingArc}
 use Rattle.alt_graph.specs.Times.{NodeTimes, time_at, rank_of}
-use Rattle.alt_graph.specs.Ranking.{IsRanked, AreRanked, Grows, IsSettled, AreSettled, ranked_at}
+use Rattle.alt_graph.specs.Ranking.{IsRanked, AreRanked, Grows, IsSettled, AreSettled}
+use Rattle.alt_graph.specs.Places.{node_at}
 use Rattle.alt_graph.proofs.NodeNumbers.{node_same}
 use Rattle.alt_graph.proofs.ArcKinds.{arc_kind}
 
 module _ (p : PlannedShop) where
-  pub grows_not : (t : NodeTimes) (n : ℕ) → Grows p t t n
-  grows_not t n v is = inl refl
-
   pub grows_on : (t s r : NodeTimes) (n m : ℕ) → Grows p t s n → Grows p s r m → n ≤ m → Grows p t r n
   grows_on t s r n m one other le v is = go (one v is) (other v is)
     where
@@ -55,12 +53,12 @@ module _ (p : PlannedShop) where
   -- after the n-th ranked node's targets are settled, all nodes are, one rank later
   pub settled_next : (t s : NodeTimes) (done : List Node) (n : ℕ) → AreRanked p t done → n < length done → length done < UNRANKED
       → Grows p t s (length done) → AreSettled p t n
-      → ((v : Node) (d : ℕ) → IsJobArc p (ranked_at done n) v d → IsSettled p s (n + 1) v)
-      → ((v : Node) (d : ℕ) → IsBlockingArc p (ranked_at done n) v d → IsSettled p s (n + 1) v)
+      → ((v : Node) (d : ℕ) → IsJobArc p (node_at done n) v d → IsSettled p s (n + 1) v)
+      → ((v : Node) (d : ℕ) → IsBlockingArc p (node_at done n) v d → IsSettled p s (n + 1) v)
       → AreSettled p s (n + 1)
   settled_next t s done n sound within few grows settled job blocking v is = go (settled v is)
     where
-      kind : (u : Node) (d : ℕ) → ranked_at done n ≡ u → IsJobArc p u v d ⊎ IsBlockingArc p u v d → IsSettled p s (n + 1) v
+      kind : (u : Node) (d : ℕ) → node_at done n ≡ u → IsJobArc p u v d ⊎ IsBlockingArc p u v d → IsSettled p s (n + 1) v
       kind u d same (inl arc) = job v d (subst (λ (w : Node). IsJobArc p w v d) (sym same) arc)
       kind u d same (inr arc) = blocking v d (subst (λ (w : Node). IsBlockingArc p w v d) (sym same) arc)
 
@@ -69,7 +67,7 @@ module _ (p : PlannedShop) where
       waits u d arc (inr at) after =
           let same : rank_of t u ≡ n = omega arith in
           let ranked : IsRanked t u = λ free. omega (arith, same, free) in
-          kind u d (sym (ap (ranked_at done) same) ∙ sound.places u (source_node p u v d arc) ranked) (arc_kind p u v d arc)
+          kind u d (sym (ap (node_at done) same) ∙ sound.places u (source_node p u v d arc) ranked) (arc_kind p u v d arc)
 
       go : IsSettled p t n v → IsSettled p s (n + 1) v
       go (inl ranked) = settled_still t s (n + 1) (length done) v is grows (omega arith) (inl ranked)

@@ -1,5 +1,5 @@
 -- Where jobs stand in the orders, by the tables, and what follows for blocking arcs.
-use Rattle.std.proofs.Common.{◌≡◌, ℕ, ◌+◌, ◌<◌, ◌≤◌, length, get_or, arith, sym, ◌∙◌, ap, subst}
+use Rattle.std.proofs.Common.{◌≡◌, ℕ, ◌+◌, ◌<◌, length, get_or, arith, sym, ◌∙◌, ap, subst}
 use Rattle.shop_base.specs.declared.node.Node.{Node}
 use Rattle.shop_base.specs.Plan.{PlannedShop, machines, steps, order, job_at, Visits, Stands, IsWellShaped}
 use Rattle.shop_base.proofs.Visits.{visits_job, visits_machine, visits-stands, stands_once}
@@ -38,22 +38,3 @@ module _ (p : PlannedShop) (shaped : IsWellShaped p) where
       let same : m ≡ arc.machine = visits_here v.job v.place m arc.machine stands.visits arc.enters.visits in
       let here : Stands p m (arc.ahead + 1) v.job v.place = subst (λ n. Stands p n (arc.ahead + 1) v.job v.place) (sym same) arc.enters in
       absurd (omega (arith, stands_once p m a (arc.ahead + 1) v.job v.place v.place shaped stands here))
-
-  -- no blocking arc leads from the last of an order
-  pub last_frees : (m a k : ℕ) (u : Node) → a + 1 ≡ length (order p m) → u.place ≡ k + 1 → Stands p m a u.job k → (v : Node) (d : ℕ) → IsBlockingArc p u v d → ⊥
-  last_frees m a k u last place stands v d arc =
-      let step : arc.step ≡ k = omega (arith, arc.place, place) in
-      let left : Stands p arc.machine arc.ahead u.job k = subst (λ n. Stands p arc.machine arc.ahead u.job n) step arc.left in
-      let same : m ≡ arc.machine = visits_here u.job k m arc.machine stands.visits left.visits in
-      let here : Stands p m arc.ahead u.job k = subst (λ n. Stands p n arc.ahead u.job k) (sym same) left in
-      let at : a ≡ arc.ahead = stands_once p m a arc.ahead u.job k k shaped stands here in
-      let after : Stands p m (arc.ahead + 1) v.job v.place = subst (λ n. Stands p n (arc.ahead + 1) v.job v.place) (sym same) arc.enters in
-      absurd (omega (arith, after.within))
-
-  -- no blocking arc leads from the first node of a job
-  pub start_frees : (u : Node) → u.place ≡ 0 → (v : Node) (d : ℕ) → IsBlockingArc p u v d → ⊥
-  start_frees u place v d arc = absurd (omega (arith, arc.place))
-
-  -- no blocking arc leads to a leaving
-  pub leaving_free : (v : Node) → steps p v.job ≤ v.place → (u : Node) (d : ℕ) → IsBlockingArc p u v d → ⊥
-  leaving_free v out u d arc = absurd (omega (arith, arc.enters.visits.within))

@@ -15,8 +15,9 @@ use Rattle.alt_graph.specs.declared.rounds.Round.{Round}
 use Rattle.alt_graph.specs.Sources.{IsSource}
 use Rattle.alt_graph.specs.Tables.{AreFirsts}
 use Rattle.alt_graph.specs.Times.{NodeTimes, rank_of, number_of}
-use Rattle.alt_graph.specs.Ranking.{IsRanked, ranked_at}
+use Rattle.alt_graph.specs.Ranking.{IsRanked}
 use Rattle.alt_graph.specs.Rounds.{IsRound, IsWalk, unseen, round_at}
+use Rattle.alt_graph.specs.Places.{node_at}
 use Rattle.alt_graph.proofs.NodeNumbers.{number_inside, cases_node, number_same}
 
 -- ---- sources
@@ -92,10 +93,10 @@ module _ (p : PlannedShop) (firsts : List ℕ) (are : AreFirsts p firsts) (rows 
       abbrev after : List ℕ
       after = set seen (number_of firsts v) (length nodes)
 
-      earlier : (i : ℕ) → i < length nodes → ranked_at more i ≡ ranked_at nodes i
+      earlier : (i : ℕ) → i < length nodes → node_at more i ≡ node_at nodes i
       earlier i lt = get_or_append_left nodes (v ∷ []) (node 0 0) i lt
 
-      newest : (i : ℕ) → length nodes ≡ i → ranked_at more i ≡ v
+      newest : (i : ℕ) → length nodes ≡ i → node_at more i ≡ v
       newest i same = get_or_push nodes v (node 0 0) i same
 
       cases_place : (i : ℕ) → i < length more → (i < length nodes) ⊎ (length nodes ≡ i)
@@ -112,22 +113,22 @@ module _ (p : PlannedShop) (firsts : List ℕ) (are : AreFirsts p firsts) (rows 
           let numbers_apart : number_of firsts u ≢ number_of firsts v = λ same. apart (number_same p firsts are u v other walk.next_node same) in
           get_or-set_other seen (number_of firsts v) (number_of firsts u) (length nodes) 0 numbers_apart
 
-      nodes_more : (i : ℕ) → (i < length nodes) ⊎ (length nodes ≡ i) → IsNode p (ranked_at more i)
+      nodes_more : (i : ℕ) → (i < length nodes) ⊎ (length nodes ≡ i) → IsNode p (node_at more i)
       nodes_more i (inl lower) = subst (IsNode p) (sym (earlier i lower)) (walk.nodes_in i lower)
       nodes_more i (inr same) = subst (IsNode p) (sym (newest i same)) walk.next_node
 
-      back_more : (i : ℕ) → (i + 1 < length nodes) ⊎ (length nodes ≡ i + 1) → HasArc p (ranked_at more (i + 1)) (ranked_at more i)
+      back_more : (i : ℕ) → (i + 1 < length nodes) ⊎ (length nodes ≡ i + 1) → HasArc p (node_at more (i + 1)) (node_at more i)
       back_more i (inl lower) =
-          subst (λ (w : Node). HasArc p w (ranked_at more i)) (sym (earlier (i + 1) lower))
-          (subst (λ (w : Node). HasArc p (ranked_at nodes (i + 1)) w) (sym (earlier i (omega arith))) (walk.back i lower))
+          subst (λ (w : Node). HasArc p w (node_at more i)) (sym (earlier (i + 1) lower))
+          (subst (λ (w : Node). HasArc p (node_at nodes (i + 1)) w) (sym (earlier i (omega arith))) (walk.back i lower))
       back_more i (inr same) =
-          subst (λ (w : Node). HasArc p w (ranked_at more i)) (sym (newest (i + 1) same))
+          subst (λ (w : Node). HasArc p w (node_at more i)) (sym (newest (i + 1) same))
           (subst (λ (w : Node). HasArc p v w) (sym (earlier i (omega arith))) (walk.last i (sym same)))
 
-      marks_more : (i : ℕ) → (i < length nodes) ⊎ (length nodes ≡ i) → get_or after (number_of firsts (ranked_at more i)) 0 ≡ i
+      marks_more : (i : ℕ) → (i < length nodes) ⊎ (length nodes ≡ i) → get_or after (number_of firsts (node_at more i)) 0 ≡ i
       marks_more i (inl lower) =
-          let apart : ranked_at nodes i ≢ v = λ same. omega (arith, walk.marks i lower, ap (λ (w : Node). get_or seen (number_of firsts w) 0) same, free, few_nodes) in
-          ap (λ (w : Node). get_or after (number_of firsts w) 0) (earlier i lower) ∙ seen_other (ranked_at nodes i) (walk.nodes_in i lower) apart ∙ walk.marks i lower
+          let apart : node_at nodes i ≢ v = λ same. omega (arith, walk.marks i lower, ap (λ (w : Node). get_or seen (number_of firsts w) 0) same, free, few_nodes) in
+          ap (λ (w : Node). get_or after (number_of firsts w) 0) (earlier i lower) ∙ seen_other (node_at nodes i) (walk.nodes_in i lower) apart ∙ walk.marks i lower
       marks_more i (inr same) = ap (λ (w : Node). get_or after (number_of firsts w) 0) (newest i same) ∙ seen_new ∙ same
 
       marked_in_more : (u : Node) → IsNode p u → (u ≡ v) ⊎ (u ≢ v) → get_or after (number_of firsts u) 0 ≢ UNRANKED → get_or after (number_of firsts u) 0 < length more
@@ -136,11 +137,11 @@ module _ (p : PlannedShop) (firsts : List ℕ) (are : AreFirsts p firsts) (rows 
           let was : get_or seen (number_of firsts u) 0 ≢ UNRANKED = λ is. taken (seen_other u other apart ∙ is) in
           omega (arith, seen_other u other apart, walk.marked_in u other was, length_push nodes v)
 
-      marked_more : (u : Node) → IsNode p u → (u ≡ v) ⊎ (u ≢ v) → get_or after (number_of firsts u) 0 ≢ UNRANKED → ranked_at more (get_or after (number_of firsts u) 0) ≡ u
+      marked_more : (u : Node) → IsNode p u → (u ≡ v) ⊎ (u ≢ v) → get_or after (number_of firsts u) 0 ≢ UNRANKED → node_at more (get_or after (number_of firsts u) 0) ≡ u
       marked_more u other (inl same) taken = newest _ (sym (ap (λ (w : Node). get_or after (number_of firsts w) 0) same ∙ seen_new)) ∙ sym same
       marked_more u other (inr apart) taken =
           let was : get_or seen (number_of firsts u) 0 ≢ UNRANKED = λ is. taken (seen_other u other apart ∙ is) in
-          ap (ranked_at more) (seen_other u other apart) ∙ earlier _ (walk.marked_in u other was) ∙ walk.marked u other was
+          ap (node_at more) (seen_other u other apart) ∙ earlier _ (walk.marked_in u other was) ∙ walk.marked u other was
 
       -- the walk goes on
       pub walk_more : (u : Node) → IsNode p u → rank_of times u ≡ UNRANKED → HasArc p u v → IsWalk p times more after u

@@ -10,19 +10,20 @@ use Rattle.alt_graph.specs.declared.ranking.Ranking.{Ranking}
 use Rattle.alt_graph.specs.declared.ranking.Longest.{Longest}
 use Rattle.alt_graph.specs.declared.sources.Source.{Source}
 use Rattle.alt_graph.specs.Times.{NodeTimes, time_at, rank_of, earliest_of, before_of, IsAttained}
+use Rattle.alt_graph.specs.Places.{node_at}
 
 -- what is known of the nodes so far
 abbrev pub times_of : Tables → List NodeTime → NodeTimes
 times_of tables rows = record { firsts = tables.firsts.items; rows = rows }
 
+-- the same in the midst of the ranking
+abbrev pub so_far : Tables → Ranking → NodeTimes
+so_far tables ranking = times_of tables ranking.rows.items
+
 -- the length is that of a path over the node before v, or, where there is none, the release of v's job
 abbrev pub IsLastOf : PlannedShop → NodeTimes → Node → ℕ → Option Node → Type 0
 IsLastOf p t v length None = (v.place ≡ 0) × (length ≡ release p v.job)
 IsLastOf p t v length (Some u) = (d : ℕ) × Arc p u v d × (earliest_of t u + d ≡ length)
-
--- the same in the midst of the ranking
-abbrev pub so_far : Tables → Ranking → NodeTimes
-so_far tables ranking = times_of tables ranking.rows.items
 
 -- the node has a rank
 abbrev pub IsRanked : NodeTimes → Node → Type 0
@@ -59,16 +60,12 @@ pub record IsPlaced (p : PlannedShop) (t : NodeTimes) (v : Node) : Type 0 where
 abbrev pub blank : NodeTime → ℕ
 blank row = if row.rank == UNRANKED then 1 else 0
 
--- the i-th node that was ranked
-abbrev pub ranked_at : List Node → ℕ → Node
-ranked_at done i = slice_index_or done i (node 0 0)
-
 -- the ranked nodes are those done, and their ranks the places there
 pub record AreRanked (p : PlannedShop) (t : NodeTimes) (done : List Node) : Type 0 where
-  pub listed : (i : ℕ) → i < length done → IsNode p (ranked_at done i)
-  pub ranks : (i : ℕ) → i < length done → rank_of t (ranked_at done i) ≡ i
+  pub listed : (i : ℕ) → i < length done → IsNode p (node_at done i)
+  pub ranks : (i : ℕ) → i < length done → rank_of t (node_at done i) ≡ i
   pub within : (v : Node) → IsNode p v → IsRanked t v → rank_of t v < length done
-  pub places : (v : Node) → IsNode p v → IsRanked t v → ranked_at done (rank_of t v) ≡ v
+  pub places : (v : Node) → IsNode p v → IsRanked t v → node_at done (rank_of t v) ≡ v
   pub placed : (v : Node) → IsNode p v → IsRanked t v → IsPlaced p t v
   pub count : length done + sum_by blank t.rows ≡ length t.rows
   pub size : length t.rows ≡ slice_index_or t.firsts (jobs p) 0

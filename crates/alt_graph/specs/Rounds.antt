@@ -7,7 +7,8 @@ use Rattle.alt_graph.specs.declared.times.TheConstants.{UNRANKED}
 use Rattle.alt_graph.specs.declared.sources.Source.{Source}
 use Rattle.alt_graph.specs.declared.rounds.Round.{Round}
 use Rattle.alt_graph.specs.Times.{NodeTimes, rank_of, number_of}
-use Rattle.alt_graph.specs.Ranking.{IsRanked, ranked_at}
+use Rattle.alt_graph.specs.Ranking.{IsRanked}
+use Rattle.alt_graph.specs.Places.{node_at}
 
 -- u comes before v, by job and then by place, or is v
 abbrev pub IsUpTo : Node → Node → Type 0
@@ -15,7 +16,7 @@ IsUpTo u v = (u.job < v.job) ⊎ ((u.job ≡ v.job) × (u.place ≤ v.place))
 
 -- the node at a place of a round
 abbrev pub round_at : Round → ℕ → Node
-round_at round i = ranked_at round.nodes.items i
+round_at round i = node_at round.nodes.items i
 
 -- how many nodes were followed
 abbrev pub round_length : Round → ℕ
@@ -42,7 +43,7 @@ pub record IsLeastPlace (round : Round) (place : ℕ) : Type 0 where
 -- the nodes of the cycle, along its arcs, from a place on
 pub record AreFrom (round : Round) (place : ℕ) (nodes : List Node) : Type 0 where
   pub size : length nodes ≡ round_length round - round.start
-  pub there : (i : ℕ) → i < length nodes → (a : ℕ) × IsPlaceAfter round place i a × (ranked_at nodes i ≡ round_at round a)
+  pub there : (i : ℕ) → i < length nodes → (a : ℕ) × IsPlaceAfter round place i a × (node_at nodes i ≡ round_at round a)
 
 -- how many numbers have no place yet
 abbrev pub unseen : List ℕ → ℕ
@@ -53,12 +54,12 @@ pub record IsWalk (p : PlannedShop) (t : NodeTimes) (nodes : List Node) (seen : 
   pub size : length seen ≡ length t.rows
   pub next_node : IsNode p next
   pub next_free : rank_of t next ≡ UNRANKED
-  pub nodes_in : (i : ℕ) → i < length nodes → IsNode p (ranked_at nodes i)
-  pub back : (i : ℕ) → i + 1 < length nodes → HasArc p (ranked_at nodes (i + 1)) (ranked_at nodes i)
-  pub last : (i : ℕ) → i + 1 ≡ length nodes → HasArc p next (ranked_at nodes i)
-  pub marks : (i : ℕ) → i < length nodes → slice_index seen (number_of t.firsts (ranked_at nodes i)) ≡ i
+  pub nodes_in : (i : ℕ) → i < length nodes → IsNode p (node_at nodes i)
+  pub back : (i : ℕ) → i + 1 < length nodes → HasArc p (node_at nodes (i + 1)) (node_at nodes i)
+  pub last : (i : ℕ) → i + 1 ≡ length nodes → HasArc p next (node_at nodes i)
+  pub marks : (i : ℕ) → i < length nodes → slice_index seen (number_of t.firsts (node_at nodes i)) ≡ i
   pub marked_in : (v : Node) → IsNode p v → slice_index seen (number_of t.firsts v) ≢ UNRANKED → slice_index seen (number_of t.firsts v) < length nodes
-  pub marked : (v : Node) → IsNode p v → slice_index seen (number_of t.firsts v) ≢ UNRANKED → ranked_at nodes (slice_index seen (number_of t.firsts v)) ≡ v
+  pub marked : (v : Node) → IsNode p v → slice_index seen (number_of t.firsts v) ≢ UNRANKED → node_at nodes (slice_index seen (number_of t.firsts v)) ≡ v
   pub count : length nodes + unseen seen ≡ length seen
 
 -- the source of an arc, if there is one, that has no rank

@@ -1,6 +1,6 @@
 //! The arc between two nodes, read from the shop and the plan.
 
-ghost use Rattle.std.specs.Prelude.{◌≡◌, ℕ, ◌↔◌, IsTrue, MatchOption};
+ghost use Rattle.std.specs.Prelude.{ℕ, ◌↔◌, IsTrue, MatchOption};
 ghost use Rattle.shop_base.specs.Plan.{IsWellShaped};
 ghost use Rattle.shop_base.specs.Graph.{Arc, HasArc};
 ghost use Rattle.alt_graph.specs.Sources.{IsBlockingArc, IsBehind};

@@ -1,4 +1,4 @@
-//! The check of a chain, a path to a job's leaving.
+//! The check of a chain, a path to a node.
 
 ghost use Rattle.std.specs.Prelude.{◌≡◌, ℕ, ◌<◌, ◌≤◌, ◌↔◌, IfSome, MatchOption, Some, [], ◌∷◌};
 ghost use Rattle.shop_base.specs.declared.limits.TheConstants.{MAX_RELEASE};

@@ -52,10 +52,6 @@ fn two_jobs(
     }
 }
 
-const IN_SERIES: &[&[JobNo]] = &[&[0, 1], &[0, 1]];
-
-const CROSSED: &[&[JobNo]] = &[&[0, 1], &[1, 0]];
-
 fn nodes(alloc: Global, places: &[(JobNo, u32)]) -> Result<Vec<Node>, AllocError> {
     let mut nodes = Vec::new(alloc);
     for &(job, place) in places {

@@ -15,8 +15,7 @@ fn routes(alloc: Global, rows: &[&[(MachineNo, Moment)]]) -> Result<Vec<Vec<Step
     Ok(routes)
 }
 
-fn planned(alloc: Global, shop: Shop, plan: Plan) -> Result<Shaped, Fail> {
-    let _ = alloc;
+fn planned(shop: Shop, plan: Plan) -> Result<Shaped, Fail> {
     match shape(shop, plan) {
         Ok(shaped) => Ok(shaped),
         Err(refused) => Err(refused.fault.into()),
@@ -40,7 +39,7 @@ fn two_jobs(alloc: Global, order: &[&[JobNo]], clean: Option<&[Moment]>) -> Resu
         order: orders,
         clean,
     };
-    planned(alloc, shop, plan)
+    planned(shop, plan)
 }
 
 fn ordered(alloc: Global, shaped: &Shaped) -> Result<Option<Times>, Fail> {
@@ -123,7 +122,7 @@ fn finds_the_cycle_of_a_ring(rt: HostRuntime) -> Result<(), Fail> {
         order,
         clean: None,
     };
-    let shaped = planned(rt.alloc(), shop, plan)?;
+    let shaped = planned(shop, plan)?;
     let nodes = cycle(rt.alloc(), &shaped)?.ok_or("no cycle")?;
     let ring = [
         Node { job: 0, place: 1 },
@@ -173,7 +172,7 @@ fn crowd(alloc: Global) -> Result<Shaped, Fail> {
         order,
         clean: None,
     };
-    planned(alloc, Shop::new(100, routes)?, plan)
+    planned(Shop::new(100, routes)?, plan)
 }
 
 #[test]

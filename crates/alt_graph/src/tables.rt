@@ -1,13 +1,13 @@
-//! Where the jobs stand on the machines' routes and orders, to be looked up.
+//! Where each machine stands on the jobs' routes, and each job in the machines' orders, to be looked up.
 
-ghost use Rattle.std.specs.Prelude.{◌≡◌, ℕ, ◌+◌, ◌*◌, ◌<◌, ◌≤◌, ◌≢◌, IfOk, OnOk, length, slice_index, slice_index_or, []};
-ghost use Rattle.shop_base.specs.Plan.{jobs, machines, route, order, job_at, Visits, IsWellShaped};
+ghost use Rattle.std.specs.Prelude.{◌≡◌, ℕ, ◌+◌, ◌*◌, ◌<◌, ◌≢◌, IfOk, slice_index};
+ghost use Rattle.shop_base.specs.Plan.{jobs, machines, route, order, IsWellShaped};
 ghost use Rattle.alt_graph.specs.Tables.{AreTables, AreStepsOf, ArePlacesOf, HasSlots, slot_of};
 
 use crate::numbers::first_numbers;
 use crate::readers::{job_count, machine_count, order_of, route_of};
 use shop_base::limits::MAX_JOBS;
-use shop_base::{JobNo, MachineNo, Shaped, Step};
+use shop_base::{JobNo, MachineNo, Shaped};
 use std::alloc::{AllocError, Global};
 
 /// The numbers of the jobs' first nodes; and for each machine and job the job's step on the machine and

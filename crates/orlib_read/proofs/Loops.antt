@@ -3,14 +3,11 @@ use Rattle.std.proofs.Common.{◌≡◌, ℕ, suc, ◌-◌, ◌+◌, ◌≤◌, 
 use Rattle.std.proofs.lemmas.List.{append-nil}
 use Rattle.shop_base.specs.declared.shop.Step.{Step}
 use Rattle.orlib_read.specs.declared.or_fault.OrFault.{OrFault}
-use Rattle.orlib_read.specs.declared.or_fault.OrFault.TheVariants.{MissingJob, OddWords, Memory}
+use Rattle.orlib_read.specs.declared.or_fault.OrFault.TheVariants.{MissingJob, OddWords}
 use Rattle.orlib_read.specs.Lines.{NumberedLine}
 use Rattle.orlib_read.specs.Reading.{◌>>=◌, Fails, step_at, steps_at, route_at, jobs_at}
 
 -- ---- faults
-
-pub memory_fails : {A : Type 0} (fault : OrFault) (reading : Result A OrFault) → fault ≡ Memory → Fails fault reading
-memory_fails fault reading e = λ other. absurd (other e)
 
 -- ---- steps
 

@@ -37,9 +37,6 @@ failed fault = Err fault
 pub err_is : {A : Type 0} (c d : OrFault) → failed {A = A} c ≡ failed d → c ≡ d
 err_is c d e = cc
 
-pub ok_err : {A P : Type 0} (x : A) (d : OrFault) → done x ≡ failed d → P
-ok_err x d e = absurd cc
-
 pub none_of : {A : Type 0} (o : Option A) → ((x : A) → o ≡ Some x → ⊥) → o ≡ None
 none_of None h = refl
 none_of (Some x) h = absurd (h x refl)

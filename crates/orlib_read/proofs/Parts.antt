@@ -4,7 +4,7 @@ use Rattle.std.specs.Prelude.{position}
 use Rattle.std.specs.List.{before_first, after_first, position_or_len, onto_first, list_all}
 use Rattle.std.proofs.lemmas.Bool.{ltb-false, lt-ltb, le-ltb, false_from_ne_true}
 use Rattle.std.proofs.lemmas.Option.{cond_some}
-use Rattle.std.proofs.lemmas.List.{length-drop, take_rest, take_all, drop_all, drop_more}
+use Rattle.std.proofs.lemmas.List.{take_rest, take_all, drop_all, drop_more}
 use Rattle.std.proofs.lemmas.List.Quantifiers.{position-Some}
 use Rattle.std.proofs.lemmas.List.Sums.{position_or_len_is}
 use Rattle.memchr.specs.Find.{IsFirstByte}
@@ -65,9 +65,6 @@ pub parts_first : (p : ℕ → Bool) (b : ℕ) (bytes : List ℕ) → parts_of p
 parts_first p b [] = cases_bool (p b) _ (λ h. rw h refl) (λ h. rw h refl)
 parts_first p b (c ∷ bytes) = cases_bool (p b) _ (λ h. rw h refl)
     (λ h. rw (before_first-past p b (c ∷ bytes) h, after_first-past p b (c ∷ bytes) h, h, parts_first p c bytes) refl)
-
-pub after_shorter : (p : ℕ → Bool) (bytes : List ℕ) → 0 < length bytes → length (after_first p bytes) < length bytes
-after_shorter p bytes h = omega (arith, length-drop (position_or_len p bytes + 1) bytes)
 
 -- ---- words
 

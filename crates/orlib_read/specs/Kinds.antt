@@ -29,10 +29,11 @@ told_lines text = told_from 1 text
 abbrev pub IsInstanceLine : NumberedLine → List ℕ → Type 0
 IsInstanceLine line name = words_of line.bytes ≡ codes "instance" ∷ name ∷ []
 
--- an instance line, whatever its name, and any other line
+-- an instance line, whatever its name
 abbrev pub IsAnyInstanceLine : NumberedLine → Type 0
 IsAnyInstanceLine line = (name : List ℕ) × IsInstanceLine line name
 
+-- any other line
 abbrev pub IsOtherLine : NumberedLine → Type 0
 IsOtherLine line = (name : List ℕ) → IsInstanceLine line name → ⊥
 

@@ -32,6 +32,7 @@ name_of (word ∷ name ∷ other ∷ words) = None
 abbrev pub is_instance_line : NumberedLine → Bool
 is_instance_line line = is_some (name_of (words_of line.bytes))
 
+-- the line's name, if it has one, is this name
 abbrev pub is_name : List ℕ → Option (List ℕ) → Bool
 is_name name None = false
 is_name name (Some other) = bytes_eq other name
@@ -64,6 +65,7 @@ pub record Head : Type 0 where
   pub jobs : ℕ
   pub machines : ℕ
 
+-- what stands before the job lines, with the sizes on the line of this number
 abbrev pub sized : List ℕ → Option (ℕ × ℕ) → ℕ → Result Head OrFault
 sized description (Some sizes) number = Ok (record { description = description; jobs = sizes.0; machines = sizes.1 })
 sized description None number = Err (BadSizes number)
@@ -73,6 +75,7 @@ abbrev pub sizes_at : List ℕ → List NumberedLine → Result (Head × List Nu
 sizes_at description [] = Err NoSizes
 sizes_at description (line ∷ lines) = sized description (sizes_of (words_of line.bytes)) line.number >>= λ head. Ok (head, lines)
 
+-- the same from the first line on, which is the size line or the description
 abbrev pub opened : Option (ℕ × ℕ) → NumberedLine → List NumberedLine → Result (Head × List NumberedLine) OrFault
 opened (Some sizes) line lines = Ok (record { description = []; jobs = sizes.0; machines = sizes.1 }, lines)
 opened None line lines = sizes_at line.bytes lines
@@ -82,6 +85,7 @@ abbrev pub head_at : List NumberedLine → Result (Head × List NumberedLine) Or
 head_at [] = Err NoSizes
 head_at (line ∷ lines) = opened (sizes_of (words_of line.bytes)) line lines
 
+-- the number of a word, or else the fault that names the word
 abbrev pub number_or : Option ℕ → ℕ → ℕ → Result ℕ OrFault
 number_or (Some n) line word = Ok n
 number_or None line word = Err (BadNumber line word)
@@ -128,6 +132,7 @@ draft_at lines = do
   jobs ← jobs_at 0 head.0.jobs head.1
   Ok (record { description = head.0.description; machines = head.0.machines; routes = jobs.0 }, jobs.1)
 
+-- what was read, if no line is left
 abbrev pub ended : Content → List NumberedLine → Result Content OrFault
 ended draft [] = Ok draft
 ended draft (line ∷ lines) = Err (Extra line.number)
@@ -138,6 +143,7 @@ instance_at lines = do
   draft ← draft_at lines
   ended draft.0 draft.1
 
+-- what is read of a section, if there is one
 abbrev pub in_section : Option (List NumberedLine) → Result Content OrFault
 in_section None = Err NoInstance
 in_section (Some lines) = draft_at lines >>= λ draft. Ok draft.0

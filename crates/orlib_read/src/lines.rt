@@ -1,6 +1,6 @@
 //! The lines of a text, from the front.
 
-ghost use Rattle.std.specs.Prelude.{◌≡◌, ◌∷◌, [], ⊤, ◌+◌, ◌<◌, ◌^◌, Bool, true, false, Some, None, length, position, IfSome, MatchOption};
+ghost use Rattle.std.specs.Prelude.{◌≡◌, ◌∷◌, [], ◌+◌, ◌<◌, ◌^◌, true, false, Some, None, length, position, IfSome, MatchOption};
 ghost use Rattle.orlib_read.specs.Lines.{is_line_feed, without_return};
 ghost use Rattle.orlib_read.specs.Kinds.{told_lines};
 ghost use Rattle.orlib_read.specs.Reading.{before_title, section_of};

@@ -1,6 +1,6 @@
 //! The words of a line, and the numbers among them.
 
-ghost use Rattle.std.specs.Prelude.{◌≡◌, ◌∷◌, [], ⊤, ◌<◌, ◌≤◌, ℕ, Bool, Some, length, not, ◌||◌, position, IfSome, MatchOption};
+ghost use Rattle.std.specs.Prelude.{◌≡◌, ◌∷◌, [], ⊤, ◌<◌, ℕ, Bool, Some, length, not, ◌||◌, position, IfSome, MatchOption};
 ghost use Rattle.std.specs.List.{before_first, after_first, list_all};
 ghost use Rattle.orlib_read.specs.Words.{is_blank, is_digit, words_of, number_of};
 ghost use Rattle.orlib_read.specs.Kinds.{is_plus};

@@ -26,10 +26,11 @@ has_cleaning (Some (integer (pos n))) = n == 2
 has_cleaning (Some (integer (negsuc n))) = false
 has_cleaning (Some d) = false
 
--- whether a key is one of a plan text, with cleaning or without
+-- whether a key is one of every plan text
 abbrev pub is_common_key : List ℕ → Bool
 is_common_key key = bytes_eq key (codes "version") || bytes_eq key (name_of Release) || bytes_eq key (name_of Budget) || bytes_eq key (name_of Order)
 
+-- whether a key is one of a plan text, with cleaning or without
 abbrev pub is_known_key : Bool → List ℕ → Bool
 is_known_key true key = is_common_key key || bytes_eq key (name_of Clean)
 is_known_key false key = is_common_key key

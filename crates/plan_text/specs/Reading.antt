@@ -45,5 +45,6 @@ plan_with cleaning table = record {
   clean = clean_in cleaning table;
 }
 
+-- the plan in a table, by its version
 abbrev pub plan_in : Members → ShopPlan
 plan_in table = plan_with (has_cleaning (version_in table)) table

@@ -1,6 +1,6 @@
 //! The reader of plan texts.
 
-ghost use Rattle.std.specs.Prelude.{◌≡◌, ◌≢◌, ◌⊎◌, IfOk, IfErr, None, Some};
+ghost use Rattle.std.specs.Prelude.{◌≡◌, ◌≢◌, IfOk, IfErr, None, Some};
 ghost use Rattle.shop_base.specs.Shop.{lists_of};
 ghost use Rattle.shop_base.specs.Plan.{ShopPlan, list_of};
 ghost use Rattle.toml.specs.View.{table_view};

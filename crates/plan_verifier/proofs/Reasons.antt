@@ -1,5 +1,5 @@
 -- The leavings of an ordered graph: their greatest lengths, and what these say of every exact run.
-use Rattle.std.proofs.Common.{◌≡◌, ℕ, ◌+◌, ◌<◌, ◌≤◌, ◌↔◌, List, length, max, Result, Ok, Err, IfOk, inl, inr, arith, refl, sym, ◌∙◌}
+use Rattle.std.proofs.Common.{◌≡◌, ℕ, ◌+◌, ◌<◌, ◌≤◌, List, length, max, Result, Ok, Err, IfOk, inl, inr, arith, refl, sym, ◌∙◌}
 use Rattle.std.proofs.Math.Nat.{le-max_left, le-max_right, max-eq_left, max-eq_right}
 use Rattle.std.proofs.lemmas.Bool.{cases_lt, cases_order}
 use Rattle.std.proofs.lemmas.List.{length_push}
@@ -11,12 +11,11 @@ use Rattle.shop_base.proofs.LowerBounds.{no_exact_run_is_faster-holds}
 use Rattle.alt_graph.specs.Evidence.{IsChain, IsNeverDone, IsNeverGoneBefore}
 use Rattle.alt_graph.specs.Times.{NodeTimes, rank_of, earliest_of, AreOrdered}
 use Rattle.plan_verifier.specs.Accepted.{VerifiedPlan, kept_at, HasNoCycle, IsWithinBudget, IsGreatest, IsAcceptable, IsFirstPast, IsVerified}
-use Rattle.alt_graph.proofs.CycleParts.{cycle_simple, cycle_never_done}
+use Rattle.alt_graph.proofs.CycleParts.{cycle_never_done}
 use Rattle.plan_verifier.specs.declared.verdict.Verdict.{Verdict}
 use Rattle.plan_verifier.specs.declared.verdict.Verdict.TheVariants.{Accepted, Refused}
-use Rattle.plan_verifier.specs.declared.verdict.Why.{Why}
 use Rattle.plan_verifier.specs.declared.verdict.Why.TheVariants.{Cycle, Late}
-use Rattle.plan_verifier.specs.Verdicts.{IsFirstLate, IsReason, IsAcceptance, OnAccepted, OnRefused, OnCycle, OnLate, IsNeverInBudget}
+use Rattle.plan_verifier.specs.Verdicts.{IsFirstLate, IsReason, OnRefused, OnCycle, OnLate, IsNeverInBudget}
 
 -- a path has no more nodes than its last one's rank and one
 pub path_few : (p : PlannedShop) (rank : Node → ℕ) (nodes : List Node) (v : Node) (n : ℕ) → RanksRise p rank → Path p nodes v n → length nodes ≤ rank v + 1
@@ -78,11 +77,6 @@ never_done_just p never es run exact = let found = never es run in (found.0, fou
 pub late_just : (p : PlannedShop) (j n : ℕ) → j < jobs p → budget p j < n → IsNeverGoneBefore p j n → IsNeverInBudget p
 late_just p j n inside past never es run exact = (j, inside, λ out. omega (arith, never es run exact out.gone, out.by))
 
--- the reason for a refusal says that the plan isn't acceptable
-pub reason_refuses : (p : PlannedShop) (why : Why) → IsReason p why → IsAcceptable p → ⊥
-reason_refuses p (Cycle nodes) cycle acceptable = acceptable.acyclic nodes.items (cycle_simple p nodes.items cycle)
-reason_refuses p (Late job leaves chain) late acceptable = omega (arith, acceptable.budgets job late.job chain.items leaves late.path, late.past)
-
 -- what a verdict says of the plan that it is on
 abbrev pub IsReasoned : PlannedShop → Verdict → Type 0
 IsReasoned p = OnRefused (λ back why. (back ≡ p) × IsReason p why)
@@ -101,10 +95,6 @@ pub verdict_just : (p : PlannedShop) (verdict : Verdict) → IsWellShaped p → 
 verdict_just p (Accepted verified) shaped reasoned = tt
 verdict_just p (Refused back (Cycle nodes)) shaped (same, cycle) = never_done_just p (cycle_never_done p nodes.items shaped cycle)
 verdict_just p (Refused back (Late job leaves chain)) shaped (same, late) = late_just p job leaves late.job late.past (path_never_before p job leaves chain.items shaped late.path)
-
-pub verdict_exact : (p : PlannedShop) (verdict : Verdict) → OnAccepted (λ verified. (verified.planned ≡ p) × IsAcceptable p) verdict → IsReasoned p verdict → IsAcceptance verdict ↔ IsAcceptable p
-verdict_exact p (Accepted verified) (same, acceptable) reasoned = ((λ _. acceptable), (λ _. tt))
-verdict_exact p (Refused back why) accepted (same, reason) = ((λ never. absurd never), reason_refuses p why reason)
 
 -- the latest of the first n jobs' leavings, 0 where there is none
 pub record IsLatestBelow (v : VerifiedPlan) (n latest : ℕ) : Type 0 where

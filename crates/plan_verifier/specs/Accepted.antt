@@ -2,7 +2,7 @@ use Rattle.std.specs.Prelude.{ℕ, ◌<◌, ◌≤◌, List, ◌≡◌}
 use Rattle.shop_base.specs.declared.node.Node.{Node}
 use Rattle.shop_base.specs.Plan.{PlannedShop, jobs, budget, IsWellShaped}
 use Rattle.shop_base.specs.Graph.{leaving, IsSimpleCycle, Path, MeetBudgets}
-use Rattle.alt_graph.specs.Times.{NodeTimes, rank_of, earliest_of, AreOrdered}
+use Rattle.alt_graph.specs.Times.{NodeTimes, earliest_of, AreOrdered}
 
 -- no arcs lead in a circle
 abbrev pub HasNoCycle : PlannedShop → Type 0
@@ -26,10 +26,6 @@ pub record IsGreatest (p : PlannedShop) (v : Node) (n : ℕ) : Type 0 where
 pub record VerifiedPlan : Type 0 where
   pub planned : PlannedShop
   pub times : NodeTimes
-
--- the rank of a node of an accepted plan
-abbrev pub rank_at : VerifiedPlan → Node → ℕ
-rank_at v = rank_of v.times
 
 -- the moment kept for a node of an accepted plan: the greatest length of a path to it
 abbrev pub kept_at : VerifiedPlan → Node → ℕ

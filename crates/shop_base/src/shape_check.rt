@@ -1,10 +1,10 @@
 //! The checks of a plan's shape, in the order of their faults.
 
-ghost use Rattle.std.specs.Prelude.{◌≡◌, ℕ, ◌<◌, IfOk, OnOk, IfErr, MatchBool, length, slice_index, slice_index_or, []};
+ghost use Rattle.std.specs.Prelude.{◌≡◌, ℕ, ◌<◌, IfOk, OnOk, IfErr, MatchBool, length, slice_index_or, []};
 ghost use Rattle.shop_base.specs.Shop.{route_at, step_at};
-ghost use Rattle.shop_base.specs.Plan.{PlannedShop, IsWellShaped, HasCounts, IsWithinLimits, IsOrder, jobs, machines, order, job_at};
+ghost use Rattle.shop_base.specs.Plan.{PlannedShop, IsWellShaped, HasCounts, IsWithinLimits, IsOrder, jobs, machines, order};
 ghost use Rattle.shop_base.specs.declared.limits.TheConstants.{MAX_MACHINES};
-ghost use Rattle.shop_base.specs.ShapeFault.{IsFirstShapeFault, IsMachineReached, IsPlaceReached, IsGoodPlace, IsListed, IsVisitor};
+ghost use Rattle.shop_base.specs.ShapeFault.{IsFirstShapeFault, IsMachineReached, IsGoodPlace, IsListed};
 ghost use Rattle.shop_base.specs.Marks.{AreMarks, AreVisits, AreVisited, IsVisitedBefore, IsFirstAbove};
 
 use crate::limits::{MAX_CLEAN, MAX_JOBS, MAX_MACHINES, MAX_MOMENT, MAX_RELEASE};

@@ -11,10 +11,10 @@ use Rattle.clap.specs.Facts.{explicit_source, unwrap_or_range}
 use Rattle.clap.specs.Lexer.{long_of, short_of}
 use Rattle.clap.specs.Walk.{Held, Names, Outcome, Row, Rule, Step, Text, Waiting, Walk, action_of, after_flag, after_step, arg_by_id, arg_by_index, arg_by_long, arg_by_short}
 use Rattle.clap.specs.Walk.{at_row, attached_value, bundle_met, bundle_step, done, plain as plain_flag, flag_met, has_row, idle, is_empty, long_met, most_values, more_values, nothing_held, option, positional, option_met, option_word}
-use Rattle.clap.specs.Walk.{plain_word, reacted, reading_by, refused, settled, settled_rows, short_met, stronger, takes_values, to_positional, trailing, next, subcommand, used, used_as, used_by_id, value, values_or_missing, waits, walk, walk_from, walked, walked_from, with_default, without, with_values, word_met, subcommand_met, subcommand_or_other, is_pending, takes_several, positional_held, rows_after, long_or_other, short_or_plain, finished}
+use Rattle.clap.specs.Walk.{plain_word, reacted, reading_by, refused, settled, settled_rows, short_met, stronger, takes_values, to_positional, trailing, next, subcommand, used, used_as, used_by_id, value, values_or_missing, waits, walk, walk_from, walked, walked_from, with_default, without, with_values, word_met, subcommand_met, subcommand_or_other, is_pending, takes_several, rows_after, long_or_other, short_or_plain}
 use Rattle.clap.specs.Simple.{Shape}
 use Rattle.clap.specs.Takes.{is_given}
-use Rattle.clap.specs.Kinds.{Kinds, or_else, range_kinds, value_kinds, values_kinds, check_kinds}
+use Rattle.clap.specs.Kinds.{Kinds, or_else, range_kinds, check_kinds}
 use Rattle.clap.specs.Faults.{action_fault, bundle_step_fault, check_fault, default_fault, defaults_fault, flags_fault, level_fault, long_fault, option_fault, other_fault, positional_fault, react_fault, settle_fault, short_fault, step_fault, turn_fault, use_fault, values_fault, walk_fault, word_fault}
 use Rattle.clap.specs.declared.builder.action.ArgAction.{ArgAction}
 use Rattle.clap.specs.declared.builder.action.ArgAction.TheVariants.{Set, Append, Help}

@@ -4,7 +4,8 @@ use Rattle.shop_base.specs.declared.node.Node.{Node}
 use Rattle.shop_base.specs.Graph.{node}
 use Rattle.alt_graph.specs.declared.times.TheConstants.{UNRANKED}
 use Rattle.alt_graph.specs.Sources.{IsJobArc, IsBlockingArc}
-use Rattle.alt_graph.specs.Ranking.{ranked_at, so_far, Grows, IsSettled}
+use Rattle.alt_graph.specs.Ranking.{so_far, Grows, IsSettled}
+use Rattle.alt_graph.specs.Places.{node_at}
 use Rattle.alt_graph.proofs.ArcKinds.{job_arc_is, target_node, job_target_once, blocking_target_once}
 use Rattle.alt_graph.proofs.Ranks.{few_done}
 use Rattle.alt_graph.proofs.Settling.{grows_on, settled_still, settled_earlier, settled_next, target_settled}
@@ -19,7 +20,7 @@ returns-clause-settled c =
     let mid = so_far c.args.tables.now c.try_target.new.ranking in
     let new = so_far c.args.tables.now c.try_target-2.new.ranking in
     let few : length done < UNRANKED = few_done p c.args.tables.now.firsts.items c.requires.tables.firsts c.args.ranking.now.rows.items done c.requires.ranked in
-    let at : c.index-node.result.now ≡ ranked_at done c.args.next = get_or_read done c.args.next c.index-node.result.now c.requires.next c.index-node.ensures (node 0 0) in
+    let at : c.index-node.result.now ≡ node_at done c.args.next = get_or_read done c.args.next c.index-node.result.now c.requires.next c.index-node.ensures (node 0 0) in
     let first = c.in_ok-try_target.ensures in
     let second = c.in_ok-try_target-2.ensures in
     let grows : Grows p old new (length done) = grows_on p old mid new (length done) (length c.try_target.new.ranking.done.items) first.grows second.grows first.longer in

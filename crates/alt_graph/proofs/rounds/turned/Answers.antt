@@ -1,8 +1,8 @@
 use Rattle.std.proofs.Common.{◌≡◌, ℕ, ◌++◌, ◌∷◌, [], arith, below_more, rules, ◌∙◌}
 use Rattle.std.proofs.lemmas.List.{get_or_append_left, get_or_push, length_push, get_or_read}
 use Rattle.shop_base.specs.Graph.{node}
-use Rattle.alt_graph.specs.Ranking.{ranked_at}
 use Rattle.alt_graph.specs.Rounds.{IsPlaceAfter, round_at}
+use Rattle.alt_graph.specs.Places.{node_at}
 use Rattle.alt_graph.proofs.rounds.turned.Goals as goal
 
 pub loop-arcs-preserved : goal.loop-arcs-preserved
@@ -13,7 +13,7 @@ loop-arcs-preserved c =
     let read : c.index.result.now ≡ round_at round c.place_after.result = get_or_read round.nodes.items c.place_after.result c.index.result.now c.place_after.ensures.within c.index.ensures (node 0 0) in
     rw pushed (record {
       size = omega (arith, length_push so_far c.index.result.now, c.loop-arcs.invariant.size);
-      there = below_more (λ i. (a : ℕ) × IsPlaceAfter round c.args.place i a × (ranked_at (so_far ++ c.index.result.now ∷ []) i ≡ round_at round a)) c.loop-arcs.arcs
+      there = below_more (λ i. (a : ℕ) × IsPlaceAfter round c.args.place i a × (node_at (so_far ++ c.index.result.now ∷ []) i ≡ round_at round a)) c.loop-arcs.arcs
           (λ i lt.
           let was = c.loop-arcs.invariant.there i lt in
           (was.0, was.1, get_or_append_left so_far (c.index.result.now ∷ []) (node 0 0) i (omega (arith, c.loop-arcs.invariant.size)) ∙ was.2))
