@@ -20,6 +20,7 @@ pub mod ReportsLeft
 pub mod ReadyCount
 pub mod StatedNumber
 pub mod LowerBounds
+pub mod JustInTime
 pub mod Cycles
 pub mod CycleLaw
 pub mod SerialLaw

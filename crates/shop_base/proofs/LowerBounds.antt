@@ -294,7 +294,7 @@ report-no_faster : (p : PlannedShop) (c : Cell) (r : Report) → IsSound p c →
 report-no_faster p c r sound bounds can exact = end-no_faster p c r.ended r.at sound bounds can.going can.timely.in_order exact.on_time
 
 -- only the jobs of the shop have paths
-path_in_shop : (p : PlannedShop) (nodes : List Node) (v : Node) (n : ℕ) → Path p nodes v n → v.job < jobs p
+pub path_in_shop : (p : PlannedShop) (nodes : List Node) (v : Node) (n : ℕ) → Path p nodes v n → v.job < jobs p
 path_in_shop p _ _ _ (begins j inside) = inside
 path_in_shop p _ _ _ (follows nodes u v n d path arc) = ahead u v d arc (path_in_shop p nodes u n path)
   where

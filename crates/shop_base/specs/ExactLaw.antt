@@ -1,11 +1,13 @@
-use Rattle.std.specs.Prelude.{ℕ, ◌≤◌, List, ◌∷◌, ◌++◌}
+use Rattle.std.specs.Prelude.{◌≡◌, ℕ, ◌≤◌, List, ◌∷◌, ◌++◌}
 use Rattle.shop_base.specs.declared.node.Node.{Node}
 use Rattle.shop_base.specs.Plan.{PlannedShop, IsWellShaped}
-use Rattle.shop_base.specs.Cell.{start, made, since, IsGone}
+use Rattle.shop_base.specs.Cell.{Cell, start, made, since, IsGone}
+use Rattle.shop_base.specs.Report.{Report}
 use Rattle.shop_base.specs.Move.{MoveOrder}
 use Rattle.shop_base.specs.Run.{Event, Moved, IsRun, ends_in}
+use Rattle.shop_base.specs.Controlled.{IsControlledRun}
 use Rattle.shop_base.specs.Punctual.{AreExact}
-use Rattle.shop_base.specs.Graph.{node, leaving, Path}
+use Rattle.shop_base.specs.Graph.{node, leaving, Path, RanksRise, MomentsFit}
 
 -- in a run whose reports are exact, a job that is gone isn't gone since before the length of any path to its leaving
 abbrev pub NoExactRunIsFaster : Type 0
@@ -21,3 +23,11 @@ NoExactMoveIsEarlier =
     → IsRun p (es ++ Moved o ∷ rest) → AreExact p (start p) (es ++ Moved o ∷ rest)
     → (nodes : List Node) (n : ℕ) → Path p nodes (node o.job (made (ends_in p es) o.job)) n
     → n ≤ o.at
+
+-- just in time: where ranks rise along every arc, moments are kept that fit, and all reports of a controlled run are exact, a job that is gone is gone since just the moment of its leaving, if a path to its leaving is that long
+abbrev pub ExactRunsAreJustInTime : Type 0
+ExactRunsAreJustInTime =
+    (p : PlannedShop) (rank kept : Node → ℕ) (rs : List Report) (es : List Event) (end : Cell)
+    → IsWellShaped p → RanksRise p rank → MomentsFit p kept → IsControlledRun p rs es end → AreExact p (start p) es
+    → (j : ℕ) (nodes : List Node) → Path p nodes (leaving p j) (kept (leaving p j)) → IsGone p end j
+    → since end j ≡ kept (leaving p j)

@@ -6,7 +6,7 @@ ghost use Rattle.shop_base.specs.NeverStuckLaw.{NoControlledRunIsStuck};
 ghost use Rattle.shop_base.specs.EndsLaw.{EndsOnTheStatedNumber, OrdersNeverOutnumberReports, MovesNeverOutnumberReports};
 ghost use Rattle.shop_base.specs.InTimeLaw.{PunctualRunsAreInTime};
 ghost use Rattle.shop_base.specs.CycleLaw.{ACycleStopsEveryRun};
-ghost use Rattle.shop_base.specs.ExactLaw.{NoExactRunIsFaster, NoExactMoveIsEarlier};
+ghost use Rattle.shop_base.specs.ExactLaw.{NoExactRunIsFaster, NoExactMoveIsEarlier, ExactRunsAreJustInTime};
 ghost use Rattle.shop_base.specs.SerialLaw.{TheSerialPlanHasNoCycle};
 
 /// One chain: after each report that is possible at rest, in every run, exactly one list of moves keeps
@@ -72,6 +72,13 @@ pub fn no_exact_run_is_faster()
 /// The same of each move: in an exact run none is made before the length of any path to its node.
 pub fn no_exact_move_is_earlier()
     ensures { NoExactMoveIsEarlier }
+{}
+
+/// Just in time: where moments are kept as for `in_time`, each report comes just when its activity is
+/// due, and a path to a job's leaving is as long as the moment kept for it, the job, once it is gone, is
+/// gone since just that moment.
+pub fn just_in_time()
+    ensures { ExactRunsAreJustInTime }
 {}
 
 /// The serial plan has no cycle: where each machine takes its jobs in ascending order, no arcs lead in a
