@@ -193,14 +193,28 @@ fn refuses_plans_with_other_orders(rt: HostRuntime) -> Result<(), Fail> {
     }
     let shop = Shop::new(2, routes(rt.alloc(), &[&[(0, 3), (1, 2)], &[(1, 4)]])?)?;
     let stranger = plan(rt.alloc(), &[0, 0], &[5, 10], &[&[0, 1], &[0, 1]], None)?;
-    let fault = shape(shop, stranger).err().map(|refused| refused.fault);
-    assert_eq!(rt;
-        fault,
-        Some(ShapeFault::NotOnRoute {
-            machine: 0,
-            place: 1
-        })
-    );
+    match shape(shop, stranger) {
+        Ok(_) => panic!(rt; "the plan is taken"),
+        Err(refused) => {
+            let answer = refused.fault.to_string(rt.alloc())?;
+            assert_eq!(rt; answer.as_str(), "NotOnRoute machine 0 place 1");
+        }
+    }
+    Ok(())
+}
+
+#[test]
+fn takes_what_just_keeps_the_limits(rt: HostRuntime) -> Result<(), Fail> {
+    let answer = shop_answer(rt.alloc(), 100, &[&[(99, 1_000_000), (0, 1)]])?;
+    assert_eq!(rt; answer.as_str(), "");
+    let answer = shape_answer(
+        &rt,
+        &[0, 1_000_000_000],
+        &[5, 1_000_000_000_000],
+        &[&[0, 1], &[0, 1]],
+        Some(&[0, 1_000_000]),
+    )?;
+    assert_eq!(rt; answer.as_str(), "");
     Ok(())
 }
 

@@ -2,6 +2,8 @@
 //! the definitions make of a plan, a list of events or a list of nodes that is written out.
 
 ghost use Rattle.std.specs.Prelude.{◌≡◌, ℕ, ◌≤◌, List, [], ◌∷◌, ◌++◌, take, drop, true};
+ghost use Rattle.shop_base.specs.declared.limits.TheConstants.{MAX_JOBS, MAX_MACHINES};
+ghost use Rattle.shop_base.specs.declared.limits.TheConstants.{MAX_NOMINAL, MAX_CLEAN, MAX_RELEASE, MAX_MOMENT};
 ghost use Rattle.shop_base.specs.declared.node.Node.{Node};
 ghost use Rattle.shop_base.specs.Plan.{PlannedShop, IsWellShaped};
 ghost use Rattle.shop_base.specs.Cell.{Cell, start, since, ready, remaining_route};
@@ -241,4 +243,15 @@ pub fn an_operation_without_length()
     ensures path { Path instant (node 0 0 ∷ node 0 1 ∷ []) (leaving instant 0) 0 }
     ensures ended { HasEnded instant instant_end }
     ensures out { IsOutByBudget instant instant_end 0 }
+{}
+
+/// The limits in numbers: the most jobs and machines of a shop, the longest nominal and cleaning times, the
+/// latest release, and the latest moment of all.
+pub fn the_limits_in_numbers()
+    ensures jobs { MAX_JOBS ≡ 200 }
+    ensures machines { MAX_MACHINES ≡ 100 }
+    ensures nominal { MAX_NOMINAL ≡ 1_000_000 }
+    ensures clean { MAX_CLEAN ≡ 1_000_000 }
+    ensures release { MAX_RELEASE ≡ 1_000_000_000 }
+    ensures moment { MAX_MOMENT ≡ 1_000_000_000_000 }
 {}
