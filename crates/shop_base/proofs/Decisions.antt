@@ -1,7 +1,6 @@
 -- In a sound cell it is decided what can happen: who is on a machine, which job can move and keep the plan, which report is possible; and rest doesn't depend on the moment.
-use Rattle.std.proofs.Common.{◌≡◌, ℕ, zero, suc, ◌+◌, ◌<◌, ◌≤◌, List, [], ◌∷◌, ◌++◌, length, slice_index, Option, None, Some, Bool, true, false, ◌⊎◌, inl, inr, refl, sym, ◌∙◌, ap, subst, arith, append_assoc, length-append}
+use Rattle.std.proofs.Common.{◌≡◌, ℕ, zero, suc, ◌+◌, ◌<◌, ◌≤◌, [], ◌∷◌, ◌++◌, length, Option, None, Some, Bool, true, false, ◌⊎◌, inl, inr, refl, sym, ◌∙◌, ap, subst, arith}
 use Rattle.std.proofs.lemmas.Bool.{cases_lt, cases_eq, cases_order}
-use Rattle.std.proofs.Math.Seq.{get_or-append_seam}
 use Rattle.shop_base.specs.declared.limits.TheConstants.{MAX_MOMENT}
 use Rattle.shop_base.specs.Plan.{PlannedShop, steps, machine_of, release, nominal, clean, order, job_at, Visits, Stands, IsWellShaped}
 use Rattle.shop_base.specs.Cell.{Cell, made, ready, since, entries, cleaning, IsOn, IsFree}
@@ -11,18 +10,8 @@ use Rattle.shop_base.specs.Move.{CanLeave, CanEnter, CanMove, IsPrefix, KeepsPla
 use Rattle.shop_base.specs.Run.{IsAtRest}
 use Rattle.shop_base.specs.Sound.{IsSound}
 use Rattle.shop_base.proofs.Visits.{visits-stands, stands_once, visits_or_not, on_or_not}
+use Rattle.shop_base.proofs.Places.{prefix_grows}
 use Rattle.shop_base.proofs.Keeping.{target_place}
-
--- a list that begins another begins it with the entry that stands there next, too
-pub prefix_grows : (front whole : List ℕ) (j : ℕ) → IsPrefix front whole → length front < length whole → slice_index whole (length front) ≡ j → IsPrefix (front ++ j ∷ []) whole
-prefix_grows front whole j (rest, is) shorter here = go rest is
-  where
-    go : (rest : List ℕ) → whole ≡ front ++ rest → IsPrefix (front ++ j ∷ []) whole
-    go [] is = absurd (omega (arith, ap length is, length-append front []))
-    go (x ∷ rest) is = (rest, is ∙ rw same (sym (append_assoc front (j ∷ []) rest)))
-      where
-        same : x ≡ j
-        same = sym (get_or-append_seam front x rest 0) ∙ rw is at here
 
 -- the move of a job that is next in the order of the machine that it enters keeps the plan
 pub stands-keeps : (p : PlannedShop) (c : Cell) (j m : ℕ) → IsSound p c → Stands p m (length (entries c m)) j (made c j) → KeepsPlan p c j

@@ -19,7 +19,8 @@ use Rattle.shop_base.proofs.Changes.{IsMoved, IsReadied, IsTidied, after_move-mo
 use Rattle.shop_base.proofs.ControlledRuns.{leads_induction}
 use Rattle.shop_base.proofs.Keeping.{after_report-sound, after_move-sound, target_free}
 use Rattle.shop_base.proofs.Visits.{visits_job, visits_once, visits-stands, on_or_not}
-use Rattle.shop_base.proofs.Places.{same_stand, ready_in_shop}
+use Rattle.shop_base.proofs.InShop.{outside_in_shop, ready_in_shop}
+use Rattle.shop_base.proofs.Places.{same_stand}
 use Rattle.shop_base.proofs.NeverStuck.{HasActivityBy, moments_rise_along, rest-active}
 
 -- equal moments, where some moment is
@@ -57,17 +58,10 @@ tidied-on_time p kept c m t new tidied ahead on_time = record {
       | inr other ↦ sym (tidied.cleaning_elsewhere n other) ∙ cleaned
     ]
 
--- a job that is outside is of the shop
-outside_in_shop : (p : PlannedShop) (c : Cell) (j : ℕ) → made c j ≡ 0 → j < length c.jobs
-outside_in_shop p c j outside = elim (cases_lt j (length c.jobs)) [
-  | inl inside ↦ inside
-  | inr past ↦ (let one : made c j ≡ 1 = ap (λ (s : JobState). s.made) (get_or_past c.jobs j absent past) in absurd (omega arith))
-]
-
 -- the end of an activity, at a moment that isn't past that of a node whose move isn't made yet, keeps the cell timely
 ended-on_time : (p : PlannedShop) (kept : Node → ℕ) (c : Cell) (a : Activity) (due t : ℕ) → IsSound p c → GoesOn p c a due → IsAhead p kept c t → IsOnTime p kept c → IsOnTime p kept (after_end c a t)
 ended-on_time p kept c (Arrival j) due t sound going ahead on_time =
-    readied-on_time p kept c j t (with_ready c j t) (with_ready-readied c j t going.not_ready (outside_in_shop p c j going.outside)) ahead on_time
+    readied-on_time p kept c j t (with_ready c j t) (with_ready-readied c j t going.not_ready (omega (arith, sound.job_count, outside_in_shop p c j sound going.outside))) ahead on_time
 ended-on_time p kept c (Operation j m) due t sound (k, worked) ahead on_time =
     let inside : j < jobs p = visits_job p j k m worked.on.visits in
     readied-on_time p kept c j t (with_ready c j t) (with_ready-readied c j t worked.not_ready (omega (arith, sound.job_count))) ahead on_time

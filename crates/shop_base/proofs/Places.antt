@@ -1,11 +1,8 @@
--- Places in the orders of a planned shop, orders that grow by a job, and who can be ready.
-use Rattle.std.proofs.Common.{◌≡◌, ℕ, ◌<◌, List, [], ◌∷◌, ◌++◌, inl, inr, length, true, false, slice_index, get_or, refl, sym, ap, ◌∙◌, subst, arith, append_assoc, length-append}
-use Rattle.std.proofs.lemmas.Bool.{cases_lt}
-use Rattle.std.proofs.lemmas.List.{get_or_past, get_or_at}
-use Rattle.shop_base.specs.Plan.{PlannedShop, jobs, machines, order, job_at, Visits, Stands, IsWellShaped}
-use Rattle.shop_base.specs.Cell.{Cell, JobState, absent, ready}
+-- Places in the orders of a planned shop, and orders that grow by a job.
+use Rattle.std.proofs.Common.{◌≡◌, ℕ, ◌<◌, List, [], ◌∷◌, ◌++◌, length, slice_index, refl, sym, ap, ◌∙◌, subst, arith, append_assoc, length-append}
+use Rattle.std.proofs.Math.Seq.{get_or-append_seam}
+use Rattle.shop_base.specs.Plan.{PlannedShop, machines, order, job_at, Visits, Stands, IsWellShaped}
 use Rattle.shop_base.specs.Move.{IsPrefix}
-use Rattle.shop_base.specs.Sound.{IsSound}
 use Rattle.shop_base.proofs.Visits.{visits_once}
 
 -- each place of a machine's order has its visit
@@ -20,22 +17,13 @@ same_stand p m a b i k j l shaped same one other =
     let jobs_same : i ≡ j = sym one.job ∙ ap (job_at p m) same ∙ other.job in
     (jobs_same, visits_once p j k l m shaped (subst (λ n. Visits p n k m) jobs_same one.visits) other.visits)
 
--- a list that begins another begins it also with the next element at its end
+-- a list that begins another begins it with the entry that stands there next, too
 pub prefix_grows : (front whole : List ℕ) (j : ℕ) → IsPrefix front whole → length front < length whole → slice_index whole (length front) ≡ j → IsPrefix (front ++ j ∷ []) whole
-prefix_grows front whole j (rest, e) shorter at = go rest e
+prefix_grows front whole j (rest, is) shorter here = go rest is
   where
     go : (rest : List ℕ) → whole ≡ front ++ rest → IsPrefix (front ++ j ∷ []) whole
-    go [] e = absurd (omega (arith, ap length e, length-append front []))
-    go (x ∷ rest) e =
-        let same : x ≡ j = sym (get_or_at front x rest 0 (length front) refl) ∙ ap (λ ys. get_or ys (length front) 0) (sym e) ∙ at in
-        (rest, e ∙ (rw same (sym (append_assoc front (j ∷ []) rest))))
-
--- a ready job is of the shop
-pub ready_in_shop : (p : PlannedShop) (c : Cell) (j : ℕ) → IsSound p c → ready c j ≡ true → j < jobs p
-ready_in_shop p c j sound is_ready = elim (cases_lt j (length c.jobs)) [
-  | inl inside ↦ omega (arith, sound.job_count)
-  | inr outside ↦ absurd (never (ap (λ (s : JobState). s.ready) (get_or_past c.jobs j absent outside)))
-]
-  where
-    never : ready c j ≡ false → ⊥
-    never e = cc
+    go [] is = absurd (omega (arith, ap length is, length-append front []))
+    go (x ∷ rest) is = (rest, is ∙ rw same (sym (append_assoc front (j ∷ []) rest)))
+      where
+        same : x ≡ j
+        same = sym (get_or-append_seam front x rest 0) ∙ rw is at here
