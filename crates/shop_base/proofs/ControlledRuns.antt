@@ -64,15 +64,6 @@ leads_induction p P shaped alone more same _ _ _ _ sound rest (accepted c r js r
 leads_induction p P shaped alone more same _ _ _ _ sound rest (refused c r rs es end cannot leads) =
     same c r rs es end sound rest cannot (leads_induction p P shaped alone more same c rs es end sound rest leads)
 
--- what each step keeps holds at the end, where it holds at the beginning
-pub leads_keeps : (p : PlannedShop) (P : Cell → Type 0) → IsWellShaped p
-    → ((c : Cell) (r : Report) (js : List ℕ) → IsSound p c → IsAtRest p c → IsStep p c r js → P c → P (after_step p c r js))
-    → (c : Cell) (rs : List Report) (es : List Event) (end : Cell) → IsSound p c → IsAtRest p c → Leads p c rs es end → P c → P end
-leads_keeps p P shaped kept c rs es end sound rest leads =
-    leads_induction p (λ c rs es end. P c → P end) shaped (λ c sound rest here. here)
-    (λ c r js rs es end sound rest step later here. later (kept c r js sound rest step here))
-    (λ c r rs es end sound rest cannot later here. later here) c rs es end sound rest leads
-
 -- a controlled run from a sound cell at rest is a list of possible events, which ends in a sound cell at rest
 pub leads_to_run : (p : PlannedShop) (c : Cell) (rs : List Report) (es : List Event) (end : Cell)
     → Leads p c rs es end → IsWellShaped p → IsSound p c → IsAtRest p c

@@ -1,4 +1,4 @@
--- In a sound cell it is decided what can happen: who is on a machine, which job can move and keep the plan, which report is possible; and rest doesn't depend on the moment.
+-- In a sound cell it is decided what can happen: who is on a machine, which job can move and keep the plan, which report is possible.
 use Rattle.std.proofs.Common.{◌≡◌, ℕ, zero, suc, ◌+◌, ◌<◌, ◌≤◌, [], ◌∷◌, ◌++◌, length, Option, None, Some, Bool, true, false, ◌⊎◌, inl, inr, refl, sym, ◌∙◌, ap, subst, arith}
 use Rattle.std.proofs.lemmas.Bool.{cases_lt, cases_eq, cases_order}
 use Rattle.shop_base.specs.declared.limits.TheConstants.{MAX_MOMENT}
@@ -7,7 +7,6 @@ use Rattle.shop_base.specs.Cell.{Cell, made, ready, since, entries, cleaning, Is
 use Rattle.shop_base.specs.Activity.{Activity, Arrival, Operation, Cleaning, GoesOn}
 use Rattle.shop_base.specs.Report.{Report, IsTimely, CanReport}
 use Rattle.shop_base.specs.Move.{CanLeave, CanEnter, CanMove, IsPrefix, KeepsPlan}
-use Rattle.shop_base.specs.Run.{IsAtRest}
 use Rattle.shop_base.specs.Sound.{IsSound}
 use Rattle.shop_base.proofs.Visits.{visits-stands, stands_once, visits_or_not, on_or_not}
 use Rattle.shop_base.proofs.Places.{prefix_grows}
@@ -29,10 +28,6 @@ timely_now p c sound = record { in_order = omega arith; in_range = sound.last_in
 -- a move that is possible at one moment is possible at each timely one
 pub move_at : (p : PlannedShop) (c : Cell) (j t u : ℕ) → CanMove p c j t → IsTimely c u → CanMove p c j u
 move_at p c j t u can timely = record { is_ready = can.is_ready; way = can.way; timely = timely }
-
--- where no move is possible at one timely moment, none is at any
-pub rest_at : (p : PlannedShop) (c : Cell) (t : ℕ) → IsTimely c t → ((j : ℕ) → CanMove p c j t → KeepsPlan p c j → ⊥) → IsAtRest p c
-rest_at p c t timely none j u can keeps = none j (move_at p c j u t can timely) keeps
 
 -- a machine is free, or a job is on it, the newest entrant
 pub free_or_held : (p : PlannedShop) (c : Cell) (m : ℕ) → IsWellShaped p → IsSound p c → IsFree p c m ⊎ ((j : ℕ) × (k : ℕ) × IsOn p c j k m)

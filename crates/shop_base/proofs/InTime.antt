@@ -144,10 +144,6 @@ step-on_time p rank kept c r js shaped rise fit sound rest on_time step punctual
     moves-on_time p kept (after_report c r) r.at js shaped (after_report-sound p c r shaped sound step.can) (report_last c r.ended r.at) step.moves
     (ended-on_time p kept c r.ended due r.at sound going (punctual-ahead p rank kept c r shaped rise fit sound rest on_time punctual) on_time)
 
--- at the start no job of the shop has moved
-start_made : (p : PlannedShop) (j : ℕ) → j < jobs p → made (start p) j ≡ 0
-start_made p j inside = ap (λ (s : JobState). s.made) (get_or-replicate (jobs p) j (record { made = 0; ready = false; since = 0 }) absent inside)
-
 -- at the start no job has moved at a later moment than 0
 start_since : (p : PlannedShop) (j : ℕ) → since (start p) j ≡ 0
 start_since p j = elim (cases_lt j (jobs p)) [

@@ -347,15 +347,6 @@ IsMade c v = v.place < made c v.job
 pub left_since : (p : PlannedShop) (c : Cell) (i k : ℕ) → k < made c i → (made c i ≡ k + 1 → ⊥) → k + 1 < made c i
 left_since p c i k entered off = ⊎_elim (λ on. absurd (off on)) (λ gone. omega arith) (cases_eq (made c i) (k + 1))
 
--- the source of an arc is made before its target
-pub source_made : (p : PlannedShop) (c : Cell) (u v : Node) (d : ℕ) → IsWellShaped p → IsSound p c → Arc p u v d → IsMade c v → IsMade c u
-source_made p c u v d shaped sound (job_arc j k within) is_made = omega arith
-source_made p c u v d shaped sound (blocking_arc m a i k j l one other) is_made =
-    left_since p c i k (sound.entered_made m a i k one (omega (arith, past))) λ on. omega (arith, past, sound.newest m a i k one on)
-  where
-    past : a + 1 < length (entries c m)
-    past = sound.made_entered m (a + 1) j l other is_made
-
 -- the source of each arc to the next node of job j is made
 pub needs : (p : PlannedShop) (c : Cell) (j t : ℕ) (u v : Node) (d : ℕ) → IsWellShaped p → IsSound p c → CanMove p c j t → KeepsPlan p c j
     → Arc p u v d → v.job ≡ j → v.place ≡ made c j → IsMade c u

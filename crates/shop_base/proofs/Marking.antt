@@ -1,11 +1,11 @@
 -- The tables of marks that the checks of a route and of an order keep.
-use Rattle.std.proofs.Common.{◌≡◌, ◌≢◌, ℕ, ◌+◌, ◌<◌, ◌≤◌, List, [], Bool, true, false, length, get_or, set, MatchBool, arith, below_more, get_or-set_same, get_or-set_other, sym, inl, inr, replicate, refl, ap, ◌∙◌}
+use Rattle.std.proofs.Common.{◌≡◌, ◌≢◌, ℕ, ◌+◌, ◌<◌, ◌≤◌, List, [], Bool, true, false, length, get_or, set, MatchBool, arith, get_or-set_same, get_or-set_other, sym, inl, inr, replicate, refl, ap, ◌∙◌}
 use Rattle.std.proofs.lemmas.List.{get_or-replicate, get_or_past, length-replicate, length-set}
 use Rattle.std.proofs.lemmas.Bool.Decides.{eqb_tells}
 use Rattle.std.proofs.lemmas.Bool.{cases_lt, cases_order}
 use Rattle.shop_base.specs.declared.limits.TheConstants.{MAX_JOBS, MAX_MACHINES}
 use Rattle.shop_base.specs.declared.shop.Step.{Step}
-use Rattle.shop_base.specs.Shop.{route_at, step_at, AreSoundSteps, IsSoundStep}
+use Rattle.shop_base.specs.Shop.{route_at, step_at, AreSoundSteps}
 use Rattle.shop_base.specs.Plan.{PlannedShop, job_at}
 use Rattle.shop_base.specs.ShapeFault.{IsGoodPlace}
 use Rattle.shop_base.specs.Marks.{AreMarks, AreVisited, AreVisits, IsVisitedBefore}
@@ -97,16 +97,6 @@ steps_none machines route = record {
   size = length-replicate MAX_MACHINES false;
 }
 
-module _ (machines : ℕ) (route : List Step) (visited : List Bool) (n : ℕ) (checked : AreStepsChecked machines route visited n) where
-  -- one more sound step, whose machine is marked
-  pub steps_more : machines ≤ MAX_MACHINES → IsSoundStep machines route n
-      → AreStepsChecked machines route (set visited (step_at route n).machine true) (n + 1)
-  steps_more few sound = record {
-    sound = below_more _ _ checked.sound sound;
-    marks = before_more visited (λ k. (step_at route k).machine) n checked.marks (omega (arith, checked.size, sound.in_range));
-    size = length-set visited (step_at route n).machine true ∙ checked.size;
-  }
-
 -- a route without steps visits nothing
 visited_none : (route : List Step) → length route ≡ 0 → AreVisited (replicate MAX_MACHINES false) route
 visited_none route empty = record {
@@ -131,19 +121,6 @@ visits_none routes =
     }
 
 module _ (visits : List (List Bool)) (routes : List (List Step)) (n : ℕ) (below : AreVisitsBelow visits routes n) where
-  -- one more job, whose machines are marked
-  pub visits_more : (row : List Bool) → n < length visits → AreVisited row (route_at routes n) → AreVisitsBelow (set visits n row) routes (n + 1)
-  visits_more row inside visited = record {
-    marks = λ j lt. elim (cases_order j n) [
-      | inl same ↦ rw (same, get_or-set_same visits n row [] inside) visited
-      | inr other ↦ (let ne : j ≢ n = elim other [ inl l ↦ omega arith | inr g ↦ omega arith ] in
-          let lower : j < n = omega arith in
-          rw (get_or-set_other visits n j row [] ne) (below.marks j lower))
-    ];
-    unset = λ j le lt. (let ne : j ≢ n = omega arith in get_or-set_other visits n j row [] ne ∙ below.unset j (omega arith) (omega (arith, length-set visits n row)));
-    size = length-set visits n row ∙ below.size;
-  }
-
   -- there are no more jobs
   pub visits_all : length routes ≤ n → AreVisits visits routes
   visits_all end = λ j within. elim (cases_lt j n) [

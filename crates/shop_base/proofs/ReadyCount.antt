@@ -1,5 +1,5 @@
 -- The ready jobs: a report makes at most one job ready, and each move uses up a job's readiness.
-use Rattle.std.proofs.Common.{◌≡◌, ℕ, ◌+◌, ◌<◌, ◌≤◌, List, [], ◌∷◌, length, Bool, true, false, cond, slice_index_or, ap, arith}
+use Rattle.std.proofs.Common.{◌≡◌, ℕ, ◌+◌, ◌<◌, ◌≤◌, List, [], ◌∷◌, length, true, false, cond, slice_index_or, ap, arith}
 use Rattle.shop_base.specs.Plan.{PlannedShop, jobs, IsWellShaped}
 use Rattle.shop_base.specs.Cell.{Cell, JobState, absent, ready, start}
 use Rattle.shop_base.specs.Activity.{Activity, Arrival, Operation, Cleaning, GoesOn}
@@ -14,7 +14,7 @@ use Rattle.shop_base.proofs.Changes.{IsMoved, IsReadied, IsTidied, after_move-mo
 use Rattle.shop_base.proofs.Keeping.{after_report-sound, after_move-sound}
 use Rattle.shop_base.proofs.InShop.{outside_in_shop, ready_in_shop}
 use Rattle.shop_base.proofs.ControlledRuns.{start_not_ready}
-use Rattle.shop_base.proofs.Sums.{sum_below_same, sum_below_but, sum_below_zero, sum_below_ones}
+use Rattle.shop_base.proofs.Sums.{sum_below_same, sum_below_but, sum_below_zero}
 
 -- 1 for a ready job
 abbrev pub counted : Cell → ℕ → ℕ
@@ -85,14 +85,6 @@ after_moves-ready_count p c t (j ∷ js) shaped sound moves =
       after_moves-ready_count p (after_move p c j t) t js shaped (after_move-sound p c j t shaped sound moves.0 moves.1) moves.2,
       after_move-ready_count p c j t shaped sound moves.0,
     )
-
--- no more jobs are ready than there are
-pub ready_count-le : (p : PlannedShop) (c : Cell) → ready_count p c ≤ jobs p
-ready_count-le p c = sum_below_ones (counted c) (jobs p) (λ j. at_most (ready c j))
-  where
-    at_most : (b : Bool) → cond b 1 0 ≤ 1
-    at_most true = omega arith
-    at_most false = omega arith
 
 -- in any run the moves, and the jobs that are ready at its end, are no more than the reports, and the jobs that were ready at its beginning
 pub run-ready_count : (p : PlannedShop) (c : Cell) (es : List Event) → IsWellShaped p → IsSound p c → AreEvents p c es

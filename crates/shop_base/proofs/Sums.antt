@@ -30,11 +30,6 @@ pub sum_below_zero : (f : ℕ → ℕ) (n : ℕ) → ((i : ℕ) → i < n → f 
 sum_below_zero f zero none = refl
 sum_below_zero f (suc n) none = omega (arith, sum_below_zero f n (λ i below. none i (omega arith)), none n (omega arith))
 
--- a sum of terms that are at most 1 is at most the bound
-pub sum_below_ones : (f : ℕ → ℕ) (n : ℕ) → ((i : ℕ) → f i ≤ 1) → sum_below f n ≤ n
-sum_below_ones f zero few = omega arith
-sum_below_ones f (suc n) few = omega (arith, sum_below_ones f n few, few n)
-
 -- with one more in each term
 pub sum_below_more : (f : ℕ → ℕ) (n : ℕ) → sum_below (λ i. f i + 1) n ≡ n + sum_below f n
 sum_below_more f zero = refl
