@@ -27,9 +27,11 @@ absent = record { made = 1; ready = false; since = 0 }
 abbrev pub unused : MachineState
 unused = record { entries = []; cleaning = None }
 
+-- job j in the cell
 abbrev pub job_in : Cell → ℕ → JobState
 job_in c j = slice_index_or c.jobs j absent
 
+-- machine m in the cell
 abbrev pub machine_in : Cell → ℕ → MachineState
 machine_in c m = slice_index_or c.machines m unused
 

@@ -61,6 +61,7 @@ order p m = slice_index_or p.plan.order m []
 abbrev pub job_at : PlannedShop → ℕ → ℕ → ℕ
 job_at p m a = slice_index (order p m) a
 
+-- the cleaning time of machine m, 0 in a plan without cleaning
 abbrev pub clean_in : Option (List ℕ) → ℕ → ℕ
 clean_in None m = 0
 clean_in (Some times) m = slice_index times m

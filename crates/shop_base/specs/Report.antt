@@ -35,11 +35,12 @@ with_clean c m t = record {
   last = t;
 }
 
+-- the cell once an activity has ended: its job is ready, or its machine clean
 abbrev pub after_end : Cell → Activity → ℕ → Cell
 after_end c (Arrival j) t = with_ready c j t
 after_end c (Operation j m) t = with_ready c j t
 after_end c (Cleaning m) t = with_clean c m t
 
--- the cell after a report: the job is ready, or the machine clean
+-- the cell after a report
 abbrev pub after_report : Cell → Report → Cell
 after_report c r = after_end c r.ended r.at

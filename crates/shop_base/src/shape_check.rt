@@ -2,7 +2,7 @@
 
 ghost use Rattle.std.specs.Prelude.{◌≡◌, ℕ, ◌<◌, IfOk, OnOk, IfErr, MatchBool, length, slice_index_or, []};
 ghost use Rattle.shop_base.specs.Shop.{route_at, step_at};
-ghost use Rattle.shop_base.specs.Plan.{PlannedShop, IsWellShaped, HasCounts, IsWithinLimits, IsOrder, jobs, machines, order};
+ghost use Rattle.shop_base.specs.Plan.{PlannedShop, IsWellShaped, HasCounts, IsWithinLimits, IsOrder, order};
 ghost use Rattle.shop_base.specs.declared.limits.TheConstants.{MAX_MACHINES};
 ghost use Rattle.shop_base.specs.ShapeFault.{IsFirstShapeFault, IsMachineReached, IsGoodPlace, IsListed};
 ghost use Rattle.shop_base.specs.Marks.{AreMarks, AreVisits, AreVisited, IsVisitedBefore, IsFirstAbove};
@@ -53,6 +53,7 @@ fn check_limits(shop: &Shop, plan: &Plan) -> Result<(), ShapeFault>
     ensures sound { OnOk result (IsWithinLimits (record { shop = shop.now; plan = plan.now })) }
     ensures first_fault { IfErr result (IsFirstShapeFault (record { shop = shop.now; plan = plan.now })) }
 {
+    // Called for its clause alone: the shop is sound, so its numbers of jobs and machines fit a `u32`.
     let _jobs = shop.jobs();
     if let Some(job) = first_above(&plan.release, MAX_RELEASE) {
         return Err(ShapeFault::ReleaseTooLarge { job: job as u32 });

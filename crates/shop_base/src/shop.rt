@@ -1,5 +1,5 @@
-ghost use Rattle.std.specs.Prelude.{◌≡◌, ◌+◌, ◌^◌, ◌<◌, ◌≤◌, MatchOption, sum_by, IfOk, IfErr, OnOk, length, slice_get, Some};
-ghost use Rattle.shop_base.specs.Shop.{JobShop, IsShop, IsRoute, AreCounts, AreRoutes, IsSoundStep, lists_of, operations_of, work_of, route_work, route_at};
+ghost use Rattle.std.specs.Prelude.{◌≡◌, ◌^◌, ◌<◌, ◌≤◌, MatchOption, sum_by, IfOk, IfErr, OnOk, length, slice_get, Some};
+ghost use Rattle.shop_base.specs.Shop.{IsShop, IsRoute, AreCounts, AreRoutes, IsSoundStep, lists_of, operations_of, work_of, route_work, route_at};
 ghost use Rattle.shop_base.specs.ShopFault.{IsFirstFault, IsReached, IsStepReached};
 ghost use Rattle.shop_base.specs.Marks.{AreMarks, IsVisitedBefore};
 
