@@ -1,5 +1,6 @@
 //! Worked examples, computed on the definitions: each function does nothing, and its contract says what
-//! the definitions make of a plan, a list of events or a list of nodes that is written out.
+//! the definitions make of a plan, a list of events or a list of nodes that is written out. The last one
+//! states the limits.
 
 ghost use Rattle.std.specs.Prelude.{◌≡◌, ℕ, ◌≤◌, List, [], ◌∷◌, ◌++◌, take, drop, true};
 ghost use Rattle.shop_base.specs.declared.limits.TheConstants.{MAX_JOBS, MAX_MACHINES};
