@@ -81,3 +81,14 @@ least_is dues count (Some least) all first = elim first.reached [
     ];
   }
 ]
+
+-- ---- the least is one
+
+pub one_least : (dues : List (Option ℕ)) (one other : Option ℕ) → IsLeast dues one → IsLeast dues other → one ≡ other
+one_least dues None None p q = refl
+one_least dues None (Some other) p q = absurd (let none : due_at dues q.key ≡ None = p q.key in let some = q.due in cc)
+one_least dues (Some one) None p q = absurd (let none : due_at dues p.key ≡ None = q p.key in let some = p.due in cc)
+one_least dues (Some one) (Some other) p q =
+    let less : one ≤ other = p.least q.key other q.due in
+    let more : other ≤ one = q.least p.key one p.due in
+    ap Some (omega arith)

@@ -5,6 +5,7 @@
 
 mod dues;
 mod entries;
+pub mod laws;
 mod scan_dues;
 mod tourney_dues;
 
