@@ -1,13 +1,11 @@
 //! The program: its words, what it reads, what it writes, and the status that it ends with.
 
-use crate::answer::{Answer, GOOD};
-use crate::checks::check_of;
-use crate::command_fault::CommandFault;
-use crate::facts::facts_answer;
-use crate::files::{FileFault, read_file, read_whole};
-use crate::instances::load_instance;
-use crate::shapes::shape_of;
-use crate::words::{Chosen, CommandName, WordsFault, read_words};
+use crate::files::read_file;
+use command_answers::{
+    Answer, CommandFault, FileFault, GOOD, check_of, facts_answer, load_instance, read_whole,
+    shape_of,
+};
+use command_words::{Chosen, CommandName, WordsFault, read_words};
 use shop_base::Shop;
 use std::alloc::{AllocError, Global};
 use std::env;

@@ -1,8 +1,6 @@
 use super::{COLLECTION, TWO};
-use crate::checks::check_answer;
-use crate::command_fault::CommandFault;
-use crate::loading::{Loaded, load};
 use alt_graph::{check_chain, check_cycle};
+use command_answers::{CommandFault, Loaded, check_answer, load};
 use orlib_read::{OrFault, read_instance};
 use plan_text::{PlanFault, read_plan};
 use plan_verifier::Why;

@@ -1,6 +1,5 @@
 use super::{COLLECTION, TWO};
-use crate::command_fault::CommandFault;
-use crate::facts::facts_answer;
+use command_answers::{CommandFault, facts_answer};
 use orlib_read::OrFault;
 use std::test::Fail;
 

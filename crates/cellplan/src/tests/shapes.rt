@@ -1,6 +1,5 @@
 use super::{COLLECTION, TWO};
-use crate::command_fault::CommandFault;
-use crate::shapes::shape_answer;
+use command_answers::{CommandFault, shape_answer};
 use orlib_read::OrFault;
 use plan_text::{PlanFault, PlanKey};
 use std::test::Fail;

@@ -1,5 +1,0 @@
-use Rattle.cellplan.proofs.CheckLines.{kept, words_more}
-use Rattle.cellplan.proofs.checks.push_leavings.Goals as goal
-
-pub loop-job-preserved : goal.loop-job-preserved
-loop-job-preserved c = words_more _ _ _ (kept c.args.verified.now) c.loop-job.job c.loop-job.invariant c.in_ok-push_leaving.ensures

@@ -1,8 +1,0 @@
-pub mod CommandLine
-pub mod Choice
-pub mod Statuses
-pub mod Instances
-pub mod Facts
-pub mod Plans
-pub mod Shapes
-pub mod Checks

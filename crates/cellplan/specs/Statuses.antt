@@ -1,9 +1,0 @@
-use Rattle.std.specs.Prelude.{ℕ}
-use Rattle.cellplan.specs.declared.command_fault.CommandFault.{CommandFault}
-use Rattle.cellplan.specs.declared.command_fault.CommandFault.TheVariants.{Instance, Plan, Memory}
-
--- the status that the program ends with at a fault
-abbrev pub status_of : CommandFault → ℕ
-status_of (Instance fault) = 3
-status_of (Plan fault) = 3
-status_of Memory = 4

@@ -1,0 +1,60 @@
+use Rattle.std.specs.Prelude.{◌≡◌, ◌≢◌, ℕ, List, Option, Result, Ok, Err}
+use Rattle.shop_base.specs.Shop.{JobShop}
+use Rattle.shop_base.specs.Plan.{ShopPlan, PlannedShop}
+use Rattle.plan_text.specs.declared.plan_fault.PlanFault.{PlanFault}
+use Rattle.plan_text.specs.declared.plan_fault.PlanFault.TheVariants.{Memory as WantOfMemory}
+use Rattle.plan_text.specs.Documents.{IsPlanText, IsFirstFault}
+use Rattle.command_answers.specs.declared.command_fault.CommandFault.{CommandFault}
+use Rattle.command_answers.specs.declared.command_fault.CommandFault.TheVariants.{Instance, Plan, Memory}
+use Rattle.command_answers.specs.Instances.{Tells, IsRightFault}
+
+-- the fault of a plan's reader as a command's
+abbrev pub plan_command_fault : PlanFault → CommandFault
+plan_command_fault WantOfMemory = Memory
+plan_command_fault fault = Plan fault
+
+-- the answer of a plan's reader as a command's
+abbrev pub read_of : Result ShopPlan PlanFault → Result ShopPlan CommandFault
+read_of (Ok plan) = Ok plan
+read_of (Err fault) = Err (plan_command_fault fault)
+
+-- the fault is the plan text's, or want of memory
+abbrev pub IsRightPlanFault : List ℕ → CommandFault → Type 0
+IsRightPlanFault text (Plan fault) = (fault ≢ WantOfMemory) × IsFirstFault text fault
+IsRightPlanFault text (Instance fault) = ⊥
+IsRightPlanFault text Memory = Unit {0}
+
+-- the answer is this fault of the plan, unless memory ran out
+abbrev pub IsPlanRefusal : {A : Type 0} → Result A CommandFault → PlanFault → Type 0
+IsPlanRefusal (Ok a) fault = ⊥
+IsPlanRefusal (Err (Plan answered)) fault = answered ≡ fault
+IsPlanRefusal (Err (Instance answered)) fault = ⊥
+IsPlanRefusal (Err Memory) fault = Unit {0}
+
+-- the shop and the plan that the two texts tell
+pub record TellBoth (instance : List ℕ) (name : Option (List ℕ)) (text : List ℕ) (p : PlannedShop) : Type 0 where
+  pub description : List ℕ
+  pub shop : Tells instance name description p.shop
+  pub plan : IsPlanText text p.plan
+
+-- the instance tells some shop
+abbrev pub TellsAShop : List ℕ → Option (List ℕ) → Type 0
+TellsAShop instance name = (description : List ℕ) × (shop : JobShop) × Tells instance name description shop
+
+-- the fault is the instance's, or, where that tells a shop, the plan text's, or want of memory
+abbrev pub IsRightOfBoth : List ℕ → Option (List ℕ) → List ℕ → CommandFault → Type 0
+IsRightOfBoth instance name text (Instance fault) = IsRightFault instance name (Instance fault)
+IsRightOfBoth instance name text (Plan fault) = TellsAShop instance name × IsRightPlanFault text (Plan fault)
+IsRightOfBoth instance name text Memory = Unit {0}
+
+-- the answer is one that belongs to the plan that the text tells for this shop
+pub record IsOfPlan {A : Type 0} (shop : JobShop) (text : List ℕ) (Is : PlannedShop → A → Type 0) (answer : A) : Type 0 where
+  pub plan : ShopPlan
+  pub tells : IsPlanText text plan
+  pub is : Is (record { shop = shop; plan = plan }) answer
+
+-- the answer is one that belongs to the shop and the plan that the two texts tell
+pub record IsOfBoth {A : Type 0} (instance : List ℕ) (name : Option (List ℕ)) (text : List ℕ) (Is : PlannedShop → A → Type 0) (answer : A) : Type 0 where
+  pub planned : PlannedShop
+  pub tell : TellBoth instance name text planned
+  pub is : Is planned answer

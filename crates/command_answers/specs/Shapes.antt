@@ -1,0 +1,28 @@
+use Rattle.std.specs.Prelude.{◌≡◌, ℕ, List, ◌++◌, ◌⊎◌, codes}
+use Rattle.shop_base.specs.declared.shape_fault.ShapeFault.{ShapeFault}
+use Rattle.shop_base.specs.Plan.{PlannedShop, IsWellShaped}
+use Rattle.shop_base.specs.ShapeFault.{IsFirstShapeFault}
+use Rattle.command_answers.specs.declared.answer.Answer.{Answer}
+use Rattle.command_answers.specs.declared.answer.TheConstants.{GOOD, REFUSED}
+
+-- the line of a plan that is well shaped for its shop
+pub record IsShapedLine (p : PlannedShop) (answer : Answer) : Type 0 where
+  pub well_shaped : IsWellShaped p
+  pub line : answer.text.items ≡ codes "shaped\n"
+  pub good : answer.status ≡ GOOD
+
+-- the line of a plan that isn't well shaped, with the words of a fault
+pub record IsRefusedLine (answer : Answer) : Type 0 where
+  pub words : List ℕ
+  pub line : answer.text.items ≡ codes "not shaped " ++ words ++ codes "\n"
+  pub refused : answer.status ≡ REFUSED
+
+-- the line of a plan that isn't well shaped for its shop
+pub record IsNotShapedLine (p : PlannedShop) (answer : Answer) : Type 0 where
+  pub fault : ShapeFault
+  pub first : IsFirstShapeFault p fault
+  pub line : IsRefusedLine answer
+
+-- the line of a plan's shape
+abbrev pub IsShapeLine : PlannedShop → Answer → Type 0
+IsShapeLine p answer = IsShapedLine p answer ⊎ IsNotShapedLine p answer

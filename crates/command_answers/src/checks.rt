@@ -1,0 +1,148 @@
+//! The command `check`.
+
+ghost use Rattle.std.specs.Prelude.{◌≡◌, ◌++◌, ◌<◌, IfOk, IfErr, OnOk, codes, decimal};
+ghost use Rattle.std.specs.Option.{option_copied};
+ghost use Rattle.shop_base.specs.Plan.{ShopPlan, PlannedShop, jobs};
+ghost use Rattle.shop_base.specs.Graph.{leaving};
+ghost use Rattle.orlib_read.specs.declared.or_fault.OrFault.{OrFault};
+ghost use Rattle.plan_text.specs.declared.plan_fault.PlanFault.{PlanFault};
+ghost use Rattle.plan_text.specs.Documents.{IsPlanText, IsFirstFault};
+ghost use Rattle.plan_verifier.specs.Accepted.{kept_at};
+ghost use Rattle.command_answers.specs.Instances.{HasFault, Holds, IsInstanceRefusal};
+ghost use Rattle.command_answers.specs.Plans.{TellBoth, TellsAShop, IsRightOfBoth, IsRightPlanFault, IsPlanRefusal, IsOfPlan, IsOfBoth};
+ghost use Rattle.command_answers.specs.Checks.{IsCheckLine, IsAcceptedLine, IsLineOf, node_words, moment_words, leavings_of, cycle_line, late_line};
+
+use crate::answer::{Answer, GOOD, REFUSED};
+use crate::command_fault::CommandFault;
+use crate::instances::load_instance;
+use crate::loading::{Loaded, load_for};
+use crate::print::{end_line, push_fact, push_words};
+use crate::shapes::not_shaped_answer;
+use plan_verifier::{Verified, Why};
+use shop_base::{JobNo, Moment, Node, Shop};
+use std::alloc::{AllocError, Global};
+
+/// The verdict on a plan for an instance: accepted, with the makespan and each job's earliest leaving, or refused,
+/// with the evidence. Without a name the first text is one instance, else a collection with an instance of
+/// this name.
+pub fn check_answer(
+    alloc: Global,
+    instance: &[u8],
+    name: Option<&[u8]>,
+    plan: &[u8],
+) -> Result<Answer, CommandFault>
+    ensures found { IfOk result (IsOfBoth instance.now (option_copied name.entry) plan.now IsCheckLine) }
+    ensures only { (p : PlannedShop) → TellBoth instance.now (option_copied name.entry) plan.now p → Holds result (IsCheckLine p) }
+    ensures fault { IfErr result (IsRightOfBoth instance.now (option_copied name.entry) plan.now) }
+    ensures first { (fault : OrFault) → HasFault instance.now (option_copied name.entry) fault → IsInstanceRefusal result fault }
+    ensures second { (fault : PlanFault) → TellsAShop instance.now (option_copied name.entry) → IsFirstFault plan.now fault → IsPlanRefusal result fault }
+{
+    match load_instance(alloc, instance, name) {
+        Ok(named) => check_of(alloc, named.shop, plan),
+        Err(fault) => Err(fault),
+    }
+}
+
+/// The verdict on a plan for a shop.
+pub fn check_of(alloc: Global, shop: Shop, plan: &[u8]) -> Result<Answer, CommandFault>
+    ensures found { IfOk result (IsOfPlan shop plan.now IsCheckLine) }
+    ensures only { (told : ShopPlan) → IsPlanText plan.now told → Holds result (IsCheckLine (record { shop = shop; plan = told })) }
+    ensures fault { IfErr result (IsRightPlanFault plan.now) }
+    ensures first { (fault : PlanFault) → IsFirstFault plan.now fault → IsPlanRefusal result fault }
+{
+    match load_for(alloc, shop, plan) {
+        Ok(loaded) => match loaded_answer(alloc, &loaded) {
+            Ok(answer) => Ok(answer),
+            Err(_) => Err(CommandFault::Memory),
+        },
+        Err(fault) => Err(fault),
+    }
+}
+
+/// The line of what is to be said of a plan.
+pub fn loaded_answer(alloc: Global, loaded: &Loaded) -> Result<Answer, AllocError>
+    ensures { IfOk result (IsLineOf loaded.now) }
+{
+    match loaded {
+        Loaded::NotShaped(fault) => not_shaped_answer(alloc, *fault),
+        Loaded::Refused(Why::Cycle(nodes)) => cycle_answer(alloc, nodes),
+        Loaded::Refused(Why::Late { job, leaves, chain }) => {
+            late_answer(alloc, *job, *leaves, chain)
+        }
+        Loaded::Accepted(verified) => accepted_answer(alloc, verified),
+    }
+}
+
+fn accepted_answer(alloc: Global, verified: &Verified) -> Result<Answer, AllocError>
+    ensures { IfOk result (IsAcceptedLine verified.now.planned) }
+{
+    let shaped = verified.shaped();
+    let mut text = Vec::new(alloc);
+    push_fact(&mut text, b"accepted makespan ", verified.makespan())?;
+    push_words(&mut text, b" leaves")?;
+    push_leavings(&mut text, verified, shaped.shop().jobs())?;
+    end_line(&mut text)?;
+    Ok(Answer { text, status: GOOD })
+}
+
+fn push_leavings(text: &mut Vec<u8>, verified: &Verified, count: u32) -> Result<(), AllocError>
+    requires { count ≡ jobs verified.now.planned }
+    ensures { OnOk result (text.new.items ≡ text.old.items ++ moment_words (leavings_of verified.now)) }
+{
+    for job in 0..count {
+        push_leaving(text, verified, job)?;
+    }
+    Ok(())
+}
+
+fn push_leaving(text: &mut Vec<u8>, verified: &Verified, job: JobNo) -> Result<(), AllocError>
+    requires { job < jobs verified.now.planned }
+    ensures { OnOk result (text.new.items ≡ text.old.items ++ codes " " ++ decimal (kept_at verified.now (leaving verified.now.planned job))) }
+{
+    match verified.earliest_leave(job) {
+        Some(moment) => push_fact(text, b" ", moment),
+        None => unreachable!(),
+    }
+}
+
+fn cycle_answer(alloc: Global, nodes: &[Node]) -> Result<Answer, AllocError>
+    ensures { IfOk result (λ answer. (answer.text.items ≡ cycle_line nodes.now) × (answer.status ≡ REFUSED)) }
+{
+    let mut text = Vec::new(alloc);
+    push_words(&mut text, b"refused cycle")?;
+    push_nodes(&mut text, nodes)?;
+    end_line(&mut text)?;
+    Ok(Answer {
+        text,
+        status: REFUSED,
+    })
+}
+
+fn late_answer(
+    alloc: Global,
+    job: JobNo,
+    leaves: Moment,
+    chain: &[Node],
+) -> Result<Answer, AllocError>
+    ensures { IfOk result (λ answer. (answer.text.items ≡ late_line job leaves chain.now) × (answer.status ≡ REFUSED)) }
+{
+    let mut text = Vec::new(alloc);
+    push_fact(&mut text, b"refused late ", u64::from(job))?;
+    push_fact(&mut text, b" ", leaves)?;
+    push_nodes(&mut text, chain)?;
+    end_line(&mut text)?;
+    Ok(Answer {
+        text,
+        status: REFUSED,
+    })
+}
+
+fn push_nodes(text: &mut Vec<u8>, nodes: &[Node]) -> Result<(), AllocError>
+    ensures { OnOk result (text.new.items ≡ text.old.items ++ node_words nodes.now) }
+{
+    for node in nodes {
+        push_fact(text, b" ", u64::from(node.job))?;
+        push_fact(text, b".", u64::from(node.place))?;
+    }
+    Ok(())
+}

@@ -1,0 +1,23 @@
+//! The answers of the commands of `cellplan`, as functions over the bytes of an instance and a plan.
+#![tactic(auto)]
+
+mod answer;
+mod checks;
+mod command_fault;
+mod facts;
+mod instances;
+mod loading;
+mod plans;
+mod print;
+mod reading;
+mod shapes;
+
+pub use answer::{Answer, GOOD, REFUSED};
+pub use checks::{check_answer, check_of};
+pub use command_fault::CommandFault;
+pub use facts::facts_answer;
+pub use instances::load_instance;
+pub use loading::{Loaded, load, load_for};
+pub use plans::load_plan;
+pub use reading::{FileFault, MAX_BYTES, read_whole};
+pub use shapes::{shape_answer, shape_of};

@@ -1,0 +1,86 @@
+//! An instance and a plan, read and judged.
+
+ghost use Rattle.std.specs.Prelude.{IfOk, IfErr};
+ghost use Rattle.std.specs.Option.{option_copied};
+ghost use Rattle.shop_base.specs.Plan.{ShopPlan, PlannedShop, IsWellShaped};
+ghost use Rattle.orlib_read.specs.declared.or_fault.OrFault.{OrFault};
+ghost use Rattle.plan_text.specs.declared.plan_fault.PlanFault.{PlanFault};
+ghost use Rattle.plan_text.specs.Documents.{IsPlanText, IsFirstFault};
+ghost use Rattle.command_answers.specs.Instances.{HasFault, Holds, IsInstanceRefusal};
+ghost use Rattle.command_answers.specs.Plans.{TellBoth, TellsAShop, IsRightOfBoth, IsRightPlanFault, IsPlanRefusal, IsOfPlan, IsOfBoth};
+ghost use Rattle.command_answers.specs.Checks.{IsLoaded};
+
+use crate::command_fault::CommandFault;
+use crate::instances::load_instance;
+use crate::plans::load_plan;
+use plan_verifier::{Verdict, Verified, Why, verify};
+use shop_base::{Plan, ShapeFault, Shaped, Shop, shape};
+use std::alloc::{AllocError, Global};
+
+/// What is to be said of a plan for an instance.
+#[derive(Debug, Drop)]
+pub enum Loaded {
+    /// It isn't well shaped.
+    NotShaped(ShapeFault),
+    /// It is refused.
+    Refused(Why),
+    /// It is accepted.
+    Accepted(Verified),
+}
+
+/// The verdict on a plan for an instance. Without a name the first text is one instance, else a collection
+/// with an instance of this name.
+pub fn load(
+    alloc: Global,
+    instance: &[u8],
+    name: Option<&[u8]>,
+    plan: &[u8],
+) -> Result<Loaded, CommandFault>
+    ensures found { IfOk result (IsOfBoth instance.now (option_copied name.entry) plan.now IsLoaded) }
+    ensures only { (p : PlannedShop) → TellBoth instance.now (option_copied name.entry) plan.now p → Holds result (IsLoaded p) }
+    ensures fault { IfErr result (IsRightOfBoth instance.now (option_copied name.entry) plan.now) }
+    ensures first { (fault : OrFault) → HasFault instance.now (option_copied name.entry) fault → IsInstanceRefusal result fault }
+    ensures second { (fault : PlanFault) → TellsAShop instance.now (option_copied name.entry) → IsFirstFault plan.now fault → IsPlanRefusal result fault }
+{
+    match load_instance(alloc, instance, name) {
+        Ok(named) => load_for(alloc, named.shop, plan),
+        Err(fault) => Err(fault),
+    }
+}
+
+/// The verdict on a plan for a shop.
+pub fn load_for(alloc: Global, shop: Shop, plan: &[u8]) -> Result<Loaded, CommandFault>
+    ensures found { IfOk result (IsOfPlan shop plan.now IsLoaded) }
+    ensures only { (told : ShopPlan) → IsPlanText plan.now told → Holds result (IsLoaded (record { shop = shop; plan = told })) }
+    ensures fault { IfErr result (IsRightPlanFault plan.now) }
+    ensures first { (fault : PlanFault) → IsFirstFault plan.now fault → IsPlanRefusal result fault }
+{
+    match load_plan(alloc, plan) {
+        Ok(plan) => match judged(alloc, shop, plan) {
+            Ok(loaded) => Ok(loaded),
+            Err(_) => Err(CommandFault::Memory),
+        },
+        Err(fault) => Err(fault),
+    }
+}
+
+/// The verdict on a plan for a shop.
+fn judged(alloc: Global, shop: Shop, plan: Plan) -> Result<Loaded, AllocError>
+    ensures { IfOk result (IsLoaded (record { shop = shop; plan = plan })) }
+{
+    match shape(shop, plan) {
+        Ok(shaped) => verdict(alloc, shaped),
+        Err(refused) => Ok(Loaded::NotShaped(refused.fault)),
+    }
+}
+
+fn verdict(alloc: Global, shaped: Shaped) -> Result<Loaded, AllocError>
+    requires { IsWellShaped shaped }
+    ensures { IfOk result (IsLoaded shaped) }
+{
+    match verify(alloc, shaped) {
+        Ok(Verdict::Accepted(verified)) => Ok(Loaded::Accepted(verified)),
+        Ok(Verdict::Refused(_, why)) => Ok(Loaded::Refused(why)),
+        Err((error, _)) => Err(error),
+    }
+}

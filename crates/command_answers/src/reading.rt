@@ -1,0 +1,49 @@
+//! Files and the standard input, read whole.
+
+ghost use Rattle.std.specs.Prelude.{◌≡◌, ◌<◌, ◌≤◌, IfOk, IfErr, IfSome, length, vec_len};
+
+use std::alloc::Global;
+use std::io::{self, ErrorKind, Read};
+
+/// The most bytes of a file, or of the standard input.
+pub const MAX_BYTES: usize = 67_108_864;
+
+/// Why the bytes of a file, or of the standard input, can't be had.
+#[derive(Clone, Copy, Debug, PartialEq, Eq)]
+pub enum FileFault {
+    /// It can't be opened or read.
+    Read,
+    /// There are more bytes than the limit.
+    TooLong,
+    /// Memory was wanting.
+    Memory,
+}
+
+impl From<io::Error> for FileFault {
+    ghost use Rattle.std.specs.Prelude.{◌≡◌};
+    ghost use Rattle.command_answers.specs.Reading.{IsFaultOf};
+
+    ghost from_gives = { λ error fault. IsFaultOf error fault };
+
+    fn from(error: io::Error) -> FileFault {
+        match error.kind() {
+            ErrorKind::OutOfMemory => FileFault::Memory,
+            _ => FileFault::Read,
+        }
+    }
+}
+
+/// The bytes that a reader gives until its end.
+pub fn read_whole<R: Read + Drop>(alloc: Global, reader: R) -> Result<Vec<u8>, FileFault>
+    ensures within { IfOk result (λ bytes. vec_len bytes ≤ MAX_BYTES) }
+    ensures whole { IfOk result (λ bytes. IfSome (R.remaining reader) (λ all. bytes.items ≡ all)) }
+    ensures too_long { IfErr result (λ fault. fault ≡ FileFault.TooLong → IfSome (R.remaining reader) (λ all. MAX_BYTES < length all)) }
+{
+    let mut bytes = Vec::new(alloc);
+    let mut limited = reader.take(MAX_BYTES as u64 + 1);
+    match limited.read_to_end(&mut bytes) {
+        Ok(_) if bytes.len() > MAX_BYTES => Err(FileFault::TooLong),
+        Ok(_) => Ok(bytes),
+        Err(error) => Err(FileFault::from(error)),
+    }
+}

@@ -1,0 +1,255 @@
+-- Where the program's command line takes the words, what is found is fit for its command.
+use Rattle.std.proofs.Common.{◌≡◌, ◌∙◌, ◌≤◌, ◌+◌, ◌++◌, ℕ, Bool, cond, true, false, refl, sym, ap, subst, arith, List, [], ◌∷◌, length, Option, Some, None, inl, inr, codes}
+use Rattle.std.specs.Prelude.{⊤, option_map, option_and_then, unwrap_or, pos, slice_get}
+use Rattle.std.specs.List.{find}
+use Rattle.std.specs.Option.{option_map_or}
+use Rattle.std.proofs.lemmas.List.{length-append}
+use Rattle.clap.specs.Values.{Accepts, read_as, reading_of, refused_kind}
+use Rattle.clap.specs.Facts.{parser_of_value}
+use Rattle.clap.specs.Walk.{Row, Rule, Text, action_of, arg_by_id, answers_to, is_empty, most_values, nothing_held, row_text, rows_after, stop_after, walk_from}
+use Rattle.clap.specs.Simple.{App, Shape, argument_words, built, built_leaf, entered, inherited, is_simple, label_of, marked_built, matches_of, names_of, rows_at, subcommand_of, with_leaf_noted}
+use Rattle.clap.specs.Kinds.{value_kinds}
+use Rattle.clap.specs.Faults.{built_fault, entered_fault, fault_of, is_simple_and_free, level_fault, walk_fault, values_fault}
+use Rattle.clap.specs.Words.{HasKind, IsAmong, kind_of}
+use Rattle.clap.specs.declared.error.Error.{Error}
+use Rattle.clap.specs.declared.builder.action.ArgAction.TheVariants.{Set, Help}
+use Rattle.clap.specs.declared.builder.value_parser.ValueParser.{ValueParser}
+use Rattle.clap.specs.declared.builder.value_parser.ValueParser.TheVariants.{Signed}
+use Rattle.clap.proofs.ValueTestLemmas.{accepts-Accepts}
+use Rattle.command_words.specs.CommandLine.{command, command_line, log_command, plan_command, plans_rule, rounds_rule}
+use Rattle.command_words.specs.Choice.{FitsRounds, Found, IsFit, TakesFiles, Tells, TellsOneOf, files_in, found_in, reasons_in, values_of, word_of}
+use Rattle.command_words.specs.declared.words.CommandName.{CommandName}
+use Rattle.command_words.specs.declared.words.CommandName.TheVariants.{Facts, Shape as ShapeName, Check, Plan, Drive, Hub, Audit, Gantt}
+use Rattle.command_words.specs.declared.words.WordsFault.{WordsFault}
+use Rattle.command_words.specs.declared.words.WordsFault.TheVariants.{Usage, Memory}
+use Rattle.command_words.proofs.words.Fits.{FitFound, PlainRule, PlainRules, both_none, found_fits, least_of}
+
+-- how many values an argument brings
+data Share : Type 0 where
+  none : Share
+  one : Share
+  several : Share
+
+abbrev SharedBy : Share → Option Rule → Type 0
+SharedBy none o = o ≡ None
+SharedBy one o = (a : Rule) × (o ≡ Some a) × (a.required ≡ true) × (action_of a ≡ Set) × (least_of a ≡ 1) × (most_values a ≡ 1)
+SharedBy several o = (a : Rule) × (o ≡ Some a) × (a.required ≡ true) × (least_of a ≡ 1)
+
+abbrev Shares : Share → ℕ → Type 0
+Shares none n = n ≡ 0
+Shares one n = n ≡ 1
+Shares several n = 1 ≤ n
+
+abbrev count : Option Row → ℕ
+count r = length (unwrap_or (option_map (λ (x : Row). x.values) r) [])
+
+shared : (share : Share) (o : Option Rule) (r : Option Row) → SharedBy share o → FitFound o r → Shares share (count r)
+shared none None None is fit = refl
+shared none None (Some r) is fit = absurd fit
+shared none (Some a) r is fit = cc
+shared one None r is fit = let bad = is.1 in cc
+shared one (Some a) None is fit =
+    let same : a ≡ is.0 = let e = is.1 in cc in
+    let bad : true ≡ false = sym is.2 ∙ ap (λ (x : Rule). x.required) (sym same) ∙ fit in
+    cc
+shared one (Some a) (Some r) is fit =
+    let same : a ≡ is.0 = let e = is.1 in cc in
+    let least : least_of a ≡ 1 = ap least_of same ∙ is.4 in
+    let most : most_values a ≡ 1 = ap most_values same ∙ is.5 in
+    let high = fit.most (ap action_of same ∙ is.3) in
+    let low = fit.least in
+    omega arith
+shared several None r is fit = let bad = is.1 in cc
+shared several (Some a) None is fit =
+    let same : a ≡ is.0 = let e = is.1 in cc in
+    let bad : true ≡ false = sym is.2 ∙ ap (λ (x : Rule). x.required) (sym same) ∙ fit in
+    cc
+shared several (Some a) (Some r) is fit =
+    let same : a ≡ is.0 = let e = is.1 in cc in
+    let least : least_of a ≡ 1 = ap least_of same ∙ is.3 in
+    let low = fit.least in
+    omega arith
+
+-- ---- rounds
+
+accepted : (a : Bool) (p : ValueParser) → cond a [] (refused_kind p ∷ []) ≡ [] → a ≡ true
+accepted true p e = refl
+accepted false p e = cc
+
+abbrev CountsRounds : Option Rule → Type 0
+CountsRounds None = ⊤
+CountsRounds (Some a) = a.parser ≡ Some (Signed (pos 0) (pos 1000))
+
+fit_rounds : (o : Option Rule) (r : Option Row) → CountsRounds o → FitFound o r → FitsRounds (option_and_then row_text r)
+fit_rounds o None counts fit = tt
+fit_rounds None (Some r) counts fit = absurd fit
+fit_rounds (Some a) (Some r) counts fit =
+    read r.values r.reading fit.passes (fit.reading ∙ ap (λ p. reading_of (parser_of_value p)) counts)
+  where
+    read : (vs : List Text) (how : _) → values_fault a vs ≡ [] → how ≡ reading_of (Signed (pos 0) (pos 1000))
+        → FitsRounds (option_map (read_as how) (slice_get vs 0))
+    read [] how e is = tt
+    read (v ∷ vs) how e is =
+        let parts = both_none (value_kinds a.ignore_case (parser_of_value a.parser) v) (values_fault a vs) e in
+        let takes = accepts-Accepts a.ignore_case (parser_of_value a.parser) v (accepted _ (parser_of_value a.parser) parts.0) in
+        (v, ap (λ x. read_as x v) is, subst (λ (p : Option ValueParser). Accepts a.ignore_case (parser_of_value p) v) counts takes)
+
+-- ---- one command
+
+abbrev FitsLeaf : Shape → Type 0
+FitsLeaf s = (words : List Text) → level_fault s [] nothing_held words false [] ≡ [] → IsFit (Some (s.name, rows_after s.rules [] words))
+
+fits_leaf : (s : Shape) (name : CommandName) (file plan log : Share) → word_of name ≡ Some s.name → s.args_override_self ≡ false → s.subcommand_negates_reqs ≡ false
+    → PlainRules s.rules s.rules → SharedBy file (arg_by_id s.rules (codes "FILE")) → SharedBy plan (arg_by_id s.rules (codes "PLAN"))
+    → SharedBy log (arg_by_id s.rules (codes "LOG")) → CountsRounds (arg_by_id s.rules (codes "rounds"))
+    → ((x y z : ℕ) → Shares file x → Shares plan y → Shares log z → TakesFiles name ((x + y) + z)) → FitsLeaf s
+fits_leaf s name file plan log is once needs plains by_file by_plan by_log by_rounds counts words e =
+    let at = found_fits s once needs plains words e in
+    let rows = rows_after s.rules [] words in
+    let long : length (files_in rows) ≡ (length (values_of (codes "FILE") rows) + length (values_of (codes "PLAN") rows)) + length (values_of (codes "LOG") rows) =
+    length-append (values_of (codes "FILE") rows ++ values_of (codes "PLAN") rows) (values_of (codes "LOG") rows)
+    ∙ ap (λ n. n + length (values_of (codes "LOG") rows)) (length-append (values_of (codes "FILE") rows) (values_of (codes "PLAN") rows)) in (
+      (
+        name,
+        is,
+        subst (TakesFiles name) (sym long) (counts _ _ _ (shared file _ _ by_file (at (codes "FILE"))) (shared plan _ _ by_plan (at (codes "PLAN")))
+            (shared log _ _ by_log (at (codes "LOG")))),
+      ),
+      fit_rounds _ _ by_rounds (at (codes "rounds")),
+    )
+
+-- ---- each command of the program
+
+-- a command as the program builds it
+abbrev as_built : Shape → Shape
+as_built s = built_leaf (inherited (with_leaf_noted (marked_built command_line.top)) s)
+
+set_plain : (c : List Rule) (a : Rule) → arg_by_id c a.id ≡ Some a → a.missing ≡ [] → action_of a ≡ Set → is_empty a.defaults ≡ true → PlainRule c a
+set_plain c a own missing sets defaults = record { own = own; missing = missing; action = inl sets; defaults = inl defaults }
+
+help_plain : (c : List Rule) (a : Rule) → arg_by_id c a.id ≡ Some a → a.missing ≡ [] → action_of a ≡ Help → is_empty a.defaults ≡ true → PlainRule c a
+help_plain c a own missing helps defaults = record { own = own; missing = missing; action = inr (inr helps); defaults = inl defaults }
+
+facts_fits : FitsLeaf (as_built (command (codes "facts") []))
+facts_fits = fits_leaf (as_built (command (codes "facts") [])) Facts one none none refl refl refl
+    (set_plain _ _ refl refl refl refl, (set_plain _ _ refl refl refl refl, (help_plain _ _ refl refl refl refl, tt)))
+    (_, refl, refl, refl, refl, refl) refl refl tt (λ x y z p q r. omega arith)
+
+plan_fits : (name : Text) (named : CommandName) → word_of named ≡ Some name → ((x y z : ℕ) → x ≡ 1 → y ≡ 1 → z ≡ 0 → TakesFiles named ((x + y) + z))
+    → FitsLeaf (as_built (plan_command name []))
+plan_fits name named is counts = fits_leaf (as_built (plan_command name [])) named one one none is refl refl
+    (set_plain _ _ refl refl refl refl, (set_plain _ _ refl refl refl refl, (set_plain _ _ refl refl refl refl, (help_plain _ _ refl refl refl refl, tt))))
+    (_, refl, refl, refl, refl, refl) (_, refl, refl, refl, refl, refl) refl tt counts
+
+log_fits : (name : Text) (named : CommandName) → word_of named ≡ Some name → ((x y z : ℕ) → x ≡ 1 → y ≡ 1 → z ≡ 1 → TakesFiles named ((x + y) + z))
+    → FitsLeaf (as_built (log_command name))
+log_fits name named is counts = fits_leaf (as_built (log_command name)) named one one one is refl refl (
+  set_plain _ _ refl refl refl refl,
+  (
+    set_plain _ _ refl refl refl refl,
+    (
+      set_plain _ _ refl refl refl refl,
+      (
+        set_plain _ _ refl refl refl refl,
+        (help_plain _ _ refl refl refl refl, tt),
+      ),
+    ),
+  ),
+)
+    (_, refl, refl, refl, refl, refl) (_, refl, refl, refl, refl, refl) (_, refl, refl, refl, refl, refl) tt counts
+
+search_fits : FitsLeaf (as_built (plan_command (codes "plan") (rounds_rule ∷ [])))
+search_fits = fits_leaf (as_built (plan_command (codes "plan") (rounds_rule ∷ []))) Plan one one none refl refl refl (
+  set_plain _ _ refl refl refl refl,
+  (
+    set_plain _ _ refl refl refl refl,
+    (
+      set_plain _ _ refl refl refl refl,
+      (record { own = refl; missing = refl; action = inl refl; defaults = inr (omega arith, omega arith) }, (help_plain _ _ refl refl refl refl, tt)),
+    ),
+  ),
+)
+    (_, refl, refl, refl, refl, refl) (_, refl, refl, refl, refl, refl) refl refl (λ x y z p q r. omega arith)
+
+hub_fits : FitsLeaf (as_built (command (codes "hub") (plans_rule ∷ [])))
+hub_fits = fits_leaf (as_built (command (codes "hub") (plans_rule ∷ []))) Hub one several none refl refl refl (
+  set_plain _ _ refl refl refl refl,
+  (
+    set_plain _ _ refl refl refl refl,
+    (record { own = refl; missing = refl; action = inr (inl refl); defaults = inl refl }, (help_plain _ _ refl refl refl refl, tt)),
+  ),
+)
+    (_, refl, refl, refl, refl, refl) (_, refl, refl, refl) refl tt (λ x y z p q r. omega arith)
+
+-- ---- the whole command line
+
+abbrev Leaves : List Shape → Type 0
+Leaves [] = ⊤
+Leaves (s ∷ ss) = FitsLeaf s × Leaves ss
+
+leaf_found : (ss : List Shape) → Leaves ss → (p : Shape → Bool) (s : Shape) → find p ss ≡ Some s → FitsLeaf s
+leaf_found [] h p s e = let bad : ⊥ = cc in absurd bad
+leaf_found (x ∷ xs) h p s e = go (p x) (leaf_found xs h.1 p s) e
+  where
+    go : (b : Bool) → (find p xs ≡ Some s → FitsLeaf s) → cond b (Some x) (find p xs) ≡ Some s → FitsLeaf s
+    go true later is = let same : x ≡ s = cc in subst FitsLeaf same h.0
+    go false later is = later is
+
+built_fits : (a : App) (words : List Text) → Leaves a.subs → built_fault a nothing_held words ≡ [] → IsFit (entered a (stop_after a.top.rules (names_of a) words))
+built_fits a words leaves e = go (stop_after a.top.rules (names_of a) words) below
+  where
+    below : entered_fault a (stop_after a.top.rules (names_of a) words) ≡ []
+    below = (both_none (entered_fault a (stop_after a.top.rules (names_of a) words)) _ (both_none (walk_fault a.top (names_of a) (walk_from nothing_held) words) _ e).1).0
+
+    at : (p : Text × List Text) (o : Option Shape) → find (λ s. answers_to p.0 (label_of s)) a.subs ≡ o
+        → option_map_or (λ s. level_fault s [] nothing_held p.1 false []) o [] ≡ [] → IsFit (option_map (λ s. rows_at s p.1) o)
+    at p None is e = tt
+    at p (Some s) is e = leaf_found a.subs leaves _ s is p.1 e
+
+    go : (stop : Option (Text × List Text)) → entered_fault a stop ≡ [] → IsFit (entered a stop)
+    go None e = tt
+    go (Some p) e = at p (find (λ s. answers_to p.0 (label_of s)) a.subs) refl e
+
+leaves : Leaves (built command_line).subs
+leaves = (
+  facts_fits,
+  (
+    plan_fits (codes "shape") ShapeName refl (λ x y z p q r. omega arith),
+    (
+      plan_fits (codes "check") Check refl (λ x y z p q r. omega arith),
+      (
+        search_fits,
+        (
+          plan_fits (codes "drive") Drive refl (λ x y z p q r. omega arith),
+          (
+            hub_fits,
+            (
+              log_fits (codes "audit") Audit refl (λ x y z p q r. omega arith),
+              (log_fits (codes "gantt") Gantt refl (λ x y z p q r. omega arith), tt),
+            ),
+          ),
+        ),
+      ),
+    ),
+  ),
+)
+
+pub taken_fits : (words : List Text) → reasons_in words ≡ [] → IsFit (found_in words)
+taken_fits words e = built_fits (built command_line) (argument_words (built command_line) words) leaves e
+
+-- ---- what the parse says, of the described command line
+
+pub taken : (a : App) (words : List Text) → a ≡ command_line → (is_simple_and_free a ≡ true → fault_of a words ≡ []) → reasons_in words ≡ []
+taken a words is h = sym (ap (λ x. fault_of x words) is) ∙ h (ap is_simple_and_free is)
+
+pub met : (a : App) (words : List Text) (rows : List Row) (found : Found) → a ≡ command_line
+    → (is_simple a ≡ true → (rows ≡ matches_of a words) × (found ≡ subcommand_of a words)) → found ≡ found_in words
+met a words rows found is h = (h (ap is_simple is)).1 ∙ ap (λ x. subcommand_of x words) is
+
+pub told : (a : App) (words : List Text) (error : Error) (fault : WordsFault) → a ≡ command_line → (is_simple_and_free a ≡ true → HasKind (fault_of a words) error)
+    → Tells (kind_of error) fault → TellsOneOf (reasons_in words) fault
+told a words error Memory is h tells = tt
+told a words error (Usage help text) is h tells = elim (h (ap is_simple_and_free is)) [
+  | inl memory ↦ absurd (tells.0 memory)
+  | inr among ↦ (kind_of error, subst (λ (x : App). IsAmong (kind_of error) (fault_of x words)) is among, tells.1)
+]

@@ -1,0 +1,11 @@
+use Rattle.std.proofs.Common.{codes}
+use Rattle.clap.specs.Words.{found_of}
+use Rattle.command_words.proofs.words.Getters.{text_given, text_left_out}
+use Rattle.command_words.proofs.words.instance_of.Goals as goal
+
+pub returns-in_ok-from_str-in-Some : goal.returns-in_ok-from_str-in-Some
+returns-in_ok-from_str-in-Some c =
+    text_given (found_of c.args.matches.now) (codes "instance") _ c.get_str.result c.in-Some.name c.get_str.ensures c.in-Some.is c.in_ok-from_str-in-Some.ensures.ok
+
+pub returns-in-None : goal.returns-in-None
+returns-in-None c = text_left_out (found_of c.args.matches.now) (codes "instance") c.get_str.result c.get_str.ensures c.in-None.is

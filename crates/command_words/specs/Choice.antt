@@ -1,0 +1,122 @@
+-- What the words of a command line ask for, by the matches that `clap` finds in them.
+use Rattle.std.specs.Prelude.{◌≡◌, ◌≤◌, ◌++◌, ℕ, Bool, true, false, List, [], Option, Some, None, length, pos, codes}
+use Rattle.std.specs.Prelude.{option_map, unwrap_or, ⊤}
+use Rattle.std.specs.Option.{option_map_or}
+use Rattle.std.specs.Prelude.{◌≢◌, map}
+use Rattle.std.specs.String.{string_bytes}
+use Rattle.std.specs.Str.Parse.{digits_value, without_leading_plus}
+use Rattle.clap.specs.Words.{IsAmong, IsSignedIn, Kinds, Row, Text, all_of, fault_of, first_of, one_of, subcommand_of}
+use Rattle.clap.specs.Words.{without_minus}
+use Rattle.clap.specs.declared.error.kind.ErrorKind.{ErrorKind}
+use Rattle.clap.specs.declared.error.kind.ErrorKind.TheVariants.{DisplayHelp, DisplayVersion, OutOfMemory}
+use Rattle.command_words.specs.CommandLine.{command_line}
+use Rattle.command_words.specs.declared.words.Chosen.{Chosen}
+use Rattle.command_words.specs.declared.words.CommandName.{CommandName}
+use Rattle.command_words.specs.declared.words.CommandName.TheVariants.{Input, Facts, Shape, Check, Plan, Drive, Hub, Audit, Gantt}
+use Rattle.command_words.specs.declared.words.WordsFault.{WordsFault}
+use Rattle.command_words.specs.declared.words.WordsFault.TheVariants.{Usage, Memory}
+
+-- the word of a command; the form without words has none
+abbrev pub word_of : CommandName → Option Text
+word_of Input = None
+word_of Facts = Some (codes "facts")
+word_of Shape = Some (codes "shape")
+word_of Check = Some (codes "check")
+word_of Plan = Some (codes "plan")
+word_of Drive = Some (codes "drive")
+word_of Hub = Some (codes "hub")
+word_of Audit = Some (codes "audit")
+word_of Gantt = Some (codes "gantt")
+
+-- the command takes n files
+abbrev pub TakesFiles : CommandName → ℕ → Type 0
+TakesFiles Input n = n ≡ 0
+TakesFiles Facts n = n ≡ 1
+TakesFiles Shape n = n ≡ 2
+TakesFiles Check n = n ≡ 2
+TakesFiles Plan n = n ≡ 2
+TakesFiles Drive n = n ≡ 2
+TakesFiles Hub n = 2 ≤ n
+TakesFiles Audit n = n ≡ 3
+TakesFiles Gantt n = n ≡ 3
+
+-- a command's word and its matches, if there is one
+abbrev pub Found : Type 0
+Found = Option (Text × List Row)
+
+-- what `clap` finds in the words
+abbrev pub found_in : List Text → Found
+found_in words = subcommand_of command_line words
+
+-- the word of the command that was found
+abbrev pub word_found : Found → Option Text
+word_found = option_map (λ p. p.0)
+
+-- the matches of the command that was found
+abbrev pub rows_found : Found → List Row
+rows_found found = option_map_or (λ p. p.1) found []
+
+-- the values of an argument; none where it was not used
+abbrev pub values_of : Text → List Row → List Text
+values_of name rows = unwrap_or (all_of name rows) []
+
+-- the files: the instance's, those of the plans, the log's
+abbrev pub files_in : List Row → List Text
+files_in rows = values_of (codes "FILE") rows
+    ++ values_of (codes "PLAN") rows
+    ++ values_of (codes "LOG") rows
+
+-- the name of the instance
+abbrev pub instance_in : List Row → Option Text
+instance_in rows = first_of (codes "instance") rows
+
+-- the number of rounds, 20 where it is not said
+abbrev pub rounds_in : List Row → ℕ
+rounds_in rows = option_map_or (λ text. digits_value 10 (without_leading_plus text))
+    (one_of (codes "rounds") rows) 20
+
+-- the choice holds the command, the files, the instance's name and the rounds that were found
+pub record Holds (found : Found) (chosen : Chosen) : Type 0 where
+  pub name : word_of chosen.name ≡ word_found found
+  pub files : map string_bytes chosen.files.items ≡ files_in (rows_found found)
+  pub instance : option_map string_bytes chosen.instance ≡ instance_in (rows_found found)
+  pub rounds : chosen.rounds ≡ rounds_in (rows_found found)
+
+-- the choice has as many files as its command takes, and at most 1000 rounds
+pub record IsWithin (chosen : Chosen) : Type 0 where
+  pub files : TakesFiles chosen.name (length chosen.files.items)
+  pub rounds : chosen.rounds ≤ 1000
+
+-- why `clap` refuses the words, or nothing where it takes them
+abbrev pub reasons_in : List Text → Kinds
+reasons_in words = fault_of command_line words
+
+-- a reason that asks for a text, as `--help` does, and is no mistake
+abbrev pub asks_for_help : ErrorKind → Bool
+asks_for_help DisplayHelp = true
+asks_for_help DisplayVersion = true
+asks_for_help _ = false
+
+-- the fault is want of memory, or tells of this reason
+abbrev pub Tells : ErrorKind → WordsFault → Type 0
+Tells kind Memory = ⊤
+Tells kind (Usage help text) = (kind ≢ OutOfMemory) × (help ≡ asks_for_help kind)
+
+-- the fault is want of memory, or tells of one of these reasons
+abbrev pub TellsOneOf : Kinds → WordsFault → Type 0
+TellsOneOf kinds Memory = ⊤
+TellsOneOf kinds (Usage help text) =
+    (kind : ErrorKind) × IsAmong kind kinds × (help ≡ asks_for_help kind)
+
+-- a text for the number of rounds: none, or a number from 0 to 1000, as it is read
+abbrev pub FitsRounds : Option Text → Type 0
+FitsRounds None = ⊤
+FitsRounds (Some text) =
+    (written : Text) × (text ≡ without_minus written) × IsSignedIn (pos 0) (pos 1000) written
+
+-- what is found where `clap` takes the words: a command of the program with as many files as it
+-- takes, or no command
+abbrev pub IsFit : Found → Type 0
+IsFit None = ⊤
+IsFit (Some p) = ((name : CommandName) × (word_of name ≡ Some p.0)
+    × TakesFiles name (length (files_in p.1))) × FitsRounds (one_of (codes "rounds") p.1)

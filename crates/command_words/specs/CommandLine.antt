@@ -1,0 +1,80 @@
+-- The command line of the program, as `clap` reads it: eight commands, with their options and files.
+use Rattle.std.specs.Prelude.{◌≡◌, List, [], ◌∷◌, Some, true, false, pos, codes, fold, map}
+use Rattle.clap.specs.Lexer.{usize_max}
+use Rattle.clap.specs.Words.{App, Rule, Shape, Text, app_of, new_rule}
+use Rattle.clap.specs.Simple.{new_shape, with_subcommand}
+use Rattle.clap.specs.declared.builder.command.Command.{Command}
+use Rattle.clap.specs.declared.builder.command.Command.TheViews.{out-Command}
+use Rattle.command_words.specs.declared.words.CommandName.{CommandName}
+use Rattle.command_words.specs.declared.words.CommandName.TheVariants.{Input, Facts, Shape as ShapeName}
+use Rattle.command_words.specs.declared.words.CommandName.TheVariants.{Check, Plan, Drive, Hub, Audit, Gantt}
+use Rattle.clap.specs.declared.builder.value_parser.ValueParser.TheVariants.{Signed}
+
+-- a file that has to be named, under the name that help gives it
+abbrev pub file_rule : Text → Rule
+file_rule name = record (new_rule name) { required = true }
+
+-- an option with one value, as `--instance NAME`
+abbrev pub option_rule : Text → Rule
+option_rule name = record (new_rule name) { long = Some name; value_names = 1 }
+
+-- one plan file or more
+abbrev pub plans_rule : Rule
+plans_rule = record (file_rule (codes "PLAN")) {
+  range = Some (record { start_inclusive = 1; end_inclusive = usize_max });
+}
+
+-- `--rounds R`, a whole number from 0 to 1000, and 20 where it is left out
+abbrev pub rounds_rule : Rule
+rounds_rule = record (option_rule (codes "rounds")) {
+  parser = Some (Signed (pos 0) (pos 1000));
+  defaults = codes "20" ∷ [];
+}
+
+-- a command with `--instance NAME` and the instance's file, and what it takes besides
+abbrev pub command : Text → List Rule → Shape
+command name more = record (new_shape name) {
+  rules = option_rule (codes "instance") ∷ file_rule (codes "FILE") ∷ more;
+}
+
+-- a command on an instance and a plan
+abbrev pub plan_command : Text → List Rule → Shape
+plan_command name more = command name (file_rule (codes "PLAN") ∷ more)
+
+-- a command on an instance, a plan and a log
+abbrev pub log_command : Text → Shape
+log_command name = plan_command name (file_rule (codes "LOG") ∷ [])
+
+-- the program itself, which takes no word but a command
+abbrev pub bare_program : Shape
+bare_program = record (new_shape (codes "cellplan")) { disable_help_subcommand = true }
+
+-- what each command takes; the form without words is the program itself
+abbrev pub described : CommandName → Shape
+described Input = bare_program
+described Facts = command (codes "facts") []
+described ShapeName = plan_command (codes "shape") []
+described Check = plan_command (codes "check") []
+described Plan = plan_command (codes "plan") (rounds_rule ∷ [])
+described Drive = plan_command (codes "drive") []
+described Hub = command (codes "hub") (plans_rule ∷ [])
+described Audit = log_command (codes "audit")
+described Gantt = log_command (codes "gantt")
+
+-- a command line of one command alone
+abbrev pub leaf : Shape → App
+leaf s = record { top = s; subs = [] }
+
+-- the program with these commands, of which one is used or none
+abbrev pub program_with : List CommandName → App
+program_with names = fold with_subcommand (leaf bare_program) (map described names)
+
+-- the whole command line, with the commands in the order in which help lists them
+abbrev pub command_line : App
+command_line = program_with
+    (Facts ∷ ShapeName ∷ Check ∷ Plan ∷ Drive ∷ Hub ∷ Audit ∷ Gantt ∷ [])
+
+-- the command that the code builds is the described one
+pub record Describes (a : App) (c : Command) : Type 0 where
+  pub app : app_of c ≡ a
+  pub local : (out-Command c).has_globals ≡ false

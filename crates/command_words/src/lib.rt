@@ -1,0 +1,6 @@
+//! The words of the command line of `cellplan`, and what they ask for.
+#![tactic(auto)]
+
+mod words;
+
+pub use words::{Chosen, CommandName, WordsFault, read_words};

@@ -1,0 +1,208 @@
+//! The words of the command line, and what they ask for.
+
+ghost use Rattle.std.specs.Prelude.{◌≡◌, ◌≤◌, ◌++◌, [], IfOk, IfErr, OnOk, codes, map, option_map};
+ghost use Rattle.std.specs.String.{string_bytes};
+ghost use Rattle.clap.specs.Words.{found_of, kind_of, rows_of, subcommand_rows_of};
+ghost use Rattle.clap.specs.Words.{one_of};
+ghost use Rattle.command_words.specs.declared.words.CommandName.{CommandName};
+ghost use Rattle.command_words.specs.Choice.{FitsRounds, Holds, IsFit, IsWithin, Tells, TellsOneOf};
+ghost use Rattle.command_words.specs.Choice.{files_in, found_in, instance_in, reasons_in, rounds_in, values_of, word_of};
+
+mod command_line;
+#[cfg(test)]
+mod tests;
+
+use clap::ArgMatches;
+use clap::error::ErrorKind;
+use std::alloc::{AllocError, Global};
+use thiserror::Error;
+
+/// The commands of the program.
+#[derive(Clone, Copy, Debug, PartialEq, Eq)]
+pub enum CommandName {
+    /// No words: the facts of an instance on the standard input.
+    Input,
+    /// The size of an instance.
+    Facts,
+    /// Whether a plan has the shape of its instance.
+    Shape,
+    /// Whether a plan is accepted.
+    Check,
+    /// The search of an accepted plan.
+    Plan,
+    /// One cell, driven by reports on the standard input.
+    Drive,
+    /// Several cells, one for each plan.
+    Hub,
+    /// Whether a log is that of a run.
+    Audit,
+    /// A log as a chart.
+    Gantt,
+}
+
+/// What a command line asks for.
+#[derive(Debug, Drop)]
+pub struct Chosen {
+    /// The command.
+    pub name: CommandName,
+    /// The files in the order given: the instance, the plan or plans, the log.
+    pub files: Vec<String>,
+    /// The name of the instance in its collection.
+    pub instance: Option<String>,
+    /// The rounds of a search, 20 where none are given.
+    pub rounds: u32,
+}
+
+/// Why the words choose nothing.
+#[derive(Debug, Drop, Error)]
+pub enum WordsFault {
+    /// The words are no command line of the program, or ask for help.
+    #[error("{text}")]
+    Usage {
+        /// Help was asked for, so the text goes to the standard output and is no mistake.
+        help: bool,
+        /// The help, or what is wrong with the words.
+        text: String,
+    },
+    /// Memory ran out.
+    #[error("Memory")]
+    Memory,
+}
+
+impl From<AllocError> for WordsFault {
+    ghost use Rattle.std.specs.Prelude.{◌≡◌};
+    ghost use Rattle.command_words.specs.declared.words.WordsFault.TheVariants.{Memory};
+
+    ghost from_gives = { λ _ fault. fault ≡ Memory };
+
+    fn from(_error: AllocError) -> WordsFault {
+        WordsFault::Memory
+    }
+}
+
+/// Reads the command line, of which the first word is the program's name. `WordsFault::Memory` may
+/// come in place of any other answer.
+pub fn read_words(alloc: Global, words: &[&str]) -> Result<Chosen, WordsFault>
+    ensures chosen { IfOk result (Holds (found_in (map (λ word. word.now) words.now))) }
+    ensures within { IfOk result IsWithin }
+    ensures taken { IfOk result (λ _. reasons_in (map (λ word. word.now) words.now) ≡ []) }
+    ensures refused { IfErr result (TellsOneOf (reasons_in (map (λ word. word.now) words.now))) }
+{
+    let program = command_line::whole(alloc)?;
+    match program.try_get_matches_from(words) {
+        Ok(matches) => Ok(chosen_by(alloc, &matches)?),
+        Err(error) => Err(fault_of(alloc, &error)),
+    }
+}
+
+// What `clap` refuses, as a fault.
+fn fault_of(alloc: Global, error: &clap::Error) -> WordsFault
+    ensures { Tells (kind_of error.now) result }
+{
+    let kind = error.kind();
+    if kind == ErrorKind::OutOfMemory {
+        return WordsFault::Memory;
+    }
+    let help = matches!(kind, ErrorKind::DisplayHelp | ErrorKind::DisplayVersion);
+    match error.to_string(alloc) {
+        Ok(text) => WordsFault::Usage { help, text },
+        Err(_) => WordsFault::Memory,
+    }
+}
+
+// The choice that the matches of the whole command line make.
+fn chosen_by(alloc: Global, matches: &ArgMatches<'_>) -> Result<Chosen, AllocError>
+    requires { IsFit (subcommand_rows_of matches.now) }
+    ensures holds { IfOk result (Holds (subcommand_rows_of matches.now)) }
+    ensures within { IfOk result IsWithin }
+{
+    match matches.subcommand() {
+        Some((word, matches)) => chosen_of(alloc, word, matches),
+        None => Ok(Chosen {
+            name: CommandName::Input,
+            files: Vec::new(alloc),
+            instance: None,
+            rounds: 20,
+        }),
+    }
+}
+
+// The choice that the matches of one command make.
+fn chosen_of(alloc: Global, word: &str, matches: &ArgMatches<'_>) -> Result<Chosen, AllocError>
+    requires { IsFit (Some (word.now, rows_of (found_of matches.now))) }
+    ensures holds { IfOk result (Holds (Some (word.now, rows_of (found_of matches.now)))) }
+    ensures within { IfOk result IsWithin }
+{
+    Ok(Chosen {
+        name: name_of(word),
+        files: files_of(alloc, matches)?,
+        instance: instance_of(alloc, matches)?,
+        rounds: rounds_of(matches),
+    })
+}
+
+// The command of a word.
+fn name_of(word: &str) -> CommandName
+    requires { (name : CommandName) × (word_of name ≡ Some word.now) }
+    ensures { word_of result ≡ Some word.now }
+{
+    match word {
+        "facts" => CommandName::Facts,
+        "shape" => CommandName::Shape,
+        "check" => CommandName::Check,
+        "plan" => CommandName::Plan,
+        "drive" => CommandName::Drive,
+        "hub" => CommandName::Hub,
+        "audit" => CommandName::Audit,
+        _ => CommandName::Gantt,
+    }
+}
+
+// The files, in the order given.
+fn files_of(alloc: Global, matches: &ArgMatches<'_>) -> Result<Vec<String>, AllocError>
+    ensures { IfOk result (λ files. map string_bytes files.items ≡ files_in (rows_of (found_of matches.now))) }
+{
+    let mut files = Vec::new(alloc);
+    add_values(alloc, &mut files, matches, "FILE")?;
+    add_values(alloc, &mut files, matches, "PLAN")?;
+    add_values(alloc, &mut files, matches, "LOG")?;
+    Ok(files)
+}
+
+// Adds the values of an argument.
+fn add_values(
+    alloc: Global,
+    files: &mut Vec<String>,
+    matches: &ArgMatches<'_>,
+    name: &str,
+) -> Result<(), AllocError>
+    ensures { OnOk result (map string_bytes files.new.items ≡ map string_bytes files.old.items
+        ++ values_of name.now (rows_of (found_of matches.now))) }
+{
+    let Some(values) = matches.get_raw(name) else {
+        return Ok(());
+    };
+    for value in values {
+        files.push(String::from_str(alloc, value)?)?;
+    }
+    Ok(())
+}
+
+// The name of the instance, if it is given.
+fn instance_of(alloc: Global, matches: &ArgMatches<'_>) -> Result<Option<String>, AllocError>
+    ensures { IfOk result (λ name. option_map string_bytes name ≡ instance_in (rows_of (found_of matches.now))) }
+{
+    match matches.get_str("instance") {
+        Some(name) => Ok(Some(String::from_str(alloc, name)?)),
+        None => Ok(None),
+    }
+}
+
+// The number of rounds.
+fn rounds_of(matches: &ArgMatches<'_>) -> u32
+    requires { FitsRounds (one_of (codes "rounds") (rows_of (found_of matches.now))) }
+    ensures exact { result ≡ rounds_in (rows_of (found_of matches.now)) }
+    ensures few { result ≤ 1000 }
+{
+    matches.get_one::<u32>("rounds").unwrap_or(20)
+}

@@ -1,0 +1,177 @@
+//! The command line as `clap` is told of it, one command in each function.
+ghost use Rattle.std.specs.Prelude.{◌≡◌, IfOk, [], false};
+ghost use Rattle.clap.specs.Words.{rule_of};
+ghost use Rattle.command_words.specs.CommandLine.{Describes, bare_program, command, command_line, described};
+ghost use Rattle.command_words.specs.CommandLine.{file_rule, leaf, log_command, option_rule, plan_command};
+ghost use Rattle.command_words.specs.CommandLine.{plans_rule, program_with, rounds_rule};
+
+use crate::words::CommandName;
+use clap::builder::ValueParser;
+use clap::{Arg, Command};
+use std::alloc::{AllocError, Global};
+
+// A file that has to be named.
+fn file<'a>(alloc: Global, name: &'a str, help: &'a str) -> Arg<'a>
+    ensures rule { rule_of result ≡ file_rule name.entry.now }
+    ensures local { result.global ≡ false }
+{
+    Arg::new(alloc, name).required(true).help(help)
+}
+
+// An option with one value.
+fn option<'a>(alloc: Global, name: &'a str, value: &'a str, help: &'a str) -> Arg<'a>
+    ensures rule { rule_of result ≡ option_rule name.entry.now }
+    ensures local { result.global ≡ false }
+{
+    Arg::new(alloc, name)
+        .long(name)
+        .value_name(value)
+        .help(help)
+}
+
+// The plan files of a hub, one or more.
+fn plans<'a>(alloc: Global) -> Arg<'a>
+    ensures rule { rule_of result ≡ plans_rule }
+    ensures local { result.global ≡ false }
+{
+    file(alloc, "PLAN", "A plan for each cell, in TOML").num_args(1..)
+}
+
+// The number of rounds of a search.
+fn rounds<'a>(alloc: Global) -> Arg<'a>
+    ensures rule { rule_of result ≡ rounds_rule }
+    ensures local { result.global ≡ false }
+{
+    option(
+        alloc,
+        "rounds",
+        "R",
+        "How often each planner is asked, 0 to 1000",
+    )
+    .value_parser(ValueParser::Signed(0, 1000))
+    .default_value("20")
+}
+
+// A command on an instance.
+fn on_instance<'a>(alloc: Global, name: &'a str, about: &'a str) -> Result<Command<'a>, AllocError>
+    ensures { IfOk result (Describes (leaf (command name.entry.now []))) }
+{
+    let instance = option(
+        alloc,
+        "instance",
+        "NAME",
+        "The instance of this name in a collection",
+    );
+    let file = file(
+        alloc,
+        "FILE",
+        "The instance of the job shop, in OR-Library's form",
+    );
+    Command::new(alloc, name)
+        .about(about)
+        .arg(instance)?
+        .arg(file)
+}
+
+// A command on an instance and a plan.
+fn on_plan<'a>(alloc: Global, name: &'a str, about: &'a str) -> Result<Command<'a>, AllocError>
+    ensures { IfOk result (Describes (leaf (plan_command name.entry.now []))) }
+{
+    on_instance(alloc, name, about)?.arg(file(alloc, "PLAN", "The plan, in TOML"))
+}
+
+// A command on an instance, a plan and a log.
+fn on_log<'a>(alloc: Global, name: &'a str, about: &'a str) -> Result<Command<'a>, AllocError>
+    ensures { IfOk result (Describes (leaf (log_command name.entry.now))) }
+{
+    on_plan(alloc, name, about)?.arg(file(alloc, "LOG", "The log of a run, as drive writes it"))
+}
+
+// The search of a plan.
+fn search<'a>(alloc: Global) -> Result<Command<'a>, AllocError>
+    ensures { IfOk result (Describes (leaf (described CommandName.Plan))) }
+{
+    let about = "Looks for an accepted plan with the releases and budgets of PLAN";
+    on_plan(alloc, "plan", about)?.arg(rounds(alloc))
+}
+
+// The cells of several plans.
+fn hub<'a>(alloc: Global) -> Result<Command<'a>, AllocError>
+    ensures { IfOk result (Describes (leaf (described CommandName.Hub))) }
+{
+    let about = "Drives several cells at once, one for each plan";
+    on_instance(alloc, "hub", about)?.arg(plans(alloc))
+}
+
+// The program before it has a command.
+fn bare<'a>(alloc: Global) -> Command<'a>
+    ensures { Describes (leaf bare_program) result }
+{
+    Command::new(alloc, "cellplan")
+        .about("Checks plans of a blocking job shop, and drives robot cells by them")
+        .after_help(
+            "Without a command it reads an instance from the standard input, as facts does.",
+        )
+        .disable_help_subcommand(true)
+}
+
+// One command.
+fn command_of<'a>(alloc: Global, name: CommandName) -> Result<Command<'a>, AllocError>
+    ensures { IfOk result (Describes (leaf (described name))) }
+{
+    match name {
+        CommandName::Input => Ok(bare(alloc)),
+        CommandName::Facts => on_instance(alloc, "facts", "Tells the size of an instance"),
+        CommandName::Shape => on_plan(
+            alloc,
+            "shape",
+            "Tells whether a plan has the shape of its instance",
+        ),
+        CommandName::Check => on_plan(
+            alloc,
+            "check",
+            "Tells whether a plan never gets stuck and is in time",
+        ),
+        CommandName::Plan => search(alloc),
+        CommandName::Drive => on_plan(
+            alloc,
+            "drive",
+            "Drives a cell by a plan: reports come in, move orders go out",
+        ),
+        CommandName::Hub => hub(alloc),
+        CommandName::Audit => on_log(
+            alloc,
+            "audit",
+            "Tells whether a log is that of a run of the plan",
+        ),
+        CommandName::Gantt => on_log(alloc, "gantt", "Draws a log as a Gantt chart in text"),
+    }
+}
+
+// The program with these commands.
+fn program_with<'a>(alloc: Global, names: &[CommandName]) -> Result<Command<'a>, AllocError>
+    ensures { IfOk result (Describes (program_with names.now)) }
+{
+    let mut program = bare(alloc);
+    for name in names {
+        program = program.subcommand(command_of(alloc, *name)?)?;
+    }
+    Ok(program)
+}
+
+/// The whole command line of the program.
+pub fn whole<'a>(alloc: Global) -> Result<Command<'a>, AllocError>
+    ensures { IfOk result (Describes command_line) }
+{
+    let names = [
+        CommandName::Facts,
+        CommandName::Shape,
+        CommandName::Check,
+        CommandName::Plan,
+        CommandName::Drive,
+        CommandName::Hub,
+        CommandName::Audit,
+        CommandName::Gantt,
+    ];
+    program_with(alloc, names.as_slice())
+}
