@@ -5,7 +5,7 @@ use Rattle.std.proofs.lemmas.List.{get_or_append_left, get_or_push, length_push}
 use Rattle.shop_base.specs.declared.limits.TheConstants.{MAX_MACHINES}
 use Rattle.shop_base.specs.Plan.{PlannedShop, jobs, machines, steps, order, job_at, IsWellShaped}
 use Rattle.alt_graph.specs.Tables.{AreFirsts, ArePlacesOf, slot_of, HasSlots}
-use Rattle.alt_graph.proofs.Limits.{steps_few, place_job}
+use Rattle.shop_base.proofs.Sizes.{steps_few, place_job}
 
 -- ---- the numbers of the first nodes
 

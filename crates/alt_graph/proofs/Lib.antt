@@ -2,7 +2,6 @@ pub mod ArcKinds
 pub mod Paths
 pub mod NodeLists
 pub mod CycleParts
-pub mod Limits
 pub mod Filling
 pub mod Standing
 pub mod NodeNumbers

@@ -5,8 +5,8 @@ ghost use Rattle.shop_base.specs.Plan.{IsWellShaped};
 ghost use Rattle.shop_base.specs.Graph.{Arc, HasArc};
 ghost use Rattle.alt_graph.specs.Sources.{IsBlockingArc, IsBehind};
 
-use crate::readers::{clean_of, machine_at, order_of};
 use crate::sources::job_source;
+use shop_base::readers::{clean_of, machine_at, order_of};
 use shop_base::{JobNo, Moment, Node, Shaped};
 
 /// The length of the arc that leads from one node to the other, if there is one.

@@ -12,7 +12,6 @@ mod chain_check;
 mod cycle_check;
 mod numbers;
 mod ranking;
-mod readers;
 mod rounds;
 mod solving;
 mod sources;

@@ -1,12 +1,11 @@
 //! The numbers of nodes: job after job, and within a job by place.
 
 ghost use Rattle.std.specs.Prelude.{◌≡◌, ◌+◌, ◌<◌, IfOk, length};
-ghost use Rattle.shop_base.specs.Plan.{jobs, steps};
 ghost use Rattle.alt_graph.specs.Tables.{AreFirsts};
 ghost use Rattle.alt_graph.specs.Times.{number_of};
 
-use crate::readers::{job_count, route_of};
-use shop_base::{JobNo, Node, Shaped};
+use shop_base::readers::{job_count, step_count};
+use shop_base::{Node, Shaped};
 use std::alloc::{AllocError, Global};
 
 /// The number of each job's first node, and last the count of all nodes.
@@ -22,14 +21,6 @@ pub(crate) fn first_numbers(alloc: Global, shaped: &Shaped) -> Result<Vec<u32>, 
         firsts.push(next)?;
     }
     Ok(firsts)
-}
-
-/// How many steps the job has.
-pub(crate) fn step_count(shaped: &Shaped, job: JobNo) -> u32
-    requires { job < jobs shaped.now }
-    ensures { result ≡ steps shaped.now job }
-{
-    route_of(shaped, job).len() as u32
 }
 
 /// The node's number.

@@ -11,11 +11,11 @@ ghost use Rattle.alt_graph.specs.Sources.{IsJobArc};
 ghost use Rattle.alt_graph.specs.Times.{rank_of, time_at, no_time};
 ghost use Rattle.alt_graph.specs.Ranking.{so_far, IsRanked, IsLongest, IsOver, WaitsFor, AreRanked, Grows, IsSettled, AreSettled};
 
-use crate::numbers::{number, step_count};
-use crate::readers::{job_count, release_of};
+use crate::numbers::number;
 use crate::sources::{Source, blocking_source, blocking_target, job_source, job_target};
 use crate::tables::Tables;
 use crate::times::{NodeTime, UNRANKED};
+use shop_base::readers::{job_count, release_of, step_count};
 use shop_base::{JobNo, Moment, Node, Shaped};
 use std::alloc::{AllocError, Global};
 

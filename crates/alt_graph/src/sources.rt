@@ -6,8 +6,8 @@ ghost use Rattle.shop_base.specs.Graph.{IsNode};
 ghost use Rattle.alt_graph.specs.Tables.{AreTables};
 ghost use Rattle.alt_graph.specs.Sources.{IsJobArc, IsBlockingArc, IsSource, IsTarget};
 
-use crate::readers::{clean_of, machine_at, order_of, route_of, step_of};
 use crate::tables::{Tables, slot};
+use shop_base::readers::{clean_of, machine_at, order_of, route_of, step_of};
 use shop_base::{MachineNo, Moment, Node, Shaped};
 
 /// The node from which an arc comes, and the arc's length.

@@ -5,8 +5,8 @@ ghost use Rattle.shop_base.specs.Plan.{jobs, machines, route, order, IsWellShape
 ghost use Rattle.alt_graph.specs.Tables.{AreTables, AreStepsOf, ArePlacesOf, HasSlots, slot_of};
 
 use crate::numbers::first_numbers;
-use crate::readers::{job_count, machine_count, order_of, route_of};
 use shop_base::limits::MAX_JOBS;
+use shop_base::readers::{job_count, machine_count, order_of, route_of};
 use shop_base::{JobNo, MachineNo, Shaped};
 use std::alloc::{AllocError, Global};
 

@@ -7,7 +7,10 @@ use Rattle.shop_base.specs.Plan.{PlannedShop, jobs, steps, machine_of, release, 
 use Rattle.shop_base.specs.Cell.{Cell, made, ready, since, entries, cleaning, IsOn, IsFree}
 use Rattle.shop_base.specs.Activity.{Activity, Arrival, Operation, Cleaning, GoesOn}
 use Rattle.shop_base.specs.Report.{Report, IsTimely, CanReport}
-use Rattle.shop_base.specs.Move.{Spot, Out, At, CanLeave, CanEnter, CanMove, IsPrefix, KeepsPlan, MoveOrder, order_for, CanObey}
+use Rattle.shop_base.specs.Move.{CanLeave, CanEnter, CanMove, IsPrefix, KeepsPlan, order_for, CanObey}
+use Rattle.shop_base.specs.declared.move_order.MoveOrder.{MoveOrder}
+use Rattle.shop_base.specs.declared.move_order.Spot.{Spot}
+use Rattle.shop_base.specs.declared.move_order.Spot.TheVariants.{Out, At}
 use Rattle.shop_base.specs.Run.{Event, Reported, Moved, CanHappen, after, AreEvents}
 use Rattle.shop_base.proofs.Visits.{visits_job}
 

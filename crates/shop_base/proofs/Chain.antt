@@ -3,22 +3,20 @@ use Rattle.std.proofs.Common.{◌≡◌, ◌≢◌, ℕ, zero, suc, ◌+◌, ◌
 use Rattle.std.proofs.lemmas.Bool.{cases_lt, cases_eq}
 use Rattle.std.proofs.lemmas.List.{get_or_past}
 use Rattle.shop_base.specs.Plan.{PlannedShop, jobs, steps, machine_of, clean, order, job_at, Visits, Stands, IsWellShaped}
-use Rattle.shop_base.specs.Cell.{Cell, JobState, MachineState, absent, unused, job_in, machine_in, made, ready, entries, cleaning, IsOutside, IsOn, IsFree}
+use Rattle.shop_base.specs.Cell.{Cell, MachineState, absent, unused, job_in, machine_in, made, ready, entries, cleaning, IsOutside, IsOn, IsFree}
+use Rattle.shop_base.specs.declared.job_state.JobState.{JobState}
 use Rattle.shop_base.specs.Activity.{Activity, Arrival, Operation, Cleaning, GoesOn}
 use Rattle.shop_base.specs.Report.{Report, IsTimely, CanReport, with_ready, with_clean, after_end, after_report}
 use Rattle.shop_base.specs.Move.{CanEnter, CanMove, IsPrefix, KeepsPlan, after_move}
 use Rattle.shop_base.specs.Run.{IsAtRest}
 use Rattle.shop_base.specs.Controlled.{AreMoves, after_moves, IsStep}
 use Rattle.shop_base.specs.Ends.{sum_below}
+use Rattle.shop_base.specs.Movers.{OnlyMoves, next_after_end}
 use Rattle.shop_base.specs.Sound.{IsSound}
 use Rattle.shop_base.proofs.Visits.{visits_job, on_or_not}
 use Rattle.shop_base.proofs.Changes.{IsMoved, IsReadied, IsTidied, moves_within, after_move-moved, with_ready-readied, with_clean-tidied}
 use Rattle.shop_base.proofs.Keeping.{target_place, after_report-sound, after_move-sound}
 use Rattle.shop_base.proofs.Decisions.{HasWay, timely_now, move_at, moves_or_not}
-
--- no job but j can move and keep the plan
-abbrev pub OnlyMoves : PlannedShop → Cell → ℕ → Type 0
-OnlyMoves p c j = (i t : ℕ) → CanMove p c i t → KeepsPlan p c i → i ≡ j
 
 -- a job to which nothing matters that differs between two cells can move in the one if it can in the other
 record LooksSame (p : PlannedShop) (new c : Cell) (i : ℕ) : Type 0 where
@@ -50,12 +48,6 @@ same_keeps : (p : PlannedShop) (new c : Cell) (i : ℕ) → LooksSame p new c i 
 same_keeps p new c i looks keeps m visits =
     subst (λ (es : List ℕ). IsPrefix (es ++ i ∷ []) (order p m)) (looks.entries_same m visits)
     (keeps m (subst (λ k. Visits p i k m) (sym (same_made new c i looks.job)) visits))
-
--- the job that can move after the end of an activity: that which became ready, or the next in the order of the machine that became clean
-abbrev pub next_after_end : PlannedShop → Cell → Activity → ℕ
-next_after_end p c (Arrival j) = j
-next_after_end p c (Operation j m) = j
-next_after_end p c (Cleaning m) = job_at p m (length (entries c m))
 
 -- from rest, once a job has become ready, no other can move
 pub only_readied-moves : (p : PlannedShop) (c new : Cell) (j t : ℕ) → IsSound p c → IsAtRest p c → IsReadied c j t new → OnlyMoves p new j

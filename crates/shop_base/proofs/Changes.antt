@@ -3,9 +3,11 @@ use Rattle.std.proofs.Common.{◌≡◌, ◌≢◌, ℕ, zero, suc, ◌+◌, ◌
 use Rattle.std.proofs.lemmas.Bool.{cases_eq}
 use Rattle.std.proofs.lemmas.List.{get_or_past}
 use Rattle.shop_base.specs.Plan.{PlannedShop, machine_of, steps, clean, Visits, IsWellShaped}
-use Rattle.shop_base.specs.Cell.{Cell, JobState, MachineState, absent, unused, job_in, made, ready, since, entries, cleaning, IsOn}
+use Rattle.shop_base.specs.Cell.{Cell, MachineState, absent, unused, job_in, made, ready, since, entries, cleaning, IsOn}
+use Rattle.shop_base.specs.declared.job_state.JobState.{JobState}
 use Rattle.shop_base.specs.Report.{with_ready, with_clean}
-use Rattle.shop_base.specs.Move.{Out, At, CanLeave, CanEnter, CanMove, source, source_after, target, with_departure, after_leaving, with_entry, with_moved, after_move}
+use Rattle.shop_base.specs.Move.{CanLeave, CanEnter, CanMove, source, source_after, target, with_departure, after_leaving, with_entry, with_moved, after_move}
+use Rattle.shop_base.specs.declared.move_order.Spot.TheVariants.{Out, At}
 use Rattle.shop_base.specs.Sound.{IsSound}
 use Rattle.shop_base.proofs.Visits.{visits_machine}
 

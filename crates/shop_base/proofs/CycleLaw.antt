@@ -3,7 +3,8 @@ use Rattle.std.proofs.Common.{◌≡◌, ℕ, ◌<◌, ◌≤◌, List, [], ◌�
 use Rattle.std.proofs.lemmas.Bool.{cases_eq, cases_lt}
 use Rattle.shop_base.specs.declared.node.Node.{Node}
 use Rattle.shop_base.specs.Plan.{PlannedShop, jobs, IsWellShaped}
-use Rattle.shop_base.specs.Cell.{Cell, JobState, made, start, IsGone}
+use Rattle.shop_base.specs.Cell.{Cell, made, start, IsGone}
+use Rattle.shop_base.specs.declared.job_state.JobState.{JobState}
 use Rattle.shop_base.specs.Move.{CanMove, KeepsPlan, after_move}
 use Rattle.shop_base.specs.Run.{Event, Reported, Moved, CanHappen, AreEvents, after, after_all, IsRun, ends_in}
 use Rattle.shop_base.specs.Graph.{HasArc, IsNode, IsSimpleCycle}

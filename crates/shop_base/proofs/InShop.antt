@@ -3,7 +3,8 @@ use Rattle.std.proofs.Common.{◌≡◌, ℕ, ◌<◌, Some, true, lt_of_not-le,
 use Rattle.std.proofs.lemmas.Bool.{cases_lt}
 use Rattle.std.proofs.lemmas.List.{get_or_past, get_or-replicate, length-replicate}
 use Rattle.shop_base.specs.Plan.{PlannedShop, jobs, machines}
-use Rattle.shop_base.specs.Cell.{Cell, JobState, MachineState, absent, unused, ready, machine_in, cleaning, start, IsOutside}
+use Rattle.shop_base.specs.Cell.{Cell, MachineState, absent, unused, ready, machine_in, cleaning, start, IsOutside}
+use Rattle.shop_base.specs.declared.job_state.JobState.{JobState}
 use Rattle.shop_base.specs.Sound.{IsSound}
 
 pub outside_in_shop : (p : PlannedShop) (c : Cell) (j : ℕ) → IsSound p c → IsOutside c j → j < jobs p

@@ -4,7 +4,8 @@ use Rattle.std.proofs.lemmas.Bool.{cases_lt, cases_eq}
 use Rattle.std.proofs.lemmas.List.{get_or_past, get_or-replicate, length-replicate}
 use Rattle.shop_base.specs.declared.node.Node.{Node}
 use Rattle.shop_base.specs.Plan.{PlannedShop, jobs, machines, steps, clean, budget, Stands, IsWellShaped}
-use Rattle.shop_base.specs.Cell.{Cell, JobState, MachineState, absent, unused, made, since, entries, cleaning, IsOn, start}
+use Rattle.shop_base.specs.Cell.{Cell, MachineState, absent, unused, made, since, entries, cleaning, IsOn, start}
+use Rattle.shop_base.specs.declared.job_state.JobState.{JobState}
 use Rattle.shop_base.specs.Activity.{Activity, Arrival, Operation, Cleaning, GoesOn}
 use Rattle.shop_base.specs.Report.{Report, with_ready, with_clean, after_end, after_report}
 use Rattle.shop_base.specs.Move.{CanMove, after_move}

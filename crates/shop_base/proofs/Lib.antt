@@ -3,6 +3,7 @@ pub mod Rows
 pub mod Marking
 pub mod Orders
 pub mod Cleanings
+pub mod Sizes
 pub mod Visits
 pub mod Changes
 pub mod Keeping
@@ -18,6 +19,8 @@ pub mod Sums
 pub mod Departures
 pub mod ReportsLeft
 pub mod ReadyCount
+pub mod CellFacts
+pub mod Appending
 pub mod StatedNumber
 pub mod LowerBounds
 pub mod JustInTime

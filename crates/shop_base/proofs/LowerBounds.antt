@@ -3,7 +3,8 @@ use Rattle.std.proofs.Common.{◌≡◌, ℕ, ◌+◌, ◌<◌, ◌≤◌, ◌�
 use Rattle.std.proofs.lemmas.Bool.{cases_lt, cases_eq}
 use Rattle.shop_base.specs.declared.node.Node.{Node}
 use Rattle.shop_base.specs.Plan.{PlannedShop, jobs, steps, nominal, release, clean, Visits, Stands, IsWellShaped}
-use Rattle.shop_base.specs.Cell.{Cell, JobState, MachineState, absent, unused, made, ready, since, entries, cleaning, start, IsOutside, IsOn}
+use Rattle.shop_base.specs.Cell.{Cell, MachineState, absent, unused, made, ready, since, entries, cleaning, start, IsOutside, IsOn}
+use Rattle.shop_base.specs.declared.job_state.JobState.{JobState}
 use Rattle.shop_base.specs.Activity.{Activity, Arrival, Operation, Cleaning, GoesOn}
 use Rattle.shop_base.specs.Report.{Report, CanReport, with_ready, with_clean, after_end, after_report}
 use Rattle.shop_base.specs.Punctual.{IsExact, AreExact}

@@ -5,7 +5,8 @@ use Rattle.std.proofs.lemmas.List.{get_or_past}
 use Rattle.shop_base.specs.declared.shop.Step.{Step}
 use Rattle.shop_base.specs.declared.node.Node.{Node}
 use Rattle.shop_base.specs.Plan.{PlannedShop, jobs, machines, steps, machine_of, release, nominal, clean, order, job_at, Stands, IsWellShaped}
-use Rattle.shop_base.specs.Cell.{Cell, JobState, MachineState, absent, unused, made, ready, since, entries, cleaning, IsGone, IsFree}
+use Rattle.shop_base.specs.Cell.{Cell, MachineState, absent, unused, made, ready, since, entries, cleaning, IsGone, IsFree}
+use Rattle.shop_base.specs.declared.job_state.JobState.{JobState}
 use Rattle.shop_base.specs.Activity.{Activity, Arrival, Operation, Cleaning, GoesOn, IsIdle}
 use Rattle.shop_base.specs.Move.{IsPrefix}
 use Rattle.shop_base.specs.Run.{IsAtRest, IsStuck}

@@ -1,13 +1,15 @@
 -- The ready jobs: a report makes at most one job ready, and each move uses up a job's readiness.
 use Rattle.std.proofs.Common.{◌≡◌, ℕ, ◌+◌, ◌<◌, ◌≤◌, List, [], ◌∷◌, length, true, false, cond, slice_index_or, ap, arith}
 use Rattle.shop_base.specs.Plan.{PlannedShop, jobs, IsWellShaped}
-use Rattle.shop_base.specs.Cell.{Cell, JobState, absent, ready, start}
+use Rattle.shop_base.specs.Cell.{Cell, absent, ready, start}
+use Rattle.shop_base.specs.declared.job_state.JobState.{JobState}
 use Rattle.shop_base.specs.Activity.{Activity, Arrival, Operation, Cleaning, GoesOn}
 use Rattle.shop_base.specs.Report.{Report, CanReport, with_ready, with_clean, after_end, after_report}
 use Rattle.shop_base.specs.Move.{CanMove, after_move}
 use Rattle.shop_base.specs.Run.{Event, Reported, Moved, AreEvents, after_all}
 use Rattle.shop_base.specs.Controlled.{AreMoves, after_moves}
-use Rattle.shop_base.specs.Ends.{sum_below, report_count, move_count}
+use Rattle.shop_base.specs.Ends.{report_count, move_count}
+use Rattle.shop_base.specs.Movers.{counted, ready_count}
 use Rattle.shop_base.specs.Sound.{IsSound}
 use Rattle.shop_base.proofs.Visits.{visits_job}
 use Rattle.shop_base.proofs.Changes.{IsMoved, IsReadied, IsTidied, after_move-moved, with_ready-readied, with_clean-tidied}
@@ -15,14 +17,6 @@ use Rattle.shop_base.proofs.Keeping.{after_report-sound, after_move-sound}
 use Rattle.shop_base.proofs.InShop.{outside_in_shop, ready_in_shop}
 use Rattle.shop_base.proofs.ControlledRuns.{start_not_ready}
 use Rattle.shop_base.proofs.Sums.{sum_below_same, sum_below_but, sum_below_zero}
-
--- 1 for a ready job
-abbrev pub counted : Cell → ℕ → ℕ
-counted c j = cond (ready c j) 1 0
-
--- how many jobs are ready
-abbrev pub ready_count : PlannedShop → Cell → ℕ
-ready_count p c = sum_below (counted c) (jobs p)
 
 is_counted : (c : Cell) (j : ℕ) → ready c j ≡ true → counted c j ≡ 1
 is_counted c j is_ready = ap (λ b. cond b 1 0) is_ready

@@ -3,7 +3,8 @@ use Rattle.std.proofs.Common.{◌≡◌, ℕ, ◌+◌, ◌-◌, ◌<◌, ◌≤�
 use Rattle.std.proofs.Math.Path.{fun_ext}
 use Rattle.std.proofs.lemmas.Bool.{cases_lt, cases_eq, cases_Bool}
 use Rattle.shop_base.specs.Plan.{PlannedShop, jobs, machines, steps, order, job_at, clean, Visits, IsWellShaped}
-use Rattle.shop_base.specs.Cell.{Cell, JobState, MachineState, absent, unused, job_in, made, ready, entries, cleaning, start, IsOn, IsFree, IsGone}
+use Rattle.shop_base.specs.Cell.{Cell, MachineState, absent, unused, job_in, made, ready, entries, cleaning, start, IsOn, IsFree, IsGone}
+use Rattle.shop_base.specs.declared.job_state.JobState.{JobState}
 use Rattle.shop_base.specs.Activity.{Activity, Arrival, Operation, Cleaning, GoesOn, IsIdle}
 use Rattle.shop_base.specs.Report.{Report, CanReport, with_ready, with_clean, after_end, after_report}
 use Rattle.shop_base.specs.Move.{CanMove, KeepsPlan, after_move}

@@ -4,7 +4,8 @@ use Rattle.std.proofs.lemmas.Bool.{and_parts}
 use Rattle.std.proofs.lemmas.Bool.Decides.{Decides-like, Decides-and, Decides-not, Decides-ltb, Decides-eqb}
 use Rattle.std.proofs.lemmas.List.{get_or_past}
 use Rattle.shop_base.specs.Plan.{PlannedShop, jobs, steps, machine_of}
-use Rattle.shop_base.specs.Cell.{Cell, JobState, MachineState, absent, unused, job_in, made, ready, cleaning, IsGone}
+use Rattle.shop_base.specs.Cell.{Cell, MachineState, absent, unused, job_in, made, ready, cleaning, IsGone}
+use Rattle.shop_base.specs.declared.job_state.JobState.{JobState}
 use Rattle.shop_base.specs.Activity.{Activity, Arrival, Operation, Cleaning, GoesOn, IsIdle}
 use Rattle.shop_base.specs.Report.{Report, after_report}
 use Rattle.shop_base.specs.Move.{CanMove, KeepsPlan, after_move}

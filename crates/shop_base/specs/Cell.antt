@@ -1,12 +1,7 @@
 use Rattle.std.specs.Prelude.{◌≡◌, ℕ, ◌+◌, ◌<◌, List, [], replicate, drop, slice_index_or, Option, None, Bool, false}
 use Rattle.shop_base.specs.declared.shop.Step.{Step}
+use Rattle.shop_base.specs.declared.job_state.JobState.{JobState}
 use Rattle.shop_base.specs.Plan.{PlannedShop, jobs, machines, route, steps, Visits}
-
--- a job in the cell: how many moves it has made, whether it is ready for the next, and the moment of its last move (0 before the first)
-pub record JobState : Type 0 where
-  pub made : ℕ
-  pub ready : Bool
-  pub since : ℕ
 
 -- a machine in the cell: the jobs that have entered it, in order, and since when it is being cleaned, if it is
 pub record MachineState : Type 0 where

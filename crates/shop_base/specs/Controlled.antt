@@ -2,7 +2,8 @@ use Rattle.std.specs.Prelude.{ℕ, List, [], ◌∷◌, ◌++◌}
 use Rattle.shop_base.specs.Plan.{PlannedShop}
 use Rattle.shop_base.specs.Cell.{Cell, start}
 use Rattle.shop_base.specs.Report.{Report, CanReport, after_report}
-use Rattle.shop_base.specs.Move.{MoveOrder, CanMove, KeepsPlan, after_move, order_for}
+use Rattle.shop_base.specs.Move.{CanMove, KeepsPlan, after_move, order_for}
+use Rattle.shop_base.specs.declared.move_order.MoveOrder.{MoveOrder}
 use Rattle.shop_base.specs.Run.{Event, Reported, Moved, IsAtRest}
 
 -- these jobs can move one after another, all at moment t, and each move keeps the plan

@@ -3,7 +3,7 @@ use Rattle.shop_base.specs.declared.node.Node.{Node}
 use Rattle.shop_base.specs.Plan.{PlannedShop, IsWellShaped}
 use Rattle.shop_base.specs.Cell.{Cell, start, made, since, IsGone}
 use Rattle.shop_base.specs.Report.{Report}
-use Rattle.shop_base.specs.Move.{MoveOrder}
+use Rattle.shop_base.specs.declared.move_order.MoveOrder.{MoveOrder}
 use Rattle.shop_base.specs.Run.{Event, Moved, IsRun, ends_in}
 use Rattle.shop_base.specs.Controlled.{IsControlledRun}
 use Rattle.shop_base.specs.Punctual.{AreExact}

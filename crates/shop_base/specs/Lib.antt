@@ -11,6 +11,7 @@ pub mod Run
 pub mod Controlled
 pub mod Punctual
 pub mod Ends
+pub mod Movers
 pub mod ReportsLeft
 pub mod Graph
 pub mod NodeText

@@ -1,12 +1,10 @@
 use Rattle.std.specs.Prelude.{◌≡◌, ℕ, zero, suc, ◌+◌, List, [], ◌∷◌, ◌++◌, slice_set, None, Some, true, false, nat_lt, if◌then◌else◌, ◌⊎◌}
+use Rattle.shop_base.specs.declared.move_order.Spot.{Spot}
+use Rattle.shop_base.specs.declared.move_order.Spot.TheVariants.{Out, At}
+use Rattle.shop_base.specs.declared.move_order.MoveOrder.{MoveOrder}
 use Rattle.shop_base.specs.Plan.{PlannedShop, steps, machine_of, clean, order, Visits}
 use Rattle.shop_base.specs.Cell.{Cell, made, ready, entries, cleaning, IsFree}
 use Rattle.shop_base.specs.Report.{IsTimely}
-
--- where a job is, or goes: out of the cell, or on a machine
-pub data Spot : Type 0 where
-  Out : Spot
-  At : (machine : ℕ) → Spot
 
 -- the machine of a job's last entry, out before the first
 abbrev pub source_after : PlannedShop → ℕ → ℕ → Spot
@@ -76,13 +74,6 @@ with_moved c j t = record {
 -- the cell after a move of job j at moment t: it leaves its source, comes to its target, and has made one more move
 abbrev pub after_move : PlannedShop → Cell → ℕ → ℕ → Cell
 after_move p c j t = with_moved (with_entry (after_leaving p c (source p c j) t) j (target p c j)) j t
-
--- an order to move: the job, where from, where to, and when
-pub record MoveOrder : Type 0 where
-  pub job : ℕ
-  pub source : Spot
-  pub target : Spot
-  pub at : ℕ
 
 -- the order that is job j's next move at moment t
 abbrev pub order_for : PlannedShop → Cell → ℕ → ℕ → MoveOrder

@@ -3,7 +3,8 @@ use Rattle.shop_base.specs.Plan.{PlannedShop, jobs}
 use Rattle.shop_base.specs.Cell.{Cell, start, IsGone}
 use Rattle.shop_base.specs.Activity.{IsIdle}
 use Rattle.shop_base.specs.Report.{Report, CanReport, after_report}
-use Rattle.shop_base.specs.Move.{MoveOrder, CanMove, KeepsPlan, CanObey, after_move}
+use Rattle.shop_base.specs.Move.{CanMove, KeepsPlan, CanObey, after_move}
+use Rattle.shop_base.specs.declared.move_order.MoveOrder.{MoveOrder}
 
 -- what happens in a run: a report, or a move that was ordered
 pub data Event : Type 0 where

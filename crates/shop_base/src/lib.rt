@@ -4,10 +4,13 @@
 //! moment 0. No call of this crate takes memory.
 #![tactic(auto)]
 
+mod job_state;
 pub mod laws;
 pub mod limits;
+mod move_order;
 mod node;
 mod plan;
+pub mod readers;
 mod shape_check;
 mod shape_fault;
 mod shaped;
@@ -15,6 +18,8 @@ mod shop;
 mod shop_fault;
 pub mod worked_runs;
 
+pub use job_state::JobState;
+pub use move_order::{MoveOrder, Spot};
 pub use node::Node;
 pub use plan::Plan;
 pub use shape_fault::ShapeFault;

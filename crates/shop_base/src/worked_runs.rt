@@ -11,7 +11,8 @@ ghost use Rattle.shop_base.specs.Cell.{Cell, start, since, ready, remaining_rout
 ghost use Rattle.shop_base.specs.Cell.{IsOn, IsFree, IsGone};
 ghost use Rattle.shop_base.specs.Activity.{Arrival, Operation, Cleaning, GoesOn};
 ghost use Rattle.shop_base.specs.Report.{CanReport};
-ghost use Rattle.shop_base.specs.Move.{Out, At, target, CanMove, CanObey, KeepsPlan};
+ghost use Rattle.shop_base.specs.Move.{target, CanMove, CanObey, KeepsPlan};
+ghost use Rattle.shop_base.specs.declared.move_order.Spot.TheVariants.{Out, At};
 ghost use Rattle.shop_base.specs.Run.{IsRun, IsAtRest, IsStuck};
 ghost use Rattle.shop_base.specs.Controlled.{IsStep, IsControlledRun};
 ghost use Rattle.shop_base.specs.Punctual.{IsPunctual, ArePunctual, AreExact};

@@ -1,6 +1,6 @@
 use Rattle.std.proofs.Common.{◌≡◌, ◌-◌, ◌+◌, arith, refl}
 use Rattle.shop_base.proofs.Visits.{visits_job, visits_machine}
-use Rattle.alt_graph.proofs.Limits.{steps_few}
+use Rattle.shop_base.proofs.Sizes.{steps_few}
 use Rattle.alt_graph.proofs.Standing.{first_free}
 use Rattle.alt_graph.proofs.sources.blocking_source.Goals as goal
 

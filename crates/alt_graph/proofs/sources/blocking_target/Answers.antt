@@ -1,7 +1,7 @@
 use Rattle.std.proofs.Common.{◌-◌, arith, refl}
 use Rattle.shop_base.specs.Plan.{clean}
 use Rattle.shop_base.proofs.Visits.{visits_machine}
-use Rattle.alt_graph.proofs.Limits.{order_few}
+use Rattle.shop_base.proofs.Sizes.{order_few}
 use Rattle.alt_graph.proofs.sources.blocking_target.Goals as goal
 
 pub overflow_add-place : goal.overflow_add-place

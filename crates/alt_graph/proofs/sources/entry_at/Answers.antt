@@ -2,7 +2,7 @@ use Rattle.std.proofs.Common.{◌≡◌, ℕ, ◌<◌, length, get_or, arith, ap
 use Rattle.std.proofs.lemmas.List.{get_or_read}
 use Rattle.shop_base.specs.Plan.{job_at, Stands}
 use Rattle.alt_graph.specs.Tables.{slot_of}
-use Rattle.alt_graph.proofs.Limits.{place_job}
+use Rattle.shop_base.proofs.Sizes.{place_job}
 use Rattle.alt_graph.proofs.Filling.{slot_inside}
 use Rattle.alt_graph.proofs.Standing.{entry_told}
 use Rattle.alt_graph.proofs.sources.entry_at.Goals as goal

@@ -1,5 +1,5 @@
 use Rattle.std.proofs.Common.{arith}
-use Rattle.alt_graph.proofs.Limits.{steps_few}
+use Rattle.shop_base.proofs.Sizes.{steps_few}
 use Rattle.alt_graph.proofs.sources.job_target.Goals as goal
 
 pub overflow_add-result : goal.overflow_add-result

@@ -1,7 +1,7 @@
 use Rattle.std.proofs.Common.{arith, length, ap, ◌<◌, ◌≡◌, ◌∙◌}
 use Rattle.shop_base.specs.Plan.{order, job_at}
 use Rattle.alt_graph.specs.Tables.{slot_of, HasSlots}
-use Rattle.alt_graph.proofs.Limits.{order_few, place_job}
+use Rattle.shop_base.proofs.Sizes.{order_few, place_job}
 use Rattle.alt_graph.proofs.Filling.{places_more, places_others, slot_inside}
 use Rattle.alt_graph.proofs.tables.note_places.Goals as goal
 

@@ -1,5 +1,5 @@
 use Rattle.std.proofs.Common.{arith, length, ap}
-use Rattle.alt_graph.proofs.Limits.{steps_few}
+use Rattle.shop_base.proofs.Sizes.{steps_few}
 use Rattle.alt_graph.proofs.tables.note_steps.Goals as goal
 
 pub overflow_cast-steps : goal.overflow_cast-steps

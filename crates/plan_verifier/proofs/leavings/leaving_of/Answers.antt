@@ -1,5 +1,5 @@
 use Rattle.std.proofs.Common.{arith, length, ap}
-use Rattle.alt_graph.proofs.Limits.{steps_few}
+use Rattle.shop_base.proofs.Sizes.{steps_few}
 use Rattle.plan_verifier.proofs.leavings.leaving_of.Goals as goal
 
 pub overflow_cast-result : goal.overflow_cast-result

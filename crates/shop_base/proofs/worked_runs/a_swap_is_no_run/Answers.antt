@@ -1,7 +1,7 @@
 use Rattle.std.proofs.Common.{◌++◌, refl}
 use Rattle.std.proofs.lemmas.Bool.Decides.{not_from_Decides}
 use Rattle.shop_base.specs.Cell.{start}
-use Rattle.shop_base.specs.Move.{At}
+use Rattle.shop_base.specs.declared.move_order.Spot.TheVariants.{At}
 use Rattle.shop_base.specs.Examples.{crossed, go, exchange, crossed_log, crossed_end}
 use Rattle.shop_base.proofs.CellTests.{events_decides, obey_decides, keeps_decides}
 use Rattle.shop_base.proofs.RunTests.{rest_decides}

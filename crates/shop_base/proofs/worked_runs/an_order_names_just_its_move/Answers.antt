@@ -5,7 +5,7 @@ use Rattle.shop_base.specs.declared.shop.Step.{Step}
 use Rattle.shop_base.specs.Shop.{step_at, no_step}
 use Rattle.shop_base.specs.Plan.{route}
 use Rattle.shop_base.specs.Cell.{made}
-use Rattle.shop_base.specs.Move.{Out, At}
+use Rattle.shop_base.specs.declared.move_order.Spot.TheVariants.{Out, At}
 use Rattle.shop_base.specs.Examples.{target_on, in_series, go, series_after}
 use Rattle.shop_base.proofs.CellTests.{obey_decides, keeps_decides}
 use Rattle.shop_base.proofs.worked_runs.an_order_names_just_its_move.Goals as goal

@@ -2,7 +2,7 @@ use Rattle.std.proofs.Common.{[], ◌∷◌, Some, refl, subst}
 use Rattle.std.proofs.lemmas.Bool.Decides.{not_from_Decides}
 use Rattle.shop_base.specs.Cell.{start}
 use Rattle.shop_base.specs.Activity.{Cleaning, GoesOn}
-use Rattle.shop_base.specs.Move.{Out, At}
+use Rattle.shop_base.specs.declared.move_order.Spot.TheVariants.{Out, At}
 use Rattle.shop_base.specs.Examples.{with_cleaning, go, cleaned_reports, cleaned_log, cleaned_after, cleaned_end}
 use Rattle.shop_base.proofs.CellTests.{events_decides, obey_decides, keeps_decides, going_decides, free_decides, due-is}
 use Rattle.shop_base.proofs.RunTests.{turns_lead, all_exact_decides, rest_decides, ended_decides, gone_decides}

@@ -1,14 +1,15 @@
-//! The routes and orders of a planned shop.
+//! The routes, orders and times of a planned shop, one at a time.
 
 ghost use Rattle.std.specs.Prelude.{◌≡◌, ◌<◌, ◌≤◌, MatchOption, IfSome};
 ghost use Rattle.shop_base.specs.Shop.{step_at};
 ghost use Rattle.shop_base.specs.Plan.{jobs, machines, route, steps, order, release, clean, Visits, IsWellShaped};
 
-use shop_base::limits::{MAX_JOBS, MAX_MACHINES};
-use shop_base::{JobNo, MachineNo, Moment, Shaped, Step};
+use crate::limits::{MAX_JOBS, MAX_MACHINES};
+use crate::shaped::Shaped;
+use crate::shop::{JobNo, MachineNo, Moment, Step};
 
 /// How many jobs there are.
-pub(crate) fn job_count(shaped: &Shaped) -> u32
+pub fn job_count(shaped: &Shaped) -> u32
     ensures count { result ≡ jobs shaped.now }
     ensures few { result ≤ MAX_JOBS }
     ensures well_shaped { IsWellShaped shaped.now }
@@ -17,7 +18,7 @@ pub(crate) fn job_count(shaped: &Shaped) -> u32
 }
 
 /// How many machines there are.
-pub(crate) fn machine_count(shaped: &Shaped) -> u32
+pub fn machine_count(shaped: &Shaped) -> u32
     ensures count { result ≡ machines shaped.now }
     ensures few { result ≤ MAX_MACHINES }
     ensures well_shaped { IsWellShaped shaped.now }
@@ -26,7 +27,7 @@ pub(crate) fn machine_count(shaped: &Shaped) -> u32
 }
 
 /// The job's route.
-pub(crate) fn route_of(shaped: &Shaped, job: JobNo) -> &[Step]
+pub fn route_of(shaped: &Shaped, job: JobNo) -> &[Step]
     requires { job < jobs shaped.now }
     ensures route { result.now ≡ route shaped.now job }
     ensures well_shaped { IsWellShaped shaped.now }
@@ -37,8 +38,18 @@ pub(crate) fn route_of(shaped: &Shaped, job: JobNo) -> &[Step]
     }
 }
 
-/// The step of a job at a place of its route.
-pub(crate) fn step_of(shaped: &Shaped, job: JobNo, place: u32) -> Option<Step>
+/// How many steps the job has.
+pub fn step_count(shaped: &Shaped, job: JobNo) -> u32
+    requires { job < jobs shaped.now }
+    ensures count { result ≡ steps shaped.now job }
+    ensures few { result ≤ MAX_MACHINES }
+    ensures well_shaped { IsWellShaped shaped.now }
+{
+    route_of(shaped, job).len() as u32
+}
+
+/// The step of a job at a place of its route, none past its end.
+pub fn step_of(shaped: &Shaped, job: JobNo, place: u32) -> Option<Step>
     ensures none { MatchOption result (steps shaped.now job ≤ place) (λ step. place < steps shaped.now job) }
     ensures same { IfSome result (λ step. step ≡ step_at (route shaped.now job) place) }
     ensures well_shaped { IsWellShaped shaped.now }
@@ -46,8 +57,8 @@ pub(crate) fn step_of(shaped: &Shaped, job: JobNo, place: u32) -> Option<Step>
     shaped.shop().route(job)?.get(place as usize).copied()
 }
 
-/// The machine of that step.
-pub(crate) fn machine_at(shaped: &Shaped, job: JobNo, place: u32) -> Option<MachineNo>
+/// The machine of that step, none past the end of the route.
+pub fn machine_at(shaped: &Shaped, job: JobNo, place: u32) -> Option<MachineNo>
     ensures machine { MatchOption result (steps shaped.now job ≤ place) (Visits shaped.now job place) }
     ensures well_shaped { IsWellShaped shaped.now }
 {
@@ -56,7 +67,7 @@ pub(crate) fn machine_at(shaped: &Shaped, job: JobNo, place: u32) -> Option<Mach
 }
 
 /// The machine's order.
-pub(crate) fn order_of(shaped: &Shaped, machine: MachineNo) -> &[JobNo]
+pub fn order_of(shaped: &Shaped, machine: MachineNo) -> &[JobNo]
     requires { machine < machines shaped.now }
     ensures order { result.now ≡ order shaped.now machine }
     ensures well_shaped { IsWellShaped shaped.now }
@@ -64,8 +75,8 @@ pub(crate) fn order_of(shaped: &Shaped, machine: MachineNo) -> &[JobNo]
     shaped.plan().order[machine as usize].as_slice()
 }
 
-/// The job's release.
-pub(crate) fn release_of(shaped: &Shaped, job: JobNo) -> Moment
+/// The latest moment at which the job arrives.
+pub fn release_of(shaped: &Shaped, job: JobNo) -> Moment
     requires { job < jobs shaped.now }
     ensures release { result ≡ release shaped.now job }
     ensures well_shaped { IsWellShaped shaped.now }
@@ -73,8 +84,8 @@ pub(crate) fn release_of(shaped: &Shaped, job: JobNo) -> Moment
     shaped.plan().release[job as usize]
 }
 
-/// The machine's cleaning time.
-pub(crate) fn clean_of(shaped: &Shaped, machine: MachineNo) -> Moment
+/// The machine's cleaning time, 0 in a plan without cleaning.
+pub fn clean_of(shaped: &Shaped, machine: MachineNo) -> Moment
     requires { machine < machines shaped.now }
     ensures { result ≡ clean shaped.now machine }
 {
