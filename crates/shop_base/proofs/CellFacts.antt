@@ -3,14 +3,14 @@ use Rattle.std.proofs.Common.{◌≡◌, ℕ, zero, suc, ◌+◌, ◌<◌, ◌�
 use Rattle.std.proofs.lemmas.Bool.{cases_lt}
 use Rattle.shop_base.specs.declared.move_order.Spot.TheVariants.{Out, At}
 use Rattle.shop_base.specs.Plan.{PlannedShop, jobs, steps, machine_of, nominal, order, job_at, Visits, IsWellShaped}
-use Rattle.shop_base.specs.Cell.{Cell, job_in, made, ready, since, entries, cleaning, IsOutside, IsOn, IsFree}
+use Rattle.shop_base.specs.Cell.{Cell, job_in, made, ready, since, entries, cleaning, IsOutside, IsOn, IsGone, IsFree}
 use Rattle.shop_base.specs.Activity.{Activity, Arrival, Operation, Cleaning, GoesOn}
 use Rattle.shop_base.specs.Report.{Report, after_end, after_report}
-use Rattle.shop_base.specs.Move.{KeepsPlan, source, target}
+use Rattle.shop_base.specs.Move.{KeepsPlan, spot_after, source, target}
 use Rattle.shop_base.specs.Run.{IsAtRest}
 use Rattle.shop_base.specs.Movers.{OnlyMoves, counted, ready_count, due_after, due_of_job, due_of_cleaning}
 use Rattle.shop_base.specs.Sound.{IsSound}
-use Rattle.shop_base.proofs.Visits.{visits-stands}
+use Rattle.shop_base.proofs.Visits.{visits-stands, stop_at, stop_past}
 use Rattle.shop_base.proofs.Cleanings.{sum_below-le}
 use Rattle.shop_base.proofs.Keeping.{target_place}
 
@@ -30,30 +30,24 @@ left_free p c m a shaped sound newest off j k on =
 
 -- the target is the machine of the next step
 pub target_visited : (p : PlannedShop) (c : Cell) (j m : ℕ) → Visits p j (made c j) m → target p c j ≡ At m
-target_visited p c j m visits = rw (lt-ltb (made c j) (steps p j) visits.within) (ap At visits.here)
-
--- where the target is a machine, it is that of the next step
-pub visits_target : (p : PlannedShop) (c : Cell) (j m : ℕ) → target p c j ≡ At m → Visits p j (made c j) m
-visits_target p c j m is = go (nat_lt (made c j) (steps p j)) refl is
-  where
-    go : (b : Bool) → nat_lt (made c j) (steps p j) ≡ b → (if b then At (machine_of p j (made c j)) else Out) ≡ At m → Visits p j (made c j) m
-    go true within at = record { within = ltb-true (made c j) (steps p j) within; here = cc }
-    go false past at = absurd (cc)
+target_visited p c j m visits = stop_at p j (made c j) m visits
 
 -- a job with no step left goes out
 pub target_out : (p : PlannedShop) (c : Cell) (j : ℕ) → steps p j ≤ made c j → target p c j ≡ Out
-target_out p c j past = rw (le-ltb (made c j) (steps p j) past) refl
+target_out p c j past = stop_past p j (made c j) past
 
--- where the target is out, no step is left
-pub out_target : (p : PlannedShop) (c : Cell) (j : ℕ) → target p c j ≡ Out → steps p j ≤ made c j
-out_target p c j is = go (cases_lt (made c j) (steps p j))
+-- where the target is a machine, it is that of the next step
+pub visits_target : (p : PlannedShop) (c : Cell) (j m : ℕ) → target p c j ≡ At m → Visits p j (made c j) m
+visits_target p c j m is = elim (cases_lt (made c j) (steps p j)) [
+  | inl within ↦ record { within = within; here = same (target_visited p c j (machine_of p j (made c j)) (record { within = within; here = refl })) }
+  | inr past ↦ absurd (differ (target_out p c j past))
+]
   where
-    go : (made c j < steps p j) ⊎ (steps p j ≤ made c j) → steps p j ≤ made c j
-    go (inr past) = past
-    go (inl within) = absurd (differ (target_visited p c j (machine_of p j (made c j)) (record { within = within; here = refl })))
-      where
-        differ : target p c j ≡ At (machine_of p j (made c j)) → ⊥
-        differ at = cc
+    same : target p c j ≡ At (machine_of p j (made c j)) → machine_of p j (made c j) ≡ m
+    same at = cc
+
+    differ : target p c j ≡ Out → ⊥
+    differ out = cc
 
 -- the source of a job outside
 pub source_outside : (p : PlannedShop) (c : Cell) (j : ℕ) → IsOutside c j → source p c j ≡ Out
@@ -63,7 +57,15 @@ source_outside p c j outside = rw outside refl
 pub source_on : (p : PlannedShop) (c : Cell) (j k m : ℕ) → IsOn p c j k m → source p c j ≡ At m
 source_on p c j k m on =
     let entered : made c j ≡ suc k = omega (arith, on.entered) in
-    rw entered (ap At on.visits.here)
+    rw entered (stop_at p j k m on.visits)
+
+-- a job that is gone has no source on a machine
+pub source_gone : (p : PlannedShop) (c : Cell) (j : ℕ) → IsGone p c j → source p c j ≡ Out
+source_gone p c j gone = go (made c j) refl
+  where
+    go : (n : ℕ) → made c j ≡ n → spot_after p j n ≡ Out
+    go zero is = refl
+    go (suc k) is = stop_past p j k (omega arith)
 
 -- where all jobs of its order have entered a machine, nobody is next
 pub none_next : (p : PlannedShop) (c : Cell) (j m : ℕ) → length (order p m) ≤ length (entries c m) → Visits p j (made c j) m → KeepsPlan p c j → ⊥

@@ -12,7 +12,7 @@ use Rattle.shop_base.specs.declared.move_order.MoveOrder.{MoveOrder}
 use Rattle.shop_base.specs.declared.move_order.Spot.{Spot}
 use Rattle.shop_base.specs.declared.move_order.Spot.TheVariants.{Out, At}
 use Rattle.shop_base.specs.Run.{Event, Reported, Moved, CanHappen, after, AreEvents}
-use Rattle.shop_base.proofs.Visits.{visits_job}
+use Rattle.shop_base.proofs.Visits.{visits_job, leaves_past, past_leaves}
 
 -- whether the test passes at each number below n
 abbrev pub all_below : (ℕ → Bool) → ℕ → Bool
@@ -91,21 +91,21 @@ enter_decides p c j m = Decides-like (enter_test p c j m) can_enter could_enter
 
 -- whether job j can leave, or can enter its next machine
 abbrev pub way_test : PlannedShop → Cell → ℕ → Bool
-way_test p c j = eqb (made c j) (steps p j) || enter_test p c j (machine_of p j (made c j))
+way_test p c j = leb (steps p j) (made c j) || enter_test p c j (machine_of p j (made c j))
 
 pub way_decides : (p : PlannedShop) (c : Cell) (j : ℕ) → Decides (way_test p c j) (CanLeave p c j ⊎ ((m : ℕ) × CanEnter p c j m))
 way_decides p c j = Decides-like (way_test p c j) has_way had_way
-    (Decides-or (eqb (made c j) (steps p j)) (enter_test p c j next) (Decides-eqb (made c j) (steps p j)) (enter_decides p c j next))
+    (Decides-or (leb (steps p j) (made c j)) (enter_test p c j next) (leb_decides (steps p j) (made c j)) (enter_decides p c j next))
   where
     next : ℕ
     next = machine_of p j (made c j)
 
-    has_way : (made c j ≡ steps p j) ⊎ CanEnter p c j next → CanLeave p c j ⊎ ((m : ℕ) × CanEnter p c j m)
-    has_way (inl leaves) = inl leaves
+    has_way : (steps p j ≤ made c j) ⊎ CanEnter p c j next → CanLeave p c j ⊎ ((m : ℕ) × CanEnter p c j m)
+    has_way (inl past) = inl (past_leaves p c j past)
     has_way (inr enters) = inr (next, enters)
 
-    had_way : CanLeave p c j ⊎ ((m : ℕ) × CanEnter p c j m) → (made c j ≡ steps p j) ⊎ CanEnter p c j next
-    had_way (inl leaves) = inl leaves
+    had_way : CanLeave p c j ⊎ ((m : ℕ) × CanEnter p c j m) → (steps p j ≤ made c j) ⊎ CanEnter p c j next
+    had_way (inl leaves) = inl (leaves_past p c j leaves)
     had_way (inr (m, enters)) = inr (subst (CanEnter p c j) (sym enters.next.here) enters)
 
 abbrev pub timely_test : Cell → ℕ → Bool

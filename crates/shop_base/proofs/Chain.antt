@@ -13,7 +13,7 @@ use Rattle.shop_base.specs.Controlled.{AreMoves, after_moves, IsStep}
 use Rattle.shop_base.specs.Ends.{sum_below}
 use Rattle.shop_base.specs.Movers.{OnlyMoves, next_after_end}
 use Rattle.shop_base.specs.Sound.{IsSound}
-use Rattle.shop_base.proofs.Visits.{visits_job, on_or_not}
+use Rattle.shop_base.proofs.Visits.{visits_job, on_or_not, leaves_past, past_leaves}
 use Rattle.shop_base.proofs.Changes.{IsMoved, IsReadied, IsTidied, moves_within, after_move-moved, with_ready-readied, with_clean-tidied}
 use Rattle.shop_base.proofs.Keeping.{target_place, after_report-sound, after_move-sound}
 use Rattle.shop_base.proofs.Decisions.{HasWay, timely_now, move_at, moves_or_not}
@@ -39,7 +39,7 @@ same_can p new c i t sound looks can = record {
     is = same_made new c i looks.job
 
     go : HasWay p new i → HasWay p c i
-    go (inl leaves) = inl (sym is ∙ leaves)
+    go (inl leaves) = inl (past_leaves p c i (omega (arith, is, leaves_past p new i leaves)))
     go (inr (m, enters)) =
         let next : Visits p i (made c i) m = subst (λ k. Visits p i k m) is enters.next in
         inr (m, record { next = next; free = looks.free m next enters.free; is_clean = looks.is_clean m next enters.is_clean })
@@ -93,7 +93,7 @@ only_next_in-moves p c new m t sound rest tidied i u can keeps = go can.way
     enters_at n visits (inr other) = absurd (still λ o there is. other (sym visits.here ∙ ap (machine_of p i) (same_made new c i (job_same i)) ∙ there.here ∙ is))
 
     go : HasWay p new i → i ≡ job_at p m (length (entries c m))
-    go (inl leaves) = absurd (still λ n visits is. omega (arith, visits.within, same_made new c i (job_same i)))
+    go (inl leaves) = absurd (still λ n visits is. omega (arith, visits.within, same_made new c i (job_same i), leaves_past p new i leaves))
     go (inr (n, enters)) = enters_at n enters.next (cases_eq n m)
 
 -- from rest, after a possible report only one job can move
@@ -182,9 +182,9 @@ moved-next p c new j t i u sound only moved can keeps = go can.way
     go : HasWay p new i → IsNextAfter p c j i
     go (inl leaves) = absurd (still (record {
       job = moved.others i another;
-      entries_same = λ m visits. absurd (omega (arith, is, visits.within));
-      free = λ m visits free. absurd (omega (arith, is, visits.within));
-      is_clean = λ m visits clear. absurd (omega (arith, is, visits.within));
+      entries_same = λ m visits. absurd (omega (arith, is, visits.within, leaves_past p new i leaves));
+      free = λ m visits free. absurd (omega (arith, is, visits.within, leaves_past p new i leaves));
+      is_clean = λ m visits clear. absurd (omega (arith, is, visits.within, leaves_past p new i leaves));
     }))
     go (inr (m, enters)) = enters_at m enters (on_or_not p c j m)
 
@@ -273,7 +273,7 @@ move-left : (p : PlannedShop) (c new : Cell) (j t : ℕ) → IsSound p c → Can
 unfolding moves_left
 move-left p c new j t sound can moved =
     sum_falls (λ i. steps p i + 1 - made c i) (λ i. steps p i + 1 - made new i) (jobs p) j (move-inside p c j t sound can)
-    (omega (arith, moved.made_mine, moves_within p c j t can))
+    (omega (arith, moved.made_mine, moves_within p c j t sound can))
     λ i other. ap (λ n. steps p i + 1 - n) (same_made new c i (moved.others i other))
 
 -- where only j could move and it can't, the cell is at rest

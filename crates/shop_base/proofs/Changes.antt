@@ -1,15 +1,15 @@
 -- What a move and a report change, reader by reader: all later proofs take these records, and never unfold a write.
-use Rattle.std.proofs.Common.{◌≡◌, ◌≢◌, ℕ, zero, suc, ◌+◌, ◌<◌, ◌≤◌, List, [], ◌∷◌, ◌++◌, length, Some, None, Bool, true, false, refl, ap, sym, ◌∙◌, arith, set, get_or, nat_lt, if◌then◌else◌, slice_set, length-set, get_or-set_same, get_or-set_other, lt_of_not-le, ltb-true, ltb-false, inl, inr, ◌⊎◌}
-use Rattle.std.proofs.lemmas.Bool.{cases_eq}
+use Rattle.std.proofs.Common.{◌≡◌, ◌≢◌, ℕ, zero, suc, ◌+◌, ◌<◌, ◌≤◌, List, [], ◌∷◌, ◌++◌, length, drop, Some, None, Bool, true, false, refl, ap, sym, ◌∙◌, arith, set, get_or, nat_lt, if◌then◌else◌, slice_set, length-set, get_or-set_same, get_or-set_other, lt_of_not-le, ltb-true, ltb-false, inl, inr, ◌⊎◌}
+use Rattle.std.proofs.lemmas.Bool.{cases_eq, cases_lt}
 use Rattle.std.proofs.lemmas.List.{get_or_past}
-use Rattle.shop_base.specs.Plan.{PlannedShop, machine_of, steps, clean, Visits, IsWellShaped}
-use Rattle.shop_base.specs.Cell.{Cell, MachineState, absent, unused, job_in, made, ready, since, entries, cleaning, IsOn}
+use Rattle.shop_base.specs.Plan.{PlannedShop, route, machine_of, steps, clean, Visits, IsWellShaped}
+use Rattle.shop_base.specs.Cell.{Cell, MachineState, absent, unused, job_in, machine_in, with_machine, made, ready, since, entries, cleaning, IsOn}
 use Rattle.shop_base.specs.declared.job_state.JobState.{JobState}
 use Rattle.shop_base.specs.Report.{with_ready, with_clean}
-use Rattle.shop_base.specs.Move.{CanLeave, CanEnter, CanMove, source, source_after, target, with_departure, after_leaving, with_entry, with_moved, after_move}
+use Rattle.shop_base.specs.Move.{first_stop, spot_after, source, target, CanMove, after_leaving, with_entry, with_moved, after_move}
 use Rattle.shop_base.specs.declared.move_order.Spot.TheVariants.{Out, At}
 use Rattle.shop_base.specs.Sound.{IsSound}
-use Rattle.shop_base.proofs.Visits.{visits_machine}
+use Rattle.shop_base.proofs.Visits.{visits_machine, stop_at, stop_past}
 
 -- new is c after a move of job j at moment t
 pub record IsMoved (p : PlannedShop) (c : Cell) (j t : ℕ) (new : Cell) : Type 0 where
@@ -62,13 +62,11 @@ record IsDeparted (p : PlannedShop) (c : Cell) (m t : ℕ) (new : Cell) : Type 0
   cleaning_elsewhere : (n : ℕ) → n ≢ m → cleaning new n ≡ cleaning c n
   machine_count : length new.machines ≡ length c.machines
 
-with_departure-departed : (p : PlannedShop) (c : Cell) (m t : ℕ) → m < length c.machines → IsDeparted p c m t (with_departure p c m t)
-with_departure-departed p c m t inside = go (nat_lt 0 (clean p m)) refl
+after_leaving-departed : (p : PlannedShop) (c : Cell) (m t : ℕ) → m < length c.machines → IsDeparted p c m t (after_leaving p c (At m) t)
+after_leaving-departed p c m t inside = go (nat_lt 0 (clean p m)) refl
   where
     go : (b : Bool) → nat_lt 0 (clean p m) ≡ b
-        → IsDeparted p c m t (if b
-        then (record { jobs = c.jobs; machines = slice_set c.machines m (record { entries = entries c m; cleaning = Some t }); last = c.last })
-        else c)
+        → IsDeparted p c m t (if b then with_machine c m (record (machine_in c m) { cleaning = Some t }) else c)
     go true is = record {
       jobs_same = refl;
       entries_same = set-keeps (λ (x : MachineState). x.entries) c.machines m _ unused inside refl;
@@ -95,7 +93,7 @@ record IsLeft (p : PlannedShop) (c : Cell) (j n t : ℕ) (new : Cell) : Type 0 w
   cleaning_elsewhere : (m : ℕ) → ((k : ℕ) → n ≡ k + 1 → Visits p j k m → ⊥) → cleaning new m ≡ cleaning c m
   machine_count : length new.machines ≡ length c.machines
 
-after_leaving-left : (p : PlannedShop) (c : Cell) (j n t : ℕ) → ((k : ℕ) → n ≡ k + 1 → (k < steps p j) × (machine_of p j k < length c.machines)) → IsLeft p c j n t (after_leaving p c (source_after p j n) t)
+after_leaving-left : (p : PlannedShop) (c : Cell) (j n t : ℕ) → ((k : ℕ) → n ≡ k + 1 → (k < steps p j) × (machine_of p j k < length c.machines)) → IsLeft p c j n t (after_leaving p c (spot_after p j n) t)
 after_leaving-left p c j zero t inside = record {
   jobs_same = refl;
   entries_same = λ m. refl;
@@ -104,20 +102,20 @@ after_leaving-left p c j zero t inside = record {
   cleaning_elsewhere = λ m off. refl;
   machine_count = refl;
 }
-after_leaving-left p c j (suc k) t inside = record {
+after_leaving-left p c j (suc k) t inside = rw (stop_at p j k (machine_of p j k) (record { within = (inside k (omega arith)).0; here = refl })) (record {
   jobs_same = departed.jobs_same;
   entries_same = departed.entries_same;
   cleaning_begins = λ l m is visits timed. departed.cleaning_begins m (here l m is visits) timed;
   cleaning_needless = λ l m is visits needless. departed.cleaning_needless m (here l m is visits) needless;
   cleaning_elsewhere = λ m off. departed.cleaning_elsewhere m λ same. off k (omega arith) (record { within = (inside k (omega arith)).0; here = sym same });
   machine_count = departed.machine_count;
-}
+})
   where
     here : (l m : ℕ) → suc k ≡ l + 1 → Visits p j l m → m ≡ machine_of p j k
     here l m is visits = let same : k ≡ l = omega arith in sym (ap (machine_of p j) same ∙ visits.here)
 
-    departed : IsDeparted p c (machine_of p j k) t (with_departure p c (machine_of p j k) t)
-    departed = with_departure-departed p c (machine_of p j k) t (inside k (omega arith)).1
+    departed : IsDeparted p c (machine_of p j k) t (after_leaving p c (At (machine_of p j k)) t)
+    departed = after_leaving-departed p c (machine_of p j k) t (inside k (omega arith)).1
 
 -- what coming to its target changes, for a job that has made n moves
 record IsEntered (p : PlannedShop) (c : Cell) (j n : ℕ) (new : Cell) : Type 0 where
@@ -128,36 +126,38 @@ record IsEntered (p : PlannedShop) (c : Cell) (j n : ℕ) (new : Cell) : Type 0 
   machine_count : length new.machines ≡ length c.machines
 
 with_entry-entered : (p : PlannedShop) (c : Cell) (j n : ℕ) → (n < steps p j → machine_of p j n < length c.machines)
-    → IsEntered p c j n (with_entry c j (if nat_lt n (steps p j) then At (machine_of p j n) else Out))
-with_entry-entered p c j n inside = go (nat_lt n (steps p j)) refl
+    → IsEntered p c j n (with_entry c j (first_stop (drop n (route p j))))
+with_entry-entered p c j n inside = go (cases_lt n (steps p j))
   where
     entered : n < steps p j → (m : ℕ) → m ≡ machine_of p j n → entries (with_entry c j (At (machine_of p j n))) m ≡ entries c m ++ j ∷ []
     entered within m same = rw same (ap (λ (x : MachineState). x.entries) (get_or-set_same c.machines (machine_of p j n) _ unused (inside within)))
 
-    go : (b : Bool) → nat_lt n (steps p j) ≡ b → IsEntered p c j n (with_entry c j (if b then At (machine_of p j n) else Out))
-    go true is = record {
+    go : (n < steps p j) ⊎ (steps p j ≤ n) → IsEntered p c j n (with_entry c j (first_stop (drop n (route p j))))
+    go (inl within) = rw (stop_at p j n (machine_of p j n) (record { within = within; here = refl })) (record {
       jobs_same = refl;
-      entered = λ m visits. entered (ltb-true n (steps p j) is) m (sym visits.here);
+      entered = λ m visits. entered within m (sym visits.here);
       not_entered = λ m off. ap (λ (x : MachineState). x.entries)
-          (get_or-set_other c.machines (machine_of p j n) m _ unused λ same. off (record { within = ltb-true n (steps p j) is; here = sym same }));
-      cleaning_same = set-keeps (λ (x : MachineState). x.cleaning) c.machines (machine_of p j n) _ unused (inside (ltb-true n (steps p j) is)) refl;
+          (get_or-set_other c.machines (machine_of p j n) m _ unused λ same. off (record { within = within; here = sym same }));
+      cleaning_same = set-keeps (λ (x : MachineState). x.cleaning) c.machines (machine_of p j n) _ unused (inside within) refl;
       machine_count = length-set c.machines (machine_of p j n) _;
-    }
-    go false is = record {
+    })
+    go (inr past) = rw (stop_past p j n past) (record {
       jobs_same = refl;
-      entered = λ m visits. absurd (omega (arith, visits.within, ltb-false n (steps p j) is));
+      entered = λ m visits. absurd (omega (arith, visits.within));
       not_entered = λ m off. refl;
       cleaning_same = λ m. refl;
       machine_count = refl;
-    }
+    })
 
 -- a job that can move has no more moves behind it than its route has steps
-pub moves_within : (p : PlannedShop) (c : Cell) (j t : ℕ) → CanMove p c j t → made c j ≤ steps p j
-moves_within p c j t can = go can.way
+pub moves_within : (p : PlannedShop) (c : Cell) (j t : ℕ) → IsSound p c → CanMove p c j t → made c j ≤ steps p j
+moves_within p c j t sound can = elim (cases_lt (steps p j) (made c j)) [
+  | inl gone ↦ absurd (none (sound.gone_not_ready j gone))
+  | inr within ↦ within
+]
   where
-    go : CanLeave p c j ⊎ ((m : ℕ) × CanEnter p c j m) → made c j ≤ steps p j
-    go (inl leaves) = omega arith
-    go (inr (m, enters)) = omega (arith, enters.next.within)
+    none : ready c j ≡ false → ⊥
+    none idle = let is_ready = can.is_ready in cc
 
 -- only a job of the list can move
 movable-inside : (p : PlannedShop) (c : Cell) (j t : ℕ) → CanMove p c j t → j < length c.jobs
@@ -204,7 +204,7 @@ after_move-moved p c j t shaped sound can =
     inside k within = omega (arith, sound.machine_count, visits_machine p j k (machine_of p j k) shaped (record { within = within; here = refl }))
 
     before : (k : ℕ) → made c j ≡ k + 1 → k < steps p j
-    before k is = omega (arith, moves_within p c j t can)
+    before k is = omega (arith, moves_within p c j t sound can)
 
     leaves : IsLeft p c j (made c j) t (after_leaving p c (source p c j) t)
     leaves = after_leaving-left p c j (made c j) t λ k is. (before k is, inside k (before k is))

@@ -8,7 +8,7 @@ use Rattle.shop_base.specs.Activity.{Activity, Arrival, Operation, Cleaning, Goe
 use Rattle.shop_base.specs.Report.{Report, IsTimely, CanReport}
 use Rattle.shop_base.specs.Move.{CanLeave, CanEnter, CanMove, IsPrefix, KeepsPlan}
 use Rattle.shop_base.specs.Sound.{IsSound}
-use Rattle.shop_base.proofs.Visits.{visits-stands, stands_once, visits_or_not, on_or_not}
+use Rattle.shop_base.proofs.Visits.{visits-stands, stands_once, visits_or_not, on_or_not, leaves_past, past_leaves}
 use Rattle.shop_base.proofs.Places.{prefix_grows}
 use Rattle.shop_base.proofs.Keeping.{target_place}
 
@@ -71,22 +71,17 @@ abbrev pub HasWay : PlannedShop → Cell → ℕ → Type 0
 HasWay p c j = CanLeave p c j ⊎ ((m : ℕ) × CanEnter p c j m)
 
 pub way_or_not : (p : PlannedShop) (c : Cell) (j : ℕ) → IsWellShaped p → IsSound p c → HasWay p c j ⊎ (HasWay p c j → ⊥)
-way_or_not p c j shaped sound = go (cases_order (made c j) (steps p j)) (enters_or_not p c j (machine_of p j (made c j)) shaped sound)
+way_or_not p c j shaped sound = go (cases_lt (made c j) (steps p j)) (enters_or_not p c j (machine_of p j (made c j)) shaped sound)
   where
-    go : (made c j ≡ steps p j) ⊎ ((made c j < steps p j) ⊎ (steps p j < made c j))
+    go : (made c j < steps p j) ⊎ (steps p j ≤ made c j)
         → CanEnter p c j (machine_of p j (made c j)) ⊎ (CanEnter p c j (machine_of p j (made c j)) → ⊥) → HasWay p c j ⊎ (HasWay p c j → ⊥)
-    go (inl done) enters = inl (inl done)
-    go (inr (inl within)) (inl enters) = inl (inr (machine_of p j (made c j), enters))
-    go (inr (inl within)) (inr cannot) = inr none
+    go (inr past) enters = inl (inl (past_leaves p c j past))
+    go (inl within) (inl enters) = inl (inr (machine_of p j (made c j), enters))
+    go (inl within) (inr cannot) = inr none
       where
         none : HasWay p c j → ⊥
-        none (inl leaves) = absurd (omega arith)
+        none (inl leaves) = absurd (omega (arith, leaves_past p c j leaves))
         none (inr (m, enters)) = cannot (subst (CanEnter p c j) (sym enters.next.here) enters)
-    go (inr (inr past)) enters = inr none
-      where
-        none : HasWay p c j → ⊥
-        none (inl leaves) = absurd (omega arith)
-        none (inr (m, enters)) = absurd (omega (arith, enters.next.within))
 
 pub keeps_or_not : (p : PlannedShop) (c : Cell) (j : ℕ) → IsWellShaped p → IsSound p c → KeepsPlan p c j ⊎ (KeepsPlan p c j → ⊥)
 keeps_or_not p c j shaped sound = go (cases_lt (made c j) (steps p j))

@@ -78,7 +78,7 @@ moved-on_time p kept c j t new shaped sound can change ahead on_time = record {
 }
   where
     mine : t ≤ kept (node j (made c j))
-    mine = ahead j (made c j) (ready_in_shop p c j sound can.is_ready) (le_refl (made c j)) (moves_within p c j t can)
+    mine = ahead j (made c j) (ready_in_shop p c j sound can.is_ready) (le_refl (made c j)) (moves_within p c j t sound can)
 
     last : (k : ℕ) → made new j ≡ k + 1 → since new j ≤ kept (node j k)
     last k entered =

@@ -14,7 +14,7 @@ use Rattle.shop_base.specs.Move.{CanLeave, CanEnter, CanMove, KeepsPlan, IsPrefi
 use Rattle.shop_base.specs.Run.{Event, Reported, Moved, CanHappen, AreEvents, after, after_all, IsRun, ends_in}
 use Rattle.shop_base.specs.Graph.{Arc, job_arc, blocking_arc, node}
 use Rattle.shop_base.specs.Sound.{IsSound}
-use Rattle.shop_base.proofs.Visits.{visits_job, visits_once, visits-stands, stands_once, visits_or_not, on_or_not}
+use Rattle.shop_base.proofs.Visits.{visits_job, visits_once, visits-stands, stands_once, visits_or_not, on_or_not, leaves_past}
 use Rattle.shop_base.proofs.Changes.{IsMoved, IsReadied, IsTidied, after_move-moved, with_ready-readied, with_clean-tidied, moves_within}
 
 start-job : (p : PlannedShop) (j : ℕ) → j < jobs p → job_in (start p) j ≡ record { made = 0; ready = false; since = 0 }
@@ -158,7 +158,7 @@ pub target_free : (p : PlannedShop) (c : Cell) (j t m : ℕ) → CanMove p c j t
 target_free p c j t m can visits = go can.way
   where
     go : CanLeave p c j ⊎ ((n : ℕ) × CanEnter p c j n) → IsFree p c m × (cleaning c m ≡ None)
-    go (inl leaves) = absurd (omega (arith, visits.within))
+    go (inl leaves) = absurd (omega (arith, visits.within, leaves_past p c j leaves))
     go (inr (n, enters)) =
         let same : n ≡ m = sym enters.next.here ∙ visits.here in
         subst (λ (x : ℕ). IsFree p c x × (cleaning c x ≡ None)) same (enters.free, enters.is_clean)
@@ -201,7 +201,7 @@ module _ (p : PlannedShop) (c : Cell) (j t : ℕ) (new : Cell) (shaped : IsWellS
   moved-few_moves i inside = go (cases_eq i j)
     where
       go : (i ≡ j) ⊎ (i ≡ j → ⊥) → made new i ≤ steps p i + 1
-      go (inl same) = omega (arith, made_mine i same, ap (steps p) same, moves_within p c j t can)
+      go (inl same) = omega (arith, made_mine i same, ap (steps p) same, moves_within p c j t sound can)
       go (inr other) = omega (arith, made_other i other, sound.few_moves i inside)
 
   moved-gone_not_ready : (i : ℕ) → IsGone p new i → ready new i ≡ false

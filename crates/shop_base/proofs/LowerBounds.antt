@@ -274,25 +274,25 @@ tidied-no_faster p c new m s t bounds change later was_cleaned due = record {
 
 -- the end of an activity, at the moment at which it is due
 end-no_faster : (p : PlannedShop) (c : Cell) (a : Activity) (t : ℕ) → IsSound p c → IsNoFaster p c
-    → (due : ℕ) × GoesOn p c a due → c.last ≤ t → ((due : ℕ) → GoesOn p c a due → t ≡ due) → IsNoFaster p (after_end c a t)
-end-no_faster p c (Arrival j) t sound bounds (due, goes) later on_time =
+    → GoesOn p c a t → c.last ≤ t → IsNoFaster p (after_end c a t)
+end-no_faster p c (Arrival j) t sound bounds goes later =
     readied-no_faster p c (with_ready c j t) j t bounds (with_ready-readied c j t goes.not_ready (omega (arith, outside_in_shop p c j sound goes.outside, sound.job_count))) later
-    (λ outside. omega (arith, on_time due goes, goes.is_due))
+    (λ outside. omega (arith, goes.is_due))
     (λ k count within. absurd (omega (arith, count, goes.outside)))
-end-no_faster p c (Operation j m) t sound bounds (due, (k, goes)) later on_time =
+end-no_faster p c (Operation j m) t sound bounds (k, goes) later =
     readied-no_faster p c (with_ready c j t) j t bounds
     (with_ready-readied c j t goes.not_ready (omega (arith, visits_job p j k m goes.on.visits, sound.job_count))) later
     (λ outside. absurd (omega (arith, outside, goes.on.entered)))
     (λ l count within. let same : l ≡ k = omega (arith, goes.on.entered) in
-    omega (arith, on_time due (k, goes), goes.is_due, ap (nominal p j) same))
-end-no_faster p c (Cleaning m) t sound bounds (due, (s, goes)) later on_time =
+    omega (arith, goes.is_due, ap (nominal p j) same))
+end-no_faster p c (Cleaning m) t sound bounds (s, goes) later =
     tidied-no_faster p c (with_clean c m t) m s t bounds (with_clean-tidied c m s t goes.is_cleaned) later goes.is_cleaned
-    (omega (arith, on_time due (s, goes), goes.is_due))
+    (omega (arith, goes.is_due))
 
 -- what happens in an exact run leaves nothing earlier than the paths to it allow
 report-no_faster : (p : PlannedShop) (c : Cell) (r : Report) → IsSound p c → IsNoFaster p c → CanReport p c r → IsExact p c r
     → IsNoFaster p (after_report c r)
-report-no_faster p c r sound bounds can exact = end-no_faster p c r.ended r.at sound bounds can.going can.timely.in_order exact.on_time
+report-no_faster p c r sound bounds can exact = end-no_faster p c r.ended r.at sound bounds exact.due can.timely.in_order
 
 -- only the jobs of the shop have paths
 pub path_in_shop : (p : PlannedShop) (nodes : List Node) (v : Node) (n : ℕ) → Path p nodes v n → v.job < jobs p

@@ -15,7 +15,7 @@ use Rattle.shop_base.specs.Graph.{job_arc, blocking_arc, RanksRise, MomentsFit, 
 use Rattle.shop_base.specs.Sound.{IsSound}
 use Rattle.shop_base.specs.Timely.{IsOnTime}
 use Rattle.shop_base.specs.NeverStuckLaw.{CanGoOn}
-use Rattle.shop_base.proofs.Visits.{visits_job, visits_machine, visits-stands}
+use Rattle.shop_base.proofs.Visits.{visits_job, visits_machine, visits-stands, past_leaves}
 use Rattle.shop_base.proofs.Places.{stands_at, same_stand, prefix_grows}
 
 -- a machine is being cleaned since some moment, or it isn't
@@ -77,7 +77,7 @@ not_ready-active p c j (suc k) inside not_ready made_is within = record {
 -- a ready job that has made all its entries can leave
 no_leaving : (p : PlannedShop) (c : Cell) (j : ℕ) → IsSound p c → IsAtRest p c → ready c j ≡ true → made c j ≡ steps p j → ⊥
 no_leaving p c j sound rest is_ready all = rest j c.last
-    (record { is_ready = is_ready; way = inl all; timely = record { in_order = le_refl c.last; in_range = sound.last_in_range } })
+    (record { is_ready = is_ready; way = inl (past_leaves p c j (omega arith)); timely = record { in_order = le_refl c.last; in_range = sound.last_in_range } })
     (λ m visits. absurd (omega (arith, visits.within)))
 
 -- a ready job that is next in the order of its machine can enter it where that is free and clean

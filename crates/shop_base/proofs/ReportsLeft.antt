@@ -13,8 +13,8 @@ use Rattle.shop_base.specs.Controlled.{AreMoves, after_moves, IsStep, after_step
 use Rattle.shop_base.specs.Ends.{cleanings_of, stated_number, HasEnded, report_count}
 use Rattle.shop_base.specs.ReportsLeft.{busy, job_reports_left, is_off, is_on_after, departures, cleanings_left, reports_left}
 use Rattle.shop_base.specs.Sound.{IsSound}
-use Rattle.shop_base.proofs.Visits.{visits_job, visits_once, visits_or_not, on_or_not}
-use Rattle.shop_base.proofs.Changes.{IsMoved, IsReadied, IsTidied, after_move-moved, with_ready-readied, with_clean-tidied}
+use Rattle.shop_base.proofs.Visits.{visits_job, visits_once, visits_or_not, on_or_not, leaves_past, past_leaves}
+use Rattle.shop_base.proofs.Changes.{IsMoved, IsReadied, IsTidied, after_move-moved, with_ready-readied, with_clean-tidied, moves_within}
 use Rattle.shop_base.proofs.Keeping.{after_report-sound, after_move-sound, moved-sound, start-made, target_free, alone_on}
 use Rattle.shop_base.proofs.InShop.{outside_in_shop, cleaned_in_shop, start_unused}
 use Rattle.shop_base.proofs.ControlledRuns.{start_not_ready}
@@ -72,9 +72,10 @@ module _ (p : PlannedShop) (c new : Cell) (j t : ℕ) (shaped : IsWellShaped p) 
     | inl leaves ↦ omega (
       arith,
       change.made_mine,
-      leaves,
+      leaves_past p c j leaves,
+      moves_within p c j t sound can,
       ready-not_busy p c j can.is_ready,
-      gone-not_busy p new j change.ready_mine (omega (arith, leaves, change.made_mine)),
+      gone-not_busy p new j change.ready_mine (omega (arith, leaves_past p c j leaves, change.made_mine)),
     )
     | inr (m, enters) ↦ omega (
       arith,
@@ -260,7 +261,7 @@ gone_where_none p c sound rest none j inside = elim (cases_lt (steps p j) (made 
     can_leave : ready c j ≡ true → made c j ≤ steps p j → ⊥
     can_leave is_ready here =
         let whole : made c j ≡ steps p j = omega (arith, mine) in
-        rest j c.last (record { is_ready = is_ready; way = inl whole; timely = record { in_order = omega arith; in_range = sound.last_in_range } })
+        rest j c.last (record { is_ready = is_ready; way = inl (past_leaves p c j (omega arith)); timely = record { in_order = omega arith; in_range = sound.last_in_range } })
         (λ m next. absurd (omega (arith, next.within)))
 
 idle_where_none : (p : PlannedShop) (c : Cell) → IsSound p c → ((j : ℕ) → j < jobs p → IsGone p c j) → reports_left p c ≡ 0 → IsIdle p c

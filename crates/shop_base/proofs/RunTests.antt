@@ -100,21 +100,20 @@ punctual_decides p c r = Decides-like (punctual_test p c r) is_punctual was_punc
     was_punctual punctual a due going = omega (arith, punctual a due going, due-is p c a due going)
 
 abbrev pub exact_test : PlannedShop → Cell → Report → Bool
-exact_test p c r = punctual_test p c r && (not (going_test p c r.ended) || eqb r.at (due_of p c r.ended))
+exact_test p c r = punctual_test p c r && (going_test p c r.ended && eqb r.at (due_of p c r.ended))
 
 pub exact_decides : (p : PlannedShop) (c : Cell) (r : Report) → Decides (exact_test p c r) (IsExact p c r)
 exact_decides p c r = Decides-like (exact_test p c r) is_exact was_exact
     (Decides-and (punctual_test p c r) _ (punctual_decides p c r)
-    (implies_decides (going_test p c r.ended) (eqb r.at (due_of p c r.ended)) (going_decides p c r.ended) (Decides-eqb r.at (due_of p c r.ended))))
+    (Decides-and (going_test p c r.ended) (eqb r.at (due_of p c r.ended)) (going_decides p c r.ended) (Decides-eqb r.at (due_of p c r.ended))))
   where
-    is_exact : IsPunctual p c r × (GoesOn p c r.ended (due_of p c r.ended) → r.at ≡ due_of p c r.ended) → IsExact p c r
-    is_exact (punctual, on_time) = record {
-      punctual = punctual;
-      on_time = λ due going. let is : due ≡ due_of p c r.ended = due-is p c r.ended due going in on_time (subst (GoesOn p c r.ended) is going) ∙ sym is;
-    }
+    is_exact : IsPunctual p c r × (GoesOn p c r.ended (due_of p c r.ended) × (r.at ≡ due_of p c r.ended)) → IsExact p c r
+    is_exact (punctual, (going, is)) = record { punctual = punctual; due = subst (GoesOn p c r.ended) (sym is) going }
 
-    was_exact : IsExact p c r → IsPunctual p c r × (GoesOn p c r.ended (due_of p c r.ended) → r.at ≡ due_of p c r.ended)
-    was_exact exact = (exact.punctual, exact.on_time (due_of p c r.ended))
+    was_exact : IsExact p c r → IsPunctual p c r × (GoesOn p c r.ended (due_of p c r.ended) × (r.at ≡ due_of p c r.ended))
+    was_exact exact =
+        let is : r.at ≡ due_of p c r.ended = due-is p c r.ended r.at exact.due in
+        (exact.punctual, (subst (GoesOn p c r.ended) is exact.due, is))
 
 abbrev pub all_punctual_test : PlannedShop → Cell → List Event → Bool
 all_punctual_test p c [] = true

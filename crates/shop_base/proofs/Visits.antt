@@ -1,10 +1,12 @@
 -- Facts of visits and of places in orders, in a well-shaped plan.
-use Rattle.std.proofs.Common.{◌≡◌, ℕ, zero, suc, ◌<◌, ◌≤◌, [], length, ap, arith, refl, subst, lt_of_not-le, ◌⊎◌, inl, inr, ⊎_elim}
+use Rattle.std.proofs.Common.{◌≡◌, ℕ, zero, suc, ◌<◌, ◌≤◌, [], length, drop, drop-cons, drop_of_length-le, ap, arith, refl, subst, lt_of_not-le, ◌⊎◌, inl, inr, ⊎_elim}
 use Rattle.std.proofs.lemmas.Bool.{cases_eq, cases_lt, cases_order}
-use Rattle.std.proofs.lemmas.List.{get_or_past}
-use Rattle.shop_base.specs.Shop.{IsSoundStep}
+use Rattle.std.proofs.lemmas.List.{get_or_past, length-drop}
+use Rattle.shop_base.specs.declared.move_order.Spot.TheVariants.{Out, At}
+use Rattle.shop_base.specs.Shop.{IsSoundStep, no_step}
 use Rattle.shop_base.specs.Plan.{PlannedShop, jobs, machines, route, steps, machine_of, Visits, Stands, IsOrder, IsWellShaped}
 use Rattle.shop_base.specs.Cell.{Cell, made, IsOn}
+use Rattle.shop_base.specs.Move.{first_stop, CanLeave}
 
 -- only a job of the shop has steps
 pub steps_job : (p : PlannedShop) (j k : ℕ) → k < steps p j → j < jobs p
@@ -66,3 +68,18 @@ on_or_not p c j m = go (made c j) refl
         (λ visits. inl (n, record { entered = omega arith; visits = visits }))
         (λ elsewhere. inr λ k on. let same : k ≡ n = omega (arith, on.entered) in elsewhere (subst (λ (l : ℕ). Visits p j l m) same on.visits))
         (visits_or_not p j n m)
+
+-- what is left of a route begins with the machine of its next step
+pub stop_at : (p : PlannedShop) (j k m : ℕ) → Visits p j k m → first_stop (drop k (route p j)) ≡ At m
+stop_at p j k m visits = rw (drop-cons (route p j) k no_step visits.within) (ap At visits.here)
+
+-- and is nothing, once all its steps are behind
+pub stop_past : (p : PlannedShop) (j k : ℕ) → steps p j ≤ k → first_stop (drop k (route p j)) ≡ Out
+stop_past p j k past = ap first_stop (drop_of_length-le (route p j) past)
+
+-- a job can leave just where it has entered all its steps
+pub leaves_past : (p : PlannedShop) (c : Cell) (j : ℕ) → CanLeave p c j → steps p j ≤ made c j
+leaves_past p c j leaves = omega (arith, ap length leaves, length-drop (made c j) (route p j))
+
+pub past_leaves : (p : PlannedShop) (c : Cell) (j : ℕ) → steps p j ≤ made c j → CanLeave p c j
+past_leaves p c j past = drop_of_length-le (route p j) past

@@ -1,4 +1,4 @@
-use Rattle.std.specs.Prelude.{◌≡◌, ℕ, ◌+◌, ◌<◌, List, [], replicate, drop, slice_index_or, Option, None, Bool, false}
+use Rattle.std.specs.Prelude.{◌≡◌, ℕ, ◌+◌, ◌<◌, List, [], replicate, drop, slice_index_or, slice_set, Option, None, Bool, false}
 use Rattle.shop_base.specs.declared.shop.Step.{Step}
 use Rattle.shop_base.specs.declared.job_state.JobState.{JobState}
 use Rattle.shop_base.specs.Plan.{PlannedShop, jobs, machines, route, steps, Visits}
@@ -29,6 +29,14 @@ job_in c j = slice_index_or c.jobs j absent
 -- machine m in the cell
 abbrev pub machine_in : Cell → ℕ → MachineState
 machine_in c m = slice_index_or c.machines m unused
+
+-- the cell with job j in another state
+abbrev pub with_job : Cell → ℕ → JobState → Cell
+with_job c j state = record c { jobs = slice_set c.jobs j state }
+
+-- the cell with machine m in another state
+abbrev pub with_machine : Cell → ℕ → MachineState → Cell
+with_machine c m state = record c { machines = slice_set c.machines m state }
 
 -- how many moves job j has made
 abbrev pub made : Cell → ℕ → ℕ

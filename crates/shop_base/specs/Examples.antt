@@ -71,11 +71,6 @@ in_ring = planned
 abbrev pub instant : PlannedShop
 instant = planned (record { machines = 1; routes = (on_for 0 0 ∷ []) ∷ [] }) (0 ∷ []) ((0 ∷ []) ∷ []) None
 
--- the target that a remaining route has: its first machine, or out of the cell
-abbrev pub target_on : List Step → Spot
-target_on [] = Out
-target_on (step ∷ rest) = At step.machine
-
 -- at moment t job j has arrived
 abbrev pub arrive : ℕ → ℕ → Report
 arrive t j = record { ended = Arrival j; at = t }

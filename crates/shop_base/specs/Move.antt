@@ -1,27 +1,33 @@
-use Rattle.std.specs.Prelude.{◌≡◌, ℕ, zero, suc, ◌+◌, List, [], ◌∷◌, ◌++◌, slice_set, None, Some, true, false, nat_lt, if◌then◌else◌, ◌⊎◌}
+use Rattle.std.specs.Prelude.{◌≡◌, ℕ, zero, suc, ◌+◌, List, [], ◌∷◌, ◌++◌, drop, None, Some, true, false, nat_lt, if◌then◌else◌, ◌⊎◌}
+use Rattle.shop_base.specs.declared.shop.Step.{Step}
 use Rattle.shop_base.specs.declared.move_order.Spot.{Spot}
 use Rattle.shop_base.specs.declared.move_order.Spot.TheVariants.{Out, At}
 use Rattle.shop_base.specs.declared.move_order.MoveOrder.{MoveOrder}
-use Rattle.shop_base.specs.Plan.{PlannedShop, steps, machine_of, clean, order, Visits}
-use Rattle.shop_base.specs.Cell.{Cell, made, ready, entries, cleaning, IsFree}
+use Rattle.shop_base.specs.Plan.{PlannedShop, route, clean, order, Visits}
+use Rattle.shop_base.specs.Cell.{Cell, machine_in, with_job, with_machine, made, ready, entries, cleaning, remaining_route, IsFree}
 use Rattle.shop_base.specs.Report.{IsTimely}
 
--- the machine of a job's last entry, out before the first
-abbrev pub source_after : PlannedShop → ℕ → ℕ → Spot
-source_after p j zero = Out
-source_after p j (suc k) = At (machine_of p j k)
+-- the first machine of what is left of a route, or out of the cell where nothing is left
+abbrev pub first_stop : List Step → Spot
+first_stop [] = Out
+first_stop (step ∷ rest) = At step.machine
+
+-- where job j is once it has made n moves: out before the first, and then where the last of them took it
+abbrev pub spot_after : PlannedShop → ℕ → ℕ → Spot
+spot_after p j zero = Out
+spot_after p j (suc k) = first_stop (drop k (route p j))
 
 -- the source of job j's next move: the place where it is
 abbrev pub source : PlannedShop → Cell → ℕ → Spot
-source p c j = source_after p j (made c j)
+source p c j = spot_after p j (made c j)
 
 -- the target of job j's next move: the first machine of its remaining route, or out of the cell
 abbrev pub target : PlannedShop → Cell → ℕ → Spot
-target p c j = if nat_lt (made c j) (steps p j) then At (machine_of p j (made c j)) else Out
+target p c j = first_stop (remaining_route p c j)
 
 -- job j can leave the cell: it has no remaining route
 abbrev pub CanLeave : PlannedShop → Cell → ℕ → Type 0
-CanLeave p c j = made c j ≡ steps p j
+CanLeave p c j = remaining_route p c j ≡ []
 
 -- job j can enter machine m, the first of its remaining route: no job is on it, and it isn't being cleaned
 pub record CanEnter (p : PlannedShop) (c : Cell) (j m : ℕ) : Type 0 where
@@ -43,33 +49,19 @@ IsPrefix front whole = (rest : List ℕ) × (whole ≡ front ++ rest)
 abbrev pub KeepsPlan : PlannedShop → Cell → ℕ → Type 0
 KeepsPlan p c j = (m : ℕ) → Visits p j (made c j) m → IsPrefix (entries c m ++ j ∷ []) (order p m)
 
--- the machines once job j has left machine m at moment t: where m has a cleaning time, its cleaning begins
-abbrev pub with_departure : PlannedShop → Cell → ℕ → ℕ → Cell
-with_departure p c m t = if nat_lt 0 (clean p m)
-    then (record { jobs = c.jobs; machines = slice_set c.machines m (record { entries = entries c m; cleaning = Some t }); last = c.last })
-    else c
-
--- the cell once a job has left its source
+-- the cell once a job has left a spot at moment t: the cleaning of a machine with a cleaning time begins
 abbrev pub after_leaving : PlannedShop → Cell → Spot → ℕ → Cell
 after_leaving p c Out t = c
-after_leaving p c (At m) t = with_departure p c m t
+after_leaving p c (At m) t = if nat_lt 0 (clean p m) then with_machine c m (record (machine_in c m) { cleaning = Some t }) else c
 
--- the cell once job j has come to its target
+-- the cell once job j has come to a spot: it is the last that entered that machine
 abbrev pub with_entry : Cell → ℕ → Spot → Cell
 with_entry c j Out = c
-with_entry c j (At m) = record {
-  jobs = c.jobs;
-  machines = slice_set c.machines m (record { entries = entries c m ++ j ∷ []; cleaning = cleaning c m });
-  last = c.last;
-}
+with_entry c j (At m) = with_machine c m (record (machine_in c m) { entries = entries c m ++ j ∷ [] })
 
 -- the cell with one more move of job j, made at moment t
 abbrev pub with_moved : Cell → ℕ → ℕ → Cell
-with_moved c j t = record {
-  jobs = slice_set c.jobs j (record { made = made c j + 1; ready = false; since = t });
-  machines = c.machines;
-  last = t;
-}
+with_moved c j t = record (with_job c j (record { made = made c j + 1; ready = false; since = t })) { last = t }
 
 -- the cell after a move of job j at moment t: it leaves its source, comes to its target, and has made one more move
 abbrev pub after_move : PlannedShop → Cell → ℕ → ℕ → Cell

@@ -1,4 +1,4 @@
-use Rattle.std.specs.Prelude.{◌≡◌, ℕ, ◌≤◌, List, [], ◌∷◌}
+use Rattle.std.specs.Prelude.{ℕ, ◌≤◌, List, [], ◌∷◌}
 use Rattle.shop_base.specs.Plan.{PlannedShop}
 use Rattle.shop_base.specs.Cell.{Cell}
 use Rattle.shop_base.specs.Activity.{Activity, GoesOn}
@@ -9,10 +9,10 @@ use Rattle.shop_base.specs.Run.{Event, Reported, Moved, after}
 abbrev pub IsPunctual : PlannedShop → Cell → Report → Type 0
 IsPunctual p c r = (a : Activity) (due : ℕ) → GoesOn p c a due → r.at ≤ due
 
--- the report is punctual, and at the due moment of its own activity
+-- the report is punctual, and its activity goes on and is due at just its moment
 pub record IsExact (p : PlannedShop) (c : Cell) (r : Report) : Type 0 where
   pub punctual : IsPunctual p c r
-  pub on_time : (due : ℕ) → GoesOn p c r.ended due → r.at ≡ due
+  pub due : GoesOn p c r.ended r.at
 
 -- each report among the events is punctual
 abbrev pub ArePunctual : PlannedShop → Cell → List Event → Type 0

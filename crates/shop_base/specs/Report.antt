@@ -1,7 +1,7 @@
-use Rattle.std.specs.Prelude.{ℕ, ◌≤◌, None, true, slice_set}
+use Rattle.std.specs.Prelude.{ℕ, ◌≤◌, None, true}
 use Rattle.shop_base.specs.declared.limits.TheConstants.{MAX_MOMENT}
 use Rattle.shop_base.specs.Plan.{PlannedShop}
-use Rattle.shop_base.specs.Cell.{Cell, job_in, machine_in}
+use Rattle.shop_base.specs.Cell.{Cell, job_in, machine_in, with_job, with_machine}
 use Rattle.shop_base.specs.Activity.{Activity, Arrival, Operation, Cleaning, GoesOn}
 
 -- it is said that an activity has ended at a moment
@@ -19,21 +19,13 @@ pub record CanReport (p : PlannedShop) (c : Cell) (r : Report) : Type 0 where
   pub going : (due : ℕ) × GoesOn p c r.ended due
   pub timely : IsTimely c r.at
 
--- the cell once job j has become ready
+-- the cell once job j has become ready, at moment t
 abbrev pub with_ready : Cell → ℕ → ℕ → Cell
-with_ready c j t = record {
-  jobs = slice_set c.jobs j (record { made = (job_in c j).made; ready = true; since = (job_in c j).since });
-  machines = c.machines;
-  last = t;
-}
+with_ready c j t = record (with_job c j (record (job_in c j) { ready = true })) { last = t }
 
--- the cell once machine m is clean
+-- the cell once machine m has become clean, at moment t
 abbrev pub with_clean : Cell → ℕ → ℕ → Cell
-with_clean c m t = record {
-  jobs = c.jobs;
-  machines = slice_set c.machines m (record { entries = (machine_in c m).entries; cleaning = None });
-  last = t;
-}
+with_clean c m t = record (with_machine c m (record (machine_in c m) { cleaning = None })) { last = t }
 
 -- the cell once an activity has ended: its job is ready, or its machine clean
 abbrev pub after_end : Cell → Activity → ℕ → Cell

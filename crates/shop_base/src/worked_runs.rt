@@ -7,11 +7,11 @@ ghost use Rattle.shop_base.specs.declared.limits.TheConstants.{MAX_JOBS, MAX_MAC
 ghost use Rattle.shop_base.specs.declared.limits.TheConstants.{MAX_NOMINAL, MAX_CLEAN, MAX_RELEASE, MAX_MOMENT};
 ghost use Rattle.shop_base.specs.declared.node.Node.{Node};
 ghost use Rattle.shop_base.specs.Plan.{PlannedShop, IsWellShaped};
-ghost use Rattle.shop_base.specs.Cell.{Cell, start, since, ready, remaining_route};
+ghost use Rattle.shop_base.specs.Cell.{Cell, start, since, ready};
 ghost use Rattle.shop_base.specs.Cell.{IsOn, IsFree, IsGone};
 ghost use Rattle.shop_base.specs.Activity.{Arrival, Operation, Cleaning, GoesOn};
 ghost use Rattle.shop_base.specs.Report.{CanReport};
-ghost use Rattle.shop_base.specs.Move.{target, CanMove, CanObey, KeepsPlan};
+ghost use Rattle.shop_base.specs.Move.{source, CanMove, CanObey, KeepsPlan};
 ghost use Rattle.shop_base.specs.declared.move_order.Spot.TheVariants.{Out, At};
 ghost use Rattle.shop_base.specs.Run.{IsRun, IsAtRest, IsStuck};
 ghost use Rattle.shop_base.specs.Controlled.{IsStep, IsControlledRun};
@@ -21,7 +21,7 @@ ghost use Rattle.shop_base.specs.Ends.{stated_number, report_count, move_count};
 ghost use Rattle.shop_base.specs.Graph.{node, leaving, Arc, HasArc, Path, IsSimpleCycle};
 ghost use Rattle.shop_base.specs.Graph.{RanksRise, MomentsFit, MeetBudgets, IsSerial};
 ghost use Rattle.shop_base.specs.Examples.{in_series, with_cleaning, crossed, in_chain, in_ring, instant};
-ghost use Rattle.shop_base.specs.Examples.{arrive, finish, clean, go, target_on, exchange};
+ghost use Rattle.shop_base.specs.Examples.{arrive, finish, clean, go, exchange};
 ghost use Rattle.shop_base.specs.Examples.{series_moments, series_ranks, crossed_moments};
 ghost use Rattle.shop_base.specs.Examples.{series_reports, series_log, series_after, series_end};
 ghost use Rattle.shop_base.specs.Examples.{late_reports, late_log, late_after, late_end};
@@ -59,7 +59,8 @@ pub fn two_jobs_in_series_run()
 /// An order is possible only if it names the job's place, the next machine of its route, and a moment
 /// that isn't past.
 pub fn an_order_names_just_its_move()
-    ensures next { (p : PlannedShop) (c : Cell) (j : ℕ) → target p c j ≡ target_on (remaining_route p c j) }
+    ensures gone { source in_series series_end 0 ≡ Out }
+    ensures absent { source in_series series_end 2 ≡ Out }
     ensures right { CanObey in_series (series_after 4) (go 2 0 (At 0) (At 1)) }
     ensures later { CanObey in_series (series_after 4) (go 3 0 (At 0) (At 1)) }
     ensures past { CanObey in_series (series_after 4) (go 1 0 (At 0) (At 1)) → ⊥ }

@@ -6,18 +6,9 @@ use Rattle.shop_base.specs.Shop.{step_at, no_step}
 use Rattle.shop_base.specs.Plan.{route}
 use Rattle.shop_base.specs.Cell.{made}
 use Rattle.shop_base.specs.declared.move_order.Spot.TheVariants.{Out, At}
-use Rattle.shop_base.specs.Examples.{target_on, in_series, go, series_after}
+use Rattle.shop_base.specs.Examples.{in_series, go, series_after}
 use Rattle.shop_base.proofs.CellTests.{obey_decides, keeps_decides}
 use Rattle.shop_base.proofs.worked_runs.an_order_names_just_its_move.Goals as goal
-
-target_of_route : (steps : List Step) (k : ℕ) → (if nat_lt k (length steps) then At (step_at steps k).machine else Out) ≡ target_on (drop k steps)
-target_of_route steps k = elim (cases_lt k (length steps)) [
-  | inl within ↦ rw (lt-ltb k (length steps) within, drop-cons steps k no_step within)
-  | inr past ↦ rw (le-ltb k (length steps) past, drop_of_length-le steps past)
-]
-
-pub returns-clause-next : goal.returns-clause-next
-returns-clause-next c = λ p c j. target_of_route (route p j) (made c j)
 
 pub returns-clause-right : goal.returns-clause-right
 returns-clause-right c = (obey_decides in_series (series_after 4) (go 2 0 (At 0) (At 1))).0 refl
