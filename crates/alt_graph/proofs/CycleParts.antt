@@ -4,8 +4,9 @@ use Rattle.std.specs.Bool.{OnTrue}
 use Rattle.shop_base.specs.declared.node.Node.{Node}
 use Rattle.shop_base.specs.Plan.{PlannedShop, IsWellShaped}
 use Rattle.shop_base.specs.Graph.{IsNode, ArcsLead, AreDistinct, IsSimpleCycle}
-use Rattle.shop_base.proofs.CycleLaw.{cycle_stops_every_run}
-use Rattle.alt_graph.specs.Evidence.{IsBefore, IsCycle, IsNeverDone}
+use Rattle.shop_base.proofs.CycleLaw.{cycle_never_done as no_run_ends}
+use Rattle.alt_graph.specs.Evidence.{IsBefore, IsCycle}
+use Rattle.shop_base.specs.CycleLaw.{IsNeverDone}
 
 -- what is checked of nodes that are a first one and others
 pub record AreCycleParts (p : PlannedShop) (nodes : List Node) (first : Node) (rest : List Node) : Type 0 where
@@ -30,7 +31,7 @@ cycle_simple p (u ∷ us) cycle = cycle.0
 
 -- a cycle stops every run
 pub cycle_never_done : (p : PlannedShop) (nodes : List Node) → IsWellShaped p → IsCycle p nodes → IsNeverDone p
-cycle_never_done p nodes shaped cycle es run = cycle_stops_every_run p nodes es shaped (cycle_simple p nodes cycle) run
+cycle_never_done p nodes shaped cycle = no_run_ends p nodes shaped (cycle_simple p nodes cycle)
 
 pub untrue : false ≡ true → ⊥
 untrue bad = cc

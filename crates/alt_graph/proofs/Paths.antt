@@ -7,7 +7,8 @@ use Rattle.shop_base.specs.declared.node.Node.{Node}
 use Rattle.shop_base.specs.Plan.{PlannedShop, jobs, release, IsWellShaped}
 use Rattle.shop_base.specs.Graph.{node, leaving, Arc, HasArc, Path, begins, follows}
 use Rattle.shop_base.proofs.LowerBounds.{no_exact_run_is_faster-holds}
-use Rattle.alt_graph.specs.Evidence.{node_count, IsChain, EndsIn, IsNeverGoneBefore}
+use Rattle.alt_graph.specs.Evidence.{node_count, IsChain, EndsIn}
+use Rattle.shop_base.specs.ExactLaw.{IsNeverGoneBefore}
 use Rattle.alt_graph.specs.Places.{node_at}
 use Rattle.alt_graph.proofs.NodeNumbers.{node_same}
 use Rattle.alt_graph.proofs.ArcKinds.{arc_once}
@@ -111,8 +112,8 @@ told_length p nodes v n shaped few path m = (there, back)
 -- no exact run is faster than a chain to a leaving
 pub chain_no_faster : (p : PlannedShop) (nodes : List Node) (v : Node) (n : ℕ) → IsWellShaped p → Path p nodes v n
     → (j : ℕ) → EndsIn nodes (leaving p j) → IsNeverGoneBefore p j n
-chain_no_faster p nodes v n shaped path j (front, is) es run exact gone =
-    no_exact_run_is_faster-holds p es shaped run exact j nodes n (subst (λ (w : Node). Path p nodes w n) ends path) gone
+chain_no_faster p nodes v n shaped path j (front, is) =
+    no_exact_run_is_faster-holds p j nodes n shaped (subst (λ (w : Node). Path p nodes w n) ends path)
   where
     ends : v ≡ leaving p j
     ends = sym (path_ends p nodes v n (length front) path (omega (arith, ap length is, length-append front (leaving p j ∷ []))))

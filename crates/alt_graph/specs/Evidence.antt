@@ -2,9 +2,6 @@ use Rattle.std.specs.Prelude.{◌≡◌, ℕ, ◌+◌, ◌<◌, ◌≤◌, ◌�
 use Rattle.shop_base.specs.declared.node.Node.{Node}
 use Rattle.shop_base.specs.Shop.{operations_of}
 use Rattle.shop_base.specs.Plan.{PlannedShop, jobs}
-use Rattle.shop_base.specs.Cell.{start, since, IsGone}
-use Rattle.shop_base.specs.Run.{Event, IsRun, ends_in}
-use Rattle.shop_base.specs.Punctual.{AreExact}
 use Rattle.shop_base.specs.Graph.{IsNode, IsSimpleCycle, Path}
 
 -- nodes are ordered by job, then by place
@@ -28,11 +25,3 @@ pub record IsChain (p : PlannedShop) (nodes : List Node) (n : ℕ) : Type 0 wher
 -- the list ends in this node
 abbrev pub EndsIn : List Node → Node → Type 0
 EndsIn nodes v = (front : List Node) × (nodes ≡ front ++ v ∷ [])
-
--- whatever is reported and moved, at whatever moments, some job isn't gone
-abbrev pub IsNeverDone : PlannedShop → Type 0
-IsNeverDone p = (es : List Event) → IsRun p es → (j : ℕ) × (j < jobs p) × (IsGone p (ends_in p es) j → ⊥)
-
--- in no run whose reports are exact is job j gone since before moment n
-abbrev pub IsNeverGoneBefore : PlannedShop → ℕ → ℕ → Type 0
-IsNeverGoneBefore p j n = (es : List Event) → IsRun p es → AreExact p (start p) es → IsGone p (ends_in p es) j → n ≤ since (ends_in p es) j

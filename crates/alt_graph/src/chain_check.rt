@@ -4,7 +4,8 @@ ghost use Rattle.std.specs.Prelude.{◌≡◌, ℕ, ◌<◌, ◌≤◌, ◌↔�
 ghost use Rattle.shop_base.specs.declared.limits.TheConstants.{MAX_RELEASE};
 ghost use Rattle.shop_base.specs.Plan.{jobs, IsWellShaped};
 ghost use Rattle.shop_base.specs.Graph.{leaving, Path};
-ghost use Rattle.alt_graph.specs.Evidence.{IsChain, EndsIn, IsNeverGoneBefore, node_count};
+ghost use Rattle.alt_graph.specs.Evidence.{IsChain, EndsIn, node_count};
+ghost use Rattle.shop_base.specs.ExactLaw.{IsNeverGoneBefore};
 
 use crate::arcs::arc_length;
 use shop_base::{Moment, Node, Shaped};

@@ -4,7 +4,8 @@ ghost use Rattle.std.specs.Prelude.{◌<◌, ◌↔◌, All, IsTrue, length};
 ghost use Rattle.std.specs.Bool.{OnTrue};
 ghost use Rattle.shop_base.specs.Plan.{IsWellShaped};
 ghost use Rattle.shop_base.specs.Graph.{IsNode, ArcsLead, AreDistinct};
-ghost use Rattle.alt_graph.specs.Evidence.{IsBefore, IsCycle, IsNeverDone};
+ghost use Rattle.alt_graph.specs.Evidence.{IsBefore, IsCycle};
+ghost use Rattle.shop_base.specs.CycleLaw.{IsNeverDone};
 ghost use Rattle.alt_graph.specs.Places.{IsNewAt};
 
 use crate::arcs::arc_length;

@@ -8,7 +8,9 @@ use Rattle.shop_base.specs.Plan.{PlannedShop, jobs, budget, IsWellShaped}
 use Rattle.shop_base.specs.Graph.{leaving, IsNode, MeetBudgets, Path, begins, follows, RanksRise}
 use Rattle.shop_base.proofs.Cycles.{ranks_exclude_cycle}
 use Rattle.shop_base.proofs.LowerBounds.{no_exact_run_is_faster-holds}
-use Rattle.alt_graph.specs.Evidence.{IsChain, IsNeverDone, IsNeverGoneBefore}
+use Rattle.alt_graph.specs.Evidence.{IsChain}
+use Rattle.shop_base.specs.ExactLaw.{IsNeverGoneBefore}
+use Rattle.shop_base.specs.CycleLaw.{IsNeverDone}
 use Rattle.alt_graph.specs.Times.{NodeTimes, rank_of, earliest_of, AreOrdered}
 use Rattle.plan_verifier.specs.Accepted.{VerifiedPlan, kept_at, HasNoCycle, IsWithinBudget, IsGreatest, IsAcceptable, IsFirstPast, IsVerified}
 use Rattle.alt_graph.proofs.CycleParts.{cycle_never_done}
@@ -67,7 +69,7 @@ module _ (p : PlannedShop) (t : NodeTimes) (ordered : AreOrdered p t) where
 
 -- no job is gone before the length of a path to its leaving
 pub path_never_before : (p : PlannedShop) (j n : ℕ) (nodes : List Node) → IsWellShaped p → Path p nodes (leaving p j) n → IsNeverGoneBefore p j n
-path_never_before p j n nodes shaped path = λ es run exact gone. no_exact_run_is_faster-holds p es shaped run exact j nodes n path gone
+path_never_before p j n nodes shaped path = no_exact_run_is_faster-holds p j nodes n shaped path
 
 -- where some job is never gone, it is never out by its budget
 pub never_done_just : (p : PlannedShop) → IsNeverDone p → IsNeverInBudget p

@@ -1,7 +1,7 @@
 ghost use Rattle.std.specs.Prelude.{◌≡◌, ◌<◌, ◌≤◌, max, MatchOption, IfSome};
 ghost use Rattle.shop_base.specs.Plan.{jobs};
 ghost use Rattle.shop_base.specs.Graph.{leaving};
-ghost use Rattle.alt_graph.specs.Evidence.{IsNeverGoneBefore};
+ghost use Rattle.shop_base.specs.ExactLaw.{IsNeverGoneBefore};
 ghost use Rattle.plan_verifier.specs.Accepted.{IsVerified, IsGreatest, IsMakespan, kept_at};
 
 use crate::leavings::leave_time;

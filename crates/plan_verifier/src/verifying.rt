@@ -1,7 +1,8 @@
 ghost use Rattle.std.specs.Prelude.{◌≡◌, ◌↔◌, IfOk, IfErr};
 ghost use Rattle.alt_graph.specs.Times.{AreOrdered, earliest_of};
 ghost use Rattle.alt_graph.specs.Solved.{OnOrdered, OnCyclic};
-ghost use Rattle.alt_graph.specs.Evidence.{IsNeverDone, IsNeverGoneBefore};
+ghost use Rattle.shop_base.specs.ExactLaw.{IsNeverGoneBefore};
+ghost use Rattle.shop_base.specs.CycleLaw.{IsNeverDone};
 ghost use Rattle.plan_verifier.specs.Accepted.{IsAcceptable, IsFirstPast};
 ghost use Rattle.plan_verifier.specs.Verdicts.{IsAcceptance, OnAccepted, OnRefused, OnCycle, OnLate, IsReason, IsNeverInBudget};
 

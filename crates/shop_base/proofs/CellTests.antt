@@ -6,7 +6,7 @@ use Rattle.shop_base.specs.declared.limits.TheConstants.{MAX_MOMENT}
 use Rattle.shop_base.specs.Plan.{PlannedShop, jobs, steps, machine_of, release, nominal, clean, order, Visits}
 use Rattle.shop_base.specs.Cell.{Cell, made, ready, since, entries, cleaning, IsOn, IsFree}
 use Rattle.shop_base.specs.Activity.{Activity, Arrival, Operation, Cleaning, GoesOn}
-use Rattle.shop_base.specs.Report.{Report, IsTimely, CanReport}
+use Rattle.shop_base.specs.Report.{Report, IsNextMoment, CanReport}
 use Rattle.shop_base.specs.Move.{CanLeave, CanEnter, CanMove, IsPrefix, KeepsPlan, order_for, CanObey}
 use Rattle.shop_base.specs.declared.move_order.MoveOrder.{MoveOrder}
 use Rattle.shop_base.specs.declared.move_order.Spot.{Spot}
@@ -108,26 +108,26 @@ way_decides p c j = Decides-like (way_test p c j) has_way had_way
     had_way (inl leaves) = inl (leaves_past p c j leaves)
     had_way (inr (m, enters)) = inr (subst (CanEnter p c j) (sym enters.next.here) enters)
 
-abbrev pub timely_test : Cell → ℕ → Bool
-timely_test c t = leb c.last t && leb t MAX_MOMENT
+abbrev pub moment_test : Cell → ℕ → Bool
+moment_test c t = leb c.last t && leb t MAX_MOMENT
 
-pub timely_decides : (c : Cell) (t : ℕ) → Decides (timely_test c t) (IsTimely c t)
-timely_decides c t = Decides-like (timely_test c t) (λ both. record { in_order = both.0; in_range = both.1 }) (λ timely. (timely.in_order, timely.in_range))
+pub moment_decides : (c : Cell) (t : ℕ) → Decides (moment_test c t) (IsNextMoment c t)
+moment_decides c t = Decides-like (moment_test c t) (λ both. record { in_order = both.0; in_range = both.1 }) (λ moment. (moment.in_order, moment.in_range))
     (Decides-and (leb c.last t) (leb t MAX_MOMENT) (leb_decides c.last t) (leb_decides t MAX_MOMENT))
 
 abbrev pub move_test : PlannedShop → Cell → ℕ → ℕ → Bool
-move_test p c j t = ready c j && (way_test p c j && timely_test c t)
+move_test p c j t = ready c j && (way_test p c j && moment_test c t)
 
 pub move_decides : (p : PlannedShop) (c : Cell) (j t : ℕ) → Decides (move_test p c j t) (CanMove p c j t)
 move_decides p c j t = Decides-like (move_test p c j t) can_move could_move
-    (Decides-and (ready c j) (way_test p c j && timely_test c t) ((λ is. is), (λ is. is))
-    (Decides-and (way_test p c j) (timely_test c t) (way_decides p c j) (timely_decides c t)))
+    (Decides-and (ready c j) (way_test p c j && moment_test c t) ((λ is. is), (λ is. is))
+    (Decides-and (way_test p c j) (moment_test c t) (way_decides p c j) (moment_decides c t)))
   where
-    can_move : (ready c j ≡ true) × ((CanLeave p c j ⊎ ((m : ℕ) × CanEnter p c j m)) × IsTimely c t) → CanMove p c j t
-    can_move (is_ready, (way, timely)) = record { is_ready = is_ready; way = way; timely = timely }
+    can_move : (ready c j ≡ true) × ((CanLeave p c j ⊎ ((m : ℕ) × CanEnter p c j m)) × IsNextMoment c t) → CanMove p c j t
+    can_move (is_ready, (way, moment)) = record { is_ready = is_ready; way = way; moment = moment }
 
-    could_move : CanMove p c j t → (ready c j ≡ true) × ((CanLeave p c j ⊎ ((m : ℕ) × CanEnter p c j m)) × IsTimely c t)
-    could_move can = (can.is_ready, (can.way, can.timely))
+    could_move : CanMove p c j t → (ready c j ≡ true) × ((CanLeave p c j ⊎ ((m : ℕ) × CanEnter p c j m)) × IsNextMoment c t)
+    could_move can = (can.is_ready, (can.way, can.moment))
 
 abbrev pub prefix_test : List ℕ → List ℕ → Bool
 prefix_test [] whole = true
@@ -261,17 +261,17 @@ due-is p c (Operation j m) due (k, works) = let same : k ≡ made c j - 1 = omeg
 due-is p c (Cleaning m) due (from, works) = works.is_due ∙ ap (λ (o : Option ℕ). cleaned_from o + clean p m) (sym works.is_cleaned)
 
 abbrev pub report_test : PlannedShop → Cell → Report → Bool
-report_test p c r = going_test p c r.ended && timely_test c r.at
+report_test p c r = going_test p c r.ended && moment_test c r.at
 
 pub report_decides : (p : PlannedShop) (c : Cell) (r : Report) → Decides (report_test p c r) (CanReport p c r)
 report_decides p c r = Decides-like (report_test p c r) can could
-    (Decides-and (going_test p c r.ended) (timely_test c r.at) (going_decides p c r.ended) (timely_decides c r.at))
+    (Decides-and (going_test p c r.ended) (moment_test c r.at) (going_decides p c r.ended) (moment_decides c r.at))
   where
-    can : GoesOn p c r.ended (due_of p c r.ended) × IsTimely c r.at → CanReport p c r
-    can (going, timely) = record { going = (due_of p c r.ended, going); timely = timely }
+    can : GoesOn p c r.ended (due_of p c r.ended) × IsNextMoment c r.at → CanReport p c r
+    can (going, moment) = record { going = (due_of p c r.ended, going); moment = moment }
 
-    could : CanReport p c r → GoesOn p c r.ended (due_of p c r.ended) × IsTimely c r.at
-    could possible = (subst (GoesOn p c r.ended) (due-is p c r.ended possible.going.0 possible.going.1) possible.going.1, possible.timely)
+    could : CanReport p c r → GoesOn p c r.ended (due_of p c r.ended) × IsNextMoment c r.at
+    could possible = (subst (GoesOn p c r.ended) (due-is p c r.ended possible.going.0 possible.going.1) possible.going.1, possible.moment)
 
 abbrev pub happen_test : PlannedShop → Cell → Event → Bool
 happen_test p c (Reported r) = report_test p c r

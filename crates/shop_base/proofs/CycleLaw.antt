@@ -1,5 +1,5 @@
 -- A cycle stops every run: no node of it is ever made.
-use Rattle.std.proofs.Common.{◌≡◌, ℕ, ◌<◌, ◌≤◌, List, [], ◌∷◌, ap, arith, ◌⊎◌, inl, inr}
+use Rattle.std.proofs.Common.{◌≡◌, ℕ, ◌<◌, ◌≤◌, List, [], ◌∷◌, refl, ap, arith, ◌⊎◌, inl, inr}
 use Rattle.std.proofs.lemmas.Bool.{cases_eq, cases_lt}
 use Rattle.shop_base.specs.declared.node.Node.{Node}
 use Rattle.shop_base.specs.Plan.{PlannedShop, jobs, IsWellShaped}
@@ -9,7 +9,7 @@ use Rattle.shop_base.specs.Move.{CanMove, KeepsPlan, after_move}
 use Rattle.shop_base.specs.Run.{Event, Reported, Moved, CanHappen, AreEvents, after, after_all, IsRun, ends_in}
 use Rattle.shop_base.specs.Graph.{HasArc, IsNode, IsSimpleCycle}
 use Rattle.shop_base.specs.Sound.{IsSound}
-use Rattle.shop_base.specs.CycleLaw.{ACycleStopsEveryRun}
+use Rattle.shop_base.specs.CycleLaw.{IsNeverDone, IsNeverMade, AreNeverMade}
 use Rattle.shop_base.proofs.Changes.{IsMoved, after_move-moved}
 use Rattle.shop_base.proofs.Keeping.{IsMade, after_report-like, start-made, start-sound, after-sound, needs}
 use Rattle.shop_base.proofs.Cycles.{IsAmong, target_job, cycle_before, cycle_node}
@@ -52,8 +52,19 @@ module _ (p : PlannedShop) (nodes : List Node) (shaped : IsWellShaped p) (cycle 
   pub cycle-none_made : (es : List Event) → IsRun p es → NoneMade (ends_in p es) nodes
   cycle-none_made es run = after_all-none_made (start p) es (start-sound p shaped) run start-none_made
 
-pub cycle_stops_every_run : ACycleStopsEveryRun
-cycle_stops_every_run p nodes es shaped cycle run = go (cycle_node p nodes cycle)
+-- nodes that no run makes
+never_made : (p : PlannedShop) (vs : List Node) → ((v : Node) → IsAmong v vs → IsNeverMade p v) → AreNeverMade p vs
+never_made p [] each = tt
+never_made p (v ∷ vs) each = (each v (inl refl), never_made p vs λ u among. each u (inr among))
+
+pub cycle_never_made : (p : PlannedShop) (nodes : List Node) → IsWellShaped p → IsSimpleCycle p nodes → AreNeverMade p nodes
+cycle_never_made p nodes shaped cycle = never_made p nodes λ v among es run. elim (cases_lt v.place (made (ends_in p es) v.job)) [
+  | inl is_made ↦ absurd (cycle-none_made p nodes shaped cycle es run v among is_made)
+  | inr left ↦ left
+]
+
+pub cycle_never_done : (p : PlannedShop) (nodes : List Node) → IsWellShaped p → IsSimpleCycle p nodes → IsNeverDone p
+cycle_never_done p nodes shaped cycle es run = go (cycle_node p nodes cycle)
   where
     go : (v : Node) × (IsAmong v nodes × IsNode p v) → (j : ℕ) × (j < jobs p) × (IsGone p (ends_in p es) j → ⊥)
     go (v, (among, is_node)) = (v.job, is_node.job, λ gone. cycle-none_made p nodes shaped cycle es run v among (omega (arith, is_node.place)))

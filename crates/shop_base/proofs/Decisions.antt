@@ -5,7 +5,7 @@ use Rattle.shop_base.specs.declared.limits.TheConstants.{MAX_MOMENT}
 use Rattle.shop_base.specs.Plan.{PlannedShop, steps, machine_of, release, nominal, clean, order, job_at, Visits, Stands, IsWellShaped}
 use Rattle.shop_base.specs.Cell.{Cell, made, ready, since, entries, cleaning, IsOn, IsFree}
 use Rattle.shop_base.specs.Activity.{Activity, Arrival, Operation, Cleaning, GoesOn}
-use Rattle.shop_base.specs.Report.{Report, IsTimely, CanReport}
+use Rattle.shop_base.specs.Report.{Report, IsNextMoment, CanReport}
 use Rattle.shop_base.specs.Move.{CanLeave, CanEnter, CanMove, IsPrefix, KeepsPlan}
 use Rattle.shop_base.specs.Sound.{IsSound}
 use Rattle.shop_base.proofs.Visits.{visits-stands, stands_once, visits_or_not, on_or_not, leaves_past, past_leaves}
@@ -22,12 +22,12 @@ stands-keeps p c j m sound stands n visits =
 pub leaving-keeps : (p : PlannedShop) (c : Cell) (j : ℕ) → steps p j ≤ made c j → KeepsPlan p c j
 leaving-keeps p c j past m visits = absurd (omega (arith, visits.within))
 
-pub timely_now : (p : PlannedShop) (c : Cell) → IsSound p c → IsTimely c c.last
-timely_now p c sound = record { in_order = omega arith; in_range = sound.last_in_range }
+pub moment_now : (p : PlannedShop) (c : Cell) → IsSound p c → IsNextMoment c c.last
+moment_now p c sound = record { in_order = omega arith; in_range = sound.last_in_range }
 
--- a move that is possible at one moment is possible at each timely one
-pub move_at : (p : PlannedShop) (c : Cell) (j t u : ℕ) → CanMove p c j t → IsTimely c u → CanMove p c j u
-move_at p c j t u can timely = record { is_ready = can.is_ready; way = can.way; timely = timely }
+-- a move that is possible at one moment is possible at each that can be the next
+pub move_at : (p : PlannedShop) (c : Cell) (j t u : ℕ) → CanMove p c j t → IsNextMoment c u → CanMove p c j u
+move_at p c j t u can moment = record { is_ready = can.is_ready; way = can.way; moment = moment }
 
 -- a machine is free, or a job is on it, the newest entrant
 pub free_or_held : (p : PlannedShop) (c : Cell) (m : ℕ) → IsWellShaped p → IsSound p c → IsFree p c m ⊎ ((j : ℕ) × (k : ℕ) × IsOn p c j k m)
@@ -103,25 +103,25 @@ keeps_or_not p c j shaped sound = go (cases_lt (made c j) (steps p j))
         here (inl same) = inl (stands-keeps p c j m sound (subst (λ a. Stands p m a j (made c j)) (sym same) place.1))
         here (inr other) = inr λ keeps. other (stands_once p m (length (entries c m)) place.0 j (made c j) (made c j) shaped (target_place p c j m keeps visits) place.1)
 
-pub timely_or_not : (c : Cell) (t : ℕ) → IsTimely c t ⊎ (IsTimely c t → ⊥)
-timely_or_not c t = go (cases_lt t c.last) (cases_lt MAX_MOMENT t)
+pub moment_or_not : (c : Cell) (t : ℕ) → IsNextMoment c t ⊎ (IsNextMoment c t → ⊥)
+moment_or_not c t = go (cases_lt t c.last) (cases_lt MAX_MOMENT t)
   where
-    go : (t < c.last) ⊎ (c.last ≤ t) → (MAX_MOMENT < t) ⊎ (t ≤ MAX_MOMENT) → IsTimely c t ⊎ (IsTimely c t → ⊥)
-    go (inl before) range = inr λ timely. absurd (omega (arith, timely.in_order))
-    go (inr in_order) (inl late) = inr λ timely. absurd (omega (arith, timely.in_range))
+    go : (t < c.last) ⊎ (c.last ≤ t) → (MAX_MOMENT < t) ⊎ (t ≤ MAX_MOMENT) → IsNextMoment c t ⊎ (IsNextMoment c t → ⊥)
+    go (inl before) range = inr λ moment. absurd (omega (arith, moment.in_order))
+    go (inr in_order) (inl late) = inr λ moment. absurd (omega (arith, moment.in_range))
     go (inr in_order) (inr in_range) = inl (record { in_order = in_order; in_range = in_range })
 
 -- a job can move and keep the plan, or it can't
 pub moves_or_not : (p : PlannedShop) (c : Cell) (j t : ℕ) → IsWellShaped p → IsSound p c → (CanMove p c j t × KeepsPlan p c j) ⊎ (CanMove p c j t × KeepsPlan p c j → ⊥)
-moves_or_not p c j t shaped sound = go (ready c j) refl (way_or_not p c j shaped sound) (timely_or_not c t) (keeps_or_not p c j shaped sound)
+moves_or_not p c j t shaped sound = go (ready c j) refl (way_or_not p c j shaped sound) (moment_or_not c t) (keeps_or_not p c j shaped sound)
   where
-    go : (b : Bool) → ready c j ≡ b → HasWay p c j ⊎ (HasWay p c j → ⊥) → IsTimely c t ⊎ (IsTimely c t → ⊥)
+    go : (b : Bool) → ready c j ≡ b → HasWay p c j ⊎ (HasWay p c j → ⊥) → IsNextMoment c t ⊎ (IsNextMoment c t → ⊥)
         → KeepsPlan p c j ⊎ (KeepsPlan p c j → ⊥) → (CanMove p c j t × KeepsPlan p c j) ⊎ (CanMove p c j t × KeepsPlan p c j → ⊥)
-    go true is_ready (inl way) (inl timely) (inl keeps) = inl (record { is_ready = is_ready; way = way; timely = timely }, keeps)
-    go true is_ready (inl way) (inl timely) (inr breaks) = inr λ both. breaks both.1
-    go true is_ready (inl way) (inr untimely) keeps = inr λ both. untimely both.0.timely
-    go true is_ready (inr none) timely keeps = inr λ both. none both.0.way
-    go false idle way timely keeps = inr λ both. absurd (differ both.0.is_ready)
+    go true is_ready (inl way) (inl moment) (inl keeps) = inl (record { is_ready = is_ready; way = way; moment = moment }, keeps)
+    go true is_ready (inl way) (inl moment) (inr breaks) = inr λ both. breaks both.1
+    go true is_ready (inl way) (inr untimely) keeps = inr λ both. untimely both.0.moment
+    go true is_ready (inr none) moment keeps = inr λ both. none both.0.way
+    go false idle way moment keeps = inr λ both. absurd (differ both.0.is_ready)
       where
         differ : ready c j ≡ true → ⊥
         differ is_ready = cc
@@ -157,9 +157,9 @@ going_or_not p c (Cleaning m) = go (clean_or_not c m)
 
 -- a report is possible, or it isn't
 pub reports_or_not : (p : PlannedShop) (c : Cell) (r : Report) → CanReport p c r ⊎ (CanReport p c r → ⊥)
-reports_or_not p c r = go (going_or_not p c r.ended) (timely_or_not c r.at)
+reports_or_not p c r = go (going_or_not p c r.ended) (moment_or_not c r.at)
   where
-    go : ((due : ℕ) × GoesOn p c r.ended due) ⊎ ((due : ℕ) × GoesOn p c r.ended due → ⊥) → IsTimely c r.at ⊎ (IsTimely c r.at → ⊥) → CanReport p c r ⊎ (CanReport p c r → ⊥)
-    go (inl going) (inl timely) = inl (record { going = going; timely = timely })
-    go (inl going) (inr untimely) = inr λ can. untimely can.timely
-    go (inr none) timely = inr λ can. none can.going
+    go : ((due : ℕ) × GoesOn p c r.ended due) ⊎ ((due : ℕ) × GoesOn p c r.ended due → ⊥) → IsNextMoment c r.at ⊎ (IsNextMoment c r.at → ⊥) → CanReport p c r ⊎ (CanReport p c r → ⊥)
+    go (inl going) (inl moment) = inl (record { going = going; moment = moment })
+    go (inl going) (inr untimely) = inr λ can. untimely can.moment
+    go (inr none) moment = inr λ can. none can.going

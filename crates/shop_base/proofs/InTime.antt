@@ -1,4 +1,4 @@
--- In time: a cell is timely at the start, and punctual reports with the moves after them keep it so; in a timely cell each job keeps to the moment of its leaving.
+-- In time: the moments are kept at the start, and punctual reports with the moves after them keep them so; where the moments are kept each job keeps to the moment of its leaving.
 use Rattle.std.proofs.Common.{◌≡◌, ◌≢◌, ℕ, ◌+◌, ◌<◌, ◌≤◌, inl, inr, List, [], ◌∷◌, ◌++◌, length, Some, None, false, refl, sym, ap, ◌∙◌, ap₂, arith, le_refl}
 use Rattle.std.proofs.lemmas.Bool.{cases_lt, cases_eq}
 use Rattle.std.proofs.lemmas.List.{get_or_past, get_or-replicate, length-replicate}
@@ -15,7 +15,7 @@ use Rattle.shop_base.specs.Punctual.{IsPunctual, ArePunctual}
 use Rattle.shop_base.specs.Ends.{IsInTime}
 use Rattle.shop_base.specs.Graph.{RanksRise, MomentsFit, node, leaving}
 use Rattle.shop_base.specs.Sound.{IsSound}
-use Rattle.shop_base.specs.Timely.{IsAhead, IsOnTime, KeepsLeaving}
+use Rattle.shop_base.specs.KeptMoments.{IsAhead, KeepsMoments, KeepsLeaving}
 use Rattle.shop_base.proofs.Changes.{IsMoved, IsReadied, IsTidied, after_move-moved, with_ready-readied, with_clean-tidied, moves_within}
 use Rattle.shop_base.proofs.ControlledRuns.{leads_induction}
 use Rattle.shop_base.proofs.Keeping.{after_report-sound, after_move-sound, target_free}
@@ -29,27 +29,27 @@ some_injective : {s t : ℕ} → Some s ≡ Some t → s ≡ t
 some_injective e = cc
 
 -- a punctual report comes before the moment of each node that isn't made yet
-punctual-ahead : (p : PlannedShop) (rank kept : Node → ℕ) (c : Cell) (r : Report) → IsWellShaped p → RanksRise p rank → MomentsFit p kept → IsSound p c → IsAtRest p c → IsOnTime p kept c → IsPunctual p c r → IsAhead p kept c r.at
-punctual-ahead p rank kept c r shaped rise fit sound rest on_time punctual j k inside waits within =
+punctual-ahead : (p : PlannedShop) (rank kept : Node → ℕ) (c : Cell) (r : Report) → IsWellShaped p → RanksRise p rank → MomentsFit p kept → IsSound p c → IsAtRest p c → KeepsMoments p kept c → IsPunctual p c r → IsAhead p kept c r.at
+punctual-ahead p rank kept c r shaped rise fit sound rest keeps_moments punctual j k inside waits within =
     let found : HasActivityBy p c (node j (made c j)) = rest-active p rank c j shaped rise sound rest inside (omega arith) in
     let soon : r.at ≤ found.due = punctual found.activity found.due found.going in
-    let bound : found.due ≤ kept (node j (made c j)) = found.bound kept fit on_time in
+    let bound : found.due ≤ kept (node j (made c j)) = found.bound kept fit keeps_moments in
     let along : kept (node j (made c j)) ≤ kept (node j k) = moments_rise_along p kept j (made c j) k fit within waits in
     omega arith
 
--- a report that makes a job ready keeps the cell timely
-readied-on_time : (p : PlannedShop) (kept : Node → ℕ) (c : Cell) (j t : ℕ) (new : Cell) → IsReadied c j t new → IsAhead p kept c t → IsOnTime p kept c → IsOnTime p kept new
-readied-on_time p kept c j t new readied ahead on_time = record {
-  moved = λ i k entered. rw (readied.since_same i) (on_time.moved i k (sym (readied.made_same i) ∙ entered));
-  left = λ m a i k s stands newest cleaned. on_time.left m a i k s stands (rw readied.machines_same at newest) (rw readied.machines_same at cleaned);
+-- a report that makes a job ready keeps the moments
+readied-keeps_moments : (p : PlannedShop) (kept : Node → ℕ) (c : Cell) (j t : ℕ) (new : Cell) → IsReadied c j t new → IsAhead p kept c t → KeepsMoments p kept c → KeepsMoments p kept new
+readied-keeps_moments p kept c j t new readied ahead keeps_moments = record {
+  moved = λ i k entered. rw (readied.since_same i) (keeps_moments.moved i k (sym (readied.made_same i) ∙ entered));
+  left = λ m a i k s stands newest cleaned. keeps_moments.left m a i k s stands (rw readied.machines_same at newest) (rw readied.machines_same at cleaned);
   ahead = λ i k inside waits within. rw readied.moment (ahead i k inside (rw (← readied.made_same i) waits) within);
 }
 
--- a report that ends a cleaning keeps the cell timely
-tidied-on_time : (p : PlannedShop) (kept : Node → ℕ) (c : Cell) (m t : ℕ) (new : Cell) → IsTidied c m t new → IsAhead p kept c t → IsOnTime p kept c → IsOnTime p kept new
-tidied-on_time p kept c m t new tidied ahead on_time = record {
-  moved = λ i k entered. rw tidied.jobs_same (on_time.moved i k (rw tidied.jobs_same at entered));
-  left = λ n a i k s stands newest cleaned. on_time.left n a i k s stands (rw (tidied.entries_same n) at newest) (still n s cleaned);
+-- a report that ends a cleaning keeps the moments
+tidied-keeps_moments : (p : PlannedShop) (kept : Node → ℕ) (c : Cell) (m t : ℕ) (new : Cell) → IsTidied c m t new → IsAhead p kept c t → KeepsMoments p kept c → KeepsMoments p kept new
+tidied-keeps_moments p kept c m t new tidied ahead keeps_moments = record {
+  moved = λ i k entered. rw tidied.jobs_same (keeps_moments.moved i k (rw tidied.jobs_same at entered));
+  left = λ n a i k s stands newest cleaned. keeps_moments.left n a i k s stands (rw (tidied.entries_same n) at newest) (still n s cleaned);
   ahead = λ i k inside waits within. rw tidied.moment (ahead i k inside (rw tidied.jobs_same at waits) within);
 }
   where
@@ -59,19 +59,19 @@ tidied-on_time p kept c m t new tidied ahead on_time = record {
       | inr other ↦ sym (tidied.cleaning_elsewhere n other) ∙ cleaned
     ]
 
--- the end of an activity, at a moment that isn't past that of a node whose move isn't made yet, keeps the cell timely
-ended-on_time : (p : PlannedShop) (kept : Node → ℕ) (c : Cell) (a : Activity) (due t : ℕ) → IsSound p c → GoesOn p c a due → IsAhead p kept c t → IsOnTime p kept c → IsOnTime p kept (after_end c a t)
-ended-on_time p kept c (Arrival j) due t sound going ahead on_time =
-    readied-on_time p kept c j t (with_ready c j t) (with_ready-readied c j t going.not_ready (omega (arith, sound.job_count, outside_in_shop p c j sound going.outside))) ahead on_time
-ended-on_time p kept c (Operation j m) due t sound (k, worked) ahead on_time =
+-- the end of an activity, at a moment that isn't past that of a node whose move isn't made yet, keeps the moments
+ended-keeps_moments : (p : PlannedShop) (kept : Node → ℕ) (c : Cell) (a : Activity) (due t : ℕ) → IsSound p c → GoesOn p c a due → IsAhead p kept c t → KeepsMoments p kept c → KeepsMoments p kept (after_end c a t)
+ended-keeps_moments p kept c (Arrival j) due t sound going ahead keeps_moments =
+    readied-keeps_moments p kept c j t (with_ready c j t) (with_ready-readied c j t going.not_ready (omega (arith, sound.job_count, outside_in_shop p c j sound going.outside))) ahead keeps_moments
+ended-keeps_moments p kept c (Operation j m) due t sound (k, worked) ahead keeps_moments =
     let inside : j < jobs p = visits_job p j k m worked.on.visits in
-    readied-on_time p kept c j t (with_ready c j t) (with_ready-readied c j t worked.not_ready (omega (arith, sound.job_count))) ahead on_time
-ended-on_time p kept c (Cleaning m) due t sound (s, cleaned) ahead on_time =
-    tidied-on_time p kept c m t (with_clean c m t) (with_clean-tidied c m s t cleaned.is_cleaned) ahead on_time
+    readied-keeps_moments p kept c j t (with_ready c j t) (with_ready-readied c j t worked.not_ready (omega (arith, sound.job_count))) ahead keeps_moments
+ended-keeps_moments p kept c (Cleaning m) due t sound (s, cleaned) ahead keeps_moments =
+    tidied-keeps_moments p kept c m t (with_clean c m t) (with_clean-tidied c m s t cleaned.is_cleaned) ahead keeps_moments
 
--- a move at a moment that isn't past that of a node whose move isn't made yet keeps the cell timely
-moved-on_time : (p : PlannedShop) (kept : Node → ℕ) (c : Cell) (j t : ℕ) (new : Cell) → IsWellShaped p → IsSound p c → CanMove p c j t → IsMoved p c j t new → IsAhead p kept c t → IsOnTime p kept c → IsOnTime p kept new
-moved-on_time p kept c j t new shaped sound can change ahead on_time = record {
+-- a move at a moment that isn't past that of a node whose move isn't made yet keeps the moments
+moved-keeps_moments : (p : PlannedShop) (kept : Node → ℕ) (c : Cell) (j t : ℕ) (new : Cell) → IsWellShaped p → IsSound p c → CanMove p c j t → IsMoved p c j t new → IsAhead p kept c t → KeepsMoments p kept c → KeepsMoments p kept new
+moved-keeps_moments p kept c j t new shaped sound can change ahead keeps_moments = record {
   moved = moves;
   left = leaves;
   ahead = λ i k inside waits within. rw change.moment (ahead i k inside (earlier i k waits) within);
@@ -92,7 +92,7 @@ moved-on_time p kept c j t new shaped sound can change ahead on_time = record {
     moves i k entered = elim (cases_eq i j) [
       | inl same ↦ rw same (last k (rw same at entered))
       | inr other ↦ (let since_same : since new i ≡ since c i = ap (λ (s : JobState). s.since) (change.others i other) in
-          let before : since c i ≤ kept (node i k) = on_time.moved i k (sym (made_same i other) ∙ entered) in omega arith)
+          let before : since c i ≤ kept (node i k) = keeps_moments.moved i k (sym (made_same i other) ∙ entered) in omega arith)
     ]
 
     earlier : (i k : ℕ) → made new i ≤ k → made c i ≤ k
@@ -121,16 +121,16 @@ moved-on_time p kept c j t new shaped sound can change ahead on_time = record {
       ]
       | inr nowhere ↦ (let still : cleaning c m ≡ Some s = sym (change.cleaning_elsewhere m nowhere) ∙ cleaned in
           let entries_same : entries new m ≡ entries c m = change.not_entered m (λ visits. (let is_clean : cleaning c m ≡ None = (target_free p c j t m can visits).1 in cc)) in
-          on_time.left m a i k s stands (rw entries_same at newest) still)
+          keeps_moments.left m a i k s stands (rw entries_same at newest) still)
     ]
 
--- moves at the last moment keep the cell timely
-moves-on_time : (p : PlannedShop) (kept : Node → ℕ) (c : Cell) (t : ℕ) (js : List ℕ) → IsWellShaped p → IsSound p c → c.last ≡ t → AreMoves p c t js → IsOnTime p kept c → IsOnTime p kept (after_moves p c t js)
-moves-on_time p kept c t [] shaped sound at moves on_time = on_time
-moves-on_time p kept c t (j ∷ js) shaped sound at (can, keeps, moves) on_time =
+-- moves at the last moment keep the moments
+moves-keeps_moments : (p : PlannedShop) (kept : Node → ℕ) (c : Cell) (t : ℕ) (js : List ℕ) → IsWellShaped p → IsSound p c → c.last ≡ t → AreMoves p c t js → KeepsMoments p kept c → KeepsMoments p kept (after_moves p c t js)
+moves-keeps_moments p kept c t [] shaped sound at moves keeps_moments = keeps_moments
+moves-keeps_moments p kept c t (j ∷ js) shaped sound at (can, keeps, moves) keeps_moments =
     let change : IsMoved p c j t (after_move p c j t) = after_move-moved p c j t shaped sound can in
-    moves-on_time p kept (after_move p c j t) t js shaped (after_move-sound p c j t shaped sound can keeps) refl moves
-    (moved-on_time p kept c j t (after_move p c j t) shaped sound can change (rw at at on_time.ahead) on_time)
+    moves-keeps_moments p kept (after_move p c j t) t js shaped (after_move-sound p c j t shaped sound can keeps) refl moves
+    (moved-keeps_moments p kept c j t (after_move p c j t) shaped sound can change (rw at at keeps_moments.ahead) keeps_moments)
 
 -- after a report the last moment is the report's
 report_last : (c : Cell) (a : Activity) (t : ℕ) → (after_end c a t).last ≡ t
@@ -138,12 +138,12 @@ report_last c (Arrival j) t = refl
 report_last c (Operation j m) t = refl
 report_last c (Cleaning m) t = refl
 
--- a step of the controlled run keeps the cell timely, where its report is punctual
-pub step-on_time : (p : PlannedShop) (rank kept : Node → ℕ) (c : Cell) (r : Report) (js : List ℕ) → IsWellShaped p → RanksRise p rank → MomentsFit p kept → IsSound p c → IsAtRest p c → IsOnTime p kept c → IsStep p c r js → IsPunctual p c r → IsOnTime p kept (after_step p c r js)
-step-on_time p rank kept c r js shaped rise fit sound rest on_time step punctual =
+-- a step of the controlled run keeps the moments, where its report is punctual
+pub step-keeps_moments : (p : PlannedShop) (rank kept : Node → ℕ) (c : Cell) (r : Report) (js : List ℕ) → IsWellShaped p → RanksRise p rank → MomentsFit p kept → IsSound p c → IsAtRest p c → KeepsMoments p kept c → IsStep p c r js → IsPunctual p c r → KeepsMoments p kept (after_step p c r js)
+step-keeps_moments p rank kept c r js shaped rise fit sound rest keeps_moments step punctual =
     let (due, going) = step.can.going in
-    moves-on_time p kept (after_report c r) r.at js shaped (after_report-sound p c r shaped sound step.can) (report_last c r.ended r.at) step.moves
-    (ended-on_time p kept c r.ended due r.at sound going (punctual-ahead p rank kept c r shaped rise fit sound rest on_time punctual) on_time)
+    moves-keeps_moments p kept (after_report c r) r.at js shaped (after_report-sound p c r shaped sound step.can) (report_last c r.ended r.at) step.moves
+    (ended-keeps_moments p kept c r.ended due r.at sound going (punctual-ahead p rank kept c r shaped rise fit sound rest keeps_moments punctual) keeps_moments)
 
 -- at the start no job has moved at a later moment than 0
 start_since : (p : PlannedShop) (j : ℕ) → since (start p) j ≡ 0
@@ -159,19 +159,19 @@ start_clean p m = elim (cases_lt m (machines p)) [
   | inr outside ↦ ap (λ (s : MachineState). s.cleaning) (get_or_past (start p).machines m unused (rw length-replicate outside))
 ]
 
--- the start is timely
-pub start-on_time : (p : PlannedShop) (kept : Node → ℕ) → IsOnTime p kept (start p)
-start-on_time p kept = record {
+-- the moments are kept at the start
+pub start-keeps_moments : (p : PlannedShop) (kept : Node → ℕ) → KeepsMoments p kept (start p)
+start-keeps_moments p kept = record {
   moved = λ j k entered. (let zero_since : since (start p) j ≡ 0 = start_since p j in omega arith);
   left = λ m a i k s stands newest cleaned. cc (start_clean p m);
   ahead = λ j k inside waits within. omega arith;
 }
 
--- in a timely cell, a job of the shop keeps to the moment of its leaving
-pub on_time-keeps_leaving : (p : PlannedShop) (kept : Node → ℕ) (c : Cell) (j : ℕ) → IsSound p c → IsOnTime p kept c → j < jobs p → KeepsLeaving p kept c j
-on_time-keeps_leaving p kept c j sound on_time inside = elim (cases_lt (steps p j) (made c j)) [
-  | inl gone ↦ inl (record { gone = gone; by = on_time.moved j (steps p j) (omega (arith, sound.few_moves j inside)) })
-  | inr left ↦ inr (on_time.ahead j (steps p j) inside left (le_refl (steps p j)))
+-- where the moments are kept, a job of the shop keeps to the moment of its leaving
+pub leaving_kept : (p : PlannedShop) (kept : Node → ℕ) (c : Cell) (j : ℕ) → IsSound p c → KeepsMoments p kept c → j < jobs p → KeepsLeaving p kept c j
+leaving_kept p kept c j sound keeps_moments inside = elim (cases_lt (steps p j) (made c j)) [
+  | inl gone ↦ inl (record { gone = gone; by = keeps_moments.moved j (steps p j) (omega (arith, sound.few_moves j inside)) })
+  | inr left ↦ inr (keeps_moments.ahead j (steps p j) inside left (le_refl (steps p j)))
 ]
 
 -- a job that keeps to the moment of its leaving is in time, where that is within its budget
@@ -184,11 +184,11 @@ punctual_later : (p : PlannedShop) (c : Cell) (t : ℕ) (js : List ℕ) (es : Li
 punctual_later p c t [] es punctual = punctual
 punctual_later p c t (j ∷ js) es punctual = punctual_later p (after_move p c j t) t js es punctual
 
--- a controlled run of punctual reports keeps the cell timely
-pub leads-on_time : (p : PlannedShop) (rank kept : Node → ℕ) (c : Cell) (rs : List Report) (es : List Event) (end : Cell) → IsWellShaped p → RanksRise p rank → MomentsFit p kept → IsSound p c → IsAtRest p c → Leads p c rs es end → IsOnTime p kept c → ArePunctual p c es → IsOnTime p kept end
-leads-on_time p rank kept c rs es end shaped rise fit sound rest leads =
-    leads_induction p (λ c rs es end. IsOnTime p kept c → ArePunctual p c es → IsOnTime p kept end) shaped
-    (λ c sound rest on_time punctual. on_time)
-    (λ c r js rs es end sound rest step later on_time punctual.
-    later (step-on_time p rank kept c r js shaped rise fit sound rest on_time step punctual.0) (punctual_later p (after_report c r) r.at js es punctual.1))
-    (λ c r rs es end sound rest cannot later on_time punctual. later on_time punctual) c rs es end sound rest leads
+-- a controlled run of punctual reports keeps the moments
+pub leads-keeps_moments : (p : PlannedShop) (rank kept : Node → ℕ) (c : Cell) (rs : List Report) (es : List Event) (end : Cell) → IsWellShaped p → RanksRise p rank → MomentsFit p kept → IsSound p c → IsAtRest p c → Leads p c rs es end → KeepsMoments p kept c → ArePunctual p c es → KeepsMoments p kept end
+leads-keeps_moments p rank kept c rs es end shaped rise fit sound rest leads =
+    leads_induction p (λ c rs es end. KeepsMoments p kept c → ArePunctual p c es → KeepsMoments p kept end) shaped
+    (λ c sound rest keeps_moments punctual. keeps_moments)
+    (λ c r js rs es end sound rest step later keeps_moments punctual.
+    later (step-keeps_moments p rank kept c r js shaped rise fit sound rest keeps_moments step punctual.0) (punctual_later p (after_report c r) r.at js es punctual.1))
+    (λ c r rs es end sound rest cannot later keeps_moments punctual. later keeps_moments punctual) c rs es end sound rest leads

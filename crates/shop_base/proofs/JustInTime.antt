@@ -6,12 +6,12 @@ use Rattle.shop_base.specs.Report.{after_report}
 use Rattle.shop_base.specs.Move.{after_move}
 use Rattle.shop_base.specs.Run.{Event, Reported, Moved}
 use Rattle.shop_base.specs.Punctual.{ArePunctual, AreExact}
-use Rattle.shop_base.specs.Timely.{IsOnTime}
+use Rattle.shop_base.specs.KeptMoments.{KeepsMoments}
 use Rattle.shop_base.specs.Graph.{leaving}
 use Rattle.shop_base.specs.ExactLaw.{ExactRunsAreJustInTime}
 use Rattle.shop_base.proofs.ControlledRuns.{controlled_to_run, start_at_rest}
 use Rattle.shop_base.proofs.Keeping.{start-sound}
-use Rattle.shop_base.proofs.InTime.{start-on_time, leads-on_time}
+use Rattle.shop_base.proofs.InTime.{start-keeps_moments, leads-keeps_moments}
 use Rattle.shop_base.proofs.LowerBounds.{path_in_shop, no_exact_run_is_faster-holds}
 
 -- exact reports are punctual
@@ -21,12 +21,12 @@ exact-punctual p c (Reported r ∷ es) exact = (exact.0.punctual, exact-punctual
 exact-punctual p c (Moved o ∷ es) exact = exact-punctual p (after_move p c o.job o.at) es exact
 
 pub just_in_time-holds : ExactRunsAreJustInTime
-just_in_time-holds p rank kept rs es end shaped rise fit run exact j nodes path gone =
-    let (events, ends, sound, rest) = controlled_to_run p rs es end shaped run in
-    let on_time : IsOnTime p kept end =
-    leads-on_time p rank kept (start p) rs es end shaped rise fit (start-sound p shaped) (start_at_rest p) run (start-on_time p kept) (exact-punctual p (start p) es exact) in
+just_in_time-holds p rank kept rs es end schedule run exact j nodes path gone =
+    let (events, ends, sound, rest) = controlled_to_run p rs es end schedule.shaped run in
+    let keeps_moments : KeepsMoments p kept end =
+    leads-keeps_moments p rank kept (start p) rs es end schedule.shaped schedule.ranks schedule.moments (start-sound p schedule.shaped) (start_at_rest p) run (start-keeps_moments p kept) (exact-punctual p (start p) es exact) in
     let last : made end j ≡ steps p j + 1 = omega (arith, gone, sound.few_moves j (path_in_shop p nodes (leaving p j) (kept (leaving p j)) path)) in
-    let no_later : since end j ≤ kept (leaving p j) = on_time.moved j (steps p j) last in
+    let no_later : since end j ≤ kept (leaving p j) = keeps_moments.moved j (steps p j) last in
     let no_sooner : kept (leaving p j) ≤ since end j =
-    rw ends (no_exact_run_is_faster-holds p es shaped events exact j nodes (kept (leaving p j)) path (rw ends at gone)) in
+    rw ends (no_exact_run_is_faster-holds p j nodes (kept (leaving p j)) schedule.shaped path es events exact (rw ends at gone)) in
     omega arith

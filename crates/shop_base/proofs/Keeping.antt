@@ -9,7 +9,7 @@ use Rattle.shop_base.specs.Plan.{PlannedShop, jobs, machines, steps, order, job_
 use Rattle.shop_base.specs.Cell.{Cell, MachineState, absent, unused, job_in, machine_in, made, ready, entries, cleaning, start, IsOn, IsGone, IsFree}
 use Rattle.shop_base.specs.declared.job_state.JobState.{JobState}
 use Rattle.shop_base.specs.Activity.{Activity, Arrival, Operation, Cleaning, GoesOn}
-use Rattle.shop_base.specs.Report.{Report, IsTimely, CanReport, with_ready, with_clean, after_end, after_report}
+use Rattle.shop_base.specs.Report.{Report, IsNextMoment, CanReport, with_ready, with_clean, after_end, after_report}
 use Rattle.shop_base.specs.Move.{CanLeave, CanEnter, CanMove, KeepsPlan, IsPrefix, after_move}
 use Rattle.shop_base.specs.Run.{Event, Reported, Moved, CanHappen, AreEvents, after, after_all, IsRun, ends_in}
 use Rattle.shop_base.specs.Graph.{Arc, job_arc, blocking_arc, node}
@@ -127,19 +127,19 @@ tidied-like p c new m t sound in_range tidied = record {
 outside-inside : (c : Cell) (j : ℕ) → made c j ≡ 0 → j < length c.jobs
 outside-inside c j outside = lt_of_not-le λ past. absurd (omega (arith, ap (λ (x : JobState). x.made) (get_or_past c.jobs j absent past)))
 
-after_end-like : (p : PlannedShop) (c : Cell) (a : Activity) (due t : ℕ) → IsSound p c → GoesOn p c a due → IsTimely c t → IsLike p c (after_end c a t)
-after_end-like p c (Arrival j) due t sound going timely =
-    readied-like p c (with_ready c j t) j t sound timely.in_range (λ gone. omega (arith, going.outside))
+after_end-like : (p : PlannedShop) (c : Cell) (a : Activity) (due t : ℕ) → IsSound p c → GoesOn p c a due → IsNextMoment c t → IsLike p c (after_end c a t)
+after_end-like p c (Arrival j) due t sound going moment =
+    readied-like p c (with_ready c j t) j t sound moment.in_range (λ gone. omega (arith, going.outside))
     (with_ready-readied c j t going.not_ready (outside-inside c j going.outside))
-after_end-like p c (Operation j m) due t sound (k, going) timely =
-    readied-like p c (with_ready c j t) j t sound timely.in_range (λ gone. omega (arith, going.on.entered, going.on.visits.within))
+after_end-like p c (Operation j m) due t sound (k, going) moment =
+    readied-like p c (with_ready c j t) j t sound moment.in_range (λ gone. omega (arith, going.on.entered, going.on.visits.within))
     (with_ready-readied c j t going.not_ready (omega (arith, sound.job_count, visits_job p j k m going.on.visits)))
-after_end-like p c (Cleaning m) due t sound (from, going) timely =
-    tidied-like p c (with_clean c m t) m t sound timely.in_range (with_clean-tidied c m from t going.is_cleaned)
+after_end-like p c (Cleaning m) due t sound (from, going) moment =
+    tidied-like p c (with_clean c m t) m t sound moment.in_range (with_clean-tidied c m from t going.is_cleaned)
 
 -- a report changes no moves and no entries
 pub after_report-like : (p : PlannedShop) (c : Cell) (r : Report) → IsSound p c → CanReport p c r → IsLike p c (after_report c r)
-after_report-like p c r sound can = after_end-like p c r.ended can.going.0 r.at sound can.going.1 can.timely
+after_report-like p c r sound can = after_end-like p c r.ended can.going.0 r.at sound can.going.1 can.moment
 
 pub after_report-sound : (p : PlannedShop) (c : Cell) (r : Report) → IsWellShaped p → IsSound p c → CanReport p c r → IsSound p (after_report c r)
 after_report-sound p c r shaped sound can = like-sound p c (after_report c r) sound (after_report-like p c r sound can)
@@ -314,7 +314,7 @@ module _ (p : PlannedShop) (c : Cell) (j t : ℕ) (new : Cell) (shaped : IsWellS
   moved-sound = record {
     job_count = moved.job_count ∙ sound.job_count;
     machine_count = moved.machine_count ∙ sound.machine_count;
-    last_in_range = omega (arith, moved.moment, can.timely.in_range);
+    last_in_range = omega (arith, moved.moment, can.moment.in_range);
     few_moves = moved-few_moves;
     gone_not_ready = moved-gone_not_ready;
     in_order = moved-in_order;

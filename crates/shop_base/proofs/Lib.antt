@@ -9,7 +9,7 @@ pub mod Changes
 pub mod Keeping
 pub mod ControlledRuns
 pub mod Decisions
-pub mod Chain
+pub mod OneStep
 pub mod OneControlledRun
 pub mod Places
 pub mod NeverStuck

@@ -42,7 +42,7 @@ arc_in_time p c j t shaped sound bounds can keeps _ _ _ (job_arc i k within) n n
     let place : k + 1 ≡ made c j = ap (λ v. v.place) e in
     let count : made c i ≡ k + 1 = cc in
     let is_ready : ready c i ≡ true = cc (can.is_ready) in
-    omega (arith, bounds.moved i k n nodes count path, bounds.worked i k count within is_ready, can.timely.in_order)
+    omega (arith, bounds.moved i k n nodes count path, bounds.worked i k count within is_ready, can.moment.in_order)
 arc_in_time p c j t shaped sound bounds can keeps _ _ _ (blocking_arc m a i k h l one other) n nodes path e =
     let same : h ≡ j = ap (λ v. v.job) e in
     let place : l ≡ made c j = ap (λ v. v.place) e in
@@ -51,7 +51,7 @@ arc_in_time p c j t shaped sound bounds can keeps _ _ _ (blocking_arc m a i k h 
     let before : a < length (entries c m) = sound.made_entered m a i k one (omega arith) in
     let newest : length (entries c m) ≡ a + 1 = count_of mine before in
     let now : n + clean p m ≤ c.last = bounds.cleared m a i k n nodes one newest (target_free p c j t m can mine.visits).1 left path in
-    omega (arith, can.timely.in_order)
+    omega (arith, can.moment.in_order)
   where
     count_of : Stands p m (a + 1) j (made c j) → a < length (entries c m) → length (entries c m) ≡ a + 1
     count_of mine before = elim (cases_lt (a + 1) (length (entries c m))) [
@@ -67,7 +67,7 @@ next_in_time p c j t shaped sound bounds can keeps _ _ _ (begins i inside) e =
     let place : 0 ≡ made c j = ap (λ v. v.place) e in
     let outside : made c i ≡ 0 = cc in
     let is_ready : ready c i ≡ true = cc (can.is_ready) in
-    omega (arith, bounds.arrived i outside is_ready, can.timely.in_order)
+    omega (arith, bounds.arrived i outside is_ready, can.moment.in_order)
 next_in_time p c j t shaped sound bounds can keeps _ _ _ (follows nodes u v n d path arc) e =
     arc_in_time p c j t shaped sound bounds can keeps u v d arc n nodes path e
 
@@ -82,7 +82,7 @@ module _ (p : PlannedShop) (c new : Cell) (j t : ℕ) (shaped : IsWellShaped p) 
     | inl same ↦ (let one_more : made new i ≡ made c j + 1 = rw same change.made_mine in absurd (omega arith))
     | inr other ↦ (let kept = change.others i other in
         let before : release p i ≤ c.last = bounds.arrived i (sym (ap (λ (s : JobState). s.made) kept) ∙ outside) (sym (ap (λ (s : JobState). s.ready) kept) ∙ is_ready) in
-        omega (arith, can.timely.in_order, change.moment))
+        omega (arith, can.moment.in_order, change.moment))
   ]
 
   move-moved : (i k n : ℕ) (nodes : List Node) → made new i ≡ k + 1 → Path p nodes (node i k) n → n ≤ since new i
@@ -106,7 +106,7 @@ module _ (p : PlannedShop) (c new : Cell) (j t : ℕ) (shaped : IsWellShaped p) 
     | inr other ↦ (let kept = change.others i other in
         let before : since c i + nominal p i k ≤ c.last =
         bounds.worked i k (sym (ap (λ (s : JobState). s.made) kept) ∙ count) within (sym (ap (λ (s : JobState). s.ready) kept) ∙ is_ready) in
-        omega (arith, ap (λ (s : JobState). s.since) kept, can.timely.in_order, change.moment))
+        omega (arith, ap (λ (s : JobState). s.since) kept, can.moment.in_order, change.moment))
   ]
 
   -- the last entrant of a machine that the job has just left is the job
@@ -166,7 +166,7 @@ module _ (p : PlannedShop) (c new : Cell) (j t : ℕ) (shaped : IsWellShaped p) 
       unentered elsewhere away before =
           let old : n + clean p m ≤ c.last =
           bounds.cleared m a i k n nodes one (omega (arith, ap length (change.not_entered m away))) (sym (change.cleaning_elsewhere m elsewhere) ∙ is_clean) before path in
-          omega (arith, change.moment, can.timely.in_order)
+          omega (arith, change.moment, can.moment.in_order)
 
       left_before : ((l : ℕ) → IsOn p c j l m → ⊥) → k + 1 < made c i ⊎ (i ≡ j)
       left_before elsewhere = elim (cases_eq i j) [
@@ -292,7 +292,7 @@ end-no_faster p c (Cleaning m) t sound bounds (s, goes) later =
 -- what happens in an exact run leaves nothing earlier than the paths to it allow
 report-no_faster : (p : PlannedShop) (c : Cell) (r : Report) → IsSound p c → IsNoFaster p c → CanReport p c r → IsExact p c r
     → IsNoFaster p (after_report c r)
-report-no_faster p c r sound bounds can exact = end-no_faster p c r.ended r.at sound bounds exact.due can.timely.in_order
+report-no_faster p c r sound bounds can exact = end-no_faster p c r.ended r.at sound bounds exact.due can.moment.in_order
 
 -- only the jobs of the shop have paths
 pub path_in_shop : (p : PlannedShop) (nodes : List Node) (v : Node) (n : ℕ) → Path p nodes v n → v.job < jobs p
@@ -339,7 +339,7 @@ exact_split p c (Reported r ∷ es) rest exact = (exact.0, exact_split p (after_
 exact_split p c (Moved o ∷ es) rest exact = exact_split p (after_move p c o.job o.at) es rest exact
 
 pub no_exact_run_is_faster-holds : NoExactRunIsFaster
-no_exact_run_is_faster-holds p es shaped run exact j nodes n path gone =
+no_exact_run_is_faster-holds p j nodes n shaped path es run exact gone =
     let sound = run-sound p es shaped run in
     let inside : j < jobs p = path_in_shop p nodes (leaving p j) n path in
     (exact_run-no_faster p (start p) es shaped (start-sound p shaped) (start-no_faster p) run exact).moved j (steps p j) n nodes

@@ -13,7 +13,7 @@ use Rattle.shop_base.specs.Run.{IsAtRest, IsStuck}
 use Rattle.shop_base.specs.Ends.{HasEnded}
 use Rattle.shop_base.specs.Graph.{job_arc, blocking_arc, RanksRise, MomentsFit, node}
 use Rattle.shop_base.specs.Sound.{IsSound}
-use Rattle.shop_base.specs.Timely.{IsOnTime}
+use Rattle.shop_base.specs.KeptMoments.{KeepsMoments}
 use Rattle.shop_base.specs.NeverStuckLaw.{CanGoOn}
 use Rattle.shop_base.proofs.Visits.{visits_job, visits_machine, visits-stands, past_leaves}
 use Rattle.shop_base.proofs.Places.{stands_at, same_stand, prefix_grows}
@@ -23,12 +23,12 @@ cleaned_or_not : (cleaned : Option ℕ) → (cleaned ≡ None) ⊎ ((s : ℕ) ×
 cleaned_or_not None = inl refl
 cleaned_or_not (Some s) = inr (s, refl)
 
--- an activity going on, which in a timely cell is due at most at the moment kept for node v
+-- an activity going on, which where the moments are kept is due at most at the moment kept for node v
 pub record HasActivityBy (p : PlannedShop) (c : Cell) (v : Node) : Type 0 where
   pub activity : Activity
   pub due : ℕ
   pub going : GoesOn p c activity due
-  pub bound : (kept : Node → ℕ) → MomentsFit p kept → IsOnTime p kept c → due ≤ kept v
+  pub bound : (kept : Node → ℕ) → MomentsFit p kept → KeepsMoments p kept c → due ≤ kept v
 
 -- what rises with each step up to l rises from k to l
 pub rises : (g : ℕ → ℕ) (l k : ℕ) → ((n : ℕ) → n < l → g n ≤ g (n + 1)) → k ≤ l → g k ≤ g l
@@ -62,14 +62,14 @@ not_ready-active p c j zero inside not_ready made_is within = record {
   activity = Arrival j;
   due = release p j;
   going = record { outside = made_is; not_ready = not_ready; is_due = refl };
-  bound = λ kept fit on_time. fit.releases j inside;
+  bound = λ kept fit keeps_moments. fit.releases j inside;
 }
 not_ready-active p c j (suc k) inside not_ready made_is within = record {
   activity = Operation j (machine_of p j k);
   due = since c j + nominal p j k;
   going = (k, record { on = record { entered = omega arith; visits = record { within = within; here = refl } }; not_ready = not_ready; is_due = refl });
-  bound = λ kept fit on_time.
-      let began : since c j ≤ kept (node j k) = on_time.moved j k (omega arith) in
+  bound = λ kept fit keeps_moments.
+      let began : since c j ≤ kept (node j k) = keeps_moments.moved j k (omega arith) in
       let arc : kept (node j k) + nominal p j k ≤ kept (node j (k + 1)) = fit.arcs _ _ _ (job_arc j k within) in
       rw (← add-one k) (omega arith);
 }
@@ -77,7 +77,7 @@ not_ready-active p c j (suc k) inside not_ready made_is within = record {
 -- a ready job that has made all its entries can leave
 no_leaving : (p : PlannedShop) (c : Cell) (j : ℕ) → IsSound p c → IsAtRest p c → ready c j ≡ true → made c j ≡ steps p j → ⊥
 no_leaving p c j sound rest is_ready all = rest j c.last
-    (record { is_ready = is_ready; way = inl (past_leaves p c j (omega arith)); timely = record { in_order = le_refl c.last; in_range = sound.last_in_range } })
+    (record { is_ready = is_ready; way = inl (past_leaves p c j (omega arith)); moment = record { in_order = le_refl c.last; in_range = sound.last_in_range } })
     (λ m visits. absurd (omega (arith, visits.within)))
 
 -- a ready job that is next in the order of its machine can enter it where that is free and clean
@@ -86,7 +86,7 @@ no_entry p c j m a shaped sound rest is_ready stands next free is_clean = rest j
     (record {
       is_ready = is_ready;
       way = inr (m, record { next = stands.visits; free = free; is_clean = is_clean });
-      timely = record { in_order = le_refl c.last; in_range = sound.last_in_range };
+      moment = record { in_order = le_refl c.last; in_range = sound.last_in_range };
     })
     (λ n visits. subst (λ n. IsPrefix (entries c n ++ j ∷ []) (order p n)) (sym stands.visits.here ∙ visits.here) grown)
   where
@@ -119,9 +119,9 @@ behind-active p c m b i k j l before after here found = record {
   activity = found.activity;
   due = found.due;
   going = found.going;
-  bound = λ kept fit on_time.
+  bound = λ kept fit keeps_moments.
       let within : k < steps p i = before.visits.within in
-      let first : found.due ≤ kept (node i (made c i)) = found.bound kept fit on_time in
+      let first : found.due ≤ kept (node i (made c i)) = found.bound kept fit keeps_moments in
       let along : kept (node i (made c i)) ≤ kept (node i (k + 1)) = moments_rise_along p kept i (made c i) (k + 1) fit (omega arith) here in
       let arc : kept (node i (k + 1)) + clean p m ≤ kept (node j l) = fit.arcs _ _ _ (blocking_arc m b i k j l before after) in
       omega arith;
@@ -133,8 +133,8 @@ cleaned-active p c m b i k j l s before after newest cleaned = record {
   activity = Cleaning m;
   due = s + clean p m;
   going = (s, record { is_cleaned = cleaned; is_due = refl });
-  bound = λ kept fit on_time.
-      let began : s ≤ kept (node i (k + 1)) = on_time.left m b i k s before newest cleaned in
+  bound = λ kept fit keeps_moments.
+      let began : s ≤ kept (node i (k + 1)) = keeps_moments.left m b i k s before newest cleaned in
       let arc : kept (node i (k + 1)) + clean p m ≤ kept (node j l) = fit.arcs _ _ _ (blocking_arc m b i k j l before after) in
       omega arith;
 }
@@ -206,7 +206,7 @@ all-active p rank c (suc n) shaped rise sound rest j inside left below =
     waits-active p rank c j shaped rise sound rest inside left
     (λ i here to_go less. all-active p rank c n shaped rise sound rest i here to_go (omega arith))
 
--- at rest, a job of the shop that isn't gone waits for an activity, which in a timely cell is due at most at the moment kept for its next node
+-- at rest, a job of the shop that isn't gone waits for an activity, which where the moments are kept is due at most at the moment kept for its next node
 pub rest-active : (p : PlannedShop) (rank : Node → ℕ) (c : Cell) (j : ℕ) → IsWellShaped p → RanksRise p rank → IsSound p c → IsAtRest p c → j < jobs p → made c j ≤ steps p j → HasActivityBy p c (node j (made c j))
 rest-active p rank c j shaped rise sound rest inside left = all-active p rank c (suc (rank (node j (made c j)))) shaped rise sound rest j inside left (omega arith)
 
@@ -252,7 +252,7 @@ outside-gone p c j sound outside =
 -- an activity going on can be reported at the last moment
 goes_on-reportable : (p : PlannedShop) (c : Cell) (a : Activity) (due : ℕ) → IsSound p c → GoesOn p c a due → CanGoOn p c
 goes_on-reportable p c a due sound going =
-    (a, due, going, record { going = (due, going); timely = record { in_order = le_refl c.last; in_range = sound.last_in_range } })
+    (a, due, going, record { going = (due, going); moment = record { in_order = le_refl c.last; in_range = sound.last_in_range } })
 
 -- at rest, the run has ended, or an activity going on can be reported at the last moment
 pub ended-or-goes_on : (p : PlannedShop) (rank : Node → ℕ) (c : Cell) → IsWellShaped p → RanksRise p rank → IsSound p c → IsAtRest p c → HasEnded p c ⊎ CanGoOn p c

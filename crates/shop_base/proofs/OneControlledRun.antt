@@ -9,7 +9,7 @@ use Rattle.shop_base.specs.Sound.{IsSound}
 use Rattle.shop_base.proofs.Keeping.{start-sound}
 use Rattle.shop_base.proofs.ControlledRuns.{after_step-sound, start_at_rest}
 use Rattle.shop_base.proofs.Decisions.{reports_or_not}
-use Rattle.shop_base.proofs.Chain.{one_step}
+use Rattle.shop_base.proofs.OneStep.{one_step}
 
 -- no reports lead to no events, and to the same cell
 pub leads-none : (p : PlannedShop) (c : Cell) (es : List Event) (end : Cell) → Leads p c [] es end → (es ≡ []) × (end ≡ c)

@@ -8,7 +8,7 @@ use Rattle.shop_base.specs.Report.{Report, CanReport, with_ready, with_clean, af
 use Rattle.shop_base.specs.Move.{CanMove, after_move}
 use Rattle.shop_base.specs.Run.{Event, Reported, Moved, AreEvents, after_all}
 use Rattle.shop_base.specs.Controlled.{AreMoves, after_moves}
-use Rattle.shop_base.specs.Ends.{report_count, move_count}
+use Rattle.shop_base.specs.Ends.{reports_in, moves_in}
 use Rattle.shop_base.specs.Movers.{counted, ready_count}
 use Rattle.shop_base.specs.Sound.{IsSound}
 use Rattle.shop_base.proofs.Visits.{visits_job}
@@ -82,7 +82,7 @@ after_moves-ready_count p c t (j ∷ js) shaped sound moves =
 
 -- in any run the moves, and the jobs that are ready at its end, are no more than the reports, and the jobs that were ready at its beginning
 pub run-ready_count : (p : PlannedShop) (c : Cell) (es : List Event) → IsWellShaped p → IsSound p c → AreEvents p c es
-    → move_count es + ready_count p (after_all p c es) ≤ report_count es + ready_count p c
+    → moves_in es + ready_count p (after_all p c es) ≤ reports_in es + ready_count p c
 run-ready_count p c [] shaped sound events = omega arith
 run-ready_count p c (Reported r ∷ es) shaped sound events =
     omega (

@@ -10,7 +10,7 @@ use Rattle.shop_base.specs.Report.{Report, CanReport, with_ready, with_clean, af
 use Rattle.shop_base.specs.Move.{CanMove, KeepsPlan, after_move}
 use Rattle.shop_base.specs.Run.{Event, Reported, Moved, AreEvents, after_all, IsAtRest}
 use Rattle.shop_base.specs.Controlled.{AreMoves, after_moves, IsStep, after_step}
-use Rattle.shop_base.specs.Ends.{cleanings_of, stated_number, HasEnded, report_count}
+use Rattle.shop_base.specs.Ends.{cleanings_of, stated_number, HasEnded, reports_in}
 use Rattle.shop_base.specs.ReportsLeft.{busy, job_reports_left, is_off, is_on_after, departures, cleanings_left, reports_left}
 use Rattle.shop_base.specs.Sound.{IsSound}
 use Rattle.shop_base.proofs.Visits.{visits_job, visits_once, visits_or_not, on_or_not, leaves_past, past_leaves}
@@ -261,7 +261,7 @@ gone_where_none p c sound rest none j inside = elim (cases_lt (steps p j) (made 
     can_leave : ready c j ≡ true → made c j ≤ steps p j → ⊥
     can_leave is_ready here =
         let whole : made c j ≡ steps p j = omega (arith, mine) in
-        rest j c.last (record { is_ready = is_ready; way = inl (past_leaves p c j (omega arith)); timely = record { in_order = omega arith; in_range = sound.last_in_range } })
+        rest j c.last (record { is_ready = is_ready; way = inl (past_leaves p c j (omega arith)); moment = record { in_order = omega arith; in_range = sound.last_in_range } })
         (λ m next. absurd (omega (arith, next.within)))
 
 idle_where_none : (p : PlannedShop) (c : Cell) → IsSound p c → ((j : ℕ) → j < jobs p → IsGone p c j) → reports_left p c ≡ 0 → IsIdle p c
@@ -329,7 +329,7 @@ none_where_ended p c shaped sound ended =
 
 -- in any run the reports made and those to come are as many as those to come at its beginning
 pub run-reports_left : (p : PlannedShop) (c : Cell) (es : List Event) → IsWellShaped p → IsSound p c → AreEvents p c es
-    → report_count es + reports_left p (after_all p c es) ≡ reports_left p c
+    → reports_in es + reports_left p (after_all p c es) ≡ reports_left p c
 run-reports_left p c [] shaped sound events = omega arith
 run-reports_left p c (Reported r ∷ es) shaped sound events =
     omega (

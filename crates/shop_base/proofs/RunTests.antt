@@ -146,7 +146,7 @@ rest_decides p c = Decides-like (rest_test p c) at_rest was_at_rest
   where
     at_rest : ((j : ℕ) → j < length c.jobs → CanMove p c j c.last × KeepsPlan p c j → ⊥) → IsAtRest p c
     at_rest none j t can keeps = none j (job_known c j (inr can.is_ready))
-        (record { is_ready = can.is_ready; way = can.way; timely = record { in_order = omega arith; in_range = omega (arith, can.timely.in_order, can.timely.in_range) } }, keeps)
+        (record { is_ready = can.is_ready; way = can.way; moment = record { in_order = omega arith; in_range = omega (arith, can.moment.in_order, can.moment.in_range) } }, keeps)
 
     was_at_rest : IsAtRest p c → (j : ℕ) → j < length c.jobs → CanMove p c j c.last × KeepsPlan p c j → ⊥
     was_at_rest rest j within (can, keeps) = rest j c.last can keeps

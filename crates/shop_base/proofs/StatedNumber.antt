@@ -1,7 +1,7 @@
 -- A controlled run ends on the stated number of reports, and never has more orders than reports.
 use Rattle.std.proofs.Common.{◌≡◌, ◌+◌, ap, arith}
 use Rattle.shop_base.specs.Cell.{start}
-use Rattle.shop_base.specs.Ends.{report_count, stated_number}
+use Rattle.shop_base.specs.Ends.{reports_in, stated_number}
 use Rattle.shop_base.specs.ReportsLeft.{reports_left}
 use Rattle.shop_base.specs.EndsLaw.{EndsOnTheStatedNumber, OrdersNeverOutnumberReports, MovesNeverOutnumberReports}
 use Rattle.shop_base.proofs.Keeping.{start-sound}
@@ -12,7 +12,7 @@ use Rattle.shop_base.proofs.ReadyCount.{start-ready_count, run-ready_count}
 pub ends_on_the_stated_number-holds : EndsOnTheStatedNumber
 ends_on_the_stated_number-holds p rs es end shaped controlled =
     let (run, ends, sound, rest) = controlled_to_run p rs es end shaped controlled in
-    let count : report_count es + reports_left p end ≡ stated_number p = omega (arith, run-reports_left p (start p) es shaped (start-sound p shaped) run, start-reports_left p, ap (reports_left p) ends) in (
+    let count : reports_in es + reports_left p end ≡ stated_number p = omega (arith, run-reports_left p (start p) es shaped (start-sound p shaped) run, start-reports_left p, ap (reports_left p) ends) in (
       count,
       (
         (λ ended. omega (arith, count, none_where_ended p end shaped sound ended)),

@@ -37,13 +37,13 @@ abbrev pub IsInTime : PlannedShop → Cell → ℕ → Type 0
 IsInTime p c j = IsOutByBudget p c j ⊎ (c.last ≤ budget p j)
 
 -- how many reports are among the events
-abbrev pub report_count : List Event → ℕ
-report_count [] = 0
-report_count (Reported r ∷ es) = report_count es + 1
-report_count (Moved o ∷ es) = report_count es
+abbrev pub reports_in : List Event → ℕ
+reports_in [] = 0
+reports_in (Reported r ∷ es) = reports_in es + 1
+reports_in (Moved o ∷ es) = reports_in es
 
 -- how many moves are among the events
-abbrev pub move_count : List Event → ℕ
-move_count [] = 0
-move_count (Reported r ∷ es) = move_count es
-move_count (Moved o ∷ es) = move_count es + 1
+abbrev pub moves_in : List Event → ℕ
+moves_in [] = 0
+moves_in (Reported r ∷ es) = moves_in es
+moves_in (Moved o ∷ es) = moves_in es + 1

@@ -4,21 +4,21 @@ use Rattle.shop_base.specs.Cell.{Cell}
 use Rattle.shop_base.specs.Report.{Report}
 use Rattle.shop_base.specs.Run.{Event, IsRun}
 use Rattle.shop_base.specs.Controlled.{IsControlledRun}
-use Rattle.shop_base.specs.Ends.{HasEnded, stated_number, report_count, move_count}
+use Rattle.shop_base.specs.Ends.{HasEnded, stated_number, reports_in, moves_in}
 use Rattle.shop_base.specs.ReportsLeft.{reports_left}
 
 -- in every controlled run the reports that were accepted and those still to come are as many as the stated number, and it has ended just where as many were accepted
 abbrev pub EndsOnTheStatedNumber : Type 0
 EndsOnTheStatedNumber =
     (p : PlannedShop) (rs : List Report) (es : List Event) (end : Cell) → IsWellShaped p → IsControlledRun p rs es end
-    → (report_count es + reports_left p end ≡ stated_number p) × (HasEnded p end ↔ (report_count es ≡ stated_number p))
+    → (reports_in es + reports_left p end ≡ stated_number p) × (HasEnded p end ↔ (reports_in es ≡ stated_number p))
 
 -- in every controlled run there are no more orders than accepted reports
 abbrev pub OrdersNeverOutnumberReports : Type 0
 OrdersNeverOutnumberReports =
     (p : PlannedShop) (rs : List Report) (es : List Event) (end : Cell) → IsWellShaped p → IsControlledRun p rs es end
-    → move_count es ≤ report_count es
+    → moves_in es ≤ reports_in es
 
 -- nor are there more moves than reports in any other run
 abbrev pub MovesNeverOutnumberReports : Type 0
-MovesNeverOutnumberReports = (p : PlannedShop) (es : List Event) → IsWellShaped p → IsRun p es → move_count es ≤ report_count es
+MovesNeverOutnumberReports = (p : PlannedShop) (es : List Event) → IsWellShaped p → IsRun p es → moves_in es ≤ reports_in es

@@ -7,14 +7,15 @@ use Rattle.shop_base.specs.declared.move_order.MoveOrder.{MoveOrder}
 use Rattle.shop_base.specs.Run.{Event, Moved, IsRun, ends_in}
 use Rattle.shop_base.specs.Controlled.{IsControlledRun}
 use Rattle.shop_base.specs.Punctual.{AreExact}
-use Rattle.shop_base.specs.Graph.{node, leaving, Path, RanksRise, MomentsFit}
+use Rattle.shop_base.specs.Graph.{node, leaving, Path, IsSchedule}
 
--- in a run whose reports are exact, a job that is gone isn't gone since before the length of any path to its leaving
+-- in no run whose reports are exact is job j gone since before moment n
+abbrev pub IsNeverGoneBefore : PlannedShop → ℕ → ℕ → Type 0
+IsNeverGoneBefore p j n = (es : List Event) → IsRun p es → AreExact p (start p) es → IsGone p (ends_in p es) j → n ≤ since (ends_in p es) j
+
+-- no exact run is faster: no job is gone before the length of any path to its leaving
 abbrev pub NoExactRunIsFaster : Type 0
-NoExactRunIsFaster =
-    (p : PlannedShop) (es : List Event) → IsWellShaped p → IsRun p es → AreExact p (start p) es
-    → (j : ℕ) (nodes : List Node) (n : ℕ) → Path p nodes (leaving p j) n → IsGone p (ends_in p es) j
-    → n ≤ since (ends_in p es) j
+NoExactRunIsFaster = (p : PlannedShop) (j : ℕ) (nodes : List Node) (n : ℕ) → IsWellShaped p → Path p nodes (leaving p j) n → IsNeverGoneBefore p j n
 
 -- in a run whose reports are exact, no move is made before the length of any path to the node that it makes
 abbrev pub NoExactMoveIsEarlier : Type 0
@@ -24,10 +25,10 @@ NoExactMoveIsEarlier =
     → (nodes : List Node) (n : ℕ) → Path p nodes (node o.job (made (ends_in p es) o.job)) n
     → n ≤ o.at
 
--- just in time: where ranks rise along every arc, moments are kept that fit, and all reports of a controlled run are exact, a job that is gone is gone since just the moment of its leaving, if a path to its leaving is that long
+-- just in time: where a plan has a schedule, and all reports of a controlled run are exact, a job that is gone is gone since just the moment of its leaving, if a path to its leaving is that long
 abbrev pub ExactRunsAreJustInTime : Type 0
 ExactRunsAreJustInTime =
     (p : PlannedShop) (rank kept : Node → ℕ) (rs : List Report) (es : List Event) (end : Cell)
-    → IsWellShaped p → RanksRise p rank → MomentsFit p kept → IsControlledRun p rs es end → AreExact p (start p) es
+    → IsSchedule p rank kept → IsControlledRun p rs es end → AreExact p (start p) es
     → (j : ℕ) (nodes : List Node) → Path p nodes (leaving p j) (kept (leaving p j)) → IsGone p end j
     → since end j ≡ kept (leaving p j)

@@ -44,8 +44,8 @@ abbrev pub crossed : PlannedShop
 crossed = planned two_jobs (100 ∷ 100 ∷ []) ((0 ∷ 1 ∷ []) ∷ (1 ∷ 0 ∷ []) ∷ []) None
 
 -- three jobs that visit three machines in the same direction, one behind the other
-abbrev pub in_chain : PlannedShop
-in_chain = planned
+abbrev pub in_flow : PlannedShop
+in_flow = planned
     (record {
       machines = 3;
       routes = (on_for 0 1 ∷ on_for 1 1 ∷ on_for 2 5 ∷ [])
@@ -80,8 +80,8 @@ abbrev pub finish : ℕ → ℕ → ℕ → Report
 finish t j m = record { ended = Operation j m; at = t }
 
 -- at moment t machine m is clean
-abbrev pub clean : ℕ → ℕ → Report
-clean t m = record { ended = Cleaning m; at = t }
+abbrev pub tidy : ℕ → ℕ → Report
+tidy t m = record { ended = Cleaning m; at = t }
 
 -- the order that job j go from one place to another at moment t
 abbrev pub go : ℕ → ℕ → Spot → Spot → MoveOrder
@@ -192,15 +192,15 @@ abbrev pub exchange : List Event
 exchange = Moved (go 4 0 (At 0) (At 1)) ∷ Moved (go 4 1 (At 1) (At 0)) ∷ []
 
 -- each activity ends when it is due
-abbrev pub chain_reports : List Report
-chain_reports = arrive 0 0 ∷ arrive 0 1 ∷ arrive 0 2
+abbrev pub flow_reports : List Report
+flow_reports = arrive 0 0 ∷ arrive 0 1 ∷ arrive 0 2
     ∷ finish 1 0 0 ∷ finish 2 0 1 ∷ finish 2 1 0
     ∷ finish 3 1 1 ∷ finish 3 2 0 ∷ finish 7 0 2
     ∷ finish 8 1 2 ∷ finish 8 2 1 ∷ finish 9 2 2 ∷ []
 
--- the controlled run of these reports, with the plan in chain
-abbrev pub chain_log : List Event
-chain_log = Reported (arrive 0 0) ∷ Moved (go 0 0 Out (At 0))
+-- the controlled run of these reports, with that plan
+abbrev pub flow_log : List Event
+flow_log = Reported (arrive 0 0) ∷ Moved (go 0 0 Out (At 0))
     ∷ Reported (arrive 0 1)
     ∷ Reported (arrive 0 2)
     ∷ Reported (finish 1 0 0) ∷ Moved (go 1 0 (At 0) (At 1)) ∷ Moved (go 1 1 Out (At 0))
@@ -215,16 +215,16 @@ chain_log = Reported (arrive 0 0) ∷ Moved (go 0 0 Out (At 0))
     ∷ []
 
 -- the cell after the first n events of that run
-abbrev pub chain_after : ℕ → Cell
-chain_after n = ends_in in_chain (take n chain_log)
+abbrev pub flow_after : ℕ → Cell
+flow_after n = ends_in in_flow (take n flow_log)
 
 -- the cell at the end of that run
-abbrev pub chain_end : Cell
-chain_end = ends_in in_chain chain_log
+abbrev pub flow_end : Cell
+flow_end = ends_in in_flow flow_log
 
 -- each activity ends when it is due, the cleanings too
 abbrev pub cleaned_reports : List Report
-cleaned_reports = arrive 0 0 ∷ arrive 0 1 ∷ finish 3 0 0 ∷ finish 5 0 1 ∷ clean 7 1 ∷ finish 11 1 1 ∷ finish 12 1 0 ∷ clean 13 1 ∷ []
+cleaned_reports = arrive 0 0 ∷ arrive 0 1 ∷ finish 3 0 0 ∷ finish 5 0 1 ∷ tidy 7 1 ∷ finish 11 1 1 ∷ finish 12 1 0 ∷ tidy 13 1 ∷ []
 
 -- the controlled run of these reports, with the plan in series and the cleaning of machine 1
 abbrev pub cleaned_log : List Event
@@ -232,10 +232,10 @@ cleaned_log = Reported (arrive 0 0) ∷ Moved (go 0 0 Out (At 0))
     ∷ Reported (arrive 0 1)
     ∷ Reported (finish 3 0 0) ∷ Moved (go 3 0 (At 0) (At 1))
     ∷ Reported (finish 5 0 1) ∷ Moved (go 5 0 (At 1) Out)
-    ∷ Reported (clean 7 1) ∷ Moved (go 7 1 Out (At 1))
+    ∷ Reported (tidy 7 1) ∷ Moved (go 7 1 Out (At 1))
     ∷ Reported (finish 11 1 1) ∷ Moved (go 11 1 (At 1) (At 0))
     ∷ Reported (finish 12 1 0) ∷ Moved (go 12 1 (At 0) Out)
-    ∷ Reported (clean 13 1)
+    ∷ Reported (tidy 13 1)
     ∷ []
 
 -- the cell after the first n events of that run
@@ -248,11 +248,11 @@ cleaned_end = ends_in with_cleaning cleaned_log
 
 -- among them are reports of a machine that isn't being cleaned, of no machine of the shop, and of a moment past
 abbrev pub refused_reports : List Report
-refused_reports = arrive 0 0 ∷ arrive 0 1 ∷ finish 3 0 0 ∷ finish 5 0 1 ∷ clean 5 0 ∷ clean 5 2 ∷ clean 4 1 ∷ clean 8 1 ∷ []
+refused_reports = arrive 0 0 ∷ arrive 0 1 ∷ finish 3 0 0 ∷ finish 5 0 1 ∷ tidy 5 0 ∷ tidy 5 2 ∷ tidy 4 1 ∷ tidy 8 1 ∷ []
 
 -- their controlled run, with the same plan: the last report alone of the cleanings is possible, and it is late
 abbrev pub refused_log : List Event
-refused_log = take 7 cleaned_log ++ Reported (clean 8 1) ∷ Moved (go 8 1 Out (At 1)) ∷ []
+refused_log = take 7 cleaned_log ++ Reported (tidy 8 1) ∷ Moved (go 8 1 Out (At 1)) ∷ []
 
 -- the cell after the first n events of that run
 abbrev pub refused_after : ℕ → Cell

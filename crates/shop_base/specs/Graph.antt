@@ -1,6 +1,6 @@
 use Rattle.std.specs.Prelude.{◌≢◌, ℕ, ◌+◌, ◌<◌, ◌≤◌, List, [], ◌∷◌, ◌++◌, length}
 use Rattle.shop_base.specs.declared.node.Node.{Node}
-use Rattle.shop_base.specs.Plan.{PlannedShop, jobs, steps, nominal, release, budget, clean, order, job_at, Stands}
+use Rattle.shop_base.specs.Plan.{PlannedShop, jobs, steps, nominal, release, budget, clean, order, job_at, Stands, IsWellShaped}
 
 -- job j's entry of step k, or, where k is the length of its route, its leaving
 abbrev pub node : ℕ → ℕ → Node
@@ -63,6 +63,12 @@ pub record MomentsFit (p : PlannedShop) (kept : Node → ℕ) : Type 0 where
 -- each leaving is within its budget
 abbrev pub MeetBudgets : PlannedShop → (Node → ℕ) → Type 0
 MeetBudgets p kept = (j : ℕ) → j < jobs p → kept (leaving p j) ≤ budget p j
+
+-- a schedule of a well-shaped plan: ranks that rise along every arc, and moments that fit
+pub record IsSchedule (p : PlannedShop) (rank kept : Node → ℕ) : Type 0 where
+  pub shaped : IsWellShaped p
+  pub ranks : RanksRise p rank
+  pub moments : MomentsFit p kept
 
 -- the serial plan's order: each machine takes its jobs in ascending order
 abbrev pub IsSerial : PlannedShop → Type 0

@@ -16,8 +16,8 @@ pub mod ReportsLeft
 pub mod Graph
 pub mod NodeText
 pub mod Sound
-pub mod Timely
-pub mod ChainLaw
+pub mod KeptMoments
+pub mod StepLaw
 pub mod NeverStuckLaw
 pub mod EndsLaw
 pub mod InTimeLaw

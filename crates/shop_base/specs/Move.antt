@@ -5,7 +5,7 @@ use Rattle.shop_base.specs.declared.move_order.Spot.TheVariants.{Out, At}
 use Rattle.shop_base.specs.declared.move_order.MoveOrder.{MoveOrder}
 use Rattle.shop_base.specs.Plan.{PlannedShop, route, clean, order, Visits}
 use Rattle.shop_base.specs.Cell.{Cell, machine_in, with_job, with_machine, made, ready, entries, cleaning, remaining_route, IsFree}
-use Rattle.shop_base.specs.Report.{IsTimely}
+use Rattle.shop_base.specs.Report.{IsNextMoment}
 
 -- the first machine of what is left of a route, or out of the cell where nothing is left
 abbrev pub first_stop : List Step → Spot
@@ -39,7 +39,7 @@ pub record CanEnter (p : PlannedShop) (c : Cell) (j m : ℕ) : Type 0 where
 pub record CanMove (p : PlannedShop) (c : Cell) (j t : ℕ) : Type 0 where
   pub is_ready : ready c j ≡ true
   pub way : CanLeave p c j ⊎ ((m : ℕ) × CanEnter p c j m)
-  pub timely : IsTimely c t
+  pub moment : IsNextMoment c t
 
 -- one list begins another
 abbrev pub IsPrefix : List ℕ → List ℕ → Type 0

@@ -10,14 +10,14 @@ pub record Report : Type 0 where
   pub at : ℕ
 
 -- the moment isn't before the last one, nor past the latest
-pub record IsTimely (c : Cell) (t : ℕ) : Type 0 where
+pub record IsNextMoment (c : Cell) (t : ℕ) : Type 0 where
   pub in_order : c.last ≤ t
   pub in_range : t ≤ MAX_MOMENT
 
--- the report is possible: its activity is going on, at a timely moment
+-- the report is possible: its activity is going on, at a moment that can be the next
 pub record CanReport (p : PlannedShop) (c : Cell) (r : Report) : Type 0 where
   pub going : (due : ℕ) × GoesOn p c r.ended due
-  pub timely : IsTimely c r.at
+  pub moment : IsNextMoment c r.at
 
 -- the cell once job j has become ready, at moment t
 abbrev pub with_ready : Cell → ℕ → ℕ → Cell

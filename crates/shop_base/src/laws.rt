@@ -1,7 +1,7 @@
 //! The laws that hold of every run. Each is the contract of a function that does nothing, so a check of
 //! this crate proves it. `docs/LAWS.md` says them in plain words.
 
-ghost use Rattle.shop_base.specs.ChainLaw.{OneChainFitsAReport, EveryListHasOneControlledRun, NoTwoJobsAreOnOneMachine, AControlledRunIsARun};
+ghost use Rattle.shop_base.specs.StepLaw.{OneListOfMovesFitsAReport, EveryListHasOneControlledRun, NoTwoJobsAreOnOneMachine, AControlledRunIsARun};
 ghost use Rattle.shop_base.specs.NeverStuckLaw.{NoControlledRunIsStuck};
 ghost use Rattle.shop_base.specs.EndsLaw.{EndsOnTheStatedNumber, OrdersNeverOutnumberReports, MovesNeverOutnumberReports};
 ghost use Rattle.shop_base.specs.InTimeLaw.{PunctualRunsAreInTime};
@@ -9,10 +9,10 @@ ghost use Rattle.shop_base.specs.CycleLaw.{ACycleStopsEveryRun};
 ghost use Rattle.shop_base.specs.ExactLaw.{NoExactRunIsFaster, NoExactMoveIsEarlier, ExactRunsAreJustInTime};
 ghost use Rattle.shop_base.specs.SerialLaw.{TheSerialPlanHasNoCycle};
 
-/// One chain: after each report that is possible at rest, in every run, exactly one list of moves keeps
+/// One list of moves: after each report that is possible at rest, in every run, exactly one list of moves keeps
 /// the plan and ends at rest. What a controller orders is no matter of choice.
-pub fn one_chain_fits_a_report()
-    ensures { OneChainFitsAReport }
+pub fn one_list_of_moves_fits_a_report()
+    ensures { OneListOfMovesFitsAReport }
 {}
 
 /// Every list of reports has exactly one controlled run: possible reports make their steps, the others
@@ -58,7 +58,8 @@ pub fn in_time()
 {}
 
 /// A cycle stops every run: whatever is reported and moved, at whatever moments and by any controller,
-/// some job isn't gone at the end.
+/// no move of the cycle is made, so that each of its jobs stays before its place on it, and some job isn't
+/// gone at the end.
 pub fn a_cycle_stops_every_run()
     ensures { ACycleStopsEveryRun }
 {}

@@ -17,17 +17,17 @@ ghost use Rattle.shop_base.specs.Run.{IsRun, IsAtRest, IsStuck};
 ghost use Rattle.shop_base.specs.Controlled.{IsStep, IsControlledRun};
 ghost use Rattle.shop_base.specs.Punctual.{IsPunctual, ArePunctual, AreExact};
 ghost use Rattle.shop_base.specs.Ends.{HasEnded, IsOutByBudget, IsInTime};
-ghost use Rattle.shop_base.specs.Ends.{stated_number, report_count, move_count};
+ghost use Rattle.shop_base.specs.Ends.{stated_number, reports_in, moves_in};
 ghost use Rattle.shop_base.specs.Graph.{node, leaving, Arc, HasArc, Path, IsSimpleCycle};
 ghost use Rattle.shop_base.specs.Graph.{RanksRise, MomentsFit, MeetBudgets, IsSerial};
-ghost use Rattle.shop_base.specs.Examples.{in_series, with_cleaning, crossed, in_chain, in_ring, instant};
-ghost use Rattle.shop_base.specs.Examples.{arrive, finish, clean, go, exchange};
+ghost use Rattle.shop_base.specs.Examples.{in_series, with_cleaning, crossed, in_flow, in_ring, instant};
+ghost use Rattle.shop_base.specs.Examples.{arrive, finish, tidy, go, exchange};
 ghost use Rattle.shop_base.specs.Examples.{series_moments, series_ranks, crossed_moments};
 ghost use Rattle.shop_base.specs.Examples.{series_reports, series_log, series_after, series_end};
 ghost use Rattle.shop_base.specs.Examples.{late_reports, late_log, late_after, late_end};
 ghost use Rattle.shop_base.specs.Examples.{waiting_reports, waiting_log, waiting_after, waiting_end};
 ghost use Rattle.shop_base.specs.Examples.{crossed_reports, crossed_log, crossed_end};
-ghost use Rattle.shop_base.specs.Examples.{chain_reports, chain_log, chain_after, chain_end};
+ghost use Rattle.shop_base.specs.Examples.{flow_reports, flow_log, flow_after, flow_end};
 ghost use Rattle.shop_base.specs.Examples.{cleaned_reports, cleaned_log, cleaned_after, cleaned_end};
 ghost use Rattle.shop_base.specs.Examples.{refused_reports, refused_log, refused_after, refused_end};
 ghost use Rattle.shop_base.specs.Examples.{instant_reports, instant_log, instant_after, instant_end};
@@ -47,7 +47,7 @@ pub fn two_jobs_in_series_run()
     ensures second_waits { IsAtRest in_series (series_after 3) }
     ensures partial { IsControlledRun in_series (take 2 series_reports) (take 3 series_log) (series_after 3) }
     ensures unfinished { HasEnded in_series (series_after 3) → ⊥ }
-    ensures reports { (stated_number in_series ≡ 6) × (report_count series_log ≡ 6) }
+    ensures reports { (stated_number in_series ≡ 6) × (reports_in series_log ≡ 6) }
     ensures ended { HasEnded in_series series_end }
     ensures first_gone { since series_end 0 ≡ 4 }
     ensures second_gone { since series_end 1 ≡ 9 }
@@ -86,7 +86,7 @@ pub fn a_late_report_is_still_a_run()
     ensures second_gone { since late_end 1 ≡ 11 }
     ensures first_over_budget { IsInTime in_series late_end 0 → ⊥ }
     ensures second_over_budget { IsInTime in_series late_end 1 → ⊥ }
-    ensures late_by_another { IsPunctual with_cleaning (cleaned_after 11) (clean 13 1) → ⊥ }
+    ensures late_by_another { IsPunctual with_cleaning (cleaned_after 11) (tidy 13 1) → ⊥ }
 {}
 
 /// A run may leave a job waiting that could move. It is then no controlled run.
@@ -94,7 +94,7 @@ pub fn a_run_need_not_be_eager()
     ensures run { IsRun in_series waiting_log }
     ensures not_at_rest { IsAtRest in_series (waiting_after 7) → ⊥ }
     ensures not_controlled { (end : Cell) → IsControlledRun in_series waiting_reports waiting_log end → ⊥ }
-    ensures counts { (report_count waiting_log ≡ 6) × (move_count waiting_log ≡ 6) }
+    ensures counts { (reports_in waiting_log ≡ 6) × (moves_in waiting_log ≡ 6) }
     ensures ended { HasEnded in_series waiting_end }
     ensures last { waiting_end.last ≡ 10 }
 {}
@@ -172,26 +172,26 @@ pub fn paths_of_two_jobs_in_series()
 
 /// Three jobs pass three machines. The end of one operation on the last machine makes all three move,
 /// one after the other, and a controller doesn't stop before the last of these moves.
-pub fn three_machine_chain_run()
-    ensures shaped { IsWellShaped in_chain }
-    ensures run { IsRun in_chain chain_log }
-    ensures controlled { IsControlledRun in_chain chain_reports chain_log chain_end }
-    ensures exact { AreExact in_chain (start in_chain) chain_log }
-    ensures blocked { IsOn in_chain (chain_after 14) 1 1 1 }
-    ensures blocked_ready { ready (chain_after 14) 1 ≡ true }
-    ensures none_moves { IsStep in_chain (chain_after 12) (finish 3 1 1) [] }
-    ensures all_move { IsStep in_chain (chain_after 14) (finish 7 0 2) (0 ∷ 1 ∷ 2 ∷ []) }
-    ensures no_less { IsStep in_chain (chain_after 14) (finish 7 0 2) (0 ∷ 1 ∷ []) → ⊥ }
-    ensures no_other_order { IsStep in_chain (chain_after 14) (finish 7 0 2) (2 ∷ 1 ∷ 0 ∷ []) → ⊥ }
-    ensures path { Path in_chain
+pub fn three_machine_flow_run()
+    ensures shaped { IsWellShaped in_flow }
+    ensures run { IsRun in_flow flow_log }
+    ensures controlled { IsControlledRun in_flow flow_reports flow_log flow_end }
+    ensures exact { AreExact in_flow (start in_flow) flow_log }
+    ensures blocked { IsOn in_flow (flow_after 14) 1 1 1 }
+    ensures blocked_ready { ready (flow_after 14) 1 ≡ true }
+    ensures none_moves { IsStep in_flow (flow_after 12) (finish 3 1 1) [] }
+    ensures all_move { IsStep in_flow (flow_after 14) (finish 7 0 2) (0 ∷ 1 ∷ 2 ∷ []) }
+    ensures no_less { IsStep in_flow (flow_after 14) (finish 7 0 2) (0 ∷ 1 ∷ []) → ⊥ }
+    ensures no_other_order { IsStep in_flow (flow_after 14) (finish 7 0 2) (2 ∷ 1 ∷ 0 ∷ []) → ⊥ }
+    ensures path { Path in_flow
         (node 0 0 ∷ node 0 1 ∷ node 0 2 ∷ node 0 3 ∷ node 1 2 ∷ node 1 3 ∷ node 2 2 ∷ node 2 3 ∷ [])
-        (leaving in_chain 2) 9 }
-    ensures reports { (stated_number in_chain ≡ 12) × (report_count chain_log ≡ 12) }
-    ensures ended { HasEnded in_chain chain_end }
-    ensures first_gone { since chain_end 0 ≡ 7 }
-    ensures second_gone { since chain_end 1 ≡ 8 }
-    ensures third_gone { since chain_end 2 ≡ 9 }
-    ensures last { chain_end.last ≡ 9 }
+        (leaving in_flow 2) 9 }
+    ensures reports { (stated_number in_flow ≡ 12) × (reports_in flow_log ≡ 12) }
+    ensures ended { HasEnded in_flow flow_end }
+    ensures first_gone { since flow_end 0 ≡ 7 }
+    ensures second_gone { since flow_end 1 ≡ 8 }
+    ensures third_gone { since flow_end 2 ≡ 9 }
+    ensures last { flow_end.last ≡ 9 }
 {}
 
 /// A machine with a cleaning time is free once its job has left, and yet no job enters it before it is
@@ -209,7 +209,7 @@ pub fn cleaning_delays_the_entry()
     ensures no_entry { CanObey with_cleaning (cleaned_after 7) (go 6 1 Out (At 1)) → ⊥ }
     ensures no_moment { (t : ℕ) → CanMove with_cleaning (cleaned_after 7) 1 t → ⊥ }
     ensures entry { CanObey with_cleaning (cleaned_after 8) (go 7 1 Out (At 1)) }
-    ensures reports { (stated_number with_cleaning ≡ 8) × (report_count cleaned_log ≡ 8) }
+    ensures reports { (stated_number with_cleaning ≡ 8) × (reports_in cleaned_log ≡ 8) }
     ensures first_gone { IsGone with_cleaning (cleaned_after 13) 0 }
     ensures second_gone { IsGone with_cleaning (cleaned_after 13) 1 }
     ensures unfinished { HasEnded with_cleaning (cleaned_after 13) → ⊥ }
@@ -223,16 +223,16 @@ pub fn cleaning_delays_the_entry()
 /// of the shop, before the last moment, or past the latest moment of all.
 pub fn a_report_that_is_not_possible_adds_nothing()
     ensures controlled { IsControlledRun with_cleaning refused_reports refused_log refused_end }
-    ensures not_cleaned { CanReport with_cleaning (refused_after 7) (clean 5 0) → ⊥ }
-    ensures no_machine { CanReport with_cleaning (refused_after 7) (clean 5 2) → ⊥ }
-    ensures past { CanReport with_cleaning (refused_after 7) (clean 4 1) → ⊥ }
+    ensures not_cleaned { CanReport with_cleaning (refused_after 7) (tidy 5 0) → ⊥ }
+    ensures no_machine { CanReport with_cleaning (refused_after 7) (tidy 5 2) → ⊥ }
+    ensures past { CanReport with_cleaning (refused_after 7) (tidy 4 1) → ⊥ }
     ensures gone_job { CanReport with_cleaning (refused_after 7) (finish 5 0 1) → ⊥ }
     ensures twice { CanReport with_cleaning (refused_after 7) (arrive 5 1) → ⊥ }
     ensures no_job { CanReport with_cleaning (refused_after 7) (arrive 5 2) → ⊥ }
-    ensures latest { CanReport with_cleaning (refused_after 7) (clean 1_000_000_000_000 1) }
-    ensures too_late { CanReport with_cleaning (refused_after 7) (clean 1_000_000_000_001 1) → ⊥ }
-    ensures late { IsPunctual with_cleaning (refused_after 7) (clean 8 1) → ⊥ }
-    ensures reports { (stated_number with_cleaning ≡ 8) × (report_count refused_log ≡ 5) }
+    ensures latest { CanReport with_cleaning (refused_after 7) (tidy 1_000_000_000_000 1) }
+    ensures too_late { CanReport with_cleaning (refused_after 7) (tidy 1_000_000_000_001 1) → ⊥ }
+    ensures late { IsPunctual with_cleaning (refused_after 7) (tidy 8 1) → ⊥ }
+    ensures reports { (stated_number with_cleaning ≡ 8) × (reports_in refused_log ≡ 5) }
     ensures unfinished { HasEnded with_cleaning refused_end → ⊥ }
 {}
 

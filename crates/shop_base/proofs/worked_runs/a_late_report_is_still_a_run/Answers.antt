@@ -2,7 +2,7 @@ use Rattle.std.proofs.Common.{[], ◌∷◌, Some, refl, arith, inl, inr, take, 
 use Rattle.std.proofs.lemmas.Bool.Decides.{not_from_Decides}
 use Rattle.shop_base.specs.Cell.{start}
 use Rattle.shop_base.specs.Ends.{IsInTime}
-use Rattle.shop_base.specs.Examples.{in_series, with_cleaning, finish, clean, late_reports, late_log, late_after, late_end, cleaned_after}
+use Rattle.shop_base.specs.Examples.{in_series, with_cleaning, finish, tidy, late_reports, late_log, late_after, late_end, cleaned_after}
 use Rattle.shop_base.proofs.CellTests.{events_decides}
 use Rattle.shop_base.proofs.RunTests.{turns_lead, all_punctual_decides, ended_decides, punctual_decides}
 use Rattle.shop_base.proofs.worked_runs.a_late_report_is_still_a_run.Goals as goal
@@ -40,4 +40,4 @@ pub returns-clause-second_over_budget : goal.returns-clause-second_over_budget
 returns-clause-second_over_budget c = second_over
 
 pub returns-clause-late_by_another : goal.returns-clause-late_by_another
-returns-clause-late_by_another c = not_from_Decides _ (punctual_decides with_cleaning (cleaned_after 11) (clean 13 1)) refl
+returns-clause-late_by_another c = not_from_Decides _ (punctual_decides with_cleaning (cleaned_after 11) (tidy 13 1)) refl

@@ -10,7 +10,7 @@ abbrev pub IsAhead : PlannedShop → (Node → ℕ) → Cell → ℕ → Type 0
 IsAhead p kept c t = (j k : ℕ) → j < jobs p → made c j ≤ k → k ≤ steps p j → t ≤ kept (node j k)
 
 -- what holds of the cell while no report was late: each move was made at a moment at most the one kept for its node
-pub record IsOnTime (p : PlannedShop) (kept : Node → ℕ) (c : Cell) : Type 0 where
+pub record KeepsMoments (p : PlannedShop) (kept : Node → ℕ) (c : Cell) : Type 0 where
   -- a job on a machine, or gone, made its last move by its node's moment
   pub moved : (j k : ℕ) → made c j ≡ k + 1 → since c j ≤ kept (node j k)
   -- the cleaning of a machine began by the moment kept for the departure of the job that entered it last

@@ -5,9 +5,9 @@ use Rattle.shop_base.specs.Report.{Report, CanReport}
 use Rattle.shop_base.specs.Run.{Event, IsRun, ends_in, IsAtRest}
 use Rattle.shop_base.specs.Controlled.{IsStep, IsControlledRun}
 
--- in every run, by any controller, exactly one chain of moves fits each report that is possible at rest
-abbrev pub OneChainFitsAReport : Type 0
-OneChainFitsAReport = (p : PlannedShop) (es : List Event) (r : Report)
+-- in every run, by any controller, exactly one list of moves fits each report that is possible at rest
+abbrev pub OneListOfMovesFitsAReport : Type 0
+OneListOfMovesFitsAReport = (p : PlannedShop) (es : List Event) (r : Report)
     → IsWellShaped p → IsRun p es → IsAtRest p (ends_in p es) → CanReport p (ends_in p es) r
     → (js : List ℕ) × IsStep p (ends_in p es) r js × ((others : List ℕ) → IsStep p (ends_in p es) r others → others ≡ js)
 

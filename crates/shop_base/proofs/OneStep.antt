@@ -6,7 +6,7 @@ use Rattle.shop_base.specs.Plan.{PlannedShop, jobs, steps, machine_of, clean, or
 use Rattle.shop_base.specs.Cell.{Cell, MachineState, absent, unused, job_in, machine_in, made, ready, entries, cleaning, IsOutside, IsOn, IsFree}
 use Rattle.shop_base.specs.declared.job_state.JobState.{JobState}
 use Rattle.shop_base.specs.Activity.{Activity, Arrival, Operation, Cleaning, GoesOn}
-use Rattle.shop_base.specs.Report.{Report, IsTimely, CanReport, with_ready, with_clean, after_end, after_report}
+use Rattle.shop_base.specs.Report.{Report, IsNextMoment, CanReport, with_ready, with_clean, after_end, after_report}
 use Rattle.shop_base.specs.Move.{CanEnter, CanMove, IsPrefix, KeepsPlan, after_move}
 use Rattle.shop_base.specs.Run.{IsAtRest}
 use Rattle.shop_base.specs.Controlled.{AreMoves, after_moves, IsStep}
@@ -16,7 +16,7 @@ use Rattle.shop_base.specs.Sound.{IsSound}
 use Rattle.shop_base.proofs.Visits.{visits_job, on_or_not, leaves_past, past_leaves}
 use Rattle.shop_base.proofs.Changes.{IsMoved, IsReadied, IsTidied, moves_within, after_move-moved, with_ready-readied, with_clean-tidied}
 use Rattle.shop_base.proofs.Keeping.{target_place, after_report-sound, after_move-sound}
-use Rattle.shop_base.proofs.Decisions.{HasWay, timely_now, move_at, moves_or_not}
+use Rattle.shop_base.proofs.Decisions.{HasWay, moment_now, move_at, moves_or_not}
 
 -- a job to which nothing matters that differs between two cells can move in the one if it can in the other
 record LooksSame (p : PlannedShop) (new c : Cell) (i : ℕ) : Type 0 where
@@ -32,7 +32,7 @@ same_can : (p : PlannedShop) (new c : Cell) (i t : ℕ) → IsSound p c → Look
 same_can p new c i t sound looks can = record {
   is_ready = sym (ap (λ (x : JobState). x.ready) looks.job) ∙ can.is_ready;
   way = go can.way;
-  timely = timely_now p c sound;
+  moment = moment_now p c sound;
 }
   where
     is : made new i ≡ made c i
@@ -277,35 +277,35 @@ move-left p c new j t sound can moved =
     λ i other. ap (λ n. steps p i + 1 - n) (same_made new c i (moved.others i other))
 
 -- where only j could move and it can't, the cell is at rest
-pub rest_unless : (p : PlannedShop) (c : Cell) (j t : ℕ) → IsTimely c t → OnlyMoves p c j → (CanMove p c j t → KeepsPlan p c j → ⊥) → IsAtRest p c
-rest_unless p c j t timely only none i u can keeps =
+pub rest_unless : (p : PlannedShop) (c : Cell) (j t : ℕ) → IsNextMoment c t → OnlyMoves p c j → (CanMove p c j t → KeepsPlan p c j → ⊥) → IsAtRest p c
+rest_unless p c j t moment only none i u can keeps =
     let same : i ≡ j = only i u can keeps in
-    none (move_at p c j u t (subst (λ x. CanMove p c x u) same can) timely) (subst (KeepsPlan p c) same keeps)
+    none (move_at p c j u t (subst (λ x. CanMove p c x u) same can) moment) (subst (KeepsPlan p c) same keeps)
 
 -- where only one job can move, there are moves that end at rest
-chain_exists : (n : ℕ) (p : PlannedShop) (c : Cell) (j t : ℕ) → IsWellShaped p → IsSound p c → IsTimely c t → OnlyMoves p c j → moves_left p c < n
+moves_exist : (n : ℕ) (p : PlannedShop) (c : Cell) (j t : ℕ) → IsWellShaped p → IsSound p c → IsNextMoment c t → OnlyMoves p c j → moves_left p c < n
     → (js : List ℕ) × AreMoves p c t js × IsAtRest p (after_moves p c t js)
-chain_exists zero p c j t shaped sound timely only enough = absurd (omega arith)
-chain_exists (suc n) p c j t shaped sound timely only enough = go (moves_or_not p c j t shaped sound) λ can keeps.
+moves_exist zero p c j t shaped sound moment only enough = absurd (omega arith)
+moves_exist (suc n) p c j t shaped sound moment only enough = go (moves_or_not p c j t shaped sound) λ can keeps.
     let moved : IsMoved p c j t (after_move p c j t) = after_move-moved p c j t shaped sound can in
-    chain_exists n p (after_move p c j t) (next_after_move p c j) t shaped (after_move-sound p c j t shaped sound can keeps)
-    (record { in_order = omega (arith, moved.moment); in_range = timely.in_range }) (only_one_after_move p c j t shaped sound only can)
+    moves_exist n p (after_move p c j t) (next_after_move p c j) t shaped (after_move-sound p c j t shaped sound can keeps)
+    (record { in_order = omega (arith, moved.moment); in_range = moment.in_range }) (only_one_after_move p c j t shaped sound only can)
     (omega (arith, move-left p c (after_move p c j t) j t sound can moved))
   where
     go : (CanMove p c j t × KeepsPlan p c j) ⊎ (CanMove p c j t × KeepsPlan p c j → ⊥)
         → (CanMove p c j t → KeepsPlan p c j → (js : List ℕ) × AreMoves p (after_move p c j t) t js × IsAtRest p (after_moves p (after_move p c j t) t js))
         → (js : List ℕ) × AreMoves p c t js × IsAtRest p (after_moves p c t js)
     go (inl (can, keeps)) later = let (js, moves, rest) = later can keeps in (j ∷ js, (can, keeps, moves), rest)
-    go (inr none) later = ([], tt, rest_unless p c j t timely only λ can keeps. none (can, keeps))
+    go (inr none) later = ([], tt, rest_unless p c j t moment only λ can keeps. none (can, keeps))
 
 -- where only one job can move, two lists of moves that end at rest are one
-pub chain_unique : (p : PlannedShop) (c : Cell) (j t : ℕ) (js others : List ℕ) → IsWellShaped p → IsSound p c → OnlyMoves p c j
+pub moves_unique : (p : PlannedShop) (c : Cell) (j t : ℕ) (js others : List ℕ) → IsWellShaped p → IsSound p c → OnlyMoves p c j
     → AreMoves p c t js → IsAtRest p (after_moves p c t js) → AreMoves p c t others → IsAtRest p (after_moves p c t others) → others ≡ js
-chain_unique p c j t [] [] shaped sound only moves rest moves' rest' = refl
-chain_unique p c j t [] (y ∷ ys) shaped sound only moves rest moves' rest' = absurd (rest y t moves'.0 moves'.1)
-chain_unique p c j t (x ∷ xs) [] shaped sound only moves rest moves' rest' = absurd (rest' x t moves.0 moves.1)
-chain_unique p c j t (x ∷ xs) (y ∷ ys) shaped sound only moves rest moves' rest' =
-    let tails : ys ≡ xs = chain_unique p (after_move p c x t) (next_after_move p c x) t xs ys shaped (after_move-sound p c x t shaped sound moves.0 moves.1)
+moves_unique p c j t [] [] shaped sound only moves rest moves' rest' = refl
+moves_unique p c j t [] (y ∷ ys) shaped sound only moves rest moves' rest' = absurd (rest y t moves'.0 moves'.1)
+moves_unique p c j t (x ∷ xs) [] shaped sound only moves rest moves' rest' = absurd (rest' x t moves.0 moves.1)
+moves_unique p c j t (x ∷ xs) (y ∷ ys) shaped sound only moves rest moves' rest' =
+    let tails : ys ≡ xs = moves_unique p (after_move p c x t) (next_after_move p c x) t xs ys shaped (after_move-sound p c x t shaped sound moves.0 moves.1)
     (only_one_after_move p c x t shaped sound (subst (OnlyMoves p c) (sym (only x t moves.0 moves.1)) only) moves.0) moves.2 rest
     (subst (λ z. AreMoves p (after_move p c z t) t ys) same moves'.2) (subst (λ z. IsAtRest p (after_moves p (after_move p c z t) t ys)) same rest') in
     cc (same, tails)
@@ -317,9 +317,9 @@ chain_unique p c j t (x ∷ xs) (y ∷ ys) shaped sound only moves rest moves' r
 pub one_step : (p : PlannedShop) (c : Cell) (r : Report) → IsWellShaped p → IsSound p c → IsAtRest p c → CanReport p c r
     → (js : List ℕ) × IsStep p c r js × ((others : List ℕ) → IsStep p c r others → others ≡ js)
 one_step p c r shaped sound rest can = (
-  chain.0,
-  record { can = can; moves = chain.1; rest = chain.2 },
-  λ others step. chain_unique p (after_report c r) j r.at chain.0 others shaped sound_after only chain.1 chain.2 step.moves step.rest,
+  found.0,
+  record { can = can; moves = found.1; rest = found.2 },
+  λ others step. moves_unique p (after_report c r) j r.at found.0 others shaped sound_after only found.1 found.2 step.moves step.rest,
 )
   where
     j : ℕ
@@ -331,10 +331,10 @@ one_step p c r shaped sound rest can = (
     only : OnlyMoves p (after_report c r) j
     only = only_one_after_report p c r sound rest can
 
-    timely : (a : Activity) → IsTimely (after_end c a r.at) r.at
-    timely (Arrival i) = record { in_order = omega arith; in_range = can.timely.in_range }
-    timely (Operation i m) = record { in_order = omega arith; in_range = can.timely.in_range }
-    timely (Cleaning m) = record { in_order = omega arith; in_range = can.timely.in_range }
+    moment : (a : Activity) → IsNextMoment (after_end c a r.at) r.at
+    moment (Arrival i) = record { in_order = omega arith; in_range = can.moment.in_range }
+    moment (Operation i m) = record { in_order = omega arith; in_range = can.moment.in_range }
+    moment (Cleaning m) = record { in_order = omega arith; in_range = can.moment.in_range }
 
-    chain : (js : List ℕ) × AreMoves p (after_report c r) r.at js × IsAtRest p (after_moves p (after_report c r) r.at js)
-    chain = chain_exists (moves_left p (after_report c r) + 1) p (after_report c r) j r.at shaped sound_after (timely r.ended) only (omega arith)
+    found : (js : List ℕ) × AreMoves p (after_report c r) r.at js × IsAtRest p (after_moves p (after_report c r) r.at js)
+    found = moves_exist (moves_left p (after_report c r) + 1) p (after_report c r) j r.at shaped sound_after (moment r.ended) only (omega arith)
