@@ -1,3 +1,4 @@
 pub mod Telling
 pub mod PlanTelling
 pub mod CheckLines
+pub mod Passing

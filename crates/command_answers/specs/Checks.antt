@@ -9,7 +9,6 @@ use Rattle.alt_graph.specs.Evidence.{IsCycle}
 use Rattle.plan_verifier.specs.Accepted.{VerifiedPlan, kept_at, IsAcceptable, IsGreatest}
 use Rattle.plan_verifier.specs.Verdicts.{IsFirstLate, IsReason}
 use Rattle.command_answers.specs.declared.answer.Answer.{Answer}
-use Rattle.command_answers.specs.declared.answer.TheConstants.{GOOD, REFUSED}
 use Rattle.command_answers.specs.declared.loading.Loaded.{Loaded}
 use Rattle.command_answers.specs.declared.loading.Loaded.TheVariants.{NotShaped, Refused, Accepted}
 use Rattle.plan_verifier.specs.declared.verdict.Why.TheVariants.{Cycle, Late}
@@ -47,7 +46,7 @@ pub record IsAcceptedLine (p : PlannedShop) (answer : Answer) : Type 0 where
   pub makespan : ℕ
   pub latest : IsLatest leaves makespan
   pub line : answer.text.items ≡ codes "accepted makespan " ++ decimal makespan ++ codes " leaves" ++ moment_words leaves ++ codes "\n"
-  pub good : answer.status ≡ GOOD
+  pub good : answer.status ≡ 0
 
 -- the line of a cycle
 abbrev pub cycle_line : List Node → List ℕ
@@ -62,7 +61,7 @@ pub record IsCycleLine (p : PlannedShop) (answer : Answer) : Type 0 where
   pub nodes : List Node
   pub cycle : IsCycle p nodes
   pub line : answer.text.items ≡ cycle_line nodes
-  pub refused : answer.status ≡ REFUSED
+  pub refused : answer.status ≡ 1
 
 -- the line of a plan with a late job
 pub record IsLateLine (p : PlannedShop) (answer : Answer) : Type 0 where
@@ -71,7 +70,7 @@ pub record IsLateLine (p : PlannedShop) (answer : Answer) : Type 0 where
   pub chain : List Node
   pub late : IsFirstLate p job leaves chain
   pub line : answer.text.items ≡ late_line job leaves chain
-  pub refused : answer.status ≡ REFUSED
+  pub refused : answer.status ≡ 1
 
 -- the line of a verdict on a well-shaped plan
 abbrev pub IsVerdictLine : PlannedShop → Answer → Type 0
@@ -93,6 +92,6 @@ leavings_of v = moments_below (λ j. kept_at v (leaving v.planned j)) (jobs v.pl
 -- the line of what is said of a plan
 abbrev pub IsLineOf : Loaded → Answer → Type 0
 IsLineOf (NotShaped fault) answer = IsRefusedLine answer
-IsLineOf (Refused (Cycle nodes)) answer = (answer.text.items ≡ cycle_line nodes.items) × (answer.status ≡ REFUSED)
-IsLineOf (Refused (Late job leaves chain)) answer = (answer.text.items ≡ late_line job leaves chain.items) × (answer.status ≡ REFUSED)
+IsLineOf (Refused (Cycle nodes)) answer = (answer.text.items ≡ cycle_line nodes.items) × (answer.status ≡ 1)
+IsLineOf (Refused (Late job leaves chain)) answer = (answer.text.items ≡ late_line job leaves chain.items) × (answer.status ≡ 1)
 IsLineOf (Accepted verified) answer = IsAcceptedLine verified.planned answer

@@ -1,7 +1,6 @@
 use Rattle.std.specs.Prelude.{◌≡◌, ℕ, ◌+◌, List, ◌++◌, length, codes, decimal, Option}
 use Rattle.shop_base.specs.Shop.{JobShop, operations_of, work_of}
 use Rattle.command_answers.specs.declared.answer.Answer.{Answer}
-use Rattle.command_answers.specs.declared.answer.TheConstants.{GOOD}
 use Rattle.command_answers.specs.Instances.{Tells}
 
 -- the line of an instance's facts
@@ -17,7 +16,7 @@ facts_line shop =
 -- the answer is the line of the shop's facts
 pub record AreFacts (answer : Answer) (shop : JobShop) : Type 0 where
   pub line : answer.text.items ≡ facts_line shop
-  pub good : answer.status ≡ GOOD
+  pub good : answer.status ≡ 0
 
 -- the answer is the line of the facts of a shop that the text tells
 pub record AreToldFacts (text : List ℕ) (name : Option (List ℕ)) (answer : Answer) : Type 0 where

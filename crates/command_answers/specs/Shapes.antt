@@ -3,19 +3,18 @@ use Rattle.shop_base.specs.declared.shape_fault.ShapeFault.{ShapeFault}
 use Rattle.shop_base.specs.Plan.{PlannedShop, IsWellShaped}
 use Rattle.shop_base.specs.ShapeFault.{IsFirstShapeFault}
 use Rattle.command_answers.specs.declared.answer.Answer.{Answer}
-use Rattle.command_answers.specs.declared.answer.TheConstants.{GOOD, REFUSED}
 
 -- the line of a plan that is well shaped for its shop
 pub record IsShapedLine (p : PlannedShop) (answer : Answer) : Type 0 where
   pub well_shaped : IsWellShaped p
   pub line : answer.text.items ≡ codes "shaped\n"
-  pub good : answer.status ≡ GOOD
+  pub good : answer.status ≡ 0
 
 -- the line of a plan that isn't well shaped, with the words of a fault
 pub record IsRefusedLine (answer : Answer) : Type 0 where
   pub words : List ℕ
   pub line : answer.text.items ≡ codes "not shaped " ++ words ++ codes "\n"
-  pub refused : answer.status ≡ REFUSED
+  pub refused : answer.status ≡ 1
 
 -- the line of a plan that isn't well shaped for its shop
 pub record IsNotShapedLine (p : PlannedShop) (answer : Answer) : Type 0 where

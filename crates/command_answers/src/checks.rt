@@ -37,10 +37,8 @@ pub fn check_answer(
     ensures first { (fault : OrFault) → HasFault instance.now (option_copied name.entry) fault → IsInstanceRefusal result fault }
     ensures second { (fault : PlanFault) → TellsAShop instance.now (option_copied name.entry) → IsFirstFault plan.now fault → IsPlanRefusal result fault }
 {
-    match load_instance(alloc, instance, name) {
-        Ok(named) => check_of(alloc, named.shop, plan),
-        Err(fault) => Err(fault),
-    }
+    let named = load_instance(alloc, instance, name)?;
+    check_of(alloc, named.shop, plan)
 }
 
 /// The verdict on a plan for a shop.
@@ -50,13 +48,8 @@ pub fn check_of(alloc: Global, shop: Shop, plan: &[u8]) -> Result<Answer, Comman
     ensures fault { IfErr result (IsRightPlanFault plan.now) }
     ensures first { (fault : PlanFault) → IsFirstFault plan.now fault → IsPlanRefusal result fault }
 {
-    match load_for(alloc, shop, plan) {
-        Ok(loaded) => match loaded_answer(alloc, &loaded) {
-            Ok(answer) => Ok(answer),
-            Err(_) => Err(CommandFault::Memory),
-        },
-        Err(fault) => Err(fault),
-    }
+    let loaded = load_for(alloc, shop, plan)?;
+    Ok(loaded_answer(alloc, &loaded)?)
 }
 
 /// The line of what is to be said of a plan.
@@ -106,7 +99,7 @@ fn push_leaving(text: &mut Vec<u8>, verified: &Verified, job: JobNo) -> Result<(
 }
 
 fn cycle_answer(alloc: Global, nodes: &[Node]) -> Result<Answer, AllocError>
-    ensures { IfOk result (λ answer. (answer.text.items ≡ cycle_line nodes.now) × (answer.status ≡ REFUSED)) }
+    ensures { IfOk result (λ answer. (answer.text.items ≡ cycle_line nodes.now) × (answer.status ≡ 1)) }
 {
     let mut text = Vec::new(alloc);
     push_words(&mut text, b"refused cycle")?;
@@ -124,7 +117,7 @@ fn late_answer(
     leaves: Moment,
     chain: &[Node],
 ) -> Result<Answer, AllocError>
-    ensures { IfOk result (λ answer. (answer.text.items ≡ late_line job leaves chain.now) × (answer.status ≡ REFUSED)) }
+    ensures { IfOk result (λ answer. (answer.text.items ≡ late_line job leaves chain.now) × (answer.status ≡ 1)) }
 {
     let mut text = Vec::new(alloc);
     push_fact(&mut text, b"refused late ", u64::from(job))?;

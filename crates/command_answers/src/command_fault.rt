@@ -3,6 +3,7 @@ ghost use Rattle.command_answers.specs.Statuses.{status_of};
 
 use orlib_read::OrFault;
 use plan_text::PlanFault;
+use std::alloc::AllocError;
 use thiserror::Error;
 
 /// Why a command has no answer. `Memory` may stand in place of any other answer.
@@ -17,6 +18,17 @@ pub enum CommandFault {
     /// Memory was wanting.
     #[error("Memory")]
     Memory,
+}
+
+impl From<AllocError> for CommandFault {
+    ghost use Rattle.std.specs.Prelude.{◌≡◌};
+    ghost use Rattle.command_answers.specs.declared.command_fault.CommandFault.TheVariants.{Memory};
+
+    ghost from_gives = { λ _ fault. fault ≡ Memory };
+
+    fn from(_error: AllocError) -> CommandFault {
+        CommandFault::Memory
+    }
 }
 
 impl CommandFault {

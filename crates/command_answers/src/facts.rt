@@ -29,7 +29,7 @@ pub fn facts_answer(
     ensures first { (fault : OrFault) → HasFault instance.now (option_copied name.entry) fault → IsInstanceRefusal result fault }
 {
     let named = load_instance(alloc, instance, name)?;
-    let text = facts_text(alloc, &named.shop).map_err(|_| CommandFault::Memory)?;
+    let text = facts_text(alloc, &named.shop)?;
     Ok(Answer { text, status: GOOD })
 }
 

@@ -1,6 +1,6 @@
 //! An instance and a plan, read and judged.
 
-ghost use Rattle.std.specs.Prelude.{IfOk, IfErr};
+ghost use Rattle.std.specs.Prelude.{IfOk, IfErr, IsOk};
 ghost use Rattle.std.specs.Option.{option_copied};
 ghost use Rattle.shop_base.specs.Plan.{ShopPlan, PlannedShop, IsWellShaped};
 ghost use Rattle.orlib_read.specs.declared.or_fault.OrFault.{OrFault};
@@ -42,10 +42,8 @@ pub fn load(
     ensures first { (fault : OrFault) → HasFault instance.now (option_copied name.entry) fault → IsInstanceRefusal result fault }
     ensures second { (fault : PlanFault) → TellsAShop instance.now (option_copied name.entry) → IsFirstFault plan.now fault → IsPlanRefusal result fault }
 {
-    match load_instance(alloc, instance, name) {
-        Ok(named) => load_for(alloc, named.shop, plan),
-        Err(fault) => Err(fault),
-    }
+    let named = load_instance(alloc, instance, name)?;
+    load_for(alloc, named.shop, plan)
 }
 
 /// The verdict on a plan for a shop.
@@ -55,18 +53,14 @@ pub fn load_for(alloc: Global, shop: Shop, plan: &[u8]) -> Result<Loaded, Comman
     ensures fault { IfErr result (IsRightPlanFault plan.now) }
     ensures first { (fault : PlanFault) → IsFirstFault plan.now fault → IsPlanRefusal result fault }
 {
-    match load_plan(alloc, plan) {
-        Ok(plan) => match judged(alloc, shop, plan) {
-            Ok(loaded) => Ok(loaded),
-            Err(_) => Err(CommandFault::Memory),
-        },
-        Err(fault) => Err(fault),
-    }
+    let plan = load_plan(alloc, plan)?;
+    Ok(judged(alloc, shop, plan)?)
 }
 
 /// The verdict on a plan for a shop.
 fn judged(alloc: Global, shop: Shop, plan: Plan) -> Result<Loaded, AllocError>
-    ensures { IfOk result (IsLoaded (record { shop = shop; plan = plan })) }
+    ensures loaded { IfOk result (IsLoaded (record { shop = shop; plan = plan })) }
+    ensures not_shaped { ¬ (IsWellShaped (record { shop = shop; plan = plan })) → IsOk result }
 {
     match shape(shop, plan) {
         Ok(shaped) => verdict(alloc, shaped),

@@ -1,6 +1,7 @@
 //! Files and the standard input, read whole.
 
-ghost use Rattle.std.specs.Prelude.{◌≡◌, ◌<◌, ◌≤◌, IfOk, IfErr, IfSome, length, vec_len};
+ghost use Rattle.std.specs.Prelude.{◌≡◌, ◌<◌, ◌≤◌, IfOk, IfErr, IfSome, IsErrAnd, length, vec_len};
+ghost use Rattle.command_answers.specs.Reading.{IsFaultOf};
 
 use std::alloc::Global;
 use std::io::{self, ErrorKind, Read};
@@ -35,13 +36,23 @@ impl From<io::Error> for FileFault {
 
 /// The bytes that a reader gives until its end.
 pub fn read_whole<R: Read + Drop>(alloc: Global, reader: R) -> Result<Vec<u8>, FileFault>
-    ensures within { IfOk result (λ bytes. vec_len bytes ≤ MAX_BYTES) }
+    ensures within { IfOk result (λ bytes. vec_len bytes ≤ 67108864) }
     ensures whole { IfOk result (λ bytes. IfSome (R.remaining reader) (λ all. bytes.items ≡ all)) }
-    ensures too_long { IfErr result (λ fault. fault ≡ FileFault.TooLong → IfSome (R.remaining reader) (λ all. MAX_BYTES < length all)) }
+    ensures too_long { IfErr result (λ fault. fault ≡ FileFault.TooLong → IfSome (R.remaining reader) (λ all. 67108864 < length all)) }
 {
     let mut bytes = Vec::new(alloc);
     let mut limited = reader.take(MAX_BYTES as u64 + 1);
-    match limited.read_to_end(&mut bytes) {
+    let read = limited.read_to_end(&mut bytes);
+    whole_of(read, bytes)
+}
+
+/// The bytes that were read to the end, or why they can't be had.
+fn whole_of(read: io::Result<usize>, bytes: Vec<u8>) -> Result<Vec<u8>, FileFault>
+    ensures within { IfOk read (λ _. vec_len bytes ≤ 67108864 → result ≡ Ok bytes) }
+    ensures beyond { IfOk read (λ _. 67108864 < vec_len bytes → result ≡ Err FileFault.TooLong) }
+    ensures fault { IfErr read (λ error. IsErrAnd result (IsFaultOf error)) }
+{
+    match read {
         Ok(_) if bytes.len() > MAX_BYTES => Err(FileFault::TooLong),
         Ok(_) => Ok(bytes),
         Err(error) => Err(FileFault::from(error)),

@@ -32,10 +32,8 @@ pub fn shape_answer(
     ensures first { (fault : OrFault) → HasFault instance.now (option_copied name.entry) fault → IsInstanceRefusal result fault }
     ensures second { (fault : PlanFault) → TellsAShop instance.now (option_copied name.entry) → IsFirstFault plan.now fault → IsPlanRefusal result fault }
 {
-    match load_instance(alloc, instance, name) {
-        Ok(named) => shape_of(alloc, named.shop, plan),
-        Err(fault) => Err(fault),
-    }
+    let named = load_instance(alloc, instance, name)?;
+    shape_of(alloc, named.shop, plan)
 }
 
 /// Whether a plan is well shaped for a shop, and if not, its first fault.
@@ -45,13 +43,8 @@ pub fn shape_of(alloc: Global, shop: Shop, plan: &[u8]) -> Result<Answer, Comman
     ensures fault { IfErr result (IsRightPlanFault plan.now) }
     ensures first { (fault : PlanFault) → IsFirstFault plan.now fault → IsPlanRefusal result fault }
 {
-    match load_plan(alloc, plan) {
-        Ok(plan) => match shape_line(alloc, shop, plan) {
-            Ok(answer) => Ok(answer),
-            Err(_) => Err(CommandFault::Memory),
-        },
-        Err(fault) => Err(fault),
-    }
+    let plan = load_plan(alloc, plan)?;
+    Ok(shape_line(alloc, shop, plan)?)
 }
 
 fn shape_line(alloc: Global, shop: Shop, plan: Plan) -> Result<Answer, AllocError>
@@ -64,7 +57,7 @@ fn shape_line(alloc: Global, shop: Shop, plan: Plan) -> Result<Answer, AllocErro
 }
 
 fn shaped_answer(alloc: Global) -> Result<Answer, AllocError>
-    ensures { IfOk result (λ answer. (answer.text.items ≡ codes "shaped\n") × (answer.status ≡ GOOD)) }
+    ensures { IfOk result (λ answer. (answer.text.items ≡ codes "shaped\n") × (answer.status ≡ 0)) }
 {
     let mut text = Vec::new(alloc);
     text.extend_from_slice(b"shaped\n")?;

@@ -1,8 +1,11 @@
-use Rattle.std.proofs.Common.{◌≡◌, ℕ, ◌<◌, ◌++◌, List, [], length, take, Option, None, Some, IfSome, arith, ◌∙◌, ap}
+use Rattle.std.proofs.Common.{◌≡◌, ℕ, ◌<◌, ◌≤◌, ◌++◌, List, [], length, take, Option, None, Some, Result, Ok, Err, IfSome, IfOk, IfErr, IsErrAnd, OnOk, Vec, Global, vec_len, arith, ◌∙◌, ap, inl, inr}
 use Rattle.std.specs.Option.{option_map}
+use Rattle.std.specs.declared.io.Error.{Error}
 use Rattle.std.proofs.lemmas.List.{take_all, length-take-le}
 use Rattle.std.proofs.lemmas.Bool.{cases_lt}
-use Rattle.std.proofs.Common.{inl, inr}
+use Rattle.command_answers.specs.Reading.{IsFaultOf}
+use Rattle.command_answers.specs.declared.reading.FileFault.{FileFault}
+use Rattle.command_answers.specs.declared.reading.FileFault.TheVariants.{TooLong}
 use Rattle.command_answers.proofs.reading.read_whole.Goals as goal
 
 -- what was read of all that there is, up to a limit that it stays below, is all
@@ -17,7 +20,24 @@ whole_below (Some all) limit start items empty read below =
       | inr long ↦ absurd (omega (arith, ap length is, length-take-le limit all long))
     ]
 
-pub returns-in-Ok-2-clause-whole : goal.returns-in-Ok-2-clause-whole
-returns-in-Ok-2-clause-whole g c =
-    let read = rw (c.take-limited.ensures.limit, c.take-limited.ensures.inner) at c.in-Ok-2.ensures.bytes in
-    whole_below _ 67108865 _ _ c.new-bytes.ensures.items read (omega (arith, c.read_to_end.new.buf.ok.0))
+-- no bytes are told at a fault
+none_at_fault : (P : Vec ℕ Global → Type 0) (Q : FileFault → Type 0) (answer : Result (Vec ℕ Global) FileFault) → IsErrAnd answer Q → IfOk answer P
+none_at_fault P Q (Ok bytes) failed = absurd failed
+none_at_fault P Q (Err fault) failed = tt
+
+whole_told : (given : Option (List ℕ)) (start : List ℕ) (buf : Vec ℕ Global) (read : Result ℕ Error) (answer : Result (Vec ℕ Global) FileFault) → start ≡ []
+    → OnOk read (IfSome (option_map (take 67108865) given) (λ xs. buf.items ≡ start ++ xs))
+    → IfOk read (λ n. vec_len buf ≤ 67108864 → answer ≡ Ok buf) → IfOk read (λ n. 67108864 < vec_len buf → answer ≡ Err TooLong)
+    → IfErr read (λ error. IsErrAnd answer (IsFaultOf error)) → IfOk answer (λ bytes. IfSome given (λ all. bytes.items ≡ all))
+whole_told given start buf (Ok n) answer empty bytes within beyond failed =
+    elim (cases_lt 67108864 (vec_len buf)) [
+      | inl over ↦ rw (beyond over) tt
+      | inr below ↦ rw (within below) (whole_below given 67108865 start buf.items empty bytes (omega (arith, buf.ok.0)))
+    ]
+whole_told given start buf (Err error) answer empty bytes within beyond failed = none_at_fault _ _ answer failed
+
+pub returns-clause-whole : goal.returns-clause-whole
+returns-clause-whole g c =
+    let bytes = rw (c.take-limited.ensures.limit, c.take-limited.ensures.inner) at c.read_to_end-read.ensures.bytes in
+    whole_told _ _ c.read_to_end-read.new.buf c.read_to_end-read.result c.whole_of.result c.new-bytes.ensures.items bytes
+    c.whole_of.ensures.within c.whole_of.ensures.beyond c.whole_of.ensures.fault
