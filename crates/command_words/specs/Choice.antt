@@ -76,7 +76,7 @@ rounds_in rows = option_map_or (λ text. digits_value 10 (without_leading_plus t
     (one_of (codes "rounds") rows) 20
 
 -- the choice holds the command, the files, the instance's name and the rounds that were found
-pub record Holds (found : Found) (chosen : Chosen) : Type 0 where
+pub record IsChoiceOf (found : Found) (chosen : Chosen) : Type 0 where
   pub name : word_of chosen.name ≡ word_found found
   pub files : map string_bytes chosen.files.items ≡ files_in (rows_found found)
   pub instance : option_map string_bytes chosen.instance ≡ instance_in (rows_found found)
@@ -98,9 +98,9 @@ asks_for_help DisplayVersion = true
 asks_for_help _ = false
 
 -- the fault is want of memory, or tells of this reason
-abbrev pub Tells : ErrorKind → WordsFault → Type 0
-Tells kind Memory = ⊤
-Tells kind (Usage help text) = (kind ≢ OutOfMemory) × (help ≡ asks_for_help kind)
+abbrev pub TellsReason : ErrorKind → WordsFault → Type 0
+TellsReason kind Memory = ⊤
+TellsReason kind (Usage help text) = (kind ≢ OutOfMemory) × (help ≡ asks_for_help kind)
 
 -- the fault is want of memory, or tells of one of these reasons
 abbrev pub TellsOneOf : Kinds → WordsFault → Type 0

@@ -5,7 +5,7 @@ ghost use Rattle.std.specs.String.{string_bytes};
 ghost use Rattle.clap.specs.Words.{found_of, kind_of, rows_of, subcommand_rows_of};
 ghost use Rattle.clap.specs.Words.{one_of};
 ghost use Rattle.command_words.specs.declared.words.CommandName.{CommandName};
-ghost use Rattle.command_words.specs.Choice.{FitsRounds, Holds, IsFit, IsWithin, Tells, TellsOneOf};
+ghost use Rattle.command_words.specs.Choice.{FitsRounds, IsChoiceOf, IsFit, IsWithin, TellsOneOf, TellsReason};
 ghost use Rattle.command_words.specs.Choice.{files_in, found_in, instance_in, reasons_in, rounds_in, values_of, word_of};
 
 mod command_line;
@@ -83,7 +83,7 @@ impl From<AllocError> for WordsFault {
 /// Reads the command line, of which the first word is the program's name. `WordsFault::Memory` may
 /// come in place of any other answer.
 pub fn read_words(alloc: Global, words: &[&str]) -> Result<Chosen, WordsFault>
-    ensures chosen { IfOk result (Holds (found_in (map (λ word. word.now) words.now))) }
+    ensures chosen { IfOk result (IsChoiceOf (found_in (map (λ word. word.now) words.now))) }
     ensures within { IfOk result IsWithin }
     ensures taken { IfOk result (λ _. reasons_in (map (λ word. word.now) words.now) ≡ []) }
     ensures refused { IfErr result (TellsOneOf (reasons_in (map (λ word. word.now) words.now))) }
@@ -97,7 +97,7 @@ pub fn read_words(alloc: Global, words: &[&str]) -> Result<Chosen, WordsFault>
 
 // What `clap` refuses, as a fault.
 fn fault_of(alloc: Global, error: &clap::Error) -> WordsFault
-    ensures { Tells (kind_of error.now) result }
+    ensures { TellsReason (kind_of error.now) result }
 {
     let kind = error.kind();
     if kind == ErrorKind::OutOfMemory {
@@ -113,7 +113,7 @@ fn fault_of(alloc: Global, error: &clap::Error) -> WordsFault
 // The choice that the matches of the whole command line make.
 fn chosen_by(alloc: Global, matches: &ArgMatches<'_>) -> Result<Chosen, AllocError>
     requires { IsFit (subcommand_rows_of matches.now) }
-    ensures holds { IfOk result (Holds (subcommand_rows_of matches.now)) }
+    ensures holds { IfOk result (IsChoiceOf (subcommand_rows_of matches.now)) }
     ensures within { IfOk result IsWithin }
 {
     match matches.subcommand() {
@@ -130,7 +130,7 @@ fn chosen_by(alloc: Global, matches: &ArgMatches<'_>) -> Result<Chosen, AllocErr
 // The choice that the matches of one command make.
 fn chosen_of(alloc: Global, word: &str, matches: &ArgMatches<'_>) -> Result<Chosen, AllocError>
     requires { IsFit (Some (word.now, rows_of (found_of matches.now))) }
-    ensures holds { IfOk result (Holds (Some (word.now, rows_of (found_of matches.now)))) }
+    ensures holds { IfOk result (IsChoiceOf (Some (word.now, rows_of (found_of matches.now)))) }
     ensures within { IfOk result IsWithin }
 {
     Ok(Chosen {

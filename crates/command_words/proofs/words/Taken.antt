@@ -17,7 +17,7 @@ use Rattle.clap.specs.declared.builder.value_parser.ValueParser.{ValueParser}
 use Rattle.clap.specs.declared.builder.value_parser.ValueParser.TheVariants.{Signed}
 use Rattle.clap.proofs.ValueTestLemmas.{accepts-Accepts}
 use Rattle.command_words.specs.CommandLine.{command, command_line, log_command, plan_command, plans_rule, rounds_rule}
-use Rattle.command_words.specs.Choice.{FitsRounds, Found, IsFit, TakesFiles, Tells, TellsOneOf, files_in, found_in, reasons_in, values_of, word_of}
+use Rattle.command_words.specs.Choice.{FitsRounds, Found, IsFit, TakesFiles, TellsOneOf, TellsReason, files_in, found_in, reasons_in, values_of, word_of}
 use Rattle.command_words.specs.declared.words.CommandName.{CommandName}
 use Rattle.command_words.specs.declared.words.CommandName.TheVariants.{Facts, Shape as ShapeName, Check, Plan, Drive, Hub, Audit, Gantt}
 use Rattle.command_words.specs.declared.words.WordsFault.{WordsFault}
@@ -247,7 +247,7 @@ pub met : (a : App) (words : List Text) (rows : List Row) (found : Found) → a 
 met a words rows found is h = (h (ap is_simple is)).1 ∙ ap (λ x. subcommand_of x words) is
 
 pub told : (a : App) (words : List Text) (error : Error) (fault : WordsFault) → a ≡ command_line → (is_simple_and_free a ≡ true → HasKind (fault_of a words) error)
-    → Tells (kind_of error) fault → TellsOneOf (reasons_in words) fault
+    → TellsReason (kind_of error) fault → TellsOneOf (reasons_in words) fault
 told a words error Memory is h tells = tt
 told a words error (Usage help text) is h tells = elim (h (ap is_simple_and_free is)) [
   | inl memory ↦ absurd (tells.0 memory)

@@ -1,0 +1,8 @@
+use Rattle.std.proofs.Common.{rules}
+use Rattle.command_words.proofs.words.command_line.command_of.Goals as goal
+
+pub returns-in-Check : goal.returns-in-Check
+returns-in-Check c = search rules
+
+pub returns-in-Audit : goal.returns-in-Audit
+returns-in-Audit c = search rules
