@@ -4,21 +4,21 @@ use Rattle.std.proofs.lemmas.Bool.{cases_lt, cases_eq}
 use Rattle.std.proofs.lemmas.List.{get_or_past, get_or-replicate, length-replicate}
 use Rattle.shop_base.specs.declared.node.Node.{Node}
 use Rattle.shop_base.specs.Plan.{PlannedShop, jobs, machines, steps, clean, budget, Stands, IsWellShaped}
-use Rattle.shop_base.specs.Cell.{Cell, MachineState, absent, unused, made, since, entries, cleaning, IsOn, start}
+use Rattle.shop_base.specs.Cell.{Cell, MachineState, absent, unused, made, since, entries, cleaning, IsOn, start, IsGone}
 use Rattle.shop_base.specs.declared.job_state.JobState.{JobState}
 use Rattle.shop_base.specs.Activity.{Activity, Arrival, Operation, Cleaning, GoesOn}
 use Rattle.shop_base.specs.Report.{Report, with_ready, with_clean, after_end, after_report}
 use Rattle.shop_base.specs.Move.{CanMove, after_move}
 use Rattle.shop_base.specs.Run.{Event, IsAtRest}
-use Rattle.shop_base.specs.Controlled.{AreMoves, after_moves, orders_for, after_step, IsStep, moved, Leads}
+use Rattle.shop_base.specs.Controlled.{AreMoves, after_moves, orders_for, after_step, IsStep, moved, Leads, IsControlledRun}
 use Rattle.shop_base.specs.Punctual.{IsPunctual, ArePunctual}
-use Rattle.shop_base.specs.Ends.{IsInTime}
-use Rattle.shop_base.specs.Graph.{RanksRise, MomentsFit, node, leaving}
+use Rattle.shop_base.specs.Ends.{IsInTime, IsOutByBudget}
+use Rattle.shop_base.specs.Graph.{RanksRise, MomentsFit, IsSchedule, node, leaving}
 use Rattle.shop_base.specs.Sound.{IsSound}
 use Rattle.shop_base.specs.KeptMoments.{IsAhead, KeepsMoments, KeepsLeaving}
 use Rattle.shop_base.proofs.Changes.{IsMoved, IsReadied, IsTidied, after_move-moved, with_ready-readied, with_clean-tidied, moves_within}
-use Rattle.shop_base.proofs.ControlledRuns.{leads_induction}
-use Rattle.shop_base.proofs.Keeping.{after_report-sound, after_move-sound, target_free}
+use Rattle.shop_base.proofs.ControlledRuns.{leads_induction, controlled_to_run, start_at_rest}
+use Rattle.shop_base.proofs.Keeping.{start-sound, after_report-sound, after_move-sound, target_free}
 use Rattle.shop_base.proofs.Visits.{visits_job, visits_once, visits-stands, on_or_not}
 use Rattle.shop_base.proofs.InShop.{outside_in_shop, ready_in_shop}
 use Rattle.shop_base.proofs.Places.{same_stand}
@@ -171,13 +171,18 @@ start-keeps_moments p kept = record {
 pub leaving_kept : (p : PlannedShop) (kept : Node → ℕ) (c : Cell) (j : ℕ) → IsSound p c → KeepsMoments p kept c → j < jobs p → KeepsLeaving p kept c j
 leaving_kept p kept c j sound keeps_moments inside = elim (cases_lt (steps p j) (made c j)) [
   | inl gone ↦ inl (record { gone = gone; by = keeps_moments.moved j (steps p j) (omega (arith, sound.few_moves j inside)) })
-  | inr left ↦ inr (keeps_moments.ahead j (steps p j) inside left (le_refl (steps p j)))
+  | inr left ↦ inr ((λ gone. omega arith), keeps_moments.ahead j (steps p j) inside left (le_refl (steps p j)))
 ]
 
 -- a job that keeps to the moment of its leaving is in time, where that is within its budget
 pub leaving-in_time : (p : PlannedShop) (kept : Node → ℕ) (c : Cell) (j : ℕ) → kept (leaving p j) ≤ budget p j → KeepsLeaving p kept c j → IsInTime p c j
 leaving-in_time p kept c j within (inl gone) = inl (record { gone = gone.gone; by = omega (arith, gone.by) })
-leaving-in_time p kept c j within (inr soon) = inr (omega arith)
+leaving-in_time p kept c j within (inr (left, soon)) = inr (omega arith)
+
+-- and it is out by its budget, once it is gone
+pub leaving-out : (p : PlannedShop) (kept : Node → ℕ) (c : Cell) (j : ℕ) → kept (leaving p j) ≤ budget p j → KeepsLeaving p kept c j → IsGone p c j → IsOutByBudget p c j
+leaving-out p kept c j within (inl gone) left = record { gone = gone.gone; by = omega (arith, gone.by) }
+leaving-out p kept c j within (inr (still, soon)) left = absurd (still left)
 
 -- among the events of a step and what follows, the moves hold no report
 punctual_later : (p : PlannedShop) (c : Cell) (t : ℕ) (js : List ℕ) (es : List Event) → ArePunctual p c (moved (orders_for p c t js) ++ es) → ArePunctual p (after_moves p c t js) es
@@ -192,3 +197,10 @@ leads-keeps_moments p rank kept c rs es end shaped rise fit sound rest leads =
     (λ c r js rs es end sound rest step later keeps_moments punctual.
     later (step-keeps_moments p rank kept c r js shaped rise fit sound rest keeps_moments step punctual.0) (punctual_later p (after_report c r) r.at js es punctual.1))
     (λ c r rs es end sound rest cannot later keeps_moments punctual. later keeps_moments punctual) c rs es end sound rest leads
+
+-- at the end of a controlled run of punctual reports, each job keeps to the moment of its leaving
+pub controlled-leavings_kept : (p : PlannedShop) (rank kept : Node → ℕ) (rs : List Report) (es : List Event) (end : Cell) → IsSchedule p rank kept
+    → IsControlledRun p rs es end → ArePunctual p (start p) es → (j : ℕ) → j < jobs p → KeepsLeaving p kept end j
+controlled-leavings_kept p rank kept rs es end schedule run punctual j inside =
+    leaving_kept p kept end j (controlled_to_run p rs es end schedule.shaped run).2
+    (leads-keeps_moments p rank kept (start p) rs es end schedule.shaped schedule.ranks schedule.moments (start-sound p schedule.shaped) (start_at_rest p) run (start-keeps_moments p kept) punctual) inside

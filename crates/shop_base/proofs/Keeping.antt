@@ -6,7 +6,7 @@ use Rattle.std.proofs.lemmas.List.{get_or_past, get_or-replicate, length-replica
 use Rattle.shop_base.specs.declared.node.Node.{Node}
 use Rattle.shop_base.specs.declared.limits.TheConstants.{MAX_MOMENT}
 use Rattle.shop_base.specs.Plan.{PlannedShop, jobs, machines, steps, order, job_at, clean, Visits, Stands, IsWellShaped}
-use Rattle.shop_base.specs.Cell.{Cell, MachineState, absent, unused, job_in, machine_in, made, ready, entries, cleaning, start, IsOn, IsGone, IsFree}
+use Rattle.shop_base.specs.Cell.{Cell, MachineState, absent, unused, job_in, machine_in, made, ready, since, entries, cleaning, start, IsOn, IsGone, IsFree}
 use Rattle.shop_base.specs.declared.job_state.JobState.{JobState}
 use Rattle.shop_base.specs.Activity.{Activity, Arrival, Operation, Cleaning, GoesOn}
 use Rattle.shop_base.specs.Report.{Report, IsNextMoment, CanReport, with_ready, with_clean, after_end, after_report}
@@ -31,6 +31,13 @@ start-ready p j = go (cases_lt j (jobs p))
     go (inl inside) = ap (λ (x : JobState). x.ready) (start-job p j inside)
     go (inr past) = ap (λ (x : JobState). x.ready) (get_or_past (start p).jobs j absent (omega (arith, length-replicate {A = JobState} (jobs p) (record { made = 0; ready = false; since = 0 }))))
 
+start-since : (p : PlannedShop) (j : ℕ) → since (start p) j ≡ 0
+start-since p j = go (cases_lt j (jobs p))
+  where
+    go : (j < jobs p) ⊎ (jobs p ≤ j) → since (start p) j ≡ 0
+    go (inl inside) = ap (λ (x : JobState). x.since) (start-job p j inside)
+    go (inr past) = ap (λ (x : JobState). x.since) (get_or_past (start p).jobs j absent (omega (arith, length-replicate {A = JobState} (jobs p) (record { made = 0; ready = false; since = 0 }))))
+
 start-machine : (p : PlannedShop) (m : ℕ) → machine_in (start p) m ≡ unused
 start-machine p m = go (cases_lt m (machines p))
   where
@@ -43,6 +50,7 @@ start-sound p shaped = record {
   job_count = length-replicate (jobs p) _;
   machine_count = length-replicate (machines p) unused;
   last_in_range = omega arith;
+  begun = λ j. omega (arith, start-since p j);
   few_moves = λ j inside. omega (arith, start-made p j inside);
   gone_not_ready = λ j gone. start-ready p j;
   in_order = λ m. subst (λ (es : List ℕ). IsPrefix es (order p m)) (sym (empty m)) (order p m, refl);
@@ -65,6 +73,7 @@ pub record IsLike (p : PlannedShop) (c new : Cell) : Type 0 where
   pub job_count : length new.jobs ≡ length c.jobs
   pub machine_count : length new.machines ≡ length c.machines
   pub last_in_range : new.last ≤ MAX_MOMENT
+  pub begun : (j : ℕ) → since new j ≤ new.last
   pub made_same : (j : ℕ) → made new j ≡ made c j
   pub gone_not_ready : (j : ℕ) → IsGone p c j → ready new j ≡ false
   pub entries_same : (m : ℕ) → entries new m ≡ entries c m
@@ -75,6 +84,7 @@ like-sound p c new sound alike = record {
   job_count = alike.job_count ∙ sound.job_count;
   machine_count = alike.machine_count ∙ sound.machine_count;
   last_in_range = alike.last_in_range;
+  begun = alike.begun;
   few_moves = λ j inside. omega (arith, alike.made_same j, sound.few_moves j inside);
   gone_not_ready = λ j gone. alike.gone_not_ready j (omega (arith, alike.made_same j));
   in_order = λ m. subst (λ (es : List ℕ). IsPrefix es (order p m)) (sym (alike.entries_same m)) (sound.in_order m);
@@ -87,11 +97,12 @@ like-sound p c new sound alike = record {
       sound.cleaned_free m s (alike.cleaned_before m s cleaned) j k (record { entered = sym (alike.made_same j) ∙ on.entered; visits = on.visits });
 }
 
-readied-like : (p : PlannedShop) (c new : Cell) (j t : ℕ) → IsSound p c → t ≤ MAX_MOMENT → (IsGone p c j → ⊥) → IsReadied c j t new → IsLike p c new
-readied-like p c new j t sound in_range present readied = record {
+readied-like : (p : PlannedShop) (c new : Cell) (j t : ℕ) → IsSound p c → IsNextMoment c t → (IsGone p c j → ⊥) → IsReadied c j t new → IsLike p c new
+readied-like p c new j t sound moment present readied = record {
   job_count = readied.job_count;
   machine_count = ap length readied.machines_same;
-  last_in_range = omega (arith, readied.moment);
+  last_in_range = omega (arith, readied.moment, moment.in_range);
+  begun = λ i. omega (arith, readied.moment, moment.in_order, readied.since_same i, sound.begun i);
   made_same = readied.made_same;
   gone_not_ready = gone_not_ready;
   entries_same = λ m. ap (λ (ms : List MachineState). (get_or ms m unused).entries) readied.machines_same;
@@ -105,11 +116,12 @@ readied-like p c new j t sound in_range present readied = record {
         go (inl same) = absurd (present (subst (λ (x : ℕ). IsGone p c x) same gone))
         go (inr other) = ap (λ (x : JobState). x.ready) (readied.others i other) ∙ sound.gone_not_ready i gone
 
-tidied-like : (p : PlannedShop) (c new : Cell) (m t : ℕ) → IsSound p c → t ≤ MAX_MOMENT → IsTidied c m t new → IsLike p c new
-tidied-like p c new m t sound in_range tidied = record {
+tidied-like : (p : PlannedShop) (c new : Cell) (m t : ℕ) → IsSound p c → IsNextMoment c t → IsTidied c m t new → IsLike p c new
+tidied-like p c new m t sound moment tidied = record {
   job_count = ap length tidied.jobs_same;
   machine_count = tidied.machine_count;
-  last_in_range = omega (arith, tidied.moment);
+  last_in_range = omega (arith, tidied.moment, moment.in_range);
+  begun = λ j. omega (arith, tidied.moment, moment.in_order, ap (λ (js : List JobState). (get_or js j absent).since) tidied.jobs_same, sound.begun j);
   made_same = λ j. ap (λ (js : List JobState). (get_or js j absent).made) tidied.jobs_same;
   gone_not_ready = λ j gone. ap (λ (js : List JobState). (get_or js j absent).ready) tidied.jobs_same ∙ sound.gone_not_ready j gone;
   entries_same = tidied.entries_same;
@@ -129,13 +141,13 @@ outside-inside c j outside = lt_of_not-le λ past. absurd (omega (arith, ap (λ 
 
 after_end-like : (p : PlannedShop) (c : Cell) (a : Activity) (due t : ℕ) → IsSound p c → GoesOn p c a due → IsNextMoment c t → IsLike p c (after_end c a t)
 after_end-like p c (Arrival j) due t sound going moment =
-    readied-like p c (with_ready c j t) j t sound moment.in_range (λ gone. omega (arith, going.outside))
+    readied-like p c (with_ready c j t) j t sound moment (λ gone. omega (arith, going.outside))
     (with_ready-readied c j t going.not_ready (outside-inside c j going.outside))
 after_end-like p c (Operation j m) due t sound (k, going) moment =
-    readied-like p c (with_ready c j t) j t sound moment.in_range (λ gone. omega (arith, going.on.entered, going.on.visits.within))
+    readied-like p c (with_ready c j t) j t sound moment (λ gone. omega (arith, going.on.entered, going.on.visits.within))
     (with_ready-readied c j t going.not_ready (omega (arith, sound.job_count, visits_job p j k m going.on.visits)))
 after_end-like p c (Cleaning m) due t sound (from, going) moment =
-    tidied-like p c (with_clean c m t) m t sound moment.in_range (with_clean-tidied c m from t going.is_cleaned)
+    tidied-like p c (with_clean c m t) m t sound moment (with_clean-tidied c m from t going.is_cleaned)
 
 -- a report changes no moves and no entries
 pub after_report-like : (p : PlannedShop) (c : Cell) (r : Report) → IsSound p c → CanReport p c r → IsLike p c (after_report c r)
@@ -196,6 +208,13 @@ module _ (p : PlannedShop) (c : Cell) (j t : ℕ) (new : Cell) (shaped : IsWellS
 
   entries_grow : (m : ℕ) → length (entries c m) ≤ length (entries new m)
   entries_grow m = ⊎_elim (λ visits. omega (arith, entered_length m visits)) (λ off. omega (arith, ap length (moved.not_entered m off))) (visits_or_not p j (made c j) m)
+
+  moved-begun : (i : ℕ) → since new i ≤ new.last
+  moved-begun i = go (cases_eq i j)
+    where
+      go : (i ≡ j) ⊎ (i ≡ j → ⊥) → since new i ≤ new.last
+      go (inl same) = omega (arith, ap (since new) same, moved.since_mine, moved.moment)
+      go (inr other) = omega (arith, ap (λ (x : JobState). x.since) (moved.others i other), sound.begun i, moved.moment, can.moment.in_order)
 
   moved-few_moves : (i : ℕ) → i < jobs p → made new i ≤ steps p i + 1
   moved-few_moves i inside = go (cases_eq i j)
@@ -315,6 +334,7 @@ module _ (p : PlannedShop) (c : Cell) (j t : ℕ) (new : Cell) (shaped : IsWellS
     job_count = moved.job_count ∙ sound.job_count;
     machine_count = moved.machine_count ∙ sound.machine_count;
     last_in_range = omega (arith, moved.moment, can.moment.in_range);
+    begun = moved-begun;
     few_moves = moved-few_moves;
     gone_not_ready = moved-gone_not_ready;
     in_order = moved-in_order;

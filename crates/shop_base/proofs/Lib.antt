@@ -19,6 +19,7 @@ pub mod Sums
 pub mod Departures
 pub mod ReportsLeft
 pub mod ReadyCount
+pub mod MovesOnce
 pub mod CellFacts
 pub mod Appending
 pub mod StatedNumber

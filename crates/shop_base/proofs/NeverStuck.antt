@@ -14,7 +14,7 @@ use Rattle.shop_base.specs.Ends.{HasEnded}
 use Rattle.shop_base.specs.Graph.{job_arc, blocking_arc, RanksRise, MomentsFit, node}
 use Rattle.shop_base.specs.Sound.{IsSound}
 use Rattle.shop_base.specs.KeptMoments.{KeepsMoments}
-use Rattle.shop_base.specs.NeverStuckLaw.{CanGoOn}
+use Rattle.shop_base.specs.NeverStuckLaw.{CanReportEach, CanGoOn}
 use Rattle.shop_base.proofs.Visits.{visits_job, visits_machine, visits-stands, past_leaves}
 use Rattle.shop_base.proofs.Places.{stands_at, same_stand, prefix_grows}
 
@@ -249,10 +249,12 @@ outside-gone p c j sound outside =
     let one : made c j ≡ 1 = ap (λ (s : JobState). s.made) (get_or_past c.jobs j absent (omega (arith, sound.job_count))) in
     omega arith
 
--- an activity going on can be reported at the last moment
+-- each activity going on can be reported at the last moment
+pub sound-reportable : (p : PlannedShop) (c : Cell) → IsSound p c → CanReportEach p c
+sound-reportable p c sound a due going = record { going = (due, going); moment = record { in_order = le_refl c.last; in_range = sound.last_in_range } }
+
 goes_on-reportable : (p : PlannedShop) (c : Cell) (a : Activity) (due : ℕ) → IsSound p c → GoesOn p c a due → CanGoOn p c
-goes_on-reportable p c a due sound going =
-    (a, due, going, record { going = (due, going); moment = record { in_order = le_refl c.last; in_range = sound.last_in_range } })
+goes_on-reportable p c a due sound going = (a, due, going, sound-reportable p c sound a due going)
 
 -- at rest, the run has ended, or an activity going on can be reported at the last moment
 pub ended-or-goes_on : (p : PlannedShop) (rank : Node → ℕ) (c : Cell) → IsWellShaped p → RanksRise p rank → IsSound p c → IsAtRest p c → HasEnded p c ⊎ CanGoOn p c

@@ -1,7 +1,7 @@
 use Rattle.std.specs.Prelude.{◌≡◌, ℕ, ◌+◌, ◌<◌, ◌≤◌, length, Some, ◌⊎◌}
 use Rattle.shop_base.specs.declared.node.Node.{Node}
 use Rattle.shop_base.specs.Plan.{PlannedShop, jobs, steps, Stands}
-use Rattle.shop_base.specs.Cell.{Cell, made, since, entries, cleaning}
+use Rattle.shop_base.specs.Cell.{Cell, made, since, entries, cleaning, IsGone}
 use Rattle.shop_base.specs.Ends.{IsGoneBy}
 use Rattle.shop_base.specs.Graph.{node, leaving}
 
@@ -18,6 +18,6 @@ pub record KeepsMoments (p : PlannedShop) (kept : Node → ℕ) (c : Cell) : Typ
   -- the last moment isn't past that of a node whose move isn't made yet
   pub ahead : IsAhead p kept c c.last
 
--- job j is gone since a moment at most the one kept for its leaving, or that moment isn't past yet
+-- job j is gone since a moment at most the one kept for its leaving, or it isn't gone, and that moment isn't past yet
 abbrev pub KeepsLeaving : PlannedShop → (Node → ℕ) → Cell → ℕ → Type 0
-KeepsLeaving p kept c j = IsGoneBy p c j (kept (leaving p j)) ⊎ (c.last ≤ kept (leaving p j))
+KeepsLeaving p kept c j = IsGoneBy p c j (kept (leaving p j)) ⊎ ((IsGone p c j → ⊥) × (c.last ≤ kept (leaving p j)))

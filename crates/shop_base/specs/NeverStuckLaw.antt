@@ -13,8 +13,12 @@ use Rattle.shop_base.specs.Graph.{RanksRise}
 abbrev pub CanGoOn : PlannedShop → Cell → Type 0
 CanGoOn p c = (a : Activity) × (due : ℕ) × GoesOn p c a due × CanReport p c (record { ended = a; at = c.last })
 
--- never stuck: where ranks rise along every arc, each controlled run ends at rest and not stuck, and either it has ended or it can go on
+-- each activity that is going on can be reported at the last moment
+abbrev pub CanReportEach : PlannedShop → Cell → Type 0
+CanReportEach p c = (a : Activity) (due : ℕ) → GoesOn p c a due → CanReport p c (record { ended = a; at = c.last })
+
+-- never stuck: where ranks rise along every arc, each controlled run ends at rest and not stuck, it has ended or can go on, and each activity can be reported
 abbrev pub NoControlledRunIsStuck : Type 0
 NoControlledRunIsStuck = (p : PlannedShop) (rank : Node → ℕ) (rs : List Report) (es : List Event) (end : Cell)
     → IsWellShaped p → RanksRise p rank → IsControlledRun p rs es end
-    → IsAtRest p end × (IsStuck p end → ⊥) × (HasEnded p end ⊎ CanGoOn p end)
+    → IsAtRest p end × (IsStuck p end → ⊥) × (HasEnded p end ⊎ CanGoOn p end) × CanReportEach p end

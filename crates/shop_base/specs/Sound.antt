@@ -1,7 +1,7 @@
 use Rattle.std.specs.Prelude.{◌≡◌, ℕ, ◌+◌, ◌<◌, ◌≤◌, length, Some, false}
 use Rattle.shop_base.specs.declared.limits.TheConstants.{MAX_MOMENT}
 use Rattle.shop_base.specs.Plan.{PlannedShop, jobs, machines, steps, order, clean, Stands}
-use Rattle.shop_base.specs.Cell.{Cell, made, ready, entries, cleaning, IsGone, IsFree}
+use Rattle.shop_base.specs.Cell.{Cell, made, ready, since, entries, cleaning, IsGone, IsFree}
 use Rattle.shop_base.specs.Move.{IsPrefix}
 
 -- what holds of the cell in every run, by any controller: each fact is kept by every possible report and every possible, plan-keeping move
@@ -9,6 +9,7 @@ pub record IsSound (p : PlannedShop) (c : Cell) : Type 0 where
   pub job_count : length c.jobs ≡ jobs p
   pub machine_count : length c.machines ≡ machines p
   pub last_in_range : c.last ≤ MAX_MOMENT
+  pub begun : (j : ℕ) → since c j ≤ c.last
   -- a job makes a move for each step, and its leaving
   pub few_moves : (j : ℕ) → j < jobs p → made c j ≤ steps p j + 1
   pub gone_not_ready : (j : ℕ) → IsGone p c j → ready c j ≡ false

@@ -2,9 +2,10 @@
 //! this crate proves it. `docs/LAWS.md` says them in plain words.
 
 ghost use Rattle.shop_base.specs.StepLaw.{OneListOfMovesFitsAReport, EveryListHasOneControlledRun, NoTwoJobsAreOnOneMachine, AControlledRunIsARun};
+ghost use Rattle.shop_base.specs.StepLaw.{EveryRunIsSound, AMoveEntersItsTarget, NoJobMovesTwice};
 ghost use Rattle.shop_base.specs.NeverStuckLaw.{NoControlledRunIsStuck};
 ghost use Rattle.shop_base.specs.EndsLaw.{EndsOnTheStatedNumber, OrdersNeverOutnumberReports, MovesNeverOutnumberReports};
-ghost use Rattle.shop_base.specs.InTimeLaw.{PunctualRunsAreInTime};
+ghost use Rattle.shop_base.specs.InTimeLaw.{PunctualRunsAreInTime, PunctualRunsEndInTime};
 ghost use Rattle.shop_base.specs.CycleLaw.{ACycleStopsEveryRun};
 ghost use Rattle.shop_base.specs.ExactLaw.{NoExactRunIsFaster, NoExactMoveIsEarlier, ExactRunsAreJustInTime};
 ghost use Rattle.shop_base.specs.SerialLaw.{TheSerialPlanHasNoCycle};
@@ -32,14 +33,31 @@ pub fn no_two_jobs_are_on_one_machine()
     ensures { NoTwoJobsAreOnOneMachine }
 {}
 
+/// Every run, by any controller, ends in a sound cell, which is all that a controller has to keep.
+pub fn every_run_is_sound()
+    ensures { EveryRunIsSound }
+{}
+
+/// A move adds its job at the end of its target's entries. That it keeps the plan is said of the entries
+/// before it, with the job at their end; these are the entries after it.
+pub fn a_move_enters_its_target()
+    ensures { AMoveEntersItsTarget }
+{}
+
+/// In a step no job moves twice, so that a report is followed by at most as many moves as there are jobs.
+pub fn no_job_moves_twice()
+    ensures { NoJobMovesTwice }
+{}
+
 /// Never stuck: where ranks rise along every arc, a controlled run is at rest after every list of
-/// reports, and unless it has ended, an activity is going on that can be reported at the last moment.
+/// reports, and unless it has ended, an activity is going on. Each activity that is going on can be
+/// reported at the last moment.
 pub fn never_stuck()
     ensures { NoControlledRunIsStuck }
 {}
 
-/// Ends on the stated number: after every list of reports, those accepted and those still to come are as
-/// many as the stated number, and the run has ended just where as many were accepted.
+/// Ends on the stated number: after every list of reports no more were accepted than the stated number,
+/// and the run has ended just where as many were.
 pub fn ends_on_the_stated_number()
     ensures { EndsOnTheStatedNumber }
 {}
@@ -51,10 +69,12 @@ pub fn orders_never_outnumber_reports()
 {}
 
 /// In time: where moments are kept that fit every release and every arc, and no report was late, each
-/// job is gone by the moment kept for its leaving, or that moment isn't past yet; so where these moments
-/// meet the budgets, each job is in time.
+/// job is gone by the moment kept for its leaving, or it isn't gone and that moment isn't past yet; so
+/// where these moments meet the budgets, each job is in time, and out by its budget once it is gone. Where
+/// the run has ended, all jobs are out by their budgets.
 pub fn in_time()
-    ensures { PunctualRunsAreInTime }
+    ensures kept { PunctualRunsAreInTime }
+    ensures ended { PunctualRunsEndInTime }
 {}
 
 /// A cycle stops every run: whatever is reported and moved, at whatever moments and by any controller,
