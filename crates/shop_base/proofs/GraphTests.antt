@@ -1,10 +1,10 @@
 -- Tests that decide arcs, cycles and moments on a plan that is written out, and paths made of a list of nodes.
 use Rattle.std.proofs.Common.{◌≡◌, ℕ, ◌+◌, ◌-◌, ◌<◌, ◌≤◌, List, [], ◌∷◌, ◌++◌, length, Bool, true, false, not, ◌&&◌, ◌||◌, ltb, leb, eqb, cond, Decides, ◌⊎◌, inl, inr, refl, sym, ap, subst, arith}
-use Rattle.std.proofs.lemmas.Bool.{and_parts, leb-true}
+use Rattle.std.proofs.lemmas.Bool.{and_parts, leb-true, ltb-true}
 use Rattle.std.proofs.lemmas.Bool.Decides.{Decides-like, Decides-and, Decides-or, Decides-not, Decides-ltb, Decides-eqb}
 use Rattle.shop_base.specs.declared.node.Node.{Node}
-use Rattle.shop_base.specs.Plan.{PlannedShop, jobs, steps, machine_of, nominal, release, clean, order, job_at, Stands}
-use Rattle.shop_base.specs.Graph.{node, Arc, job_arc, blocking_arc, HasArc, Path, begins, follows, ArcsLead, IsNew, AreDistinct, IsSimpleCycle, MomentsFit}
+use Rattle.shop_base.specs.Plan.{PlannedShop, jobs, steps, machine_of, nominal, release, clean, order, job_at, Stands, budget}
+use Rattle.shop_base.specs.Graph.{node, Arc, job_arc, blocking_arc, HasArc, Path, begins, follows, ArcsLead, IsNew, AreDistinct, IsSimpleCycle, MomentsFit, RanksRise, MeetBudgets, leaving}
 use Rattle.shop_base.proofs.Visits.{steps_job, visits_job}
 use Rattle.shop_base.proofs.CellTests.{all_below, some_below, all_below_decides, some_below_decides, leb_decides, visits_test, visits_decides}
 
@@ -235,3 +235,11 @@ moments_fit p kept starts pass = record {
 pub path_within : (p : PlannedShop) (kept : Node → ℕ) (nodes : List Node) (v : Node) (n : ℕ) → MomentsFit p kept → Path p nodes v n → n ≤ kept v
 path_within p kept nodes v n fit (begins j within) = fit.releases j within
 path_within p kept nodes v n fit (follows front u w m d path arc) = omega (arith, path_within p kept front u m fit path, fit.arcs u w d arc)
+
+-- ranks rise where they do along each arc
+pub ranks_rise : (p : PlannedShop) (rank : Node → ℕ) → each_arc p (λ u v d. ltb (rank u) (rank v)) ≡ true → RanksRise p rank
+ranks_rise p rank all u v d arc = ltb-true (rank u) (rank v) (each_arc_at p (λ u v d. ltb (rank u) (rank v)) u v d all arc)
+
+-- budgets are met where each is
+pub budgets_decide : (p : PlannedShop) (kept : Node → ℕ) → Decides (all_below (λ j. leb (kept (leaving p j)) (budget p j)) (jobs p)) (MeetBudgets p kept)
+budgets_decide p kept = all_below_decides (λ j. leb (kept (leaving p j)) (budget p j)) (λ j. kept (leaving p j) ≤ budget p j) (λ j. leb_decides (kept (leaving p j)) (budget p j)) (jobs p)

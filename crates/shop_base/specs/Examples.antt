@@ -39,6 +39,13 @@ in_series = planned two_jobs (5 ∷ 10 ∷ []) ((0 ∷ 1 ∷ []) ∷ (0 ∷ 1 �
 abbrev pub with_cleaning : PlannedShop
 with_cleaning = planned two_jobs (5 ∷ 12 ∷ []) ((0 ∷ 1 ∷ []) ∷ (0 ∷ 1 ∷ []) ∷ []) (Some (0 ∷ 2 ∷ []))
 
+-- the same without cleaning, where job 0 arrives at 3 at the latest, and job 1 at 1
+abbrev pub with_releases : PlannedShop
+with_releases = record {
+  shop = two_jobs;
+  plan = record { release = 3 ∷ 1 ∷ []; budget = 8 ∷ 13 ∷ []; order = (0 ∷ 1 ∷ []) ∷ (0 ∷ 1 ∷ []) ∷ []; clean = None };
+}
+
 -- each job goes first on the machine that it visits first
 abbrev pub crossed : PlannedShop
 crossed = planned two_jobs (100 ∷ 100 ∷ []) ((0 ∷ 1 ∷ []) ∷ (1 ∷ 0 ∷ []) ∷ []) None
@@ -98,6 +105,10 @@ series_moments = number_in ((0 ∷ 3 ∷ 5 ∷ []) ∷ (5 ∷ 9 ∷ 10 ∷ []) �
 -- the same, with the cleaning of machine 1
 abbrev pub cleaned_moments : Node → ℕ
 cleaned_moments = number_in ((0 ∷ 3 ∷ 5 ∷ []) ∷ (7 ∷ 11 ∷ 12 ∷ []) ∷ [])
+
+-- the same, with the releases
+abbrev pub released_moments : Node → ℕ
+released_moments = number_in ((3 ∷ 6 ∷ 8 ∷ []) ∷ (8 ∷ 12 ∷ 13 ∷ []) ∷ [])
 
 -- the nodes of the plan in series, numbered along its arcs
 abbrev pub series_ranks : Node → ℕ
@@ -245,6 +256,24 @@ cleaned_after n = ends_in with_cleaning (take n cleaned_log)
 -- the cell at the end of that run
 abbrev pub cleaned_end : Cell
 cleaned_end = ends_in with_cleaning cleaned_log
+
+-- each activity ends when it is due, the arrivals too
+abbrev pub released_reports : List Report
+released_reports = arrive 1 1 ∷ arrive 3 0 ∷ finish 6 0 0 ∷ finish 8 0 1 ∷ finish 12 1 1 ∷ finish 13 1 0 ∷ []
+
+-- the controlled run of these reports, with the plan in series and the releases
+abbrev pub released_log : List Event
+released_log = Reported (arrive 1 1)
+    ∷ Reported (arrive 3 0) ∷ Moved (go 3 0 Out (At 0))
+    ∷ Reported (finish 6 0 0) ∷ Moved (go 6 0 (At 0) (At 1))
+    ∷ Reported (finish 8 0 1) ∷ Moved (go 8 0 (At 1) Out) ∷ Moved (go 8 1 Out (At 1))
+    ∷ Reported (finish 12 1 1) ∷ Moved (go 12 1 (At 1) (At 0))
+    ∷ Reported (finish 13 1 0) ∷ Moved (go 13 1 (At 0) Out)
+    ∷ []
+
+-- the cell at the end of that run
+abbrev pub released_end : Cell
+released_end = ends_in with_releases released_log
 
 -- among them are reports of a machine that isn't being cleaned, of no machine of the shop, and of a moment past
 abbrev pub refused_reports : List Report

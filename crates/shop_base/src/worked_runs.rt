@@ -19,16 +19,17 @@ ghost use Rattle.shop_base.specs.Punctual.{IsPunctual, ArePunctual, AreExact};
 ghost use Rattle.shop_base.specs.Ends.{HasEnded, IsOutByBudget, IsInTime};
 ghost use Rattle.shop_base.specs.Ends.{stated_number, reports_in, moves_in};
 ghost use Rattle.shop_base.specs.Graph.{node, leaving, Arc, HasArc, Path, IsSimpleCycle};
-ghost use Rattle.shop_base.specs.Graph.{RanksRise, MomentsFit, MeetBudgets, IsSerial};
-ghost use Rattle.shop_base.specs.Examples.{in_series, with_cleaning, crossed, in_flow, in_ring, instant};
+ghost use Rattle.shop_base.specs.Graph.{RanksRise, MomentsFit, MeetBudgets, IsSchedule, IsSerial};
+ghost use Rattle.shop_base.specs.Examples.{in_series, with_cleaning, with_releases, crossed, in_flow, in_ring, instant};
 ghost use Rattle.shop_base.specs.Examples.{arrive, finish, tidy, go, exchange};
-ghost use Rattle.shop_base.specs.Examples.{series_moments, series_ranks, crossed_moments};
+ghost use Rattle.shop_base.specs.Examples.{series_moments, series_ranks, cleaned_moments, released_moments, crossed_moments};
 ghost use Rattle.shop_base.specs.Examples.{series_reports, series_log, series_after, series_end};
 ghost use Rattle.shop_base.specs.Examples.{late_reports, late_log, late_after, late_end};
 ghost use Rattle.shop_base.specs.Examples.{waiting_reports, waiting_log, waiting_after, waiting_end};
 ghost use Rattle.shop_base.specs.Examples.{crossed_reports, crossed_log, crossed_end};
 ghost use Rattle.shop_base.specs.Examples.{flow_reports, flow_log, flow_after, flow_end};
 ghost use Rattle.shop_base.specs.Examples.{cleaned_reports, cleaned_log, cleaned_after, cleaned_end};
+ghost use Rattle.shop_base.specs.Examples.{released_reports, released_log, released_end};
 ghost use Rattle.shop_base.specs.Examples.{refused_reports, refused_log, refused_after, refused_end};
 ghost use Rattle.shop_base.specs.Examples.{instant_reports, instant_log, instant_after, instant_end};
 
@@ -195,12 +196,18 @@ pub fn three_machine_flow_run()
 {}
 
 /// A machine with a cleaning time is free once its job has left, and yet no job enters it before it is
-/// clean. The last cleaning is part of the run, though all jobs are gone before it.
+/// clean. The last cleaning is part of the run, though all jobs are gone before it. This run, too, meets every
+/// premise of `just_in_time`.
 pub fn cleaning_delays_the_entry()
     ensures shaped { IsWellShaped with_cleaning }
     ensures run { IsRun with_cleaning cleaned_log }
     ensures controlled { IsControlledRun with_cleaning cleaned_reports cleaned_log cleaned_end }
     ensures exact { AreExact with_cleaning (start with_cleaning) cleaned_log }
+    ensures schedule { IsSchedule with_cleaning series_ranks cleaned_moments }
+    ensures budgets { MeetBudgets with_cleaning cleaned_moments }
+    ensures first_path { Path with_cleaning (node 0 0 ∷ node 0 1 ∷ node 0 2 ∷ []) (leaving with_cleaning 0) 5 }
+    ensures second_path { Path with_cleaning (node 0 0 ∷ node 0 1 ∷ node 0 2 ∷ node 1 0 ∷ node 1 1 ∷ node 1 2 ∷ [])
+        (leaving with_cleaning 1) 12 }
     ensures cleaning { GoesOn with_cleaning (cleaned_after 7) (Cleaning 1) 7 }
     ensures no_other_cleaning { (due : ℕ) → GoesOn with_cleaning (cleaned_after 7) (Cleaning 0) due → ⊥ }
     ensures free { IsFree with_cleaning (cleaned_after 7) 1 }
@@ -219,13 +226,36 @@ pub fn cleaning_delays_the_entry()
     ensures last { cleaned_end.last ≡ 13 }
 {}
 
-/// Reports that aren't possible add nothing to the controlled run: of what isn't going on, of no machine
-/// of the shop, before the last moment, or past the latest moment of all.
+/// A release is the latest moment of an arrival: a job may arrive before it, and is late after it. This run
+/// meets every premise of `just_in_time`.
+pub fn jobs_arrive_by_their_releases()
+    ensures shaped { IsWellShaped with_releases }
+    ensures schedule { IsSchedule with_releases series_ranks released_moments }
+    ensures budgets { MeetBudgets with_releases released_moments }
+    ensures awaited { GoesOn with_releases (start with_releases) (Arrival 0) 3 }
+    ensures early { CanReport with_releases (start with_releases) (arrive 0 0) }
+    ensures late { IsPunctual with_releases (start with_releases) (arrive 2 1) → ⊥ }
+    ensures late_by_another { IsPunctual with_releases (start with_releases) (arrive 2 0) → ⊥ }
+    ensures controlled { IsControlledRun with_releases released_reports released_log released_end }
+    ensures exact { AreExact with_releases (start with_releases) released_log }
+    ensures first_path { Path with_releases (node 0 0 ∷ node 0 1 ∷ node 0 2 ∷ []) (leaving with_releases 0) 8 }
+    ensures second_path { Path with_releases (node 0 0 ∷ node 0 1 ∷ node 0 2 ∷ node 1 0 ∷ node 1 1 ∷ node 1 2 ∷ [])
+        (leaving with_releases 1) 13 }
+    ensures ended { HasEnded with_releases released_end }
+    ensures first_out { since released_end 0 ≡ 8 }
+    ensures second_out { since released_end 1 ≡ 13 }
+{}
+
+/// Reports that aren't possible add nothing to the controlled run: of what isn't going on, of another
+/// machine than the job's, of no machine of the shop, before the last moment, or past the latest moment of
+/// all.
 pub fn a_report_that_is_not_possible_adds_nothing()
     ensures controlled { IsControlledRun with_cleaning refused_reports refused_log refused_end }
     ensures not_cleaned { CanReport with_cleaning (refused_after 7) (tidy 5 0) → ⊥ }
     ensures no_machine { CanReport with_cleaning (refused_after 7) (tidy 5 2) → ⊥ }
     ensures past { CanReport with_cleaning (refused_after 7) (tidy 4 1) → ⊥ }
+    ensures inside { CanReport with_cleaning (refused_after 3) (arrive 3 0) → ⊥ }
+    ensures other_machine { CanReport with_cleaning (refused_after 3) (finish 3 0 1) → ⊥ }
     ensures gone_job { CanReport with_cleaning (refused_after 7) (finish 5 0 1) → ⊥ }
     ensures twice { CanReport with_cleaning (refused_after 7) (arrive 5 1) → ⊥ }
     ensures no_job { CanReport with_cleaning (refused_after 7) (arrive 5 2) → ⊥ }

@@ -18,6 +18,12 @@ returns-clause-no_machine c = not_from_Decides _ (report_decides with_cleaning (
 pub returns-clause-past : goal.returns-clause-past
 returns-clause-past c = not_from_Decides _ (report_decides with_cleaning (refused_after 7) (tidy 4 1)) refl
 
+pub returns-clause-inside : goal.returns-clause-inside
+returns-clause-inside c = not_from_Decides _ (report_decides with_cleaning (refused_after 3) (arrive 3 0)) refl
+
+pub returns-clause-other_machine : goal.returns-clause-other_machine
+returns-clause-other_machine c = not_from_Decides _ (report_decides with_cleaning (refused_after 3) (finish 3 0 1)) refl
+
 pub returns-clause-gone_job : goal.returns-clause-gone_job
 returns-clause-gone_job c = not_from_Decides _ (report_decides with_cleaning (refused_after 7) (finish 5 0 1)) refl
 

@@ -1,9 +1,11 @@
-use Rattle.std.proofs.Common.{[], ◌∷◌, Some, refl, subst}
+use Rattle.std.proofs.Common.{[], ◌∷◌, Some, refl, subst, arith}
+use Rattle.shop_base.specs.Graph.{node, begins}
+use Rattle.shop_base.proofs.GraphTests.{path_along, moments_fit, ranks_rise, budgets_decide}
 use Rattle.std.proofs.lemmas.Bool.Decides.{not_from_Decides}
 use Rattle.shop_base.specs.Cell.{start}
 use Rattle.shop_base.specs.Activity.{Cleaning, GoesOn}
 use Rattle.shop_base.specs.declared.move_order.Spot.TheVariants.{Out, At}
-use Rattle.shop_base.specs.Examples.{with_cleaning, go, cleaned_reports, cleaned_log, cleaned_after, cleaned_end}
+use Rattle.shop_base.specs.Examples.{with_cleaning, series_ranks, cleaned_moments, go, cleaned_reports, cleaned_log, cleaned_after, cleaned_end}
 use Rattle.shop_base.proofs.CellTests.{events_decides, obey_decides, keeps_decides, going_decides, free_decides, due-is}
 use Rattle.shop_base.proofs.RunTests.{turns_lead, all_exact_decides, rest_decides, ended_decides, gone_decides}
 use Rattle.shop_base.proofs.ShapeTests.{shaped_decides}
@@ -20,6 +22,22 @@ returns-clause-controlled c = turns_lead with_cleaning (start with_cleaning) cle
 
 pub returns-clause-exact : goal.returns-clause-exact
 returns-clause-exact c = (all_exact_decides with_cleaning (start with_cleaning) cleaned_log).0 refl
+
+pub returns-clause-schedule : goal.returns-clause-schedule
+returns-clause-schedule c = record {
+  shaped = (shaped_decides with_cleaning).0 refl;
+  ranks = ranks_rise with_cleaning series_ranks refl;
+  moments = moments_fit with_cleaning cleaned_moments refl refl;
+}
+
+pub returns-clause-budgets : goal.returns-clause-budgets
+returns-clause-budgets c = (budgets_decide with_cleaning cleaned_moments).0 refl
+
+pub returns-clause-first_path : goal.returns-clause-first_path
+returns-clause-first_path c = path_along with_cleaning (node 0 0 ∷ []) 0 (node 0 0) (node 0 1 ∷ node 0 2 ∷ []) (begins 0 (omega arith)) refl
+
+pub returns-clause-second_path : goal.returns-clause-second_path
+returns-clause-second_path c = path_along with_cleaning (node 0 0 ∷ []) 0 (node 0 0) (node 0 1 ∷ node 0 2 ∷ node 1 0 ∷ node 1 1 ∷ node 1 2 ∷ []) (begins 0 (omega arith)) refl
 
 pub returns-clause-cleaning : goal.returns-clause-cleaning
 returns-clause-cleaning c = (going_decides with_cleaning (cleaned_after 7) (Cleaning 1)).0 refl

@@ -1,12 +1,9 @@
-use Rattle.std.proofs.Common.{[], ◌∷◌, refl, arith, ◌≤◌, leb, ltb}
-use Rattle.std.proofs.lemmas.Bool.{ltb-true}
+use Rattle.std.proofs.Common.{[], ◌∷◌, refl, arith}
 use Rattle.std.proofs.lemmas.Bool.Decides.{not_from_Decides}
-use Rattle.shop_base.specs.Plan.{budget}
 use Rattle.shop_base.specs.Graph.{node, begins, Path, MomentsFit, RanksRise, leaving}
 use Rattle.shop_base.specs.Examples.{series_moments, series_ranks, cleaned_moments, in_series, with_cleaning, crossed}
 use Rattle.shop_base.proofs.Cycles.{ranks_exclude_cycle}
-use Rattle.shop_base.proofs.CellTests.{all_below_decides, leb_decides}
-use Rattle.shop_base.proofs.GraphTests.{arc_decides, has_arc_decides, path_along, moments_fit, path_within, each_arc_at}
+use Rattle.shop_base.proofs.GraphTests.{arc_decides, has_arc_decides, path_along, moments_fit, path_within, ranks_rise, budgets_decide}
 use Rattle.shop_base.proofs.ShapeTests.{serial_decides}
 use Rattle.shop_base.proofs.worked_runs.paths_of_two_jobs_in_series.Goals as goal
 
@@ -20,7 +17,7 @@ fits : MomentsFit in_series series_moments
 fits = moments_fit in_series series_moments refl refl
 
 rise : RanksRise in_series series_ranks
-rise u v d arc = ltb-true (series_ranks u) (series_ranks v) (each_arc_at in_series (λ u v d. ltb (series_ranks u) (series_ranks v)) u v d refl arc)
+rise = ranks_rise in_series series_ranks refl
 
 pub returns-clause-first : goal.returns-clause-first
 returns-clause-first c = first_path
@@ -59,7 +56,7 @@ pub returns-clause-moments : goal.returns-clause-moments
 returns-clause-moments c = fits
 
 pub returns-clause-budgets : goal.returns-clause-budgets
-returns-clause-budgets c = (all_below_decides (λ j. leb (series_moments (leaving in_series j)) (budget in_series j)) (λ j. series_moments (leaving in_series j) ≤ budget in_series j) (λ j. leb_decides (series_moments (leaving in_series j)) (budget in_series j)) 2).0 refl
+returns-clause-budgets c = (budgets_decide in_series series_moments).0 refl
 
 pub returns-clause-first_no_sooner : goal.returns-clause-first_no_sooner
 returns-clause-first_no_sooner c = λ kept fit. path_within in_series kept (node 0 0 ∷ node 0 1 ∷ node 0 2 ∷ []) (leaving in_series 0) 5 fit first_path
