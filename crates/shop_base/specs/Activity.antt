@@ -8,29 +8,30 @@ pub data Activity : Type 0 where
   Operation : (job machine : ℕ) → Activity
   Cleaning : (machine : ℕ) → Activity
 
--- job j is outside and hasn't arrived: its arrival is due at its release
-pub record IsAwaited (p : PlannedShop) (c : Cell) (j due : ℕ) : Type 0 where
-  pub outside : IsOutside c j
-  pub not_ready : ready c j ≡ false
-  pub is_due : due ≡ release p j
+module _ (p : PlannedShop) (c : Cell) where
+  -- job j is outside and hasn't arrived: its arrival is due at its release
+  pub record IsAwaited (j due : ℕ) : Type 0 where
+    pub outside : IsOutside c j
+    pub not_ready : ready c j ≡ false
+    pub is_due : due ≡ release p j
 
--- job j is on machine m, in its step k, and not ready: that operation is due its nominal time after the entry
-pub record IsWorked (p : PlannedShop) (c : Cell) (j k m due : ℕ) : Type 0 where
-  pub on : IsOn p c j k m
-  pub not_ready : ready c j ≡ false
-  pub is_due : due ≡ since c j + nominal p j k
+  -- job j is on machine m for its step k, and not ready: that operation is due its nominal time after the entry
+  pub record IsWorked (j k m due : ℕ) : Type 0 where
+    pub on : IsOn p c j k m
+    pub not_ready : ready c j ≡ false
+    pub is_due : due ≡ since c j + nominal p j k
 
--- machine m is being cleaned since a moment: the cleaning is due its cleaning time after that
-pub record IsCleaned (p : PlannedShop) (c : Cell) (m from due : ℕ) : Type 0 where
-  pub is_cleaned : cleaning c m ≡ Some from
-  pub is_due : due ≡ from + clean p m
+  -- machine m is being cleaned since a moment: the cleaning is due its cleaning time after that
+  pub record IsCleaned (m from due : ℕ) : Type 0 where
+    pub is_cleaned : cleaning c m ≡ Some from
+    pub is_due : due ≡ from + clean p m
 
--- the activity is going on, and it is due at this moment
-abbrev pub GoesOn : PlannedShop → Cell → Activity → ℕ → Type 0
-GoesOn p c (Arrival j) due = IsAwaited p c j due
-GoesOn p c (Operation j m) due = (k : ℕ) × IsWorked p c j k m due
-GoesOn p c (Cleaning m) due = (from : ℕ) × IsCleaned p c m from due
+  -- the activity is going on, and it is due at this moment
+  abbrev pub GoesOn : Activity → ℕ → Type 0
+  GoesOn (Arrival j) due = IsAwaited j due
+  GoesOn (Operation j m) due = (k : ℕ) × IsWorked j k m due
+  GoesOn (Cleaning m) due = (from : ℕ) × IsCleaned m from due
 
--- no activity is going on
-abbrev pub IsIdle : PlannedShop → Cell → Type 0
-IsIdle p c = (a : Activity) (due : ℕ) → GoesOn p c a due → ⊥
+  -- no activity is going on
+  abbrev pub IsIdle : Type 0
+  IsIdle = (a : Activity) (due : ℕ) → GoesOn a due → ⊥
