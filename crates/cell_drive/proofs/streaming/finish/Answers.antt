@@ -1,0 +1,5 @@
+use Rattle.cell_drive.proofs.Streamed.{finish_end}
+use Rattle.cell_drive.proofs.streaming.finish.Goals as goal
+
+pub returns : goal.returns
+returns g c = finish_end _ _ _ _ _ _ _ _ _ _ _ _ _ c.in_ok-answer_last.ensures c.end.ensures

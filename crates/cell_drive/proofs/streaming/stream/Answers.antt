@@ -1,0 +1,23 @@
+use Rattle.std.proofs.Common.{[], Some, arith}
+use Rattle.std.proofs.lemmas.Result.{err_from_is_err_and}
+use Rattle.cell_drive.proofs.Held.{length-ended}
+use Rattle.cell_drive.proofs.Streamed.{stream_drained, stream_done, stream_failed}
+use Rattle.cell_drive.proofs.streaming.stream.Goals as goal
+
+pub returns-in_err-drain : goal.returns-in_err-drain
+returns-in_err-drain g c =
+    let p = err_from_is_err_and c.from_residual.result c.from_residual.ensures.1 in
+    rw (p.1, p.2) (stream_drained _ _ _ _ _ _ _ _ _ _ _ _ _ c.in_err-drain.ensures)
+
+pub finish-requires : goal.finish-requires
+finish-requires g c =
+    let drained = c.in_ok-drain.ensures in
+    let within = drained.comes_to.1 in
+    let lines_are = drained.comes_to.2.lines_are in
+    omega (arith, within, lines_are, length-ended drained.bytes (Some []))
+
+pub returns-in-Ok : goal.returns-in-Ok
+returns-in-Ok g c = stream_done _ _ _ _ _ _ _ _ _ _ _ _ _ _ _ _ _ _ c.in_ok-drain.ensures c.in-Ok.ensures
+
+pub returns-in-Err : goal.returns-in-Err
+returns-in-Err g c = stream_failed _ _ _ _ _ _ _ _ _ _ _ _ _ _ _ _ _ c.in_ok-drain.ensures c.in-Err.ensures

@@ -1,0 +1,35 @@
+-- What is held of the line that is being read, and which lines have ended.
+use Rattle.std.specs.Prelude.{◌≡◌, ℕ, ◌-◌, nat_le, false, if◌then◌else◌, List, [], ◌∷◌, ◌++◌, length, Option, None, Some}
+use Rattle.orlib_read.specs.Lines.{is_line_feed, without_return}
+use Rattle.cell_drive.specs.declared.held_line.TheConstants.{ROOM}
+use Rattle.cell_drive.specs.Lines.{within_limit}
+
+-- what is held once more bytes have come: none where they don't fit
+abbrev pub joined : Option (List ℕ) → List ℕ → Option (List ℕ)
+joined None more = None
+joined (Some part) more = if nat_le (length more) (ROOM - length part) then Some (part ++ more) else None
+
+-- the line that is held, as it is answered
+abbrev pub held_line : Option (List ℕ) → Option (List ℕ)
+held_line None = None
+held_line (Some bytes) = within_limit (without_return bytes)
+
+-- the lines that end in these bytes, where this was held before them
+abbrev pub ended : Option (List ℕ) → List ℕ → List (Option (List ℕ))
+ended held [] = []
+ended held (b ∷ bytes) = if is_line_feed b then held_line held ∷ ended (Some []) bytes else ended (joined held (b ∷ [])) bytes
+
+-- what is held after these bytes
+abbrev pub held_after : Option (List ℕ) → List ℕ → Option (List ℕ)
+held_after held [] = held
+held_after held (b ∷ bytes) = if is_line_feed b then held_after (Some []) bytes else held_after (joined held (b ∷ [])) bytes
+
+-- no line ends in these bytes
+abbrev pub HasNoEnd : List ℕ → Type 0
+HasNoEnd [] = Unit {0}
+HasNoEnd (b ∷ bytes) = (is_line_feed b ≡ false) × HasNoEnd bytes
+
+-- the bytes are the rest of a line, its line feed, and what comes after it
+pub record IsLineAndRest (bytes line rest : List ℕ) : Type 0 where
+  pub no_end : HasNoEnd line
+  pub split : bytes ≡ line ++ 10 ∷ rest

@@ -1,0 +1,6 @@
+pub mod Lines
+pub mod Holding
+pub mod Answering
+pub mod Streams
+pub mod Reading
+pub mod Devices

@@ -1,0 +1,51 @@
+ghost use Rattle.std.specs.Prelude.{◌≡◌, false};
+
+use crate::source::{ReadFault, Source};
+use std::io::Read;
+
+/// Any of std's readers as a giver of bytes.
+#[derive(Debug, Drop)]
+pub struct FromRead<R> {
+    device: R,
+    failed: bool,
+}
+
+impl<R: Read> FromRead<R> {
+    ghost use Rattle.cell_drive.specs.Devices.{device_of};
+
+    /// The device, of which no read has failed yet.
+    pub fn new(device: R) -> FromRead<R>
+        ensures device { device_of result ≡ device }
+        ensures left { ⟦<FromRead<R> as Source>⟧.left result ≡ R.remaining device }
+        ensures unfailed { ⟦<FromRead<R> as Source>⟧.failed result ≡ false }
+    {
+        FromRead {
+            device,
+            failed: false,
+        }
+    }
+
+    /// The device.
+    pub fn into_inner(self) -> R
+        ensures { result ≡ device_of self }
+    {
+        let FromRead { device, failed: _ } = self;
+        device
+    }
+}
+
+impl<R: Read> Source for FromRead<R> {
+    ghost left = { λ s. R.remaining s.device };
+
+    ghost failed = { λ s. s.failed };
+
+    fn get(&mut self, room: &mut [u8]) -> Result<usize, ReadFault> {
+        match self.device.read(room) {
+            Ok(count) => Ok(count),
+            Err(_) => {
+                self.failed = true;
+                Err(ReadFault)
+            }
+        }
+    }
+}

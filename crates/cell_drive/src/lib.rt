@@ -1,0 +1,20 @@
+//! Cells driven by lines of text: reports in, move orders out, over any giver and any taker of bytes.
+#![tactic(auto)]
+
+mod drive_fault;
+mod from_read;
+mod held_line;
+mod line_handler;
+mod pieces;
+mod source;
+mod streaming;
+
+pub use drive_fault::DriveFault;
+pub use from_read::FromRead;
+pub use held_line::LINE_LIMIT;
+pub use line_handler::LineHandler;
+pub use source::{ReadFault, Source};
+pub use streaming::{INPUT_LIMIT, stream};
+
+#[cfg(test)]
+mod tests;

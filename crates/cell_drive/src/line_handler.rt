@@ -1,0 +1,28 @@
+ghost use Rattle.std.specs.Prelude.{ℕ, ◌≤◌, List, length, Option, Some, None};
+ghost use Rattle.cell_drive.specs.Answering.{WasAnswered, WasEnded};
+
+use crate::held_line::LINE_LIMIT;
+use run_log::{Sink, WriteFault};
+
+/// What answers the lines of an input, one after another.
+pub trait LineHandler {
+    // In this state the line of this number, none for one that is too long, is answered by this text, which leads
+    // to that state.
+    ghost answers: { Self → ℕ → Option (List ℕ) → List ℕ → Self → Type 0 };
+
+    // What is written in this state after the last line.
+    ghost ends: { Self → List ℕ → Type 0 };
+
+    /// Answers the line of this number, from 1.
+    fn answer<W: Sink>(&mut self, number: u64, line: &[u8], writer: &mut W) -> Result<(), WriteFault>
+        requires { length line.now ≤ LINE_LIMIT }
+        ensures { WasAnswered answers self.old number (Some line.now) self.new result (W.failed writer.new) (W.taken writer.old) (W.taken writer.new) };
+
+    /// Answers the line of this number, which has too many bytes.
+    fn answer_long<W: Sink>(&mut self, number: u64, writer: &mut W) -> Result<(), WriteFault>
+        ensures { WasAnswered answers self.old number None self.new result (W.failed writer.new) (W.taken writer.old) (W.taken writer.new) };
+
+    /// Writes what comes after the last line.
+    fn end<W: Sink>(&self, writer: &mut W) -> Result<(), WriteFault>
+        ensures { WasEnded ends self.now result (W.failed writer.new) (W.taken writer.old) (W.taken writer.new) };
+}

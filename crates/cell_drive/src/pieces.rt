@@ -1,0 +1,112 @@
+//! The lines that end in a piece of the input.
+
+ghost use Rattle.std.specs.Prelude.{◌≡◌, ◌+◌, ◌^◌, ◌<◌, [], length, Some, MatchOption, OnOk};
+ghost use Rattle.orlib_read.specs.Lines.{without_return};
+ghost use Rattle.cell_drive.specs.Lines.{within_limit};
+ghost use Rattle.cell_drive.specs.Holding.{joined, held_line, ended, held_after, HasNoEnd, IsLineAndRest};
+ghost use Rattle.cell_drive.specs.Answering.{WasAnswered, WereAnswered};
+
+use crate::held_line::{HeldLine, LINE_LIMIT};
+use crate::line_handler::LineHandler;
+use memchr::memchr;
+use run_log::{Sink, WriteFault};
+
+/// How far an input has been read: how many lines have ended, and what is held of the next.
+#[derive(Drop)]
+pub(crate) struct Input {
+    pub held: HeldLine,
+    pub lines: u64,
+}
+
+fn without_return(line: &[u8]) -> &[u8]
+    ensures { result.now ≡ without_return line.now }
+{
+    line.strip_suffix(b"\r").unwrap_or(line)
+}
+
+/// The bytes before the first line feed and those after it, none where there is no line feed.
+fn line_and_rest(bytes: &[u8]) -> Option<(&[u8], &[u8])>
+    ensures { MatchOption result (HasNoEnd bytes.now) (λ found. IsLineAndRest bytes.now found.0.now found.1.now) }
+{
+    match memchr(b'\n', bytes) {
+        Some(end) => Some((&bytes[..end], &bytes[end + 1..])),
+        None => None,
+    }
+}
+
+fn answer_bytes<H: LineHandler, W: Sink>(
+    handler: &mut H,
+    number: u64,
+    bytes: &[u8],
+    writer: &mut W,
+) -> Result<(), WriteFault>
+    ensures { WasAnswered H.answers handler.old number (within_limit (without_return bytes.now)) handler.new result
+        (W.failed writer.new) (W.taken writer.old) (W.taken writer.new) }
+{
+    let line = without_return(bytes);
+    if line.len() <= LINE_LIMIT {
+        handler.answer(number, line, writer)
+    } else {
+        handler.answer_long(number, writer)
+    }
+}
+
+/// Answers the line that is held.
+pub(crate) fn answer_held<H: LineHandler, W: Sink>(
+    handler: &mut H,
+    number: u64,
+    held: &HeldLine,
+    writer: &mut W,
+) -> Result<(), WriteFault>
+    ensures { WasAnswered H.answers handler.old number (held_line held.now) handler.new result
+        (W.failed writer.new) (W.taken writer.old) (W.taken writer.new) }
+{
+    match held.bytes() {
+        Some(bytes) => answer_bytes(handler, number, bytes, writer),
+        None => handler.answer_long(number, writer),
+    }
+}
+
+/// Answers the line that ends with these bytes. It is copied only if some of it is held.
+fn answer_ended<H: LineHandler, W: Sink>(
+    handler: &mut H,
+    number: u64,
+    held: &mut HeldLine,
+    bytes: &[u8],
+    writer: &mut W,
+) -> Result<(), WriteFault>
+    ensures answered { WasAnswered H.answers handler.old number (held_line (joined held.old bytes.now)) handler.new result
+        (W.failed writer.new) (W.taken writer.old) (W.taken writer.new) }
+    ensures cleared { held.new ≡ Some [] }
+{
+    if held.is_empty() {
+        return answer_bytes(handler, number, bytes, writer);
+    }
+    held.push(bytes);
+    let answered = answer_held(handler, number, held, writer);
+    held.clear();
+    answered
+}
+
+/// Answers the lines that end in this piece of the input, and holds what comes after them.
+pub(crate) fn take_piece<H: LineHandler, W: Sink>(
+    handler: &mut H,
+    input: &mut Input,
+    piece: &[u8],
+    writer: &mut W,
+) -> Result<(), WriteFault>
+    requires { input.old.lines + length piece.now < 2 ^ 64 }
+    ensures answered { WereAnswered H.answers handler.old (input.old.lines + 1) (ended input.old.held piece.now) handler.new result
+        (W.failed writer.new) (W.taken writer.old) (W.taken writer.new) }
+    ensures held { OnOk result (input.new.held ≡ held_after input.old.held piece.now) }
+    ensures lines { OnOk result (input.new.lines ≡ input.old.lines + length (ended input.old.held piece.now)) }
+{
+    let mut rest = piece;
+    while let Some((line, after)) = line_and_rest(rest) {
+        input.lines += 1;
+        answer_ended(handler, input.lines, &mut input.held, line, writer)?;
+        rest = after;
+    }
+    input.held.push(rest);
+    Ok(())
+}

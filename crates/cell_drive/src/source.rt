@@ -1,0 +1,27 @@
+ghost use Rattle.std.specs.Prelude.{◌≡◌, ℕ, ◌<◌, ◌≤◌, List, length, Option, Bool, true, OnErr, IfOk, OnOk};
+ghost use Rattle.std.specs.Io.KnownBytes.{ReadConsumes};
+
+use thiserror::Error;
+
+/// A read failed.
+#[derive(Clone, Copy, Debug, PartialEq, Eq, Error)]
+#[error("Read")]
+pub struct ReadFault;
+
+/// What gives bytes one after another, as a file, a pipe or a buffer does.
+pub trait Source {
+    // The bytes that it still has to give, where these are told.
+    ghost left: { Self → Option (List ℕ) };
+
+    // Whether a call has failed.
+    ghost failed: { Self → Bool };
+
+    /// Puts the next bytes into the front of the room, and tells how many, none only at the end. A fault gives
+    /// none.
+    fn get(&mut self, room: &mut [u8]) -> Result<usize, ReadFault>
+        requires { 0 < length room.old }
+        ensures count { IfOk result (λ count. count ≤ length room.new) }
+        ensures given { ReadConsumes (left self.old) (left self.new) result room.new }
+        ensures unfailed { OnOk result (failed self.new ≡ failed self.old) }
+        ensures failed { OnErr result (failed self.new ≡ true) };
+}

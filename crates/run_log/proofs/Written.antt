@@ -1,0 +1,33 @@
+-- A text that is written part by part.
+use Rattle.std.proofs.Common.{◌≡◌, ℕ, List, [], ◌++◌, Bool, true, Option, None, Some, refl, sym, ap, ◌∙◌, append_assoc, append-nil, subst}
+use Rattle.std.specs.Io.KnownBytes.{Appends, Keeps}
+use Rattle.std.proofs.KnownBytes.{Appends-nil, Appends-trans, Appends-kept}
+use Rattle.run_log.specs.Sinks.{AllBut, TookPart, Wrote}
+
+-- at first nothing is taken
+pub AllBut-none : (before : Option (List ℕ)) (text : List ℕ) → AllBut before before text text
+AllBut-none before text = record { out = []; took = Appends-nil before; whole = refl }
+
+-- the first bytes of the rest are taken
+pub AllBut-more : (before now after : Option (List ℕ)) (text rest first more : List ℕ)
+    → AllBut before now text rest → Appends now after first → first ++ more ≡ rest → AllBut before after text more
+AllBut-more before now after text rest first more so_far took split = record {
+  out = so_far.out ++ first;
+  took = Appends-trans before now after so_far.out first so_far.took took;
+  whole = append_assoc so_far.out first more ∙ ap (λ l. so_far.out ++ l) split ∙ so_far.whole;
+}
+
+-- nothing is taken, and the rest stays
+pub AllBut-kept : (before now after : Option (List ℕ)) (text rest : List ℕ)
+    → AllBut before now text rest → Keeps now after → AllBut before after text rest
+AllBut-kept before now after text rest so_far kept = record {
+  out = so_far.out;
+  took = Appends-kept before now after so_far.out so_far.took kept;
+  whole = so_far.whole;
+}
+
+-- all is taken
+pub AllBut-all : (before after : Option (List ℕ)) (text rest : List ℕ) → AllBut before after text rest → rest ≡ [] → Appends before after text
+AllBut-all before after text rest so_far none =
+    let whole : so_far.out ≡ text = sym (append-nil so_far.out) ∙ ap (λ l. so_far.out ++ l) (sym none) ∙ so_far.whole in
+    subst (Appends before after) whole so_far.took
