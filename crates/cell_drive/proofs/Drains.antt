@@ -36,7 +36,7 @@ piece_more answers start now end lines lines_then held held_then bytes piece bef
     record {
       text = first.text ++ second.text;
       are_answers = subst (λ l. AnswerAll answers start 1 l (first.text ++ second.text) end) whole
-        (AnswerAll-append answers (ended (Some []) bytes) (ended held piece) start now end 1 (lines + 1) first.text second.text first.are_answers (omega arith) second.are_answers);
+          (AnswerAll-append answers (ended (Some []) bytes) (ended held piece) start now end 1 (lines + 1) first.text second.text first.are_answers (omega arith) second.are_answers);
       written = Appends-trans before middle after first.text second.text first.written second.written;
       lines_are = omega (arith, length-append (ended (Some []) bytes) (ended held piece), ap length whole);
       held_is = second.held_is ∙ ap (λ h. held_after h piece) first.held_is ∙ sym (held_after-append bytes piece (Some []));
@@ -88,7 +88,6 @@ Draining-lines answers start now lines held left left_before left_after before a
 
 module _ {S : Type 0} (answers : S → ℕ → Option (List ℕ) → List ℕ → S → Type 0) (start now : S) (lines : ℕ) (held : Option (List ℕ)) (left : ℕ)
     (left_before left_after before middle : Option (List ℕ)) (so_far : Draining answers start now lines held left left_before left_after before middle) where
-
   -- a read failed
   pub Draining-unread : {T : Type 0} (left_then : Option (List ℕ)) (read_failed write_failed : Bool) → Keeps left_after left_then → read_failed ≡ true
       → IsDrained {T = T} (Err Read) answers start now lines held read_failed left_before left_then write_failed before middle
@@ -109,7 +108,7 @@ module _ {S : Type 0} (answers : S → ℕ → Option (List ℕ) → List ℕ �
         record {
           bytes = so_far.bytes;
           was_read = subst (Consumes left_before left_then) (ap (λ l. so_far.bytes ++ l) none ∙ append-nil so_far.bytes)
-            (Consumes-trans left_before left_after left_then so_far.bytes piece so_far.was_read gave);
+              (Consumes-trans left_before left_after left_then so_far.bytes piece so_far.was_read gave);
           comes_to = (at_end, omega arith, so_far.answered);
         }
 
@@ -142,14 +141,17 @@ module _ {S : Type 0} (answers : S → ℕ → Option (List ℕ) → List ℕ �
         let count = so_far.count in
         let over = taken.0 in
         let cut : so_far.bytes ++ take left piece ≡ take 67108864 (so_far.bytes ++ piece) =
-          sym (take-append-add so_far.bytes piece left) ∙ ap (λ (n : ℕ). take n (so_far.bytes ++ piece)) so_far.count in
+        sym (take-append-add so_far.bytes piece left) ∙ ap (λ (n : ℕ). take n (so_far.bytes ++ piece)) so_far.count in
         let both = piece_more answers start now end lines lines_then held held_then so_far.bytes (take left piece) before middle after so_far.answered taken.1 in
         record {
           bytes = so_far.bytes ++ piece;
           was_read = Consumes-trans left_before left_after left_then so_far.bytes piece so_far.was_read gave;
-          comes_to = (omega (arith, length-append so_far.bytes piece), record {
-            text = both.text;
-            are_answers = subst (λ l. AnswerAll answers start 1 (ended (Some []) l) both.text end) cut both.are_answers;
-            written = both.written;
-          });
+          comes_to = (
+            omega (arith, length-append so_far.bytes piece),
+            record {
+              text = both.text;
+              are_answers = subst (λ l. AnswerAll answers start 1 (ended (Some []) l) both.text end) cut both.are_answers;
+              written = both.written;
+            },
+          );
         }

@@ -23,17 +23,17 @@ pub joined-joined : (held : Option (List ℕ)) (xs ys : List ℕ) → joined (jo
 joined-joined None xs ys = refl
 joined-joined (Some part) xs ys = cases_bool (leb (length xs) (64 - length part)) _
     (λ fits. let le : length xs ≤ 64 - length part = leb-true _ _ fits in
-        let first = joined-fits part xs le in
-        cases_bool (leb (length ys) (64 - length (part ++ xs))) _
-        (λ both. let more : length ys ≤ 64 - length (part ++ xs) = leb-true _ _ both in
-            let all : length (xs ++ ys) ≤ 64 - length part = omega (arith, more, le, length-append part xs, length-append xs ys) in
-            ap (λ h. joined h ys) first ∙ joined-fits (part ++ xs) ys more ∙ ap (λ (l : List ℕ). Some l) (append_assoc part xs ys) ∙ sym (joined-fits part (xs ++ ys) all))
-        (λ over. let more : 64 - length (part ++ xs) < length ys = leb-false _ _ over in
-            let all : 64 - length part < length (xs ++ ys) = omega (arith, more, le, length-append part xs, length-append xs ys) in
-            ap (λ h. joined h ys) first ∙ joined-over (part ++ xs) ys more ∙ sym (joined-over part (xs ++ ys) all)))
+    let first = joined-fits part xs le in
+    cases_bool (leb (length ys) (64 - length (part ++ xs))) _
+    (λ both. let more : length ys ≤ 64 - length (part ++ xs) = leb-true _ _ both in
+    let all : length (xs ++ ys) ≤ 64 - length part = omega (arith, more, le, length-append part xs, length-append xs ys) in
+    ap (λ h. joined h ys) first ∙ joined-fits (part ++ xs) ys more ∙ ap (λ (l : List ℕ). Some l) (append_assoc part xs ys) ∙ sym (joined-fits part (xs ++ ys) all))
+    (λ over. let more : 64 - length (part ++ xs) < length ys = leb-false _ _ over in
+    let all : 64 - length part < length (xs ++ ys) = omega (arith, more, le, length-append part xs, length-append xs ys) in
+    ap (λ h. joined h ys) first ∙ joined-over (part ++ xs) ys more ∙ sym (joined-over part (xs ++ ys) all)))
     (λ over. let lt : 64 - length part < length xs = leb-false _ _ over in
-        let all : 64 - length part < length (xs ++ ys) = omega (arith, lt, length-append xs ys) in
-        ap (λ h. joined h ys) (joined-over part xs lt) ∙ sym (joined-over part (xs ++ ys) all))
+    let all : 64 - length part < length (xs ++ ys) = omega (arith, lt, length-append xs ys) in
+    ap (λ h. joined h ys) (joined-over part xs lt) ∙ sym (joined-over part (xs ++ ys) all))
 
 -- ---- bytes in which no line ends
 

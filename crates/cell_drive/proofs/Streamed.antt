@@ -108,22 +108,29 @@ stream_drained Read answers ends start end lines held read_failed left_before le
     record {
       input = drained.bytes;
       was_read = drained.was_read;
-      comes_to = (drained.comes_to.0, drained.comes_to.1, record {
-        text = told.text;
-        are_answers = subst (λ l. AnswerAll answers start 1 l told.text end) (complete_lines-ended drained.bytes) told.are_answers;
-        written = told.written;
-      });
+      comes_to = (
+        drained.comes_to.0,
+        drained.comes_to.1,
+        record {
+          text = told.text;
+          are_answers = subst (λ l. AnswerAll answers start 1 l told.text end) (complete_lines-ended drained.bytes) told.are_answers;
+          written = told.written;
+        },
+      );
     }
 stream_drained InputTooLong answers ends start end lines held read_failed left_before left_after write_failed before after drained =
     let told = drained.comes_to.1 in
     record {
       input = drained.bytes;
       was_read = drained.was_read;
-      comes_to = (drained.comes_to.0, record {
-        text = told.text;
-        are_answers = subst (λ l. AnswerAll answers start 1 l told.text end) (complete_lines-ended (take 67108864 drained.bytes)) told.are_answers;
-        written = told.written;
-      });
+      comes_to = (
+        drained.comes_to.0,
+        record {
+          text = told.text;
+          are_answers = subst (λ l. AnswerAll answers start 1 l told.text end) (complete_lines-ended (take 67108864 drained.bytes)) told.are_answers;
+          written = told.written;
+        },
+      );
     }
 stream_drained Write answers ends start end lines held read_failed left_before left_after write_failed before after drained =
     let part = drained.comes_to.1 in
@@ -131,24 +138,26 @@ stream_drained Write answers ends start end lines held read_failed left_before l
     record {
       input = drained.bytes;
       was_read = drained.was_read;
-      comes_to = (drained.comes_to.0, record {
-        told = part.told;
-        rest = part.rest ++ last;
-        whole = sym (append_assoc part.told part.rest last) ∙ ap (λ l. l ++ last) part.whole ∙ input_lines-ended drained.bytes;
-        text = part.text;
-        state = part.state;
-        are_answers = part.are_answers;
-        closing = [];
-        is_end = inl refl;
-        written = TookPart-nil before after part.text part.written;
-      });
+      comes_to = (
+        drained.comes_to.0,
+        record {
+          told = part.told;
+          rest = part.rest ++ last;
+          whole = sym (append_assoc part.told part.rest last) ∙ ap (λ l. l ++ last) part.whole ∙ input_lines-ended drained.bytes;
+          text = part.text;
+          state = part.state;
+          are_answers = part.are_answers;
+          closing = [];
+          is_end = inl refl;
+          written = TookPart-nil before after part.text part.written;
+        },
+      );
     }
 
 module _ {S T U E : Type 0} (answers : S → ℕ → Option (List ℕ) → List ℕ → S → Type 0) (ends : S → List ℕ → Type 0) (start middle end : S) (lines : ℕ) (held : Option (List ℕ)) (x : T) (outcome : Result U E)
     (read_failed : Bool) (left_before left_after : Option (List ℕ)) (write_failed failed : Bool) (before between after : Option (List ℕ))
     (drained : IsDrained {T = T} (Ok x) answers start middle lines held read_failed left_before left_after write_failed before between)
     (finished : IsFinished outcome answers ends middle lines held end failed between after) where
-
   abbrev so_far : IsPieceAnswered answers start 0 (Some []) drained.bytes middle lines held before between
   so_far = drained.comes_to.2
 
@@ -172,14 +181,14 @@ module _ {S T U E : Type 0} (answers : S → ℕ → Option (List ℕ) → List 
     closing = finished.closing;
     is_end = finished.is_end;
     written = subst (TookPart before after) (sym (append_assoc so_far.text finished.text finished.closing))
-      (TookPart-more before between after so_far.text (finished.text ++ finished.closing) so_far.written part);
+        (TookPart-more before between after so_far.text (finished.text ++ finished.closing) so_far.written part);
   }
 
   stream_whole : finished.rest ≡ [] → ends finished.state finished.closing → end ≡ finished.state → Appends between after (finished.text ++ finished.closing)
       → IsAllAnswered answers ends start drained.bytes end left_after before after
   stream_whole none_left is_end reached wrote =
       let told : ended (Some []) drained.bytes ++ finished.told ≡ input_lines drained.bytes =
-        ap (λ l. ended (Some []) drained.bytes ++ l) (sym (append-nil finished.told) ∙ ap (λ l. finished.told ++ l) (sym none_left)) ∙ told_all in
+      ap (λ l. ended (Some []) drained.bytes ++ l) (sym (append-nil finished.told) ∙ ap (λ l. finished.told ++ l) (sym none_left)) ∙ told_all in
       let to_end = subst (AnswerAll answers start 1 (ended (Some []) drained.bytes ++ finished.told) (so_far.text ++ finished.text)) (sym reached) answers_all in
       record {
         at_end = drained.comes_to.0;
@@ -189,7 +198,7 @@ module _ {S T U E : Type 0} (answers : S → ℕ → Option (List ℕ) → List 
         closing = finished.closing;
         is_end = subst (λ s. ends s finished.closing) (sym reached) is_end;
         written = subst (Appends before after) (sym (append_assoc so_far.text finished.text finished.closing))
-          (Appends-trans before between after so_far.text (finished.text ++ finished.closing) so_far.written wrote);
+            (Appends-trans before between after so_far.text (finished.text ++ finished.closing) so_far.written wrote);
       }
 
 pub stream_done : {S T U E V : Type 0} (answers : S → ℕ → Option (List ℕ) → List ℕ → S → Type 0) (ends : S → List ℕ → Type 0) (start middle end : S) (lines : ℕ) (held : Option (List ℕ)) (x : T) (u : U) (v : V)
@@ -201,7 +210,7 @@ stream_done answers ends start middle end lines held x u v read_failed left_befo
   input = drained.bytes;
   was_read = drained.was_read;
   comes_to = stream_whole answers ends start middle end lines held x (Ok u) read_failed left_before left_after write_failed failed before between after drained finished
-    finished.all.0 finished.all.1 finished.all.2 finished.wrote;
+      finished.all.0 finished.all.1 finished.all.2 finished.wrote;
 }
 
 pub stream_failed : {S T U E V : Type 0} (answers : S → ℕ → Option (List ℕ) → List ℕ → S → Type 0) (ends : S → List ℕ → Type 0) (start middle end : S) (lines : ℕ) (held : Option (List ℕ)) (x : T) (e : E)

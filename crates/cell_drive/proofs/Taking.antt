@@ -13,11 +13,14 @@ use Rattle.cell_drive.proofs.Told.{AnswerAll-append, AnswerAll-one}
 
 -- a text was written, and part of another behind it
 pub TookPart-more : (before now after : Option (List ℕ)) (text more : List ℕ) → Appends before now text → TookPart now after more → TookPart before after (text ++ more)
-TookPart-more before now after text more wrote part = (part.0, record {
-  out = text ++ part.1.out;
-  took = Appends-trans before now after text part.1.out wrote part.1.took;
-  whole = append_assoc text part.1.out part.0 ∙ ap (λ l. text ++ l) part.1.whole;
-})
+TookPart-more before now after text more wrote part = (
+  part.0,
+  record {
+    out = text ++ part.1.out;
+    took = Appends-trans before now after text part.1.out wrote part.1.took;
+    whole = append_assoc text part.1.out part.0 ∙ ap (λ l. text ++ l) part.1.whole;
+  },
+)
 
 -- of a piece some lines were answered; these bytes are left of it
 pub record Taking {S : Type 0} (answers : S → ℕ → Option (List ℕ) → List ℕ → S → Type 0) (start : S) (lines : ℕ) (held : Option (List ℕ)) (piece : List ℕ)
@@ -47,7 +50,6 @@ Taking-none answers start lines held piece before = record {
 module _ {S : Type 0} (answers : S → ℕ → Option (List ℕ) → List ℕ → S → Type 0) (start : S) (lines : ℕ) (held : Option (List ℕ)) (piece : List ℕ)
     (now : S) (lines_now : ℕ) (held_now : Option (List ℕ)) (left line more : List ℕ) (before middle after : Option (List ℕ))
     (so_far : Taking answers start lines held piece now lines_now held_now left before middle) (cut : IsLineAndRest left line more) where
-
   abbrev the_line : Option (List ℕ)
   the_line = held_line (joined held_now line)
 
@@ -93,7 +95,6 @@ module _ {S : Type 0} (answers : S → ℕ → Option (List ℕ) → List ℕ �
 module _ {S : Type 0} (answers : S → ℕ → Option (List ℕ) → List ℕ → S → Type 0) (start : S) (lines : ℕ) (held : Option (List ℕ)) (piece : List ℕ)
     (now : S) (lines_now : ℕ) (held_now : Option (List ℕ)) (left : List ℕ) (before after : Option (List ℕ))
     (so_far : Taking answers start lines held piece now lines_now held_now left before after) (no_end : HasNoEnd left) where
-
   all_done : ended held piece ≡ so_far.done
   all_done = so_far.split ∙ ap (λ l. so_far.done ++ l) (ended-none left held_now no_end) ∙ append-nil so_far.done
 
@@ -140,14 +141,16 @@ pub part_told : {S T E : Type 0} (answers : S → ℕ → Option (List ℕ) → 
     → WereAnswered {T = T} {E = E} answers start (lines + 1) (ended held front) end (Err e) failed before after
     → front ++ more ≡ piece
     → (failed ≡ true) × IsPartTold answers start lines held piece before after
-part_told answers start lines held piece front more end e failed before after were split =
-    (were.wrote.0, record {
-      told = were.told;
-      rest = were.rest ++ ended (held_after held front) more;
-      whole = sym (append_assoc were.told were.rest (ended (held_after held front) more)) ∙ ap (λ l. l ++ ended (held_after held front) more) were.whole
+part_told answers start lines held piece front more end e failed before after were split = (
+  were.wrote.0,
+  record {
+    told = were.told;
+    rest = were.rest ++ ended (held_after held front) more;
+    whole = sym (append_assoc were.told were.rest (ended (held_after held front) more)) ∙ ap (λ l. l ++ ended (held_after held front) more) were.whole
         ∙ sym (ended-append front more held) ∙ ap (ended held) split;
-      text = were.text;
-      state = were.state;
-      are_answers = were.are_answers;
-      written = were.wrote.1;
-    })
+    text = were.text;
+    state = were.state;
+    are_answers = were.are_answers;
+    written = were.wrote.1;
+  },
+)

@@ -24,16 +24,16 @@ kept-none raw over = rw (lt-leb (length raw) 64 over) refl
 joined-kept : (raw more : List ℕ) → joined (kept raw) more ≡ kept (raw ++ more)
 joined-kept raw more = cases_bool (leb (length raw) 64) _
     (λ short. let le : length raw ≤ 64 = leb-true _ _ short in
-        ap (λ h. joined h more) (kept-some raw le) ∙ cases_bool (leb (length more) (64 - length raw)) _
-        (λ fits. let more_le : length more ≤ 64 - length raw = leb-true _ _ fits in
-            let all : length (raw ++ more) ≤ 64 = omega (arith, more_le, le, length-append raw more) in
-            joined-fits raw more more_le ∙ sym (kept-some (raw ++ more) all))
-        (λ over. let more_gt : 64 - length raw < length more = leb-false _ _ over in
-            let all : 64 < length (raw ++ more) = omega (arith, more_gt, le, length-append raw more) in
-            joined-over raw more more_gt ∙ sym (kept-none (raw ++ more) all)))
+    ap (λ h. joined h more) (kept-some raw le) ∙ cases_bool (leb (length more) (64 - length raw)) _
+    (λ fits. let more_le : length more ≤ 64 - length raw = leb-true _ _ fits in
+    let all : length (raw ++ more) ≤ 64 = omega (arith, more_le, le, length-append raw more) in
+    joined-fits raw more more_le ∙ sym (kept-some (raw ++ more) all))
+    (λ over. let more_gt : 64 - length raw < length more = leb-false _ _ over in
+    let all : 64 < length (raw ++ more) = omega (arith, more_gt, le, length-append raw more) in
+    joined-over raw more more_gt ∙ sym (kept-none (raw ++ more) all)))
     (λ long. let gt : 64 < length raw = leb-false _ _ long in
-        let all : 64 < length (raw ++ more) = omega (arith, gt, length-append raw more) in
-        ap (λ h. joined h more) (kept-none raw gt) ∙ sym (kept-none (raw ++ more) all))
+    let all : 64 < length (raw ++ more) = omega (arith, gt, length-append raw more) in
+    ap (λ h. joined h more) (kept-none raw gt) ∙ sym (kept-none (raw ++ more) all))
 
 within_limit-over : (line : List ℕ) → 63 < length line → within_limit line ≡ None
 within_limit-over line over = rw (lt-leb (length line) 63 over) refl
@@ -48,8 +48,8 @@ held_line-kept : (raw : List ℕ) → held_line (kept raw) ≡ within_limit (wit
 held_line-kept raw = cases_bool (leb (length raw) 64) _
     (λ short. ap held_line (kept-some raw (leb-true _ _ short)))
     (λ long. let gt : 64 < length raw = leb-false _ _ long in
-        let over : 63 < length (without_return raw) = omega (arith, gt, length-without_return raw) in
-        ap held_line (kept-none raw gt) ∙ sym (within_limit-over (without_return raw) over))
+    let over : 63 < length (without_return raw) = omega (arith, gt, length-without_return raw) in
+    ap held_line (kept-none raw gt) ∙ sym (within_limit-over (without_return raw) over))
 
 -- a line of which nothing is held yet is answered as it lies in its piece
 pub held_line-direct : (held : Option (List ℕ)) (bytes : List ℕ) → held ≡ Some [] → within_limit (without_return bytes) ≡ held_line (joined held bytes)
@@ -65,9 +65,9 @@ last_line-some (Some (b ∷ bytes)) some_held = refl
 last_line-kept : (b : ℕ) (raw : List ℕ) → last_line (kept (b ∷ raw)) ≡ within_limit (without_return (b ∷ raw)) ∷ []
 last_line-kept b raw = cases_bool (leb (length (b ∷ raw)) 64) _
     (λ short. let is_some = kept-some (b ∷ raw) (leb-true _ _ short) in
-        ap last_line is_some ∙ ap (λ l. l ∷ []) (ap held_line (sym is_some) ∙ held_line-kept (b ∷ raw)))
+    ap last_line is_some ∙ ap (λ l. l ∷ []) (ap held_line (sym is_some) ∙ held_line-kept (b ∷ raw)))
     (λ long. let is_none = kept-none (b ∷ raw) (leb-false _ _ long) in
-        ap last_line is_none ∙ ap (λ l. l ∷ []) (ap held_line (sym is_none) ∙ held_line-kept (b ∷ raw)))
+    ap last_line is_none ∙ ap (λ l. l ∷ []) (ap held_line (sym is_none) ∙ held_line-kept (b ∷ raw)))
 
 -- ---- the parts of a text behind some bytes
 
@@ -102,14 +102,14 @@ all_lines [] [] = refl
 all_lines [] (b ∷ raw) = last_line-kept b raw
 all_lines (b ∷ bytes) raw = cases_bool (is_line_feed b) _
     (λ feed.
-        let here : held_line (kept raw) ≡ within_limit (without_return (raw ++ [])) = held_line-kept raw ∙ ap (λ l. within_limit (without_return l)) (sym (append-nil raw)) in
-        let rest : ended (Some []) bytes ++ last_line (held_after (Some []) bytes) ≡ answered (parts_of is_line_feed bytes) =
-          all_lines bytes [] ∙ ap answered (put_before-nil (parts_of is_line_feed bytes)) in
-        rw feed (ap (λ l. held_line (kept raw) ∷ l) rest ∙ ap (λ l. l ∷ answered (parts_of is_line_feed bytes)) here
-          ∙ sym (ap answered (put_before-part raw [] (parts_of is_line_feed bytes)))))
+    let here : held_line (kept raw) ≡ within_limit (without_return (raw ++ [])) = held_line-kept raw ∙ ap (λ l. within_limit (without_return l)) (sym (append-nil raw)) in
+    let rest : ended (Some []) bytes ++ last_line (held_after (Some []) bytes) ≡ answered (parts_of is_line_feed bytes) =
+    all_lines bytes [] ∙ ap answered (put_before-nil (parts_of is_line_feed bytes)) in
+    rw feed (ap (λ l. held_line (kept raw) ∷ l) rest ∙ ap (λ l. l ∷ answered (parts_of is_line_feed bytes)) here
+    ∙ sym (ap answered (put_before-part raw [] (parts_of is_line_feed bytes)))))
     (λ inside.
-        rw inside (ap (λ h. ended h bytes ++ last_line (held_after h bytes)) (joined-kept raw (b ∷ [])) ∙ all_lines bytes (raw ++ b ∷ [])
-          ∙ ap answered (put_before-onto raw b (parts_of is_line_feed bytes))))
+    rw inside (ap (λ h. ended h bytes ++ last_line (held_after h bytes)) (joined-kept raw (b ∷ [])) ∙ all_lines bytes (raw ++ b ∷ [])
+    ∙ ap answered (put_before-onto raw b (parts_of is_line_feed bytes))))
 
 pub input_lines-ended : (text : List ℕ) → ended (Some []) text ++ last_line (held_after (Some []) text) ≡ input_lines text
 input_lines-ended text = all_lines text [] ∙ ap answered (put_before-nil (parts_of is_line_feed text))
@@ -123,5 +123,5 @@ length-feeds (b ∷ bytes) held = cases_bool (is_line_feed b) _
 pub complete_lines-ended : (text : List ℕ) → ended (Some []) text ≡ complete_lines text
 complete_lines-ended text =
     sym (ap (λ l. take (length (filter is_line_feed text)) l) (sym (input_lines-ended text))
-      ∙ ap (λ (n : ℕ). take n (ended (Some []) text ++ last_line (held_after (Some []) text))) (length-feeds text (Some []))
-      ∙ take-append_seam (ended (Some []) text) (last_line (held_after (Some []) text)))
+    ∙ ap (λ (n : ℕ). take n (ended (Some []) text ++ last_line (held_after (Some []) text))) (length-feeds text (Some []))
+    ∙ take-append_seam (ended (Some []) text) (last_line (held_after (Some []) text)))

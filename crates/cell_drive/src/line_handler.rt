@@ -14,7 +14,12 @@ pub trait LineHandler {
     ghost ends: { Self → List ℕ → Type 0 };
 
     /// Answers the line of this number, from 1.
-    fn answer<W: Sink>(&mut self, number: u64, line: &[u8], writer: &mut W) -> Result<(), WriteFault>
+    fn answer<W: Sink>(
+        &mut self,
+        number: u64,
+        line: &[u8],
+        writer: &mut W,
+    ) -> Result<(), WriteFault>
         requires { length line.now ≤ LINE_LIMIT }
         ensures { WasAnswered answers self.old number (Some line.now) self.new result (W.failed writer.new) (W.taken writer.old) (W.taken writer.new) };
 

@@ -14,7 +14,12 @@ impl LineHandler for Echo {
 
     ghost ends = { λ s text. s ≡ s };
 
-    fn answer<W: Sink>(&mut self, number: u64, line: &[u8], writer: &mut W) -> Result<(), WriteFault> {
+    fn answer<W: Sink>(
+        &mut self,
+        number: u64,
+        line: &[u8],
+        writer: &mut W,
+    ) -> Result<(), WriteFault> {
         if line.is_empty() {
             return put_all(writer, b"");
         }
@@ -89,7 +94,13 @@ impl Write for OneByteWriter<'_> {
 
 /// Streams the input, with a reader and a writer that fail after so many calls, and tells how it ended, what was
 /// written, and how much of that before the last read.
-fn streamed(input: &[u8], most: usize, reads: usize, writes: usize, takes_nothing: bool) -> (Result<(), DriveFault>, [u8; 128], usize, usize) {
+fn streamed(
+    input: &[u8],
+    most: usize,
+    reads: usize,
+    writes: usize,
+    takes_nothing: bool,
+) -> (Result<(), DriveFault>, [u8; 128], usize, usize) {
     let written = Cell::new(0);
     let mut reader = FromRead::new(PieceReader {
         bytes: input,
@@ -143,7 +154,10 @@ fn a_failed_write_leaves_the_first_bytes(rt: HostRuntime) -> Result<(), Fail> {
         for writes in 0..OUTPUT.len() {
             let (result, bytes, count, _) = streamed(INPUT, 1, 100, writes, takes_nothing);
             assert_eq!(rt; result, Err(DriveFault::Write), "after {writes} writes");
-            assert!(rt; is_text(&bytes, count, &OUTPUT[..writes]), "after {writes} writes");
+            assert!(rt;
+                is_text(&bytes, count, &OUTPUT[..writes]),
+                "after {writes} writes"
+            );
         }
     }
     Ok(())
@@ -156,7 +170,10 @@ fn a_failed_read_leaves_the_answers_of_the_complete_lines(rt: HostRuntime) -> Re
         let answered = answered_in(reads);
         assert_eq!(rt; result, Err(DriveFault::Read), "after {reads} reads");
         assert_eq!(rt; at_last, answered, "before read {reads}");
-        assert!(rt; answered <= OUTPUT.len() && is_text(&bytes, count, &OUTPUT[..answered]), "after {reads} reads");
+        assert!(rt;
+            answered <= OUTPUT.len() && is_text(&bytes, count, &OUTPUT[..answered]),
+            "after {reads} reads"
+        );
     }
     Ok(())
 }
@@ -165,7 +182,11 @@ fn is_long(rt: &impl Abort, line: &[u8], long: bool) {
     for most in [1, 74] {
         let (result, bytes, count, _) = streamed(line, most, 100, 100, false);
         assert_eq!(rt; result, Ok(()));
-        assert_eq!(rt; is_text(&bytes, count, b"long|."), long, "in pieces of {most}");
+        assert_eq!(rt;
+            is_text(&bytes, count, b"long|."),
+            long,
+            "in pieces of {most}"
+        );
         assert_eq!(rt; count == 66, !long, "in pieces of {most}");
     }
 }
@@ -191,16 +212,13 @@ fn a_line_has_63_bytes_at_most(rt: HostRuntime) -> Result<(), Fail> {
     Ok(())
 }
 
-/// Gives so many line feeds.
+/// Gives so many bytes, in which no line ends: it leaves the room as it is.
 #[derive(Drop)]
-struct LineFeeds(usize);
+struct LongLine(usize);
 
-impl Read for LineFeeds {
+impl Read for LongLine {
     fn read(&mut self, buf: &mut [u8]) -> io::Result<usize> {
         let count = self.0.min(buf.len());
-        for byte in &mut buf[..count] {
-            *byte = b'\n';
-        }
         self.0 -= count;
         Ok(count)
     }
@@ -209,11 +227,11 @@ impl Read for LineFeeds {
 #[test]
 fn an_input_has_so_many_bytes_at_most(rt: HostRuntime) -> Result<(), Fail> {
     for (count, result, text) in [
-        (67_108_864, Ok(()), b".".as_slice()),
+        (67_108_864, Ok(()), b"long|.".as_slice()),
         (67_108_865, Err(DriveFault::InputTooLong), b"".as_slice()),
     ] {
         let written = Cell::new(0);
-        let mut reader = FromRead::new(LineFeeds(count));
+        let mut reader = FromRead::new(LongLine(count));
         let mut writer = IntoSink::new(OneByteWriter {
             bytes: [0; 128],
             written: &written,

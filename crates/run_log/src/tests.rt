@@ -45,7 +45,11 @@ fn all_is_written_or_its_first_bytes(rt: HostRuntime) -> Result<(), Fail> {
             let result = put_all(&mut writer, text);
             let device = writer.into_inner();
             let written = calls.min(text.len());
-            assert_eq!(rt; result.is_ok(), written == text.len(), "after {calls} calls");
+            assert_eq!(rt;
+                result.is_ok(),
+                written == text.len(),
+                "after {calls} calls"
+            );
             assert_eq!(rt; device.count, written, "after {calls} calls");
             let written = written.min(13);
             assert!(rt; &device.bytes[..written] == &text[..written]);

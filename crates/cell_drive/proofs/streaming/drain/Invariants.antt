@@ -5,7 +5,7 @@ use Rattle.cell_drive.proofs.streaming.drain.Given as goal
 abbrev pub invariant-reads : goal.invariant-reads
 invariant-reads g l = record {
   so_far : Draining g.H.LineHandler.answers l.initial.handler l.handler l.input.lines l.input.held l.left
-    (g.R.Source.left l.initial.reader) (g.R.Source.left l.reader) (g.W.Sink.taken l.initial.writer) (g.W.Sink.taken l.writer);
+      (g.R.Source.left l.initial.reader) (g.R.Source.left l.reader) (g.W.Sink.taken l.initial.writer) (g.W.Sink.taken l.writer);
   room : length l.room ≡ 64;
 }
 
