@@ -6,9 +6,10 @@ use Rattle.shop_base.specs.Graph.{node, IsNode, Path, begins, follows}
 use Rattle.shop_base.proofs.Cycles.{source_node}
 use Rattle.alt_graph.specs.declared.times.NodeTime.{NodeTime}
 use Rattle.alt_graph.specs.Tables.{AreFirsts}
-use Rattle.alt_graph.specs.Times.{NodeTimes, rank_of, earliest_of, before_of, IsAttained, LeadsBack, AreLinked, AreTimes, AreOrdered}
+use Rattle.alt_graph.specs.Times.{NodeTimes, rank_of, earliest_of, before_of, IsAttained, AreTimes, AreOrdered}
+use Rattle.alt_graph.specs.Layout.{by_job, LeadsBack, AreLinked}
 use Rattle.alt_graph.specs.Ranking.{IsRanked, AreRanked}
-use Rattle.alt_graph.proofs.NodeNumbers.{numbers_count, number_inside, timed_node, node_timed}
+use Rattle.alt_graph.proofs.NodeNumbers.{numbers_count, next_first, timed_node, node_timed}
 use Rattle.alt_graph.proofs.ArcKinds.{target_node}
 use Rattle.alt_graph.proofs.Paths.{first_path}
 
@@ -23,7 +24,7 @@ module _ (p : PlannedShop) (t : NodeTimes) (are : AreTimes p t) where
   reached_below (suc n) v less is = go (λ u. reached_below n u) (before_of t v) (are.attained v is)
     where
       go : ((u : Node) → rank_of t u < n → IsNode p u → (nodes : List Node) × Path p nodes u (earliest_of t u))
-          → (o : Option Node) → IsAttained p t v o → (nodes : List Node) × Path p nodes v (earliest_of t v)
+          → (o : Option Node) → IsAttained p t v (earliest_of t v) o → (nodes : List Node) × Path p nodes v (earliest_of t v)
       go below None (first, at) = (v ∷ [], path_begins v is first at)
       go below (Some u) (d, arc, at) =
           let path = below u (omega (arith, are.rise u v d arc)) (source_node p u v d arc) in
@@ -44,14 +45,14 @@ module _ (p : PlannedShop) (t : NodeTimes) (are : AreTimes p t) where
   }
 
 module _ (p : PlannedShop) (firsts : List ℕ) (are : AreFirsts p firsts) (rows : List NodeTime) (done : List Node)
-    (sound : AreRanked p (record { firsts = firsts; rows = rows }) done) (all : (v : Node) → IsNode p v → IsRanked (record { firsts = firsts; rows = rows }) v) where
+    (sound : AreRanked p firsts rows done) (all : (v : Node) → IsNode p v → IsRanked (by_job firsts rows) v) where
   abbrev times : NodeTimes
-  times = record { firsts = firsts; rows = rows }
+  times = by_job firsts rows
 
   -- ranked nodes have their times
   pub all_times : AreTimes p times
   all_times = record {
-    nodes = λ v. (node_timed p firsts are rows v, timed_node p firsts are rows v);
+    nodes = λ v. (node_timed p firsts are rows v sound.size, timed_node p firsts are rows v);
     rise = λ u v d arc. (let is = target_node p u v d arc in (sound.placed v is (all v is)).rises u d arc);
     few = λ v is. omega (arith, sound.within v is (all v is), sound.count, sound.size, numbers_count p firsts are);
     fit = record {
@@ -62,12 +63,13 @@ module _ (p : PlannedShop) (firsts : List ℕ) (are : AreFirsts p firsts) (rows 
   }
 
   -- the nodes before them are ranked too
-  pub all_linked : AreLinked times
+  pub all_linked : AreLinked firsts rows
   all_linked = record {
-    within = λ v timed. omega (arith, sound.size, number_inside p firsts are v (timed_node p firsts are rows v timed));
+    rises = λ j lt. omega (arith, are.follows j (omega (arith, are.size)));
+    within = λ j lt. omega (arith, sound.size, next_first p firsts are j (omega (arith, are.size)));
     back = λ v timed. (let is = timed_node p firsts are rows v timed in leads v (before_of times v) (all_times.attained v is));
   }
     where
-      leads : (v : Node) (o : Option Node) → IsAttained p times v o → LeadsBack times v o
+      leads : (v : Node) (o : Option Node) → IsAttained p times v (earliest_of times v) o → LeadsBack times v o
       leads v None attained = tt
-      leads v (Some u) (d, arc, at) = (node_timed p firsts are rows u (source_node p u v d arc), all_times.rise u v d arc)
+      leads v (Some u) (d, arc, at) = (node_timed p firsts are rows u sound.size (source_node p u v d arc), all_times.rise u v d arc)

@@ -4,6 +4,7 @@ pub mod NodeLists
 pub mod CycleParts
 pub mod Filling
 pub mod Standing
+pub mod Layouts
 pub mod NodeNumbers
 pub mod Ranks
 pub mod Settling

@@ -8,8 +8,8 @@ use Rattle.alt_graph.specs.declared.times.TheConstants.{UNRANKED}
 use Rattle.alt_graph.specs.declared.sources.Source.{Source}
 use Rattle.alt_graph.specs.declared.ranking.Longest.{Longest}
 use Rattle.alt_graph.specs.Sources.{IsJobArc, IsBlockingArc}
-use Rattle.alt_graph.specs.Times.{NodeTimes, rank_of, earliest_of}
-use Rattle.alt_graph.specs.Ranking.{IsRanked, WaitsFor, IsLongest, IsLastOf, IsOver}
+use Rattle.alt_graph.specs.Times.{NodeTimes, rank_of, earliest_of, IsAttained}
+use Rattle.alt_graph.specs.Ranking.{IsRanked, WaitsFor, IsLongest, IsOver}
 use Rattle.alt_graph.proofs.ArcKinds.{arc_kind, job_arc_is, blocking_arc_is, job_source_once, blocking_source_once}
 
 module _ (p : PlannedShop) (shaped : IsWellShaped p) (t : NodeTimes) (n : ℕ) (v : Node) where
@@ -33,8 +33,8 @@ module _ (p : PlannedShop) (shaped : IsWellShaped p) (t : NodeTimes) (n : ℕ) (
   }
 
   -- the longest path over one arc is over the node that it comes from
-  over_last : (s : Source) (longest : Longest) → Arc p s.node v s.length → IsOver p t n s longest → IsLastOf p t v longest.length longest.before
-  over_last s longest arc over = subst (λ (o : Option Node). IsLastOf p t v longest.length o) (sym over.before) (s.length, arc, sym over.length)
+  over_last : (s : Source) (longest : Longest) → Arc p s.node v s.length → IsOver p t n s longest → IsAttained p t v longest.length longest.before
+  over_last s longest arc over = subst (λ (o : Option Node). IsAttained p t v longest.length o) (sym over.before) (s.length, arc, sym over.length)
 
   -- over the job arc
   pub longest_along : (s : Source) (longest : Longest) → IsJobArc p s.node v s.length → IsOver p t n s longest → IsLongest p t n (IsJobArc p) v longest

@@ -1,5 +1,5 @@
 -- The numbers of nodes: each node of the shop has its own, below the count of all.
-use Rattle.std.proofs.Common.{◌≡◌, ◌≢◌, ℕ, zero, suc, ◌+◌, ◌-◌, ◌<◌, ◌≤◌, List, [], length, get_or, set, take, sum_by, arith, ap, ◌∙◌, get_or-set_same, get_or-set_other, ◌⊎◌, inl, inr}
+use Rattle.std.proofs.Common.{◌≡◌, ◌≢◌, ℕ, zero, suc, ◌+◌, ◌-◌, ◌<◌, ◌≤◌, List, [], length, get_or, set, take, sum_by, arith, sym, ap, ◌∙◌, get_or-set_same, get_or-set_other, ◌⊎◌, inl, inr}
 use Rattle.std.proofs.Math.Seq.{take-length}
 use Rattle.std.proofs.lemmas.Bool.{cases_order, cases_eq}
 use Rattle.std.proofs.lemmas.List.Sums.{sum_by_more}
@@ -9,7 +9,9 @@ use Rattle.shop_base.specs.Graph.{node, IsNode}
 use Rattle.alt_graph.specs.declared.times.NodeTime.{NodeTime}
 use Rattle.alt_graph.specs.Evidence.{node_count}
 use Rattle.alt_graph.specs.Tables.{AreFirsts}
-use Rattle.alt_graph.specs.Times.{NodeTimes, no_time, number_of, time_at, IsTimed}
+use Rattle.alt_graph.specs.Times.{NodeTimes, no_time, time_at, IsTimed}
+use Rattle.alt_graph.specs.Layout.{number_of, by_job}
+use Rattle.alt_graph.proofs.Layouts.{time_told, timed_told, timed_job, timed_place}
 
 -- nodes with the same job and place are one
 pub node_same : (u v : Node) → u.job ≡ v.job → u.place ≡ v.place → u ≡ v
@@ -62,27 +64,45 @@ module _ (p : PlannedShop) (firsts : List ℕ) (are : AreFirsts p firsts) where
     | inr apart ↦ inr λ same. apart (ap (number_of firsts) same)
   ]
 
-  -- just the nodes of the shop have numbers
-  pub timed_node : (rows : List NodeTime) (v : Node) → IsTimed (record { firsts = firsts; rows = rows }) v → IsNode p v
-  timed_node rows v timed =
-      let inside : v.job < jobs p = omega (arith, timed.job, are.size) in
-      record { job = inside; place = omega (arith, timed.place, are.follows v.job inside) }
+  -- the place of a node's row
+  job_inside : (v : Node) → IsNode p v → v.job + 1 < length firsts
+  job_inside v is = omega (arith, is.job, are.size)
 
-  pub node_timed : (rows : List NodeTime) (v : Node) → IsNode p v → IsTimed (record { firsts = firsts; rows = rows }) v
-  node_timed rows v is = record { job = omega (arith, is.job, are.size); place = omega (arith, is.place, are.follows v.job is.job) }
+  place_inside : (v : Node) → IsNode p v → number_of firsts v < get_or firsts (v.job + 1) 0
+  place_inside v is = omega (arith, is.place, are.follows v.job is.job)
+
+  pub node_time : (rows : List NodeTime) (v : Node) → IsNode p v → time_at (by_job firsts rows) v ≡ get_or rows (number_of firsts v) no_time
+  node_time rows v is = time_told firsts rows v (job_inside v is) (place_inside v is)
+
+  -- just the nodes of the shop have rows
+  pub timed_node : (rows : List NodeTime) (v : Node) → IsTimed (by_job firsts rows) v → IsNode p v
+  timed_node rows v timed =
+      let inside : v.job < jobs p = omega (arith, timed_job firsts rows v timed, are.size) in
+      record { job = inside; place = omega (arith, timed_place firsts rows v timed, are.follows v.job inside) }
+
+  -- a job's rows end within those of all nodes
+  pub next_first : (j : ℕ) → j < jobs p → get_or firsts (j + 1) 0 ≤ get_or firsts (jobs p) 0
+  next_first j inside = elim (cases_order (j + 1) (jobs p)) [
+    | inl same ↦ omega (arith, ap (λ (i : ℕ). get_or firsts i 0) same)
+    | inr (inl less) ↦ omega (arith, later_job (j + 1) (jobs p) less (omega arith))
+    | inr (inr more) ↦ absurd (omega arith)
+  ]
+
+  pub node_timed : (rows : List NodeTime) (v : Node) → length rows ≡ get_or firsts (jobs p) 0 → IsNode p v → IsTimed (by_job firsts rows) v
+  node_timed rows v size is = timed_told firsts rows v (job_inside v is) (place_inside v is) (omega (arith, size, next_first v.job is.job))
 
   -- a row that is written is that of its node alone
   module _ (rows : List NodeTime) (size : length rows ≡ get_or firsts (jobs p) 0) (v : Node) (is : IsNode p v) (row : NodeTime) where
     abbrev before : NodeTimes
-    before = record { firsts = firsts; rows = rows }
+    before = by_job firsts rows
 
     abbrev after : NodeTimes
-    after = record { firsts = firsts; rows = set rows (number_of firsts v) row }
+    after = by_job firsts (set rows (number_of firsts v) row)
 
     pub time_same : time_at after v ≡ row
-    time_same = get_or-set_same rows (number_of firsts v) row no_time (omega (arith, number_inside v is))
+    time_same = node_time (set rows (number_of firsts v) row) v is ∙ get_or-set_same rows (number_of firsts v) row no_time (omega (arith, size, number_inside v is))
 
     pub time_other : (u : Node) → IsNode p u → u ≢ v → time_at after u ≡ time_at before u
     time_other u other apart =
         let numbers_apart : number_of firsts u ≢ number_of firsts v = λ same. apart (number_same u v other is same) in
-        get_or-set_other rows (number_of firsts v) (number_of firsts u) row no_time numbers_apart
+        node_time (set rows (number_of firsts v) row) u other ∙ get_or-set_other rows (number_of firsts v) (number_of firsts u) row no_time numbers_apart ∙ sym (node_time rows u other)

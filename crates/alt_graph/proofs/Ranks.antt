@@ -12,10 +12,11 @@ use Rattle.alt_graph.specs.declared.times.NodeTime.{NodeTime}
 use Rattle.alt_graph.specs.declared.times.TheConstants.{UNRANKED}
 use Rattle.alt_graph.specs.declared.ranking.Longest.{Longest}
 use Rattle.alt_graph.specs.Tables.{AreFirsts}
-use Rattle.alt_graph.specs.Times.{NodeTimes, no_time, number_of, time_at, rank_of, before_of, IsAttained}
-use Rattle.alt_graph.specs.Ranking.{IsRanked, IsPlaced, IsLongest, IsLastOf, AreRanked, Grows, blank}
+use Rattle.alt_graph.specs.Times.{NodeTimes, no_time, time_at, rank_of, earliest_of, before_of, IsAttained}
+use Rattle.alt_graph.specs.Layout.{number_of, by_job}
+use Rattle.alt_graph.specs.Ranking.{IsRanked, IsPlaced, IsLongest, AreRanked, Grows, blank}
 use Rattle.alt_graph.specs.Places.{node_at}
-use Rattle.alt_graph.proofs.NodeNumbers.{number_inside, time_same, time_other, cases_node}
+use Rattle.alt_graph.proofs.NodeNumbers.{number_inside, node_time, time_same, time_other, cases_node}
 
 pub blank_unranked : (row : NodeTime) → row.rank ≡ UNRANKED → blank row ≡ 1
 blank_unranked row is = elim (eqb_tells row.rank UNRANKED) [
@@ -36,13 +37,13 @@ placed_still p t s v same sources placed = record {
   rises = λ u d arc. omega (arith, ap (λ (row : NodeTime). row.rank) (sources u d arc), ap (λ (row : NodeTime). row.rank) same, placed.rises u d arc);
   fits = λ u d arc. omega (arith, ap (λ (row : NodeTime). row.earliest) (sources u d arc), ap (λ (row : NodeTime). row.earliest) same, placed.fits u d arc);
   released = λ first. omega (arith, ap (λ (row : NodeTime). row.earliest) same, placed.released first);
-  attained = subst (λ (o : Option Node). IsAttained p s v o) (sym (ap (λ (row : NodeTime). row.before) same)) (still (before_of t v) placed.attained);
+  attained = subst (λ (row : NodeTime). IsAttained p s v row.earliest row.before) (sym same) (still (before_of t v) placed.attained);
   bounded = omega (arith, ap (λ (row : NodeTime). row.earliest) same, ap (λ (row : NodeTime). row.rank) same, placed.bounded);
 }
   where
-    still : (o : Option Node) → IsAttained p t v o → IsAttained p s v o
-    still None (first, is) = (first, ap (λ (row : NodeTime). row.earliest) same ∙ is)
-    still (Some u) (d, arc, is) = (d, arc, ap (λ (row : NodeTime). row.earliest + d) (sources u d arc) ∙ is ∙ sym (ap (λ (row : NodeTime). row.earliest) same))
+    still : (o : Option Node) → IsAttained p t v (earliest_of t v) o → IsAttained p s v (earliest_of t v) o
+    still None attained = attained
+    still (Some u) (d, arc, is) = (d, arc, ap (λ (row : NodeTime). row.earliest + d) (sources u d arc) ∙ is)
 
 -- ---- no node is ranked at first
 
@@ -58,23 +59,26 @@ no_rank n i = elim (cases_lt i n) [
   | inr past ↦ ap (λ (row : NodeTime). row.rank) (get_or_past (replicate n no_time) i no_time (omega (arith, length-replicate n no_time)))
 ]
 
-pub none_ranked : (p : PlannedShop) (firsts : List ℕ) (n : ℕ) → n ≡ get_or firsts (jobs p) 0 → AreRanked p (record { firsts = firsts; rows = replicate n no_time }) []
-none_ranked p firsts n is = record {
+pub none_ranked : (p : PlannedShop) (firsts : List ℕ) (n : ℕ) → AreFirsts p firsts → n ≡ get_or firsts (jobs p) 0 → AreRanked p firsts (replicate n no_time) []
+none_ranked p firsts n are is = record {
   listed = λ i lt. absurd (omega arith);
   ranks = λ i lt. absurd (omega arith);
-  within = λ v _ ranked. absurd (ranked (no_rank n (number_of firsts v)));
-  places = λ v _ ranked. absurd (ranked (no_rank n (number_of firsts v)));
-  placed = λ v _ ranked. absurd (ranked (no_rank n (number_of firsts v)));
+  within = λ v is ranked. absurd (ranked (free v is));
+  places = λ v is ranked. absurd (ranked (free v is));
+  placed = λ v is ranked. absurd (ranked (free v is));
   count = omega (arith, sum_blank n, length-replicate n no_time);
   size = length-replicate n no_time ∙ is;
 }
+  where
+    free : (v : Node) → IsNode p v → rank_of (by_job firsts (replicate n no_time)) v ≡ UNRANKED
+    free v is = ap (λ (row : NodeTime). row.rank) (node_time p firsts are (replicate n no_time) v is) ∙ no_rank n (number_of firsts v)
 
 -- ---- one more
 
 module _ (p : PlannedShop) (firsts : List ℕ) (are : AreFirsts p firsts) (rows : List NodeTime) (done : List Node)
-    (sound : AreRanked p (record { firsts = firsts; rows = rows }) done) where
+    (sound : AreRanked p firsts rows done) where
   abbrev now : NodeTimes
-  now = record { firsts = firsts; rows = rows }
+  now = by_job firsts rows
 
   -- there are fewer ranked nodes than numbers for ranks
   pub few_done : length done < UNRANKED
@@ -86,7 +90,7 @@ module _ (p : PlannedShop) (firsts : List ℕ) (are : AreFirsts p firsts) (rows 
     next_row = record { rank = length done; earliest = longest.length; before = longest.before }
 
     abbrev pub next_times : NodeTimes
-    next_times = record { firsts = firsts; rows = set rows (number_of firsts v) next_row }
+    next_times = by_job firsts (set rows (number_of firsts v) next_row)
 
     at_new : time_at next_times v ≡ next_row
     at_new = time_same p firsts are rows sound.size v is next_row
@@ -117,9 +121,9 @@ module _ (p : PlannedShop) (firsts : List ℕ) (are : AreFirsts p firsts) (rows 
     ranked_few : (u : Node) → IsNode p u → IsRanked now u → rank_of now u < UNRANKED
     ranked_few u other ranked = omega (arith, sound.within u other ranked, few_done)
 
-    last_is : (o : Option Node) → IsLastOf p now v longest.length o → ((u : Node) (d : ℕ) → Arc p u v d → time_at next_times u ≡ time_at now u) → IsAttained p next_times v o
-    last_is None (first, same) sources = (first, ap (λ (row : NodeTime). row.earliest) at_new ∙ same)
-    last_is (Some u) (d, arc, same) sources = (d, arc, ap (λ (row : NodeTime). row.earliest + d) (sources u d arc) ∙ same ∙ sym (ap (λ (row : NodeTime). row.earliest) at_new))
+    last_is : (o : Option Node) → IsAttained p now v longest.length o → ((u : Node) (d : ℕ) → Arc p u v d → time_at next_times u ≡ time_at now u) → IsAttained p next_times v longest.length o
+    last_is None attained sources = attained
+    last_is (Some u) (d, arc, same) sources = (d, arc, ap (λ (row : NodeTime). row.earliest + d) (sources u d arc) ∙ same)
 
     new_placed : IsPlaced p next_times v
     new_placed =
@@ -128,7 +132,7 @@ module _ (p : PlannedShop) (firsts : List ℕ) (are : AreFirsts p firsts) (rows 
           rises = λ u d arc. omega (arith, ap (λ (row : NodeTime). row.rank) (sources u d arc), rank_new, sound.within u (source_node p u v d arc) (best.ranked u d arc));
           fits = λ u d arc. omega (arith, ap (λ (row : NodeTime). row.earliest) (sources u d arc), ap (λ (row : NodeTime). row.earliest) at_new, best.fits u d arc);
           released = λ first. omega (arith, ap (λ (row : NodeTime). row.earliest) at_new, best.released first);
-          attained = subst (λ (o : Option Node). IsAttained p next_times v o) (sym (ap (λ (row : NodeTime). row.before) at_new)) (last_is longest.before best.attained sources);
+          attained = subst (λ (row : NodeTime). IsAttained p next_times v row.earliest row.before) (sym at_new) (last_is longest.before best.attained sources);
           bounded = omega (arith, ap (λ (row : NodeTime). row.earliest) at_new, rank_new, best.bounded);
         }
 
@@ -178,7 +182,7 @@ module _ (p : PlannedShop) (firsts : List ℕ) (are : AreFirsts p firsts) (rows 
         placed_still p now next_times u (at_other u other apart) (λ w d arc. sources_keep u w d placed (ranked_few u other ranked_now) arc) placed
 
     -- the node is ranked next
-    pub ranked_more : AreRanked p next_times (done ++ v ∷ [])
+    pub ranked_more : AreRanked p firsts (set rows (number_of firsts v) next_row) (done ++ v ∷ [])
     ranked_more = record {
       listed = λ i lt. listed_more i (cases_place i lt);
       ranks = λ i lt. ranks_more i (cases_place i lt);
@@ -192,7 +196,7 @@ module _ (p : PlannedShop) (firsts : List ℕ) (are : AreFirsts p firsts) (rows 
             length_push done v,
             length-set rows (number_of firsts v) next_row,
             sum_by-set blank rows (number_of firsts v) next_row no_time inside,
-            blank_unranked (time_at now v) unranked,
+            blank_unranked (get_or rows (number_of firsts v) no_time) (ap (λ (row : NodeTime). row.rank) (sym (node_time p firsts are rows v is)) ∙ unranked),
             blank_ranked next_row (λ same. omega (arith, few_done, same)),
             sound.count,
           );

@@ -10,7 +10,7 @@ use Rattle.alt_graph.specs.declared.rounds.Round.{Round}
 use Rattle.alt_graph.proofs.NodeLists.{distinct_from}
 use Rattle.alt_graph.proofs.NodeNumbers.{node_same}
 use Rattle.alt_graph.specs.Evidence.{IsBefore, IsCycle}
-use Rattle.alt_graph.specs.Rounds.{IsUpTo, IsRound, IsPlaceAfter, IsLeastPlace, AreFrom, round_at, round_length}
+use Rattle.alt_graph.specs.Rounds.{IsRound, IsPlaceAfter, IsLeastPlace, AreFrom, round_at, round_length}
 use Rattle.alt_graph.specs.Places.{node_at}
 
 -- distinct nodes, each with an arc to the next and the last with one to the first, which is the least
@@ -19,7 +19,7 @@ pub record IsRing (p : PlannedShop) (nodes : List Node) : Type 0 where
   pub arcs : (i : ℕ) → suc i < length nodes → HasArc p (node_at nodes i) (node_at nodes (suc i))
   pub closes : (i : ℕ) → suc i ≡ length nodes → HasArc p (node_at nodes i) (node_at nodes 0)
   pub apart : (i j : ℕ) → i < j → j < length nodes → node_at nodes i ≢ node_at nodes j
-  pub least : (i : ℕ) → i < length nodes → IsUpTo (node_at nodes 0) (node_at nodes i)
+  pub least : (i : ℕ) → i < length nodes → IsBefore (node_at nodes i) (node_at nodes 0) → ⊥
 
 lead_from : (p : PlannedShop) (u : Node) (us : List Node) (v : Node)
     → ((i : ℕ) → suc i < length (u ∷ us) → HasArc p (node_at (u ∷ us) i) (node_at (u ∷ us) (suc i)))
@@ -28,12 +28,15 @@ lead_from p u [] v arcs closes = closes 0 refl
 lead_from p u (w ∷ ws) v arcs closes = (arcs 0 (omega arith), lead_from p w ws v (λ i lt. arcs (suc i) (omega arith)) (λ i same. closes (suc i) (omega arith)))
 
 -- another node that isn't before the first one is behind it
-behind_first : (u v : Node) → u ≢ v → IsUpTo u v → IsBefore u v
-behind_first u v apart (inl less) = inl less
-behind_first u v apart (inr (same, less)) = elim (cases_order u.place v.place) [
-  | inl equal ↦ absurd (apart (node_same u v same equal))
-  | inr (inl lower) ↦ inr (same, lower)
-  | inr (inr higher) ↦ absurd (omega (arith, less))
+behind_first : (u v : Node) → u ≢ v → (IsBefore v u → ⊥) → IsBefore u v
+behind_first u v apart least = elim (cases_order u.job v.job) [
+  | inl same ↦ elim (cases_order u.place v.place) [
+    | inl equal ↦ absurd (apart (node_same u v same equal))
+    | inr (inl lower) ↦ inr (same, lower)
+    | inr (inr higher) ↦ absurd (least (inr (sym same, higher)))
+  ]
+  | inr (inl less) ↦ inl less
+  | inr (inr more) ↦ absurd (least (inl more))
 ]
 
 -- such a list is a cycle, its least node first
@@ -110,13 +113,12 @@ module _ (p : PlannedShop) (round : Round) (is : IsRound p round) (place : ℕ) 
         let other = from.there j within in
         let at : round_at round one.0 ≡ round_at round other.0 = sym one.2 ∙ same ∙ other.2 in
         differ one.0 other.0 (place_within i one.0 (omega arith) one.1).1 (place_within j other.0 within other.1).1 (places_apart i j one.0 other.0 lt within one.1 other.1) at;
-    least = λ i within.
+    least = λ i within before.
         let first = from.there 0 (omega arith) in
         let here = from.there i within in
         let inside = place_within i here.0 within here.1 in
-        subst (λ (w : Node). IsUpTo (node_at nodes 0) w) (sym here.2)
-        (subst (λ (w : Node). IsUpTo w (round_at round here.0)) (sym (first.2 ∙ ap (round_at round) (first_place first.0 first.1)))
-        (least.least here.0 inside.0 inside.1));
+        least.least here.0 inside.0 inside.1 (subst (λ (w : Node). IsBefore w (round_at round place)) here.2
+        (subst (λ (w : Node). IsBefore (node_at nodes i) w) (first.2 ∙ ap (round_at round) (first_place first.0 first.1)) before));
   }
     where
       differ : (a b : ℕ) → a < count → b < count → (a < b) ⊎ (b < a) → round_at round a ≡ round_at round b → ⊥

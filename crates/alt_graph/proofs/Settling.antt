@@ -9,7 +9,7 @@ use Rattle.alt_graph.specs.declared.times.NodeTime.{NodeTime}
 use Rattle.alt_graph.specs.declared.times.TheConstants.{UNRANKED}
 use Rattle.alt_graph.specs.Sources.{IsJobArc, IsBlockingArc}
 use Rattle.alt_graph.specs.Times.{NodeTimes, time_at, rank_of}
-use Rattle.alt_graph.specs.Ranking.{IsRanked, AreRanked, Grows, IsSettled, AreSettled}
+use Rattle.alt_graph.specs.Ranking.{IsRanked, Grows, IsSettled, AreSettled}
 use Rattle.alt_graph.specs.Places.{node_at}
 use Rattle.alt_graph.proofs.NodeNumbers.{node_same}
 use Rattle.alt_graph.proofs.ArcKinds.{arc_kind}
@@ -51,12 +51,12 @@ module _ (p : PlannedShop) where
   target_settled Kind once t n u (Some x) (e, other) settled v d arc = subst (λ (w : Node). IsSettled p t n w) (once u x v e d other arc) (settled x refl)
 
   -- after the n-th ranked node's targets are settled, all nodes are, one rank later
-  pub settled_next : (t s : NodeTimes) (done : List Node) (n : ℕ) → AreRanked p t done → n < length done → length done < UNRANKED
+  pub settled_next : (t s : NodeTimes) (done : List Node) (n : ℕ) → ((u : Node) → IsNode p u → IsRanked t u → node_at done (rank_of t u) ≡ u) → n < length done → length done < UNRANKED
       → Grows p t s (length done) → AreSettled p t n
       → ((v : Node) (d : ℕ) → IsJobArc p (node_at done n) v d → IsSettled p s (n + 1) v)
       → ((v : Node) (d : ℕ) → IsBlockingArc p (node_at done n) v d → IsSettled p s (n + 1) v)
       → AreSettled p s (n + 1)
-  settled_next t s done n sound within few grows settled job blocking v is = go (settled v is)
+  settled_next t s done n places within few grows settled job blocking v is = go (settled v is)
     where
       kind : (u : Node) (d : ℕ) → node_at done n ≡ u → IsJobArc p u v d ⊎ IsBlockingArc p u v d → IsSettled p s (n + 1) v
       kind u d same (inl arc) = job v d (subst (λ (w : Node). IsJobArc p w v d) (sym same) arc)
@@ -67,7 +67,7 @@ module _ (p : PlannedShop) where
       waits u d arc (inr at) after =
           let same : rank_of t u ≡ n = omega arith in
           let ranked : IsRanked t u = λ free. omega (arith, same, free) in
-          kind u d (sym (ap (node_at done) same) ∙ sound.places u (source_node p u v d arc) ranked) (arc_kind p u v d arc)
+          kind u d (sym (ap (node_at done) same) ∙ places u (source_node p u v d arc) ranked) (arc_kind p u v d arc)
 
       go : IsSettled p t n v → IsSettled p s (n + 1) v
       go (inl ranked) = settled_still t s (n + 1) (length done) v is grows (omega arith) (inl ranked)
@@ -84,12 +84,12 @@ module _ (p : PlannedShop) where
   ]
 
   -- once all ranked nodes are seen, what waits does so for a node without a rank
-  pub settled_all : (t : NodeTimes) (done : List Node) (n : ℕ) → AreRanked p t done → length done ≤ n → AreSettled p t n → AreSettled p t UNRANKED
-  settled_all t done n sound all settled v is = go (settled v is)
+  pub settled_all : (t : NodeTimes) (n : ℕ) → ((u : Node) → IsNode p u → IsRanked t u → rank_of t u < n) → AreSettled p t n → AreSettled p t UNRANKED
+  settled_all t n below settled v is = go (settled v is)
     where
       waits : (u : Node) (d : ℕ) → Arc p u v d → n ≤ rank_of t u → (rank_of t u ≡ UNRANKED) ⊎ (rank_of t u ≡ UNRANKED → ⊥) → IsSettled p t UNRANKED v
       waits u d arc after (inl free) = inr (u, d, arc, omega arith)
-      waits u d arc after (inr ranked) = absurd (omega (arith, sound.within u (source_node p u v d arc) ranked))
+      waits u d arc after (inr ranked) = absurd (omega (arith, below u (source_node p u v d arc) ranked))
 
       go : IsSettled p t n v → IsSettled p t UNRANKED v
       go (inl ranked) = inl ranked

@@ -14,7 +14,8 @@ use Rattle.alt_graph.specs.declared.sources.Source.{Source}
 use Rattle.alt_graph.specs.declared.rounds.Round.{Round}
 use Rattle.alt_graph.specs.Sources.{IsSource}
 use Rattle.alt_graph.specs.Tables.{AreFirsts}
-use Rattle.alt_graph.specs.Times.{NodeTimes, rank_of, number_of}
+use Rattle.alt_graph.specs.Times.{NodeTimes, rank_of}
+use Rattle.alt_graph.specs.Layout.{number_of, by_job}
 use Rattle.alt_graph.specs.Ranking.{IsRanked}
 use Rattle.alt_graph.specs.Rounds.{IsRound, IsWalk, unseen, round_at}
 use Rattle.alt_graph.specs.Places.{node_at}
@@ -59,10 +60,10 @@ unseen_less seen i place inside free taken =
 
 module _ (p : PlannedShop) (firsts : List ℕ) (are : AreFirsts p firsts) (rows : List NodeTime) (size : length rows ≡ get_or firsts (jobs p) 0) where
   abbrev times : NodeTimes
-  times = record { firsts = firsts; rows = rows }
+  times = by_job firsts rows
 
   -- a walk begins
-  pub walk_none : (v : Node) → IsNode p v → rank_of times v ≡ UNRANKED → IsWalk p times [] (replicate (length rows) UNRANKED) v
+  pub walk_none : (v : Node) → IsNode p v → rank_of times v ≡ UNRANKED → IsWalk p firsts rows [] (replicate (length rows) UNRANKED) v
   walk_none v is free = record {
     size = length-replicate (length rows) UNRANKED;
     next_node = is;
@@ -79,7 +80,7 @@ module _ (p : PlannedShop) (firsts : List ℕ) (are : AreFirsts p firsts) (rows 
       none : (u : Node) → IsNode p u → get_or (replicate (length rows) UNRANKED) (number_of firsts u) 0 ≡ UNRANKED
       none u other = get_or-replicate (length rows) (number_of firsts u) UNRANKED 0 (omega (arith, size, number_inside p firsts are u other))
 
-  module _ (nodes : List Node) (seen : List ℕ) (v : Node) (walk : IsWalk p times nodes seen v) where
+  module _ (nodes : List Node) (seen : List ℕ) (v : Node) (walk : IsWalk p firsts rows nodes seen v) where
     pub inside : number_of firsts v < length seen
     inside = omega (arith, walk.size, size, number_inside p firsts are v walk.next_node)
 
@@ -144,7 +145,7 @@ module _ (p : PlannedShop) (firsts : List ℕ) (are : AreFirsts p firsts) (rows 
           ap (node_at more) (seen_other u other apart) ∙ earlier _ (walk.marked_in u other was) ∙ walk.marked u other was
 
       -- the walk goes on
-      pub walk_more : (u : Node) → IsNode p u → rank_of times u ≡ UNRANKED → HasArc p u v → IsWalk p times more after u
+      pub walk_more : (u : Node) → IsNode p u → rank_of times u ≡ UNRANKED → HasArc p u v → IsWalk p firsts rows more after u
       walk_more u other unranked arc = record {
         size = length-set seen (number_of firsts v) (length nodes) ∙ walk.size;
         next_node = other;
@@ -162,7 +163,7 @@ module _ (p : PlannedShop) (firsts : List ℕ) (are : AreFirsts p firsts) (rows 
       walk_shorter = omega (arith, unseen_less seen (number_of firsts v) (length nodes) inside free (λ same. omega (arith, few_nodes, same)))
 
   -- where a node comes again
-  pub walk_round : (round : Round) (seen : List ℕ) (v : Node) → IsWalk p times round.nodes.items seen v → get_or seen (number_of firsts v) 0 ≢ UNRANKED
+  pub walk_round : (round : Round) (seen : List ℕ) (v : Node) → IsWalk p firsts rows round.nodes.items seen v → get_or seen (number_of firsts v) 0 ≢ UNRANKED
       → round.start ≡ get_or seen (number_of firsts v) 0 → IsRound p round
   walk_round round seen v walk taken is = record {
     start = omega (arith, is, walk.marked_in v walk.next_node taken);

@@ -1,6 +1,7 @@
 pub mod Evidence
 pub mod Places
 pub mod Times
+pub mod Layout
 pub mod Solved
 pub mod Tables
 pub mod Sources

@@ -1,4 +1,4 @@
-use Rattle.std.specs.Prelude.{◌≡◌, ◌≢◌, ◌==◌, ℕ, ◌+◌, ◌*◌, ◌<◌, ◌≤◌, ◌⊎◌, if◌then◌else◌, List, length, slice_index_or, sum_by, Option, None, Some}
+use Rattle.std.specs.Prelude.{◌≡◌, ◌≢◌, ◌==◌, ℕ, ◌+◌, ◌*◌, ◌<◌, ◌≤◌, ◌⊎◌, if◌then◌else◌, List, length, slice_index, sum_by, Some}
 use Rattle.shop_base.specs.declared.node.Node.{Node}
 use Rattle.shop_base.specs.declared.limits.TheConstants.{MAX_RELEASE, MAX_NOMINAL}
 use Rattle.shop_base.specs.Plan.{PlannedShop, jobs, release}
@@ -10,20 +10,12 @@ use Rattle.alt_graph.specs.declared.ranking.Ranking.{Ranking}
 use Rattle.alt_graph.specs.declared.ranking.Longest.{Longest}
 use Rattle.alt_graph.specs.declared.sources.Source.{Source}
 use Rattle.alt_graph.specs.Times.{NodeTimes, time_at, rank_of, earliest_of, before_of, IsAttained}
+use Rattle.alt_graph.specs.Layout.{by_job}
 use Rattle.alt_graph.specs.Places.{node_at}
 
--- what is known of the nodes so far
-abbrev pub times_of : Tables → List NodeTime → NodeTimes
-times_of tables rows = record { firsts = tables.firsts.items; rows = rows }
-
--- the same in the midst of the ranking
+-- what is known of the nodes in the midst of the ranking
 abbrev pub so_far : Tables → Ranking → NodeTimes
-so_far tables ranking = times_of tables ranking.rows.items
-
--- the length is that of a path over the node before v, or, where there is none, the release of v's job
-abbrev pub IsLastOf : PlannedShop → NodeTimes → Node → ℕ → Option Node → Type 0
-IsLastOf p t v length None = (v.place ≡ 0) × (length ≡ release p v.job)
-IsLastOf p t v length (Some u) = (d : ℕ) × Arc p u v d × (earliest_of t u + d ≡ length)
+so_far tables ranking = by_job tables.firsts.items ranking.rows.items
 
 -- the node has a rank
 abbrev pub IsRanked : NodeTimes → Node → Type 0
@@ -38,7 +30,7 @@ pub record IsLongest (p : PlannedShop) (t : NodeTimes) (n : ℕ) (Into : Node �
   pub ranked : (u : Node) (d : ℕ) → Into u v d → IsRanked t u
   pub fits : (u : Node) (d : ℕ) → Into u v d → earliest_of t u + d ≤ longest.length
   pub released : v.place ≡ 0 → release p v.job ≤ longest.length
-  pub attained : IsLastOf p t v longest.length longest.before
+  pub attained : IsAttained p t v longest.length longest.before
   pub bounded : longest.length ≤ MAX_RELEASE + MAX_NOMINAL * n
 
 -- what one arc allows
@@ -53,7 +45,7 @@ pub record IsPlaced (p : PlannedShop) (t : NodeTimes) (v : Node) : Type 0 where
   pub rises : (u : Node) (d : ℕ) → Arc p u v d → rank_of t u < rank_of t v
   pub fits : (u : Node) (d : ℕ) → Arc p u v d → earliest_of t u + d ≤ earliest_of t v
   pub released : v.place ≡ 0 → release p v.job ≤ earliest_of t v
-  pub attained : IsAttained p t v (before_of t v)
+  pub attained : IsAttained p t v (earliest_of t v) (before_of t v)
   pub bounded : earliest_of t v ≤ MAX_RELEASE + MAX_NOMINAL * rank_of t v
 
 -- 1 for the row of a node without a rank
@@ -61,14 +53,18 @@ abbrev pub blank : NodeTime → ℕ
 blank row = if row.rank == UNRANKED then 1 else 0
 
 -- the ranked nodes are those done, and their ranks the places there
-pub record AreRanked (p : PlannedShop) (t : NodeTimes) (done : List Node) : Type 0 where
+pub record AreRanked (p : PlannedShop) (firsts : List ℕ) (rows : List NodeTime) (done : List Node) : Type 0 where
   pub listed : (i : ℕ) → i < length done → IsNode p (node_at done i)
-  pub ranks : (i : ℕ) → i < length done → rank_of t (node_at done i) ≡ i
-  pub within : (v : Node) → IsNode p v → IsRanked t v → rank_of t v < length done
-  pub places : (v : Node) → IsNode p v → IsRanked t v → node_at done (rank_of t v) ≡ v
-  pub placed : (v : Node) → IsNode p v → IsRanked t v → IsPlaced p t v
-  pub count : length done + sum_by blank t.rows ≡ length t.rows
-  pub size : length t.rows ≡ slice_index_or t.firsts (jobs p) 0
+  pub ranks : (i : ℕ) → i < length done → rank_of (by_job firsts rows) (node_at done i) ≡ i
+  pub within : (v : Node) → IsNode p v → IsRanked (by_job firsts rows) v → rank_of (by_job firsts rows) v < length done
+  pub places : (v : Node) → IsNode p v → IsRanked (by_job firsts rows) v → node_at done (rank_of (by_job firsts rows) v) ≡ v
+  pub placed : (v : Node) → IsNode p v → IsRanked (by_job firsts rows) v → IsPlaced p (by_job firsts rows) v
+  pub count : length done + sum_by blank rows ≡ length rows
+  pub size : length rows ≡ slice_index firsts (jobs p)
+
+-- the same of a ranking
+abbrev pub IsRanking : PlannedShop → Tables → Ranking → Type 0
+IsRanking p tables ranking = AreRanked p tables.firsts.items ranking.rows.items ranking.done.items
 
 -- nodes without a rank may have got one from n on, and nothing else has changed
 abbrev pub Grows : PlannedShop → NodeTimes → NodeTimes → ℕ → Type 0

@@ -6,13 +6,12 @@ use Rattle.shop_base.specs.Graph.{IsNode, HasArc}
 use Rattle.alt_graph.specs.declared.times.TheConstants.{UNRANKED}
 use Rattle.alt_graph.specs.declared.sources.Source.{Source}
 use Rattle.alt_graph.specs.declared.rounds.Round.{Round}
-use Rattle.alt_graph.specs.Times.{NodeTimes, rank_of, number_of}
+use Rattle.alt_graph.specs.declared.times.NodeTime.{NodeTime}
+use Rattle.alt_graph.specs.Evidence.{IsBefore}
+use Rattle.alt_graph.specs.Times.{NodeTimes, rank_of}
+use Rattle.alt_graph.specs.Layout.{by_job, number_of}
 use Rattle.alt_graph.specs.Ranking.{IsRanked}
 use Rattle.alt_graph.specs.Places.{node_at}
-
--- u comes before v, by job and then by place, or is v
-abbrev pub IsUpTo : Node → Node → Type 0
-IsUpTo u v = (u.job < v.job) ⊎ ((u.job ≡ v.job) × (u.place ≤ v.place))
 
 -- the node at a place of a round
 abbrev pub round_at : Round → ℕ → Node
@@ -38,7 +37,7 @@ IsPlaceAfter round place arcs there =
 pub record IsLeastPlace (round : Round) (place : ℕ) : Type 0 where
   pub after : round.start ≤ place
   pub within : place < round_length round
-  pub least : (i : ℕ) → round.start ≤ i → i < round_length round → IsUpTo (round_at round place) (round_at round i)
+  pub least : (i : ℕ) → round.start ≤ i → i < round_length round → IsBefore (round_at round i) (round_at round place) → ⊥
 
 -- the nodes of the cycle, along its arcs, from a place on
 pub record AreFrom (round : Round) (place : ℕ) (nodes : List Node) : Type 0 where
@@ -50,16 +49,16 @@ abbrev pub unseen : List ℕ → ℕ
 unseen seen = sum_by (λ place. if place == UNRANKED then 1 else 0) seen
 
 -- nodes without a rank, each with an arc to the one before it and the next one with an arc to the last; and for each number the place at which its node stands among them, if it does
-pub record IsWalk (p : PlannedShop) (t : NodeTimes) (nodes : List Node) (seen : List ℕ) (next : Node) : Type 0 where
-  pub size : length seen ≡ length t.rows
+pub record IsWalk (p : PlannedShop) (firsts : List ℕ) (rows : List NodeTime) (nodes : List Node) (seen : List ℕ) (next : Node) : Type 0 where
+  pub size : length seen ≡ length rows
   pub next_node : IsNode p next
-  pub next_free : rank_of t next ≡ UNRANKED
+  pub next_free : rank_of (by_job firsts rows) next ≡ UNRANKED
   pub nodes_in : (i : ℕ) → i < length nodes → IsNode p (node_at nodes i)
   pub back : (i : ℕ) → i + 1 < length nodes → HasArc p (node_at nodes (i + 1)) (node_at nodes i)
   pub last : (i : ℕ) → i + 1 ≡ length nodes → HasArc p next (node_at nodes i)
-  pub marks : (i : ℕ) → i < length nodes → slice_index seen (number_of t.firsts (node_at nodes i)) ≡ i
-  pub marked_in : (v : Node) → IsNode p v → slice_index seen (number_of t.firsts v) ≢ UNRANKED → slice_index seen (number_of t.firsts v) < length nodes
-  pub marked : (v : Node) → IsNode p v → slice_index seen (number_of t.firsts v) ≢ UNRANKED → node_at nodes (slice_index seen (number_of t.firsts v)) ≡ v
+  pub marks : (i : ℕ) → i < length nodes → slice_index seen (number_of firsts (node_at nodes i)) ≡ i
+  pub marked_in : (v : Node) → IsNode p v → slice_index seen (number_of firsts v) ≢ UNRANKED → slice_index seen (number_of firsts v) < length nodes
+  pub marked : (v : Node) → IsNode p v → slice_index seen (number_of firsts v) ≢ UNRANKED → node_at nodes (slice_index seen (number_of firsts v)) ≡ v
   pub count : length nodes + unseen seen ≡ length seen
 
 -- the source of an arc, if there is one, that has no rank

@@ -1,4 +1,4 @@
-use Rattle.std.specs.Prelude.{◌≡◌, ℕ, ◌+◌, ◌<◌, ◌≤◌, ◌↔◌, List, length, slice_index, slice_index_or, Option, None, Some}
+use Rattle.std.specs.Prelude.{◌≡◌, ℕ, ◌+◌, ◌<◌, ◌≤◌, ◌↔◌, List, [], length, slice_index_or, Option, None, Some}
 use Rattle.shop_base.specs.declared.node.Node.{Node}
 use Rattle.shop_base.specs.Plan.{PlannedShop, release}
 use Rattle.shop_base.specs.Graph.{Arc, IsNode, Path, RanksRise, MomentsFit}
@@ -6,22 +6,21 @@ use Rattle.alt_graph.specs.Evidence.{node_count}
 use Rattle.alt_graph.specs.declared.times.NodeTime.{NodeTime}
 use Rattle.alt_graph.specs.declared.times.TheConstants.{UNRANKED}
 
--- what is known of the nodes of a shop: a row for each node, job after job, and where the rows of each job begin, and end
-pub record NodeTimes : Type 0 where
-  pub firsts : List ℕ
-  pub rows : List NodeTime
+-- what is known of the nodes of a shop: for each job, what is known of its places
+abbrev pub NodeTimes : Type 0
+NodeTimes = List (List NodeTime)
 
 -- the row of no node
 abbrev pub no_time : NodeTime
 no_time = record { rank = UNRANKED; earliest = 0; before = None }
 
--- the number of a node, counted job after job
-abbrev pub number_of : List ℕ → Node → ℕ
-number_of firsts v = slice_index firsts v.job + v.place
+-- what is known of job j's places
+abbrev pub job_times : NodeTimes → ℕ → List NodeTime
+job_times t j = slice_index_or t j []
 
 -- what is known of a node
 abbrev pub time_at : NodeTimes → Node → NodeTime
-time_at t v = slice_index_or t.rows (number_of t.firsts v) no_time
+time_at t v = slice_index_or (job_times t v.job) v.place no_time
 
 -- the rank of a node
 abbrev pub rank_of : NodeTimes → Node → ℕ
@@ -37,23 +36,13 @@ before_of t v = (time_at t v).before
 
 -- the node is one of those that are known
 pub record IsTimed (t : NodeTimes) (v : Node) : Type 0 where
-  pub job : v.job + 1 < length t.firsts
-  pub place : number_of t.firsts v < slice_index t.firsts (v.job + 1)
+  pub job : v.job < length t
+  pub place : v.place < length (job_times t v.job)
 
--- the node before it is known, and has a lower rank
-abbrev pub LeadsBack : NodeTimes → Node → Option Node → Type 0
-LeadsBack t v None = Unit {0}
-LeadsBack t v (Some u) = IsTimed t u × (rank_of t u < rank_of t v)
-
--- each known node has its row, and the nodes before it are known
-pub record AreLinked (t : NodeTimes) : Type 0 where
-  pub within : (v : Node) → IsTimed t v → number_of t.firsts v < length t.rows
-  pub back : (v : Node) → IsTimed t v → LeadsBack t v (before_of t v)
-
--- the moment of a node is that of an arc from the node before it, or, where there is none, its job's release
-abbrev pub IsAttained : PlannedShop → NodeTimes → Node → Option Node → Type 0
-IsAttained p t v None = (v.place ≡ 0) × (earliest_of t v ≡ release p v.job)
-IsAttained p t v (Some u) = (d : ℕ) × Arc p u v d × (earliest_of t u + d ≡ earliest_of t v)
+-- n is the moment that an arc allows v, over the node before it; where there is none, v is its job's first place, and n the job's release
+abbrev pub IsAttained : PlannedShop → NodeTimes → Node → ℕ → Option Node → Type 0
+IsAttained p t v n None = (v.place ≡ 0) × (n ≡ release p v.job)
+IsAttained p t v n (Some u) = (d : ℕ) × Arc p u v d × (earliest_of t u + d ≡ n)
 
 -- the nodes of the shop are known: their ranks rise along every arc and are below the number of nodes, and their moments respect every arc and are each attained by one
 pub record AreTimes (p : PlannedShop) (t : NodeTimes) : Type 0 where
@@ -61,7 +50,7 @@ pub record AreTimes (p : PlannedShop) (t : NodeTimes) : Type 0 where
   pub rise : RanksRise p (rank_of t)
   pub few : (v : Node) → IsNode p v → rank_of t v < node_count p
   pub fit : MomentsFit p (earliest_of t)
-  pub attained : (v : Node) → IsNode p v → IsAttained p t v (before_of t v)
+  pub attained : (v : Node) → IsNode p v → IsAttained p t v (earliest_of t v) (before_of t v)
 
 -- the moment of each node is the length of a path to it, and no path to it is longer
 pub record AreGreatest (p : PlannedShop) (t : NodeTimes) : Type 0 where

@@ -9,6 +9,7 @@ ghost use Rattle.shop_base.specs.CycleLaw.{IsNeverDone};
 ghost use Rattle.alt_graph.specs.Places.{IsNewAt};
 
 use crate::arcs::arc_length;
+use crate::node_order::is_before;
 use shop_base::{Node, Shaped};
 
 /// Whether the nodes are a cycle of the graph, written from its least node on: no node stands twice, and
@@ -46,12 +47,6 @@ fn is_least(first: Node, rest: &[Node]) -> bool
     ensures { IsTrue result ↔ All (IsBefore first) rest.now }
 {
     rest.iter().all(|node| is_before(first, *node))
-}
-
-fn is_before(one: Node, other: Node) -> bool
-    ensures { IsTrue result ↔ IsBefore one other }
-{
-    one.job < other.job || one.job == other.job && one.place < other.place
 }
 
 /// Whether arcs lead from a node along the others to the last one.

@@ -10,6 +10,7 @@
 mod arcs;
 mod chain_check;
 mod cycle_check;
+mod node_order;
 mod numbers;
 mod ranking;
 mod rounds;
@@ -27,3 +28,5 @@ pub use times::Times;
 mod check_tests;
 #[cfg(test)]
 mod solve_tests;
+#[cfg(test)]
+mod test_plans;

@@ -2,7 +2,7 @@
 
 ghost use Rattle.std.specs.Prelude.{◌≡◌, ◌+◌, ◌<◌, IfOk, length};
 ghost use Rattle.alt_graph.specs.Tables.{AreFirsts};
-ghost use Rattle.alt_graph.specs.Times.{number_of};
+ghost use Rattle.alt_graph.specs.Layout.{number_of};
 
 use shop_base::readers::{job_count, step_count};
 use shop_base::{Node, Shaped};

@@ -9,7 +9,7 @@ ghost use Rattle.shop_base.specs.Graph.{Arc, IsNode, node};
 ghost use Rattle.alt_graph.specs.Tables.{AreTables};
 ghost use Rattle.alt_graph.specs.Sources.{IsJobArc};
 ghost use Rattle.alt_graph.specs.Times.{rank_of, time_at, no_time};
-ghost use Rattle.alt_graph.specs.Ranking.{so_far, IsRanked, IsLongest, IsOver, WaitsFor, AreRanked, Grows, IsSettled, AreSettled};
+ghost use Rattle.alt_graph.specs.Ranking.{so_far, IsRanked, IsLongest, IsOver, WaitsFor, IsRanking, Grows, IsSettled, AreSettled};
 
 use crate::numbers::number;
 use crate::sources::{Source, blocking_source, blocking_target, job_source, job_target};
@@ -40,7 +40,7 @@ pub(crate) fn rank_all(
     tables: &Tables,
 ) -> Result<Ranking, AllocError>
     requires { AreTables shaped.now tables.now }
-    ensures ranked { IfOk result (λ ranking. AreRanked shaped.now (so_far tables.now ranking) ranking.done.items) }
+    ensures ranked { IfOk result (λ ranking. IsRanking shaped.now tables.now ranking) }
     ensures settled { IfOk result (λ ranking. AreSettled shaped.now (so_far tables.now ranking) UNRANKED) }
 {
     let mut ranking = rank_first(alloc, shaped, tables)?;
@@ -55,7 +55,7 @@ pub(crate) fn rank_all(
 /// Ranks the nodes that no arc leads to.
 fn rank_first(alloc: Global, shaped: &Shaped, tables: &Tables) -> Result<Ranking, AllocError>
     requires { AreTables shaped.now tables.now }
-    ensures ranked { IfOk result (λ ranking. AreRanked shaped.now (so_far tables.now ranking) ranking.done.items) }
+    ensures ranked { IfOk result (λ ranking. IsRanking shaped.now tables.now ranking) }
     ensures settled { IfOk result (λ ranking. AreSettled shaped.now (so_far tables.now ranking) 0) }
 {
     let mut ranking = none_ranked(alloc, shaped, tables)?;
@@ -67,7 +67,7 @@ fn rank_first(alloc: Global, shaped: &Shaped, tables: &Tables) -> Result<Ranking
 
 fn none_ranked(alloc: Global, shaped: &Shaped, tables: &Tables) -> Result<Ranking, AllocError>
     requires { AreTables shaped.now tables.now }
-    ensures { IfOk result (λ ranking. AreRanked shaped.now (so_far tables.now ranking) ranking.done.items) }
+    ensures { IfOk result (λ ranking. IsRanking shaped.now tables.now ranking) }
 {
     let nodes = tables.firsts[job_count(shaped) as usize] as usize;
     let done = Vec::with_capacity(alloc, nodes)?;
@@ -98,9 +98,9 @@ fn rank_after(
 ) -> Result<(), AllocError>
     requires tables { AreTables shaped.now tables.now }
     requires next { next < length ranking.old.done.items }
-    requires ranked { AreRanked shaped.now (so_far tables.now ranking.old) ranking.old.done.items }
+    requires ranked { IsRanking shaped.now tables.now ranking.old }
     requires settled { AreSettled shaped.now (so_far tables.now ranking.old) next }
-    ensures ranked { OnOk result (AreRanked shaped.now (so_far tables.now ranking.new) ranking.new.done.items) }
+    ensures ranked { OnOk result (IsRanking shaped.now tables.now ranking.new) }
     ensures settled { OnOk result (AreSettled shaped.now (so_far tables.now ranking.new) (next + 1)) }
     ensures longer { OnOk result (length ranking.old.done.items ≤ length ranking.new.done.items) }
 {
@@ -121,8 +121,8 @@ fn try_target(
 ) -> Result<(), AllocError>
     requires node { ForSome target (IsNode shaped.now) }
     requires tables { AreTables shaped.now tables.now }
-    requires ranked { AreRanked shaped.now (so_far tables.now ranking.old) ranking.old.done.items }
-    ensures ranked { OnOk result (AreRanked shaped.now (so_far tables.now ranking.new) ranking.new.done.items) }
+    requires ranked { IsRanking shaped.now tables.now ranking.old }
+    ensures ranked { OnOk result (IsRanking shaped.now tables.now ranking.new) }
     ensures grows { OnOk result (Grows shaped.now (so_far tables.now ranking.old) (so_far tables.now ranking.new) (length ranking.old.done.items)) }
     ensures longer { OnOk result (length ranking.old.done.items ≤ length ranking.new.done.items) }
     ensures settled { OnOk result (ForSome target (IsSettled shaped.now (so_far tables.now ranking.new) UNRANKED)) }
@@ -142,8 +142,8 @@ fn try_rank(
 ) -> Result<(), AllocError>
     requires node { IsNode shaped.now node }
     requires tables { AreTables shaped.now tables.now }
-    requires ranked { AreRanked shaped.now (so_far tables.now ranking.old) ranking.old.done.items }
-    ensures ranked { OnOk result (AreRanked shaped.now (so_far tables.now ranking.new) ranking.new.done.items) }
+    requires ranked { IsRanking shaped.now tables.now ranking.old }
+    ensures ranked { OnOk result (IsRanking shaped.now tables.now ranking.new) }
     ensures grows { OnOk result (Grows shaped.now (so_far tables.now ranking.old) (so_far tables.now ranking.new) (length ranking.old.done.items)) }
     ensures longer { OnOk result (length ranking.old.done.items ≤ length ranking.new.done.items) }
     ensures settled { OnOk result (IsSettled shaped.now (so_far tables.now ranking.new) UNRANKED node) }
@@ -167,10 +167,10 @@ fn rank_next(
 ) -> Result<(), AllocError>
     requires node { IsNode shaped.now node }
     requires tables { AreTables shaped.now tables.now }
-    requires ranked { AreRanked shaped.now (so_far tables.now ranking.old) ranking.old.done.items }
+    requires ranked { IsRanking shaped.now tables.now ranking.old }
     requires unranked { rank_of (so_far tables.now ranking.old) node ≡ UNRANKED }
     requires longest { IsLongest shaped.now (so_far tables.now ranking.old) (length ranking.old.done.items) (Arc shaped.now) node longest }
-    ensures ranked { OnOk result (AreRanked shaped.now (so_far tables.now ranking.new) ranking.new.done.items) }
+    ensures ranked { OnOk result (IsRanking shaped.now tables.now ranking.new) }
     ensures grows { OnOk result (Grows shaped.now (so_far tables.now ranking.old) (so_far tables.now ranking.new) (length ranking.old.done.items)) }
     ensures longer { OnOk result (length ranking.old.done.items ≤ length ranking.new.done.items) }
     ensures now_ranked { OnOk result (IsRanked (so_far tables.now ranking.new) node) }
@@ -189,7 +189,7 @@ fn rank_next(
 pub(crate) fn is_ranked(shaped: &Shaped, tables: &Tables, ranking: &Ranking, node: Node) -> bool
     requires node { IsNode shaped.now node }
     requires tables { AreTables shaped.now tables.now }
-    requires ranked { AreRanked shaped.now (so_far tables.now ranking.now) ranking.now.done.items }
+    requires ranked { IsRanking shaped.now tables.now ranking.now }
     ensures { MatchBool result (IsRanked (so_far tables.now ranking.now) node) (rank_of (so_far tables.now ranking.now) node ≡ UNRANKED) }
 {
     row_of(shaped, tables, ranking, node).rank != UNRANKED
@@ -199,7 +199,7 @@ pub(crate) fn is_ranked(shaped: &Shaped, tables: &Tables, ranking: &Ranking, nod
 fn row_of(shaped: &Shaped, tables: &Tables, ranking: &Ranking, node: Node) -> NodeTime
     requires node { IsNode shaped.now node }
     requires tables { AreTables shaped.now tables.now }
-    requires ranked { AreRanked shaped.now (so_far tables.now ranking.now) ranking.now.done.items }
+    requires ranked { IsRanking shaped.now tables.now ranking.now }
     ensures { result ≡ time_at (so_far tables.now ranking.now) node }
 {
     ranking.rows[number(&tables.firsts, node)]
@@ -209,7 +209,7 @@ fn row_of(shaped: &Shaped, tables: &Tables, ranking: &Ranking, node: Node) -> No
 fn longest_to(shaped: &Shaped, tables: &Tables, ranking: &Ranking, node: Node) -> Option<Longest>
     requires node { IsNode shaped.now node }
     requires tables { AreTables shaped.now tables.now }
-    requires ranked { AreRanked shaped.now (so_far tables.now ranking.now) ranking.now.done.items }
+    requires ranked { IsRanking shaped.now tables.now ranking.now }
     ensures { let t = so_far tables.now ranking.now in
         MatchOption result (WaitsFor shaped.now t UNRANKED node) (IsLongest shaped.now t (length ranking.now.done.items) (Arc shaped.now) node) }
 {
@@ -244,7 +244,7 @@ fn longest_in_job(
 ) -> Option<Longest>
     requires node { IsNode shaped.now node }
     requires tables { AreTables shaped.now tables.now }
-    requires ranked { AreRanked shaped.now (so_far tables.now ranking.now) ranking.now.done.items }
+    requires ranked { IsRanking shaped.now tables.now ranking.now }
     ensures { let t = so_far tables.now ranking.now in
         MatchOption result (WaitsFor shaped.now t UNRANKED node) (IsLongest shaped.now t (length ranking.now.done.items) (IsJobArc shaped.now) node) }
 {
@@ -267,7 +267,7 @@ fn longest_over(
     requires node { IsNode shaped.now source.node }
     requires short { source.length ≤ MAX_NOMINAL }
     requires tables { AreTables shaped.now tables.now }
-    requires ranked { AreRanked shaped.now (so_far tables.now ranking.now) ranking.now.done.items }
+    requires ranked { IsRanking shaped.now tables.now ranking.now }
     ensures { let t = so_far tables.now ranking.now in
         MatchOption result (rank_of t source.node ≡ UNRANKED) (IsOver shaped.now t (length ranking.now.done.items) source) }
 {
@@ -284,7 +284,7 @@ fn longest_over(
 /// A node without a rank, if there is one.
 pub(crate) fn first_unranked(shaped: &Shaped, tables: &Tables, ranking: &Ranking) -> Option<Node>
     requires tables { AreTables shaped.now tables.now }
-    requires ranked { AreRanked shaped.now (so_far tables.now ranking.now) ranking.now.done.items }
+    requires ranked { IsRanking shaped.now tables.now ranking.now }
     ensures { let t = so_far tables.now ranking.now in
         MatchOption result ((v : Node) → IsNode shaped.now v → IsRanked t v) (λ v. IsNode shaped.now v × (rank_of t v ≡ UNRANKED)) }
 {
@@ -305,7 +305,7 @@ fn first_unranked_of(
 ) -> Option<Node>
     requires job { job < jobs shaped.now }
     requires tables { AreTables shaped.now tables.now }
-    requires ranked { AreRanked shaped.now (so_far tables.now ranking.now) ranking.now.done.items }
+    requires ranked { IsRanking shaped.now tables.now ranking.now }
     ensures { let t = so_far tables.now ranking.now in
         MatchOption result ((k : ℕ) → k ≤ steps shaped.now job → IsRanked t (node job k)) (λ v. IsNode shaped.now v × (rank_of t v ≡ UNRANKED)) }
 {

@@ -1,14 +1,15 @@
 //! A cycle, where nodes are left without a rank.
 
-ghost use Rattle.std.specs.Prelude.{◌≡◌, ◌+◌, ◌<◌, ◌≤◌, IfOk, MatchBool};
+ghost use Rattle.std.specs.Prelude.{◌≡◌, ◌+◌, ◌<◌, ◌≤◌, IfOk};
 ghost use Rattle.std.specs.Option.{ForSome};
 ghost use Rattle.shop_base.specs.Graph.{IsNode, HasArc};
 ghost use Rattle.alt_graph.specs.Evidence.{IsCycle};
 ghost use Rattle.alt_graph.specs.Tables.{AreTables};
 ghost use Rattle.alt_graph.specs.Times.{rank_of};
-ghost use Rattle.alt_graph.specs.Ranking.{so_far, AreRanked, AreSettled};
-ghost use Rattle.alt_graph.specs.Rounds.{IsUpTo, IsRound, IsPlaceAfter, IsLeastPlace, AreFrom, IsFreeSource, round_length};
+ghost use Rattle.alt_graph.specs.Ranking.{so_far, IsRanking, AreSettled};
+ghost use Rattle.alt_graph.specs.Rounds.{IsRound, IsPlaceAfter, IsLeastPlace, AreFrom, IsFreeSource, round_length};
 
+use crate::node_order::is_before;
 use crate::numbers::number;
 use crate::ranking::{Ranking, is_ranked};
 use crate::sources::{Source, blocking_source, job_source};
@@ -35,7 +36,7 @@ pub(crate) fn cycle_from(
     requires node { IsNode shaped.now node }
     requires unranked { rank_of (so_far tables.now ranking.now) node ≡ UNRANKED }
     requires tables { AreTables shaped.now tables.now }
-    requires ranked { AreRanked shaped.now (so_far tables.now ranking.now) ranking.now.done.items }
+    requires ranked { IsRanking shaped.now tables.now ranking.now }
     requires settled { AreSettled shaped.now (so_far tables.now ranking.now) UNRANKED }
     ensures { IfOk result (λ nodes. IsCycle shaped.now nodes.items) }
 {
@@ -56,7 +57,7 @@ fn follow(
     requires node { IsNode shaped.now node }
     requires unranked { rank_of (so_far tables.now ranking.now) node ≡ UNRANKED }
     requires tables { AreTables shaped.now tables.now }
-    requires ranked { AreRanked shaped.now (so_far tables.now ranking.now) ranking.now.done.items }
+    requires ranked { IsRanking shaped.now tables.now ranking.now }
     requires settled { AreSettled shaped.now (so_far tables.now ranking.now) UNRANKED }
     ensures { IfOk result (IsRound shaped.now) }
 {
@@ -79,7 +80,7 @@ fn free_source(shaped: &Shaped, tables: &Tables, ranking: &Ranking, node: Node) 
     requires node { IsNode shaped.now node }
     requires unranked { rank_of (so_far tables.now ranking.now) node ≡ UNRANKED }
     requires tables { AreTables shaped.now tables.now }
-    requires ranked { AreRanked shaped.now (so_far tables.now ranking.now) ranking.now.done.items }
+    requires ranked { IsRanking shaped.now tables.now ranking.now }
     requires settled { AreSettled shaped.now (so_far tables.now ranking.now) UNRANKED }
     ensures node { IsNode shaped.now result }
     ensures unranked { rank_of (so_far tables.now ranking.now) result ≡ UNRANKED }
@@ -105,7 +106,7 @@ fn free_of(
 ) -> Option<Node>
     requires node { ForSome source (λ s. IsNode shaped.now s.node) }
     requires tables { AreTables shaped.now tables.now }
-    requires ranked { AreRanked shaped.now (so_far tables.now ranking.now) ranking.now.done.items }
+    requires ranked { IsRanking shaped.now tables.now ranking.now }
     ensures { IsFreeSource (so_far tables.now ranking.now) source result }
 {
     match source {
@@ -155,11 +156,4 @@ fn least_place(round: &Round) -> usize
         }
     }
     least
-}
-
-/// Whether a node comes before another, by job and then by place.
-fn is_before(node: Node, other: Node) -> bool
-    ensures { MatchBool result (IsUpTo node other) (IsUpTo other node) }
-{
-    node.job < other.job || (node.job == other.job && node.place < other.place)
 }

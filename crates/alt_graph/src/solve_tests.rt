@@ -1,46 +1,8 @@
 use super::*;
-use shop_base::{JobNo, MachineNo, Moment, Node, Plan, Shaped, Shop, Step, shape};
-use std::alloc::{AllocError, Global};
+use crate::test_plans::{cleaned, crossed, in_series, orders, planned, routes};
+use shop_base::{Moment, Node, Plan, Shaped, Shop, Step};
+use std::alloc::Global;
 use std::test::Fail;
-
-fn routes(alloc: Global, rows: &[&[(MachineNo, Moment)]]) -> Result<Vec<Vec<Step>>, AllocError> {
-    let mut routes = Vec::new(alloc);
-    for row in rows {
-        let mut route = Vec::new(alloc);
-        for &(machine, nominal) in *row {
-            route.push(Step { machine, nominal })?;
-        }
-        routes.push(route)?;
-    }
-    Ok(routes)
-}
-
-fn planned(shop: Shop, plan: Plan) -> Result<Shaped, Fail> {
-    match shape(shop, plan) {
-        Ok(shaped) => Ok(shaped),
-        Err(refused) => Err(refused.fault.into()),
-    }
-}
-
-/// Two jobs on two machines, crossing: job 0 on machine 0 and then 1, job 1 the other way round.
-fn two_jobs(alloc: Global, order: &[&[JobNo]], clean: Option<&[Moment]>) -> Result<Shaped, Fail> {
-    let shop = Shop::new(2, routes(alloc, &[&[(0, 3), (1, 2)], &[(1, 4), (0, 1)]])?)?;
-    let mut orders = Vec::new(alloc);
-    for row in order {
-        orders.push(row.to_vec(alloc)?)?;
-    }
-    let clean = match clean {
-        Some(times) => Some(times.to_vec(alloc)?),
-        None => None,
-    };
-    let plan = Plan {
-        release: [0, 0].to_vec(alloc)?,
-        budget: [5, 10].to_vec(alloc)?,
-        order: orders,
-        clean,
-    };
-    planned(shop, plan)
-}
 
 fn ordered(alloc: Global, shaped: &Shaped) -> Result<Option<Times>, Fail> {
     match solve(alloc, shaped)? {
@@ -67,7 +29,7 @@ const NODES: [Node; 6] = [
 
 #[test]
 fn tells_the_times_of_two_jobs_in_series(rt: HostRuntime) -> Result<(), Fail> {
-    let shaped = two_jobs(rt.alloc(), &[&[0, 1], &[0, 1]], None)?;
+    let shaped = in_series(rt.alloc())?;
     let times = ordered(rt.alloc(), &shaped)?.ok_or("a cycle")?;
     let earliest: [Moment; 6] = [0, 3, 5, 5, 9, 10];
     for (i, moment) in earliest.iter().enumerate() {
@@ -86,7 +48,7 @@ fn tells_the_times_of_two_jobs_in_series(rt: HostRuntime) -> Result<(), Fail> {
 
 #[test]
 fn ranks_rise_along_the_arcs(rt: HostRuntime) -> Result<(), Fail> {
-    let shaped = two_jobs(rt.alloc(), &[&[0, 1], &[0, 1]], None)?;
+    let shaped = in_series(rt.alloc())?;
     let times = ordered(rt.alloc(), &shaped)?.ok_or("a cycle")?;
     let arcs = [(0, 1), (1, 2), (3, 4), (4, 5), (1, 4), (2, 3)];
     for (from, to) in arcs {
@@ -97,7 +59,7 @@ fn ranks_rise_along_the_arcs(rt: HostRuntime) -> Result<(), Fail> {
 
 #[test]
 fn finds_the_cycle_of_crossed_orders(rt: HostRuntime) -> Result<(), Fail> {
-    let shaped = two_jobs(rt.alloc(), &[&[0, 1], &[1, 0]], None)?;
+    let shaped = crossed(rt.alloc())?;
     let nodes = cycle(rt.alloc(), &shaped)?.ok_or("no cycle")?;
     assert_eq!(rt; nodes.as_slice(), [NODES[1], NODES[4]].as_slice());
     Ok(())
@@ -112,14 +74,10 @@ fn finds_the_cycle_of_a_ring(rt: HostRuntime) -> Result<(), Fail> {
             &[&[(0, 1), (1, 1)], &[(1, 1), (2, 1)], &[(2, 1), (0, 1)]],
         )?,
     )?;
-    let mut order = Vec::new(rt.alloc());
-    order.push([0, 2].to_vec(rt.alloc())?)?;
-    order.push([1, 0].to_vec(rt.alloc())?)?;
-    order.push([2, 1].to_vec(rt.alloc())?)?;
     let plan = Plan {
         release: [0, 0, 0].to_vec(rt.alloc())?,
         budget: [100, 100, 100].to_vec(rt.alloc())?,
-        order,
+        order: orders(rt.alloc(), &[&[0, 2], &[1, 0], &[2, 1]])?,
         clean: None,
     };
     let shaped = planned(shop, plan)?;
@@ -135,7 +93,7 @@ fn finds_the_cycle_of_a_ring(rt: HostRuntime) -> Result<(), Fail> {
 
 #[test]
 fn cleaning_delays_the_second_job(rt: HostRuntime) -> Result<(), Fail> {
-    let shaped = two_jobs(rt.alloc(), &[&[0, 1], &[0, 1]], Some(&[0, 2]))?;
+    let shaped = cleaned(rt.alloc())?;
     let times = ordered(rt.alloc(), &shaped)?.ok_or("a cycle")?;
     assert_eq!(rt; times.earliest(NODES[2]), Some(5));
     assert_eq!(rt; times.earliest(NODES[5]), Some(12));

@@ -1,7 +1,8 @@
 ghost use Rattle.std.specs.Prelude.{◌≡◌, IfOk, MatchOption, IsSome, IfSome, reverse};
 ghost use Rattle.shop_base.specs.Plan.{PlannedShop};
 ghost use Rattle.shop_base.specs.Graph.{Path};
-ghost use Rattle.alt_graph.specs.Times.{NodeTimes, IsTimed, AreLinked, LeadsBack, AreTimes, rank_of, earliest_of, before_of, time_at};
+ghost use Rattle.alt_graph.specs.Times.{IsTimed, AreTimes, rank_of, earliest_of, before_of, time_at};
+ghost use Rattle.alt_graph.specs.Layout.{AreLinked, LeadsBack, by_job};
 
 use crate::numbers::number;
 use shop_base::{Moment, Node};
@@ -29,19 +30,20 @@ pub struct Times {
 }
 
 impl Model for Times {
-    ghost use Rattle.alt_graph.specs.Times.{NodeTimes, AreLinked};
+    ghost use Rattle.alt_graph.specs.Times.{NodeTimes};
+    ghost use Rattle.alt_graph.specs.Layout.{AreLinked, by_job};
 
     ghost Value = { NodeTimes };
 
-    ghost view = { λ t. record { firsts = t.firsts.items; rows = t.rows.items } };
+    ghost view = { λ t. by_job t.firsts.items t.rows.items };
 
-    ghost invariant = { λ t. AreLinked (record { firsts = t.firsts.items; rows = t.rows.items }) };
+    ghost invariant = { λ t. AreLinked t.firsts.items t.rows.items };
 }
 
 impl Times {
     pub(crate) fn of(firsts: Vec<u32>, rows: Vec<NodeTime>) -> Times
-        requires { AreLinked (record { firsts = firsts.items; rows = rows.items }) }
-        ensures { result ≡ record { firsts = firsts.items; rows = rows.items } }
+        requires { AreLinked firsts.items rows.items }
+        ensures { result ≡ by_job firsts.items rows.items }
     {
         Times { firsts, rows }
     }
@@ -80,8 +82,8 @@ impl Times {
 
 /// What is known of the node, if it is known.
 fn time_in(firsts: &[u32], rows: &[NodeTime], node: Node) -> Option<NodeTime>
-    requires { AreLinked (record { firsts = firsts.now; rows = rows.now }) }
-    ensures { let t : NodeTimes = record { firsts = firsts.now; rows = rows.now } in
+    requires { AreLinked firsts.now rows.now }
+    ensures { let t = by_job firsts.now rows.now in
         MatchOption result (IsTimed t node → ⊥) (λ time. IsTimed t node × (time ≡ time_at t node)) }
 {
     let job = node.job as usize;
@@ -98,10 +100,10 @@ fn time_in(firsts: &[u32], rows: &[NodeTime], node: Node) -> Option<NodeTime>
 
 /// The node before a known one on a longest path to it, if there is one.
 fn before_in(firsts: &[u32], rows: &[NodeTime], node: Node) -> Option<Node>
-    requires linked { AreLinked (record { firsts = firsts.now; rows = rows.now }) }
-    requires timed { IsTimed (record { firsts = firsts.now; rows = rows.now }) node }
-    ensures before { result ≡ before_of (record { firsts = firsts.now; rows = rows.now }) node }
-    ensures back { LeadsBack (record { firsts = firsts.now; rows = rows.now }) node result }
+    requires linked { AreLinked firsts.now rows.now }
+    requires timed { IsTimed (by_job firsts.now rows.now) node }
+    ensures before { result ≡ before_of (by_job firsts.now rows.now) node }
+    ensures back { LeadsBack (by_job firsts.now rows.now) node result }
 {
     match time_in(firsts, rows, node) {
         Some(time) => time.before,
@@ -116,10 +118,10 @@ fn chain_in(
     rows: &[NodeTime],
     node: Node,
 ) -> Result<Option<Vec<Node>>, AllocError>
-    requires { AreLinked (record { firsts = firsts.now; rows = rows.now }) }
-    ensures outside { (IsTimed (record { firsts = firsts.now; rows = rows.now }) node → ⊥) → result ≡ Ok None }
-    ensures inside { IsTimed (record { firsts = firsts.now; rows = rows.now }) node → IfOk result IsSome }
-    ensures path { let t : NodeTimes = record { firsts = firsts.now; rows = rows.now } in
+    requires { AreLinked firsts.now rows.now }
+    ensures outside { (IsTimed (by_job firsts.now rows.now) node → ⊥) → result ≡ Ok None }
+    ensures inside { IsTimed (by_job firsts.now rows.now) node → IfOk result IsSome }
+    ensures path { let t = by_job firsts.now rows.now in
         IfOk result (λ found. IfSome found (λ nodes. (p : PlannedShop) → AreTimes p t → Path p nodes.items node (earliest_of t node))) }
 {
     match time_in(firsts, rows, node) {
@@ -140,9 +142,9 @@ fn walk_back(
     node: Node,
     rank: u32,
 ) -> Result<Vec<Node>, AllocError>
-    requires linked { AreLinked (record { firsts = firsts.now; rows = rows.now }) }
-    requires timed { IsTimed (record { firsts = firsts.now; rows = rows.now }) node }
-    ensures { let t : NodeTimes = record { firsts = firsts.now; rows = rows.now } in
+    requires linked { AreLinked firsts.now rows.now }
+    requires timed { IsTimed (by_job firsts.now rows.now) node }
+    ensures { let t = by_job firsts.now rows.now in
         IfOk result (λ nodes. (p : PlannedShop) → AreTimes p t → Path p (reverse nodes.items) node (earliest_of t node)) }
 {
     let mut nodes = Vec::with_capacity(alloc, rank as usize + 1)?;

@@ -28,7 +28,7 @@ returns-clause-settled c =
     target_settled p (IsJobArc p) (job_target_once p shaped) mid UNRANKED c.index-node.result.now c.job_target-target.result c.job_target-target.ensures first.settled in
     let blocks_settled : (v : Node) (d : ℕ) → IsBlockingArc p c.index-node.result.now v d → IsSettled p new UNRANKED v =
     target_settled p (IsBlockingArc p) (blocking_target_once p shaped) new UNRANKED c.index-node.result.now c.blocking_target-target.result c.blocking_target-target.ensures second.settled in
-    settled_next p old new done c.args.next c.requires.ranked c.requires.next few grows c.requires.settled
+    settled_next p old new done c.args.next c.requires.ranked.places c.requires.next few grows c.requires.settled
     (λ v d arc.
     let arc' : IsJobArc p c.index-node.result.now v d = subst (λ (u : Node). IsJobArc p u v d) (sym at) arc in
     settled_still p mid new (c.args.next + 1) (length c.try_target.new.ranking.done.items) v (target_node p _ v d (job_arc_is p _ v d arc')) second.grows (omega (arith, c.requires.next, first.longer))

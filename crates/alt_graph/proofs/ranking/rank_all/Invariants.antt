@@ -1,12 +1,12 @@
 use Rattle.std.proofs.Common.{◌-◌, slice_index}
 use Rattle.shop_base.specs.Plan.{jobs}
-use Rattle.alt_graph.specs.Ranking.{so_far, AreRanked, AreSettled}
+use Rattle.alt_graph.specs.Ranking.{so_far, IsRanking, AreSettled}
 use Rattle.alt_graph.proofs.ranking.rank_all.Given as goal
 
 -- the nodes that the ranked ones looked at lead to are settled
 abbrev pub invariant-loop-next : goal.invariant-loop-next
 invariant-loop-next l = record {
-  ranked : AreRanked l.shaped (so_far l.tables l.ranking) l.ranking.done.items;
+  ranked : IsRanking l.shaped l.tables l.ranking;
   settled : AreSettled l.shaped (so_far l.tables l.ranking) l.next;
 }
 

@@ -1,5 +1,5 @@
 use Rattle.std.proofs.Common.{◌≡◌, ◌∷◌, [], ◌++◌, length, arith, rules}
-use Rattle.alt_graph.specs.Times.{number_of}
+use Rattle.alt_graph.specs.Layout.{number_of}
 use Rattle.alt_graph.proofs.NodeNumbers.{number_inside}
 use Rattle.alt_graph.proofs.Ranks.{ranked_more, grows, new_ranked}
 use Rattle.alt_graph.proofs.ranking.rank_next.Goals as goal

@@ -1,7 +1,7 @@
 use Rattle.std.proofs.Common.{◌≡◌, ℕ, ◌<◌, ◌++◌, ◌∷◌, [], length, get_or, replicate, arith, rules, sym, ◌∙◌, ap}
 use Rattle.std.proofs.lemmas.List.{get_or_read}
 use Rattle.alt_graph.specs.declared.times.TheConstants.{UNRANKED}
-use Rattle.alt_graph.specs.Times.{number_of}
+use Rattle.alt_graph.specs.Layout.{number_of}
 use Rattle.alt_graph.proofs.Walks.{walk_none, walk_more, walk_shorter, walk_round, inside}
 use Rattle.alt_graph.proofs.rounds.follow.Goals as goal
 

@@ -1,13 +1,12 @@
 use Rattle.std.proofs.Common.{◌≡◌}
-use Rattle.alt_graph.specs.Times.{number_of}
-use Rattle.alt_graph.specs.Ranking.{so_far}
+use Rattle.alt_graph.specs.Layout.{number_of}
 use Rattle.alt_graph.specs.Rounds.{IsWalk, unseen}
 use Rattle.alt_graph.proofs.rounds.follow.Given as goal
 
 -- the nodes followed so far
 abbrev pub invariant-back : goal.invariant-back
 invariant-back l = record {
-  walk : IsWalk l.shaped (so_far l.tables l.ranking) l.nodes.items l.seen.items l.next;
+  walk : IsWalk l.shaped l.tables.firsts.items l.ranking.rows.items l.nodes.items l.seen.items l.next;
   at : l.at ≡ number_of l.tables.firsts.items l.next;
 }
 

@@ -1,25 +1,26 @@
 use Rattle.std.proofs.Common.{◌≡◌, ◌<◌, ℕ, ◌⊎◌, inl, inr, Option, arith, subst, length, List}
 use Rattle.shop_base.specs.declared.node.Node.{Node}
 use Rattle.shop_base.specs.Plan.{PlannedShop}
+use Rattle.shop_base.specs.Graph.{IsNode}
 use Rattle.shop_base.proofs.Cycles.{source_node}
 use Rattle.alt_graph.specs.declared.times.TheConstants.{UNRANKED}
 use Rattle.alt_graph.specs.declared.sources.Source.{Source}
 use Rattle.alt_graph.specs.Sources.{IsJobArc, IsBlockingArc, IsSource}
 use Rattle.alt_graph.specs.Times.{NodeTimes, rank_of}
-use Rattle.alt_graph.specs.Ranking.{so_far, IsRanked, AreRanked, IsSettled}
+use Rattle.alt_graph.specs.Ranking.{so_far, IsRanked, IsSettled}
 use Rattle.alt_graph.proofs.ArcKinds.{arc_kind, job_arc_is, blocking_arc_is, job_source_once, blocking_source_once}
 use Rattle.alt_graph.proofs.Ranks.{few_done}
 use Rattle.alt_graph.proofs.Walks.{source_ranked}
 use Rattle.alt_graph.proofs.rounds.free_source.Goals as goal
 
 -- a settled node without a rank waits for a node that has none
-never_ranked : (p : PlannedShop) (t : NodeTimes) (done : List Node) (v : Node) → AreRanked p t done → length done < UNRANKED → rank_of t v ≡ UNRANKED → IsSettled p t UNRANKED v
+never_ranked : (p : PlannedShop) (t : NodeTimes) (v : Node) → ((u : Node) → IsNode p u → IsRanked t u → rank_of t u < UNRANKED) → rank_of t v ≡ UNRANKED → IsSettled p t UNRANKED v
     → ((u : Node) (d : ℕ) → IsJobArc p u v d → IsRanked t u) → ((u : Node) (d : ℕ) → IsBlockingArc p u v d → IsRanked t u) → ⊥
-never_ranked p t done v sound few free (inl ranked) job blocking = ranked free
-never_ranked p t done v sound few free (inr (u, d, arc, after)) job blocking = go (arc_kind p u v d arc)
+never_ranked p t v below free (inl ranked) job blocking = ranked free
+never_ranked p t v below free (inr (u, d, arc, after)) job blocking = go (arc_kind p u v d arc)
   where
     ranked_no : IsRanked t u → ⊥
-    ranked_no ranked = omega (arith, sound.within u (source_node p u v d arc) ranked, few, after)
+    ranked_no ranked = omega (arith, below u (source_node p u v d arc) ranked, after)
 
     go : IsJobArc p u v d ⊎ IsBlockingArc p u v d → ⊥
     go (inl is) = ranked_no (job u d is)
@@ -35,8 +36,8 @@ pub unreachable-requires : goal.unreachable-requires
 unreachable-requires c =
     let p = c.args.shaped.now in
     let t = so_far c.args.tables.now c.args.ranking.now in
-    never_ranked p t c.args.ranking.now.done.items c.args.node c.requires.ranked
-    (few_done p c.args.tables.now.firsts.items c.requires.tables.firsts c.args.ranking.now.rows.items c.args.ranking.now.done.items c.requires.ranked)
+    let few = few_done p c.args.tables.now.firsts.items c.requires.tables.firsts c.args.ranking.now.rows.items c.args.ranking.now.done.items c.requires.ranked in
+    never_ranked p t c.args.node (λ u is ranked. omega (arith, few, c.requires.ranked.within u is ranked))
     c.requires.unranked (c.requires.settled c.args.node c.requires.node)
     (source_ranked (IsJobArc p) (job_source_once p c.requires.tables.shaped) t c.args.node c.job_source-source.result c.job_source-source.ensures.arc c.in_default.ensures)
     (source_ranked (IsBlockingArc p) (blocking_source_once p c.requires.tables.shaped) t c.args.node c.blocking_source-source.result c.blocking_source-source.ensures c.in-None.ensures)

@@ -1,5 +1,5 @@
 use Rattle.std.proofs.Common.{ℕ, ◌<◌, ◌≤◌}
-use Rattle.alt_graph.specs.Rounds.{IsUpTo}
+use Rattle.alt_graph.specs.Evidence.{IsBefore}
 use Rattle.alt_graph.specs.Rounds.{round_at, round_length}
 use Rattle.alt_graph.proofs.rounds.least_place.Given as goal
 
@@ -8,5 +8,5 @@ abbrev pub invariant-loop-place : goal.invariant-loop-place
 invariant-loop-place l = record {
   after : l.round.start ≤ l.least;
   within : l.least < round_length l.round;
-  least : (i : ℕ) → l.round.start ≤ i → i < l.place → IsUpTo (round_at l.round l.least) (round_at l.round i);
+  least : (i : ℕ) → l.round.start ≤ i → i < l.place → IsBefore (round_at l.round i) (round_at l.round l.least) → ⊥;
 }

@@ -1,6 +1,7 @@
 use Rattle.std.proofs.Common.{sym, subst}
 use Rattle.shop_base.proofs.Cycles.{ranks_exclude_cycle}
 use Rattle.alt_graph.specs.Times.{NodeTimes, rank_of, AreOrdered}
+use Rattle.alt_graph.specs.Layout.{by_job}
 use Rattle.alt_graph.proofs.Graphs.{all_times, all_linked, ordered}
 use Rattle.alt_graph.proofs.solving.solve.Goals as goal
 
@@ -14,4 +15,4 @@ returns-in-None-clause-ordered c = subst (λ (t : NodeTimes). AreOrdered c.args.
 pub returns-in-None-clause-exact : goal.returns-in-None-clause-exact
 returns-in-None-clause-exact c =
     let times = all_times _ c.in_ok-tables.tables.firsts.items c.in_ok-tables.ensures.tables.firsts c.in_ok-ranking.ranking.rows.items c.in_ok-ranking.ranking.done.items c.in_ok-ranking.ensures.ranked c.in-None.ensures in
-    ((λ never. absurd never), λ cycle. ranks_exclude_cycle _ (rank_of (record { firsts = c.in_ok-tables.tables.firsts.items; rows = c.in_ok-ranking.ranking.rows.items })) cycle.0 times.rise cycle.1)
+    ((λ never. absurd never), λ cycle. ranks_exclude_cycle _ (rank_of (by_job c.in_ok-tables.tables.firsts.items c.in_ok-ranking.ranking.rows.items)) cycle.0 times.rise cycle.1)

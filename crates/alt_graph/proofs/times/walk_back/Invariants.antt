@@ -1,14 +1,15 @@
 use Rattle.alt_graph.specs.Times.{IsTimed, rank_of}
+use Rattle.alt_graph.specs.Layout.{by_job}
 use Rattle.alt_graph.proofs.Chains.{GoesOn}
 use Rattle.alt_graph.proofs.times.walk_back.Given as goal
 
 -- the nodes so far go on, backwards, from the one looked at to the target
 abbrev pub invariant-back : goal.invariant-back
 invariant-back l = record {
-  timed : IsTimed (record { firsts = l.firsts; rows = l.rows }) l.last;
-  on : GoesOn (record { firsts = l.firsts; rows = l.rows }) l.nodes.items l.last l.fn.node;
+  timed : IsTimed (by_job l.firsts l.rows) l.last;
+  on : GoesOn (by_job l.firsts l.rows) l.nodes.items l.last l.fn.node;
 }
 
 -- its rank
 abbrev pub decreases-back : goal.decreases-back
-decreases-back l = rank_of (record { firsts = l.firsts; rows = l.rows }) l.last
+decreases-back l = rank_of (by_job l.firsts l.rows) l.last
