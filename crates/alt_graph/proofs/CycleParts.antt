@@ -4,9 +4,9 @@ use Rattle.std.specs.Bool.{OnTrue}
 use Rattle.shop_base.specs.declared.node.Node.{Node}
 use Rattle.shop_base.specs.Plan.{PlannedShop, IsWellShaped}
 use Rattle.shop_base.specs.Graph.{IsNode, ArcsLead, AreDistinct, IsSimpleCycle}
-use Rattle.shop_base.proofs.CycleLaw.{cycle_never_done as no_run_ends}
+use Rattle.shop_base.proofs.CycleLaw.{cycle_never_made, cycle_never_done}
 use Rattle.alt_graph.specs.Evidence.{IsBefore, IsCycle}
-use Rattle.shop_base.specs.CycleLaw.{IsNeverDone}
+use Rattle.shop_base.specs.CycleLaw.{IsNeverDone, AreNeverMade}
 
 -- what is checked of nodes that are a first one and others
 pub record AreCycleParts (p : PlannedShop) (nodes : List Node) (first : Node) (rest : List Node) : Type 0 where
@@ -29,9 +29,9 @@ pub cycle_simple : (p : PlannedShop) (nodes : List Node) → IsCycle p nodes →
 cycle_simple p [] cycle = absurd cycle
 cycle_simple p (u ∷ us) cycle = cycle.0
 
--- a cycle stops every run
-pub cycle_never_done : (p : PlannedShop) (nodes : List Node) → IsWellShaped p → IsCycle p nodes → IsNeverDone p
-cycle_never_done p nodes shaped cycle = no_run_ends p nodes shaped (cycle_simple p nodes cycle)
+-- no run makes a move of a cycle, and none ends
+pub cycle_stops : (p : PlannedShop) (nodes : List Node) → IsWellShaped p → IsCycle p nodes → AreNeverMade p nodes × IsNeverDone p
+cycle_stops p nodes shaped cycle = let simple = cycle_simple p nodes cycle in (cycle_never_made p nodes shaped simple, cycle_never_done p nodes shaped simple)
 
 pub untrue : false ≡ true → ⊥
 untrue bad = cc

@@ -1,7 +1,7 @@
 -- Where all nodes are ranked: greatest lengths, and no cycle.
 use Rattle.std.proofs.Common.{◌≡◌, ℕ, zero, suc, ◌<◌, ◌≤◌, ◌++◌, ◌∷◌, [], List, Option, None, Some, arith, refl, sym, subst}
 use Rattle.shop_base.specs.declared.node.Node.{Node}
-use Rattle.shop_base.specs.Plan.{PlannedShop, release}
+use Rattle.shop_base.specs.Plan.{PlannedShop, release, IsWellShaped}
 use Rattle.shop_base.specs.Graph.{node, IsNode, Path, begins, follows}
 use Rattle.shop_base.proofs.Cycles.{source_node}
 use Rattle.alt_graph.specs.declared.times.NodeTime.{NodeTime}
@@ -27,13 +27,13 @@ module _ (p : PlannedShop) (t : NodeTimes) (are : AreTimes p t) where
           → (o : Option Node) → IsAttained p t v (earliest_of t v) o → (nodes : List Node) × Path p nodes v (earliest_of t v)
       go below None (first, at) = (v ∷ [], path_begins v is first at)
       go below (Some u) (d, arc, at) =
-          let path = below u (omega (arith, are.rise u v d arc)) (source_node p u v d arc) in
+          let path = below u (omega (arith, are.schedule.ranks u v d arc)) (source_node p u v d arc) in
           (path.0 ++ v ∷ [], subst (λ (m : ℕ). Path p (path.0 ++ v ∷ []) v m) at (follows path.0 u v (earliest_of t u) d path.1 arc))
 
   -- no path is longer
   none_longer : (nodes : List Node) (v : Node) (n : ℕ) → Path p nodes v n → n ≤ earliest_of t v
-  none_longer nodes v n (begins j inside) = are.fit.releases j inside
-  none_longer nodes v n (follows front u w m d path arc) = omega (arith, none_longer front u m path, are.fit.arcs u w d arc)
+  none_longer nodes v n (begins j inside) = are.schedule.moments.releases j inside
+  none_longer nodes v n (follows front u w m d path arc) = omega (arith, none_longer front u m path, are.schedule.moments.arcs u w d arc)
 
   pub ordered : AreOrdered p t
   ordered = record {
@@ -44,7 +44,7 @@ module _ (p : PlannedShop) (t : NodeTimes) (are : AreTimes p t) where
     };
   }
 
-module _ (p : PlannedShop) (firsts : List ℕ) (are : AreFirsts p firsts) (rows : List NodeTime) (done : List Node)
+module _ (p : PlannedShop) (shaped : IsWellShaped p) (firsts : List ℕ) (are : AreFirsts p firsts) (rows : List NodeTime) (done : List Node)
     (sound : AreRanked p firsts rows done) (all : (v : Node) → IsNode p v → IsRanked (by_job firsts rows) v) where
   abbrev times : NodeTimes
   times = by_job firsts rows
@@ -53,12 +53,15 @@ module _ (p : PlannedShop) (firsts : List ℕ) (are : AreFirsts p firsts) (rows 
   pub all_times : AreTimes p times
   all_times = record {
     nodes = λ v. (node_timed p firsts are rows v sound.size, timed_node p firsts are rows v);
-    rise = λ u v d arc. (let is = target_node p u v d arc in (sound.placed v is (all v is)).rises u d arc);
-    few = λ v is. omega (arith, sound.within v is (all v is), sound.count, sound.size, numbers_count p firsts are);
-    fit = record {
-      releases = λ j inside. (let is : IsNode p (node j 0) = record { job = inside; place = omega arith } in (sound.placed (node j 0) is (all (node j 0) is)).released refl);
-      arcs = λ u v d arc. (let is = target_node p u v d arc in (sound.placed v is (all v is)).fits u d arc);
+    schedule = record {
+      shaped = shaped;
+      ranks = λ u v d arc. (let is = target_node p u v d arc in (sound.placed v is (all v is)).rises u d arc);
+      moments = record {
+        releases = λ j inside. (let is : IsNode p (node j 0) = record { job = inside; place = omega arith } in (sound.placed (node j 0) is (all (node j 0) is)).released refl);
+        arcs = λ u v d arc. (let is = target_node p u v d arc in (sound.placed v is (all v is)).fits u d arc);
+      };
     };
+    few = λ v is. omega (arith, sound.within v is (all v is), sound.count, sound.size, numbers_count p firsts are);
     attained = λ v is. (sound.placed v is (all v is)).attained;
   }
 
@@ -72,4 +75,4 @@ module _ (p : PlannedShop) (firsts : List ℕ) (are : AreFirsts p firsts) (rows 
     where
       leads : (v : Node) (o : Option Node) → IsAttained p times v (earliest_of times v) o → LeadsBack times v o
       leads v None attained = tt
-      leads v (Some u) (d, arc, at) = (node_timed p firsts are rows u sound.size (source_node p u v d arc), all_times.rise u v d arc)
+      leads v (Some u) (d, arc, at) = (node_timed p firsts are rows u sound.size (source_node p u v d arc), all_times.schedule.ranks u v d arc)

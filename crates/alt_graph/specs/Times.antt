@@ -1,7 +1,7 @@
 use Rattle.std.specs.Prelude.{◌≡◌, ℕ, ◌+◌, ◌<◌, ◌≤◌, ◌↔◌, List, [], length, slice_index_or, Option, None, Some}
 use Rattle.shop_base.specs.declared.node.Node.{Node}
 use Rattle.shop_base.specs.Plan.{PlannedShop, release}
-use Rattle.shop_base.specs.Graph.{Arc, IsNode, Path, RanksRise, MomentsFit}
+use Rattle.shop_base.specs.Graph.{Arc, IsNode, Path, IsSchedule}
 use Rattle.alt_graph.specs.Evidence.{node_count}
 use Rattle.alt_graph.specs.declared.times.NodeTime.{NodeTime}
 use Rattle.alt_graph.specs.declared.times.TheConstants.{UNRANKED}
@@ -44,12 +44,11 @@ abbrev pub IsAttained : PlannedShop → NodeTimes → Node → ℕ → Option No
 IsAttained p t v n None = (v.place ≡ 0) × (n ≡ release p v.job)
 IsAttained p t v n (Some u) = (d : ℕ) × Arc p u v d × (earliest_of t u + d ≡ n)
 
--- the nodes of the shop are known: their ranks rise along every arc and are below the number of nodes, and their moments respect every arc and are each attained by one
+-- the nodes of the shop are known: their ranks, which are below the number of nodes, and their moments are a schedule, and each moment is attained
 pub record AreTimes (p : PlannedShop) (t : NodeTimes) : Type 0 where
   pub nodes : (v : Node) → IsNode p v ↔ IsTimed t v
-  pub rise : RanksRise p (rank_of t)
+  pub schedule : IsSchedule p (rank_of t) (earliest_of t)
   pub few : (v : Node) → IsNode p v → rank_of t v < node_count p
-  pub fit : MomentsFit p (earliest_of t)
   pub attained : (v : Node) → IsNode p v → IsAttained p t v (earliest_of t v) (before_of t v)
 
 -- the moment of each node is the length of a path to it, and no path to it is longer
@@ -57,7 +56,7 @@ pub record AreGreatest (p : PlannedShop) (t : NodeTimes) : Type 0 where
   pub reached : (v : Node) → IsNode p v → (nodes : List Node) × Path p nodes v (earliest_of t v)
   pub greatest : (nodes : List Node) (v : Node) (n : ℕ) → Path p nodes v n → n ≤ earliest_of t v
 
--- ranks that rise along every arc, and the greatest lengths of the paths to each node
+-- a schedule whose moments are the greatest lengths of the paths to each node
 pub record AreOrdered (p : PlannedShop) (t : NodeTimes) : Type 0 where
   pub times : AreTimes p t
   pub lengths : AreGreatest p t

@@ -5,7 +5,7 @@ ghost use Rattle.std.specs.Bool.{OnTrue};
 ghost use Rattle.shop_base.specs.Plan.{IsWellShaped};
 ghost use Rattle.shop_base.specs.Graph.{IsNode, ArcsLead, AreDistinct};
 ghost use Rattle.alt_graph.specs.Evidence.{IsBefore, IsCycle};
-ghost use Rattle.shop_base.specs.CycleLaw.{IsNeverDone};
+ghost use Rattle.shop_base.specs.CycleLaw.{IsNeverDone, AreNeverMade};
 ghost use Rattle.alt_graph.specs.Places.{IsNewAt};
 
 use crate::arcs::arc_length;
@@ -14,10 +14,10 @@ use shop_base::{Node, Shaped};
 
 /// Whether the nodes are a cycle of the graph, written from its least node on: no node stands twice, and
 /// arcs lead from each node to the next and from the last to the first. Where they are, no controller
-/// brings all jobs to their end.
+/// makes a move of them, nor brings all jobs to their end.
 pub fn check_cycle(shaped: &Shaped, nodes: &[Node]) -> bool
     ensures exact { IsTrue result ↔ IsCycle shaped.now nodes.now }
-    ensures stops { OnTrue result (IsNeverDone shaped.now) }
+    ensures stops { OnTrue result (AreNeverMade shaped.now nodes.now × IsNeverDone shaped.now) }
 {
     let Some((first, rest)) = nodes.split_first() else {
         return false;

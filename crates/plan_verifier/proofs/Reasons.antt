@@ -4,16 +4,22 @@ use Rattle.std.proofs.Math.Nat.{le-max_left, le-max_right, max-eq_left, max-eq_r
 use Rattle.std.proofs.lemmas.Bool.{cases_lt, cases_order}
 use Rattle.std.proofs.lemmas.List.{length_push}
 use Rattle.shop_base.specs.declared.node.Node.{Node}
-use Rattle.shop_base.specs.Plan.{PlannedShop, jobs, budget, IsWellShaped}
+use Rattle.shop_base.specs.Plan.{PlannedShop, jobs, steps, budget, IsWellShaped}
 use Rattle.shop_base.specs.Graph.{leaving, IsNode, MeetBudgets, Path, begins, follows, RanksRise}
 use Rattle.shop_base.proofs.Cycles.{ranks_exclude_cycle}
+use Rattle.shop_base.specs.Cell.{start}
+use Rattle.shop_base.specs.KeptMoments.{KeepsMoments}
+use Rattle.shop_base.proofs.ControlledRuns.{controlled_to_run, start_at_rest}
+use Rattle.shop_base.proofs.Keeping.{start-sound}
+use Rattle.shop_base.proofs.InTime.{start-keeps_moments, leads-keeps_moments}
+use Rattle.shop_base.proofs.JustInTime.{just_in_time-holds}
 use Rattle.shop_base.proofs.LowerBounds.{no_exact_run_is_faster-holds}
 use Rattle.alt_graph.specs.Evidence.{IsChain}
 use Rattle.shop_base.specs.ExactLaw.{IsNeverGoneBefore}
-use Rattle.shop_base.specs.CycleLaw.{IsNeverDone}
+use Rattle.shop_base.specs.CycleLaw.{IsNeverDone, AreNeverMade}
 use Rattle.alt_graph.specs.Times.{NodeTimes, rank_of, earliest_of, AreOrdered}
-use Rattle.plan_verifier.specs.Accepted.{VerifiedPlan, kept_at, HasNoCycle, IsWithinBudget, IsGreatest, IsAcceptable, IsFirstPast, IsVerified}
-use Rattle.alt_graph.proofs.CycleParts.{cycle_never_done}
+use Rattle.plan_verifier.specs.Accepted.{VerifiedPlan, kept_at, HasNoCycle, IsWithinBudget, IsGreatest, IsAcceptable, IsFirstPast, IsVerified, IsNeverGoneAfter, IsGoneJustAt, rank_in}
+use Rattle.alt_graph.proofs.CycleParts.{cycle_stops}
 use Rattle.plan_verifier.specs.declared.verdict.Verdict.{Verdict}
 use Rattle.plan_verifier.specs.declared.verdict.Verdict.TheVariants.{Accepted, Refused}
 use Rattle.plan_verifier.specs.declared.verdict.Why.TheVariants.{Cycle, Late}
@@ -27,7 +33,7 @@ path_few p rank nodes v n rise (follows front u w m d path arc) =
 
 module _ (p : PlannedShop) (t : NodeTimes) (ordered : AreOrdered p t) where
   pub acyclic : HasNoCycle p
-  acyclic nodes cycle = ranks_exclude_cycle p (rank_of t) nodes ordered.times.rise cycle
+  acyclic nodes cycle = ranks_exclude_cycle p (rank_of t) nodes ordered.times.schedule.ranks cycle
 
   -- the leaving of a job is a node
   pub leaving_node : (j : ℕ) → j < jobs p → IsNode p (leaving p j)
@@ -50,7 +56,7 @@ module _ (p : PlannedShop) (t : NodeTimes) (ordered : AreOrdered p t) where
   -- a path to a leaving is evidence
   pub path_chain : (j : ℕ) → j < jobs p → (nodes : List Node) (n : ℕ) → Path p nodes (leaving p j) n → IsChain p nodes n
   path_chain j inside nodes n path = record {
-    few = omega (arith, path_few p (rank_of t) nodes (leaving p j) n ordered.times.rise path, ordered.times.few (leaving p j) (leaving_node j inside));
+    few = omega (arith, path_few p (rank_of t) nodes (leaving p j) n ordered.times.schedule.ranks path, ordered.times.few (leaving p j) (leaving_node j inside));
     path = (leaving p j, path);
   }
 
@@ -83,9 +89,9 @@ late_just p j n inside past never es run exact = (j, inside, λ out. omega (arit
 abbrev pub IsReasoned : PlannedShop → Verdict → Type 0
 IsReasoned p = OnRefused (λ back why. (back ≡ p) × IsReason p why)
 
-pub verdict_stops : (p : PlannedShop) (verdict : Verdict) → IsWellShaped p → IsReasoned p verdict → OnCycle (IsNeverDone p) verdict
+pub verdict_stops : (p : PlannedShop) (verdict : Verdict) → IsWellShaped p → IsReasoned p verdict → OnCycle (λ nodes. AreNeverMade p nodes × IsNeverDone p) verdict
 verdict_stops p (Accepted verified) shaped reasoned = tt
-verdict_stops p (Refused back (Cycle nodes)) shaped (same, cycle) = cycle_never_done p nodes.items shaped cycle
+verdict_stops p (Refused back (Cycle nodes)) shaped (same, cycle) = cycle_stops p nodes.items shaped cycle
 verdict_stops p (Refused back (Late job leaves chain)) shaped (same, late) = tt
 
 pub verdict_no_faster : (p : PlannedShop) (verdict : Verdict) → IsWellShaped p → IsReasoned p verdict → OnLate (λ job leaves. IsNeverGoneBefore p job leaves) verdict
@@ -95,7 +101,7 @@ verdict_no_faster p (Refused back (Late job leaves chain)) shaped (same, late) =
 
 pub verdict_just : (p : PlannedShop) (verdict : Verdict) → IsWellShaped p → IsReasoned p verdict → OnRefused (λ back why. IsNeverInBudget p) verdict
 verdict_just p (Accepted verified) shaped reasoned = tt
-verdict_just p (Refused back (Cycle nodes)) shaped (same, cycle) = never_done_just p (cycle_never_done p nodes.items shaped cycle)
+verdict_just p (Refused back (Cycle nodes)) shaped (same, cycle) = never_done_just p (cycle_stops p nodes.items shaped cycle).1
 verdict_just p (Refused back (Late job leaves chain)) shaped (same, late) = late_just p job leaves late.job late.past (path_never_before p job leaves chain.items shaped late.path)
 
 -- the latest of the first n jobs' leavings, 0 where there is none
@@ -134,3 +140,25 @@ ok_each (Err e) step holds = tt
 -- the earliest leaving of a job of an accepted plan
 pub verified_greatest : (v : VerifiedPlan) → IsVerified v → (j : ℕ) → j < jobs v.planned → IsGreatest v.planned (leaving v.planned j) (kept_at v (leaving v.planned j))
 verified_greatest v sound j inside = leaving_greatest v.planned v.times sound.ordered j inside
+
+-- where all reports are exact, no job of an accepted plan is gone since before the kept moment of its leaving
+pub verified_never_before : (v : VerifiedPlan) → IsVerified v → (j : ℕ) → j < jobs v.planned → IsNeverGoneBefore v.planned j (kept_at v (leaving v.planned j))
+verified_never_before v sound j inside =
+    let path = (verified_greatest v sound j inside).reached in
+    path_never_before v.planned j (kept_at v (leaving v.planned j)) path.0 sound.schedule.shaped path.1
+
+-- a job of an accepted plan that is gone is gone since at most the kept moment of its leaving, where all reports are punctual
+pub verified_no_later : (v : VerifiedPlan) → IsVerified v → (j : ℕ) → j < jobs v.planned → IsNeverGoneAfter v.planned j (kept_at v (leaving v.planned j))
+verified_no_later v sound j inside rs es end run punctual gone =
+    let p = v.planned in
+    let schedule = sound.schedule in
+    let (events, ends, safe, rest) = controlled_to_run p rs es end schedule.shaped run in
+    let keeps_moments : KeepsMoments p (kept_at v) end =
+    leads-keeps_moments p (rank_in v) (kept_at v) (start p) rs es end schedule.shaped schedule.ranks schedule.moments (start-sound p schedule.shaped) (start_at_rest p) run (start-keeps_moments p (kept_at v)) punctual in
+    keeps_moments.moved j (steps p j) (omega (arith, gone, safe.few_moves j inside))
+
+-- and since just that moment, where all are exact
+pub verified_just_in_time : (v : VerifiedPlan) → IsVerified v → (j : ℕ) → j < jobs v.planned → IsGoneJustAt v.planned j (kept_at v (leaving v.planned j))
+verified_just_in_time v sound j inside rs es end run exact gone =
+    let path = (verified_greatest v sound j inside).reached in
+    just_in_time-holds v.planned (rank_in v) (kept_at v) rs es end sound.schedule run exact j path.0 path.1 gone

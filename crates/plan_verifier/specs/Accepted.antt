@@ -1,8 +1,13 @@
 use Rattle.std.specs.Prelude.{ℕ, ◌<◌, ◌≤◌, List, ◌≡◌}
 use Rattle.shop_base.specs.declared.node.Node.{Node}
-use Rattle.shop_base.specs.Plan.{PlannedShop, jobs, budget, IsWellShaped}
-use Rattle.shop_base.specs.Graph.{leaving, IsSimpleCycle, Path, MeetBudgets}
-use Rattle.alt_graph.specs.Times.{NodeTimes, earliest_of, AreOrdered}
+use Rattle.shop_base.specs.Plan.{PlannedShop, jobs, budget}
+use Rattle.shop_base.specs.Cell.{Cell, start, since, IsGone}
+use Rattle.shop_base.specs.Report.{Report}
+use Rattle.shop_base.specs.Run.{Event}
+use Rattle.shop_base.specs.Controlled.{IsControlledRun}
+use Rattle.shop_base.specs.Punctual.{ArePunctual, AreExact}
+use Rattle.shop_base.specs.Graph.{leaving, IsSimpleCycle, Path, IsSchedule, MeetBudgets}
+use Rattle.alt_graph.specs.Times.{NodeTimes, rank_of, earliest_of, AreOrdered}
 
 -- no arcs lead in a circle
 abbrev pub HasNoCycle : PlannedShop → Type 0
@@ -22,6 +27,14 @@ pub record IsGreatest (p : PlannedShop) (v : Node) (n : ℕ) : Type 0 where
   pub reached : (nodes : List Node) × Path p nodes v n
   pub longest : (nodes : List Node) (k : ℕ) → Path p nodes v k → k ≤ n
 
+-- in every controlled run whose reports are punctual, job j, once it is gone, is gone since at most moment n
+abbrev pub IsNeverGoneAfter : PlannedShop → ℕ → ℕ → Type 0
+IsNeverGoneAfter p j n = (rs : List Report) (es : List Event) (end : Cell) → IsControlledRun p rs es end → ArePunctual p (start p) es → IsGone p end j → since end j ≤ n
+
+-- in every controlled run whose reports are exact, job j, once it is gone, is gone since just moment n
+abbrev pub IsGoneJustAt : PlannedShop → ℕ → ℕ → Type 0
+IsGoneJustAt p j n = (rs : List Report) (es : List Event) (end : Cell) → IsControlledRun p rs es end → AreExact p (start p) es → IsGone p end j → since end j ≡ n
+
 -- an accepted plan, with a rank and a moment for each node
 pub record VerifiedPlan : Type 0 where
   pub planned : PlannedShop
@@ -31,11 +44,15 @@ pub record VerifiedPlan : Type 0 where
 abbrev pub kept_at : VerifiedPlan → Node → ℕ
 kept_at v = earliest_of v.times
 
--- what holds of an accepted plan: ranks rise along every arc, the kept moments respect each release and the length of every arc and are each the length of a path, and each leaving is within its budget
+-- the rank of a node of an accepted plan
+abbrev pub rank_in : VerifiedPlan → Node → ℕ
+rank_in v = rank_of v.times
+
+-- what an accepted plan comes with: a schedule, whose moments are the greatest lengths of paths, with each leaving within its budget
 pub record IsVerified (v : VerifiedPlan) : Type 0 where
-  pub shaped : IsWellShaped v.planned
-  pub ordered : AreOrdered v.planned v.times
+  pub schedule : IsSchedule v.planned (rank_in v) (kept_at v)
   pub budgets : MeetBudgets v.planned (kept_at v)
+  pub ordered : AreOrdered v.planned v.times
 
 -- the latest of all jobs' earliest leavings
 pub record IsMakespan (v : VerifiedPlan) (n : ℕ) : Type 0 where

@@ -44,8 +44,8 @@ OnRefused P (Accepted verified) = Unit {0}
 OnRefused P (Refused back why) = P back why
 
 -- where it is refused for a cycle
-abbrev pub OnCycle : Type 0 → Verdict → Type 0
-OnCycle P (Refused back (Cycle nodes)) = P
+abbrev pub OnCycle : (List Node → Type 0) → Verdict → Type 0
+OnCycle P (Refused back (Cycle nodes)) = P nodes.items
 OnCycle P (Refused back (Late job leaves chain)) = Unit {0}
 OnCycle P (Accepted verified) = Unit {0}
 

@@ -1,13 +1,14 @@
 //! The leavings of the jobs, and their greatest lengths.
 
 ghost use Rattle.std.specs.Prelude.{◌≡◌, ◌<◌, MatchOption};
-ghost use Rattle.shop_base.specs.Plan.{jobs, route, budget, IsWellShaped};
+ghost use Rattle.shop_base.specs.Plan.{jobs, budget};
 ghost use Rattle.shop_base.specs.Graph.{leaving, MeetBudgets};
 ghost use Rattle.alt_graph.specs.Times.{AreOrdered, earliest_of};
 ghost use Rattle.plan_verifier.specs.Accepted.{IsFirstPast};
 
 use alt_graph::Times;
-use shop_base::{JobNo, Moment, Node, Shaped, Step};
+use shop_base::readers::step_count;
+use shop_base::{JobNo, Moment, Node, Shaped};
 
 /// The first job whose greatest length is past its budget, if there is one.
 pub(crate) fn first_late(shaped: &Shaped, times: &Times) -> Option<JobNo>
@@ -41,18 +42,6 @@ pub(crate) fn leaving_of(shaped: &Shaped, job: JobNo) -> Node
 {
     Node {
         job,
-        place: route_of(shaped, job).len() as u32,
-    }
-}
-
-/// The job's route.
-fn route_of(shaped: &Shaped, job: JobNo) -> &[Step]
-    requires { job < jobs shaped.now }
-    ensures route { result.now ≡ route shaped.now job }
-    ensures well_shaped { IsWellShaped shaped.now }
-{
-    match shaped.shop().route(job) {
-        Some(route) => route,
-        None => unreachable!(),
+        place: step_count(shaped, job),
     }
 }

@@ -4,10 +4,11 @@ use shop_base::{JobNo, Moment, Node, Shaped};
 /// What is to be said of a plan.
 #[derive(Debug, Drop)]
 pub enum Verdict {
-    /// It can't lock, and each job is out by its budget as long as no activity outlasts its nominal time.
+    /// It can't lock in a run in which each report is followed by the moves that it makes possible; and in such
+    /// a run each job is out by its budget as long as no activity outlasts its nominal time.
     Accepted(Verified),
-    /// It locks, or a job can't be out by its budget where each activity takes its nominal time. The plan comes
-    /// back with the evidence.
+    /// It locks in every run, or a job can't be out by its budget where each activity takes its nominal time.
+    /// The plan comes back with the evidence.
     Refused(Shaped, Why),
 }
 

@@ -2,7 +2,7 @@ ghost use Rattle.std.specs.Prelude.{◌≡◌, ◌<◌, ◌≤◌, max, MatchOpt
 ghost use Rattle.shop_base.specs.Plan.{jobs};
 ghost use Rattle.shop_base.specs.Graph.{leaving};
 ghost use Rattle.shop_base.specs.ExactLaw.{IsNeverGoneBefore};
-ghost use Rattle.plan_verifier.specs.Accepted.{IsVerified, IsGreatest, IsMakespan, kept_at};
+ghost use Rattle.plan_verifier.specs.Accepted.{IsVerified, IsGreatest, IsMakespan, IsNeverGoneAfter, IsGoneJustAt, kept_at};
 
 use crate::leavings::leave_time;
 use alt_graph::Times;
@@ -34,13 +34,16 @@ impl Verified {
         Verified { shaped, times }
     }
 
-    /// The moment by which the job has left as long as no activity outlasts its nominal time, and before
-    /// which it can't leave where each takes its full time; none for a number that is no job's.
+    /// The moment by which the job has left as long as no activity outlasts its nominal time and each report
+    /// is followed by the moves that it makes possible, and before which it can't leave where each activity
+    /// takes its full time; none for a number that is no job's.
     pub fn earliest_leave(&self, job: JobNo) -> Option<Moment>
         ensures greatest { let p = self.now.planned in
             MatchOption result (jobs p ≤ job) (λ moment. (job < jobs p) × IsGreatest p (leaving p job) moment) }
         ensures kept { IfSome result (λ moment. moment ≡ kept_at self.now (leaving self.now.planned job)) }
         ensures no_faster { IfSome result (IsNeverGoneBefore self.now.planned job) }
+        ensures no_later { IfSome result (IsNeverGoneAfter self.now.planned job) }
+        ensures just_in_time { IfSome result (IsGoneJustAt self.now.planned job) }
     {
         if job < self.shaped.shop().jobs() {
             Some(leave_time(&self.shaped, &self.times, job))

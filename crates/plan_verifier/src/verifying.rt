@@ -2,7 +2,7 @@ ghost use Rattle.std.specs.Prelude.{◌≡◌, ◌↔◌, IfOk, IfErr};
 ghost use Rattle.alt_graph.specs.Times.{AreOrdered, earliest_of};
 ghost use Rattle.alt_graph.specs.Solved.{OnOrdered, OnCyclic};
 ghost use Rattle.shop_base.specs.ExactLaw.{IsNeverGoneBefore};
-ghost use Rattle.shop_base.specs.CycleLaw.{IsNeverDone};
+ghost use Rattle.shop_base.specs.CycleLaw.{IsNeverDone, AreNeverMade};
 ghost use Rattle.plan_verifier.specs.Accepted.{IsAcceptable, IsFirstPast};
 ghost use Rattle.plan_verifier.specs.Verdicts.{IsAcceptance, OnAccepted, OnRefused, OnCycle, OnLate, IsReason, IsNeverInBudget};
 
@@ -19,7 +19,7 @@ pub fn verify(alloc: Global, shaped: Shaped) -> Result<Verdict, (AllocError, Sha
     ensures accepted { IfOk result (OnAccepted (λ verified. (verified.planned ≡ shaped) × IsAcceptable shaped)) }
     ensures refused { IfOk result (OnRefused (λ back why. (back ≡ shaped) × IsReason shaped why)) }
     ensures exact { IfOk result (λ verdict. IsAcceptance verdict ↔ IsAcceptable shaped) }
-    ensures stops { IfOk result (OnCycle (IsNeverDone shaped)) }
+    ensures stops { IfOk result (OnCycle (λ nodes. AreNeverMade shaped nodes × IsNeverDone shaped)) }
     ensures no_faster { IfOk result (OnLate (λ job leaves. IsNeverGoneBefore shaped job leaves)) }
     ensures just { IfOk result (OnRefused (λ back why. IsNeverInBudget shaped)) }
     ensures handed_back { IfErr result (λ refused. refused.1 ≡ shaped) }

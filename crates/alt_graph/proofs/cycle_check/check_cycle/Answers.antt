@@ -1,5 +1,5 @@
 use Rattle.std.proofs.Common.{refl}
-use Rattle.alt_graph.proofs.CycleParts.{cycle_parts, cycle_from_parts, cycle_never_done, on_yes}
+use Rattle.alt_graph.proofs.CycleParts.{cycle_parts, cycle_from_parts, cycle_stops, on_yes}
 use Rattle.alt_graph.proofs.cycle_check.check_cycle.Goals as goal
 
 pub returns-then-arcs_lead-clause-exact : goal.returns-then-arcs_lead-clause-exact
@@ -14,7 +14,7 @@ returns-then-arcs_lead-clause-exact c = (
 )
 
 pub returns-then-arcs_lead-clause-stops : goal.returns-then-arcs_lead-clause-stops
-returns-then-arcs_lead-clause-stops c = on_yes c.are_distinct.result _ (λ yes. cycle_never_done c.args.shaped.now c.args.nodes.now c.if-arcs_lead.ensures.sound
+returns-then-arcs_lead-clause-stops c = on_yes c.are_distinct.result _ (λ yes. cycle_stops c.args.shaped.now c.args.nodes.now c.if-arcs_lead.ensures.sound
     (cycle_from_parts c.args.shaped.now c.args.nodes.now c.in-Some.first.now c.in-Some.rest.now c.in-Some.ensures.cases.0 (record {
       of_shop = c.if-not-are_nodes.ensures.0 refl;
       least = c.if-not-is_least.ensures.0 refl;

@@ -19,3 +19,6 @@ loop-arcs-preserved c =
           (was.0, was.1, get_or_append_left so_far (c.index.result.now ∷ []) (node 0 0) i (omega (arith, c.loop-arcs.invariant.size)) ∙ was.2))
           (c.place_after.result, c.place_after.ensures.place, get_or_push so_far c.index.result.now (node 0 0) c.loop-arcs.arcs c.loop-arcs.invariant.size ∙ read);
     })
+
+pub loop-arcs-init : goal.loop-arcs-init
+loop-arcs-init c = search rules

@@ -1,0 +1,11 @@
+use Rattle.std.proofs.Common.{rules}
+use Rattle.alt_graph.proofs.node_order.is_before.Goals as goal
+
+pub returns-then-one-other : goal.returns-then-one-other
+returns-then-one-other c = search rules
+
+pub returns-then-one-other-2 : goal.returns-then-one-other-2
+returns-then-one-other-2 c = search rules
+
+pub returns-else-one-other-2 : goal.returns-else-one-other-2
+returns-else-one-other-2 c = search rules
