@@ -4,14 +4,12 @@ use Rattle.std.proofs.Math.Nat.{le-max_left, le-max_right, max-eq_left, max-eq_r
 use Rattle.std.proofs.lemmas.Bool.{cases_lt, cases_order}
 use Rattle.std.proofs.lemmas.List.{length_push}
 use Rattle.shop_base.specs.declared.node.Node.{Node}
-use Rattle.shop_base.specs.Plan.{PlannedShop, jobs, steps, budget, IsWellShaped}
+use Rattle.shop_base.specs.Plan.{PlannedShop, jobs, budget, IsWellShaped}
 use Rattle.shop_base.specs.Graph.{leaving, IsNode, MeetBudgets, Path, begins, follows, RanksRise}
 use Rattle.shop_base.proofs.Cycles.{ranks_exclude_cycle}
-use Rattle.shop_base.specs.Cell.{start}
-use Rattle.shop_base.specs.KeptMoments.{KeepsMoments}
-use Rattle.shop_base.proofs.ControlledRuns.{controlled_to_run, start_at_rest}
-use Rattle.shop_base.proofs.Keeping.{start-sound}
-use Rattle.shop_base.proofs.InTime.{start-keeps_moments, leads-keeps_moments}
+use Rattle.shop_base.specs.Cell.{since}
+use Rattle.shop_base.specs.KeptMoments.{KeepsLeaving}
+use Rattle.shop_base.proofs.InTime.{controlled-leavings_kept}
 use Rattle.shop_base.proofs.JustInTime.{just_in_time-holds}
 use Rattle.shop_base.proofs.LowerBounds.{no_exact_run_is_faster-holds}
 use Rattle.alt_graph.specs.Evidence.{IsChain}
@@ -149,13 +147,11 @@ verified_never_before v sound j inside =
 
 -- a job of an accepted plan that is gone is gone since at most the kept moment of its leaving, where all reports are punctual
 pub verified_no_later : (v : VerifiedPlan) → IsVerified v → (j : ℕ) → j < jobs v.planned → IsNeverGoneAfter v.planned j (kept_at v (leaving v.planned j))
-verified_no_later v sound j inside rs es end run punctual gone =
-    let p = v.planned in
-    let schedule = sound.schedule in
-    let (events, ends, safe, rest) = controlled_to_run p rs es end schedule.shaped run in
-    let keeps_moments : KeepsMoments p (kept_at v) end =
-    leads-keeps_moments p (rank_in v) (kept_at v) (start p) rs es end schedule.shaped schedule.ranks schedule.moments (start-sound p schedule.shaped) (start_at_rest p) run (start-keeps_moments p (kept_at v)) punctual in
-    keeps_moments.moved j (steps p j) (omega (arith, gone, safe.few_moves j inside))
+verified_no_later v sound j inside rs es end run punctual gone = go (controlled-leavings_kept v.planned (rank_in v) (kept_at v) rs es end sound.schedule run punctual j inside)
+  where
+    go : KeepsLeaving v.planned (kept_at v) end j → since end j ≤ kept_at v (leaving v.planned j)
+    go (inl out) = out.by
+    go (inr (inside, soon)) = absurd (inside gone)
 
 -- and since just that moment, where all are exact
 pub verified_just_in_time : (v : VerifiedPlan) → IsVerified v → (j : ℕ) → j < jobs v.planned → IsGoneJustAt v.planned j (kept_at v (leaving v.planned j))
