@@ -5,7 +5,8 @@ use Rattle.std.proofs.lemmas.Bool.Decides.{eqb_tells}
 use Rattle.std.proofs.lemmas.Bool.{cases_lt, cases_order}
 use Rattle.shop_base.specs.declared.limits.TheConstants.{MAX_JOBS, MAX_MACHINES}
 use Rattle.shop_base.specs.declared.shop.Step.{Step}
-use Rattle.shop_base.specs.Shop.{route_at, step_at, AreSoundSteps}
+use Rattle.shop_base.specs.Shop.{route_at, step_at}
+use Rattle.shop_base.specs.ShopFault.{AreSoundSteps}
 use Rattle.shop_base.specs.Plan.{PlannedShop, job_at}
 use Rattle.shop_base.specs.ShapeFault.{IsGoodPlace}
 use Rattle.shop_base.specs.Marks.{AreMarks, AreVisited, AreVisits, IsVisitedBefore}

@@ -6,41 +6,43 @@ use Rattle.shop_base.specs.Move.{CanMove, KeepsPlan, after_move, order_for}
 use Rattle.shop_base.specs.declared.move_order.MoveOrder.{MoveOrder}
 use Rattle.shop_base.specs.Run.{Event, Reported, Moved, IsAtRest}
 
--- these jobs can move one after another, all at moment t, and each move keeps the plan
-abbrev pub AreMoves : PlannedShop → Cell → ℕ → List ℕ → Type 0
-AreMoves p c t [] = Unit {0}
-AreMoves p c t (j ∷ js) = CanMove p c j t × KeepsPlan p c j × AreMoves p (after_move p c j t) t js
-
--- the cell after these jobs' moves at moment t
-abbrev pub after_moves : PlannedShop → Cell → ℕ → List ℕ → Cell
-after_moves p c t [] = c
-after_moves p c t (j ∷ js) = after_moves p (after_move p c j t) t js
-
--- the orders of these jobs' moves at moment t
-abbrev pub orders_for : PlannedShop → Cell → ℕ → List ℕ → List MoveOrder
-orders_for p c t [] = []
-orders_for p c t (j ∷ js) = order_for p c j t ∷ orders_for p (after_move p c j t) t js
-
--- the cell after a report and these jobs' moves
-abbrev pub after_step : PlannedShop → Cell → Report → List ℕ → Cell
-after_step p c r js = after_moves p (after_report c r) r.at js
-
--- the orders of a step
-abbrev pub step_orders : PlannedShop → Cell → Report → List ℕ → List MoveOrder
-step_orders p c r js = orders_for p (after_report c r) r.at js
-
--- one step of the controlled run: a possible report, and then plan-keeping moves at its moment until the cell is at rest
-pub record IsStep (p : PlannedShop) (c : Cell) (r : Report) (js : List ℕ) : Type 0 where
-  pub can : CanReport p c r
-  pub moves : AreMoves p (after_report c r) r.at js
-  pub rest : IsAtRest p (after_step p c r js)
-
 -- the moves as events
 abbrev pub moved : List MoveOrder → List Event
 moved [] = []
 moved (o ∷ os) = Moved o ∷ moved os
 
--- from c, these reports lead to these events and this cell: a possible report makes a step, any other leaves the cell
+module _ (p : PlannedShop) where
+  -- these jobs can move one after another at moment t, and each move keeps the plan
+  abbrev pub AreMoves : Cell → ℕ → List ℕ → Type 0
+  AreMoves c t [] = Unit {0}
+  AreMoves c t (j ∷ js) = CanMove p c j t × KeepsPlan p c j × AreMoves (after_move p c j t) t js
+
+  -- the cell after their moves
+  abbrev pub after_moves : Cell → ℕ → List ℕ → Cell
+  after_moves c t [] = c
+  after_moves c t (j ∷ js) = after_moves (after_move p c j t) t js
+
+  -- the orders of these moves
+  abbrev pub orders_for : Cell → ℕ → List ℕ → List MoveOrder
+  orders_for c t [] = []
+  orders_for c t (j ∷ js) = order_for p c j t ∷ orders_for (after_move p c j t) t js
+
+module _ (p : PlannedShop) (c : Cell) (r : Report) (js : List ℕ) where
+  -- the cell after a report, and these jobs' moves at its moment
+  abbrev pub after_step : Cell
+  after_step = after_moves p (after_report c r) r.at js
+
+  -- the orders of that step
+  abbrev pub step_orders : List MoveOrder
+  step_orders = orders_for p (after_report c r) r.at js
+
+  -- a step of the controlled run: the report is possible, the moves keep the plan, and they end at rest
+  pub record IsStep : Type 0 where
+    pub can : CanReport p c r
+    pub moves : AreMoves p (after_report c r) r.at js
+    pub rest : IsAtRest p after_step
+
+-- from a cell, reports lead to events and another cell: a possible report makes a step, any other changes nothing
 pub data Leads (p : PlannedShop) : Cell → List Report → List Event → Cell → Type 0 where
   done : (c : Cell) → Leads p c [] [] c
   accepted : (c : Cell) (r : Report) (js : List ℕ) (rs : List Report) (es : List Event) (end : Cell)

@@ -10,31 +10,32 @@ abbrev pub sum_below : (ℕ → ℕ) → ℕ → ℕ
 sum_below f zero = 0
 sum_below f (suc n) = sum_below f n + f n
 
--- how many cleanings of machine m there will be: one after each visit, none where it has no cleaning time
+-- how often machine m will be cleaned: after each visit, where it has a cleaning time
 abbrev pub cleanings_of : PlannedShop → ℕ → ℕ
 cleanings_of p m = if nat_lt 0 (clean p m) then length (order p m) else 0
 
--- the stated number of reports: an arrival for each job, an end for each operation, and an end for each cleaning
+-- the stated number of reports: one for each job's arrival, for each operation, and for each cleaning
 abbrev pub stated_number : PlannedShop → ℕ
 stated_number p = jobs p + operations_of p.shop + sum_below (cleanings_of p) (machines p)
 
--- the run has ended: all jobs are gone, and nothing is going on
-pub record HasEnded (p : PlannedShop) (c : Cell) : Type 0 where
-  pub gone : (j : ℕ) → j < jobs p → IsGone p c j
-  pub idle : IsIdle p c
+module _ (p : PlannedShop) (c : Cell) where
+  -- the run has ended: all jobs are gone, and nothing goes on
+  pub record HasEnded : Type 0 where
+    pub gone : (j : ℕ) → j < jobs p → IsGone p c j
+    pub idle : IsIdle p c
 
--- job j is gone since a moment at most t
-pub record IsGoneBy (p : PlannedShop) (c : Cell) (j t : ℕ) : Type 0 where
-  pub gone : IsGone p c j
-  pub by : since c j ≤ t
+  -- job j is gone since a moment at most t
+  pub record IsGoneBy (j t : ℕ) : Type 0 where
+    pub gone : IsGone p c j
+    pub by : since c j ≤ t
 
--- job j is out by its budget
-abbrev pub IsOutByBudget : PlannedShop → Cell → ℕ → Type 0
-IsOutByBudget p c j = IsGoneBy p c j (budget p j)
+  -- it is out by its budget
+  abbrev pub IsOutByBudget : ℕ → Type 0
+  IsOutByBudget j = IsGoneBy j (budget p j)
 
--- job j is out by its budget, or its budget isn't past yet
-abbrev pub IsInTime : PlannedShop → Cell → ℕ → Type 0
-IsInTime p c j = IsOutByBudget p c j ⊎ (c.last ≤ budget p j)
+  -- it is in time: out by its budget, or its budget isn't past yet
+  abbrev pub IsInTime : ℕ → Type 0
+  IsInTime j = IsOutByBudget j ⊎ (c.last ≤ budget p j)
 
 -- how many reports are among the events
 abbrev pub reports_in : List Event → ℕ
@@ -42,7 +43,7 @@ reports_in [] = 0
 reports_in (Reported r ∷ es) = reports_in es + 1
 reports_in (Moved o ∷ es) = reports_in es
 
--- how many moves are among the events
+-- how many moves
 abbrev pub moves_in : List Event → ℕ
 moves_in [] = 0
 moves_in (Reported r ∷ es) = moves_in es

@@ -11,40 +11,41 @@ pub data Event : Type 0 where
   Reported : (report : Report) → Event
   Moved : (move_order : MoveOrder) → Event
 
--- the event is a possible report, or a possible move that keeps the plan
-abbrev pub CanHappen : PlannedShop → Cell → Event → Type 0
-CanHappen p c (Reported r) = CanReport p c r
-CanHappen p c (Moved o) = CanObey p c o × KeepsPlan p c o.job
+module _ (p : PlannedShop) where
+  -- the event is a possible report, or a possible move that keeps the plan
+  abbrev pub CanHappen : Cell → Event → Type 0
+  CanHappen c (Reported r) = CanReport p c r
+  CanHappen c (Moved o) = CanObey p c o × KeepsPlan p c o.job
 
--- the cell after an event
-abbrev pub after : PlannedShop → Cell → Event → Cell
-after p c (Reported r) = after_report c r
-after p c (Moved o) = after_move p c o.job o.at
+  -- the cell after an event
+  abbrev pub after : Cell → Event → Cell
+  after c (Reported r) = after_report c r
+  after c (Moved o) = after_move p c o.job o.at
 
--- each event is possible in the cell that the events before it leave
-abbrev pub AreEvents : PlannedShop → Cell → List Event → Type 0
-AreEvents p c [] = Unit {0}
-AreEvents p c (e ∷ es) = CanHappen p c e × AreEvents p (after p c e) es
+  -- each event can happen in the cell that those before it leave
+  abbrev pub AreEvents : Cell → List Event → Type 0
+  AreEvents c [] = Unit {0}
+  AreEvents c (e ∷ es) = CanHappen c e × AreEvents (after c e) es
 
--- the cell after all these events
-abbrev pub after_all : PlannedShop → Cell → List Event → Cell
-after_all p c [] = c
-after_all p c (e ∷ es) = after_all p (after p c e) es
+  -- the cell after all these events
+  abbrev pub after_all : Cell → List Event → Cell
+  after_all c [] = c
+  after_all c (e ∷ es) = after_all (after c e) es
 
--- a run of a plan: possible reports and possible, plan-keeping moves, from the start
-abbrev pub IsRun : PlannedShop → List Event → Type 0
-IsRun p es = AreEvents p (start p) es
+  -- a run: events from the start
+  abbrev pub IsRun : List Event → Type 0
+  IsRun es = AreEvents (start p) es
 
--- the cell at the end of a run
-abbrev pub ends_in : PlannedShop → List Event → Cell
-ends_in p es = after_all p (start p) es
+  -- the cell at its end
+  abbrev pub ends_in : List Event → Cell
+  ends_in es = after_all (start p) es
 
--- no possible move keeps the plan
-abbrev pub IsAtRest : PlannedShop → Cell → Type 0
-IsAtRest p c = (j t : ℕ) → CanMove p c j t → KeepsPlan p c j → ⊥
+  -- at rest: no possible move keeps the plan
+  abbrev pub IsAtRest : Cell → Type 0
+  IsAtRest c = (j t : ℕ) → CanMove p c j t → KeepsPlan p c j → ⊥
 
--- at rest, with nothing going on, and some job not gone
-pub record IsStuck (p : PlannedShop) (c : Cell) : Type 0 where
-  pub at_rest : IsAtRest p c
-  pub idle : IsIdle p c
-  pub unfinished : (j : ℕ) × (j < jobs p) × (IsGone p c j → ⊥)
+  -- stuck: at rest, nothing goes on, and some job isn't gone
+  pub record IsStuck (c : Cell) : Type 0 where
+    pub at_rest : IsAtRest c
+    pub idle : IsIdle p c
+    pub unfinished : (j : ℕ) × (j < jobs p) × (IsGone p c j → ⊥)

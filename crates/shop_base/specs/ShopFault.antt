@@ -3,7 +3,15 @@ use Rattle.shop_base.specs.declared.shop.Step.{Step}
 use Rattle.shop_base.specs.declared.shop_fault.ShopFault.{ShopFault}
 use Rattle.shop_base.specs.declared.shop_fault.ShopFault.TheVariants.{NoJobs, TooManyJobs, NoMachines, TooManyMachines, EmptyRoute, MachineOutOfRange, MachineTwice, NominalTooLarge}
 use Rattle.shop_base.specs.declared.limits.TheConstants.{MAX_JOBS, MAX_MACHINES, MAX_NOMINAL}
-use Rattle.shop_base.specs.Shop.{AreCounts, AreRoutes, AreSoundSteps, IsFirstVisit, route_at, step_at}
+use Rattle.shop_base.specs.Shop.{AreCounts, IsRoute, IsSoundStep, IsFirstVisit, route_at, step_at}
+
+-- the first n steps of a route are sound
+abbrev pub AreSoundSteps : ℕ → List Step → ℕ → Type 0
+AreSoundSteps machines route n = (k : ℕ) → k < n → IsSoundStep machines route k
+
+-- the first n jobs have sound routes
+abbrev pub AreRoutes : ℕ → List (List Step) → ℕ → Type 0
+AreRoutes machines routes n = (job : ℕ) → job < n → IsRoute machines (route_at routes job)
 
 -- the counts and all jobs before this one are sound
 pub record IsReached (machines : ℕ) (routes : List (List Step)) (job : ℕ) : Type 0 where

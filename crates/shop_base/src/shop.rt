@@ -1,6 +1,6 @@
 ghost use Rattle.std.specs.Prelude.{◌≡◌, ◌^◌, ◌<◌, ◌≤◌, MatchOption, sum_by, IfOk, IfErr, OnOk, length, slice_get, Some};
-ghost use Rattle.shop_base.specs.Shop.{IsShop, IsRoute, AreCounts, AreRoutes, IsSoundStep, lists_of, operations_of, work_of, route_work, route_at};
-ghost use Rattle.shop_base.specs.ShopFault.{IsFirstFault, IsReached, IsStepReached};
+ghost use Rattle.shop_base.specs.Shop.{IsShop, IsRoute, AreCounts, IsSoundStep, lists_of, operations_of, work_of, route_work, route_at};
+ghost use Rattle.shop_base.specs.ShopFault.{AreRoutes, IsFirstFault, IsReached, IsStepReached};
 ghost use Rattle.shop_base.specs.Marks.{AreMarks, IsVisitedBefore};
 
 use crate::limits::{MAX_JOBS, MAX_MACHINES, MAX_NOMINAL};

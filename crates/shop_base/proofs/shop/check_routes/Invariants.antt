@@ -1,4 +1,5 @@
-use Rattle.shop_base.specs.Shop.{AreRoutes, lists_of}
+use Rattle.shop_base.specs.Shop.{lists_of}
+use Rattle.shop_base.specs.ShopFault.{AreRoutes}
 use Rattle.shop_base.proofs.shop.check_routes.Given as goal
 
 -- the routes checked so far are sound
