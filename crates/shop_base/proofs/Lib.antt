@@ -2,6 +2,7 @@ pub mod Bounds
 pub mod Rows
 pub mod Marking
 pub mod Orders
+pub mod Refusals
 pub mod Cleanings
 pub mod Sizes
 pub mod Visits

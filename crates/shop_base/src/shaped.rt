@@ -1,4 +1,4 @@
-ghost use Rattle.std.specs.Prelude.{◌≡◌, ◌<◌, IfOk, OnOk, IfErr};
+ghost use Rattle.std.specs.Prelude.{◌≡◌, ◌↔◌, ◌<◌, IsOk, IfOk, OnOk, IfErr};
 ghost use Rattle.shop_base.specs.Plan.{PlannedShop, IsWellShaped, machines};
 ghost use Rattle.shop_base.specs.Ends.{stated_number, cleanings_of, sum_below};
 ghost use Rattle.shop_base.specs.ShapeFault.{IsFirstShapeFault};
@@ -39,6 +39,7 @@ pub struct NotShaped {
 pub fn shape(shop: Shop, plan: Plan) -> Result<Shaped, NotShaped>
     ensures shaped { IfOk result (λ shaped. shaped ≡ record { shop = shop; plan = plan }) }
     ensures well_shaped { OnOk result (IsWellShaped (record { shop = shop; plan = plan })) }
+    ensures exact { IsOk result ↔ IsWellShaped (record { shop = shop; plan = plan }) }
     ensures first_fault { IfErr result (λ refused. IsFirstShapeFault (record { shop = shop; plan = plan }) refused.fault) }
     ensures same_shop { IfErr result (λ refused. refused.shop ≡ shop) }
     ensures same_plan { IfErr result (λ refused. refused.plan ≡ plan) }

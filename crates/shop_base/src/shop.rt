@@ -1,4 +1,4 @@
-ghost use Rattle.std.specs.Prelude.{◌≡◌, ◌^◌, ◌<◌, ◌≤◌, MatchOption, sum_by, IfOk, IfErr, OnOk, length, slice_get, Some};
+ghost use Rattle.std.specs.Prelude.{◌≡◌, ◌↔◌, ◌^◌, ◌<◌, ◌≤◌, MatchOption, sum_by, IfOk, IfErr, IsOk, OnOk, length, slice_get, Some};
 ghost use Rattle.shop_base.specs.Shop.{IsShop, IsRoute, AreCounts, IsSoundStep, lists_of, operations_of, work_of, route_work, route_at};
 ghost use Rattle.shop_base.specs.ShopFault.{AreRoutes, IsFirstFault, IsReached, IsStepReached};
 ghost use Rattle.shop_base.specs.Marks.{AreMarks, IsVisitedBefore};
@@ -46,6 +46,7 @@ impl Shop {
     pub fn new(machines: u32, routes: Vec<Vec<Step>>) -> Result<Shop, ShopFault>
         ensures shop { IfOk result (λ shop. shop ≡ record { machines = machines; routes = lists_of routes.items }) }
         ensures sound { OnOk result (IsShop (record { machines = machines; routes = lists_of routes.items })) }
+        ensures exact { IsOk result ↔ IsShop (record { machines = machines; routes = lists_of routes.items }) }
         ensures first_fault { IfErr result (IsFirstFault machines (lists_of routes.items)) }
     {
         check_counts(machines, &routes)?;

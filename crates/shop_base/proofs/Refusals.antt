@@ -1,0 +1,61 @@
+-- What has a fault isn't sound: so what is refused is just what isn't.
+use Rattle.std.proofs.Common.{◌≡◌, ◌↔◌, ℕ, ◌<◌, List, length, true, false, arith}
+use Rattle.shop_base.specs.declared.shop.Step.{Step}
+use Rattle.shop_base.specs.declared.shop_fault.ShopFault.{ShopFault}
+use Rattle.shop_base.specs.declared.shop_fault.ShopFault.TheVariants.{NoJobs, TooManyJobs, NoMachines, TooManyMachines, EmptyRoute, MachineOutOfRange, MachineTwice, NominalTooLarge}
+use Rattle.shop_base.specs.declared.shape_fault.ShapeFault.{ShapeFault}
+use Rattle.shop_base.specs.declared.shape_fault.ShapeFault.TheVariants.{ReleaseCount, BudgetCount, OrderCount, CleanCount, ReleaseTooLarge, BudgetTooLarge, CleanTooLarge, JobOutOfRange, NotOnRoute, JobTwice, JobMissing}
+use Rattle.shop_base.specs.Shop.{IsShop, IsRoute, IsSoundStep, route_at}
+use Rattle.shop_base.specs.ShopFault.{IsFirstFault, IsReached, IsStepReached}
+use Rattle.shop_base.specs.Plan.{PlannedShop, jobs, machines, job_at, IsOrder, IsWellShaped}
+use Rattle.shop_base.specs.ShapeFault.{IsFirstShapeFault, IsMachineReached}
+use Rattle.shop_base.proofs.Visits.{visits_job}
+
+-- a shop with a fault isn't sound
+pub fault_refutes : (count : ℕ) (routes : List (List Step)) (fault : ShopFault) → IsFirstFault count routes fault → IsShop (record { machines = count; routes = routes }) → ⊥
+fault_refutes count routes fault is shop = go fault is
+  where
+    step_of : (job step : ℕ) → IsStepReached count routes job step → IsSoundStep count (route_at routes job) step
+    step_of job step reached = (shop.routes job reached.reached.in_range).steps step reached.in_range
+
+    go : (fault : ShopFault) → IsFirstFault count routes fault → ⊥
+    go NoJobs none = omega (arith, shop.counts.some_job)
+    go TooManyJobs many = omega (arith, shop.counts.few_jobs)
+    go NoMachines none = omega (arith, shop.counts.some_machine, none.2)
+    go TooManyMachines many = omega (arith, shop.counts.few_machines, many.2)
+    go (EmptyRoute job) (reached, empty) = omega (arith, (shop.routes job reached.in_range).visits_some)
+    go (MachineOutOfRange job step) (reached, past) = omega (arith, (step_of job step reached).in_range)
+    go (MachineTwice job step) (reached, inside, (i, earlier, same)) = (step_of job step reached).first_visit i earlier same
+    go (NominalTooLarge job step) (reached, inside, first, large) = omega (arith, (step_of job step reached).nominal)
+
+-- a plan with a fault isn't well shaped
+pub shape_fault_refutes : (p : PlannedShop) (fault : ShapeFault) → IsFirstShapeFault p fault → IsWellShaped p → ⊥
+shape_fault_refutes p fault is shaped = go fault is
+  where
+    order_of : (m : ℕ) → IsMachineReached p m → IsOrder p m
+    order_of m reached = shaped.orders m reached.in_range
+
+    go : (fault : ShapeFault) → IsFirstShapeFault p fault → ⊥
+    go ReleaseCount other = other shaped.counts.releases
+    go BudgetCount (releases, other) = other shaped.counts.budgets
+    go OrderCount (releases, budgets, other) = other shaped.counts.orders
+    go CleanCount (releases, budgets, orders, other) = other shaped.counts.cleanings
+    go (ReleaseTooLarge job) (counts, inside, before, large) = omega (arith, shaped.limits.releases job inside)
+    go (BudgetTooLarge job) (counts, releases, inside, before, large) = omega (arith, shaped.limits.budgets job inside)
+    go (CleanTooLarge machine) (counts, releases, budgets, inside, before, large) = omega (arith, shaped.limits.cleanings machine inside)
+    go (JobOutOfRange machine place) (reached, past) =
+        let (k, visits) = (order_of machine reached.reached).on_route place reached.in_range in
+        omega (arith, visits_job p (job_at p machine place) k machine visits)
+    go (NotOnRoute machine place) (reached, inside, elsewhere) = elsewhere ((order_of machine reached.reached).on_route place reached.in_range)
+    go (JobTwice machine place) (reached, visitor, earlier, lower, same) =
+        omega (arith, (order_of machine reached.reached).once earlier place (omega (arith, reached.in_range)) reached.in_range same)
+    go (JobMissing machine job) (reached, (k, visits), unlisted) =
+        let (a, stands) = (order_of machine reached.reached).complete job k visits in
+        unlisted (a, stands.within, stands.job)
+
+-- where something isn't so, a refusal says just that
+pub refused_just : {S : Type 0} → (S → ⊥) → false ≡ true ↔ S
+refused_just none = ((λ bad. absurd (differ bad)), (λ is. absurd (none is)))
+  where
+    differ : false ≡ true → ⊥
+    differ bad = cc
