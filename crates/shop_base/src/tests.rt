@@ -92,12 +92,8 @@ fn refuses_what_is_no_shop(rt: HostRuntime) -> Result<(), Fail> {
         assert_eq!(rt; answer.as_str(), text);
     }
     let crowd: [&[(MachineNo, Moment)]; 201] = [&[(0, 1)]; 201];
-    assert!(rt;
-        matches!(
-            Shop::new(1, routes(rt.alloc(), &crowd)?),
-            Err(ShopFault::TooManyJobs)
-        )
-    );
+    let answer = shop_answer(rt.alloc(), 1, &crowd)?;
+    assert_eq!(rt; answer.as_str(), "TooManyJobs");
     assert!(rt; Shop::new(100, routes(rt.alloc(), &crowd[..200])?).is_ok());
     Ok(())
 }
@@ -179,11 +175,12 @@ fn refuses_plans_with_other_counts_or_past_the_limits(rt: HostRuntime) -> Result
 
 #[test]
 fn refuses_plans_with_other_orders(rt: HostRuntime) -> Result<(), Fail> {
-    let orders: [(&[&[JobNo]], &str); 6] = [
+    let orders: [(&[&[JobNo]], &str); 7] = [
         (&[&[0, 2], &[0, 1]], "JobOutOfRange machine 0 place 1"),
         (&[&[0, 0], &[0, 1]], "JobTwice machine 0 place 1"),
         (&[&[0, 1], &[0]], "JobMissing machine 1 job 1"),
-        (&[&[], &[0, 0]], "JobMissing machine 0 job 0"),
+        (&[&[0, 1], &[1]], "JobMissing machine 1 job 0"),
+        (&[&[0], &[0, 0]], "JobMissing machine 0 job 1"),
         (&[&[1, 1, 2], &[0, 1]], "JobTwice machine 0 place 1"),
         (&[&[0, 1], &[0, 1]], ""),
     ];
