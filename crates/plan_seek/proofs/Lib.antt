@@ -1,0 +1,5 @@
+pub mod Rows
+pub mod SerialPlan
+pub mod SeriallyLate
+pub mod Faults
+pub mod Asking

@@ -1,0 +1,38 @@
+use Rattle.std.specs.Prelude.{ℕ, ◌-◌, ◌%◌, ◌==◌, List, ◌++◌, Bool, map, filter, length, Option, None, Some, Vec}
+use Rattle.std.specs.List.{list_any, range_with_len}
+use Rattle.std.specs.declared.alloc.Global.{Global}
+use Rattle.shop_base.specs.declared.shop.Step.{Step}
+use Rattle.shop_base.specs.Shop.{JobShop, lists_of, route_at}
+
+-- what a proposer answers: an order for each machine, or nothing
+abbrev pub Answer : Type 0
+Answer = Option (List (List ℕ))
+
+-- the lists of an answer
+abbrev pub answer_of : Option (Vec (Vec ℕ Global) Global) → Answer
+answer_of None = None
+answer_of (Some orders) = Some (lists_of orders.items)
+
+-- the route comes to machine m
+abbrev pub is_on_route : List Step → ℕ → Bool
+is_on_route route m = list_any (λ step. step.machine == m) route
+
+-- those of the jobs whose routes come to machine m, in the same order
+abbrev pub visitors : JobShop → List ℕ → ℕ → List ℕ
+visitors shop row m = filter (λ j. is_on_route (route_at shop.routes j) m) row
+
+-- the orders in which the jobs enter the machines if they stand in this row at each of them
+abbrev pub orders_along : JobShop → List ℕ → List (List ℕ)
+orders_along shop row = map (visitors shop row) (range_with_len 0 shop.machines)
+
+-- n jobs in a row: from this one on ascending, and then from job 0 on
+abbrev pub jobs_from : ℕ → ℕ → List ℕ
+jobs_from n first = range_with_len first (n - first) ++ range_with_len 0 first
+
+-- the orders of the serial plan: each machine has the jobs whose routes come to it in ascending order
+abbrev pub serial_order : JobShop → List (List ℕ)
+serial_order shop = orders_along shop (range_with_len 0 (length shop.routes))
+
+-- the orders of the shifted plan of a round r: as the serial plan's, but from job r on, counted round
+abbrev pub shifted_order : JobShop → ℕ → List (List ℕ)
+shifted_order shop r = orders_along shop (jobs_from (length shop.routes) (r % length shop.routes))

@@ -1,0 +1,58 @@
+use Rattle.std.specs.Prelude.{◌≡◌, ℕ, ◌<◌, List, Option, None, Some, ◌⊎◌, length, slice_index_or}
+use Rattle.plan_seek.specs.Orders.{Answer}
+use Rattle.plan_seek.specs.Tasks.{PlanTask, with_order, IsAccepted}
+
+-- a round, and the place of a proposer in their list
+pub record Turn : Type 0 where
+  pub round : ℕ
+  pub proposer : ℕ
+
+-- a turn of so many rounds and proposers
+pub record IsTurn (rounds proposers : ℕ) (turn : Turn) : Type 0 where
+  pub within_rounds : turn.round < rounds
+  pub within_list : turn.proposer < proposers
+
+-- turns come round by round, and in each round in the order of the list
+abbrev pub IsBefore : Turn → Turn → Type 0
+IsBefore one other = (one.round < other.round) ⊎ ((one.round ≡ other.round) × (one.proposer < other.proposer))
+
+-- the turn of a proposer in a round
+abbrev pub turn_of : ℕ → ℕ → Turn
+turn_of round proposer = record { round = round; proposer = proposer }
+
+-- what may be answered at each turn
+abbrev pub Answers : Type 1
+Answers = Turn → Answer → Type 0
+
+-- the proposer whose turn it is may give the answer in that round
+pub record MayAnswer {B : Type 0} (may : B → ℕ → Answer → Type 0) (proposers : List B) (turn : Turn) (answer : Answer) : Type 0 where
+  pub who : B
+  pub within : turn.proposer < length proposers
+  pub stands : slice_index_or proposers turn.proposer who ≡ who
+  pub given : may who turn.round answer
+
+-- the answer isn't accepted: there is none, or the plan with these orders isn't accepted
+abbrev pub IsInVain : PlanTask → Answer → Type 0
+IsInVain t None = Unit {0}
+IsInVain t (Some order) = IsAccepted (with_order t order) → ⊥
+
+-- an answer that may be given and isn't accepted
+pub record MayFail (t : PlanTask) (may : Answer → Type 0) : Type 0 where
+  pub answer : Answer
+  pub given : may answer
+  pub in_vain : IsInVain t answer
+
+-- these orders may be answered at some turn, and at each turn before it an answer may be given that isn't accepted
+pub record IsFirstFound (t : PlanTask) (may : Answers) (rounds proposers : ℕ) (order : List (List ℕ)) : Type 0 where
+  pub turn : Turn
+  pub inside : IsTurn rounds proposers turn
+  pub given : may turn (Some order)
+  pub before : (earlier : Turn) → IsTurn rounds proposers earlier → IsBefore earlier turn → MayFail t (may earlier)
+
+-- at each turn an answer may be given that isn't accepted
+abbrev pub EachMayFail : PlanTask → Answers → ℕ → ℕ → Type 0
+EachMayFail t may rounds proposers = (turn : Turn) → IsTurn rounds proposers turn → MayFail t (may turn)
+
+-- within one round: at each turn before this many proposers an answer may be given that isn't accepted
+abbrev pub EachInRound : PlanTask → Answers → ℕ → ℕ → Type 0
+EachInRound t may round n = (k : ℕ) → k < n → MayFail t (may (turn_of round k))

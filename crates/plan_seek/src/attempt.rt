@@ -1,0 +1,48 @@
+//! One answer put to the test.
+
+ghost use Rattle.std.specs.Prelude.{◌≡◌, Some};
+ghost use Rattle.shop_base.specs.Shop.{lists_of};
+ghost use Rattle.plan_verifier.specs.Accepted.{IsAcceptable};
+ghost use Rattle.plan_seek.specs.Orders.{Answer};
+ghost use Rattle.plan_seek.specs.Tasks.{PlanTask, with_order, IsAccepted};
+ghost use Rattle.plan_seek.specs.Turns.{IsInVain};
+ghost use Rattle.plan_seek.specs.Outcomes.{IsOutcome};
+
+use crate::task::Task;
+use plan_verifier::{Verdict, Verified, verify};
+use shop_base::{JobNo, Shaped, shape};
+use std::alloc::Global;
+
+/// What came of an answer, or of several.
+#[derive(Debug, Drop)]
+pub(crate) enum Attempt {
+    /// The plan is accepted.
+    Accepted(Verified),
+    /// There is no plan, or it isn't accepted.
+    InVain(Task),
+    /// Memory was wanting.
+    WantsMemory(Task),
+}
+
+/// Shapes and verifies the plan with these orders.
+pub(crate) fn try_orders(alloc: Global, task: Task, order: Vec<Vec<JobNo>>) -> Attempt
+    ensures { IsOutcome task (λ found. found ≡ lists_of order.items) (IsInVain task (Some (lists_of order.items))) result }
+{
+    let (shop, plan) = task.with_order(order);
+    match shape(shop, plan) {
+        Ok(shaped) => try_shaped(alloc, shaped),
+        Err(refused) => Attempt::InVain(Task::of(refused.shop, refused.plan)),
+    }
+}
+
+/// Verifies a plan.
+fn try_shaped(alloc: Global, shaped: Shaped) -> Attempt
+    ensures { (task : PlanTask) → shaped ≡ with_order task shaped.plan.order →
+        IsOutcome task (λ found. found ≡ shaped.plan.order) (IsAcceptable shaped → ⊥) result }
+{
+    match verify(alloc, shaped) {
+        Ok(Verdict::Accepted(verified)) => Attempt::Accepted(verified),
+        Ok(Verdict::Refused(shaped, _)) => Attempt::InVain(Task::of_shaped(shaped)),
+        Err((_, shaped)) => Attempt::WantsMemory(Task::of_shaped(shaped)),
+    }
+}

@@ -1,0 +1,151 @@
+use crate::proposer::Proposer;
+use crate::simulated_cell::SimulatedCell;
+use crate::way_out::{Passage, place_in, way_out};
+use shop_base::{JobNo, Moment, Shop};
+use std::alloc::{AllocError, Global};
+
+/// How many choices the planner makes before it gives up.
+const MAX_CHOICES: u32 = 100_000;
+
+/// A planner that simulates the cell at nominal times, as if all releases were 0 and no machine had to be
+/// cleaned. At each choice the least job that can move does so, and where none can, it waits for the next
+/// operation to end. A move after which it finds no way out for all jobs in the cell is taken back. In round
+/// `r` the choice begins at job `r`, counted round, and in the odd rounds no more jobs are let in once more
+/// than half of the machines hold one. It gives up after 100,000 choices, those of looking ahead included.
+#[derive(Clone, Copy, Debug, Default)]
+pub struct GreedyProposer;
+
+impl GreedyProposer {
+    pub fn new() -> GreedyProposer {
+        GreedyProposer
+    }
+}
+
+impl Proposer for GreedyProposer {
+    ghost may = { λ proposer shop round answer. Unit {0} };
+
+    fn propose(
+        &self,
+        alloc: Global,
+        shop: &Shop,
+        round: u32,
+    ) -> Result<Option<Vec<Vec<JobNo>>>, AllocError> {
+        simulate(alloc, shop, round)
+    }
+}
+
+/// The state of the simulation.
+#[derive(Debug, Drop)]
+struct Simulation {
+    cell: SimulatedCell,
+    /// The jobs that have entered each machine, in order.
+    orders: Vec<Vec<JobNo>>,
+    /// Moves by which all jobs that are in the cell can leave it, one after the other.
+    way: Vec<Passage>,
+    now: Moment,
+    /// How many choices are left.
+    choices: u32,
+}
+
+/// The orders in which the jobs enter the machines in the simulated cell.
+fn simulate(alloc: Global, shop: &Shop, round: u32) -> Result<Option<Vec<Vec<JobNo>>>, AllocError> {
+    let mut simulation = start(alloc, shop)?;
+    for _ in 0..MAX_CHOICES {
+        if simulation.cell.is_done() {
+            let Simulation { orders, .. } = simulation;
+            return Ok(Some(orders));
+        }
+        match next_mover(alloc, shop, round, &mut simulation)? {
+            Some(job) => make_move(shop, job, &mut simulation)?,
+            None => match simulation.cell.next_end(simulation.now) {
+                Some(moment) => simulation.now = moment,
+                None => return Ok(None),
+            },
+        }
+    }
+    Ok(None)
+}
+
+fn start(alloc: Global, shop: &Shop) -> Result<Simulation, AllocError> {
+    let mut orders = Vec::new(alloc);
+    for _ in 0..shop.machines() {
+        orders.push(Vec::new(alloc))?;
+    }
+    Ok(Simulation {
+        cell: SimulatedCell::new(alloc, shop)?,
+        orders,
+        way: Vec::new(alloc),
+        now: 0,
+        choices: MAX_CHOICES,
+    })
+}
+
+/// The first job, counted round from the round's number on, that can move so that a way out is known
+/// afterwards.
+fn next_mover(
+    alloc: Global,
+    shop: &Shop,
+    round: u32,
+    simulation: &mut Simulation,
+) -> Result<Option<JobNo>, AllocError> {
+    let jobs = shop.jobs();
+    let first = round % jobs;
+    for turn in 0..jobs {
+        let job = (first + turn) % jobs;
+        if is_admitted(shop, round, job, simulation) && keeps_way(alloc, shop, job, simulation)? {
+            return Ok(Some(job));
+        }
+    }
+    Ok(None)
+}
+
+/// Whether the job can move now, and isn't kept outside in this round.
+fn is_admitted(shop: &Shop, round: u32, job: JobNo, simulation: &Simulation) -> bool {
+    let cell = &simulation.cell;
+    if !cell.is_ready(job, simulation.now) || !cell.can_move(shop, job) {
+        return false;
+    }
+    let many = round % 2 == 1 && cell.inside() > shop.machines() as usize / 2;
+    cell.is_inside(job) || !many
+}
+
+/// Whether a way out is known after the job's move. It is then the one that is kept.
+fn keeps_way(
+    alloc: Global,
+    shop: &Shop,
+    job: JobNo,
+    simulation: &mut Simulation,
+) -> Result<bool, AllocError> {
+    let target = simulation
+        .cell
+        .next_step(shop, job)
+        .map(|step| step.machine);
+    if let Some(place) = place_in(&simulation.way, job, target) {
+        let _ = simulation.way.remove(place);
+        return Ok(true);
+    }
+    if simulation.choices == 0 || simulation.cell.closes_circle(shop, job) {
+        return Ok(false);
+    }
+    simulation.choices -= 1;
+    let mut ahead = simulation.cell.copy(alloc)?;
+    ahead.advance(shop, job, 0);
+    match way_out(alloc, shop, ahead, &mut simulation.choices)? {
+        Some(way) => {
+            simulation.way = way;
+            Ok(true)
+        }
+        None => Ok(false),
+    }
+}
+
+/// Makes the job's move.
+fn make_move(shop: &Shop, job: JobNo, simulation: &mut Simulation) -> Result<(), AllocError> {
+    if let Some(step) = simulation.cell.next_step(shop, job) {
+        if let Some(order) = simulation.orders.get_mut(step.machine as usize) {
+            order.push(job)?;
+        }
+    }
+    simulation.cell.advance(shop, job, simulation.now);
+    Ok(())
+}

@@ -1,0 +1,28 @@
+//! Untrusted planners, and the search for a plan that is accepted: what a planner answers is checked, so a
+//! planner can be wrong, and the plan that is found can't.
+#![tactic(auto)]
+
+mod attempt;
+mod greedy;
+mod not_found;
+mod numbers;
+mod orders;
+mod proposer;
+mod rounds;
+mod search;
+mod seek_fault;
+mod serial;
+mod shift;
+mod simulated_cell;
+mod task;
+mod way_out;
+
+pub use greedy::GreedyProposer;
+pub use not_found::NotFound;
+pub use proposer::Proposer;
+pub use search::{MAX_ROUNDS, seek};
+pub use seek_fault::SeekFault;
+pub use shift::ShiftProposer;
+
+#[cfg(test)]
+mod tests;

@@ -1,0 +1,70 @@
+//! The proposers asked in turn, round by round.
+
+ghost use Rattle.std.specs.Prelude.{length, Some, IfOk};
+ghost use Rattle.plan_seek.specs.Orders.{answer_of};
+ghost use Rattle.plan_seek.specs.Turns.{MayAnswer, MayFail, IsFirstFound, EachMayFail, EachInRound};
+ghost use Rattle.plan_seek.specs.Outcomes.{IsOutcome, IsFoundIn};
+
+use crate::attempt::{Attempt, try_orders};
+use crate::proposer::Proposer;
+use crate::task::Task;
+use shop_base::{JobNo, Shop};
+use std::alloc::{AllocError, Global};
+
+/// Asks in each round from 0 on, and gives the first plan that is accepted.
+pub(crate) fn try_rounds(
+    alloc: Global,
+    mut task: Task,
+    proposers: &[Box<dyn Proposer>],
+    rounds: u32,
+) -> Attempt
+    ensures { let may = MayAnswer (λ b. may b task.shop) proposers.now in
+        IsOutcome task (IsFirstFound task may rounds (length proposers.now)) (EachMayFail task may rounds (length proposers.now)) result }
+{
+    for round in 0..rounds {
+        match try_round(alloc, task, proposers, round) {
+            Attempt::Accepted(verified) => return Attempt::Accepted(verified),
+            Attempt::InVain(back) => task = back,
+            Attempt::WantsMemory(back) => return Attempt::WantsMemory(back),
+        }
+    }
+    Attempt::InVain(task)
+}
+
+/// Asks each proposer in order, and gives the first plan that is accepted.
+fn try_round(alloc: Global, mut task: Task, proposers: &[Box<dyn Proposer>], round: u32) -> Attempt
+    ensures { let may = MayAnswer (λ b. may b task.shop) proposers.now in
+        IsOutcome task (IsFoundIn task may round (length proposers.now)) (EachInRound task may round (length proposers.now)) result }
+{
+    for proposer in proposers {
+        match try_proposer(alloc, task, proposer, round) {
+            Attempt::Accepted(verified) => return Attempt::Accepted(verified),
+            Attempt::InVain(back) => task = back,
+            Attempt::WantsMemory(back) => return Attempt::WantsMemory(back),
+        }
+    }
+    Attempt::InVain(task)
+}
+
+/// Asks one proposer, and puts its answer to the test.
+fn try_proposer(alloc: Global, task: Task, proposer: &Box<dyn Proposer>, round: u32) -> Attempt
+    ensures { IsOutcome task (λ order. may proposer.now task.shop round (Some order)) (MayFail task (may proposer.now task.shop round)) result }
+{
+    match ask(alloc, proposer, &task.shop, round) {
+        Ok(Some(order)) => try_orders(alloc, task, order),
+        Ok(None) => Attempt::InVain(task),
+        Err(_) => Attempt::WantsMemory(task),
+    }
+}
+
+/// Asks one proposer.
+fn ask(
+    alloc: Global,
+    proposer: &Box<dyn Proposer>,
+    shop: &Shop,
+    round: u32,
+) -> Result<Option<Vec<Vec<JobNo>>>, AllocError>
+    ensures { IfOk result (λ answer. may proposer.now shop.now round (answer_of answer)) }
+{
+    proposer.propose(alloc, shop, round)
+}

@@ -1,0 +1,80 @@
+ghost use Rattle.std.specs.Prelude.{◌≡◌, ◌≤◌, length, IfOk, IfErr, OnOk};
+ghost use Rattle.plan_seek.specs.Tasks.{task_of, with_order, IsAccepted};
+ghost use Rattle.plan_seek.specs.Turns.{MayAnswer};
+ghost use Rattle.plan_seek.specs.Search.{IsSought, IsSeekFault, IsBegun};
+
+use crate::attempt::Attempt;
+use crate::not_found::NotFound;
+use crate::numbers::check_numbers;
+use crate::proposer::Proposer;
+use crate::rounds::try_rounds;
+use crate::seek_fault::SeekFault;
+use crate::serial::try_serial;
+use crate::task::Task;
+use plan_verifier::Verified;
+use shop_base::{Moment, Shop};
+use std::alloc::Global;
+
+/// The most rounds in which the proposers are asked.
+pub const MAX_ROUNDS: u32 = 1000;
+
+/// Looks for a plan with these numbers that is accepted. In each round from 0 on each proposer is asked in
+/// order, and the first answer that is accepted is given; last comes the serial plan, in which each machine
+/// takes its jobs in ascending order. A fault of the numbers, and then too many rounds, is answered before a
+/// proposer is asked and before memory is taken. Where there is no plan, everything is handed back.
+pub fn seek(
+    alloc: Global,
+    shop: Shop,
+    release: Vec<Moment>,
+    budget: Vec<Moment>,
+    clean: Option<Vec<Moment>>,
+    proposers: &[Box<dyn Proposer>],
+    rounds: u32,
+) -> Result<Verified, NotFound>
+    ensures same { IfOk result (λ verified. verified.planned ≡ with_order (task_of shop release budget clean) verified.planned.plan.order) }
+    ensures accepted { IfOk result (λ verified. IsAccepted verified.planned) }
+    ensures few_rounds { OnOk result (rounds ≤ 1000) }
+    ensures sought { IfOk result (λ verified.
+        IsSought (task_of shop release budget clean) (MayAnswer (λ b. may b shop) proposers.now) rounds (length proposers.now) verified.planned.plan.order) }
+    ensures refused { IfErr result (λ refused.
+        IsSeekFault (task_of shop release budget clean) (MayAnswer (λ b. may b shop) proposers.now) rounds (length proposers.now) refused.fault) }
+    ensures handed_back { IfErr result (λ refused.
+        task_of refused.shop refused.release refused.budget refused.clean ≡ task_of shop release budget clean) }
+{
+    let task = Task {
+        shop,
+        release,
+        budget,
+        clean,
+    };
+    if let Err(fault) = check_numbers(&task) {
+        return Err(task.not_found(SeekFault::BadNumbers(fault)));
+    }
+    if rounds > MAX_ROUNDS {
+        return Err(task.not_found(SeekFault::TooManyRounds));
+    }
+    search(alloc, task, proposers, rounds)
+}
+
+/// Asks the proposers, and then tries the serial plan.
+fn search(
+    alloc: Global,
+    task: Task,
+    proposers: &[Box<dyn Proposer>],
+    rounds: u32,
+) -> Result<Verified, NotFound>
+    requires { IsBegun task rounds }
+    ensures same { IfOk result (λ verified. verified.planned ≡ with_order task verified.planned.plan.order) }
+    ensures accepted { IfOk result (λ verified. IsAccepted verified.planned) }
+    ensures sought { IfOk result (λ verified.
+        IsSought task (MayAnswer (λ b. may b task.shop) proposers.now) rounds (length proposers.now) verified.planned.plan.order) }
+    ensures refused { IfErr result (λ refused.
+        IsSeekFault task (MayAnswer (λ b. may b task.shop) proposers.now) rounds (length proposers.now) refused.fault) }
+    ensures handed_back { IfErr result (λ refused. task_of refused.shop refused.release refused.budget refused.clean ≡ task) }
+{
+    match try_rounds(alloc, task, proposers, rounds) {
+        Attempt::Accepted(verified) => Ok(verified),
+        Attempt::InVain(task) => try_serial(alloc, task),
+        Attempt::WantsMemory(task) => Err(task.not_found(SeekFault::Memory)),
+    }
+}

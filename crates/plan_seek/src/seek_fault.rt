@@ -1,0 +1,20 @@
+use shop_base::ShapeFault;
+use thiserror::Error;
+
+/// Why no plan was found: the first reason, the numbers before the rounds and both before the search.
+#[derive(Clone, Copy, Debug, PartialEq, Eq, Error)]
+pub enum SeekFault {
+    /// A release, a budget or a cleaning time is missing, too many or over its limit: the first reason of
+    /// these that `shape` has.
+    #[error("BadNumbers {0}")]
+    BadNumbers(ShapeFault),
+    /// No answer of a proposer was accepted, and the serial plan is late.
+    #[error("Exhausted")]
+    Exhausted,
+    /// There are more than 1000 rounds.
+    #[error("TooManyRounds")]
+    TooManyRounds,
+    /// Memory was wanting, here or to a proposer.
+    #[error("Memory")]
+    Memory,
+}

@@ -1,0 +1,64 @@
+//! The serial plan, which comes last: it has no cycle, so it is accepted unless it is late.
+
+ghost use Rattle.std.specs.Prelude.{◌≡◌, IfOk};
+ghost use Rattle.shop_base.specs.Shop.{lists_of};
+ghost use Rattle.shop_base.specs.Plan.{IsWellShaped};
+ghost use Rattle.plan_seek.specs.Orders.{serial_order};
+ghost use Rattle.plan_seek.specs.Tasks.{PlanTask, serial_plan};
+ghost use Rattle.plan_seek.specs.Search.{AreSound};
+ghost use Rattle.plan_seek.specs.Outcomes.{IsSerialOutcome};
+
+use crate::not_found::NotFound;
+use crate::orders::orders_from;
+use crate::seek_fault::SeekFault;
+use crate::task::Task;
+use plan_verifier::{Verdict, Verified, verify};
+use shop_base::{JobNo, Shaped, Shop, shape};
+use std::alloc::{AllocError, Global};
+
+/// The serial plan, where it isn't late.
+pub(crate) fn try_serial(alloc: Global, task: Task) -> Result<Verified, NotFound>
+    requires { AreSound task }
+    ensures { IsSerialOutcome task result }
+{
+    match serial_orders(alloc, &task.shop) {
+        Ok(order) => shape_serial(alloc, task, order),
+        Err(_) => Err(task.not_found(SeekFault::Memory)),
+    }
+}
+
+/// The orders of the serial plan.
+fn serial_orders(alloc: Global, shop: &Shop) -> Result<Vec<Vec<JobNo>>, AllocError>
+    ensures { IfOk result (λ orders. lists_of orders.items ≡ serial_order shop.now) }
+{
+    // Called for its clause alone: there is a job.
+    let _jobs = shop.jobs();
+    orders_from(alloc, shop, 0)
+}
+
+/// Shapes and verifies the serial plan.
+fn shape_serial(alloc: Global, task: Task, order: Vec<Vec<JobNo>>) -> Result<Verified, NotFound>
+    requires sound { AreSound task }
+    requires serial { lists_of order.items ≡ serial_order task.shop }
+    ensures { IsSerialOutcome task result }
+{
+    let (shop, plan) = task.with_order(order);
+    match shape(shop, plan) {
+        Ok(shaped) => verify_serial(alloc, shaped),
+        Err(_) => unreachable!(),
+    }
+}
+
+/// Verifies the serial plan.
+fn verify_serial(alloc: Global, shaped: Shaped) -> Result<Verified, NotFound>
+    requires { IsWellShaped shaped }
+    ensures { (task : PlanTask) → shaped ≡ serial_plan task → IsSerialOutcome task result }
+{
+    match verify(alloc, shaped) {
+        Ok(Verdict::Accepted(verified)) => Ok(verified),
+        Ok(Verdict::Refused(shaped, _)) => {
+            Err(Task::of_shaped(shaped).not_found(SeekFault::Exhausted))
+        }
+        Err((_, shaped)) => Err(Task::of_shaped(shaped).not_found(SeekFault::Memory)),
+    }
+}

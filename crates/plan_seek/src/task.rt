@@ -1,0 +1,94 @@
+ghost use Rattle.std.specs.Prelude.{◌≡◌};
+ghost use Rattle.shop_base.specs.Shop.{lists_of};
+ghost use Rattle.plan_seek.specs.Tasks.{with_order, task_of};
+
+use crate::not_found::NotFound;
+use crate::seek_fault::SeekFault;
+use shop_base::{JobNo, Moment, Plan, Shaped, Shop};
+use std::marker::Model;
+
+/// A shop, and the numbers of a plan for it, whose orders are sought.
+#[derive(Debug, Drop)]
+pub(crate) struct Task {
+    pub shop: Shop,
+    pub release: Vec<Moment>,
+    pub budget: Vec<Moment>,
+    pub clean: Option<Vec<Moment>>,
+}
+
+impl Model for Task {
+    ghost use Rattle.plan_seek.specs.Tasks.{PlanTask, task_of};
+
+    ghost Value = { PlanTask };
+
+    ghost view = { λ t. task_of t.shop t.release t.budget t.clean };
+}
+
+impl Task {
+    /// The shop, and the plan with these orders.
+    pub fn with_order(self, order: Vec<Vec<JobNo>>) -> (Shop, Plan)
+        ensures { record { shop = result.0; plan = result.1 } ≡ with_order self (lists_of order.items) }
+    {
+        let Task {
+            shop,
+            release,
+            budget,
+            clean,
+        } = self;
+        (
+            shop,
+            Plan {
+                release,
+                budget,
+                order,
+                clean,
+            },
+        )
+    }
+
+    /// The task that a plan for the shop was to do. The plan's orders are dropped.
+    pub fn of(shop: Shop, plan: Plan) -> Task
+        ensures { record { shop = shop; plan = plan } ≡ with_order result plan.order }
+    {
+        let Plan {
+            release,
+            budget,
+            order: _,
+            clean,
+        } = plan;
+        Task {
+            shop,
+            release,
+            budget,
+            clean,
+        }
+    }
+
+    /// The task that a shaped plan was to do. The plan's orders are dropped.
+    pub fn of_shaped(shaped: Shaped) -> Task
+        ensures { shaped ≡ with_order result shaped.plan.order }
+    {
+        let (shop, plan) = shaped.into_parts();
+        Task::of(shop, plan)
+    }
+
+    /// The task, handed back with the reason why there is no plan.
+    pub fn not_found(self, fault: SeekFault) -> NotFound
+        ensures reason { result.fault ≡ fault }
+        ensures handed_back { task_of result.shop result.release result.budget result.clean ≡ self }
+    {
+        let Task {
+            shop,
+            release,
+            budget,
+            clean,
+        } = self;
+        NotFound {
+            fault,
+            shop,
+            release,
+            budget,
+            clean,
+        }
+    }
+}
