@@ -1,5 +1,5 @@
 -- What comes of one answer, of one round and of all rounds.
-use Rattle.std.proofs.Common.{◌≡◌, ℕ, ◌+◌, ◌<◌, ◌≤◌, List, length, get_or, None, Some, ◌⊎◌, inl, inr, sym, ap, ◌∙◌, subst, arith}
+use Rattle.std.proofs.Common.{◌≡◌, ℕ, ◌+◌, ◌<◌, List, length, get_or, Some, inl, inr, sym, ap, ◌∙◌, subst}
 use borrow.Author.Count.{below_more}
 use Rattle.shop_base.specs.Shop.{JobShop}
 use Rattle.shop_base.specs.Plan.{ShopPlan, PlannedShop, IsWellShaped}
@@ -9,8 +9,8 @@ use Rattle.plan_verifier.specs.Accepted.{IsAcceptable}
 use Rattle.plan_seek.specs.declared.attempt.Attempt.{Attempt}
 use Rattle.plan_seek.specs.declared.attempt.Attempt.TheVariants.{Accepted, InVain, WantsMemory}
 use Rattle.plan_seek.specs.Orders.{Answer}
-use Rattle.plan_seek.specs.Tasks.{PlanTask, with_order, IsAccepted}
-use Rattle.plan_seek.specs.Turns.{Turn, IsTurn, IsBefore, Answers, MayAnswer, IsInVain, MayFail, IsFirstFound, EachMayFail, EachInRound, turn_of}
+use Rattle.plan_seek.specs.Tasks.{PlanTask, with_order}
+use Rattle.plan_seek.specs.Turns.{Answers, MayAnswer, IsInVain, MayFail, IsFirstFound, EachMayFail, EachInRound, turn_of}
 use Rattle.plan_seek.specs.Outcomes.{IsPlanFor, IsOutcome, IsFoundIn}
 use Rattle.plan_seek.proofs.Faults.{fault_excludes_shape}
 

@@ -1,5 +1,5 @@
 -- A plan whose shape has a fault isn't well shaped.
-use Rattle.std.proofs.Common.{◌≡◌, ℕ, ◌+◌, ◌<◌, ◌≤◌, arith, sym}
+use Rattle.std.proofs.Common.{arith}
 use Rattle.shop_base.specs.declared.shape_fault.ShapeFault.{ShapeFault}
 use Rattle.shop_base.specs.declared.shape_fault.ShapeFault.TheVariants.{ReleaseCount, BudgetCount, OrderCount, CleanCount, ReleaseTooLarge, BudgetTooLarge, CleanTooLarge, JobOutOfRange, NotOnRoute, JobTwice, JobMissing}
 use Rattle.shop_base.specs.Plan.{PlannedShop, job_at, IsWellShaped}

@@ -1,8 +1,8 @@
 -- The serial plan is well shaped where its numbers are, and each machine takes its jobs in ascending order.
-use Rattle.std.proofs.Common.{◌≡◌, ℕ, zero, suc, ◌+◌, ◌-◌, ◌<◌, ◌≤◌, List, [], ◌∷◌, ◌++◌, Bool, true, false, cond, eqb, map, filter, length, get_or, refl, sym, ap, ◌∙◌, subst, inl, inr, arith, ◌⊎◌, ⊎_elim}
-use Rattle.std.specs.List.{range_with_len, list_any, All}
+use Rattle.std.proofs.Common.{◌≡◌, ℕ, zero, suc, ◌+◌, ◌<◌, ◌≤◌, List, [], ◌∷◌, Bool, true, false, cond, eqb, filter, length, get_or, refl, sym, ap, ◌∙◌, subst, inl, inr, arith}
+use Rattle.std.specs.List.{range_with_len}
 use Rattle.std.specs.List.Sorted.{IsStrictlyIncreasing}
-use Rattle.std.proofs.lemmas.Bool.{cases_lt, cases_eq, cases_order, eqb-true, eq-eqb, false≢true}
+use Rattle.std.proofs.lemmas.Bool.{cases_lt, cases_order, eqb-true, eq-eqb, false≢true}
 use Rattle.std.proofs.lemmas.List.{get_or_default, get_or_past}
 use Rattle.std.proofs.lemmas.List.Elements.{filter_passes}
 use Rattle.std.proofs.lemmas.List.FromFn.{length-range_with_len, get_or-range_with_len, length-map-range_with_len, get_or-map-range_with_len}
@@ -10,12 +10,12 @@ use Rattle.std.proofs.lemmas.List.Folds.{Any-from_list_any, list_any_at}
 use Rattle.std.proofs.lemmas.List.Kept.{IsStrictlyIncreasing-filter}
 use Rattle.std.proofs.lemmas.Map.Keys.{sorted_from_strictly_increasing, below_from_sorted}
 use Rattle.shop_base.specs.declared.shop.Step.{Step}
-use Rattle.shop_base.specs.Shop.{JobShop, IsShop, no_step, step_at, route_at}
-use Rattle.shop_base.specs.Plan.{PlannedShop, jobs, machines, order, job_at, Visits, Stands, HasCounts, IsWithinLimits, IsOrder, IsWellShaped}
+use Rattle.shop_base.specs.Shop.{IsShop, no_step, step_at, route_at}
+use Rattle.shop_base.specs.Plan.{order, Visits, HasCounts, IsWithinLimits, IsOrder, IsWellShaped}
 use Rattle.shop_base.specs.Graph.{IsSerial}
 use Rattle.shop_base.proofs.Visits.{visits_job}
-use Rattle.plan_seek.specs.Orders.{is_on_route, visitors, orders_along, serial_order}
-use Rattle.plan_seek.specs.Tasks.{PlanTask, with_order, serial_plan}
+use Rattle.plan_seek.specs.Orders.{is_on_route, visitors, serial_order}
+use Rattle.plan_seek.specs.Tasks.{PlanTask, serial_plan}
 
 -- a route that comes to machine m has a step on it
 comes_at : (route : List Step) (m : ℕ) → is_on_route route m ≡ true → (k : ℕ) × (k < length route) × ((step_at route k).machine ≡ m)

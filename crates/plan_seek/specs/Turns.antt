@@ -1,4 +1,4 @@
-use Rattle.std.specs.Prelude.{◌≡◌, ℕ, ◌<◌, List, Option, None, Some, ◌⊎◌, length, slice_index_or}
+use Rattle.std.specs.Prelude.{◌≡◌, ℕ, ◌<◌, List, None, Some, ◌⊎◌, length, slice_index_or}
 use Rattle.plan_seek.specs.Orders.{Answer}
 use Rattle.plan_seek.specs.Tasks.{PlanTask, with_order, IsAccepted}
 

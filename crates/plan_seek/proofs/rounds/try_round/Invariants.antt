@@ -1,4 +1,4 @@
-use Rattle.std.proofs.Common.{◌≡◌, length}
+use Rattle.std.proofs.Common.{◌≡◌}
 use Rattle.plan_seek.specs.Turns.{MayAnswer, EachInRound}
 use Rattle.plan_seek.proofs.rounds.try_round.Given as goal
 
