@@ -3,6 +3,7 @@ pub mod Rows
 pub mod Marking
 pub mod Orders
 pub mod Refusals
+pub mod OneFault
 pub mod Cleanings
 pub mod Sizes
 pub mod Visits

@@ -1,5 +1,6 @@
 ghost use Rattle.std.specs.Prelude.{◌≡◌, ◌↔◌, ◌^◌, ◌<◌, ◌≤◌, MatchOption, sum_by, IfOk, IfErr, IsOk, OnOk, length, slice_get, Some};
 ghost use Rattle.shop_base.specs.Shop.{IsShop, IsRoute, AreCounts, IsSoundStep, lists_of, operations_of, work_of, route_work, route_at};
+ghost use Rattle.shop_base.specs.declared.shop_fault.ShopFault.{ShopFault};
 ghost use Rattle.shop_base.specs.ShopFault.{AreRoutes, IsFirstFault, IsReached, IsStepReached};
 ghost use Rattle.shop_base.specs.Marks.{AreMarks, IsVisitedBefore};
 
@@ -48,6 +49,7 @@ impl Shop {
         ensures sound { OnOk result (IsShop (record { machines = machines; routes = lists_of routes.items })) }
         ensures exact { IsOk result ↔ IsShop (record { machines = machines; routes = lists_of routes.items }) }
         ensures first_fault { IfErr result (IsFirstFault machines (lists_of routes.items)) }
+        ensures only_fault { IfErr result (λ fault. (other : ShopFault) → IsFirstFault machines (lists_of routes.items) other → other ≡ fault) }
     {
         check_counts(machines, &routes)?;
         check_routes(machines, &routes)?;
