@@ -1,5 +1,5 @@
 -- What a move and a report change, reader by reader: all later proofs take these records, and never unfold a write.
-use Rattle.std.proofs.Common.{◌≡◌, ◌≢◌, ℕ, zero, suc, ◌+◌, ◌<◌, ◌≤◌, List, [], ◌∷◌, ◌++◌, length, drop, Some, None, Bool, true, false, refl, ap, sym, ◌∙◌, arith, set, get_or, nat_lt, if◌then◌else◌, slice_set, length-set, get_or-set_same, get_or-set_other, lt_of_not-le, ltb-true, ltb-false, inl, inr, ◌⊎◌}
+use Rattle.std.proofs.Common.{◌≡◌, ◌≢◌, ℕ, zero, suc, ◌+◌, ◌<◌, ◌≤◌, List, [], ◌∷◌, ◌++◌, length, drop, Some, None, Bool, true, false, refl, ap, sym, ◌∙◌, arith, set, get_or, nat_lt, if◌then◌else◌, length-set, get_or-set_same, get_or-set_other, lt_of_not-le, ltb-true, ltb-false, inl, inr, ◌⊎◌}
 use Rattle.std.proofs.lemmas.Bool.{cases_eq, cases_lt}
 use Rattle.std.proofs.lemmas.List.{get_or_past}
 use Rattle.shop_base.specs.Plan.{PlannedShop, route, machine_of, steps, clean, Visits, IsWellShaped}
@@ -7,7 +7,7 @@ use Rattle.shop_base.specs.Cell.{Cell, MachineState, absent, unused, job_in, mac
 use Rattle.shop_base.specs.declared.job_state.JobState.{JobState}
 use Rattle.shop_base.specs.Report.{with_ready, with_clean}
 use Rattle.shop_base.specs.Move.{first_stop, spot_after, source, target, CanMove, after_leaving, with_entry, with_moved, after_move}
-use Rattle.shop_base.specs.declared.move_order.Spot.TheVariants.{Out, At}
+use Rattle.shop_base.specs.declared.move_order.Spot.TheVariants.{At}
 use Rattle.shop_base.specs.Sound.{IsSound}
 use Rattle.shop_base.proofs.Visits.{visits_machine, stop_at, stop_past}
 

@@ -1,6 +1,6 @@
 -- In a sound cell it is decided what can happen: who is on a machine, which job can move and keep the plan, which report is possible.
 use Rattle.std.proofs.Common.{◌≡◌, ℕ, zero, suc, ◌+◌, ◌<◌, ◌≤◌, [], ◌∷◌, ◌++◌, length, Option, None, Some, Bool, true, false, ◌⊎◌, inl, inr, refl, sym, ◌∙◌, ap, subst, arith}
-use Rattle.std.proofs.lemmas.Bool.{cases_lt, cases_eq, cases_order}
+use Rattle.std.proofs.lemmas.Bool.{cases_lt, cases_eq}
 use Rattle.shop_base.specs.declared.limits.TheConstants.{MAX_MOMENT}
 use Rattle.shop_base.specs.Plan.{PlannedShop, steps, machine_of, release, nominal, clean, order, job_at, Visits, Stands, IsWellShaped}
 use Rattle.shop_base.specs.Cell.{Cell, made, ready, since, entries, cleaning, IsOn, IsFree}

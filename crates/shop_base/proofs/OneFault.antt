@@ -1,5 +1,5 @@
 -- A shop and a plan have only one first fault.
-use Rattle.std.proofs.Common.{◌≡◌, ℕ, zero, suc, ◌+◌, ◌<◌, ◌≤◌, List, length, ◌⊎◌, inl, inr, refl, sym, ap, ap₂, ◌∙◌, subst, arith}
+use Rattle.std.proofs.Common.{◌≡◌, ℕ, zero, suc, ◌+◌, ◌<◌, ◌≤◌, List, length, ◌⊎◌, inl, inr, refl, sym, ap, ap₂, subst, arith}
 use Rattle.std.proofs.lemmas.Bool.{cases_order}
 use Rattle.shop_base.specs.declared.shop.Step.{Step}
 use Rattle.shop_base.specs.declared.limits.TheConstants.{MAX_RELEASE, MAX_MOMENT, MAX_CLEAN}
@@ -10,7 +10,7 @@ use Rattle.shop_base.specs.ShopFault.{IsFirstFault, IsReached, IsStepReached}
 use Rattle.shop_base.specs.declared.shape_fault.ShapeFault.{ShapeFault}
 use Rattle.shop_base.specs.declared.shape_fault.ShapeFault.TheVariants.{ReleaseCount, BudgetCount, OrderCount, CleanCount, ReleaseTooLarge, BudgetTooLarge, CleanTooLarge, JobOutOfRange, NotOnRoute, JobTwice, JobMissing}
 use Rattle.shop_base.specs.Plan.{PlannedShop, jobs, machines, release, budget, clean, order, job_at, HasCleanCount, HasCounts, IsOrder}
-use Rattle.shop_base.specs.ShapeFault.{IsVisitor, IsListed, IsGoodPlace, IsMachineReached, IsPlaceReached, IsJobReached, AreWithin, IsFirstShapeFault}
+use Rattle.shop_base.specs.ShapeFault.{IsVisitor, IsListed, IsGoodPlace, IsMachineReached, IsPlaceReached, AreWithin, IsFirstShapeFault}
 use Rattle.shop_base.proofs.Visits.{visits_job}
 
 module _ (count : ℕ) (routes : List (List Step)) where

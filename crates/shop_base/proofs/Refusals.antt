@@ -1,13 +1,13 @@
 -- What has a fault isn't sound: so what is refused is just what isn't.
-use Rattle.std.proofs.Common.{◌≡◌, ◌↔◌, ℕ, ◌<◌, List, length, true, false, arith}
+use Rattle.std.proofs.Common.{◌≡◌, ◌↔◌, ℕ, List, true, false, arith}
 use Rattle.shop_base.specs.declared.shop.Step.{Step}
 use Rattle.shop_base.specs.declared.shop_fault.ShopFault.{ShopFault}
 use Rattle.shop_base.specs.declared.shop_fault.ShopFault.TheVariants.{NoJobs, TooManyJobs, NoMachines, TooManyMachines, EmptyRoute, MachineOutOfRange, MachineTwice, NominalTooLarge}
 use Rattle.shop_base.specs.declared.shape_fault.ShapeFault.{ShapeFault}
 use Rattle.shop_base.specs.declared.shape_fault.ShapeFault.TheVariants.{ReleaseCount, BudgetCount, OrderCount, CleanCount, ReleaseTooLarge, BudgetTooLarge, CleanTooLarge, JobOutOfRange, NotOnRoute, JobTwice, JobMissing}
-use Rattle.shop_base.specs.Shop.{IsShop, IsRoute, IsSoundStep, route_at}
-use Rattle.shop_base.specs.ShopFault.{IsFirstFault, IsReached, IsStepReached}
-use Rattle.shop_base.specs.Plan.{PlannedShop, jobs, machines, job_at, IsOrder, IsWellShaped}
+use Rattle.shop_base.specs.Shop.{IsShop, IsSoundStep, route_at}
+use Rattle.shop_base.specs.ShopFault.{IsFirstFault, IsStepReached}
+use Rattle.shop_base.specs.Plan.{PlannedShop, job_at, IsOrder, IsWellShaped}
 use Rattle.shop_base.specs.ShapeFault.{IsFirstShapeFault, IsMachineReached}
 use Rattle.shop_base.proofs.Visits.{visits_job}
 

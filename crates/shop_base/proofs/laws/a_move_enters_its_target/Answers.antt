@@ -1,5 +1,4 @@
 use Rattle.shop_base.specs.Run.{ends_in}
-use Rattle.shop_base.specs.Move.{after_move}
 use Rattle.shop_base.proofs.Keeping.{run-sound}
 use Rattle.shop_base.proofs.Changes.{after_move-moved}
 use Rattle.shop_base.proofs.CellFacts.{visits_target}

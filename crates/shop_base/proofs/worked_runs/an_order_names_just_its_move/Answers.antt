@@ -1,10 +1,5 @@
-use Rattle.std.proofs.Common.{refl, inl, inr, ℕ, ◌≡◌, List, drop, length, nat_lt, lt-ltb, le-ltb, drop-cons, drop_of_length-le, if◌then◌else◌}
-use Rattle.std.proofs.lemmas.Bool.{cases_lt}
+use Rattle.std.proofs.Common.{refl}
 use Rattle.std.proofs.lemmas.Bool.Decides.{not_from_Decides}
-use Rattle.shop_base.specs.declared.shop.Step.{Step}
-use Rattle.shop_base.specs.Shop.{step_at, no_step}
-use Rattle.shop_base.specs.Plan.{route}
-use Rattle.shop_base.specs.Cell.{made}
 use Rattle.shop_base.specs.declared.move_order.Spot.TheVariants.{Out, At}
 use Rattle.shop_base.specs.Examples.{in_series, go, series_after}
 use Rattle.shop_base.proofs.CellTests.{obey_decides, keeps_decides}
