@@ -1,6 +1,6 @@
 -- Reading agrees with the relations on whole texts, so a reader's answer does.
 use Rattle.std.proofs.Common.{◌≡◌, ◌≢◌, ℕ, List, [], Result, Ok, Err, refl, sym, ap, subst, ◌∙◌, inl, inr}
-use Rattle.std.specs.Prelude.{◌⊎◌, IfOk, IfErr, OnOk}
+use Rattle.std.specs.Prelude.{◌⊎◌, IfOk, IfErr}
 use Rattle.shop_base.specs.declared.shop_fault.ShopFault.{ShopFault}
 use Rattle.shop_base.specs.Shop.{JobShop, IsShop}
 use Rattle.shop_base.specs.ShopFault.{IsFirstFault}
@@ -10,24 +10,15 @@ use Rattle.orlib_read.specs.declared.or_fault.OrFault.TheVariants.{NoInstance, N
 use Rattle.orlib_read.specs.Kinds.{told_lines}
 use Rattle.orlib_read.specs.Instance.{IsInstance, IsInstanceOf}
 use Rattle.orlib_read.specs.Faults.{IsInstanceFault, IsInstanceOfFault}
-use Rattle.orlib_read.specs.Reading.{Fails, Content, instance_at, section_at}
-use Rattle.orlib_read.specs.Views.{shop_of, IsShopFault}
-use Rattle.orlib_read.specs.Answers.{IsRead, IsRefused}
+use Rattle.orlib_read.specs.Reading.{Content, instance_at, section_at}
+use Rattle.orlib_read.specs.Answers.{IsRead, IsRefused, content_with, GivesNoShop, Answers}
 use Rattle.orlib_read.proofs.Numbers.{done, failed, ok_is, err_is}
 use Rattle.orlib_read.proofs.Drafts.{instance_is, instance_again, instance_fault, instance_cut, instance_extra}
 use Rattle.orlib_read.proofs.Sections.{section_content, section_content_again, section_fault, section_lacks, section_cut}
 use Rattle.orlib_read.proofs.Shops.{no_fault, one_fault}
 
-abbrev content_with : List ℕ → JobShop → Content
-content_with description shop = record { description = description; machines = shop.machines; routes = shop.routes }
-
--- the reading gives content whose numbers have this fault
-record GivesNoShop (reading : Result Content OrFault) (fault : OrFault) : Type 0 where
-  content : Content
-  reason : ShopFault
-  gives : reading ≡ Ok content
-  wrong : IsFirstFault content.machines content.routes reason
-  is : fault ≡ Shop reason
+abbrev shop_of : Content → JobShop
+shop_of content = record { machines = content.machines; routes = content.routes }
 
 -- the reading gives just what is related to the text, and fails with just what is wrong first
 pub record Agrees (reading : Result Content OrFault) (Is : List ℕ → JobShop → Type 0) (Wrong : OrFault → Type 0) : Type 0 where
@@ -106,90 +97,52 @@ only_memory (OddWords line) h = absurd (h (λ e. cc))
 only_memory (Extra line) h = absurd (h (λ e. cc))
 only_memory (Shop reason) h = absurd (h (λ e. cc))
 
--- where reading failed
-pub err_only : (reading : Result Content OrFault) (Is : List ℕ → JobShop → Type 0) (Wrong : OrFault → Type 0) → Agrees reading Is Wrong → (answered : OrFault) → Fails answered reading
-    → (description : List ℕ) (shop : JobShop) → Is description shop → answered ≡ Memory
-err_only reading Is Wrong a answered h description shop i = only_memory answered (λ other. let both : done (content_with description shop) ≡ failed answered = sym (a.again description shop i) ∙ h other in absurd (cc))
+-- content was read, and no fault met
+read_or_failed : {P : Type 0} {reading : Result Content OrFault} (content : Content) (fault : OrFault) → reading ≡ Ok content → reading ≡ Err fault → P
+read_or_failed content fault h k = let both : done content ≡ failed fault = sym h ∙ k in absurd (cc)
 
-pub err_fault : (reading : Result Content OrFault) (Is : List ℕ → JobShop → Type 0) (Wrong : OrFault → Type 0) → Agrees reading Is Wrong → (answered : OrFault) → Fails answered reading
-    → answered ≢ Memory → Wrong answered
-err_fault reading Is Wrong a answered h other = a.fault answered (h other)
+-- content that is a shop isn't content that makes none
+shop_or_none : {P : Type 0} {reading : Result Content OrFault} {fault : OrFault} (content : Content) → reading ≡ Ok content → IsShop (shop_of content) → GivesNoShop reading fault → P
+shop_or_none content h s none =
+    let e = ok_is content none.content (sym h ∙ none.gives) in
+    absurd (no_fault content.machines content.routes none.reason s (subst (λ (c : Content). IsFirstFault c.machines c.routes none.reason) (sym e) none.wrong))
 
-pub err_first : (reading : Result Content OrFault) (Is : List ℕ → JobShop → Type 0) (Wrong : OrFault → Type 0) → Agrees reading Is Wrong → (answered : OrFault) → Fails answered reading
-    → (fault : OrFault) → Wrong fault → answered ≢ Memory → answered ≡ fault
-err_first reading Is Wrong a answered h fault w other = elim (a.wrong fault w) [
-  | inl e ↦ err_is {A = Content} answered fault (sym (h other) ∙ e)
-  | inr none ↦ let both : done none.content ≡ failed answered = sym none.gives ∙ h other in absurd (cc)
+same_reason : {reading : Result Content OrFault} (fault other : OrFault) → GivesNoShop reading fault → GivesNoShop reading other → fault ≡ other
+same_reason fault other f g =
+    let e = ok_is g.content f.content (sym g.gives ∙ f.gives) in
+    let wrong : IsFirstFault f.content.machines f.content.routes g.reason = subst (λ (c : Content). IsFirstFault c.machines c.routes g.reason) e g.wrong in
+    f.is ∙ ap (λ (reason : ShopFault). Shop reason) (one_fault f.content.machines f.content.routes f.reason g.reason f.wrong wrong) ∙ sym g.is
+
+pub found : {reading : Result Content OrFault} {Is : List ℕ → JobShop → Type 0} {Wrong : OrFault → Type 0} → Agrees reading Is Wrong
+    → (result : Result Named OrFault) → Answers result reading → IfOk result (λ named. Is named.description.items named.shop)
+found a (Ok named) h = a.is (content_with named.description.items named.shop) h.0 h.1
+found a (Err fault) h = tt
+
+pub only : {reading : Result Content OrFault} {Is : List ℕ → JobShop → Type 0} {Wrong : OrFault → Type 0} → Agrees reading Is Wrong
+    → (result : Result Named OrFault) → Answers result reading → (description : List ℕ) (shop : JobShop) → Is description shop → IsRead result description shop
+only a (Ok named) h description shop i =
+    let e = ok_is (content_with named.description.items named.shop) (content_with description shop) (sym h.0 ∙ a.again description shop i) in
+    (ap (λ (c : Content). c.description) e, ap shop_of e)
+only a (Err fault) h description shop i = only_memory fault (λ other. elim (h other) [
+  | inl e ↦ read_or_failed (content_with description shop) fault (a.again description shop i) e
+  | inr none ↦ shop_or_none (content_with description shop) (a.again description shop i) (a.sound description shop i) none
+])
+
+pub fault : {reading : Result Content OrFault} {Is : List ℕ → JobShop → Type 0} {Wrong : OrFault → Type 0} → Agrees reading Is Wrong
+    → (result : Result Named OrFault) → Answers result reading → IfErr result (λ fault. fault ≢ Memory → Wrong fault)
+fault a (Ok named) h = tt
+fault {Wrong = Wrong} a (Err answered) h = λ other. elim (h other) [
+  | inl e ↦ a.fault answered e
+  | inr none ↦ subst Wrong (sym none.is) (a.no_shop none.content none.reason none.gives none.wrong)
 ]
 
--- what the making of a shop answered
-pub record Made (content : Content) (result : Result Named OrFault) : Type 0 where
-  pub description : IfOk result (λ named. named.description.items ≡ content.description)
-  pub shop : IfOk result (λ named. named.shop ≡ shop_of content)
-  pub sound : OnOk result (IsShop (shop_of content))
-  pub fault : IfErr result (IsShopFault content)
-
-pub made_found : (reading : Result Content OrFault) (Is : List ℕ → JobShop → Type 0) (Wrong : OrFault → Type 0) → Agrees reading Is Wrong → (content : Content) → reading ≡ Ok content
-    → (result : Result Named OrFault) → Made content result → IfOk result (λ named. Is named.description.items named.shop)
-made_found reading Is Wrong a content h (Ok named) m =
-    subst (λ (shop : JobShop). Is named.description.items shop) (sym m.shop) (subst (λ (d : List ℕ). Is d (shop_of content)) (sym m.description) (a.is content h m.sound))
-made_found reading Is Wrong a content h (Err answered) m = tt
-
-same_content : (reading : Result Content OrFault) (content other : Content) → reading ≡ Ok content → reading ≡ Ok other → content ≡ other
-same_content reading content other h k = ok_is content other (sym h ∙ k)
-
-shop_fault_memory : (content : Content) (answered : OrFault) → IsShopFault content answered → IsShop (shop_of content) → answered ≡ Memory
-shop_fault_memory content Memory f s = refl
-shop_fault_memory content (Shop reason) f s = absurd (no_fault content.machines content.routes reason s f)
-shop_fault_memory content NoInstance f s = absurd f
-shop_fault_memory content NoSizes f s = absurd f
-shop_fault_memory content (BadSizes line) f s = absurd f
-shop_fault_memory content (MissingJob job) f s = absurd f
-shop_fault_memory content (BadNumber line word) f s = absurd f
-shop_fault_memory content (OddWords line) f s = absurd f
-shop_fault_memory content (Extra line) f s = absurd f
-
-pub made_only : (reading : Result Content OrFault) (Is : List ℕ → JobShop → Type 0) (Wrong : OrFault → Type 0) → Agrees reading Is Wrong → (content : Content) → reading ≡ Ok content
-    → (result : Result Named OrFault) → Made content result → (description : List ℕ) (shop : JobShop) → Is description shop → IsRead result description shop
-made_only reading Is Wrong a content h (Ok named) m description shop i =
-    let e = same_content reading content (content_with description shop) h (a.again description shop i) in
-    (m.description ∙ ap (λ (c : Content). c.description) e, m.shop ∙ ap shop_of e)
-made_only reading Is Wrong a content h (Err answered) m description shop i =
-    let e = same_content reading content (content_with description shop) h (a.again description shop i) in
-    shop_fault_memory content answered m.fault (subst (λ (s : JobShop). IsShop s) (sym (ap shop_of e)) (a.sound description shop i))
-
--- a fault of the numbers, if memory is there
-shop_fault_is : (content : Content) (answered : OrFault) → IsShopFault content answered → answered ≢ Memory → (reason : ShopFault) × IsFirstFault content.machines content.routes reason × (answered ≡ Shop reason)
-shop_fault_is content Memory f other = absurd (other refl)
-shop_fault_is content (Shop reason) f other = (reason, f, refl)
-shop_fault_is content NoInstance f other = absurd f
-shop_fault_is content NoSizes f other = absurd f
-shop_fault_is content (BadSizes line) f other = absurd f
-shop_fault_is content (MissingJob job) f other = absurd f
-shop_fault_is content (BadNumber line word) f other = absurd f
-shop_fault_is content (OddWords line) f other = absurd f
-shop_fault_is content (Extra line) f other = absurd f
-
-pub made_fault : (reading : Result Content OrFault) (Is : List ℕ → JobShop → Type 0) (Wrong : OrFault → Type 0) → Agrees reading Is Wrong → (content : Content) → reading ≡ Ok content
-    → (result : Result Named OrFault) → Made content result → IfErr result (λ answered. answered ≢ Memory → Wrong answered)
-made_fault reading Is Wrong a content h (Ok named) m = tt
-made_fault reading Is Wrong a content h (Err answered) m = λ other.
-    let f = shop_fault_is content answered m.fault other in
-    subst Wrong (sym f.2) (a.no_shop content f.0 h f.1)
-
-pub made_first : (reading : Result Content OrFault) (Is : List ℕ → JobShop → Type 0) (Wrong : OrFault → Type 0) → Agrees reading Is Wrong → (content : Content) → reading ≡ Ok content
-    → (result : Result Named OrFault) → Made content result → (fault : OrFault) → Wrong fault → IsRefused result fault
-made_first reading Is Wrong a content h (Ok named) m fault w = elim (a.wrong fault w) [
-  | inl e ↦ let both : done content ≡ failed fault = sym h ∙ e in absurd (cc)
-  | inr none ↦
-      let e = same_content reading none.content content none.gives h in
-      no_fault content.machines content.routes none.reason m.sound (subst (λ (c : Content). IsFirstFault c.machines c.routes none.reason) e none.wrong)
+pub first : {reading : Result Content OrFault} {Is : List ℕ → JobShop → Type 0} {Wrong : OrFault → Type 0} → Agrees reading Is Wrong
+    → (result : Result Named OrFault) → Answers result reading → (fault : OrFault) → Wrong fault → IsRefused result fault
+first a (Ok named) h fault w = elim (a.wrong fault w) [
+  | inl e ↦ read_or_failed (content_with named.description.items named.shop) fault h.0 e
+  | inr none ↦ shop_or_none (content_with named.description.items named.shop) h.0 h.1 none
 ]
-made_first reading Is Wrong a content h (Err answered) m fault w = λ other. elim (a.wrong fault w) [
-  | inl e ↦ let both : done content ≡ failed fault = sym h ∙ e in absurd (cc)
-  | inr none ↦
-      let f = shop_fault_is content answered m.fault other in
-      let e = same_content reading none.content content none.gives h in
-      let wrong : IsFirstFault content.machines content.routes none.reason = subst (λ (c : Content). IsFirstFault c.machines c.routes none.reason) e none.wrong in
-      f.2 ∙ ap (λ (reason : ShopFault). Shop reason) (one_fault content.machines content.routes f.0 none.reason f.1 wrong) ∙ sym none.is
+first a (Err answered) h fault w = λ other. elim (h other) [
+  | inl e ↦ elim (a.wrong fault w) [ inl f ↦ err_is {A = Content} answered fault (sym e ∙ f) | inr none ↦ read_or_failed none.content answered none.gives e ]
+  | inr none ↦ elim (a.wrong fault w) [ inl f ↦ read_or_failed none.content fault none.gives f | inr other ↦ same_reason answered fault none other ]
 ]

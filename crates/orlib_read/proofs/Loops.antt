@@ -7,8 +7,6 @@ use Rattle.orlib_read.specs.declared.or_fault.OrFault.TheVariants.{MissingJob, O
 use Rattle.orlib_read.specs.Lines.{NumberedLine}
 use Rattle.orlib_read.specs.Reading.{◌>>=◌, Fails, step_at, steps_at, route_at, jobs_at}
 
--- ---- faults
-
 -- ---- steps
 
 abbrev pub with_front : List Step → Result (List Step) OrFault → Result (List Step) OrFault
@@ -34,11 +32,10 @@ steps_on front line before words machine nominal rest step total e h so_far =
     sym one ∙ so_far
 
 pub steps_fail : (fault : OrFault) (front : List Step) (line before : ℕ) (words : List (List ℕ)) (machine nominal : List ℕ) (rest : List (List ℕ)) (total : Result (List Step) OrFault)
-    → words ≡ machine ∷ nominal ∷ rest → Fails fault (step_at line before machine nominal) → with_front front (steps_at line before words) ≡ total → Fails fault total
+    → words ≡ machine ∷ nominal ∷ rest → step_at line before machine nominal ≡ Err fault → with_front front (steps_at line before words) ≡ total → total ≡ Err fault
 unfolding steps_at
-steps_fail fault front line before words machine nominal rest total e h so_far = λ other.
-    let there = h other in
-    let one : with_front front (steps_at line before words) ≡ Err fault = rw (e, there) refl in
+steps_fail fault front line before words machine nominal rest total e h so_far =
+    let one : with_front front (steps_at line before words) ≡ Err fault = rw (e, h) refl in
     sym so_far ∙ one
 
 pub steps_odd : (front : List Step) (line before : ℕ) (words : List (List ℕ)) (word : List ℕ) (total : Result (List Step) OrFault)

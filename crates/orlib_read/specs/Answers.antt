@@ -1,9 +1,12 @@
 -- What a reader of instance texts answers.
-use Rattle.std.specs.Prelude.{◌≡◌, ◌≢◌, ℕ, List, Result, Ok, Err}
-use Rattle.shop_base.specs.Shop.{JobShop}
+use Rattle.std.specs.Prelude.{◌≡◌, ◌≢◌, ◌⊎◌, ℕ, List, Result, Ok, Err}
+use Rattle.shop_base.specs.declared.shop_fault.ShopFault.{ShopFault}
+use Rattle.shop_base.specs.Shop.{JobShop, IsShop}
+use Rattle.shop_base.specs.ShopFault.{IsFirstFault}
 use Rattle.orlib_read.specs.declared.named.Named.{Named}
 use Rattle.orlib_read.specs.declared.or_fault.OrFault.{OrFault}
-use Rattle.orlib_read.specs.declared.or_fault.OrFault.TheVariants.{Memory}
+use Rattle.orlib_read.specs.declared.or_fault.OrFault.TheVariants.{Shop, Memory}
+use Rattle.orlib_read.specs.Reading.{Content}
 
 -- the answer is this description and shop, unless memory ran out
 abbrev pub IsRead : Result Named OrFault → List ℕ → JobShop → Type 0
@@ -14,3 +17,20 @@ IsRead (Err fault) description shop = fault ≡ Memory
 abbrev pub IsRefused : Result Named OrFault → OrFault → Type 0
 IsRefused (Ok named) fault = ⊥
 IsRefused (Err answered) fault = answered ≢ Memory → answered ≡ fault
+
+-- the content of an instance with this description and shop
+abbrev pub content_with : List ℕ → JobShop → Content
+content_with description shop = record { description = description; machines = shop.machines; routes = shop.routes }
+
+-- what reading gives makes no shop, and this is the fault
+pub record GivesNoShop (reading : Result Content OrFault) (fault : OrFault) : Type 0 where
+  pub content : Content
+  pub reason : ShopFault
+  pub gives : reading ≡ Ok content
+  pub wrong : IsFirstFault content.machines content.routes reason
+  pub is : fault ≡ Shop reason
+
+-- the answer is the shop that reading gives, or else the fault of reading or of the shop, unless memory ran out
+abbrev pub Answers : Result Named OrFault → Result Content OrFault → Type 0
+Answers (Ok named) reading = (reading ≡ Ok (content_with named.description.items named.shop)) × IsShop named.shop
+Answers (Err fault) reading = fault ≢ Memory → (reading ≡ Err fault) ⊎ GivesNoShop reading fault

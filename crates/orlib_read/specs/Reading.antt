@@ -12,6 +12,11 @@ abbrev pub ◌>>=◌ : {A B : Type 0} → Result A OrFault → (A → Result B O
 (Ok x) >>= f = f x
 (Err fault) >>= f = Err fault
 
+-- what a function answered that takes no memory, seen by view, is what reading gives
+abbrev pub GivesExactly : {X Y : Type 0} → (X → Y) → Result X OrFault → Result Y OrFault → Type 0
+GivesExactly view (Ok x) reading = reading ≡ Ok (view x)
+GivesExactly view (Err fault) reading = reading ≡ Err fault
+
 -- the fault that a function answered is the one that reading meets, unless memory ran out
 abbrev pub Fails : {Y : Type 0} → OrFault → Result Y OrFault → Type 0
 Fails fault reading = fault ≢ Memory → reading ≡ Err fault

@@ -1,7 +1,6 @@
 -- The words of a line, and which of them are numbers.
 use Rattle.std.specs.Prelude.{◌≡◌, ℕ, ◌+◌, ◌-◌, ◌*◌, ◌%◌, nat_le, nat_lt, Bool, true, false, ◌==◌, ◌||◌, ◌&&◌, if◌then◌else◌, List, [], ◌∷◌, Option, Some, None, length, filter, fold, IsTrue}
 use Rattle.std.specs.List.{list_all}
-use Rattle.orlib_read.specs.declared.words.TheConstants.{MOST_DIGITS}
 use Rattle.orlib_read.specs.Lines.{parts_of}
 
 -- a space or a tab
@@ -25,9 +24,9 @@ is_digit b = nat_le 48 b && nat_le b 57
 abbrev pub value_of : List ℕ → ℕ
 value_of digits = fold (λ n digit. 10 * n + (digit - 48)) 0 digits
 
--- some digits, leading zeros among them, but not too many
+-- one to nine digits, leading zeros among them
 abbrev pub is_number : List ℕ → Bool
-is_number word = nat_lt 0 (length word) && nat_le (length word) MOST_DIGITS && list_all is_digit word
+is_number word = nat_lt 0 (length word) && nat_le (length word) 9 && list_all is_digit word
 
 -- the word is this number
 pub record IsNumber (word : List ℕ) (n : ℕ) : Type 0 where

@@ -1,21 +1,21 @@
 //! The readers of instance texts.
 
-ghost use Rattle.std.specs.Prelude.{◌≡◌, ◌≢◌, List, ℕ, IfOk, IfErr, OnOk};
-ghost use Rattle.shop_base.specs.Shop.{JobShop, IsShop};
+ghost use Rattle.std.specs.Prelude.{◌≡◌, ◌≢◌, List, ℕ, Result, IfOk, IfErr, OnOk};
+ghost use Rattle.shop_base.specs.Shop.{JobShop, IsShop, lists_of};
 ghost use Rattle.orlib_read.specs.declared.or_fault.OrFault.{OrFault};
 ghost use Rattle.orlib_read.specs.Kinds.{told_lines};
 ghost use Rattle.orlib_read.specs.Instance.{IsInstance, IsInstanceOf};
 ghost use Rattle.orlib_read.specs.Faults.{IsInstanceFault, IsInstanceOfFault};
-ghost use Rattle.orlib_read.specs.Answers.{IsRead, IsRefused};
-ghost use Rattle.orlib_read.specs.Reading.{Gives, instance_at, section_at};
-ghost use Rattle.orlib_read.specs.Views.{content_of, shop_of, IsShopFault};
+ghost use Rattle.orlib_read.specs.Answers.{IsRead, IsRefused, Answers};
+ghost use Rattle.orlib_read.specs.Reading.{Content, Gives, instance_at, section_at};
+ghost use Rattle.orlib_read.specs.Views.{content_of, IsShopFault};
 
 use crate::draft::Draft;
 use crate::lines::Lines;
 use crate::named::Named;
 use crate::or_fault::OrFault;
 use crate::reading::read_draft;
-use shop_base::Shop;
+use shop_base::{Shop, Step};
 use std::alloc::Global;
 
 /// Reads one instance: a description, if there is one, the size line, and a line per job.
@@ -31,7 +31,7 @@ pub fn read_instance(alloc: Global, text: &[u8]) -> Result<Named, OrFault>
     ensures fault { IfErr result (λ fault. fault ≢ OrFault.Memory → IsInstanceFault text.now fault) }
     ensures first { (fault : OrFault) → IsInstanceFault text.now fault → IsRefused result fault }
 {
-    make_named(alloc, instance_draft(alloc, text)?)
+    named(alloc, instance_draft(alloc, text))
 }
 
 /// Reads the instance that stands in a collection between the first instance line of this name and the
@@ -45,7 +45,7 @@ pub fn read_from_collection(alloc: Global, text: &[u8], name: &[u8]) -> Result<N
     ensures fault { IfErr result (λ fault. fault ≢ OrFault.Memory → IsInstanceOfFault text.now name.now fault) }
     ensures first { (fault : OrFault) → IsInstanceOfFault text.now name.now fault → IsRefused result fault }
 {
-    make_named(alloc, section_draft(alloc, text, name)?)
+    named(alloc, section_draft(alloc, text, name))
 }
 
 #[tactic(auto, unfolding(crate::specs::Reading::instance_at))]
@@ -70,13 +70,19 @@ fn section_draft<'a>(alloc: Global, text: &'a [u8], name: &[u8]) -> Result<Draft
     Ok(draft)
 }
 
-fn make_named(alloc: Global, draft: Draft) -> Result<Named, OrFault>
-    ensures description { IfOk result (λ named. named.description.items ≡ draft.entry.description.now) }
-    ensures shop { IfOk result (λ named. named.shop ≡ shop_of (content_of draft.entry)) }
-    ensures sound { OnOk result (IsShop (shop_of (content_of draft.entry))) }
-    ensures fault { IfErr result (λ fault. IsShopFault (content_of draft.entry) fault) }
+fn named(alloc: Global, draft: Result<Draft, OrFault>) -> Result<Named, OrFault>
+    ensures { (reading : Result Content OrFault) → Gives content_of draft.entry reading → Answers result reading }
 {
-    let shop = Shop::new(draft.machines, draft.routes).map_err(OrFault::Shop)?;
+    let draft = draft?;
+    let shop = shop_with(draft.machines, draft.routes)?;
     let description = Vec::from_slice(alloc, draft.description).map_err(|_| OrFault::Memory)?;
     Ok(Named { description, shop })
+}
+
+fn shop_with(machines: u32, routes: Vec<Vec<Step>>) -> Result<Shop, OrFault>
+    ensures shop { IfOk result (λ shop. shop ≡ record { machines = machines; routes = lists_of routes.items }) }
+    ensures sound { OnOk result (IsShop (record { machines = machines; routes = lists_of routes.items })) }
+    ensures fault { IfErr result (IsShopFault machines (lists_of routes.items)) }
+{
+    Shop::new(machines, routes).map_err(OrFault::Shop)
 }

@@ -4,7 +4,7 @@ ghost use Rattle.std.specs.Prelude.{◌≡◌, ◌∷◌, [], ◌+◌, ◌<◌, 
 ghost use Rattle.shop_base.specs.Shop.{lists_of};
 ghost use Rattle.orlib_read.specs.Words.{words_of};
 ghost use Rattle.orlib_read.specs.Cursor.{line_of, lines_left};
-ghost use Rattle.orlib_read.specs.Reading.{Gives, without_titles, head_at, step_at, steps_at, route_at, jobs_at, draft_at};
+ghost use Rattle.orlib_read.specs.Reading.{Gives, GivesExactly, without_titles, head_at, step_at, steps_at, route_at, jobs_at, draft_at};
 ghost use Rattle.orlib_read.specs.Views.{head_of, content_of};
 
 use crate::draft::{Draft, Head};
@@ -32,7 +32,7 @@ fn first_line<'a>(lines: Lines<'a>) -> Option<(Line<'a>, Lines<'a>)>
 
 #[tactic(auto, unfolding(crate::specs::Reading::head_at))]
 fn read_head<'a>(lines: Lines<'a>) -> Result<(Head<'a>, Lines<'a>), OrFault>
-    ensures { Gives (λ read. (head_of read.0, lines_left read.1)) result (head_at (without_titles (lines_left lines.entry))) }
+    ensures { GivesExactly (λ read. (head_of read.0, lines_left read.1)) result (head_at (without_titles (lines_left lines.entry))) }
 {
     let Some((first, lines)) = first_line(lines) else {
         return Err(OrFault::NoSizes);
@@ -62,7 +62,7 @@ fn read_head<'a>(lines: Lines<'a>) -> Result<(Head<'a>, Lines<'a>), OrFault>
 #[tactic(auto, unfolding(crate::specs::Reading::step_at))]
 fn step_of(line: usize, before: usize, machine: &[u8], nominal: &[u8]) -> Result<Step, OrFault>
     requires { before + 2 < 2 ^ 64 }
-    ensures { Gives (λ step. step) result (step_at line before machine.now nominal.now) }
+    ensures { GivesExactly (λ step. step) result (step_at line before machine.now nominal.now) }
 {
     let Some(machine) = number_of(machine) else {
         return Err(OrFault::BadNumber {

@@ -5,8 +5,6 @@ ghost use Rattle.std.specs.List.{before_first, after_first, list_all};
 ghost use Rattle.orlib_read.specs.Words.{is_blank, is_digit, words_of, number_of};
 ghost use Rattle.orlib_read.specs.Kinds.{is_plus};
 
-const MOST_DIGITS: usize = 9;
-
 fn is_blank(byte: u8) -> bool
     ensures { result ≡ is_blank byte }
 {
@@ -67,6 +65,7 @@ fn is_digit(byte: u8) -> bool
 pub(crate) fn number_of(word: &[u8]) -> Option<u32>
     ensures { result ≡ number_of word.now }
 {
+    const MOST_DIGITS: usize = 9;
     if word.is_empty() || word.len() > MOST_DIGITS {
         return None;
     }

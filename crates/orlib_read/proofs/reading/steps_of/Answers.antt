@@ -15,7 +15,7 @@ pub returns-in_err-step : goal.returns-in_err-step
 returns-in_err-step c =
     let p = err_from_is_err_and c.from_residual.result c.from_residual.ensures.1 in
     let words = c.in-Some.ensures.word ∙ ap (λ (words : List (List ℕ)). c.in-Some.machine.now ∷ words) c.in-Some-next_word.ensures.word in
-    rw (p.1, p.2) (steps_fail c.in_err-step.field-0.0 c.loop-machine.route.items c.args.line.number c.loop-machine.before (words_of c.loop-machine.rest.now)
+    rw (p.1, p.2) (λ _. steps_fail c.in_err-step.field-0.0 c.loop-machine.route.items c.args.line.number c.loop-machine.before (words_of c.loop-machine.rest.now)
     c.in-Some.machine.now c.in-Some-next_word.nominal.now (words_of c.in-Some-next_word.after.now)
     (steps_at c.args.line.number 0 (words_of c.args.line.bytes.now)) words c.in_err-step.ensures c.loop-machine.invariant.steps)
 
