@@ -19,7 +19,12 @@ abbrev pub IsFirstOf : List PlanFault → PlanFault → Type 0
 IsFirstOf [] fault = ⊥
 IsFirstOf (first ∷ rest) fault = first ≡ fault
 
--- a check of which these are the faults passes where there is none, and else answers the first, unless memory ran out
+-- a check that takes no memory, of which these are the faults, passes where there is none, and else answers the first
+abbrev pub PassesExactly : {A : Type 0} → List PlanFault → Result A PlanFault → Type 0
+PassesExactly faults (Ok x) = faults ≡ []
+PassesExactly faults (Err fault) = IsFirstOf faults fault
+
+-- the same where memory is taken: unless it ran out
 abbrev pub Passes : {A : Type 0} → List PlanFault → Result A PlanFault → Type 0
 Passes faults (Ok x) = faults ≡ []
 Passes faults (Err fault) = fault ≢ Memory → IsFirstOf faults fault

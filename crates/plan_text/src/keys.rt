@@ -6,7 +6,7 @@ ghost use Rattle.std.specs.BTreeMap.{keys};
 ghost use Rattle.toml.specs.Data.{get_member};
 ghost use Rattle.toml.specs.View.{view, table_view};
 ghost use Rattle.plan_text.specs.Keys.{value_at, version_in};
-ghost use Rattle.plan_text.specs.Answers.{Passes};
+ghost use Rattle.plan_text.specs.Answers.{PassesExactly};
 ghost use Rattle.plan_text.specs.Listing.{version_faults, has_cleaning, is_common_key, is_known_key, key_faults, missing_faults, missing_keys};
 
 use crate::plan_fault::PlanFault;
@@ -22,7 +22,7 @@ pub(crate) fn value_of<'a>(table: &'a Table, key: &str) -> Option<&'a Value>
 
 /// Whether the table's version is 2, that of plans with cleaning.
 pub(crate) fn check_version(table: &Table) -> Result<bool, PlanFault>
-    ensures faults { Passes (version_faults (version_in (table_view table.now))) result }
+    ensures faults { PassesExactly (version_faults (version_in (table_view table.now))) result }
     ensures value { IfOk result (λ cleaning. cleaning ≡ has_cleaning (version_in (table_view table.now))) }
 {
     let Some(version) = value_of(table, "version") else {
@@ -55,7 +55,7 @@ fn are_known(table: &Table, cleaning: bool) -> bool
 
 /// Refuses a key that isn't one of the version's.
 pub(crate) fn check_known(table: &Table, cleaning: bool) -> Result<(), PlanFault>
-    ensures { Passes (key_faults cleaning (table_view table.now)) result }
+    ensures { PassesExactly (key_faults cleaning (table_view table.now)) result }
 {
     if !are_known(table, cleaning) {
         return Err(PlanFault::UnknownKey);
@@ -64,7 +64,7 @@ pub(crate) fn check_known(table: &Table, cleaning: bool) -> Result<(), PlanFault
 }
 
 fn check_key(table: &Table, key: PlanKey) -> Result<(), PlanFault>
-    ensures { Passes (missing_faults key (value_at (table_view table.now) key)) result }
+    ensures { PassesExactly (missing_faults key (value_at (table_view table.now) key)) result }
 {
     match value_of(table, key.name()) {
         Some(_) => Ok(()),
@@ -74,7 +74,7 @@ fn check_key(table: &Table, key: PlanKey) -> Result<(), PlanFault>
 
 /// Refuses a table that lacks a key of its version.
 pub(crate) fn check_missing(table: &Table, cleaning: bool) -> Result<(), PlanFault>
-    ensures { Passes (missing_keys cleaning (table_view table.now)) result }
+    ensures { PassesExactly (missing_keys cleaning (table_view table.now)) result }
 {
     check_key(table, PlanKey::Release)?;
     check_key(table, PlanKey::Budget)?;

@@ -1,6 +1,6 @@
 //! The reader of plan texts.
 
-ghost use Rattle.std.specs.Prelude.{◌≡◌, ◌≢◌, IfOk, IfErr, None, Some};
+ghost use Rattle.std.specs.Prelude.{◌≡◌, ◌≢◌, IfOk, IfErr, Ok, Err, None, Some};
 ghost use Rattle.shop_base.specs.Shop.{lists_of};
 ghost use Rattle.shop_base.specs.Plan.{ShopPlan, list_of};
 ghost use Rattle.toml.specs.View.{table_view};
@@ -93,20 +93,18 @@ fn table_of(alloc: Global, text: &[u8]) -> Result<Table, PlanFault>
     let Ok(text) = std::str::from_utf8(text) else {
         return Err(PlanFault::NotToml);
     };
-    match toml::table_from_str(alloc, text) {
-        Ok(table) => Ok(table),
-        Err(error) => Err(fault_of(&error)),
-    }
+    told(toml::table_from_str(alloc, text))
 }
 
-fn fault_of(error: &toml::de::Error) -> PlanFault
-    ensures memory { IsMemory error.now → result ≡ PlanFault.Memory }
-    ensures other { ¬ (IsMemory error.now) → result ≡ PlanFault.NotToml }
+fn told(read: Result<Table, toml::de::Error>) -> Result<Table, PlanFault>
+    ensures table { IfOk read (λ table. result ≡ Ok table) }
+    ensures memory { IfErr read (λ error. IsMemory error → result ≡ Err PlanFault.Memory) }
+    ensures refused { IfErr read (λ error. ¬ (IsMemory error) → result ≡ Err PlanFault.NotToml) }
 {
-    if error.is_memory() {
-        PlanFault::Memory
-    } else {
-        PlanFault::NotToml
+    match read {
+        Ok(table) => Ok(table),
+        Err(error) if error.is_memory() => Err(PlanFault::Memory),
+        Err(_) => Err(PlanFault::NotToml),
     }
 }
 

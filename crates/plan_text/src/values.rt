@@ -3,7 +3,7 @@
 ghost use Rattle.std.specs.Prelude.{◌≡◌, ◌≢◌, IfOk, None, Some};
 ghost use Rattle.shop_base.specs.Shop.{lists_of};
 ghost use Rattle.toml.specs.View.{view, items_view};
-ghost use Rattle.plan_text.specs.Answers.{Passes};
+ghost use Rattle.plan_text.specs.Answers.{Passes, PassesExactly};
 ghost use Rattle.plan_text.specs.Reading.{number_in, numbers_in, rows_in, each_item};
 ghost use Rattle.plan_text.specs.Listing.{number_faults, list_faults, row_faults, order_faults, each_faults};
 
@@ -15,7 +15,7 @@ use toml::Value;
 
 fn moment_of(key: PlanKey, place: usize, value: &Value) -> Result<Moment, PlanFault>
     requires { key ≢ PlanKey.Order }
-    ensures faults { Passes (number_faults key None place (view value.now)) result }
+    ensures faults { PassesExactly (number_faults key None place (view value.now)) result }
     ensures value { IfOk result (λ moment. moment ≡ number_in (view value.now)) }
 {
     let Some(number) = value.as_integer() else {
@@ -36,7 +36,7 @@ fn moment_of(key: PlanKey, place: usize, value: &Value) -> Result<Moment, PlanFa
 }
 
 fn job_of(row: usize, place: usize, value: &Value) -> Result<JobNo, PlanFault>
-    ensures faults { Passes (number_faults PlanKey.Order (Some row) place (view value.now)) result }
+    ensures faults { PassesExactly (number_faults PlanKey.Order (Some row) place (view value.now)) result }
     ensures value { IfOk result (λ job. job ≡ number_in (view value.now)) }
 {
     let Some(number) = value.as_integer() else {
