@@ -30,3 +30,6 @@ loop-job-preserved c =
 pub returns : goal.returns
 returns c = jobs_end (lists_of c.loop-job.routes.items) c.args.jobs c.loop-job.job (lines_left c.loop-job.left) (jobs_at 0 c.args.jobs (lines_left c.args.lines))
     c.loop-job-test.false c.loop-job.invariant
+
+pub loop-job-init : goal.loop-job-init
+loop-job-init c = search rules
