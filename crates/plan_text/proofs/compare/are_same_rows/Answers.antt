@@ -1,4 +1,5 @@
-use Rattle.std.proofs.Common.{◌≡◌, ◌<◌, length, sym, ◌∙◌, arith, rules}
+use Rattle.std.proofs.Common.{◌≡◌, ◌<◌, length, sym, ◌∙◌, arith}
+use Rattle.std.proofs.lemmas.Grind.{common_steps}
 use Rattle.std.proofs.lemmas.Bool.{MatchBool-at_true, MatchBool-at_false}
 use Rattle.plan_text.proofs.Rows.{same_more, row_same}
 use Rattle.plan_text.proofs.compare.are_same_rows.Goals as goal
@@ -19,4 +20,4 @@ loop-i-preserved c =
     same_more c.args.a.now c.args.b.now c.loop-i.i c.index-a-i.result c.index-b-i.result la lb c.index-a-i.is c.index-b-i.is e c.loop-i.invariant
 
 pub returns : goal.returns
-returns c = search rules
+returns c = grind (arith, common_steps)
