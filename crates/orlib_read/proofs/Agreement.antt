@@ -4,6 +4,8 @@ use Rattle.std.specs.Prelude.{◌⊎◌, IfOk, IfErr}
 use Rattle.shop_base.specs.declared.shop_fault.ShopFault.{ShopFault}
 use Rattle.shop_base.specs.Shop.{JobShop, IsShop}
 use Rattle.shop_base.specs.ShopFault.{IsFirstFault}
+use Rattle.shop_base.proofs.Refusals.{fault_refutes}
+use Rattle.shop_base.proofs.OneFault.{fault_once}
 use Rattle.orlib_read.specs.declared.named.Named.{Named}
 use Rattle.orlib_read.specs.declared.or_fault.OrFault.{OrFault}
 use Rattle.orlib_read.specs.declared.or_fault.OrFault.TheVariants.{NoInstance, NoSizes, BadSizes, MissingJob, BadNumber, OddWords, Extra, Shop, Memory}
@@ -15,7 +17,6 @@ use Rattle.orlib_read.specs.Answers.{IsRead, IsRefused, content_with, GivesNoSho
 use Rattle.orlib_read.proofs.Numbers.{done, failed, ok_is, err_is}
 use Rattle.orlib_read.proofs.Drafts.{instance_is, instance_again, instance_fault, instance_cut, instance_extra}
 use Rattle.orlib_read.proofs.Sections.{section_content, section_content_again, section_fault, section_lacks, section_cut}
-use Rattle.orlib_read.proofs.Shops.{no_fault, one_fault}
 
 abbrev shop_of : Content → JobShop
 shop_of content = record { machines = content.machines; routes = content.routes }
@@ -105,13 +106,13 @@ read_or_failed content fault h k = let both : done content ≡ failed fault = sy
 shop_or_none : {P : Type 0} {reading : Result Content OrFault} {fault : OrFault} (content : Content) → reading ≡ Ok content → IsShop (shop_of content) → GivesNoShop reading fault → P
 shop_or_none content h s none =
     let e = ok_is content none.content (sym h ∙ none.gives) in
-    absurd (no_fault content.machines content.routes none.reason s (subst (λ (c : Content). IsFirstFault c.machines c.routes none.reason) (sym e) none.wrong))
+    absurd (fault_refutes content.machines content.routes none.reason (subst (λ (c : Content). IsFirstFault c.machines c.routes none.reason) (sym e) none.wrong) s)
 
 same_reason : {reading : Result Content OrFault} (fault other : OrFault) → GivesNoShop reading fault → GivesNoShop reading other → fault ≡ other
 same_reason fault other f g =
     let e = ok_is g.content f.content (sym g.gives ∙ f.gives) in
     let wrong : IsFirstFault f.content.machines f.content.routes g.reason = subst (λ (c : Content). IsFirstFault c.machines c.routes g.reason) e g.wrong in
-    f.is ∙ ap (λ (reason : ShopFault). Shop reason) (one_fault f.content.machines f.content.routes f.reason g.reason f.wrong wrong) ∙ sym g.is
+    f.is ∙ ap (λ (reason : ShopFault). Shop reason) (fault_once f.content.machines f.content.routes f.reason g.reason f.wrong wrong) ∙ sym g.is
 
 pub found : {reading : Result Content OrFault} {Is : List ℕ → JobShop → Type 0} {Wrong : OrFault → Type 0} → Agrees reading Is Wrong
     → (result : Result Named OrFault) → Answers result reading → IfOk result (λ named. Is named.description.items named.shop)

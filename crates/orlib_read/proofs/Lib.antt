@@ -7,5 +7,4 @@ pub mod Jobs
 pub mod Heads
 pub mod Drafts
 pub mod Sections
-pub mod Shops
 pub mod Agreement
