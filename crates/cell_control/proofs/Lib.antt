@@ -1,2 +1,14 @@
 pub mod Earliest
 pub mod Trees
+pub mod Cells
+pub mod Writes
+pub mod Moves
+pub mod Tied
+pub mod Seats
+pub mod Sequences
+pub mod Endings
+pub mod Reading
+pub mod Steps
+pub mod Holding
+pub mod Promises
+pub mod Reasons

@@ -1,2 +1,12 @@
 pub mod Dues
 pub mod Tourney
+pub mod Tables
+pub mod Ties
+pub mod Moving
+pub mod Sequences
+pub mod Steps
+pub mod Reports
+pub mod Readings
+pub mod Control
+pub mod Held
+pub mod Promises

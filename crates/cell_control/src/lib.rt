@@ -1,16 +1,37 @@
-//! The control of a cell: for now, the due moments of the activities that are going on.
+//! The control of a cell by an accepted plan: it is told what ends, and orders the moves that keep the plan.
 //!
-//! Moments are whole time units, counted from moment 0. Only [`Dues::sized`] takes memory.
+//! A [`Controller`] is made of a `Verified` plan and takes one [`Report`] at a time. It accepts just the
+//! reports that are possible, and answers each with the moves that it releases.
+//!
+//! Moments are whole time units, counted from moment 0. Only [`Controller::new`] and [`Dues::sized`] take
+//! memory.
 #![tactic(auto)]
 
+mod checking;
+mod controller;
 mod dues;
+mod ending;
 mod entries;
 pub mod laws;
+mod moving;
+mod places;
+mod readings;
+mod releasing;
+mod report;
+mod report_fault;
+mod reserved;
 mod scan_dues;
+mod step;
+mod tables;
+mod ties;
 mod tourney_dues;
 
+pub use controller::Controller;
 pub use dues::Dues;
+pub use report::{Ack, Phase, Report};
+pub use report_fault::ReportFault;
 pub use scan_dues::ScanDues;
+pub use shop_base::{MoveOrder, Spot};
 pub use tourney_dues::TourneyDues;
 
 #[cfg(test)]

@@ -1,0 +1,25 @@
+use Rattle.std.proofs.Common.{◌+◌, ◌-◌, refl, subst}
+use Rattle.shop_base.specs.Plan.{nominal}
+use Rattle.shop_base.specs.Cell.{made, since, IsOn}
+use Rattle.cell_control.specs.Tables.{cell_of}
+use Rattle.cell_control.proofs.checking.check_finish.Goals as goal
+
+pub returns-clause-possible : goal.returns-clause-possible
+returns-clause-possible c =
+    let p = c.args.shaped.now in
+    let cell = cell_of p c.args.tables.now in
+    let k = made cell c.args.job - 1 in
+    record {
+      going = (
+        since cell c.args.job + nominal p c.args.job k,
+        (
+          k,
+          record {
+            on = subst (IsOn p cell c.args.job k) c.if-actual-machine.false c.in-Some.ensures;
+            not_ready = c.in_ok-check_job.ensures.taken.busy.not_ready;
+            is_due = refl;
+          },
+        ),
+      );
+      moment = c.in_ok-check_job.ensures.taken.moment;
+    }

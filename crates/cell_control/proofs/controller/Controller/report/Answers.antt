@@ -1,0 +1,70 @@
+use Rattle.std.proofs.Common.{◌≡◌, ◌+◌, ◌-◌, arith, ap, sym, subst, refl}
+use Rattle.shop_base.specs.Report.{CanReport}
+use Rattle.shop_base.specs.Run.{IsAtRest}
+use Rattle.cell_control.specs.Control.{Control, IsAnswered}
+use Rattle.cell_control.specs.Held.{control_of, IsHeld}
+use Rattle.cell_control.specs.Reports.{said, IsFirstReason}
+use Rattle.cell_control.specs.Promises.{taken, refused}
+use Rattle.cell_control.specs.Steps.{IsMade}
+use Rattle.cell_control.specs.Tables.{cell_of, AreSound}
+use Rattle.cell_control.specs.Ties.{AreTied}
+use Rattle.cell_control.proofs.Reasons.{reason-cannot}
+use Rattle.cell_control.proofs.Holding.{answered, some_left, counts_fit, held_after}
+use Rattle.cell_control.proofs.controller.Controller.report.Goals as goal
+
+pub make_step-ack-requires-clause-rest : goal.make_step-ack-requires-clause-rest
+make_step-ack-requires-clause-rest g c =
+    subst (λ p. IsAtRest p (cell_of p c.self.inside.tables)) (sym c.shaped-shaped.ensures.same) c.self.invariant.control.at_rest
+
+pub overflow_add-self : goal.overflow_add-self
+overflow_add-self g c =
+    let s = c.self.inside in
+    let made : IsMade s.verified.planned (cell_of s.verified.planned s.tables) (said c.args.report) c.make_step-ack.result c.make_step-ack.new.orders.items
+    (cell_of s.verified.planned c.make_step-ack.new.tables) =
+    subst (λ p. IsMade p (cell_of p s.tables) (said c.args.report) c.make_step-ack.result c.make_step-ack.new.orders.items (cell_of p c.make_step-ack.new.tables))
+    c.shaped-shaped.ensures.same c.make_step-ack.ensures.made in
+    omega (arith, counts_fit s.verified s.tables (g.D.Dues.dues s.dues) s.orders s.accepted s.left s.punctual c.self.invariant c.make_step-ack.new.tables (said c.args.report) c.make_step-ack.result c.make_step-ack.new.orders.items made)
+
+pub overflow_sub-self : goal.overflow_sub-self
+overflow_sub-self g c =
+    let s = c.self.inside in
+    let made : IsMade s.verified.planned (cell_of s.verified.planned s.tables) (said c.args.report) c.make_step-ack.result c.make_step-ack.new.orders.items
+    (cell_of s.verified.planned c.make_step-ack.new.tables) =
+    subst (λ p. IsMade p (cell_of p s.tables) (said c.args.report) c.make_step-ack.result c.make_step-ack.new.orders.items (cell_of p c.make_step-ack.new.tables))
+    c.shaped-shaped.ensures.same c.make_step-ack.ensures.made in
+    omega (arith, some_left s.verified s.tables (g.D.Dues.dues s.dues) s.orders s.accepted s.left s.punctual c.self.invariant c.make_step-ack.new.tables (said c.args.report) c.make_step-ack.result c.make_step-ack.new.orders.items made)
+
+pub invariant_of-self : goal.invariant_of-self
+invariant_of-self g c =
+    let s = c.self.inside in
+    let new = c.make_step-ack.new in
+    let made : IsMade s.verified.planned (cell_of s.verified.planned s.tables) (said c.args.report) c.make_step-ack.result new.orders.items (cell_of s.verified.planned new.tables) =
+    subst (λ p. IsMade p (cell_of p s.tables) (said c.args.report) c.make_step-ack.result new.orders.items (cell_of p new.tables)) c.shaped-shaped.ensures.same c.make_step-ack.ensures.made in
+    let sound : AreSound s.verified.planned new.tables = subst (λ p. AreSound p new.tables) c.shaped-shaped.ensures.same c.make_step-ack.ensures.sound in
+    let tied : AreTied s.verified.planned (cell_of s.verified.planned new.tables) (g.D.Dues.dues new.dues) =
+    subst (λ p. AreTied p (cell_of p new.tables) (g.D.Dues.dues new.dues)) c.shaped-shaped.ensures.same c.make_step-ack.ensures.tied in
+    subst (λ still. IsHeld s.verified new.tables (g.D.Dues.dues new.dues) new.orders (s.accepted + 1) (s.left - 1) still) (sym c.still_punctual-self-inside.ensures)
+    (held_after s.verified s.tables (g.D.Dues.dues s.dues) s.orders s.accepted s.left s.punctual c.self.invariant new.tables (said c.args.report) c.make_step-ack.result new.orders.items made
+    (g.D.Dues.dues new.dues) new.orders refl c.make_step-ack.ensures.capacity sound tied)
+
+pub returns-clause-answered : goal.returns-clause-answered
+returns-clause-answered g c =
+    let s = c.self.inside in
+    let new = c.make_step-ack.new in
+    let made : IsMade s.verified.planned (cell_of s.verified.planned s.tables) (said c.args.report) c.make_step-ack.result new.orders.items (cell_of s.verified.planned new.tables) =
+    subst (λ p. IsMade p (cell_of p s.tables) (said c.args.report) c.make_step-ack.result new.orders.items (cell_of p new.tables)) c.shaped-shaped.ensures.same c.make_step-ack.ensures.made in
+    subst (λ (before : Control). IsAnswered before (said c.args.report) c.make_step-ack.result (control_of s.verified new.tables new.orders.items (s.accepted + 1) c.still_punctual-self-inside.result)) c.self.view_is
+    (subst (λ still. IsAnswered (control_of s.verified s.tables s.orders.items s.accepted s.punctual) (said c.args.report) c.make_step-ack.result (control_of s.verified new.tables new.orders.items (s.accepted + 1) still))
+    (sym c.still_punctual-self-inside.ensures)
+    (answered s.verified s.tables new.tables s.orders.items new.orders.items s.accepted s.punctual (said c.args.report) c.make_step-ack.result made))
+
+pub returns-clause-called : goal.returns-clause-called
+returns-clause-called g c = taken c.args.self.now (said c.args.report) c.make_step-ack.result _ (returns-clause-answered g c)
+
+pub returns-in_err-check_report-clause-called : goal.returns-in_err-check_report-clause-called
+returns-in_err-check_report-clause-called g c =
+    let s = c.self.inside in
+    refused c.args.self.now (said c.args.report)
+    (subst (λ (v : Control). CanReport v.plan.planned v.cell (said c.args.report) → ⊥) c.self.view_is
+    (reason-cannot s.verified.planned (cell_of s.verified.planned s.tables) (said c.args.report) c.in_err-check_report.field-0.0 c.self.invariant.control.sound
+    (subst (λ p. IsFirstReason p (cell_of p s.tables) (said c.args.report) c.in_err-check_report.field-0.0) c.shaped-shaped.ensures.same c.in_err-check_report.ensures.first)))

@@ -1,0 +1,93 @@
+use Rattle.std.specs.Prelude.{◌≡◌, ◌≢◌, ℕ, ◌+◌, ◌<◌, ◌≤◌, Bool, true, false, None, ◌⊎◌, Option, Some}
+use Rattle.shop_base.specs.declared.limits.TheConstants.{MAX_MOMENT}
+use Rattle.shop_base.specs.Plan.{PlannedShop, jobs, machines}
+use Rattle.shop_base.specs.Cell.{Cell, ready, cleaning, IsOutside, IsOn, IsGone}
+use Rattle.shop_base.specs.Activity.{Activity, Arrival, Operation, Cleaning, GoesOn}
+use Rattle.shop_base.specs.Report as base
+use Rattle.shop_base.specs.Report.{IsNextMoment}
+use Rattle.cell_control.specs.declared.report.Report.{Report}
+use Rattle.cell_control.specs.declared.report.Report.TheVariants.{Arrive, Finish, Clean}
+use Rattle.cell_control.specs.declared.report_fault.ReportFault.{ReportFault}
+use Rattle.cell_control.specs.declared.report_fault.ReportFault.TheVariants.{JobOutOfRange, MachineOutOfRange, MomentTooLarge, Backwards, NotExpected, WrongKind, WrongMachine}
+
+-- what a report says: which activity has ended, and when
+abbrev pub said : Report → base.Report
+said (Arrive job at) = record { ended = Arrival job; at = at }
+said (Finish job machine at) = record { ended = Operation job machine; at = at }
+said (Clean machine at) = record { ended = Cleaning machine; at = at }
+
+-- an activity of a job, or the cleaning of a machine, of the shop
+abbrev pub IsOfShop : PlannedShop → Activity → Type 0
+IsOfShop p (Arrival j) = j < jobs p
+IsOfShop p (Operation j m) = j < jobs p
+IsOfShop p (Cleaning m) = m < machines p
+
+-- the job of the activity is ready or gone, so it has none, or the machine isn't being cleaned
+abbrev pub IsUnexpected : PlannedShop → Cell → Activity → Type 0
+IsUnexpected p c (Arrival j) = (ready c j ≡ true) ⊎ IsGone p c j
+IsUnexpected p c (Operation j m) = (ready c j ≡ true) ⊎ IsGone p c j
+IsUnexpected p c (Cleaning m) = cleaning c m ≡ None
+
+-- a report that is of the shop, and at a moment that can be the next
+pub record IsTaken (p : PlannedShop) (c : Cell) (r : base.Report) : Type 0 where
+  pub of_shop : IsOfShop p r.ended
+  pub moment : IsNextMoment c r.at
+
+-- job j has an activity: it is neither ready nor gone
+pub record IsBusy (p : PlannedShop) (c : Cell) (j : ℕ) : Type 0 where
+  pub not_ready : ready c j ≡ false
+  pub not_gone : IsGone p c j → ⊥
+
+-- the job of the activity has one, but of the other kind: it is on a machine and not to arrive, or outside and on no machine
+abbrev pub IsOtherKind : PlannedShop → Cell → Activity → Type 0
+IsOtherKind p c (Arrival j) = IsBusy p c j × (IsOutside c j → ⊥)
+IsOtherKind p c (Operation j m) = IsBusy p c j × IsOutside c j
+IsOtherKind p c (Cleaning m) = ⊥
+
+-- the activity is an operation, and its job is on this machine, another, and busy there
+abbrev pub IsElsewhere : PlannedShop → Cell → Activity → ℕ → Type 0
+IsElsewhere p c (Arrival j) actual = ⊥
+IsElsewhere p c (Operation j m) actual = IsBusy p c j × ((k : ℕ) × IsOn p c j k actual) × (actual ≢ m)
+IsElsewhere p c (Cleaning m) actual = ⊥
+
+-- the report is of a job that is none of the shop's
+abbrev pub IsOfNoJob : PlannedShop → Activity → Type 0
+IsOfNoJob p (Arrival j) = jobs p ≤ j
+IsOfNoJob p (Operation j m) = jobs p ≤ j
+IsOfNoJob p (Cleaning m) = ⊥
+
+-- the report is of the cleaning of a machine that is none of the shop's
+abbrev pub IsOfNoMachine : PlannedShop → Activity → Type 0
+IsOfNoMachine p (Arrival j) = ⊥
+IsOfNoMachine p (Operation j m) = ⊥
+IsOfNoMachine p (Cleaning m) = machines p ≤ m
+
+-- this is the first reason for which a report isn't possible
+abbrev pub IsFirstReason : PlannedShop → Cell → base.Report → ReportFault → Type 0
+IsFirstReason p c r JobOutOfRange = IsOfNoJob p r.ended
+IsFirstReason p c r MachineOutOfRange = IsOfNoMachine p r.ended
+IsFirstReason p c r MomentTooLarge = IsOfShop p r.ended × (MAX_MOMENT < r.at)
+IsFirstReason p c r (Backwards last) = IsOfShop p r.ended × (r.at ≤ MAX_MOMENT) × (r.at < c.last) × (last ≡ c.last)
+IsFirstReason p c r NotExpected = IsTaken p c r × IsUnexpected p c r.ended
+IsFirstReason p c r WrongKind = IsTaken p c r × IsOtherKind p c r.ended
+IsFirstReason p c r (WrongMachine actual) = IsTaken p c r × IsElsewhere p c r.ended actual
+
+-- this is the first reason against the moment of a report
+abbrev pub IsMomentReason : Cell → ℕ → ReportFault → Type 0
+IsMomentReason c t MomentTooLarge = MAX_MOMENT < t
+IsMomentReason c t (Backwards last) = (t ≤ MAX_MOMENT) × (t < c.last) × (last ≡ c.last)
+IsMomentReason c t _ = ⊥
+
+-- this is the first reason against any report of the job at this moment
+abbrev pub IsJobReason : PlannedShop → Cell → ℕ → ℕ → ReportFault → Type 0
+IsJobReason p c j t JobOutOfRange = jobs p ≤ j
+IsJobReason p c j t MomentTooLarge = (j < jobs p) × (MAX_MOMENT < t)
+IsJobReason p c j t (Backwards last) = (j < jobs p) × (t ≤ MAX_MOMENT) × (t < c.last) × (last ≡ c.last)
+IsJobReason p c j t NotExpected = (j < jobs p) × IsNextMoment c t × ((ready c j ≡ true) ⊎ IsGone p c j)
+IsJobReason p c j t _ = ⊥
+
+-- a job of the shop that has an activity, at a moment that can be the next
+pub record IsJobTaken (p : PlannedShop) (c : Cell) (j t : ℕ) : Type 0 where
+  pub of_shop : j < jobs p
+  pub moment : IsNextMoment c t
+  pub busy : IsBusy p c j

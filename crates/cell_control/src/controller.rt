@@ -1,0 +1,222 @@
+ghost use Rattle.std.specs.Prelude.{◌≡◌, ℕ, ◌+◌, ◌<◌, ◌≤◌, ◌↔◌, MatchOption, IfOk, IfErr, OnOk, IsOk, IsTrue};
+ghost use Rattle.shop_base.specs.Plan.{jobs, machines};
+ghost use Rattle.shop_base.specs.Cell.{cleaning, IsOn, IsFree};
+ghost use Rattle.shop_base.specs.Activity.{Cleaning, GoesOn};
+ghost use Rattle.shop_base.specs.Report.{CanReport};
+ghost use Rattle.shop_base.specs.Ends.{stated_number, HasEnded};
+ghost use Rattle.shop_base.specs.ReportsLeft.{reports_left};
+ghost use Rattle.cell_control.specs.Control.{Control, at_start, IsAnswered, IsControl};
+ghost use Rattle.cell_control.specs.Reports.{said, IsFirstReason};
+ghost use Rattle.cell_control.specs.Promises.{IsCalled};
+ghost use Rattle.cell_control.specs.Readings.{IsPhase, IsDueOf};
+
+use crate::checking::check_report;
+use crate::dues::Dues;
+use crate::places::holder_of;
+use crate::readings::phase_of;
+use crate::releasing::Orders;
+use crate::report::{Ack, Phase, Report};
+use crate::report_fault::ReportFault;
+use crate::reserved::{Reserved, reserve};
+use crate::step::{make_step, still_punctual};
+use crate::tables::Tables;
+use crate::ties::cleaning_key;
+use plan_verifier::Verified;
+use shop_base::readers::{job_count, machine_count};
+use shop_base::{JobNo, MachineNo, Moment, MoveOrder};
+use std::alloc::{AllocError, Global};
+use std::marker::Model;
+
+/// Runs a cell by an accepted plan: it is told what ends, and orders the moves that then keep the plan.
+///
+/// It is made of a [`Verified`] plan. After each report the cell is at rest, and until the run has ended
+/// something goes on that can be reported; so the cell never locks, whatever ends first. Only
+/// [`Controller::new`] takes memory.
+#[derive(Debug, Drop)]
+pub struct Controller<D: Dues> {
+    verified: Verified,
+    tables: Tables,
+    dues: D,
+    orders: Orders,
+    accepted: u64,
+    left: u64,
+    punctual: bool,
+}
+
+impl<D: Dues> Model for Controller<D> {
+    ghost use Rattle.cell_control.specs.Control.{Control};
+    ghost use Rattle.cell_control.specs.Held.{control_of, IsHeld};
+
+    ghost Value = { Control };
+
+    ghost view = { λ c. control_of c.verified c.tables c.orders.items c.accepted c.punctual };
+
+    ghost invariant = { λ c. IsHeld c.verified c.tables (D.dues c.dues) c.orders c.accepted c.left c.punctual };
+}
+
+impl<D: Dues> Controller<D> {
+    /// The controller of an accepted plan before the first report: all jobs outside, no machine entered.
+    /// It reserves all memory that later calls need. Where memory is wanting the plan comes back.
+    pub fn new(alloc: Global, verified: Verified) -> Result<Controller<D>, (AllocError, Verified)>
+        ensures start { IfOk result (λ controller. controller ≡ at_start verified) }
+        ensures handed_back { IfErr result (λ refused. refused.1 ≡ verified) }
+    {
+        let left = verified.shaped().report_count();
+        match reserve(alloc, verified.shaped()) {
+            Ok(
+                Reserved {
+                    tables,
+                    dues,
+                    orders,
+                },
+            ) => Ok(Controller {
+                verified,
+                tables,
+                dues,
+                orders,
+                accepted: 0,
+                left,
+                punctual: true,
+            }),
+            Err(error) => Err((error, verified)),
+        }
+    }
+
+    /// Takes a report. Where it is possible, its activity has ended, and the moves are made that then
+    /// keep the plan, until no further one can be made: they stand in [`Controller::orders`]. Where it
+    /// isn't possible, the first reason is told, and nothing changes.
+    pub fn report(&mut self, report: Report) -> Result<Ack, ReportFault>
+        ensures possible { IsOk result ↔ CanReport self.old.plan.planned self.old.cell (said report) }
+        ensures answered { IfOk result (λ ack. IsAnswered self.old (said report) ack self.new) }
+        ensures first_reason { IfErr result (IsFirstReason self.old.plan.planned self.old.cell (said report)) }
+        ensures unchanged { IfErr result (λ fault. self.new ≡ self.old) }
+        ensures called { IsCalled self.old (said report) self.new }
+        ensures never_refused { (due : ℕ) → GoesOn self.old.plan.planned self.old.cell (said report).ended due → (said report).at ≡ self.old.cell.last → IsOk result }
+    {
+        let shaped = self.verified.shaped();
+        check_report(shaped, &self.tables, report)?;
+        let ack = make_step(
+            shaped,
+            &mut self.tables,
+            &mut self.dues,
+            &mut self.orders,
+            report,
+        );
+        self.accepted += 1;
+        self.left -= 1;
+        self.punctual = still_punctual(self.punctual, ack);
+        Ok(ack)
+    }
+
+    /// The moves that the last accepted report has released, in the order in which they are made; none
+    /// before the first report.
+    pub fn orders(&self) -> &[MoveOrder]
+        ensures { result.now ≡ self.now.orders }
+    {
+        self.orders.as_slice()
+    }
+
+    /// Where the job is; none for a number that is no job's.
+    pub fn phase(&self, job: JobNo) -> Option<Phase>
+        ensures { let p = self.now.plan.planned in
+            MatchOption result (jobs p ≤ job) (λ phase. (job < jobs p) × IsPhase p self.now.cell job phase) }
+    {
+        let shaped = self.verified.shaped();
+        if job < job_count(shaped) {
+            Some(phase_of(shaped, &self.tables, job))
+        } else {
+            None
+        }
+    }
+
+    /// The job that is on the machine, if one is; none for a number that is no machine's.
+    pub fn holder(&self, machine: MachineNo) -> Option<JobNo>
+        ensures { let p = self.now.plan.planned in
+            MatchOption result (IsFree p self.now.cell machine) (λ job. (k : ℕ) × IsOn p self.now.cell job k machine) }
+    {
+        let shaped = self.verified.shaped();
+        if machine < machine_count(shaped) {
+            holder_of(shaped, &self.tables, machine)
+        } else {
+            None
+        }
+    }
+
+    /// When the job's activity is due; none where it has none, since it is ready or gone or no job.
+    pub fn due(&self, job: JobNo) -> Option<Moment>
+        ensures { IsDueOf self.now.plan.planned self.now.cell job result }
+    {
+        if job < job_count(self.verified.shaped()) {
+            self.dues.get(job)
+        } else {
+            None
+        }
+    }
+
+    /// When the machine's cleaning is due; none where it isn't being cleaned.
+    pub fn clean_due(&self, machine: MachineNo) -> Option<Moment>
+        ensures { MatchOption result (cleaning self.now.cell machine ≡ None) (λ due. GoesOn self.now.plan.planned self.now.cell (Cleaning machine) due) }
+    {
+        let shaped = self.verified.shaped();
+        if machine < machine_count(shaped) {
+            self.dues.get(cleaning_key(shaped, machine))
+        } else {
+            None
+        }
+    }
+
+    /// The moment of the last accepted report, 0 before the first.
+    #[tactic(auto, unfolding(crate::specs::Tables::cell_of))]
+    pub fn now(&self) -> Moment
+        ensures { result ≡ self.now.cell.last }
+    {
+        self.tables.last
+    }
+
+    /// Whether no accepted report was late.
+    pub fn punctual(&self) -> bool
+        ensures { result ≡ self.now.punctual }
+    {
+        self.punctual
+    }
+
+    /// How many reports are still to come: an arrival of each job, an end of each operation, and an end
+    /// of each cleaning.
+    pub fn reports_left(&self) -> u64
+        ensures left { result ≡ reports_left self.now.plan.planned self.now.cell }
+        ensures count { self.now.accepted + result ≡ stated_number self.now.plan.planned }
+    {
+        self.left
+    }
+
+    /// Whether the run has ended: all jobs are gone, and no machine is being cleaned.
+    pub fn is_done(&self) -> bool
+        ensures { IsTrue result ↔ HasEnded self.now.plan.planned self.now.cell }
+    {
+        self.left == 0
+    }
+
+    /// The plan.
+    pub fn verified(&self) -> &Verified
+        ensures plan { result.now ≡ self.now.plan }
+        ensures control { IsControl self.now }
+    {
+        &self.verified
+    }
+
+    /// The plan, taken out.
+    pub fn into_verified(self) -> Verified
+        ensures { result ≡ self.plan }
+    {
+        let Controller {
+            verified,
+            tables: _,
+            dues: _,
+            orders: _,
+            accepted: _,
+            left: _,
+            punctual: _,
+        } = self;
+        verified
+    }
+}
