@@ -16,8 +16,7 @@ use Rattle.shop_base.proofs.Keeping.{start-sound}
 use Rattle.shop_base.proofs.ControlledRuns.{start_at_rest}
 use Rattle.shop_base.proofs.ReportsLeft.{start-reports_left, after_step-reports_left}
 use Rattle.shop_base.proofs.InTime.{start-keeps_moments, step-keeps_moments}
-use Rattle.alt_graph.specs.Times.{rank_of}
-use Rattle.plan_verifier.specs.Accepted.{VerifiedPlan, IsVerified, kept_at}
+use Rattle.plan_verifier.specs.Accepted.{VerifiedPlan, IsVerified, kept_at, rank_in}
 use Rattle.cell_control.specs.declared.report.Ack.{Ack}
 use Rattle.cell_control.specs.declared.tables.Tables.{Tables}
 use Rattle.cell_control.specs.Tables.{cell_of, AreTables, AreSound}
@@ -35,7 +34,7 @@ both false late is = absurd (cc)
 pub start_control : (v : VerifiedPlan) → IsVerified v → IsControl (at_start v)
 start_control v verified = record {
   verified = verified;
-  sound = start-sound v.planned verified.shaped;
+  sound = start-sound v.planned verified.schedule.shaped;
   at_rest = start_at_rest v.planned;
   counted = omega (arith, start-reports_left v.planned);
   on_time = λ punctual. start-keeps_moments v.planned (kept_at v);
@@ -94,8 +93,8 @@ module _ (v : VerifiedPlan) (old : Tables) (dues : List (Option ℕ)) (orders : 
   keeps sound still =
       let (so_far, now) = both punctual ack.late still in
       subst (KeepsMoments v.planned (kept_at v)) (sym made.leads)
-      (step-keeps_moments v.planned (rank_of v.times) (kept_at v) (cell_of v.planned old) r made.movers held.rows.shaped held.control.verified.ordered.times.rise
-      held.control.verified.ordered.times.fit held.control.sound held.control.at_rest (held.control.on_time so_far) made.step (made.late.0 now))
+      (step-keeps_moments v.planned (rank_in v) (kept_at v) (cell_of v.planned old) r made.movers held.rows.shaped held.control.verified.schedule.ranks
+      held.control.verified.schedule.moments held.control.sound held.control.at_rest (held.control.on_time so_far) made.step (made.late.0 now))
 
   -- what holds of a controller holds after a step
   pub held_after : (dues' : List (Option ℕ)) (orders' : SmallVec MoveOrder) → orders'.items ≡ items → orders'.capacity ≡ orders.capacity → AreSound v.planned new

@@ -14,8 +14,7 @@ use Rattle.shop_base.proofs.ControlledRuns.{controlled_to_run}
 use Rattle.shop_base.proofs.NeverStuck.{ended-or-goes_on, rest-not_stuck}
 use Rattle.shop_base.proofs.ReportsLeft.{ended_where_none, none_where_ended}
 use Rattle.shop_base.proofs.InTime.{leaving_kept, leaving-in_time}
-use Rattle.alt_graph.specs.Times.{rank_of}
-use Rattle.plan_verifier.specs.Accepted.{VerifiedPlan, kept_at}
+use Rattle.plan_verifier.specs.Accepted.{VerifiedPlan, kept_at, rank_in}
 use Rattle.cell_control.specs.Control.{Control, at_start, IsAnswered, IsControl}
 use Rattle.cell_control.specs.Promises as promise
 use Rattle.cell_control.specs.Promises.{KeepsBudget, NeverGoesWrong, IsCalled, AreCalled, CallsMakeTheControlledRun}
@@ -24,8 +23,8 @@ pub never_goes_wrong : (v : Control) → IsControl v → NeverGoesWrong v
 never_goes_wrong v control = record {
   at_rest = control.at_rest;
   apart = λ i k j l m one other. alone_on p v.cell i k j l m shaped control.sound one other;
-  not_stuck = rest-not_stuck p rank v.cell shaped control.verified.ordered.times.rise control.sound control.at_rest;
-  goes_on = ended-or-goes_on p rank v.cell shaped control.verified.ordered.times.rise control.sound control.at_rest;
+  not_stuck = rest-not_stuck p rank v.cell shaped control.verified.schedule.ranks control.sound control.at_rest;
+  goes_on = ended-or-goes_on p rank v.cell shaped control.verified.schedule.ranks control.sound control.at_rest;
   ends = (
     (λ ended. omega (arith, control.counted, none_where_ended p v.cell shaped control.sound ended)),
     λ all. ended_where_none p v.cell control.sound control.at_rest (omega (arith, control.counted)),
@@ -37,10 +36,10 @@ never_goes_wrong v control = record {
     p = v.plan.planned
 
     rank : Node → ℕ
-    rank = rank_of v.plan.times
+    rank = rank_in v.plan
 
     shaped : IsWellShaped p
-    shaped = control.verified.shaped
+    shaped = control.verified.schedule.shaped
 
     in_time : IsTrue v.punctual → (j : ℕ) → j < jobs p → KeepsBudget v j
     in_time punctual j inside =
@@ -104,5 +103,5 @@ calls_leave p c end (r ∷ rs) of_plan (mid, call, later) = call_leaves p c mid 
 pub calls_make_the_controlled_run : CallsMakeTheControlledRun
 calls_make_the_controlled_run v rs end verified calls =
     let left : Leaves v.planned (at_start v) rs end = calls_leave v.planned (at_start v) end rs refl calls in
-    let (run, ends, sound, rest) = controlled_to_run v.planned rs left.events end.cell verified.shaped left.leads in
+    let (run, ends, sound, rest) = controlled_to_run v.planned rs left.events end.cell verified.schedule.shaped left.leads in
     (left.events, left.leads, run, ends, left.plan_is, omega (arith, left.count))

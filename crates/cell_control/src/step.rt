@@ -1,6 +1,6 @@
 //! One step of the controlled run: a possible report, and the moves that it releases.
 
-ghost use Rattle.std.specs.Prelude.{◌≡◌, ℕ, ◌≤◌, ◌↔◌, ◌&&◌, not, Some, false};
+ghost use Rattle.std.specs.Prelude.{◌≡◌, ℕ, ◌≤◌, ◌↔◌, ◌&&◌, not, [], Some, false};
 ghost use Rattle.shop_base.specs.Plan.{jobs};
 ghost use Rattle.shop_base.specs.Report.{CanReport};
 ghost use Rattle.shop_base.specs.Run.{IsAtRest};
@@ -38,7 +38,7 @@ pub(crate) fn make_step<D: Dues>(
     let ack = Ack {
         late: is_late(dues, report.at()),
     };
-    orders.clear();
+    drop_orders(orders);
     let candidate = end_activity(shaped, tables, dues, report);
     release_moves(shaped, tables, dues, orders, candidate);
     ack
@@ -59,4 +59,12 @@ pub(crate) fn still_punctual(punctual: bool, ack: Ack) -> bool
     ensures { result ≡ (punctual && not ack.late) }
 {
     punctual && !ack.late
+}
+
+/// Drops the orders of the last report. The memory stays reserved.
+fn drop_orders(orders: &mut Orders)
+    ensures none { orders.new.items ≡ [] }
+    ensures capacity { orders.new.capacity ≡ orders.old.capacity }
+{
+    orders.clear();
 }

@@ -1,3 +1,1 @@
-mod cells;
 mod dues;
-mod runs;

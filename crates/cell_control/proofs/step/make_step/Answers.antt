@@ -9,8 +9,8 @@ pub release_moves-requires-clause-room : goal.release_moves-requires-clause-room
 release_moves-requires-clause-room g c =
     omega (
       arith,
-      ap length c.clear.ensures.items,
-      c.clear.ensures.capacity,
+      ap length c.drop_orders.ensures.none,
+      c.drop_orders.ensures.capacity,
       c.requires.room,
       ready_count-le c.args.shaped.now (cell_of c.args.shaped.now c.end_activity-candidate.new.tables),
     )
