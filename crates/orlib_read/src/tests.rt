@@ -64,7 +64,7 @@ fn shows(
 
 #[test]
 fn single_instances(rt: HostRuntime) -> Result<(), Fail> {
-    let rows: [(&[u8], &[u8]); 45] = [
+    let rows: [(&[u8], &[u8]); 12] = [
         (TWO, TWO_READ),
         (b"", b"NoSizes"),
         (b"two\n2 2\n0 3 1 2\n", b"MissingJob job 1"),
@@ -80,6 +80,23 @@ fn single_instances(rt: HostRuntime) -> Result<(), Fail> {
             b"2 2\n0 3 1 2\n1 4 0 1\n",
             b": 2 machines / 0 3 1 2 / 1 4 0 1",
         ),
+        (FT06, FT06_READ),
+        (COLLECTION, b"BadSizes line 5"),
+        // Any bytes may stand in a description.
+        (
+            b"\xff\x00 +\r\x80\r\n1 1\n0 1\n",
+            b"\xff\x00 +\r\x80: 1 machines / 0 1",
+        ),
+    ];
+    for (text, expected) in rows {
+        shows(&rt, rt.alloc(), read_instance(rt.alloc(), text), expected)?;
+    }
+    Ok(())
+}
+
+#[test]
+fn line_ends_and_blanks(rt: HostRuntime) -> Result<(), Fail> {
+    let rows: [(&[u8], &[u8]); 12] = [
         // Only one carriage return is dropped, and only at the end of a line.
         (b"two\r\n2 2\r\n0 3 1 2\r\n1 4 0 1\r\n", TWO_READ),
         (b"two\n2 2\n0 3 1 2\n1 4 0 1\r", TWO_READ),
@@ -98,6 +115,16 @@ fn single_instances(rt: HostRuntime) -> Result<(), Fail> {
         ),
         (b"\n+\ntwo\n\n2 +\n", b"BadSizes line 5"),
         (b"two\n+-\n", b"BadSizes line 2"),
+    ];
+    for (text, expected) in rows {
+        shows(&rt, rt.alloc(), read_instance(rt.alloc(), text), expected)?;
+    }
+    Ok(())
+}
+
+#[test]
+fn instance_lines(rt: HostRuntime) -> Result<(), Fail> {
+    let rows: [(&[u8], &[u8]); 7] = [
         // Instance lines are passed over before the first other line alone.
         (
             b"instance a\n+\n instance\tb\ntwo\n2 2\n0 3 1 2\n1 4 0 1\n",
@@ -118,6 +145,16 @@ fn single_instances(rt: HostRuntime) -> Result<(), Fail> {
             b"BadNumber line 4 word 1",
         ),
         (b"two\n1 2\n0 3 1 2\ninstance a\n", b"Extra line 4"),
+    ];
+    for (text, expected) in rows {
+        shows(&rt, rt.alloc(), read_instance(rt.alloc(), text), expected)?;
+    }
+    Ok(())
+}
+
+#[test]
+fn numbers_of_lines(rt: HostRuntime) -> Result<(), Fail> {
+    let rows: [(&[u8], &[u8]); 5] = [
         // Numbers have one to nine digits.
         (b"two\n000000002 2\n0 3 1 2\n01 4 0 000000001\n", TWO_READ),
         (b"two\n0000000002 2\n0 3 1 2\n1 4 0 1\n", b"BadSizes line 2"),
@@ -127,6 +164,16 @@ fn single_instances(rt: HostRuntime) -> Result<(), Fail> {
             b"Shop NominalTooLarge job 0 step 1",
         ),
         (b"two\n1 1\n+0 1\n", b"BadNumber line 3 word 1"),
+    ];
+    for (text, expected) in rows {
+        shows(&rt, rt.alloc(), read_instance(rt.alloc(), text), expected)?;
+    }
+    Ok(())
+}
+
+#[test]
+fn order_of_faults(rt: HostRuntime) -> Result<(), Fail> {
+    let rows: [(&[u8], &[u8]); 9] = [
         // In one line, the number of words comes first, and then the first of them that is no number.
         (b"two\n1 2\n0 x 1\n", b"OddWords line 3"),
         (b"two\n1 2\n0 1 y z\n", b"BadNumber line 3 word 3"),
@@ -138,13 +185,6 @@ fn single_instances(rt: HostRuntime) -> Result<(), Fail> {
         (b"1 0\n0 1\n", b"Shop NoMachines"),
         (b"1 2\n0 1 0 1\n", b"Shop MachineTwice job 0 step 1"),
         (b"999999999 1\n0 1\n", b"MissingJob job 1"),
-        (FT06, FT06_READ),
-        (COLLECTION, b"BadSizes line 5"),
-        // Any bytes may stand in a description.
-        (
-            b"\xff\x00 +\r\x80\r\n1 1\n0 1\n",
-            b"\xff\x00 +\r\x80: 1 machines / 0 1",
-        ),
     ];
     for (text, expected) in rows {
         shows(&rt, rt.alloc(), read_instance(rt.alloc(), text), expected)?;
@@ -224,8 +264,8 @@ fn alike(alloc: Global, jobs: u32) -> Result<String, Fail> {
 #[test]
 fn limits(rt: HostRuntime) -> Result<(), Fail> {
     let most = alike(rt.alloc(), 200)?;
-    let read = read_instance(rt.alloc(), most.as_bytes());
-    assert!(rt; matches!(read, Ok(named) if named.shop.operations() == 20000));
+    let named = read_instance(rt.alloc(), most.as_bytes())?;
+    assert_eq!(rt; named.shop.operations(), 20000);
     let more = alike(rt.alloc(), 201)?;
     shows(
         &rt,

@@ -29,8 +29,8 @@ fn joined(alloc: Global, parts: &[&[u8]]) -> Result<Vec<u8>, Fail> {
 }
 
 #[test]
-fn whole_texts(rt: HostRuntime) -> Result<(), Fail> {
-    let rows: [(&[u8], &[u8]); 31] = [
+fn missing_and_unknown_keys(rt: HostRuntime) -> Result<(), Fail> {
+    let rows: [(&[u8], &[u8]); 11] = [
         (b"", b"MissingKey key release"),
         (b"release = [", b"NotToml"),
         (b"release = [0, 0]\n", b"MissingKey key budget"),
@@ -49,6 +49,16 @@ fn whole_texts(rt: HostRuntime) -> Result<(), Fail> {
         (b"clean = [0]\n", b"UnknownKey"),
         (b"release = 3\nbudget = 3\n", b"MissingKey key order"),
         (b"version = 2\nrelease = [0, 0]\n", b"MissingKey key budget"),
+    ];
+    for (text, expected) in rows {
+        shows(&rt, rt.alloc(), text, expected)?;
+    }
+    Ok(())
+}
+
+#[test]
+fn whole_texts(rt: HostRuntime) -> Result<(), Fail> {
+    let rows: [(&[u8], &[u8]); 13] = [
         // A key given twice, and numbers that no TOML integer holds.
         (
             b"release = []\nrelease = []\nbudget = []\norder = []\n",
@@ -92,6 +102,20 @@ fn whole_texts(rt: HostRuntime) -> Result<(), Fail> {
             b"\"rel\\u0065ase\" = [0, 0]\nbudget = [5, 10]\norder = [[0, 1], [0, 1]]\nversion = 0x1\n",
             IN_SERIES_READ,
         ),
+        // Bytes that are no text.
+        (b"\xff", b"NotToml"),
+        (b"# \xc3\n", b"NotToml"),
+        (b"release = [0]\nx = '\x80'\n", b"NotToml"),
+    ];
+    for (text, expected) in rows {
+        shows(&rt, rt.alloc(), text, expected)?;
+    }
+    Ok(())
+}
+
+#[test]
+fn order_of_faults(rt: HostRuntime) -> Result<(), Fail> {
+    let rows: [(&[u8], &[u8]); 7] = [
         // The lists come in the order of their keys, each from its first element on.
         (
             b"order = 1\nbudget = 1\nrelease = [0, 'a']\n",
@@ -121,10 +145,6 @@ fn whole_texts(rt: HostRuntime) -> Result<(), Fail> {
             b"release = []\nbudget = [[1]]\norder = [[0]]\n",
             b"NotWhole key budget place 0",
         ),
-        // Bytes that are no text.
-        (b"\xff", b"NotToml"),
-        (b"# \xc3\n", b"NotToml"),
-        (b"release = [0]\nx = '\x80'\n", b"NotToml"),
     ];
     for (text, expected) in rows {
         shows(&rt, rt.alloc(), text, expected)?;
