@@ -12,7 +12,7 @@ use Rattle.plan_seek.specs.Orders.{Answer}
 use Rattle.plan_seek.specs.Tasks.{PlanTask, with_order}
 use Rattle.plan_seek.specs.Turns.{Answers, MayAnswer, IsInVain, MayFail, IsFirstFound, EachMayFail, EachInRound, turn_of}
 use Rattle.plan_seek.specs.Outcomes.{IsPlanFor, IsOutcome, IsFoundIn}
-use Rattle.plan_seek.proofs.Faults.{fault_excludes_shape}
+use Rattle.shop_base.proofs.Refusals.{shape_fault_refutes}
 
 -- the task that a plan was to do
 abbrev task_behind : PlannedShop → PlanTask
@@ -47,7 +47,7 @@ refused_outcome t back orders shop other_shop plan other_plan fault is same_shop
     let of_shop : JobShop → PlannedShop = λ s. record { shop = s; plan = other_plan } in
     let of_plan : ShopPlan → PlannedShop = λ q. record { shop = shop; plan = q } in (
       same_task back t other_plan.order orders (sym behind ∙ ap of_shop same_shop ∙ ap of_plan same_plan ∙ is),
-      λ accepted. fault_excludes_shape (record { shop = shop; plan = plan }) fault first (subst IsWellShaped (sym is) accepted.shaped),
+      λ accepted. shape_fault_refutes (record { shop = shop; plan = plan }) fault first (subst IsWellShaped (sym is) accepted.shaped),
     )
 
 -- orders that may be answered were put to the test

@@ -1,5 +1,4 @@
 pub mod Rows
 pub mod SerialPlan
 pub mod SeriallyLate
-pub mod Faults
 pub mod Asking
