@@ -2,10 +2,11 @@
 
 use crate::files::read_file;
 use command_answers::{
-    Answer, CommandFault, FileFault, GOOD, check_of, facts_answer, load_instance, read_whole,
-    shape_of,
+    Answer, CommandFault, FileFault, GOOD, check_of, facts_answer, load_instance, plan_for,
+    read_whole, shape_of,
 };
 use command_words::{Chosen, CommandName, WordsFault, read_words};
+use plan_seek::{GreedyProposer, Proposer, ShiftProposer};
 use shop_base::Shop;
 use std::alloc::{AllocError, Global};
 use std::env;
@@ -103,8 +104,22 @@ fn command_answer(rt: &HostRuntime, alloc: Global, chosen: &Chosen) -> Result<An
             let shop = instance(rt, alloc, chosen)?;
             Ok(check_of(alloc, shop, &file(rt, alloc, chosen, 1)?)?)
         }
+        CommandName::Plan => {
+            let shop = instance(rt, alloc, chosen)?;
+            searched(alloc, shop, &file(rt, alloc, chosen, 1)?, chosen.rounds)
+        }
         _ => Err(Failure::NoAnswerYet),
     }
+}
+
+/// The answer of `plan`. The greedy planner is asked first.
+fn searched(alloc: Global, shop: Shop, plan: &[u8], rounds: u32) -> Result<Answer, Failure> {
+    let mut proposers: Vec<Box<dyn Proposer>> = Vec::new(alloc);
+    let greedy: Box<dyn Proposer> = Box::new(alloc, GreedyProposer::new())?;
+    proposers.push(greedy).map_err(AllocError::from)?;
+    let shift: Box<dyn Proposer> = Box::new(alloc, ShiftProposer::new())?;
+    proposers.push(shift).map_err(AllocError::from)?;
+    Ok(plan_for(alloc, shop, plan, &proposers, rounds)?)
 }
 
 /// The shop that the first file tells. It is read before any other file.

@@ -2,6 +2,7 @@
 
 mod checks;
 mod facts;
+mod plans;
 mod shapes;
 
 /// Two jobs on two machines.

@@ -2,3 +2,4 @@ pub mod Telling
 pub mod PlanTelling
 pub mod CheckLines
 pub mod Passing
+pub mod SearchLines

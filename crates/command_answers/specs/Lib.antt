@@ -5,3 +5,4 @@ pub mod Facts
 pub mod Plans
 pub mod Shapes
 pub mod Checks
+pub mod Search

@@ -10,6 +10,7 @@ mod loading;
 mod plans;
 mod print;
 mod reading;
+mod search;
 mod shapes;
 
 pub use answer::{Answer, GOOD, REFUSED};
@@ -20,4 +21,5 @@ pub use instances::load_instance;
 pub use loading::{Loaded, load, load_for};
 pub use plans::load_plan;
 pub use reading::{FileFault, MAX_BYTES, read_whole};
+pub use search::{plan_answer, plan_for};
 pub use shapes::{shape_answer, shape_of};

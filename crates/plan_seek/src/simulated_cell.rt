@@ -1,4 +1,7 @@
 //! A cell that is only simulated, without orders: where the jobs are, and who can move.
+//!
+//! Sums saturate: an entered step is one of at most 100, and no moment comes near the bound within 100,000
+//! choices of at most 1,000,000 time units each.
 
 use shop_base::{JobNo, MachineNo, Moment, Shop, Step};
 use std::alloc::{AllocError, Global};
@@ -42,6 +45,7 @@ impl SimulatedCell {
         Ok(SimulatedCell { parts, holders })
     }
 
+    /// The same cell, to look ahead in.
     pub fn copy(&self, alloc: Global) -> Result<SimulatedCell, AllocError> {
         Ok(SimulatedCell {
             parts: self.parts.as_slice().to_vec(alloc)?,

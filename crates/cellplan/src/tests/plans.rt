@@ -1,0 +1,91 @@
+use super::{COLLECTION, TWO};
+use command_answers::{CommandFault, plan_answer};
+use orlib_read::OrFault;
+use plan_seek::{GreedyProposer, Proposer, ShiftProposer};
+use plan_text::PlanFault;
+use std::process::Abort;
+use std::test::Fail;
+
+const CROSSING: &[u8] = b"release = [0, 0]\nbudget = [10, 5]\norder = [[0, 1], [0, 1]]\n";
+
+const LATE: &[u8] = b"release = [0, 0]\nbudget = [4, 4]\norder = [[0, 1], [0, 1]]\n";
+
+const IN_TIME: &[u8] = b"release = [0, 0]\nbudget = [5, 10]\norder = []\n";
+
+#[test]
+fn finds_plans(rt: HostRuntime) -> Result<(), Fail> {
+    let mut proposers: Vec<Box<dyn Proposer>> = Vec::new(rt.alloc());
+    proposers.push(Box::new(rt.alloc(), GreedyProposer::new())?)?;
+    proposers.push(Box::new(rt.alloc(), ShiftProposer::new())?)?;
+    let lines: [(&[u8], u32, &[u8], u8); 8] = [
+        (
+            CROSSING,
+            20,
+            b"release = [0, 0]\nbudget = [10, 5]\norder = [[1, 0], [1, 0]]\n",
+            0,
+        ),
+        (CROSSING, 0, b"exhausted\n", 1),
+        (LATE, 20, b"exhausted\n", 1),
+        (
+            IN_TIME,
+            0,
+            b"release = [0, 0]\nbudget = [5, 10]\norder = [[0, 1], [0, 1]]\n",
+            0,
+        ),
+        (
+            b"release = [0]\nbudget = [5, 10]\norder = []\n",
+            1001,
+            b"bad numbers ReleaseCount\n",
+            1,
+        ),
+        (IN_TIME, 1001, b"too many rounds\n", 1),
+        (
+            b"version = 2\nrelease = [0, 0]\nbudget = [5, 12]\norder = [[0, 1], [0, 1]]\nclean = [0, 2]\n",
+            20,
+            b"version = 2\nrelease = [0, 0]\nbudget = [5, 12]\norder = [[0, 1], [0, 1]]\nclean = [0, 2]\n",
+            0,
+        ),
+        (
+            b"version = 2\nrelease = [0, 0]\nbudget = [5, 11]\norder = [[0, 1], [0, 1]]\nclean = [0, 2]\n",
+            20,
+            b"exhausted\n",
+            1,
+        ),
+    ];
+    for (plan, rounds, want, status) in &lines {
+        let answer = plan_answer(rt.alloc(), TWO, None, plan, &proposers, *rounds)?;
+        assert_eq!(rt; answer.text.as_slice(), *want);
+        assert_eq!(rt; answer.status, *status);
+    }
+    let named = plan_answer(
+        rt.alloc(),
+        COLLECTION,
+        Some(b"two"),
+        CROSSING,
+        &proposers,
+        2,
+    )?;
+    assert_eq!(rt; named.status, 0);
+    Ok(())
+}
+
+#[test]
+fn tells_which_text_of_a_search_is_refused(rt: HostRuntime) -> Result<(), Fail> {
+    let none: Vec<Box<dyn Proposer>> = Vec::new(rt.alloc());
+    match plan_answer(
+        rt.alloc(),
+        COLLECTION,
+        Some(b"ft07"),
+        b"release = [",
+        &none,
+        1,
+    ) {
+        Err(CommandFault::Instance(OrFault::NoInstance)) => {}
+        _ => panic!(rt; "the instance isn't looked for first"),
+    }
+    match plan_answer(rt.alloc(), TWO, None, b"release = [", &none, 1) {
+        Err(CommandFault::Plan(PlanFault::NotToml)) => {}
+        _ => panic!(rt; "the plan's text is taken"),
+    }
+    Ok(())
+}

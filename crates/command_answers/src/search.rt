@@ -1,0 +1,168 @@
+//! The command `plan`.
+
+ghost use Rattle.std.specs.Prelude.{◌≡◌, length, IfOk, IfErr};
+ghost use Rattle.std.specs.Option.{option_copied};
+ghost use Rattle.shop_base.specs.Plan.{ShopPlan, PlannedShop};
+ghost use Rattle.orlib_read.specs.declared.or_fault.OrFault.{OrFault};
+ghost use Rattle.plan_text.specs.declared.plan_fault.PlanFault.{PlanFault};
+ghost use Rattle.plan_text.specs.Documents.{IsPlanText, IsFirstFault};
+ghost use Rattle.plan_seek.specs.Tasks.{with_order, IsAccepted};
+ghost use Rattle.plan_seek.specs.Turns.{MayAnswer};
+ghost use Rattle.plan_seek.specs.Search.{IsSought, IsSeekFault};
+ghost use Rattle.command_answers.specs.Instances.{HasFault, IsInstanceRefusal};
+ghost use Rattle.command_answers.specs.Plans.{TellBoth, TellsAShop, IsPlanRefusal, IsOfPlan, IsOfBoth};
+ghost use Rattle.command_answers.specs.Search.{task_in, IsSearchLine, IsSearchAnswer, IsSearchFault, IsSearchFaultOfBoth, IsDocumentAnswer, IsNoPlanAnswer, IsBadNumbersLine};
+
+use crate::answer::{Answer, GOOD, REFUSED};
+use crate::command_fault::CommandFault;
+use crate::instances::load_instance;
+use crate::plans::load_plan;
+use crate::print::end_line;
+use plan_seek::{NotFound, Proposer, SeekFault, seek};
+use plan_text::{PlanFault, plan_document};
+use plan_verifier::Verified;
+use shop_base::{Plan, ShapeFault, Shop};
+use std::alloc::{AllocError, Global};
+
+/// A plan with the releases, budgets and cleaning times of this one that is accepted, as its text: the first
+/// answer of a proposer that is accepted, or else the serial plan. The orders of the given plan are read and
+/// not used. Without a name the first text is one instance, else a collection with an instance of this name.
+pub fn plan_answer(
+    alloc: Global,
+    instance: &[u8],
+    name: Option<&[u8]>,
+    plan: &[u8],
+    proposers: &[Box<dyn Proposer>],
+    rounds: u32,
+) -> Result<Answer, CommandFault>
+    ensures found { IfOk result (IsOfBoth instance.now (option_copied name.entry) plan.now
+        (λ p. IsSearchLine (MayAnswer (λ b. may b p.shop) proposers.now) rounds (length proposers.now) p)) }
+    ensures only { (p : PlannedShop) → TellBoth instance.now (option_copied name.entry) plan.now p →
+        IsSearchAnswer (MayAnswer (λ b. may b p.shop) proposers.now) rounds (length proposers.now) p result }
+    ensures fault { IfErr result (IsSearchFaultOfBoth instance.now (option_copied name.entry) plan.now
+        (λ p. MayAnswer (λ b. may b p.shop) proposers.now) rounds (length proposers.now)) }
+    ensures first { (fault : OrFault) → HasFault instance.now (option_copied name.entry) fault → IsInstanceRefusal result fault }
+    ensures second { (fault : PlanFault) → TellsAShop instance.now (option_copied name.entry) → IsFirstFault plan.now fault → IsPlanRefusal result fault }
+{
+    let named = load_instance(alloc, instance, name)?;
+    plan_for(alloc, named.shop, plan, proposers, rounds)
+}
+
+/// A plan for the shop with the numbers of this one, as its text.
+pub fn plan_for(
+    alloc: Global,
+    shop: Shop,
+    plan: &[u8],
+    proposers: &[Box<dyn Proposer>],
+    rounds: u32,
+) -> Result<Answer, CommandFault>
+    ensures found { IfOk result (IsOfPlan shop plan.now (IsSearchLine (MayAnswer (λ b. may b shop) proposers.now) rounds (length proposers.now))) }
+    ensures only { (told : ShopPlan) → IsPlanText plan.now told →
+        IsSearchAnswer (MayAnswer (λ b. may b shop) proposers.now) rounds (length proposers.now) (record { shop = shop; plan = told }) result }
+    ensures fault { IfErr result (IsSearchFault shop plan.now (MayAnswer (λ b. may b shop) proposers.now) rounds (length proposers.now)) }
+    ensures first { (fault : PlanFault) → IsFirstFault plan.now fault → IsPlanRefusal result fault }
+{
+    let plan = load_plan(alloc, plan)?;
+    search_answer(alloc, shop, plan, proposers, rounds)
+}
+
+/// The answer of the search for a plan with these numbers.
+fn search_answer(
+    alloc: Global,
+    shop: Shop,
+    plan: Plan,
+    proposers: &[Box<dyn Proposer>],
+    rounds: u32,
+) -> Result<Answer, CommandFault>
+    ensures { IsSearchAnswer (MayAnswer (λ b. may b shop) proposers.now) rounds (length proposers.now) (record { shop = shop; plan = plan }) result }
+{
+    match seek_for(alloc, shop, plan, proposers, rounds) {
+        Ok(verified) => document_answer(alloc, &verified),
+        Err(fault) => no_plan_answer(alloc, fault),
+    }
+}
+
+/// The search for a plan with the numbers of this one.
+fn seek_for(
+    alloc: Global,
+    shop: Shop,
+    plan: Plan,
+    proposers: &[Box<dyn Proposer>],
+    rounds: u32,
+) -> Result<Verified, SeekFault>
+    ensures same { IfOk result (λ verified. verified.planned ≡ with_order (task_in (record { shop = shop; plan = plan })) verified.planned.plan.order) }
+    ensures accepted { IfOk result (λ verified. IsAccepted verified.planned) }
+    ensures sought { IfOk result (λ verified.
+        IsSought (task_in (record { shop = shop; plan = plan })) (MayAnswer (λ b. may b shop) proposers.now) rounds (length proposers.now) verified.planned.plan.order) }
+    ensures refused { IfErr result (IsSeekFault (task_in (record { shop = shop; plan = plan })) (MayAnswer (λ b. may b shop) proposers.now) rounds (length proposers.now)) }
+{
+    let Plan {
+        release,
+        budget,
+        order: _,
+        clean,
+    } = plan;
+    match seek(alloc, shop, release, budget, clean, proposers, rounds) {
+        Ok(verified) => Ok(verified),
+        Err(refused) => Err(reason(refused)),
+    }
+}
+
+/// The reason why there is no plan. What was handed back is dropped.
+fn reason(refused: NotFound) -> SeekFault
+    ensures { result ≡ refused.fault }
+{
+    refused.fault
+}
+
+/// The text of an accepted plan.
+fn document_answer(alloc: Global, verified: &Verified) -> Result<Answer, CommandFault>
+    ensures { IsDocumentAnswer verified.now.planned.plan result }
+{
+    match plan_document(alloc, verified.shaped().plan()) {
+        Ok(text) => Ok(Answer {
+            text: text.into_bytes(),
+            status: GOOD,
+        }),
+        Err(PlanFault::Memory) => Err(CommandFault::Memory),
+        Err(fault) => Err(CommandFault::Plan(fault)),
+    }
+}
+
+/// The line that says why there is no plan.
+fn no_plan_answer(alloc: Global, fault: SeekFault) -> Result<Answer, CommandFault>
+    ensures { IsNoPlanAnswer fault result }
+{
+    match fault {
+        SeekFault::BadNumbers(fault) => Ok(bad_numbers_answer(alloc, fault)?),
+        SeekFault::Exhausted => Ok(line_answer(alloc, b"exhausted\n")?),
+        SeekFault::TooManyRounds => Ok(line_answer(alloc, b"too many rounds\n")?),
+        SeekFault::Memory => Err(CommandFault::Memory),
+    }
+}
+
+fn line_answer(alloc: Global, line: &[u8]) -> Result<Answer, AllocError>
+    ensures { IfOk result (λ answer. (answer.text.items ≡ line.now) × (answer.status ≡ 1)) }
+{
+    let mut text = Vec::new(alloc);
+    text.extend_from_slice(line)?;
+    Ok(Answer {
+        text,
+        status: REFUSED,
+    })
+}
+
+/// The line of numbers that are bad, with their first fault.
+fn bad_numbers_answer(alloc: Global, fault: ShapeFault) -> Result<Answer, AllocError>
+    ensures { IfOk result IsBadNumbersLine }
+{
+    let words = fault.to_string(alloc)?;
+    let mut text = Vec::new(alloc);
+    text.extend_from_slice(b"bad numbers ")?;
+    text.extend_from_slice(words.as_bytes())?;
+    end_line(&mut text)?;
+    Ok(Answer {
+        text,
+        status: REFUSED,
+    })
+}
