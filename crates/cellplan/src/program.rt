@@ -115,9 +115,9 @@ fn command_answer(rt: &HostRuntime, alloc: Global, chosen: &Chosen) -> Result<An
 /// The answer of `plan`. The greedy planner is asked first.
 fn searched(alloc: Global, shop: Shop, plan: &[u8], rounds: u32) -> Result<Answer, Failure> {
     let mut proposers: Vec<Box<dyn Proposer>> = Vec::new(alloc);
-    let greedy: Box<dyn Proposer> = Box::new(alloc, GreedyProposer::new())?;
+    let greedy = Box::new(alloc, GreedyProposer::new()).map_err(AllocError::from)?;
     proposers.push(greedy).map_err(AllocError::from)?;
-    let shift: Box<dyn Proposer> = Box::new(alloc, ShiftProposer::new())?;
+    let shift = Box::new(alloc, ShiftProposer::new()).map_err(AllocError::from)?;
     proposers.push(shift).map_err(AllocError::from)?;
     Ok(plan_for(alloc, shop, plan, &proposers, rounds)?)
 }
