@@ -1,10 +1,8 @@
 -- The cell that the tables stand for: what is read in it, and what each write of a row makes of it.
-use Rattle.std.proofs.Common.{◌≡◌, ℕ, zero, suc, ◌+◌, ◌<◌, ◌≤◌, List, [], ◌∷◌, length, length-take-le, take, get_or, set, Option, None, Some, refl, sym, ◌∙◌, ap, arith, inl, inr}
-use Rattle.std.proofs.lemmas.Bool.{cases_lt}
+use Rattle.std.proofs.Common.{◌≡◌, ℕ, zero, suc, ◌+◌, ◌<◌, ◌≤◌, List, [], ◌∷◌, length, length-take-le, take, get_or, set, None, refl, ◌∙◌, ap, arith}
 use Rattle.std.proofs.lemmas.List.{get_or_past}
-use Rattle.shop_base.specs.declared.job_state.JobState.{JobState}
 use Rattle.shop_base.specs.Plan.{PlannedShop, machines, order}
-use Rattle.shop_base.specs.Cell.{Cell, MachineState, absent, unused, job_in, machine_in, entries, cleaning}
+use Rattle.shop_base.specs.Cell.{MachineState, absent, unused, job_in, machine_in, entries, cleaning}
 use Rattle.cell_control.specs.declared.tables.MachineRow.{MachineRow}
 use Rattle.cell_control.specs.declared.tables.Tables.{Tables}
 use Rattle.cell_control.specs.Tables.{no_row, state_of, states_from, cell_of, entered_at, AreTables}

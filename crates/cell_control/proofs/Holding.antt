@@ -3,14 +3,12 @@ use Rattle.std.proofs.Common.{◌≡◌, ℕ, ◌+◌, ◌-◌, ◌^◌, ◌<◌
 use Rattle.std.specs.Prelude.{IsTrue}
 use Rattle.smallvec.specs.SmallVec.{SmallVec}
 use Rattle.shop_base.specs.declared.move_order.MoveOrder.{MoveOrder}
-use Rattle.shop_base.specs.Plan.{PlannedShop, jobs}
+use Rattle.shop_base.specs.Plan.{jobs}
 use Rattle.shop_base.specs.Cell.{Cell, start}
 use Rattle.shop_base.specs.Report.{Report}
 use Rattle.shop_base.specs.Run.{IsAtRest}
-use Rattle.shop_base.specs.Controlled.{after_step}
 use Rattle.shop_base.specs.Ends.{stated_number}
 use Rattle.shop_base.specs.ReportsLeft.{reports_left}
-use Rattle.shop_base.specs.Sound.{IsSound}
 use Rattle.shop_base.specs.KeptMoments.{KeepsMoments}
 use Rattle.shop_base.proofs.Keeping.{start-sound}
 use Rattle.shop_base.proofs.ControlledRuns.{start_at_rest}

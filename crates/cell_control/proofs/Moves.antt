@@ -1,5 +1,5 @@
 -- The move of a job that can: what is next at its target, where it is, and that the parts of a move make the move.
-use Rattle.std.proofs.Common.{◌≡◌, ℕ, zero, suc, ◌+◌, ◌-◌, ◌<◌, ◌≤◌, List, [], ◌∷◌, ◌++◌, length, take, get_or, get_or-set_same, get_or-set_other, Option, None, Some, Bool, true, false, nat_lt, if◌then◌else◌, lt-ltb, refl, sym, ◌∙◌, ap, subst, arith, ◌⊎◌, inl, inr}
+use Rattle.std.proofs.Common.{◌≡◌, ℕ, ◌+◌, ◌-◌, ◌<◌, ◌≤◌, List, [], ◌∷◌, ◌++◌, length, take, get_or, get_or-set_same, get_or-set_other, Option, None, Some, Bool, true, false, nat_lt, if◌then◌else◌, lt-ltb, refl, sym, ◌∙◌, ap, subst, arith, ◌⊎◌, inl, inr}
 use Rattle.std.proofs.lemmas.Bool.{cases_lt, cases_eq}
 use Rattle.std.proofs.lemmas.List.{take_more, set_past}
 use Rattle.shop_base.specs.declared.move_order.Spot.{Spot}
@@ -12,7 +12,7 @@ use Rattle.shop_base.proofs.Visits.{visits_machine}
 use Rattle.shop_base.proofs.Keeping.{target_place}
 use Rattle.shop_base.proofs.CellFacts.{target_visited, target_out, source_on, source_outside}
 use Rattle.cell_control.specs.declared.tables.Tables.{Tables}
-use Rattle.cell_control.specs.Tables.{cell_of, entered_at, AreTables}
+use Rattle.cell_control.specs.Tables.{cell_of, AreTables}
 use Rattle.cell_control.specs.Moving.{IsSpotOf, HasNext}
 use Rattle.cell_control.proofs.Cells.{entries-read, entries-count, last-read}
 

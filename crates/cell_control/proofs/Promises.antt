@@ -1,10 +1,9 @@
 -- What holds of every controller is what an accepted plan promises, and calls of report make the controlled run.
-use Rattle.std.proofs.Common.{◌≡◌, ℕ, ◌+◌, ◌<◌, ◌≤◌, ◌↔◌, List, [], ◌∷◌, ◌++◌, refl, sym, ◌∙◌, ap, subst, arith, ◌⊎◌, inl, inr}
+use Rattle.std.proofs.Common.{◌≡◌, ℕ, ◌+◌, ◌<◌, List, [], ◌∷◌, ◌++◌, refl, sym, ◌∙◌, ap, subst, arith}
 use Rattle.std.specs.Prelude.{IsTrue}
 use Rattle.shop_base.specs.declared.move_order.MoveOrder.{MoveOrder}
 use Rattle.shop_base.specs.Plan.{PlannedShop, jobs, steps, IsWellShaped}
 use Rattle.shop_base.specs.declared.node.Node.{Node}
-use Rattle.shop_base.specs.Cell.{Cell}
 use Rattle.shop_base.specs.Report.{Report, CanReport}
 use Rattle.shop_base.specs.Run.{Event, Reported}
 use Rattle.shop_base.specs.Controlled.{IsStep, after_step, step_orders, moved, Leads, done, accepted, refused}
@@ -15,7 +14,7 @@ use Rattle.shop_base.proofs.NeverStuck.{ended-or-goes_on, rest-not_stuck}
 use Rattle.shop_base.proofs.ReportsLeft.{ended_where_none, none_where_ended}
 use Rattle.shop_base.proofs.InTime.{leaving_kept, leaving-in_time}
 use Rattle.plan_verifier.specs.Accepted.{VerifiedPlan, kept_at, rank_in}
-use Rattle.cell_control.specs.Control.{Control, at_start, IsAnswered, IsControl}
+use Rattle.cell_control.specs.Control.{Control, at_start, IsControl}
 use Rattle.cell_control.specs.Promises as promise
 use Rattle.cell_control.specs.Promises.{KeepsBudget, NeverGoesWrong, IsCalled, AreCalled, CallsMakeTheControlledRun}
 

@@ -1,9 +1,9 @@
 -- Who is where, as it is read: a job on a machine or on none, a machine that is held or free, and who can move.
-use Rattle.std.proofs.Common.{◌≡◌, ℕ, zero, suc, ◌+◌, ◌-◌, ◌<◌, ◌≤◌, ◌↔◌, List, [], length, Option, None, Some, Bool, true, false, not, refl, sym, ◌∙◌, ap, subst, arith, ◌⊎◌, inl, inr}
+use Rattle.std.proofs.Common.{◌≡◌, ℕ, ◌-◌, ◌≤◌, ◌↔◌, length, Option, None, Some, Bool, true, false, not, refl, sym, subst, arith, ◌⊎◌, inl, inr}
 use Rattle.std.specs.Prelude.{MatchOption, IsTrue}
 use Rattle.std.proofs.lemmas.List.{nil_from_length, drop_all}
-use Rattle.shop_base.specs.Plan.{PlannedShop, jobs, machines, route, steps, order, job_at, Visits, Stands, IsWellShaped}
-use Rattle.shop_base.specs.Cell.{Cell, made, ready, entries, cleaning, IsOutside, IsOn, IsGone, IsFree}
+use Rattle.shop_base.specs.Plan.{PlannedShop, machines, route, steps, job_at, Visits, Stands, IsWellShaped}
+use Rattle.shop_base.specs.Cell.{Cell, made, ready, entries, IsOutside, IsOn, IsGone, IsFree}
 use Rattle.shop_base.specs.Move.{CanEnter, CanMove, KeepsPlan}
 use Rattle.shop_base.specs.Sound.{IsSound}
 use Rattle.shop_base.proofs.Visits.{visits_machine}

@@ -9,7 +9,7 @@ use Rattle.shop_base.specs.Cell.{Cell, absent, job_in, made, entries, IsOutside,
 use Rattle.shop_base.specs.Move.{CanMove, KeepsPlan, IsPrefix, after_move, order_for}
 use Rattle.shop_base.specs.Run.{IsAtRest}
 use Rattle.shop_base.specs.Controlled.{orders_for}
-use Rattle.shop_base.specs.Movers.{OnlyMoves, ready_count}
+use Rattle.shop_base.specs.Movers.{ready_count}
 use Rattle.shop_base.specs.Sound.{IsSound}
 use Rattle.shop_base.proofs.Sizes.{place_job}
 use Rattle.shop_base.proofs.Changes.{IsTidied, moves_within}

@@ -1,5 +1,5 @@
-use Rattle.std.specs.Prelude.{◌≡◌, ℕ, ◌+◌, ◌<◌, ◌↔◌, ◌⊎◌, List, [], ◌∷◌, IsTrue}
-use Rattle.shop_base.specs.Plan.{PlannedShop, jobs}
+use Rattle.std.specs.Prelude.{◌≡◌, ℕ, ◌<◌, ◌↔◌, ◌⊎◌, List, [], ◌∷◌, IsTrue}
+use Rattle.shop_base.specs.Plan.{jobs}
 use Rattle.shop_base.specs.Cell.{IsGone}
 use Rattle.shop_base.specs.Report.{Report, CanReport}
 use Rattle.shop_base.specs.Run.{Event, IsRun, ends_in, IsAtRest, IsStuck}

@@ -1,5 +1,5 @@
-ghost use Rattle.std.specs.Prelude.{◌≡◌, ℕ, ◌+◌, ◌<◌, ◌≤◌, ◌↔◌, MatchOption, IfOk, IfErr, OnOk, IsOk, IsTrue};
-ghost use Rattle.shop_base.specs.Plan.{jobs, machines};
+ghost use Rattle.std.specs.Prelude.{◌≡◌, ℕ, ◌+◌, ◌<◌, ◌≤◌, ◌↔◌, MatchOption, IfOk, IfErr, IsOk, IsTrue};
+ghost use Rattle.shop_base.specs.Plan.{jobs};
 ghost use Rattle.shop_base.specs.Cell.{cleaning, IsOn, IsFree};
 ghost use Rattle.shop_base.specs.Activity.{Cleaning, GoesOn};
 ghost use Rattle.shop_base.specs.Report.{CanReport};
@@ -185,6 +185,7 @@ impl<D: Dues> Controller<D> {
     pub fn reports_left(&self) -> u64
         ensures left { result ≡ reports_left self.now.plan.planned self.now.cell }
         ensures count { self.now.accepted + result ≡ stated_number self.now.plan.planned }
+        ensures ended { HasEnded self.now.plan.planned self.now.cell ↔ (result ≡ 0) }
     {
         self.left
     }

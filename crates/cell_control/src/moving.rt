@@ -1,9 +1,9 @@
 //! A move, in its parts: the job leaves its source, comes to its target, and has made one more move.
 
-ghost use Rattle.std.specs.Prelude.{◌≡◌, ℕ, ◌<◌, ◌≤◌, length};
+ghost use Rattle.std.specs.Prelude.{◌≡◌, ◌<◌, ◌≤◌};
 ghost use Rattle.shop_base.specs.declared.limits.TheConstants.{MAX_MOMENT};
-ghost use Rattle.shop_base.specs.Plan.{jobs, machines, steps, order, job_at};
-ghost use Rattle.shop_base.specs.Cell.{made, entries};
+ghost use Rattle.shop_base.specs.Plan.{jobs, steps, order};
+ghost use Rattle.shop_base.specs.Cell.{made};
 ghost use Rattle.shop_base.specs.Move.{CanMove, KeepsPlan, source, target, after_leaving, with_entry, with_moved, after_move, order_for};
 ghost use Rattle.cell_control.specs.Tables.{cell_of, AreTables, AreSound};
 ghost use Rattle.cell_control.specs.Moving.{IsSpotOf, HasNext};

@@ -1,10 +1,10 @@
 //! Where the jobs of the cell are, and which can move.
 
-ghost use Rattle.std.specs.Prelude.{◌≡◌, ℕ, ◌-◌, ◌<◌, ◌≤◌, ◌↔◌, ◌⊎◌, length, MatchOption, IsTrue, None, true};
-ghost use Rattle.shop_base.specs.Plan.{jobs, machines, steps, order, job_at, Visits, Stands};
-ghost use Rattle.shop_base.specs.Cell.{job_in, made, ready, entries, cleaning, IsOutside, IsOn, IsGone, IsFree};
-ghost use Rattle.shop_base.specs.Move.{CanEnter, CanMove, KeepsPlan, source, target};
-ghost use Rattle.cell_control.specs.Tables.{cell_of, entered_at, AreTables, AreSound};
+ghost use Rattle.std.specs.Prelude.{◌≡◌, ◌-◌, ◌<◌, ◌≤◌, ◌↔◌, ◌⊎◌, length, MatchOption, IsTrue, None, true};
+ghost use Rattle.shop_base.specs.Plan.{jobs, machines, order, job_at, Visits, Stands};
+ghost use Rattle.shop_base.specs.Cell.{made, ready, entries, cleaning, IsOutside, IsOn, IsGone, IsFree};
+ghost use Rattle.shop_base.specs.Move.{CanEnter, CanMove, KeepsPlan};
+ghost use Rattle.cell_control.specs.Tables.{cell_of, AreTables, AreSound};
 
 use crate::tables::{Tables, cleaned_since, entered, job_state};
 use shop_base::readers::{machine_at, order_of};

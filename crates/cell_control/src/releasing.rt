@@ -1,12 +1,12 @@
 //! The moves that a report releases, one after another: after each, only the job that is next at the
 //! machine that was left can move.
 
-ghost use Rattle.std.specs.Prelude.{◌≡◌, ℕ, ◌+◌, ◌<◌, ◌≤◌, [], MatchOption, IfSome, length};
+ghost use Rattle.std.specs.Prelude.{◌≡◌, ◌<◌, [], MatchOption, IfSome};
 ghost use Rattle.smallvec.specs.SmallVec.{HasRoomFor};
 ghost use Rattle.shop_base.specs.Plan.{jobs};
 ghost use Rattle.shop_base.specs.Move.{CanMove, KeepsPlan, after_move, order_for};
 ghost use Rattle.shop_base.specs.Run.{IsAtRest};
-ghost use Rattle.shop_base.specs.Movers.{OnlyMoves, ready_count};
+ghost use Rattle.shop_base.specs.Movers.{ready_count};
 ghost use Rattle.cell_control.specs.Tables.{cell_of, AreSound};
 ghost use Rattle.cell_control.specs.Ties.{AreTied};
 ghost use Rattle.cell_control.specs.Sequences.{OnlyMay, IsMover, IsSequence};

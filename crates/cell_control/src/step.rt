@@ -1,10 +1,9 @@
 //! One step of the controlled run: a possible report, and the moves that it releases.
 
-ghost use Rattle.std.specs.Prelude.{◌≡◌, ℕ, ◌≤◌, ◌↔◌, ◌&&◌, not, [], Some, false};
+ghost use Rattle.std.specs.Prelude.{◌≡◌, ◌≤◌, ◌↔◌, ◌&&◌, not, [], Some, false};
 ghost use Rattle.shop_base.specs.Plan.{jobs};
 ghost use Rattle.shop_base.specs.Report.{CanReport};
 ghost use Rattle.shop_base.specs.Run.{IsAtRest};
-ghost use Rattle.cell_control.specs.Dues.{due_at};
 ghost use Rattle.cell_control.specs.Tables.{cell_of, AreSound};
 ghost use Rattle.cell_control.specs.Ties.{AreTied};
 ghost use Rattle.cell_control.specs.Reports.{said};

@@ -1,4 +1,4 @@
-use Rattle.std.proofs.Common.{◌<◌, subst, arith, ◌∙◌, sym}
+use Rattle.std.proofs.Common.{◌<◌, subst, arith, ◌∙◌}
 use Rattle.shop_base.specs.Plan.{machines}
 use Rattle.cell_control.specs.Moving.{IsSpotOf}
 use Rattle.cell_control.proofs.Moves.{entries-few, left_cell}

@@ -1,5 +1,4 @@
-use Rattle.std.proofs.Common.{◌≡◌, ◌-◌, ℕ, List, length, get_or, slice_index_or, ap, arith}
-use Rattle.shop_base.specs.Plan.{job_at}
+use Rattle.std.proofs.Common.{◌-◌, ℕ, List, length, get_or, slice_index_or, ap, arith}
 use Rattle.shop_base.proofs.Sizes.{place_job}
 use Rattle.cell_control.specs.Tables.{cell_of}
 use Rattle.cell_control.proofs.Moves.{entries-few}

@@ -1,4 +1,4 @@
-use Rattle.std.proofs.Common.{◌≡◌, ◌+◌, ◌<◌, ap, ◌∙◌, refl, arith}
+use Rattle.std.proofs.Common.{ap, refl, arith}
 use Rattle.shop_base.specs.Movers.{ready_count}
 use Rattle.shop_base.proofs.ReadyCount.{after_move-ready_count}
 use Rattle.cell_control.specs.Tables.{cell_of}

@@ -1,4 +1,4 @@
-use Rattle.std.proofs.Common.{◌≡◌, ◌+◌, ◌-◌, arith, ap, sym, subst, refl}
+use Rattle.std.proofs.Common.{◌+◌, ◌-◌, arith, sym, subst, refl}
 use Rattle.shop_base.specs.Report.{CanReport}
 use Rattle.shop_base.specs.Run.{IsAtRest}
 use Rattle.cell_control.specs.Control.{Control, IsAnswered}
