@@ -31,3 +31,17 @@ pub AllBut-all : (before after : Option (List ℕ)) (text rest : List ℕ) → A
 AllBut-all before after text rest so_far none =
     let whole : so_far.out ≡ text = sym (append-nil so_far.out) ∙ ap (λ l. so_far.out ++ l) (sym none) ∙ so_far.whole in
     subst (Appends before after) whole so_far.took
+
+-- part of what comes first of the rest is taken
+pub TookPart-rest : (before now after : Option (List ℕ)) (text rest first more : List ℕ)
+    → AllBut before now text rest → TookPart now after first → first ++ more ≡ rest → TookPart before after text
+TookPart-rest before now after text rest first more so_far part split = (
+  part.0 ++ more,
+  record {
+    out = so_far.out ++ part.1.out;
+    took = Appends-trans before now after so_far.out part.1.out so_far.took part.1.took;
+    whole = append_assoc so_far.out part.1.out (part.0 ++ more)
+        ∙ ap (λ l. so_far.out ++ l) (sym (append_assoc part.1.out part.0 more) ∙ ap (λ l. l ++ more) part.1.whole ∙ split)
+        ∙ so_far.whole;
+  },
+)

@@ -1,2 +1,4 @@
 pub mod Sinks
 pub mod Devices
+pub mod EventLines
+pub mod Log

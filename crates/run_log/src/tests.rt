@@ -1,4 +1,6 @@
 use super::*;
+use cell_control::Report;
+use shop_base::{MoveOrder, Spot};
 use std::io::{self, ErrorKind, Write};
 use std::test::Fail;
 
@@ -65,5 +67,42 @@ fn nothing_is_written_without_a_call(rt: HostRuntime) -> Result<(), Fail> {
     assert_eq!(rt; put_all(&mut writer, b"ab"), Ok(()));
     assert_eq!(rt; put_all(&mut writer, b"c"), Ok(()));
     assert!(rt; writer.into_inner().as_slice() == b"abc".as_slice());
+    Ok(())
+}
+
+#[test]
+fn events_are_written_as_lines(rt: HostRuntime) -> Result<(), Fail> {
+    let entries = [
+        Entry::Report(Report::Arrive { job: 0, at: 0 }),
+        Entry::Order(MoveOrder {
+            job: 0,
+            source: Spot::Out,
+            target: Spot::At(0),
+            at: 0,
+        }),
+        Entry::Report(Report::Finish {
+            job: 0,
+            machine: 1,
+            at: 4,
+        }),
+        Entry::Order(MoveOrder {
+            job: 0,
+            source: Spot::At(1),
+            target: Spot::Out,
+            at: 4,
+        }),
+        Entry::Report(Report::Clean { machine: 1, at: 7 }),
+        Entry::Order(MoveOrder {
+            job: u32::MAX,
+            source: Spot::At(u32::MAX),
+            target: Spot::At(u32::MAX),
+            at: u64::MAX,
+        }),
+    ];
+    let text =
+        b"report 0 arrive 0\norder 0 0 out 0\nreport 4 finish 0 1\norder 4 0 1 out\nreport 7 clean 1\norder 18446744073709551615 4294967295 4294967295 4294967295\n";
+    let mut writer = IntoSink::new(Vec::new(rt.alloc()));
+    assert_eq!(rt; write_lines(&entries, &mut writer), Ok(()));
+    assert!(rt; writer.into_inner().as_slice() == text.as_slice());
     Ok(())
 }

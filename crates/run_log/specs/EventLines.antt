@@ -1,0 +1,40 @@
+-- The lines in which the events of a run are written.
+use Rattle.std.specs.Prelude.{ℕ, List, [], ◌∷◌, ◌++◌, codes, decimal}
+use Rattle.std.specs.List.{flat_map}
+use Rattle.shop_base.specs.declared.move_order.Spot.{Spot}
+use Rattle.shop_base.specs.declared.move_order.Spot.TheVariants.{Out, At}
+use Rattle.shop_base.specs.declared.move_order.MoveOrder.{MoveOrder}
+use Rattle.cell_control.specs.declared.report.Report.{Report}
+use Rattle.cell_control.specs.declared.report.Report.TheVariants.{Arrive, Finish, Clean}
+use Rattle.run_log.specs.declared.entry.Entry.{Entry}
+use Rattle.run_log.specs.declared.entry.Entry.TheVariants.{Report as Reported, Order as Ordered}
+
+-- words with one space between them, and a line feed at the end
+abbrev pub line_of : List (List ℕ) → List ℕ
+line_of [] = 10 ∷ []
+line_of (word ∷ []) = word ++ 10 ∷ []
+line_of (word ∷ next ∷ words) = word ++ 32 ∷ line_of (next ∷ words)
+
+-- a machine's number, or `out` for outside the cell
+abbrev pub spot_word : Spot → List ℕ
+spot_word Out = codes "out"
+spot_word (At machine) = decimal machine
+
+-- `report T arrive J`, `report T finish J M` or `report T clean M`
+abbrev pub report_line : Report → List ℕ
+report_line (Arrive job at) = line_of (codes "report" ∷ decimal at ∷ codes "arrive" ∷ decimal job ∷ [])
+report_line (Finish job machine at) = line_of (codes "report" ∷ decimal at ∷ codes "finish" ∷ decimal job ∷ decimal machine ∷ [])
+report_line (Clean machine at) = line_of (codes "report" ∷ decimal at ∷ codes "clean" ∷ decimal machine ∷ [])
+
+-- `order T J FROM TO`
+abbrev pub order_line : MoveOrder → List ℕ
+order_line o = line_of (codes "order" ∷ decimal o.at ∷ decimal o.job ∷ spot_word o.source ∷ spot_word o.target ∷ [])
+
+-- the line of an entry
+abbrev pub entry_line : Entry → List ℕ
+entry_line (Reported report) = report_line report
+entry_line (Ordered order) = order_line order
+
+-- the lines of the entries, in order
+abbrev pub entry_lines : List Entry → List ℕ
+entry_lines entries = flat_map entry_line entries
