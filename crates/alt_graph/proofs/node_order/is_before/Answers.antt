@@ -1,8 +1,8 @@
-use Rattle.std.proofs.Common.{rules}
+use Rattle.std.proofs.Common.{rules, inl}
 use Rattle.alt_graph.proofs.node_order.is_before.Goals as goal
 
 pub returns-then-one-other : goal.returns-then-one-other
-returns-then-one-other c = search rules
+returns-then-one-other c = (λ _. inl c.if-one-other.true, search rules)
 
 pub returns-then-one-other-2 : goal.returns-then-one-other-2
 returns-then-one-other-2 c = search rules

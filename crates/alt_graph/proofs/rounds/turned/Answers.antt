@@ -1,4 +1,4 @@
-use Rattle.std.proofs.Common.{◌≡◌, ℕ, ◌++◌, ◌∷◌, [], arith, below_more, rules, ◌∙◌}
+use Rattle.std.proofs.Common.{◌≡◌, ℕ, ◌++◌, ◌∷◌, [], arith, ap, below_more, length, rules, ◌∙◌}
 use Rattle.std.proofs.lemmas.List.{get_or_append_left, get_or_push, length_push, get_or_read}
 use Rattle.shop_base.specs.Graph.{node}
 use Rattle.alt_graph.specs.Rounds.{IsPlaceAfter, round_at}
@@ -21,4 +21,4 @@ loop-arcs-preserved c =
     })
 
 pub loop-arcs-init : goal.loop-arcs-init
-loop-arcs-init c = search rules
+loop-arcs-init c = record { size = ap length c.in_ok-nodes.ensures.items; there = λ i lt. absurd (omega arith) }
