@@ -1,4 +1,4 @@
-use Rattle.std.proofs.Common.{arith, rules}
+use Rattle.std.proofs.Common.{arith}
 use Rattle.std.proofs.lemmas.Grind.{common_steps}
 use Rattle.plan_verifier.proofs.leavings.first_late.Goals as goal
 
@@ -6,7 +6,7 @@ pub loop-job-init : goal.loop-job-init
 loop-job-init c = λ i lt. absurd (omega arith)
 
 pub returns-then-leave_time-index : goal.returns-then-leave_time-index
-returns-then-leave_time-index c = search rules
+returns-then-leave_time-index c = grind (arith, common_steps)
 
 pub loop-job-preserved : goal.loop-job-preserved
 loop-job-preserved c = grind (arith, common_steps)
