@@ -1,5 +1,5 @@
 -- The lines of the command `plan`.
-use Rattle.std.proofs.Common.{◌≡◌, ℕ, List, Option, Result, Ok, Err, IfOk, IfErr, IsErrAnd, refl, sym, ap, ◌∙◌, subst, inl, inr}
+use Rattle.std.proofs.Common.{◌≡◌, ℕ, List, Option, Result, Ok, Err, IfOk, IfErr, IsErrAnd, sym, ap, ◌∙◌, subst, inl, inr}
 use Rattle.shop_base.specs.Shop.{JobShop}
 use Rattle.shop_base.specs.Plan.{ShopPlan, PlannedShop}
 use Rattle.plan_text.specs.Documents.{IsPlanText}
@@ -10,7 +10,7 @@ use Rattle.plan_seek.specs.Search.{IsSought, IsSeekFault}
 use Rattle.command_answers.specs.declared.answer.Answer.{Answer}
 use Rattle.command_answers.specs.declared.command_fault.CommandFault.{CommandFault}
 use Rattle.command_answers.specs.declared.command_fault.CommandFault.TheVariants.{Instance, Plan, Memory}
-use Rattle.command_answers.specs.Plans.{TellBoth, TellsAShop, IsOfPlan, IsOfBoth, IsRightPlanFault, IsRightOfBoth}
+use Rattle.command_answers.specs.Plans.{TellsAShop, IsOfPlan, IsOfBoth, IsRightPlanFault, IsRightOfBoth}
 use Rattle.command_answers.specs.Instances.{Tells, IsRightFault}
 use Rattle.command_answers.specs.Search.{task_in, IsFound, IsSearchLine, IsSearchAnswer, IsDocumentAnswer, IsNoPlanAnswer, IsSearchFault, IsSearchFaultOfBoth}
 

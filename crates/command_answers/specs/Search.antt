@@ -1,7 +1,6 @@
 use Rattle.std.specs.Prelude.{◌≡◌, ℕ, List, Option, ◌++◌, ◌⊎◌, codes, Result, Ok, Err}
 use Rattle.shop_base.specs.Shop.{JobShop}
 use Rattle.shop_base.specs.Plan.{ShopPlan, PlannedShop}
-use Rattle.plan_text.specs.declared.plan_fault.PlanFault.{PlanFault}
 use Rattle.plan_text.specs.declared.plan_fault.PlanFault.TheVariants.{NotReadBack}
 use Rattle.plan_text.specs.Lines.{plan_lines}
 use Rattle.plan_text.specs.Documents.{IsPlanText}
@@ -13,7 +12,7 @@ use Rattle.plan_seek.specs.Search.{IsSought, IsSeekFault}
 use Rattle.command_answers.specs.declared.answer.Answer.{Answer}
 use Rattle.command_answers.specs.declared.command_fault.CommandFault.{CommandFault}
 use Rattle.command_answers.specs.declared.command_fault.CommandFault.TheVariants.{Instance, Plan, Memory}
-use Rattle.command_answers.specs.Plans.{TellBoth, IsOfPlan, IsOfBoth, IsRightPlanFault, IsRightOfBoth}
+use Rattle.command_answers.specs.Plans.{TellBoth, IsRightPlanFault, IsRightOfBoth}
 
 -- the search for a plan with the numbers of this one
 abbrev pub task_in : PlannedShop → PlanTask
