@@ -3,7 +3,8 @@ use Rattle.std.proofs.Common.{◌≡◌, ℕ, zero, suc, ◌+◌, ◌-◌, ◌<�
 use Rattle.std.proofs.lemmas.Bool.{le-leb, lt-leb, leb-true, leb-false}
 use Rattle.orlib_read.specs.Lines.{is_line_feed, without_return}
 use Rattle.cell_drive.specs.Lines.{within_limit}
-use Rattle.cell_drive.specs.Holding.{joined, held_line, ended, held_after, HasNoEnd, IsLineAndRest}
+use Rattle.cell_drive.specs.Cuts.{HasNone}
+use Rattle.cell_drive.specs.Holding.{joined, held_line, ended, held_after}
 
 pub cases_bool : (b : Bool) (P : Type 0) → (b ≡ true → P) → (b ≡ false → P) → P
 cases_bool true P y n = y refl
@@ -37,21 +38,21 @@ joined-joined (Some part) xs ys = cases_bool (leb (length xs) (64 - length part)
 
 -- ---- bytes in which no line ends
 
-pub ended-none : (bytes : List ℕ) (held : Option (List ℕ)) → HasNoEnd bytes → ended held bytes ≡ []
+pub ended-none : (bytes : List ℕ) (held : Option (List ℕ)) → HasNone 10 bytes → ended held bytes ≡ []
 ended-none [] held none_ends = refl
 ended-none (b ∷ bytes) held none_ends = rw none_ends.0 (ended-none bytes (joined held (b ∷ [])) none_ends.1)
 
-pub held_after-none : (bytes : List ℕ) (held : Option (List ℕ)) → HasNoEnd bytes → held_after held bytes ≡ joined held bytes
+pub held_after-none : (bytes : List ℕ) (held : Option (List ℕ)) → HasNone 10 bytes → held_after held bytes ≡ joined held bytes
 held_after-none [] held none_ends = sym (joined-nil held)
 held_after-none (b ∷ bytes) held none_ends = rw none_ends.0 (held_after-none bytes (joined held (b ∷ [])) none_ends.1 ∙ joined-joined held (b ∷ []) bytes)
 
 -- ---- the first line that ends
 
-pub ended-first : (line rest : List ℕ) (held : Option (List ℕ)) → HasNoEnd line → ended held (line ++ 10 ∷ rest) ≡ held_line (joined held line) ∷ ended (Some []) rest
+pub ended-first : (line rest : List ℕ) (held : Option (List ℕ)) → HasNone 10 line → ended held (line ++ 10 ∷ rest) ≡ held_line (joined held line) ∷ ended (Some []) rest
 ended-first [] rest held none_ends = ap (λ h. held_line h ∷ ended (Some []) rest) (sym (joined-nil held))
 ended-first (b ∷ line) rest held none_ends = rw none_ends.0 (ended-first line rest (joined held (b ∷ [])) none_ends.1 ∙ ap (λ h. held_line h ∷ ended (Some []) rest) (joined-joined held (b ∷ []) line))
 
-pub held_after-first : (line rest : List ℕ) (held : Option (List ℕ)) → HasNoEnd line → held_after held (line ++ 10 ∷ rest) ≡ held_after (Some []) rest
+pub held_after-first : (line rest : List ℕ) (held : Option (List ℕ)) → HasNone 10 line → held_after held (line ++ 10 ∷ rest) ≡ held_after (Some []) rest
 held_after-first [] rest held none_ends = refl
 held_after-first (b ∷ line) rest held none_ends = rw none_ends.0 (held_after-first line rest (joined held (b ∷ [])) none_ends.1)
 

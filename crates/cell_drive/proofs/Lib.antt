@@ -1,7 +1,8 @@
-pub mod Cuts
+pub mod FirstPlaces
 pub mod Held
 pub mod Told
 pub mod Taking
 pub mod Drains
 pub mod WholeLines
 pub mod Streamed
+pub mod ReportLines

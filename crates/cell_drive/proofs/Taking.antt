@@ -5,7 +5,8 @@ use Rattle.std.proofs.KnownBytes.{Appends-nil, Appends-trans}
 use Rattle.run_log.specs.Sinks.{AllBut, TookPart, Wrote}
 use Rattle.cell_drive.specs.declared.drive_fault.DriveFault.{DriveFault}
 use Rattle.cell_drive.specs.declared.drive_fault.DriveFault.TheVariants.{Read, Write, InputTooLong, Memory}
-use Rattle.cell_drive.specs.Holding.{joined, held_line, ended, held_after, HasNoEnd, IsLineAndRest}
+use Rattle.cell_drive.specs.Cuts.{HasNone, IsCutAt}
+use Rattle.cell_drive.specs.Holding.{joined, held_line, ended, held_after}
 use Rattle.cell_drive.specs.Answering.{AnswerAll, WasAnswered, WereAnswered}
 use Rattle.cell_drive.specs.Reading.{IsPieceAnswered, IsPartTold, IsTaken}
 use Rattle.cell_drive.proofs.Held.{ended-first, held_after-first, ended-none, held_after-none, ended-append}
@@ -49,13 +50,13 @@ Taking-none answers start lines held piece before = record {
 
 module _ {S : Type 0} (answers : S → ℕ → Option (List ℕ) → List ℕ → S → Type 0) (start : S) (lines : ℕ) (held : Option (List ℕ)) (piece : List ℕ)
     (now : S) (lines_now : ℕ) (held_now : Option (List ℕ)) (left line more : List ℕ) (before middle after : Option (List ℕ))
-    (so_far : Taking answers start lines held piece now lines_now held_now left before middle) (cut : IsLineAndRest left line more) where
+    (so_far : Taking answers start lines held piece now lines_now held_now left before middle) (cut : IsCutAt 10 left line more) where
   abbrev the_line : Option (List ℕ)
   the_line = held_line (joined held_now line)
 
   split_more : ended held piece ≡ (so_far.done ++ the_line ∷ []) ++ ended (Some []) more
   split_more =
-      let first : ended held_now left ≡ the_line ∷ ended (Some []) more = ap (ended held_now) cut.split ∙ ended-first line more held_now cut.no_end in
+      let first : ended held_now left ≡ the_line ∷ ended (Some []) more = ap (ended held_now) cut.split ∙ ended-first line more held_now cut.before in
       so_far.split ∙ ap (λ l. so_far.done ++ l) first ∙ sym (append_assoc so_far.done (the_line ∷ []) (ended (Some []) more))
 
   answers_more : (text : List ℕ) (end : S) → answers now (lines_now + 1) the_line text end → AnswerAll answers start (lines + 1) (so_far.done ++ the_line ∷ []) (so_far.text ++ text) end
@@ -70,7 +71,7 @@ module _ {S : Type 0} (answers : S → ℕ → Option (List ℕ) → List ℕ �
     done = so_far.done ++ the_line ∷ [];
     text = so_far.text ++ was.text;
     split = split_more ∙ ap (λ h. (so_far.done ++ the_line ∷ []) ++ ended h more) (sym cleared);
-    same = so_far.same ∙ ap (held_after held_now) cut.split ∙ held_after-first line more held_now cut.no_end ∙ ap (λ h. held_after h more) (sym cleared);
+    same = so_far.same ∙ ap (held_after held_now) cut.split ∙ held_after-first line more held_now cut.before ∙ ap (λ h. held_after h more) (sym cleared);
     are_answers = subst (AnswerAll answers start (lines + 1) (so_far.done ++ the_line ∷ []) (so_far.text ++ was.text)) (sym was.reached) (answers_more was.text was.state was.is_answer);
     written = Appends-trans before middle after so_far.text was.text so_far.written was.wrote;
     lines_are = let lines_are = so_far.lines_are in omega (arith, length-append so_far.done (the_line ∷ []));
@@ -94,7 +95,7 @@ module _ {S : Type 0} (answers : S → ℕ → Option (List ℕ) → List ℕ �
 
 module _ {S : Type 0} (answers : S → ℕ → Option (List ℕ) → List ℕ → S → Type 0) (start : S) (lines : ℕ) (held : Option (List ℕ)) (piece : List ℕ)
     (now : S) (lines_now : ℕ) (held_now : Option (List ℕ)) (left : List ℕ) (before after : Option (List ℕ))
-    (so_far : Taking answers start lines held piece now lines_now held_now left before after) (no_end : HasNoEnd left) where
+    (so_far : Taking answers start lines held piece now lines_now held_now left before after) (no_end : HasNone 10 left) where
   all_done : ended held piece ≡ so_far.done
   all_done = so_far.split ∙ ap (λ l. so_far.done ++ l) (ended-none left held_now no_end) ∙ append-nil so_far.done
 

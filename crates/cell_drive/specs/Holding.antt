@@ -1,5 +1,5 @@
 -- What is held of the line that is being read, and which lines have ended.
-use Rattle.std.specs.Prelude.{◌≡◌, ℕ, ◌-◌, nat_le, false, if◌then◌else◌, List, [], ◌∷◌, ◌++◌, length, Option, None, Some}
+use Rattle.std.specs.Prelude.{ℕ, ◌-◌, nat_le, if◌then◌else◌, List, [], ◌∷◌, ◌++◌, length, Option, None, Some}
 use Rattle.orlib_read.specs.Lines.{is_line_feed, without_return}
 use Rattle.cell_drive.specs.declared.held_line.TheConstants.{ROOM}
 use Rattle.cell_drive.specs.Lines.{within_limit}
@@ -23,13 +23,3 @@ ended held (b ∷ bytes) = if is_line_feed b then held_line held ∷ ended (Some
 abbrev pub held_after : Option (List ℕ) → List ℕ → Option (List ℕ)
 held_after held [] = held
 held_after held (b ∷ bytes) = if is_line_feed b then held_after (Some []) bytes else held_after (joined held (b ∷ [])) bytes
-
--- no line ends in these bytes
-abbrev pub HasNoEnd : List ℕ → Type 0
-HasNoEnd [] = Unit {0}
-HasNoEnd (b ∷ bytes) = (is_line_feed b ≡ false) × HasNoEnd bytes
-
--- the bytes are the rest of a line, its line feed, and what comes after it
-pub record IsLineAndRest (bytes line rest : List ℕ) : Type 0 where
-  pub no_end : HasNoEnd line
-  pub split : bytes ≡ line ++ 10 ∷ rest

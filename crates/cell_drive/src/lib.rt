@@ -1,17 +1,22 @@
 //! Cells driven by lines of text: reports in, move orders out, over any giver and any taker of bytes.
 #![tactic(auto)]
 
+mod answer_lines;
+mod cuts;
 mod drive_fault;
 mod from_read;
 mod held_line;
+mod input_lines;
 mod line_handler;
 mod pieces;
 mod source;
 mod streaming;
 
+pub use answer_lines::{done_line, late_line, refused_line, unfinished_line};
 pub use drive_fault::DriveFault;
 pub use from_read::FromRead;
 pub use held_line::LINE_LIMIT;
+pub use input_lines::report_of;
 pub use line_handler::LineHandler;
 pub use source::{ReadFault, Source};
 pub use streaming::{INPUT_LIMIT, stream};

@@ -1,14 +1,14 @@
 //! The lines that end in a piece of the input.
 
-ghost use Rattle.std.specs.Prelude.{◌≡◌, ◌+◌, ◌^◌, ◌<◌, [], length, Some, MatchOption, OnOk};
+ghost use Rattle.std.specs.Prelude.{◌≡◌, ◌+◌, ◌^◌, ◌<◌, [], length, Some, OnOk};
 ghost use Rattle.orlib_read.specs.Lines.{without_return};
 ghost use Rattle.cell_drive.specs.Lines.{within_limit};
-ghost use Rattle.cell_drive.specs.Holding.{joined, held_line, ended, held_after, HasNoEnd, IsLineAndRest};
+ghost use Rattle.cell_drive.specs.Holding.{joined, held_line, ended, held_after};
 ghost use Rattle.cell_drive.specs.Answering.{WasAnswered, WereAnswered};
 
+use crate::cuts::cut_at;
 use crate::held_line::{HeldLine, LINE_LIMIT};
 use crate::line_handler::LineHandler;
-use memchr::memchr;
 use run_log::{Sink, WriteFault};
 
 /// How far an input has been read: how many lines have ended, and what is held of the next.
@@ -22,16 +22,6 @@ fn without_return(line: &[u8]) -> &[u8]
     ensures { result.now ≡ without_return line.now }
 {
     line.strip_suffix(b"\r").unwrap_or(line)
-}
-
-/// The bytes before the first line feed and those after it, none where there is no line feed.
-fn line_and_rest(bytes: &[u8]) -> Option<(&[u8], &[u8])>
-    ensures { MatchOption result (HasNoEnd bytes.now) (λ found. IsLineAndRest bytes.now found.0.now found.1.now) }
-{
-    match memchr(b'\n', bytes) {
-        Some(end) => Some((&bytes[..end], &bytes[end + 1..])),
-        None => None,
-    }
 }
 
 fn answer_bytes<H: LineHandler, W: Sink>(
@@ -102,7 +92,7 @@ pub(crate) fn take_piece<H: LineHandler, W: Sink>(
     ensures lines { OnOk result (input.new.lines ≡ input.old.lines + length (ended input.old.held piece.now)) }
 {
     let mut rest = piece;
-    while let Some((line, after)) = line_and_rest(rest) {
+    while let Some((line, after)) = cut_at(b'\n', rest) {
         input.lines += 1;
         answer_ended(handler, input.lines, &mut input.held, line, writer)?;
         rest = after;

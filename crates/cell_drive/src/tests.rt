@@ -1,4 +1,5 @@
 use super::*;
+use cell_control::Report;
 use run_log::{IntoSink, Sink, WriteFault, put_all};
 use std::cell::Cell;
 use std::io::{self, ErrorKind, Read, Write};
@@ -241,5 +242,64 @@ fn an_input_has_so_many_bytes_at_most(rt: HostRuntime) -> Result<(), Fail> {
         assert_eq!(rt; stream(&mut Echo, &mut reader, &mut writer), result);
         assert!(rt; is_text(&writer.into_inner().bytes, written.get(), text));
     }
+    Ok(())
+}
+
+#[test]
+fn lines_are_read_as_reports(rt: HostRuntime) -> Result<(), Fail> {
+    let told = [
+        (b"arrive 0 0".as_slice(), Report::Arrive { job: 0, at: 0 }),
+        (
+            b"finish 1 0 9".as_slice(),
+            Report::Finish {
+                job: 1,
+                machine: 0,
+                at: 9,
+            },
+        ),
+        (b"clean 1 7".as_slice(), Report::Clean { machine: 1, at: 7 }),
+        (
+            b"arrive 000000002 0000000000010".as_slice(),
+            Report::Arrive { job: 2, at: 10 },
+        ),
+        (
+            b"clean 999999999 9999999999999".as_slice(),
+            Report::Clean {
+                machine: 999_999_999,
+                at: 9_999_999_999_999,
+            },
+        ),
+    ];
+    for (line, report) in told {
+        assert_eq!(rt; report_of(line), Some(report));
+    }
+    let others = [
+        b"".as_slice(),
+        b"hello".as_slice(),
+        b"arrive 0".as_slice(),
+        b"arrive 0 0 ".as_slice(),
+        b" arrive 0 0".as_slice(),
+        b"arrive  0 0".as_slice(),
+        b"arrive 0\t0".as_slice(),
+        b"arrive 0 -1".as_slice(),
+        b"arrive 0000000000 0".as_slice(),
+        b"arrive 0 00000000000000".as_slice(),
+        b"finish 0 0".as_slice(),
+        b"finish 0 0 0 0".as_slice(),
+        b"clean 0 0 0".as_slice(),
+        b"Clean 0 0".as_slice(),
+    ];
+    for line in others {
+        assert_eq!(rt; report_of(line), None);
+    }
+    Ok(())
+}
+
+#[test]
+fn answers_are_written_as_lines(rt: HostRuntime) -> Result<(), Fail> {
+    assert!(rt; late_line(4).bytes() == b"late 4\n".as_slice());
+    assert!(rt; refused_line(6, b"BadLine").bytes() == b"refused 6 BadLine\n".as_slice());
+    assert!(rt; done_line(9).bytes() == b"done 9\n".as_slice());
+    assert!(rt; unfinished_line(4).bytes() == b"unfinished 4\n".as_slice());
     Ok(())
 }

@@ -1,7 +1,7 @@
 use Rattle.std.proofs.Common.{◌+◌, ◌∷◌, ◌∙◌, length, length-append, ap, arith, rules}
 use Rattle.std.proofs.lemmas.Grind.{common_steps}
 use Rattle.std.proofs.lemmas.Result.{err_from_is_err_and}
-use Rattle.cell_drive.specs.Holding.{HasNoEnd}
+use Rattle.cell_drive.specs.Cuts.{HasNone}
 use Rattle.cell_drive.proofs.Taking.{Taking-line, Taking-failed, Taking-answered, Taking-held, Taking-lines}
 use Rattle.cell_drive.proofs.pieces.take_piece.Goals as goal
 
@@ -18,15 +18,15 @@ loop-line-preserved g c = record {
 
 pub returns-clause-answered : goal.returns-clause-answered
 returns-clause-answered g c =
-    let no_end : HasNoEnd c.loop-line.rest.now = first_of (search (rules, c.in_default.ensures), grind (arith, common_steps)) in
+    let no_end : HasNone 10 c.loop-line.rest.now = first_of (search (rules, c.in_default.ensures), grind (arith, common_steps)) in
     Taking-answered _ _ _ _ _ _ _ _ _ _ _ c.loop-line.invariant.so_far no_end _ _
 
 pub returns-clause-held : goal.returns-clause-held
 returns-clause-held g c =
-    let no_end : HasNoEnd c.loop-line.rest.now = first_of (search (rules, c.in_default.ensures), grind (arith, common_steps)) in
+    let no_end : HasNone 10 c.loop-line.rest.now = first_of (search (rules, c.in_default.ensures), grind (arith, common_steps)) in
     c.push.ensures ∙ Taking-held _ _ _ _ _ _ _ _ _ _ _ c.loop-line.invariant.so_far no_end
 
 pub returns-clause-lines : goal.returns-clause-lines
 returns-clause-lines g c =
-    let no_end : HasNoEnd c.loop-line.rest.now = first_of (search (rules, c.in_default.ensures), grind (arith, common_steps)) in
+    let no_end : HasNone 10 c.loop-line.rest.now = first_of (search (rules, c.in_default.ensures), grind (arith, common_steps)) in
     Taking-lines _ _ _ _ _ _ _ _ _ _ _ c.loop-line.invariant.so_far no_end

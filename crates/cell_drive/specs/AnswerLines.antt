@@ -1,0 +1,19 @@
+-- The lines of answers that are no events.
+use Rattle.std.specs.Prelude.{ℕ, List, [], ◌∷◌, codes, decimal}
+use Rattle.run_log.specs.EventLines.{line_of}
+
+-- `late T`
+abbrev pub late_line : ℕ → List ℕ
+late_line at = line_of (codes "late" ∷ decimal at ∷ [])
+
+-- `refused LINE NAME`
+abbrev pub refused_line : ℕ → List ℕ → List ℕ
+refused_line number name = line_of (codes "refused" ∷ decimal number ∷ name ∷ [])
+
+-- `done T`
+abbrev pub done_line : ℕ → List ℕ
+done_line at = line_of (codes "done" ∷ decimal at ∷ [])
+
+-- `unfinished K`
+abbrev pub unfinished_line : ℕ → List ℕ
+unfinished_line left = line_of (codes "unfinished" ∷ decimal left ∷ [])
