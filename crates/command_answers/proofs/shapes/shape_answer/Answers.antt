@@ -12,3 +12,15 @@ returns-in_err-named-clause-first c = search rules
 
 pub returns-in_err-named-clause-second : goal.returns-in_err-named-clause-second
 returns-in_err-named-clause-second c = search rules
+
+pub returns-clause-found : goal.returns-clause-found
+returns-clause-found c = search rules
+
+pub returns-clause-only : goal.returns-clause-only
+returns-clause-only c = search rules
+
+pub returns-clause-fault : goal.returns-clause-fault
+returns-clause-fault c = search rules
+
+pub returns-clause-second : goal.returns-clause-second
+returns-clause-second c = search rules
