@@ -1,12 +1,15 @@
 -- What holds of every controller is what an accepted plan promises, and calls of report make the controlled run.
-use Rattle.std.proofs.Common.{◌≡◌, ℕ, ◌+◌, ◌<◌, List, [], ◌∷◌, ◌++◌, refl, sym, ◌∙◌, ap, subst, arith}
+use Rattle.std.proofs.Common.{◌≡◌, ℕ, ◌+◌, ◌<◌, ◌↔◌, List, [], ◌∷◌, ◌++◌, refl, sym, ◌∙◌, ap, subst, arith, Bool, true, false, not, ◌&&◌}
 use Rattle.std.specs.Prelude.{IsTrue}
 use Rattle.shop_base.specs.declared.move_order.MoveOrder.{MoveOrder}
 use Rattle.shop_base.specs.Plan.{PlannedShop, jobs, steps, IsWellShaped}
 use Rattle.shop_base.specs.declared.node.Node.{Node}
-use Rattle.shop_base.specs.Report.{Report, CanReport}
+use Rattle.shop_base.specs.Cell.{Cell}
+use Rattle.shop_base.specs.Report.{Report, CanReport, after_report}
+use Rattle.shop_base.specs.Move.{after_move}
+use Rattle.shop_base.specs.Punctual.{IsPunctual, ArePunctual}
 use Rattle.shop_base.specs.Run.{Event, Reported}
-use Rattle.shop_base.specs.Controlled.{IsStep, after_step, step_orders, moved, Leads, done, accepted, refused}
+use Rattle.shop_base.specs.Controlled.{IsStep, after_moves, orders_for, after_step, step_orders, moved, Leads, done, accepted, refused}
 use Rattle.shop_base.specs.Ends.{reports_in}
 use Rattle.shop_base.proofs.Keeping.{alone_on}
 use Rattle.shop_base.proofs.ControlledRuns.{controlled_to_run}
@@ -16,7 +19,7 @@ use Rattle.shop_base.proofs.InTime.{leaving_kept, leaving-in_time}
 use Rattle.plan_verifier.specs.Accepted.{VerifiedPlan, kept_at, rank_in}
 use Rattle.cell_control.specs.Control.{Control, at_start, IsControl}
 use Rattle.cell_control.specs.Promises as promise
-use Rattle.cell_control.specs.Promises.{KeepsBudget, NeverGoesWrong, IsCalled, AreCalled, CallsMakeTheControlledRun}
+use Rattle.cell_control.specs.Promises.{KeepsBudget, NeverGoesWrong, IsCalled, AreCalled, not_yet, once_more, CallsMakeTheControlledRun}
 
 pub never_goes_wrong : (v : Control) → IsControl v → NeverGoesWrong v
 never_goes_wrong v control = record {
@@ -55,52 +58,92 @@ reports_in-moved : (os : List MoveOrder) (es : List Event) → reports_in (moved
 reports_in-moved [] es = refl
 reports_in-moved (o ∷ os) es = reports_in-moved os es
 
--- from a controller with this shop and plan, these reports lead to another: its cell is that of the controlled run, of which it has counted the reports
-pub record Leaves (p : PlannedShop) (c : Control) (rs : List Report) (end : Control) : Type 0 where
-  pub events : List Event
-  pub leads : Leads p c.cell rs events end.cell
+-- nor do they make a list of events less punctual
+punctual-moved : (p : PlannedShop) (c : Cell) (t : ℕ) (js : List ℕ) (es : List Event) → ArePunctual p c (moved (orders_for p c t js) ++ es) ↔ ArePunctual p (after_moves p c t js) es
+punctual-moved p c t [] es = ((λ all. all), λ all. all)
+punctual-moved p c t (j ∷ js) es = punctual-moved p (after_move p c j t) t js es
+
+-- all reports so far were punctual, and this one too
+both : (so_far late : Bool) → IsTrue (so_far && not late) ↔ (IsTrue so_far × (late ≡ false))
+both true false = ((λ all. (refl, refl)), λ all. refl)
+both true true = ((λ wrong. let no : false ≡ true = wrong in absurd (cc)), λ all. let no : true ≡ false = all.1 in absurd (cc))
+both false late = ((λ wrong. let no : false ≡ true = wrong in absurd (cc)), λ all. let no : false ≡ true = all.0 in absurd (cc))
+
+-- from a controller with this shop and plan, these reports lead to another along these events: its cell is that of the controlled run, of which it has counted the reports
+pub record Leaves (p : PlannedShop) (c : Control) (rs : List Report) (es : List Event) (end : Control) : Type 0 where
+  pub leads : Leads p c.cell rs es end.cell
   pub plan_is : end.plan ≡ c.plan
-  pub count : end.accepted ≡ c.accepted + reports_in events
+  pub count : end.accepted ≡ c.accepted + reports_in es
+  pub punctual : IsTrue end.punctual ↔ (IsTrue c.punctual × ArePunctual p c.cell es)
 
 -- one call more in front
-call_leaves : (p : PlannedShop) (c mid end : Control) (r : Report) (rs : List Report) → c.plan.planned ≡ p → IsCalled c r mid
-    → (mid.plan.planned ≡ p → Leaves p mid rs end) → Leaves p c (r ∷ rs) end
-call_leaves p _ _ end _ rs of_plan (promise.taken before report ack new is) later = record {
-  events = Reported report ∷ (moved (step_orders p before.cell report is.movers) ++ rest.events);
-  leads = accepted before.cell report is.movers rs rest.events end.cell step (subst (λ x. Leads p x rs rest.events end.cell) leads_to rest.leads);
+call_leaves : (p : PlannedShop) (c mid end : Control) (r : Report) (rs : List Report) (now later : List Event) → c.plan.planned ≡ p → IsCalled c r now mid
+    → (mid.plan.planned ≡ p → Leaves p mid rs later end) → Leaves p c (r ∷ rs) (now ++ later) end
+call_leaves p _ _ end _ rs _ later of_plan (promise.answered before report ack new is) rest_of = record {
+  leads = subst (λ os. Leads p before.cell (report ∷ rs) (Reported report ∷ (moved os ++ later)) end.cell) (sym orders)
+      (accepted before.cell report is.movers rs later end.cell step (subst (λ x. Leads p x rs later end.cell) leads_to rest.leads));
   plan_is = rest.plan_is ∙ is.plan;
-  count = omega (arith, rest.count, is.accepted, reports_in-moved (step_orders p before.cell report is.movers) rest.events);
+  count = omega (arith, rest.count, is.accepted, reports_in-moved new.orders later);
+  punctual = (there, back);
 }
   where
-    rest : Leaves p new rs end
-    rest = later (ap (λ (v : VerifiedPlan). v.planned) is.plan ∙ of_plan)
+    rest : Leaves p new rs later end
+    rest = rest_of (ap (λ (v : VerifiedPlan). v.planned) is.plan ∙ of_plan)
 
     step : IsStep p before.cell report is.movers
     step = subst (λ x. IsStep x before.cell report is.movers) of_plan is.step
 
     leads_to : new.cell ≡ after_step p before.cell report is.movers
     leads_to = subst (λ x. new.cell ≡ after_step x before.cell report is.movers) of_plan is.cell
-call_leaves p _ _ end _ rs of_plan (promise.refused same report cannot) later =
-    let rest = later of_plan in
+
+    orders : new.orders ≡ step_orders p before.cell report is.movers
+    orders = subst (λ x. new.orders ≡ step_orders x before.cell report is.movers) of_plan is.orders
+
+    late : (ack.late ≡ false) ↔ IsPunctual p before.cell report
+    late = subst (λ x. (ack.late ≡ false) ↔ IsPunctual x before.cell report) of_plan is.late
+
+    moves : ArePunctual p (after_report before.cell report) (moved new.orders ++ later) ↔ ArePunctual p new.cell later
+    moves = subst (λ os. ArePunctual p (after_report before.cell report) (moved os ++ later) ↔ ArePunctual p new.cell later) (sym orders)
+        (subst (λ x. ArePunctual p (after_report before.cell report) (moved (step_orders p before.cell report is.movers) ++ later) ↔ ArePunctual p x later) (sym leads_to)
+        (punctual-moved p (after_report before.cell report) report.at is.movers later))
+
+    there : IsTrue end.punctual → IsTrue before.punctual × ArePunctual p before.cell (Reported report ∷ (moved new.orders ++ later))
+    there all =
+        let (so_far, after) = rest.punctual.0 all in
+        let (first, punctual) = (both before.punctual ack.late).0 (subst IsTrue is.punctual so_far) in
+        (first, (late.0 punctual, moves.1 after))
+
+    back : IsTrue before.punctual × ArePunctual p before.cell (Reported report ∷ (moved new.orders ++ later)) → IsTrue end.punctual
+    back all = rest.punctual.1 (subst IsTrue (sym is.punctual) ((both before.punctual ack.late).1 (all.0, late.1 all.1.0)), moves.0 all.1.1)
+call_leaves p _ _ end _ rs _ later of_plan (promise.refused same report cannot) rest_of =
+    let rest = rest_of of_plan in
     record {
-      events = rest.events;
-      leads = refused same.cell report rs rest.events end.cell (subst (λ x. CanReport x same.cell report → ⊥) of_plan cannot) rest.leads;
+      leads = refused same.cell report rs later end.cell (subst (λ x. CanReport x same.cell report → ⊥) of_plan cannot) rest.leads;
       plan_is = rest.plan_is;
       count = rest.count;
+      punctual = rest.punctual;
     }
 
 -- calls of report lead along a controlled run
-calls_leave : (p : PlannedShop) (c end : Control) (rs : List Report) → c.plan.planned ≡ p → AreCalled c rs end → Leaves p c rs end
-calls_leave p c end [] of_plan same = record {
-  events = [];
-  leads = subst (λ (x : Control). Leads p c.cell [] [] x.cell) (sym same) (done c.cell);
-  plan_is = ap (λ (x : Control). x.plan) same;
-  count = omega (arith, ap (λ (x : Control). x.accepted) same);
+calls_leave : (p : PlannedShop) (c end : Control) (rs : List Report) (es : List Event) → c.plan.planned ≡ p → AreCalled c rs es end → Leaves p c rs es end
+calls_leave p c _ _ _ of_plan (not_yet same) = record {
+  leads = done same.cell;
+  plan_is = refl;
+  count = omega arith;
+  punctual = ((λ all. (all, tt)), λ all. all.0);
 }
-calls_leave p c end (r ∷ rs) of_plan (mid, call, later) = call_leaves p c mid end r rs of_plan call λ so. calls_leave p mid end rs so later
+calls_leave p _ _ _ _ of_plan (once_more c mid end r rs now later call calls) =
+    call_leaves p c mid end r rs now later of_plan call λ so. calls_leave p mid end rs later so calls
 
 pub calls_make_the_controlled_run : CallsMakeTheControlledRun
-calls_make_the_controlled_run v rs end verified calls =
-    let left : Leaves v.planned (at_start v) rs end = calls_leave v.planned (at_start v) end rs refl calls in
-    let (run, ends, sound, rest) = controlled_to_run v.planned rs left.events end.cell verified.schedule.shaped left.leads in
-    (left.events, left.leads, run, ends, left.plan_is, omega (arith, left.count))
+calls_make_the_controlled_run v rs es end verified calls =
+    let left : Leaves v.planned (at_start v) rs es end = calls_leave v.planned (at_start v) end rs es refl calls in
+    let (run, ends, sound, rest) = controlled_to_run v.planned rs es end.cell verified.schedule.shaped left.leads in
+    record {
+      controlled = left.leads;
+      run = run;
+      ends = ends;
+      plan = left.plan_is;
+      accepted = omega (arith, left.count);
+      punctual = ((λ all. (left.punctual.0 all).1), λ all. left.punctual.1 (refl, all));
+    }

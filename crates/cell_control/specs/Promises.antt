@@ -1,9 +1,10 @@
-use Rattle.std.specs.Prelude.{◌≡◌, ℕ, ◌<◌, ◌↔◌, ◌⊎◌, List, [], ◌∷◌, IsTrue}
+use Rattle.std.specs.Prelude.{◌≡◌, ℕ, ◌<◌, ◌↔◌, ◌⊎◌, List, [], ◌∷◌, ◌++◌, IsTrue}
 use Rattle.shop_base.specs.Plan.{jobs}
-use Rattle.shop_base.specs.Cell.{IsGone}
+use Rattle.shop_base.specs.Cell.{start, IsGone}
 use Rattle.shop_base.specs.Report.{Report, CanReport}
-use Rattle.shop_base.specs.Run.{Event, IsRun, ends_in, IsAtRest, IsStuck}
-use Rattle.shop_base.specs.Controlled.{IsControlledRun}
+use Rattle.shop_base.specs.Run.{Event, Reported, IsRun, ends_in, IsAtRest, IsStuck}
+use Rattle.shop_base.specs.Controlled.{moved, IsControlledRun}
+use Rattle.shop_base.specs.Punctual.{ArePunctual}
 use Rattle.shop_base.specs.StepLaw.{AreJobsApart}
 use Rattle.shop_base.specs.NeverStuckLaw.{CanGoOn}
 use Rattle.shop_base.specs.Ends.{stated_number, HasEnded, IsOutByBudget, IsInTime, reports_in}
@@ -31,17 +32,26 @@ pub record NeverGoesWrong (v : Control) : Type 0 where
   -- while no report was late each job is in time
   pub in_time : IsTrue v.punctual → (j : ℕ) → j < jobs v.plan.planned → KeepsBudget v j
 
--- what a call of report makes of a controller: the step of a report that is possible, nothing of one that isn't
-pub data IsCalled : Control → Report → Control → Type 0 where
-  taken : (before : Control) (r : Report) (ack : Ack) (new : Control) → IsAnswered before r ack new → IsCalled before r new
-  refused : (c : Control) (r : Report) → (CanReport c.plan.planned c.cell r → ⊥) → IsCalled c r c
+-- what a call of report makes of a controller, and the events that it adds: the step of a report that is possible, nothing of one that isn't
+pub data IsCalled : Control → Report → List Event → Control → Type 0 where
+  answered : (before : Control) (r : Report) (ack : Ack) (new : Control) → IsAnswered before r ack new → IsCalled before r (Reported r ∷ moved new.orders) new
+  refused : (c : Control) (r : Report) → (CanReport c.plan.planned c.cell r → ⊥) → IsCalled c r [] c
 
--- calls of report with these reports, one after another
-abbrev pub AreCalled : Control → List Report → Control → Type 0
-AreCalled c [] end = end ≡ c
-AreCalled c (r ∷ rs) end = (mid : Control) × IsCalled c r mid × AreCalled mid rs end
+-- calls of report with these reports, one after another, and the events that they add
+pub data AreCalled : Control → List Report → List Event → Control → Type 0 where
+  not_yet : (c : Control) → AreCalled c [] [] c
+  once_more : (c mid end : Control) (r : Report) (rs : List Report) (now later : List Event)
+      → IsCalled c r now mid → AreCalled mid rs later end → AreCalled c (r ∷ rs) (now ++ later) end
 
--- calls of report, from the start of an accepted plan, make the controlled run of their reports, and count those that it accepts
+-- these events are the controlled run of these reports by an accepted plan, and this is the controller at its end
+pub record IsDriven (v : VerifiedPlan) (rs : List Report) (es : List Event) (end : Control) : Type 0 where
+  pub controlled : IsControlledRun v.planned rs es end.cell
+  pub run : IsRun v.planned es
+  pub ends : end.cell ≡ ends_in v.planned es
+  pub plan : end.plan ≡ v
+  pub accepted : end.accepted ≡ reports_in es
+  pub punctual : IsTrue end.punctual ↔ ArePunctual v.planned (start v.planned) es
+
+-- calls of report, from the start of an accepted plan, make the controlled run of their reports
 abbrev pub CallsMakeTheControlledRun : Type 0
-CallsMakeTheControlledRun = (v : VerifiedPlan) (rs : List Report) (end : Control) → IsVerified v → AreCalled (at_start v) rs end
-    → (es : List Event) × IsControlledRun v.planned rs es end.cell × IsRun v.planned es × (end.cell ≡ ends_in v.planned es) × (end.plan ≡ v) × (end.accepted ≡ reports_in es)
+CallsMakeTheControlledRun = (v : VerifiedPlan) (rs : List Report) (es : List Event) (end : Control) → IsVerified v → AreCalled (at_start v) rs es end → IsDriven v rs es end

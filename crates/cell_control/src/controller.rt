@@ -1,8 +1,9 @@
-ghost use Rattle.std.specs.Prelude.{◌≡◌, ℕ, ◌+◌, ◌<◌, ◌≤◌, ◌↔◌, MatchOption, IfOk, IfErr, IsOk, IsTrue};
+ghost use Rattle.std.specs.Prelude.{◌≡◌, ℕ, List, ◌+◌, ◌<◌, ◌≤◌, ◌↔◌, MatchOption, IfOk, IfErr, IsOk, IsTrue};
 ghost use Rattle.shop_base.specs.Plan.{jobs};
 ghost use Rattle.shop_base.specs.Cell.{cleaning, IsOn, IsFree};
 ghost use Rattle.shop_base.specs.Activity.{Cleaning, GoesOn};
 ghost use Rattle.shop_base.specs.Report.{CanReport};
+ghost use Rattle.shop_base.specs.Run.{Event};
 ghost use Rattle.shop_base.specs.Ends.{stated_number, HasEnded};
 ghost use Rattle.shop_base.specs.ReportsLeft.{reports_left};
 ghost use Rattle.cell_control.specs.Control.{Control, at_start, IsAnswered, IsControl};
@@ -90,7 +91,7 @@ impl<D: Dues> Controller<D> {
         ensures answered { IfOk result (λ ack. IsAnswered self.old (said report) ack self.new) }
         ensures first_reason { IfErr result (IsFirstReason self.old.plan.planned self.old.cell (said report)) }
         ensures unchanged { IfErr result (λ fault. self.new ≡ self.old) }
-        ensures called { IsCalled self.old (said report) self.new }
+        ensures called { (es : List Event) × IsCalled self.old (said report) es self.new }
         ensures never_refused { (due : ℕ) → GoesOn self.old.plan.planned self.old.cell (said report).ended due → (said report).at ≡ self.old.cell.last → IsOk result }
     {
         let shaped = self.verified.shaped();

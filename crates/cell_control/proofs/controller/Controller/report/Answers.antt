@@ -1,10 +1,10 @@
-use Rattle.std.proofs.Common.{◌+◌, ◌-◌, arith, sym, subst, refl}
+use Rattle.std.proofs.Common.{◌+◌, ◌-◌, arith, sym, subst, refl, []}
 use Rattle.shop_base.specs.Report.{CanReport}
 use Rattle.shop_base.specs.Run.{IsAtRest}
 use Rattle.cell_control.specs.Control.{Control, IsAnswered}
 use Rattle.cell_control.specs.Held.{control_of, IsHeld}
 use Rattle.cell_control.specs.Reports.{said, IsFirstReason}
-use Rattle.cell_control.specs.Promises.{taken, refused}
+use Rattle.cell_control.specs.Promises.{answered as called_answered, refused}
 use Rattle.cell_control.specs.Steps.{IsMade}
 use Rattle.cell_control.specs.Tables.{cell_of, AreSound}
 use Rattle.cell_control.specs.Ties.{AreTied}
@@ -59,12 +59,14 @@ returns-clause-answered g c =
     (answered s.verified s.tables new.tables s.orders.items new.orders.items s.accepted s.punctual (said c.args.report) c.make_step-ack.result made))
 
 pub returns-clause-called : goal.returns-clause-called
-returns-clause-called g c = taken c.args.self.now (said c.args.report) c.make_step-ack.result _ (returns-clause-answered g c)
+returns-clause-called g c = (_, called_answered c.args.self.now (said c.args.report) c.make_step-ack.result _ (returns-clause-answered g c))
 
 pub returns-in_err-check_report-clause-called : goal.returns-in_err-check_report-clause-called
 returns-in_err-check_report-clause-called g c =
-    let s = c.self.inside in
-    refused c.args.self.now (said c.args.report)
-    (subst (λ (v : Control). CanReport v.plan.planned v.cell (said c.args.report) → ⊥) c.self.view_is
-    (reason-cannot s.verified.planned (cell_of s.verified.planned s.tables) (said c.args.report) c.in_err-check_report.field-0.0 c.self.invariant.control.sound
-    (subst (λ p. IsFirstReason p (cell_of p s.tables) (said c.args.report) c.in_err-check_report.field-0.0) c.shaped-shaped.ensures.same c.in_err-check_report.ensures.first)))
+    let s = c.self.inside in (
+      [],
+      refused c.args.self.now (said c.args.report)
+          (subst (λ (v : Control). CanReport v.plan.planned v.cell (said c.args.report) → ⊥) c.self.view_is
+          (reason-cannot s.verified.planned (cell_of s.verified.planned s.tables) (said c.args.report) c.in_err-check_report.field-0.0 c.self.invariant.control.sound
+          (subst (λ p. IsFirstReason p (cell_of p s.tables) (said c.args.report) c.in_err-check_report.field-0.0) c.shaped-shaped.ensures.same c.in_err-check_report.ensures.first))),
+    )
