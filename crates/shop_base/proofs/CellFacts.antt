@@ -3,12 +3,11 @@ use Rattle.std.proofs.Common.{◌≡◌, ℕ, zero, suc, ◌+◌, ◌≤◌, [],
 use Rattle.std.proofs.lemmas.Bool.{cases_lt}
 use Rattle.shop_base.specs.declared.move_order.Spot.TheVariants.{Out, At}
 use Rattle.shop_base.specs.Plan.{PlannedShop, jobs, steps, machine_of, nominal, order, job_at, Visits, IsWellShaped}
-use Rattle.shop_base.specs.Cell.{Cell, job_in, made, ready, since, entries, cleaning, IsOutside, IsOn, IsGone, IsFree}
+use Rattle.shop_base.specs.Cell.{Cell, job_in, made, ready, since, entries, cleaning, IsOutside, IsOn, IsFree}
 use Rattle.shop_base.specs.Activity.{Activity, Arrival, Operation, Cleaning, GoesOn}
 use Rattle.shop_base.specs.Report.{Report, after_end, after_report}
-use Rattle.shop_base.specs.Move.{KeepsPlan, spot_after, source, target}
-use Rattle.shop_base.specs.Run.{IsAtRest}
-use Rattle.shop_base.specs.Movers.{OnlyMoves, counted, ready_count, due_after, due_of_job, due_of_cleaning}
+use Rattle.shop_base.specs.Move.{KeepsPlan, source, target}
+use Rattle.shop_base.specs.Movers.{counted, ready_count, due_after, due_of_job, due_of_cleaning}
 use Rattle.shop_base.specs.Sound.{IsSound}
 use Rattle.shop_base.proofs.Visits.{visits-stands, stop_at, stop_past}
 use Rattle.shop_base.proofs.Cleanings.{sum_below-le}
@@ -59,21 +58,9 @@ source_on p c j k m on =
     let entered : made c j ≡ suc k = omega (arith, on.entered) in
     rw entered (stop_at p j k m on.visits)
 
--- a job that is gone has no source on a machine
-pub source_gone : (p : PlannedShop) (c : Cell) (j : ℕ) → IsGone p c j → source p c j ≡ Out
-source_gone p c j gone = go (made c j) refl
-  where
-    go : (n : ℕ) → made c j ≡ n → spot_after p j n ≡ Out
-    go zero is = refl
-    go (suc k) is = stop_past p j k (omega arith)
-
 -- where all jobs of its order have entered a machine, nobody is next
 pub none_next : (p : PlannedShop) (c : Cell) (j m : ℕ) → length (order p m) ≤ length (entries c m) → Visits p j (made c j) m → KeepsPlan p c j → ⊥
 none_next p c j m all visits keeps = absurd (omega (arith, (target_place p c j m keeps visits).within))
-
--- a cell at rest moves no job
-pub rest_only : (p : PlannedShop) (c : Cell) (j : ℕ) → IsAtRest p c → OnlyMoves p c j
-rest_only p c j rest i t can keeps = absurd (rest i t can keeps)
 
 -- no more jobs are ready than there are
 pub ready_count-le : (p : PlannedShop) (c : Cell) → ready_count p c ≤ jobs p

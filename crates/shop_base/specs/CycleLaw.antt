@@ -9,11 +9,11 @@ use Rattle.shop_base.specs.Graph.{IsSimpleCycle}
 abbrev pub IsNeverDone : PlannedShop → Type 0
 IsNeverDone p = (es : List Event) → IsRun p es → (j : ℕ) × (j < jobs p) × (IsGone p (ends_in p es) j → ⊥)
 
--- nor is the move of this node made: its job stays before it
+-- no run makes the move of this node: its job stays before it
 abbrev pub IsNeverMade : PlannedShop → Node → Type 0
 IsNeverMade p v = (es : List Event) → IsRun p es → made (ends_in p es) v.job ≤ v.place
 
--- that of none of these nodes is
+-- nor that of any of these nodes
 abbrev pub AreNeverMade : PlannedShop → List Node → Type 0
 AreNeverMade p [] = Unit {0}
 AreNeverMade p (v ∷ vs) = IsNeverMade p v × AreNeverMade p vs
