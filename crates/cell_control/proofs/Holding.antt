@@ -35,7 +35,7 @@ start_control v verified = record {
   sound = start-sound v.planned verified.schedule.shaped;
   at_rest = start_at_rest v.planned;
   counted = omega (arith, start-reports_left v.planned);
-  on_time = λ punctual. start-keeps_moments v.planned (kept_at v);
+  moments_kept = λ punctual. start-keeps_moments v.planned (kept_at v);
 }
 
 -- it stands for the start
@@ -92,7 +92,7 @@ module _ (v : VerifiedPlan) (old : Tables) (dues : List (Option ℕ)) (orders : 
       let (so_far, now) = both punctual ack.late still in
       subst (KeepsMoments v.planned (kept_at v)) (sym made.leads)
       (step-keeps_moments v.planned (rank_in v) (kept_at v) (cell_of v.planned old) r made.movers held.rows.shaped held.control.verified.schedule.ranks
-      held.control.verified.schedule.moments held.control.sound held.control.at_rest (held.control.on_time so_far) made.step (made.late.0 now))
+      held.control.verified.schedule.moments held.control.sound held.control.at_rest (held.control.moments_kept so_far) made.step (made.late.0 now))
 
   -- what holds of a controller holds after a step
   pub held_after : (dues' : List (Option ℕ)) (orders' : SmallVec MoveOrder) → orders'.items ≡ items → orders'.capacity ≡ orders.capacity → AreSound v.planned new
@@ -103,7 +103,7 @@ module _ (v : VerifiedPlan) (old : Tables) (dues : List (Option ℕ)) (orders : 
       sound = sound.sound;
       at_rest = subst (IsAtRest v.planned) (sym made.leads) made.step.rest;
       counted = omega (arith, fewer, held.control.counted);
-      on_time = keeps sound;
+      moments_kept = keeps sound;
     };
     rows = sound.tables;
     tied = tied;

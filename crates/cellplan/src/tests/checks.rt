@@ -121,6 +121,7 @@ fn loads_a_verdict(rt: HostRuntime) -> Result<(), Fail> {
             assert_eq!(rt; verified.earliest_leave(0), Some(5));
             assert_eq!(rt; verified.earliest_leave(2), None);
             assert_eq!(rt; verified.shaped().report_count(), 6);
+            assert_eq!(rt; verified.into_shaped().report_count(), 6);
         }
         _ => assert!(rt; false),
     }
