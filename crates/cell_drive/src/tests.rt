@@ -1,3 +1,5 @@
+ghost use Rattle.std.specs.Prelude.{◌≡◌};
+
 use super::*;
 use cell_control::Report;
 use run_log::{IntoSink, Sink, WriteFault, put_all};
