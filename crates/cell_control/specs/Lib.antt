@@ -6,6 +6,7 @@ pub mod Moving
 pub mod Sequences
 pub mod Steps
 pub mod Reports
+pub mod ReasonNames
 pub mod Readings
 pub mod Control
 pub mod Held
