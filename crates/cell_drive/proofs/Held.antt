@@ -1,9 +1,9 @@
 -- What is held of a line, and which lines end, piece after piece.
 use Rattle.std.proofs.Common.{◌≡◌, ℕ, zero, suc, ◌+◌, ◌-◌, ◌<◌, ◌≤◌, Bool, true, false, cond, List, [], ◌∷◌, ◌++◌, Option, Some, None, length, take, drop, refl, sym, ap, ◌∙◌, arith, append_assoc, append-nil, length-append, leb, subst}
 use Rattle.std.proofs.lemmas.Bool.{le-leb, lt-leb, leb-true, leb-false}
-use Rattle.orlib_read.specs.Lines.{is_line_feed, without_return}
+use Rattle.text_lines.specs.Lines.{is_line_feed, without_return}
 use Rattle.cell_drive.specs.Lines.{within_limit}
-use Rattle.cell_drive.specs.Cuts.{HasNone}
+use Rattle.text_lines.specs.Cuts.{HasNone}
 use Rattle.cell_drive.specs.Holding.{joined, held_line, ended, held_after}
 
 pub cases_bool : (b : Bool) (P : Type 0) → (b ≡ true → P) → (b ≡ false → P) → P

@@ -1,4 +1,3 @@
-pub mod FirstPlaces
 pub mod Held
 pub mod Told
 pub mod Taking

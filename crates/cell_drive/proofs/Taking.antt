@@ -5,7 +5,7 @@ use Rattle.std.proofs.KnownBytes.{Appends-nil, Appends-trans}
 use Rattle.run_log.specs.Sinks.{AllBut, TookPart, Wrote}
 use Rattle.cell_drive.specs.declared.drive_fault.DriveFault.{DriveFault}
 use Rattle.cell_drive.specs.declared.drive_fault.DriveFault.TheVariants.{Read, Write, InputTooLong, Memory}
-use Rattle.cell_drive.specs.Cuts.{HasNone, IsCutAt}
+use Rattle.text_lines.specs.Cuts.{HasNone, IsCutAt}
 use Rattle.cell_drive.specs.Holding.{joined, held_line, ended, held_after}
 use Rattle.cell_drive.specs.Answering.{AnswerAll, WasAnswered, WereAnswered}
 use Rattle.cell_drive.specs.Reading.{IsPieceAnswered, IsPartTold, IsTaken}

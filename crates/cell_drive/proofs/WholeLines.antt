@@ -3,7 +3,7 @@ use Rattle.std.proofs.Common.{◌≡◌, ℕ, suc, ◌+◌, ◌-◌, ◌<◌, �
 use Rattle.std.specs.List.{onto_first, ends_with}
 use Rattle.std.proofs.Math.Seq.{take-append_seam}
 use Rattle.std.proofs.lemmas.Bool.{le-leb, lt-leb, leb-true, leb-false}
-use Rattle.orlib_read.specs.Lines.{is_line_feed, parts_of, without_return, lines_of}
+use Rattle.text_lines.specs.Lines.{is_line_feed, parts_of, without_return, lines_of}
 use Rattle.cell_drive.specs.Lines.{within_limit, input_lines, complete_lines}
 use Rattle.cell_drive.specs.Holding.{joined, held_line, ended, held_after}
 use Rattle.cell_drive.specs.Reading.{last_line}

@@ -1,6 +1,6 @@
 -- What is held of the line that is being read, and which lines have ended.
 use Rattle.std.specs.Prelude.{ℕ, ◌-◌, nat_le, if◌then◌else◌, List, [], ◌∷◌, ◌++◌, length, Option, None, Some}
-use Rattle.orlib_read.specs.Lines.{is_line_feed, without_return}
+use Rattle.text_lines.specs.Lines.{is_line_feed, without_return}
 use Rattle.cell_drive.specs.declared.held_line.TheConstants.{ROOM}
 use Rattle.cell_drive.specs.Lines.{within_limit}
 

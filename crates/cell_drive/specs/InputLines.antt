@@ -1,16 +1,8 @@
 -- Lines of input, as reports.
-use Rattle.std.specs.Prelude.{◌≡◌, ℕ, ◌<◌, ◌≤◌, true, List, ◌∷◌, ◌++◌, length, codes}
-use Rattle.std.specs.List.{list_all}
-use Rattle.orlib_read.specs.Words.{is_digit, value_of}
+use Rattle.std.specs.Prelude.{◌≡◌, ℕ, List, ◌∷◌, ◌++◌, codes}
+use Rattle.text_lines.specs.Numbers.{IsNumeral}
 use Rattle.cell_control.specs.declared.report.Report.{Report}
 use Rattle.cell_control.specs.declared.report.Report.TheVariants.{Arrive, Finish, Clean}
-
--- a word of digits, at least one and at most so many, leading zeros among them, is this number
-pub record IsNumeral (most : ℕ) (word : List ℕ) (n : ℕ) : Type 0 where
-  pub some : 0 < length word
-  pub few : length word ≤ most
-  pub digits : list_all is_digit word ≡ true
-  pub value : n ≡ value_of word
 
 -- the number of a job or a machine, with at most 9 digits, then a space and a moment, with at most 13
 abbrev pub IsNumberAndMoment : List ℕ → ℕ → ℕ → Type 0

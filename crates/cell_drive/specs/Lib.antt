@@ -1,5 +1,4 @@
 pub mod Lines
-pub mod Cuts
 pub mod Holding
 pub mod Answering
 pub mod Streams

@@ -1,60 +1,17 @@
 //! The reports that lines of input are.
 
 ghost use Rattle.std.specs.Prelude.{◌≡◌, ◌≢◌, ℕ, ◌^◌, ◌<◌, ◌≤◌, ◌∷◌, ◌++◌, List, length, codes, IfSome, MatchOption};
-ghost use Rattle.orlib_read.specs.Words.{is_digit};
-ghost use Rattle.cell_drive.specs.InputLines.{IsNumeral, IsNumberAndMoment, IsFinishLine, IsReportLine, IsNoReport};
+ghost use Rattle.cell_drive.specs.InputLines.{IsNumberAndMoment, IsFinishLine, IsReportLine, IsNoReport};
 
-use crate::cuts::cut_at;
 use cell_control::Report;
 use shop_base::Moment;
-
-fn is_digit(byte: u8) -> bool
-    ensures { result ≡ is_digit byte }
-{
-    byte.is_ascii_digit()
-}
-
-/// The number that the word is, if it has at most so many digits.
-fn number_of(word: &[u8], most: usize) -> Option<u64>
-    requires { most ≤ 18 }
-    ensures number { MatchOption result ((n : ℕ) → IsNumeral most word.now n → ⊥) (IsNumeral most word.now) }
-    ensures small { IfSome result (λ n. n < 10 ^ most) }
-{
-    if word.is_empty() || word.len() > most {
-        return None;
-    }
-    let mut value = 0;
-    for byte in word {
-        if !is_digit(*byte) {
-            return None;
-        }
-        value = 10 * value + u64::from(*byte - b'0');
-    }
-    Some(value)
-}
-
-/// The number of a job or a machine that the word is.
-fn short_number_of(word: &[u8]) -> Option<u32>
-    ensures { MatchOption result ((n : ℕ) → IsNumeral 9 word.now n → ⊥) (IsNumeral 9 word.now) }
-{
-    match number_of(word, 9) {
-        Some(number) => Some(number as u32),
-        None => None,
-    }
-}
+use text_lines::{after_prefix, cut_at, number_of, short_number_of};
 
 fn number_and_moment(words: &[u8]) -> Option<(u32, Moment)>
     ensures { MatchOption result ((n at : ℕ) → IsNumberAndMoment words.now n at → ⊥) (λ found. IsNumberAndMoment words.now found.0 found.1) }
 {
     let (first, second) = cut_at(b' ', words)?;
     Some((short_number_of(first)?, number_of(second, 13)?))
-}
-
-/// The bytes after such a prefix, if the line begins with it.
-fn after_prefix<'a>(line: &'a [u8], prefix: &[u8]) -> Option<&'a [u8]>
-    ensures { MatchOption result ((rest : List ℕ) → line.now ≢ prefix.now ++ rest) (λ rest. line.now ≡ prefix.now ++ rest.now) }
-{
-    line.strip_prefix(prefix)
 }
 
 /// The report that the words after `arrive` are.

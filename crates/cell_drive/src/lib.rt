@@ -2,7 +2,6 @@
 #![tactic(auto)]
 
 mod answer_lines;
-mod cuts;
 mod drive_fault;
 mod from_read;
 mod held_line;

@@ -1,27 +1,21 @@
 //! The lines that end in a piece of the input.
 
 ghost use Rattle.std.specs.Prelude.{◌≡◌, ◌+◌, ◌^◌, ◌<◌, [], length, Some, OnOk};
-ghost use Rattle.orlib_read.specs.Lines.{without_return};
+ghost use Rattle.text_lines.specs.Lines.{without_return};
 ghost use Rattle.cell_drive.specs.Lines.{within_limit};
 ghost use Rattle.cell_drive.specs.Holding.{joined, held_line, ended, held_after};
 ghost use Rattle.cell_drive.specs.Answering.{WasAnswered, WereAnswered};
 
-use crate::cuts::cut_at;
 use crate::held_line::{HeldLine, LINE_LIMIT};
 use crate::line_handler::LineHandler;
 use run_log::{Sink, WriteFault};
+use text_lines::{cut_at, without_return};
 
 /// How far an input has been read: how many lines have ended, and what is held of the next.
 #[derive(Drop)]
 pub(crate) struct Input {
     pub held: HeldLine,
     pub lines: u64,
-}
-
-fn without_return(line: &[u8]) -> &[u8]
-    ensures { result.now ≡ without_return line.now }
-{
-    line.strip_suffix(b"\r").unwrap_or(line)
 }
 
 fn answer_bytes<H: LineHandler, W: Sink>(

@@ -4,7 +4,7 @@ use Rattle.std.specs.Prelude.{◌⊎◌}
 use Rattle.shop_base.specs.declared.shop.Step.{Step}
 use Rattle.orlib_read.specs.declared.or_fault.OrFault.{OrFault}
 use Rattle.orlib_read.specs.declared.or_fault.OrFault.TheVariants.{Extra}
-use Rattle.orlib_read.specs.Lines.{NumberedLine}
+use Rattle.text_lines.specs.Lines.{NumberedLine}
 use Rattle.orlib_read.specs.Instance.{Reads}
 use Rattle.orlib_read.specs.Faults.{IsCutShort, HasExtraLine, IsJobFault}
 use Rattle.orlib_read.specs.Reading.{◌>>=◌, Content, without_titles, head_at, jobs_at, draft_at, ended, instance_at}

@@ -3,7 +3,7 @@ use Rattle.std.proofs.Common.{◌≡◌, ℕ, List, [], ◌∷◌, ◌++◌, Opt
 use Rattle.std.specs.List.{AllByRecursion}
 use Rattle.orlib_read.specs.declared.or_fault.OrFault.{OrFault}
 use Rattle.orlib_read.specs.declared.or_fault.OrFault.TheVariants.{NoSizes, BadSizes}
-use Rattle.orlib_read.specs.Lines.{NumberedLine}
+use Rattle.text_lines.specs.Lines.{NumberedLine}
 use Rattle.orlib_read.specs.Words.{words_of}
 use Rattle.orlib_read.specs.Kinds.{IsAnyInstanceLine, IsOtherLine}
 use Rattle.orlib_read.specs.Instance.{Opens}

@@ -1,5 +1,4 @@
 pub mod Parts
-pub mod Digits
 pub mod Left
 pub mod Loops
 pub mod Numbers

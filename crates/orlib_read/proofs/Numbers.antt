@@ -1,15 +1,17 @@
 -- Words that are numbers, and the kinds of lines that they make.
 use Rattle.std.proofs.Common.{◌≡◌, ℕ, suc, ◌+◌, ◌*◌, ◌%◌, ◌==◌, Bool, true, false, cond, List, [], ◌∷◌, ◌++◌, length, Option, Some, None, Result, Ok, Err, refl, sym, ap, subst, ◌∙◌, arith, inl, inr}
-use Rattle.std.specs.Prelude.{is_some, is_err, option_map, option_and_then, codes, ◌⊎◌}
+use Rattle.std.specs.Prelude.{is_some, is_err, option_map, option_and_then, codes, nat_le, nat_lt, ◌&&◌, ◌⊎◌}
 use Rattle.std.specs.Str.{bytes_eq}
-use Rattle.std.proofs.lemmas.Bool.{eqb-true}
+use Rattle.std.specs.List.{list_all}
+use Rattle.std.proofs.lemmas.Bool.{eqb-true, and_parts, ltb-true, leb-true, lt-ltb, le-leb}
 use Rattle.std.proofs.lemmas.Option.{cond_some, none-some, same_Some}
 use Rattle.std.proofs.lemmas.Slice.Eq.{bytes_eq-Decides}
 use Rattle.shop_base.specs.declared.shop.Step.{Step}
 use Rattle.orlib_read.specs.declared.or_fault.OrFault.{OrFault}
 use Rattle.orlib_read.specs.declared.or_fault.OrFault.TheVariants.{BadNumber, OddWords}
-use Rattle.orlib_read.specs.Lines.{NumberedLine}
-use Rattle.orlib_read.specs.Words.{words_of, value_of, is_number, number_of, IsNumber, AreNumbers, is_odd}
+use Rattle.text_lines.specs.Lines.{NumberedLine}
+use Rattle.orlib_read.specs.Words.{words_of, is_number, number_of, IsNumber, AreNumbers, is_odd}
+use Rattle.text_lines.specs.Numbers.{is_digit, value_of}
 use Rattle.orlib_read.specs.Kinds.{IsInstanceLine, IsAnyInstanceLine, IsOtherLine, IsSizeLine, IsJobLine, numbers_of}
 use Rattle.orlib_read.specs.Faults.{IsFirstNonNumber, IsOddLine, IsWordLine}
 use Rattle.orlib_read.specs.Reading.{◌>>=◌, Gives, name_of, is_instance_line, sizes_of, number_or, step_at, steps_at, route_at}
@@ -48,10 +50,19 @@ some_of (Some x) h = (x, refl)
 -- ---- numbers
 
 pub number_is : (word : List ℕ) (n : ℕ) → number_of word ≡ Some n → IsNumber word n
-number_is word n h = let p = cond_some (is_number word) (value_of word) n h in record { digits = p.0; value = sym p.1 }
+number_is word n h =
+    let p = cond_some (is_number word) (value_of word) n h in
+    let all = and_parts (nat_lt 0 (length word) && nat_le (length word) 9) (list_all is_digit word) p.0 in
+    let counts = and_parts (nat_lt 0 (length word)) (nat_le (length word) 9) all.0 in
+    record {
+      some = ltb-true 0 (length word) counts.0;
+      few = leb-true (length word) 9 counts.1;
+      digits = all.1;
+      value = sym p.1;
+    }
 
 pub number_again : (word : List ℕ) (n : ℕ) → IsNumber word n → number_of word ≡ Some n
-number_again word n h = rw h.digits (ap (λ (value : ℕ). Some value) (sym h.value))
+number_again word n h = rw (lt-ltb 0 (length word) h.some, le-leb (length word) 9 h.few, h.digits) (ap (λ (value : ℕ). Some value) (sym h.value))
 
 pub number_none : (word : List ℕ) → ((n : ℕ) → IsNumber word n → ⊥) → number_of word ≡ None
 number_none word h = none_of (number_of word) (λ n e. h n (number_is word n e))

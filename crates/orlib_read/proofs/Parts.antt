@@ -1,14 +1,12 @@
 -- Parts of a row of bytes, taken one after the other from the front.
-use Rattle.std.proofs.Common.{◌≡◌, ℕ, suc, ◌+◌, ◌-◌, ◌<◌, ◌≤◌, Bool, true, false, not, cond, ◌&&◌, ◌||◌, List, [], ◌∷◌, Option, Some, None, length, get_or, take, drop, filter, refl, sym, ap, ◌∙◌, arith, ltb}
+use Rattle.std.proofs.Common.{◌≡◌, ℕ, suc, ◌+◌, ◌-◌, ◌≤◌, Bool, true, false, not, cond, ◌&&◌, ◌||◌, List, [], ◌∷◌, Some, None, length, get_or, take, drop, filter, refl, sym, ap, ◌∙◌, arith, ltb}
 use Rattle.std.specs.Prelude.{position}
 use Rattle.std.specs.List.{before_first, after_first, position_or_len, onto_first, list_all}
-use Rattle.std.proofs.lemmas.Bool.{ltb-false, lt-ltb, le-ltb, false_from_ne_true}
+use Rattle.std.proofs.lemmas.Bool.{ltb-false}
 use Rattle.std.proofs.lemmas.Option.{cond_some}
 use Rattle.std.proofs.lemmas.List.{take_rest, take_all, drop_all, drop_more}
 use Rattle.std.proofs.lemmas.List.Quantifiers.{position-Some}
-use Rattle.std.proofs.lemmas.List.Sums.{position_or_len_is}
-use Rattle.memchr.specs.Find.{IsFirstByte}
-use Rattle.orlib_read.specs.Lines.{parts_of}
+use Rattle.text_lines.specs.Lines.{parts_of}
 use Rattle.orlib_read.specs.Words.{is_blank, is_some_row, words_of}
 use Rattle.orlib_read.specs.Kinds.{is_plus, is_filler}
 
@@ -39,18 +37,6 @@ before_none p bytes h = sym (take_all _ bytes (position_none p bytes h))
 
 pub after_none : (p : ℕ → Bool) (bytes : List ℕ) → position p bytes ≡ None → [] ≡ after_first p bytes
 after_none p bytes h = sym (drop_all _ bytes (let le = position_none p bytes h in omega arith))
-
--- the place that a search for the byte gives
-pub first_byte : (p : ℕ → Bool) (bytes : List ℕ) (r : Option ℕ) → IsFirstByte p bytes r → r ≡ position p bytes
-first_byte p bytes None h =
-    let at : position_or_len p bytes ≡ length bytes = position_or_len_is p bytes (length bytes) 0 (omega arith) (λ k lt. false_from_ne_true (p (get_or bytes k 0)) (h k (omega arith) lt)) (λ lt. absurd (omega arith)) in
-    let no : ltb (position_or_len p bytes) (length bytes) ≡ false = le-ltb (position_or_len p bytes) (length bytes) (omega arith) in
-    rw no refl
-first_byte p bytes (Some k) h =
-    let lt : k < length bytes = h.0.high in
-    let at : position_or_len p bytes ≡ k = position_or_len_is p bytes k 0 (omega arith) (λ j below. false_from_ne_true (p (get_or bytes j 0)) (h.0.before j (omega arith) below)) (λ _. h.1) in
-    let yes : ltb (position_or_len p bytes) (length bytes) ≡ true = lt-ltb (position_or_len p bytes) (length bytes) (omega arith) in
-    rw yes (ap (λ (i : ℕ). Some i) (sym at))
 
 -- ---- parts
 

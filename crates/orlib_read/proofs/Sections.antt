@@ -8,7 +8,7 @@ use Rattle.std.proofs.lemmas.Slice.Eq.{bytes_eq-Decides}
 use Rattle.shop_base.specs.declared.shop.Step.{Step}
 use Rattle.orlib_read.specs.declared.or_fault.OrFault.{OrFault}
 use Rattle.orlib_read.specs.declared.or_fault.OrFault.TheVariants.{NoInstance}
-use Rattle.orlib_read.specs.Lines.{NumberedLine}
+use Rattle.text_lines.specs.Lines.{NumberedLine}
 use Rattle.orlib_read.specs.Words.{words_of}
 use Rattle.orlib_read.specs.Kinds.{IsInstanceLine, IsOtherLine}
 use Rattle.orlib_read.specs.Instance.{Reads, EndsSection, IsSection}

@@ -2,7 +2,7 @@
 use Rattle.std.specs.Prelude.{◌+◌, Bool, if◌then◌else◌, List, filter}
 use Rattle.orlib_read.specs.declared.lines.Line.{Line}
 use Rattle.orlib_read.specs.declared.lines.Lines.{Lines}
-use Rattle.orlib_read.specs.Lines.{NumberedLine, lines_of, numbered_from}
+use Rattle.text_lines.specs.Lines.{NumberedLine, lines_of, numbered_from}
 use Rattle.orlib_read.specs.Kinds.{is_told}
 use Rattle.orlib_read.specs.Reading.{before_title}
 

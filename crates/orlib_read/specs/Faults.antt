@@ -6,7 +6,7 @@ use Rattle.shop_base.specs.declared.shop_fault.ShopFault.{ShopFault}
 use Rattle.shop_base.specs.ShopFault.{IsFirstFault}
 use Rattle.orlib_read.specs.declared.or_fault.OrFault.{OrFault}
 use Rattle.orlib_read.specs.declared.or_fault.OrFault.TheVariants.{NoInstance, NoSizes, BadSizes, MissingJob, BadNumber, OddWords, Extra, Shop}
-use Rattle.orlib_read.specs.Lines.{NumberedLine}
+use Rattle.text_lines.specs.Lines.{NumberedLine}
 use Rattle.orlib_read.specs.Words.{words_of, IsNumber, AreNumbers, is_odd}
 use Rattle.orlib_read.specs.Kinds.{told_lines, IsInstanceLine, IsAnyInstanceLine, IsSizeLine, IsDescription}
 use Rattle.orlib_read.specs.Instance.{Reads, IsSection}

@@ -3,7 +3,7 @@ use Rattle.std.specs.Prelude.{◌≡◌, ℕ, List, [], ◌∷◌, ◌++◌, len
 use Rattle.std.specs.List.{AllByRecursion}
 use Rattle.shop_base.specs.declared.shop.Step.{Step}
 use Rattle.shop_base.specs.Shop.{JobShop, IsShop}
-use Rattle.orlib_read.specs.Lines.{NumberedLine}
+use Rattle.text_lines.specs.Lines.{NumberedLine}
 use Rattle.orlib_read.specs.Kinds.{told_lines, IsInstanceLine, IsAnyInstanceLine, IsOtherLine, IsSizeLine, IsDescription, IsJobLine}
 
 -- how an instance opens: with the size line alone, and no description, or with a description and the size line

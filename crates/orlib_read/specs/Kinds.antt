@@ -2,7 +2,7 @@
 use Rattle.std.specs.Prelude.{◌≡◌, ℕ, Bool, not, ◌==◌, List, [], ◌∷◌, codes, filter}
 use Rattle.std.specs.List.{list_all, flat_map}
 use Rattle.shop_base.specs.declared.shop.Step.{Step}
-use Rattle.orlib_read.specs.Lines.{NumberedLine, lines_of, numbered_from}
+use Rattle.text_lines.specs.Lines.{NumberedLine, lines_of, numbered_from}
 use Rattle.orlib_read.specs.Words.{words_of, AreNumbers}
 
 -- `+`

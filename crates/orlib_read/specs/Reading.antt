@@ -4,7 +4,7 @@ use Rattle.std.specs.Str.{bytes_eq}
 use Rattle.shop_base.specs.declared.shop.Step.{Step}
 use Rattle.orlib_read.specs.declared.or_fault.OrFault.{OrFault}
 use Rattle.orlib_read.specs.declared.or_fault.OrFault.TheVariants.{NoInstance, NoSizes, BadSizes, MissingJob, BadNumber, OddWords, Extra, Memory}
-use Rattle.orlib_read.specs.Lines.{NumberedLine}
+use Rattle.text_lines.specs.Lines.{NumberedLine}
 use Rattle.orlib_read.specs.Words.{words_of, number_of, is_odd}
 
 infixl 10 ◌>>=◌

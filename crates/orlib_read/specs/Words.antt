@@ -1,7 +1,8 @@
 -- The words of a line, and which of them are numbers.
-use Rattle.std.specs.Prelude.{◌≡◌, ℕ, ◌+◌, ◌-◌, ◌*◌, ◌%◌, nat_le, nat_lt, Bool, true, false, ◌==◌, ◌||◌, ◌&&◌, if◌then◌else◌, List, [], ◌∷◌, Option, Some, None, length, filter, fold, IsTrue}
+use Rattle.std.specs.Prelude.{ℕ, ◌%◌, nat_le, nat_lt, Bool, true, false, ◌==◌, ◌||◌, ◌&&◌, if◌then◌else◌, List, [], ◌∷◌, Option, Some, None, length, filter}
 use Rattle.std.specs.List.{list_all}
-use Rattle.orlib_read.specs.Lines.{parts_of}
+use Rattle.text_lines.specs.Lines.{parts_of}
+use Rattle.text_lines.specs.Numbers.{is_digit, value_of, IsNumeral}
 
 -- a space or a tab
 abbrev pub is_blank : ℕ → Bool
@@ -16,22 +17,13 @@ is_some_row (b ∷ bytes) = true
 abbrev pub words_of : List ℕ → List (List ℕ)
 words_of line = filter is_some_row (parts_of is_blank line)
 
--- `0` to `9`
-abbrev pub is_digit : ℕ → Bool
-is_digit b = nat_le 48 b && nat_le b 57
-
--- the number that digits stand for, in decimal
-abbrev pub value_of : List ℕ → ℕ
-value_of digits = fold (λ n digit. 10 * n + (digit - 48)) 0 digits
-
 -- one to nine digits, leading zeros among them
 abbrev pub is_number : List ℕ → Bool
 is_number word = nat_lt 0 (length word) && nat_le (length word) 9 && list_all is_digit word
 
 -- the word is this number
-pub record IsNumber (word : List ℕ) (n : ℕ) : Type 0 where
-  pub digits : IsTrue (is_number word)
-  pub value : n ≡ value_of word
+abbrev pub IsNumber : List ℕ → ℕ → Type 0
+IsNumber word n = IsNumeral 9 word n
 
 -- the number that a word is, if it is one
 abbrev pub number_of : List ℕ → Option ℕ

@@ -1,13 +1,12 @@
 //! The lines of a text, from the front.
 
-ghost use Rattle.std.specs.Prelude.{◌≡◌, ◌∷◌, [], ◌+◌, ◌<◌, ◌^◌, true, false, Some, None, length, position, IfSome, MatchOption};
-ghost use Rattle.orlib_read.specs.Lines.{is_line_feed, without_return};
+ghost use Rattle.std.specs.Prelude.{◌≡◌, ◌∷◌, [], ◌+◌, ◌<◌, ◌^◌, false, Some, None, length, IfSome, MatchOption};
 ghost use Rattle.orlib_read.specs.Kinds.{told_lines};
 ghost use Rattle.orlib_read.specs.Reading.{before_title, section_of};
 
 use crate::kinds::{is_instance_line, is_named};
-use crate::words::{is_filler, split_around};
-use memchr::memchr;
+use crate::words::is_filler;
+use text_lines::next_line;
 
 /// A line of a text and its number, from 1.
 #[derive(Clone, Copy)]
@@ -73,13 +72,10 @@ impl<'a> Lines<'a> {
             (λ found. raw_left self.entry ≡ line_of found.0 ∷ raw_left found.1) }
         ensures same { IfSome result (λ found. found.1.in_section ≡ self.entry.in_section) }
     {
-        if self.rest.is_empty() {
-            return None;
-        }
-        let (line, rest) = split_around(self.rest, line_end(self.rest));
+        let (bytes, rest) = next_line(self.rest)?;
         let line = Line {
             number: self.before + 1,
-            bytes: without_return(line),
+            bytes,
         };
         let lines = Lines {
             rest,
@@ -107,17 +103,4 @@ impl<'a> Lines<'a> {
         }
         None
     }
-}
-
-fn line_end(text: &[u8]) -> Option<usize>
-    ensures first { result ≡ position is_line_feed text.now }
-    ensures within { IfSome result (λ end. end < length text.now) }
-{
-    memchr(b'\n', text)
-}
-
-fn without_return(line: &[u8]) -> &[u8]
-    ensures { result.now ≡ without_return line.now }
-{
-    line.strip_suffix(b"\r").unwrap_or(line)
 }

@@ -2,8 +2,10 @@
 
 ghost use Rattle.std.specs.Prelude.{◌≡◌, ◌∷◌, [], ⊤, ◌<◌, ℕ, Bool, Some, length, not, ◌||◌, position, IfSome, MatchOption};
 ghost use Rattle.std.specs.List.{before_first, after_first, list_all};
-ghost use Rattle.orlib_read.specs.Words.{is_blank, is_digit, words_of, number_of};
+ghost use Rattle.orlib_read.specs.Words.{is_blank, words_of, number_of};
 ghost use Rattle.orlib_read.specs.Kinds.{is_plus};
+
+use text_lines::short_number_of;
 
 fn is_blank(byte: u8) -> bool
     ensures { result ≡ is_blank byte }
@@ -26,7 +28,7 @@ fn word_end(line: &[u8]) -> Option<usize>
 }
 
 /// The bytes before a place and those after it; where there is no place, all bytes and none.
-pub(crate) fn split_around(bytes: &[u8], place: Option<usize>) -> (&[u8], &[u8])
+fn split_around(bytes: &[u8], place: Option<usize>) -> (&[u8], &[u8])
     requires { IfSome place (λ place. place < length bytes.now) }
     ensures before { (ends : ℕ → Bool) → place ≡ position ends bytes.now → result.0.now ≡ before_first ends bytes.now }
     ensures after { (ends : ℕ → Bool) → place ≡ position ends bytes.now → result.1.now ≡ after_first ends bytes.now }
@@ -55,28 +57,11 @@ pub(crate) fn is_filler(line: &[u8]) -> bool
     line.iter().all(|byte| is_blank(*byte) || *byte == b'+')
 }
 
-fn is_digit(byte: u8) -> bool
-    ensures { result ≡ is_digit byte }
-{
-    byte.is_ascii_digit()
-}
-
 /// The number that the word is, if it is one.
 pub(crate) fn number_of(word: &[u8]) -> Option<u32>
     ensures { result ≡ number_of word.now }
 {
-    const MOST_DIGITS: usize = 9;
-    if word.is_empty() || word.len() > MOST_DIGITS {
-        return None;
-    }
-    let mut value = 0;
-    for byte in word {
-        if !is_digit(*byte) {
-            return None;
-        }
-        value = 10 * value + u32::from(*byte - b'0');
-    }
-    Some(value)
+    short_number_of(word)
 }
 
 /// How many words are on the line.

@@ -1,7 +1,7 @@
 use Rattle.std.proofs.Common.{◌+◌, ◌∷◌, ◌∙◌, length, length-append, ap, arith, rules}
 use Rattle.std.proofs.lemmas.Grind.{common_steps}
 use Rattle.std.proofs.lemmas.Result.{err_from_is_err_and}
-use Rattle.cell_drive.specs.Cuts.{HasNone}
+use Rattle.text_lines.specs.Cuts.{HasNone}
 use Rattle.cell_drive.proofs.Taking.{Taking-line, Taking-failed, Taking-answered, Taking-held, Taking-lines}
 use Rattle.cell_drive.proofs.pieces.take_piece.Goals as goal
 

@@ -1,9 +1,9 @@
 -- Where a byte stands first, from a search for it.
-use Rattle.std.proofs.Common.{◌≡◌, ℕ, zero, suc, ◌+◌, ◌-◌, ◌<◌, ◌≤◌, Bool, true, false, List, [], ◌∷◌, ◌++◌, Some, None, length, get_or, take, drop, refl, sym, ap, ◌∙◌, arith, add-one, drop-cons, take-append-drop, eqb}
+use Rattle.std.proofs.Common.{◌≡◌, ℕ, zero, suc, ◌+◌, ◌-◌, ◌<◌, true, List, [], ◌∷◌, ◌++◌, Some, None, length, get_or, take, drop, sym, ap, ◌∙◌, arith, add-one, drop-cons, take-append-drop, eqb}
 use Rattle.std.proofs.lemmas.Bool.{false_from_ne_true, eqb-true}
 use Rattle.std.proofs.lemmas.List.{take_rest}
 use Rattle.memchr.specs.Find.{IsFirstByte, is_byte}
-use Rattle.cell_drive.specs.Cuts.{HasNone, IsCutAt}
+use Rattle.text_lines.specs.Cuts.{HasNone, IsCutAt}
 
 none_before : (byte : ℕ) (bytes : List ℕ) (k : ℕ) → ((j : ℕ) → j < k → eqb (get_or bytes j 0) byte ≡ true → ⊥) → HasNone byte (take k bytes)
 none_before byte [] zero nowhere = tt

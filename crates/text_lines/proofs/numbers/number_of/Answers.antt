@@ -1,7 +1,6 @@
 use Rattle.std.proofs.Common.{◌<◌, get_or, sym, ◌∙◌, arith}
-use Rattle.orlib_read.proofs.Digits.{digit_bounds}
-use Rattle.cell_drive.proofs.ReportLines.{more_digits, fewer_digits}
-use Rattle.cell_drive.proofs.input_lines.number_of.Goals as goal
+use Rattle.text_lines.proofs.Digits.{digit_bounds, more_digits, fewer_digits}
+use Rattle.text_lines.proofs.numbers.number_of.Goals as goal
 
 pub overflow_mul-value : goal.overflow_mul-value
 overflow_mul-value c =

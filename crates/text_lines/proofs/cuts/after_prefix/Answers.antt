@@ -1,6 +1,6 @@
 use Rattle.std.proofs.lemmas.Bool.Decides.{Decides-eqb}
 use Rattle.std.proofs.lemmas.Slice.Eq.{strip_prefix_is}
-use Rattle.cell_drive.proofs.input_lines.after_prefix.Goals as goal
+use Rattle.text_lines.proofs.cuts.after_prefix.Goals as goal
 
 pub returns : goal.returns
 returns c = strip_prefix_is Decides-eqb c.args.line.now c.args.prefix.now c.strip_prefix.result c.strip_prefix.ensures.cases

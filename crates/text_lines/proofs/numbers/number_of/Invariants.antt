@@ -1,7 +1,7 @@
 use Rattle.std.proofs.Common.{◌≡◌, ◌^◌, ◌<◌, true, take}
 use Rattle.std.specs.List.{list_all}
-use Rattle.orlib_read.specs.Words.{is_digit, value_of}
-use Rattle.cell_drive.proofs.input_lines.number_of.Given as goal
+use Rattle.text_lines.specs.Numbers.{is_digit, value_of}
+use Rattle.text_lines.proofs.numbers.number_of.Given as goal
 
 abbrev pub invariant-loop-byte : goal.invariant-loop-byte
 invariant-loop-byte l = record {

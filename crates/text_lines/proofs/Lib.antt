@@ -1,0 +1,4 @@
+pub mod FirstPlaces
+pub mod Digits
+pub mod FirstWords
+pub mod NextLines

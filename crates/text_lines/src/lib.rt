@@ -1,0 +1,13 @@
+//! The lines of a text, and the decimal numbers among their words.
+#![tactic(auto)]
+
+mod cuts;
+mod lines;
+mod numbers;
+
+pub use cuts::{after_prefix, cut_at};
+pub use lines::{line_count, next_line, without_return};
+pub use numbers::{number_of, short_number_of};
+
+#[cfg(test)]
+mod tests;

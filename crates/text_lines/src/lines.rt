@@ -1,0 +1,39 @@
+ghost use Rattle.std.specs.Prelude.{◌≡◌, [], ◌∷◌, ◌<◌, length, MatchOption, IfSome};
+ghost use Rattle.text_lines.specs.Lines.{without_return, lines_of};
+
+use crate::cuts::cut_at;
+
+/// The line without one carriage return at its end, if it has one there.
+pub fn without_return(line: &[u8]) -> &[u8]
+    ensures { result.now ≡ without_return line.now }
+{
+    line.strip_suffix(b"\r").unwrap_or(line)
+}
+
+/// The first line of a text, and the text behind it; none where nothing is left.
+pub fn next_line(text: &[u8]) -> Option<(&[u8], &[u8])>
+    ensures line { MatchOption result (lines_of text.now ≡ [])
+        (λ found. lines_of text.now ≡ found.0.now ∷ lines_of found.1.now) }
+    ensures shorter { IfSome result (λ found. length found.1.now < length text.now) }
+{
+    if text.is_empty() {
+        return None;
+    }
+    match cut_at(b'\n', text) {
+        Some((line, rest)) => Some((without_return(line), rest)),
+        None => Some((without_return(text), &[])),
+    }
+}
+
+/// How many lines the text has.
+pub fn line_count(text: &[u8]) -> usize
+    ensures { result ≡ length (lines_of text.now) }
+{
+    let mut count = 0;
+    let mut rest = text;
+    while let Some((_, after)) = next_line(rest) {
+        count += 1;
+        rest = after;
+    }
+    count
+}
