@@ -1,5 +1,6 @@
 use Rattle.std.specs.Prelude.{◌≡◌, ℕ, ◌+◌, List, ◌++◌, length, codes, decimal, Option}
-use Rattle.shop_base.specs.Shop.{JobShop, operations_of, work_of}
+use Rattle.shop_base.specs.Shop.{JobShop, operations_of}
+use Rattle.shop_base.specs.Work.{work_of}
 use Rattle.command_answers.specs.declared.answer.Answer.{Answer}
 use Rattle.command_answers.specs.Instances.{Tells}
 

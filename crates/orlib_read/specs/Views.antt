@@ -1,7 +1,7 @@
 -- What was read, without where it lies in memory.
 use Rattle.std.specs.Prelude.{ℕ, List}
 use Rattle.shop_base.specs.declared.shop.Step.{Step}
-use Rattle.shop_base.specs.Shop.{lists_of}
+use Rattle.shop_base.specs.Vectors.{lists_of}
 use Rattle.shop_base.specs.ShopFault.{IsFirstFault}
 use Rattle.orlib_read.specs.declared.draft.Head.{Head}
 use Rattle.orlib_read.specs.declared.draft.Draft.{Draft}

@@ -1,7 +1,8 @@
 //! The readers of instance texts.
 
 ghost use Rattle.std.specs.Prelude.{◌≡◌, ◌≢◌, List, ℕ, Result, IfOk, IfErr, OnOk};
-ghost use Rattle.shop_base.specs.Shop.{JobShop, IsShop, lists_of};
+ghost use Rattle.shop_base.specs.Shop.{JobShop, IsShop};
+ghost use Rattle.shop_base.specs.Vectors.{lists_of};
 ghost use Rattle.orlib_read.specs.declared.or_fault.OrFault.{OrFault};
 ghost use Rattle.orlib_read.specs.Kinds.{told_lines};
 ghost use Rattle.orlib_read.specs.Instance.{IsInstance, IsInstanceOf};

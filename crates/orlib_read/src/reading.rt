@@ -1,7 +1,7 @@
 //! One instance, line by line.
 
 ghost use Rattle.std.specs.Prelude.{◌≡◌, ◌∷◌, [], ◌+◌, ◌<◌, ◌^◌, MatchOption};
-ghost use Rattle.shop_base.specs.Shop.{lists_of};
+ghost use Rattle.shop_base.specs.Vectors.{lists_of};
 ghost use Rattle.orlib_read.specs.Words.{words_of};
 ghost use Rattle.orlib_read.specs.Cursor.{line_of, lines_left};
 ghost use Rattle.orlib_read.specs.Reading.{Gives, GivesExactly, without_titles, head_at, step_at, steps_at, route_at, jobs_at, draft_at};

@@ -2,7 +2,8 @@ use Rattle.std.specs.Prelude.{ℕ, ◌-◌, ◌%◌, ◌==◌, List, ◌++◌, B
 use Rattle.std.specs.List.{list_any, range_with_len}
 use Rattle.std.specs.declared.alloc.Global.{Global}
 use Rattle.shop_base.specs.declared.shop.Step.{Step}
-use Rattle.shop_base.specs.Shop.{JobShop, lists_of, route_at}
+use Rattle.shop_base.specs.Shop.{JobShop, route_at}
+use Rattle.shop_base.specs.Vectors.{lists_of}
 
 -- what a proposer answers: an order for each machine, or nothing
 abbrev pub Answer : Type 0

@@ -1,7 +1,8 @@
 use Rattle.std.specs.Prelude.{ℕ, List, Option, Vec}
 use Rattle.std.specs.declared.alloc.Global.{Global}
 use Rattle.shop_base.specs.Shop.{JobShop}
-use Rattle.shop_base.specs.Plan.{PlannedShop, list_of, IsWellShaped}
+use Rattle.shop_base.specs.Plan.{PlannedShop, IsWellShaped}
+use Rattle.shop_base.specs.Vectors.{list_of}
 use Rattle.plan_verifier.specs.Accepted.{IsAcceptable}
 use Rattle.plan_seek.specs.Orders.{serial_order}
 

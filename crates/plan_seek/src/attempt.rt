@@ -1,7 +1,7 @@
 //! One answer put to the test.
 
 ghost use Rattle.std.specs.Prelude.{◌≡◌, Some};
-ghost use Rattle.shop_base.specs.Shop.{lists_of};
+ghost use Rattle.shop_base.specs.Vectors.{lists_of};
 ghost use Rattle.plan_verifier.specs.Accepted.{IsAcceptable};
 ghost use Rattle.plan_seek.specs.Orders.{Answer};
 ghost use Rattle.plan_seek.specs.Tasks.{PlanTask, with_order, IsAccepted};

@@ -2,7 +2,8 @@
 
 ghost use Rattle.std.specs.Prelude.{◌≡◌, ◌-◌, ◌<◌, ◌≤◌, ◌++◌, length, IfOk, OnOk};
 ghost use Rattle.std.specs.List.{range_with_len};
-ghost use Rattle.shop_base.specs.Shop.{lists_of, route_at};
+ghost use Rattle.shop_base.specs.Shop.{route_at};
+ghost use Rattle.shop_base.specs.Vectors.{lists_of};
 ghost use Rattle.plan_seek.specs.Orders.{orders_along, jobs_from, visitors, is_on_route};
 
 use shop_base::{JobNo, MachineNo, Shop, Step};

@@ -1,5 +1,5 @@
 ghost use Rattle.std.specs.Prelude.{◌≡◌};
-ghost use Rattle.shop_base.specs.Shop.{lists_of};
+ghost use Rattle.shop_base.specs.Vectors.{lists_of};
 ghost use Rattle.plan_seek.specs.Tasks.{with_order, task_of};
 
 use crate::not_found::NotFound;

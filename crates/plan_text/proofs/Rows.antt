@@ -1,7 +1,7 @@
 -- Rows that are compared one after the other.
 use Rattle.std.proofs.Common.{◌≡◌, ℕ, ◌+◌, ◌<◌, List, [], ◌∷◌, ◌++◌, length, take, get_or, Vec, Global, sym, refl, ap, ◌∙◌}
 use Rattle.std.proofs.lemmas.List.{take_more, map_push, get_or-map}
-use Rattle.shop_base.specs.Shop.{lists_of}
+use Rattle.shop_base.specs.Vectors.{lists_of}
 
 abbrev Rows : Type 0
 Rows = List (Vec ℕ Global)

@@ -1,8 +1,7 @@
 //! Whether two plans are the same.
 
 ghost use Rattle.std.specs.Prelude.{◌≡◌, MatchBool};
-ghost use Rattle.shop_base.specs.Shop.{lists_of};
-ghost use Rattle.shop_base.specs.Plan.{list_of};
+ghost use Rattle.shop_base.specs.Vectors.{lists_of, list_of};
 
 use shop_base::{JobNo, Moment, Plan};
 

@@ -1,7 +1,7 @@
 //! The text of a plan.
 
 ghost use Rattle.std.specs.Prelude.{◌≡◌, ◌⊎◌, ◌++◌, Err, IfOk, OnOk, IfErr, MatchBool, string_bytes};
-ghost use Rattle.shop_base.specs.Shop.{lists_of};
+ghost use Rattle.shop_base.specs.Vectors.{lists_of};
 ghost use Rattle.plan_text.specs.Documents.{IsPlanText};
 ghost use Rattle.plan_text.specs.Lines.{list_text, after_first, numbers_text, rows_text, key_line, three_lines, plan_lines};
 

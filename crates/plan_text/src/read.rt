@@ -1,8 +1,8 @@
 //! The reader of plan texts.
 
 ghost use Rattle.std.specs.Prelude.{◌≡◌, ◌≢◌, IfOk, IfErr, Ok, Err, None, Some};
-ghost use Rattle.shop_base.specs.Shop.{lists_of};
-ghost use Rattle.shop_base.specs.Plan.{ShopPlan, list_of};
+ghost use Rattle.shop_base.specs.Vectors.{lists_of, list_of};
+ghost use Rattle.shop_base.specs.Plan.{ShopPlan};
 ghost use Rattle.toml.specs.View.{table_view};
 ghost use Rattle.toml.specs.Errors.{IsMemory};
 ghost use Rattle.plan_text.specs.declared.plan_fault.PlanFault.{PlanFault};

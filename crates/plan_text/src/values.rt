@@ -1,7 +1,7 @@
 //! Numbers and lists of numbers, out of TOML values.
 
 ghost use Rattle.std.specs.Prelude.{◌≡◌, ◌≢◌, IfOk, None, Some};
-ghost use Rattle.shop_base.specs.Shop.{lists_of};
+ghost use Rattle.shop_base.specs.Vectors.{lists_of};
 ghost use Rattle.toml.specs.View.{view, items_view};
 ghost use Rattle.plan_text.specs.Answers.{Passes, PassesExactly};
 ghost use Rattle.plan_text.specs.Reading.{number_in, numbers_in, rows_in, each_item};

@@ -10,7 +10,8 @@ use Rattle.std.proofs.lemmas.Map.Keys.{IsDistinct-from_apart}
 use Rattle.std.proofs.lemmas.Map.Steps.{length-le_from_distinct_below}
 use Rattle.shop_base.specs.declared.shop.Step.{Step}
 use Rattle.shop_base.specs.declared.limits.TheConstants.{MAX_JOBS, MAX_MACHINES, MAX_NOMINAL}
-use Rattle.shop_base.specs.Shop.{JobShop, IsShop, IsRoute, step_at, no_step, route_at, route_work, operations_of, work_of}
+use Rattle.shop_base.specs.Shop.{JobShop, IsShop, IsRoute, step_at, no_step, route_at, operations_of}
+use Rattle.shop_base.specs.Work.{route_work, work_of}
 
 module _ (machines : ℕ) (route : List Step) (sound : IsRoute machines route) where
   machine_at : (k d : ℕ) → k < length route → get_or (map (λ step. step.machine) route) k d ≡ (step_at route k).machine

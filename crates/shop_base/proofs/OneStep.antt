@@ -11,7 +11,7 @@ use Rattle.shop_base.specs.Move.{CanEnter, CanMove, IsPrefix, KeepsPlan, after_m
 use Rattle.shop_base.specs.Run.{IsAtRest}
 use Rattle.shop_base.specs.Controlled.{AreMoves, after_moves, IsStep}
 use Rattle.shop_base.specs.Ends.{sum_below}
-use Rattle.shop_base.specs.Movers.{OnlyMoves, next_after_end}
+use Rattle.shop_base.specs.Movers.{OnlyMoves}
 use Rattle.shop_base.specs.Sound.{IsSound}
 use Rattle.shop_base.proofs.Visits.{visits_job, on_or_not, leaves_past, past_leaves}
 use Rattle.shop_base.proofs.Changes.{IsMoved, IsReadied, IsTidied, moves_within, after_move-moved, with_ready-readied, with_clean-tidied}
@@ -95,6 +95,12 @@ only_next_in-moves p c new m t sound rest tidied i u can keeps = go can.way
     go : HasWay p new i → i ≡ job_at p m (length (entries c m))
     go (inl leaves) = absurd (still λ n visits is. omega (arith, visits.within, same_made new c i (job_same i), leaves_past p new i leaves))
     go (inr (n, enters)) = enters_at n enters.next (cases_eq n m)
+
+-- the job that can move after the end of an activity: that which became ready, or the next in the order of the machine that became clean
+abbrev next_after_end : PlannedShop → Cell → Activity → ℕ
+next_after_end p c (Arrival j) = j
+next_after_end p c (Operation j m) = j
+next_after_end p c (Cleaning m) = job_at p m (length (entries c m))
 
 -- from rest, after a possible report only one job can move
 pub only_one_after_report : (p : PlannedShop) (c : Cell) (r : Report) → IsSound p c → IsAtRest p c → CanReport p c r → OnlyMoves p (after_report c r) (next_after_end p c r.ended)
@@ -230,12 +236,7 @@ pub rest_after_first_entry : (p : PlannedShop) (c : Cell) (j t : ℕ) → IsWell
 rest_after_first_entry p c j t shaped sound only can outside i u can_next keeps_next =
     absurd (omega (arith, (moved-next p c (after_move p c j t) j t i u sound only (after_move-moved p c j t shaped sound can) can_next keeps_next).on.entered))
 
--- so does a move from a machine with a cleaning time
-pub rest_before_cleaning : (p : PlannedShop) (c : Cell) (j k m t : ℕ) → IsWellShaped p → IsSound p c → OnlyMoves p c j → CanMove p c j t → IsOn p c j k m → 0 < clean p m → IsAtRest p (after_move p c j t)
-rest_before_cleaning p c j k m t shaped sound only can on timed i u can_next keeps_next =
-    absurd (omega (arith, (only_next_can_move p c j k m t i u shaped sound only can on can_next keeps_next).1))
-
--- and a move from a machine that all jobs of its order have entered
+-- so does a move from a machine that all jobs of its order have entered
 pub rest_after_last_entrant : (p : PlannedShop) (c : Cell) (j k m t : ℕ) → IsWellShaped p → IsSound p c → OnlyMoves p c j → CanMove p c j t → IsOn p c j k m
     → length (order p m) ≤ length (entries c m) → IsAtRest p (after_move p c j t)
 rest_after_last_entrant p c j k m t shaped sound only can on all i u can_next keeps_next =

@@ -3,7 +3,7 @@ use Rattle.std.proofs.Common.{◌≡◌, ℕ, ◌+◌, ◌<◌, ◌≤◌, List,
 use Rattle.std.proofs.lemmas.List.{get_or-map, length-map}
 use Rattle.std.proofs.lemmas.List.Sums.{sum_by_more, sum_by_more_le}
 use Rattle.std.specs.declared.alloc.Global.{Global}
-use Rattle.shop_base.specs.Shop.{lists_of}
+use Rattle.shop_base.specs.Vectors.{lists_of}
 
 module _ {X : Type 0} (rows : List (Vec X Global)) (i : ℕ) (row : Vec X Global) (inside : i < length rows) (is : row ≡ get_or rows i row) where
   -- the i-th list is the i-th row's

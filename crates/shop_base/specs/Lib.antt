@@ -1,4 +1,6 @@
 pub mod Shop
+pub mod Vectors
+pub mod Work
 pub mod ShopFault
 pub mod Plan
 pub mod ShapeFault

@@ -1,20 +1,13 @@
-use Rattle.std.specs.Prelude.{◌≡◌, ℕ, zero, suc, ◌+◌, length, Option, None, Some, cond, nat_lt, if◌then◌else◌}
+use Rattle.std.specs.Prelude.{◌≡◌, ℕ, zero, suc, ◌+◌, Option, None, Some, cond, nat_lt, if◌then◌else◌}
 use Rattle.shop_base.specs.declared.job_state.JobState.{JobState}
-use Rattle.shop_base.specs.Plan.{PlannedShop, jobs, steps, release, nominal, clean, job_at}
-use Rattle.shop_base.specs.Cell.{Cell, ready, entries}
-use Rattle.shop_base.specs.Activity.{Activity, Arrival, Operation, Cleaning}
+use Rattle.shop_base.specs.Plan.{PlannedShop, jobs, steps, release, nominal, clean}
+use Rattle.shop_base.specs.Cell.{Cell, ready}
 use Rattle.shop_base.specs.Move.{CanMove, KeepsPlan}
 use Rattle.shop_base.specs.Ends.{sum_below}
 
 -- no job but j can move and keep the plan
 abbrev pub OnlyMoves : PlannedShop → Cell → ℕ → Type 0
 OnlyMoves p c j = (i t : ℕ) → CanMove p c i t → KeepsPlan p c i → i ≡ j
-
--- the job that can move after the end of an activity: that which became ready, or the next in the order of the machine that became clean
-abbrev pub next_after_end : PlannedShop → Cell → Activity → ℕ
-next_after_end p c (Arrival j) = j
-next_after_end p c (Operation j m) = j
-next_after_end p c (Cleaning m) = job_at p m (length (entries c m))
 
 -- 1 for a ready job
 abbrev pub counted : Cell → ℕ → ℕ

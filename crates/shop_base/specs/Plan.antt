@@ -1,5 +1,4 @@
-use Rattle.std.specs.Prelude.{◌≡◌, ℕ, ◌<◌, ◌≤◌, List, [], length, slice_index, slice_index_or, Option, None, Some, Vec}
-use Rattle.std.specs.declared.alloc.Global.{Global}
+use Rattle.std.specs.Prelude.{◌≡◌, ℕ, ◌<◌, ◌≤◌, List, [], length, slice_index, slice_index_or, Option, None, Some}
 use Rattle.shop_base.specs.declared.shop.Step.{Step}
 use Rattle.shop_base.specs.declared.limits.TheConstants.{MAX_RELEASE, MAX_MOMENT, MAX_CLEAN}
 use Rattle.shop_base.specs.Shop.{JobShop, IsShop, route_at, step_at}
@@ -10,11 +9,6 @@ pub record ShopPlan : Type 0 where
   pub budget : List ℕ
   pub order : List (List ℕ)
   pub clean : Option (List ℕ)
-
--- the items of a vector, if there is one
-abbrev pub list_of : Option (Vec ℕ Global) → Option (List ℕ)
-list_of None = None
-list_of (Some v) = Some v.items
 
 -- a shop, and a plan for it
 pub record PlannedShop : Type 0 where

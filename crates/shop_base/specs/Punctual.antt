@@ -16,14 +16,16 @@ module _ (p : PlannedShop) (c : Cell) where
     pub due : GoesOn p c r.ended r.at
 
 module _ (p : PlannedShop) where
-  -- each report among the events is punctual
+  -- each report among the events is so, in the cell before it
+  abbrev pub EachReport : (Cell → Report → Type 0) → Cell → List Event → Type 0
+  EachReport P c [] = Unit {0}
+  EachReport P c (Reported r ∷ es) = P c r × EachReport P (after p c (Reported r)) es
+  EachReport P c (Moved o ∷ es) = EachReport P (after p c (Moved o)) es
+
+  -- each is punctual
   abbrev pub ArePunctual : Cell → List Event → Type 0
-  ArePunctual c [] = Unit {0}
-  ArePunctual c (Reported r ∷ es) = IsPunctual p c r × ArePunctual (after p c (Reported r)) es
-  ArePunctual c (Moved o ∷ es) = ArePunctual (after p c (Moved o)) es
+  ArePunctual = EachReport (IsPunctual p)
 
   -- each is exact
   abbrev pub AreExact : Cell → List Event → Type 0
-  AreExact c [] = Unit {0}
-  AreExact c (Reported r ∷ es) = IsExact p c r × AreExact (after p c (Reported r)) es
-  AreExact c (Moved o ∷ es) = AreExact (after p c (Moved o)) es
+  AreExact = EachReport (IsExact p)

@@ -1,5 +1,4 @@
-use Rattle.std.specs.Prelude.{◌≢◌, ℕ, ◌<◌, ◌≤◌, List, [], map, length, sum_by, slice_index_or, Vec}
-use Rattle.std.specs.declared.alloc.Global.{Global}
+use Rattle.std.specs.Prelude.{◌≢◌, ℕ, ◌<◌, ◌≤◌, List, [], length, sum_by, slice_index_or}
 use Rattle.shop_base.specs.declared.shop.Step.{Step}
 use Rattle.shop_base.specs.declared.limits.TheConstants.{MAX_JOBS, MAX_MACHINES, MAX_NOMINAL}
 
@@ -7,10 +6,6 @@ use Rattle.shop_base.specs.declared.limits.TheConstants.{MAX_JOBS, MAX_MACHINES,
 pub record JobShop : Type 0 where
   pub machines : ℕ
   pub routes : List (List Step)
-
--- the items of each vector
-abbrev pub lists_of : {X : Type 0} → List (Vec X Global) → List (List X)
-lists_of rows = map (λ row. row.items) rows
 
 -- what a route has past its end
 abbrev pub no_step : Step
@@ -27,14 +22,6 @@ route_at routes job = slice_index_or routes job []
 -- how many steps all routes have
 abbrev pub operations_of : JobShop → ℕ
 operations_of shop = sum_by length shop.routes
-
--- the nominal times of a route, together
-abbrev pub route_work : List Step → ℕ
-route_work route = sum_by (λ step. step.nominal) route
-
--- those of all routes
-abbrev pub work_of : JobShop → ℕ
-work_of shop = sum_by route_work shop.routes
 
 -- no earlier step is on the machine of step k
 abbrev pub IsFirstVisit : List Step → ℕ → Type 0

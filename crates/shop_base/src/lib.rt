@@ -6,6 +6,7 @@
 
 mod job_state;
 pub mod laws;
+mod limit_check;
 pub mod limits;
 mod move_order;
 mod node;
@@ -19,6 +20,7 @@ mod shop_fault;
 pub mod worked_runs;
 
 pub use job_state::JobState;
+pub use limit_check::check_limits;
 pub use move_order::{MoveOrder, Spot};
 pub use node::Node;
 pub use plan::Plan;

@@ -15,8 +15,8 @@ pub struct Plan {
 }
 
 impl Model for Plan {
-    ghost use Rattle.shop_base.specs.Shop.{lists_of};
-    ghost use Rattle.shop_base.specs.Plan.{ShopPlan, list_of};
+    ghost use Rattle.shop_base.specs.Vectors.{lists_of, list_of};
+    ghost use Rattle.shop_base.specs.Plan.{ShopPlan};
 
     ghost Value = { ShopPlan };
 

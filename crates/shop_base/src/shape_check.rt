@@ -2,15 +2,16 @@
 
 ghost use Rattle.std.specs.Prelude.{◌≡◌, ℕ, ◌<◌, IfOk, OnOk, IfErr, MatchBool, length, slice_index_or, []};
 ghost use Rattle.shop_base.specs.Shop.{route_at, step_at};
-ghost use Rattle.shop_base.specs.Plan.{PlannedShop, IsWellShaped, HasCounts, IsWithinLimits, IsOrder, order};
+ghost use Rattle.shop_base.specs.Plan.{PlannedShop, IsWellShaped, HasCounts, IsOrder, order};
 ghost use Rattle.shop_base.specs.declared.limits.TheConstants.{MAX_MACHINES};
 ghost use Rattle.shop_base.specs.ShapeFault.{IsFirstShapeFault, IsMachineReached, IsGoodPlace, IsListed};
-ghost use Rattle.shop_base.specs.Marks.{AreMarks, AreVisits, AreVisited, IsVisitedBefore, IsFirstAbove};
+ghost use Rattle.shop_base.specs.Marks.{AreMarks, AreVisits, AreVisited, IsVisitedBefore};
 
-use crate::limits::{MAX_CLEAN, MAX_JOBS, MAX_MACHINES, MAX_MOMENT, MAX_RELEASE};
+use crate::limit_check::check_limits;
+use crate::limits::{MAX_JOBS, MAX_MACHINES};
 use crate::plan::Plan;
 use crate::shape_fault::ShapeFault;
-use crate::shop::{JobNo, MachineNo, Moment, Shop, Step};
+use crate::shop::{JobNo, MachineNo, Shop, Step};
 
 /// For each job a mark for each machine, set where its route visits the machine.
 type Visits = [[bool; MAX_MACHINES as usize]; MAX_JOBS];
@@ -21,7 +22,9 @@ pub fn check_shape(shop: &Shop, plan: &Plan) -> Result<(), ShapeFault>
     ensures first_fault { IfErr result (IsFirstShapeFault (record { shop = shop.now; plan = plan.now })) }
 {
     check_counts(shop, plan)?;
-    check_limits(shop, plan)?;
+    // Called for its clause alone: the shop is sound, so it has few jobs and machines.
+    let _jobs = shop.jobs();
+    check_limits(&plan.release, &plan.budget, &plan.clean)?;
     let visits = visits_of(shop);
     for machine in 0..shop.machines() {
         check_order(shop, plan, &visits, machine)?;
@@ -46,40 +49,6 @@ fn check_counts(shop: &Shop, plan: &Plan) -> Result<(), ShapeFault>
         Some(times) if times.len() != shop.machines() as usize => Err(ShapeFault::CleanCount),
         _ => Ok(()),
     }
-}
-
-fn check_limits(shop: &Shop, plan: &Plan) -> Result<(), ShapeFault>
-    requires { HasCounts (record { shop = shop.now; plan = plan.now }) }
-    ensures sound { OnOk result (IsWithinLimits (record { shop = shop.now; plan = plan.now })) }
-    ensures first_fault { IfErr result (IsFirstShapeFault (record { shop = shop.now; plan = plan.now })) }
-{
-    // Called for its clause alone: the shop is sound, so its numbers of jobs and machines fit a `u32`.
-    let _jobs = shop.jobs();
-    if let Some(job) = first_above(&plan.release, MAX_RELEASE) {
-        return Err(ShapeFault::ReleaseTooLarge { job: job as u32 });
-    }
-    if let Some(job) = first_above(&plan.budget, MAX_MOMENT) {
-        return Err(ShapeFault::BudgetTooLarge { job: job as u32 });
-    }
-    if let Some(times) = &plan.clean {
-        if let Some(machine) = first_above(times, MAX_CLEAN) {
-            return Err(ShapeFault::CleanTooLarge {
-                machine: machine as u32,
-            });
-        }
-    }
-    Ok(())
-}
-
-fn first_above(moments: &[Moment], limit: Moment) -> Option<usize>
-    ensures { IsFirstAbove moments.now limit result }
-{
-    for (i, moment) in moments.iter().enumerate() {
-        if *moment > limit {
-            return Some(i);
-        }
-    }
-    None
 }
 
 fn check_order(

@@ -1,5 +1,7 @@
 ghost use Rattle.std.specs.Prelude.{◌≡◌, ◌↔◌, ◌^◌, ◌<◌, ◌≤◌, MatchOption, sum_by, IfOk, IfErr, IsOk, OnOk, length, slice_get, Some};
-ghost use Rattle.shop_base.specs.Shop.{IsShop, IsRoute, AreCounts, IsSoundStep, lists_of, operations_of, work_of, route_work, route_at};
+ghost use Rattle.shop_base.specs.Shop.{IsShop, IsRoute, AreCounts, IsSoundStep, operations_of, route_at};
+ghost use Rattle.shop_base.specs.Vectors.{lists_of};
+ghost use Rattle.shop_base.specs.Work.{work_of, route_work};
 ghost use Rattle.shop_base.specs.declared.shop_fault.ShopFault.{ShopFault};
 ghost use Rattle.shop_base.specs.ShopFault.{AreRoutes, IsFirstFault, IsReached, IsStepReached};
 ghost use Rattle.shop_base.specs.Marks.{AreMarks, IsVisitedBefore};
@@ -33,7 +35,8 @@ pub struct Shop {
 }
 
 impl Model for Shop {
-    ghost use Rattle.shop_base.specs.Shop.{JobShop, IsShop, lists_of};
+    ghost use Rattle.shop_base.specs.Shop.{JobShop, IsShop};
+    ghost use Rattle.shop_base.specs.Vectors.{lists_of};
 
     ghost Value = { JobShop };
 

@@ -1,7 +1,7 @@
 use Rattle.std.proofs.Common.{◌≡◌, ◌++◌, ◌∷◌, [], rules}
 use Rattle.std.proofs.lemmas.List.{map_push}
 use Rattle.std.proofs.lemmas.Result.{err_from_is_err_and}
-use Rattle.shop_base.specs.Shop.{lists_of}
+use Rattle.shop_base.specs.Vectors.{lists_of}
 use Rattle.orlib_read.specs.Reading.{jobs_at}
 use Rattle.orlib_read.specs.Cursor.{line_of, lines_left}
 use Rattle.orlib_read.proofs.Loops.{jobs_missing, jobs_fail, jobs_on, jobs_end}

@@ -1,5 +1,5 @@
 use Rattle.std.proofs.Common.{◌≡◌, ◌-◌}
-use Rattle.shop_base.specs.Shop.{lists_of}
+use Rattle.shop_base.specs.Vectors.{lists_of}
 use Rattle.orlib_read.specs.Reading.{jobs_at}
 use Rattle.orlib_read.specs.Cursor.{lines_left}
 use Rattle.orlib_read.proofs.Loops.{with_routes}

@@ -1,5 +1,5 @@
 use Rattle.std.proofs.Common.{◌∙◌}
-use Rattle.shop_base.specs.Shop.{lists_of}
+use Rattle.shop_base.specs.Vectors.{lists_of}
 use Rattle.plan_seek.proofs.Asking.{shaped_outcome, refused_outcome}
 use Rattle.plan_seek.proofs.attempt.try_orders.Goals as goal
 

@@ -1,6 +1,6 @@
 use Rattle.std.proofs.Common.{◌≡◌, map, length}
 use Rattle.std.specs.List.{range_with_len}
-use Rattle.shop_base.specs.Shop.{lists_of}
+use Rattle.shop_base.specs.Vectors.{lists_of}
 use Rattle.plan_seek.specs.Orders.{visitors, jobs_from}
 use Rattle.plan_seek.proofs.orders.orders_from.Given as goal
 

@@ -1,5 +1,5 @@
 use Rattle.std.proofs.Common.{◌≡◌, take}
-use Rattle.shop_base.specs.Shop.{lists_of}
+use Rattle.shop_base.specs.Vectors.{lists_of}
 use Rattle.plan_text.proofs.compare.are_same_rows.Given as goal
 
 abbrev pub invariant-loop-i : goal.invariant-loop-i

@@ -1,5 +1,5 @@
 use Rattle.std.proofs.Common.{◌≡◌, ◌++◌, drop, string_bytes}
-use Rattle.shop_base.specs.Shop.{lists_of}
+use Rattle.shop_base.specs.Vectors.{lists_of}
 use Rattle.plan_text.specs.Lines.{after_first, numbers_text}
 use Rattle.plan_text.proofs.document.push_more_rows.Given as goal
 

@@ -1,5 +1,5 @@
 use Rattle.std.proofs.Common.{◌≡◌, ◌++◌, drop}
-use Rattle.shop_base.specs.Shop.{lists_of}
+use Rattle.shop_base.specs.Vectors.{lists_of}
 use Rattle.toml.specs.View.{items_view}
 use Rattle.plan_text.specs.Listing.{row_faults, each_faults}
 use Rattle.plan_text.specs.Reading.{numbers_in, each_item}

@@ -1,4 +1,5 @@
-use Rattle.shop_base.specs.Shop.{lists_of, route_at}
+use Rattle.shop_base.specs.Shop.{route_at}
+use Rattle.shop_base.specs.Vectors.{lists_of}
 use Rattle.shop_base.proofs.Marking.{AreStepsChecked}
 use Rattle.shop_base.proofs.shop.check_route.Given as goal
 

@@ -1,4 +1,4 @@
-use Rattle.shop_base.specs.Shop.{lists_of}
+use Rattle.shop_base.specs.Vectors.{lists_of}
 use Rattle.shop_base.specs.ShopFault.{AreRoutes}
 use Rattle.shop_base.proofs.shop.check_routes.Given as goal
 

@@ -1,5 +1,5 @@
 use Rattle.std.proofs.Common.{◌≡◌, length, take, sum_by}
-use Rattle.shop_base.specs.Shop.{lists_of}
+use Rattle.shop_base.specs.Vectors.{lists_of}
 use Rattle.shop_base.proofs.shop.operation_count.Given as goal
 
 -- the steps of the routes looked at

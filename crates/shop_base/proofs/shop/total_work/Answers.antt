@@ -1,5 +1,5 @@
 use Rattle.std.proofs.Common.{ap, arith}
-use Rattle.shop_base.specs.Shop.{route_work}
+use Rattle.shop_base.specs.Work.{route_work}
 use Rattle.shop_base.proofs.Rows.{sum_by-lists_more, sum_by-lists_more_le}
 use Rattle.shop_base.proofs.shop.total_work.Goals as goal
 

@@ -1,5 +1,6 @@
 use Rattle.std.proofs.Common.{◌≡◌, take, sum_by}
-use Rattle.shop_base.specs.Shop.{lists_of, route_work}
+use Rattle.shop_base.specs.Vectors.{lists_of}
+use Rattle.shop_base.specs.Work.{route_work}
 use Rattle.shop_base.proofs.shop.total_work.Given as goal
 
 -- the work of the routes looked at

@@ -1,6 +1,6 @@
 use Rattle.std.proofs.Common.{get_or}
 use Rattle.shop_base.specs.ShapeFault.{AreWithin}
-use Rattle.shop_base.proofs.shape_check.first_above.Given as goal
+use Rattle.shop_base.proofs.limit_check.first_above.Given as goal
 
 -- the moments looked at are within the limit
 abbrev pub invariant-loop-i : goal.invariant-loop-i

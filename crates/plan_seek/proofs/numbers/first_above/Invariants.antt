@@ -1,7 +1,0 @@
-use Rattle.std.proofs.Common.{get_or}
-use Rattle.shop_base.specs.ShapeFault.{AreWithin}
-use Rattle.plan_seek.proofs.numbers.first_above.Given as goal
-
--- the moments looked at are within the limit
-abbrev pub invariant-loop-i : goal.invariant-loop-i
-invariant-loop-i l = AreWithin (λ k. get_or l.moments k 0) l.i l.limit
