@@ -1,1 +1,5 @@
+mod cells;
 mod dues;
+mod orders;
+mod reasons;
+mod runs;

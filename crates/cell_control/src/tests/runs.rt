@@ -1,0 +1,345 @@
+//! Runs of a controller, report by report.
+
+use super::cells::{cleaned_plan, crossing_plan, following_plan, instant_plan};
+use crate::{
+    Ack, Controller, Dues, MoveOrder, Phase, Report, ReportFault, ScanDues, Spot, TourneyDues,
+};
+use plan_verifier::Verified;
+use shop_base::{JobNo, MachineNo, Moment};
+use std::alloc::{AllocError, Global};
+use std::process::Abort;
+use std::test::Fail;
+
+// Each report stands with what is answered to it and the orders that stand then: a job, where it leaves and where it
+// enters, and the moment.
+
+pub(super) fn arrive(job: JobNo, at: Moment) -> Report {
+    Report::Arrive { job, at }
+}
+
+pub(super) fn finish(job: JobNo, machine: MachineNo, at: Moment) -> Report {
+    Report::Finish { job, machine, at }
+}
+
+pub(super) fn clean(machine: MachineNo, at: Moment) -> Report {
+    Report::Clean { machine, at }
+}
+
+/// Two jobs arrive, and the first goes on to its second machine.
+fn begun() -> [(Report, &'static str); 3] {
+    [
+        (arrive(0, 0), "ok 0:out>0@0"),
+        (arrive(1, 0), "ok"),
+        (finish(0, 0, 2), "ok 0:0>1@2"),
+    ]
+}
+
+/// The rest of that run.
+fn ended() -> [(Report, &'static str); 3] {
+    [
+        (finish(0, 1, 4), "ok 0:1>out@4 1:out>1@4"),
+        (finish(1, 1, 8), "ok 1:1>0@8"),
+        (finish(1, 0, 9), "ok 1:0>out@9"),
+    ]
+}
+
+/// What isn't possible between the two.
+fn refused() -> [(Report, &'static str); 8] {
+    [
+        (finish(0, 0, 2), "WrongMachine actual 1 0:0>1@2"),
+        (arrive(0, 2), "WrongKind 0:0>1@2"),
+        (arrive(1, 2), "NotExpected 0:0>1@2"),
+        (finish(1, 1, 2), "NotExpected 0:0>1@2"),
+        (arrive(2, 0), "JobOutOfRange 0:0>1@2"),
+        (clean(1, 2), "NotExpected 0:0>1@2"),
+        (clean(2, 0), "MachineOutOfRange 0:0>1@2"),
+        (finish(0, 1, 1), "Backwards last 2 0:0>1@2"),
+    ]
+}
+
+/// The first operation ends past its due moment.
+fn late() -> [(Report, &'static str); 6] {
+    [
+        (arrive(0, 0), "ok 0:out>0@0"),
+        (arrive(1, 0), "ok"),
+        (finish(0, 0, 4), "late 0:0>1@4"),
+        (finish(0, 1, 6), "ok 0:1>out@6 1:out>1@6"),
+        (finish(1, 1, 10), "ok 1:1>0@10"),
+        (finish(1, 0, 11), "ok 1:0>out@11"),
+    ]
+}
+
+/// The latest moment of all, and one past it.
+fn latest() -> [(Report, &'static str); 4] {
+    [
+        (arrive(0, 1000000000000), "late 0:out>0@1000000000000"),
+        (
+            arrive(1, 1000000000001),
+            "MomentTooLarge 0:out>0@1000000000000",
+        ),
+        (
+            arrive(1, 5),
+            "Backwards last 1000000000000 0:out>0@1000000000000",
+        ),
+        (
+            finish(1, 0, 1000000000000),
+            "WrongKind 0:out>0@1000000000000",
+        ),
+    ]
+}
+
+/// Three jobs that follow one another, till two wait for the machine before them.
+fn followed() -> [(Report, &'static str); 8] {
+    [
+        (arrive(0, 0), "ok 0:out>0@0"),
+        (arrive(1, 0), "ok"),
+        (arrive(2, 0), "ok"),
+        (finish(0, 0, 1), "ok 0:0>1@1 1:out>0@1"),
+        (finish(0, 1, 2), "ok 0:1>2@2"),
+        (finish(1, 0, 2), "ok 1:0>1@2 2:out>0@2"),
+        (finish(1, 1, 3), "ok"),
+        (finish(2, 0, 3), "ok"),
+    ]
+}
+
+/// The rest of that run: all three move at once, and leave.
+fn freed() -> [(Report, &'static str); 4] {
+    [
+        (finish(0, 2, 7), "ok 0:2>out@7 1:1>2@7 2:0>1@7"),
+        (finish(1, 2, 8), "ok 1:2>out@8"),
+        (finish(2, 1, 8), "ok 2:1>2@8"),
+        (finish(2, 2, 9), "ok 2:2>out@9"),
+    ]
+}
+
+/// One operation that takes no time.
+fn instant() -> [(Report, &'static str); 2] {
+    [
+        (arrive(0, 0), "ok 0:out>0@0"),
+        (finish(0, 0, 0), "ok 0:0>out@0"),
+    ]
+}
+
+/// The first job has left machine 1, which isn't clean yet.
+fn dirty() -> [(Report, &'static str); 4] {
+    [
+        (arrive(0, 0), "ok 0:out>0@0"),
+        (arrive(1, 0), "ok"),
+        (finish(0, 0, 3), "ok 0:0>1@3"),
+        (finish(0, 1, 5), "ok 0:1>out@5"),
+    ]
+}
+
+/// The rest of that run.
+fn cleaned() -> [(Report, &'static str); 4] {
+    [
+        (clean(1, 7), "ok 1:out>1@7"),
+        (finish(1, 1, 11), "ok 1:1>0@11"),
+        (finish(1, 0, 12), "ok 1:0>out@12"),
+        (clean(1, 13), "ok"),
+    ]
+}
+
+/// Cleanings that aren't possible, and a late one.
+fn unclean() -> [(Report, &'static str); 4] {
+    [
+        (clean(0, 5), "NotExpected 0:1>out@5"),
+        (clean(2, 5), "MachineOutOfRange 0:1>out@5"),
+        (clean(1, 4), "Backwards last 5 0:1>out@5"),
+        (clean(1, 8), "late 1:out>1@8"),
+    ]
+}
+
+fn spot_text(alloc: Global, spot: Spot) -> Result<String, AllocError> {
+    match spot {
+        Spot::Out => String::from_str(alloc, "out"),
+        Spot::At(machine) => format!(in alloc; "{machine}"),
+    }
+}
+
+fn order_text(alloc: Global, order: MoveOrder) -> Result<String, AllocError> {
+    let source = spot_text(alloc, order.source)?;
+    let target = spot_text(alloc, order.target)?;
+    format!(in alloc; " {}:{source}>{target}@{}", order.job, order.at)
+}
+
+fn answer_text(alloc: Global, answer: Result<Ack, ReportFault>) -> Result<String, AllocError> {
+    match answer {
+        Ok(ack) => String::from_str(alloc, if ack.late { "late" } else { "ok" }),
+        Err(fault) => fault.to_string(alloc),
+    }
+}
+
+/// What is answered to the report, and the orders that stand then.
+fn told<D: Dues>(
+    alloc: Global,
+    cell: &mut Controller<D>,
+    report: Report,
+) -> Result<String, AllocError> {
+    let mut text = answer_text(alloc, cell.report(report))?;
+    for order in cell.orders() {
+        text.push_str(order_text(alloc, *order)?.as_str())?;
+    }
+    Ok(text)
+}
+
+/// Gives the reports to the controller.
+fn gives<D: Dues>(
+    rt: &(impl Abort + AllocGlobal),
+    cell: &mut Controller<D>,
+    run: &[(Report, &str)],
+) -> Result<(), Fail> {
+    for &(report, answer) in run {
+        assert_eq!(rt; told(rt.alloc(), cell, report)?.as_str(), answer);
+    }
+    Ok(())
+}
+
+/// A controller of the plan.
+pub(super) fn controller<D: Dues>(
+    rt: &(impl Abort + AllocGlobal),
+    verified: Option<Verified>,
+) -> Result<Controller<D>, Fail> {
+    let Some(verified) = verified else {
+        panic!(rt; "no accepted plan");
+    };
+    let Ok(cell) = Controller::new(rt.alloc(), verified) else {
+        panic!(rt; "no memory");
+    };
+    Ok(cell)
+}
+
+fn makes_a_run<D: Dues>(rt: &(impl Abort + AllocGlobal)) -> Result<(), Fail> {
+    let mut cell = controller::<D>(rt, crossing_plan(rt.alloc())?)?;
+    gives(rt, &mut cell, &begun())?;
+    gives(rt, &mut cell, &ended())?;
+    assert!(rt; cell.is_done() && cell.punctual());
+    assert_eq!(rt; cell.now(), 9);
+    Ok(())
+}
+
+fn refuses_what_is_impossible<D: Dues>(rt: &(impl Abort + AllocGlobal)) -> Result<(), Fail> {
+    let mut cell = controller::<D>(rt, crossing_plan(rt.alloc())?)?;
+    gives(rt, &mut cell, &begun())?;
+    gives(rt, &mut cell, &refused())?;
+    gives(rt, &mut cell, &ended())?;
+    assert!(rt; cell.is_done() && cell.punctual());
+    Ok(())
+}
+
+fn takes_late_reports<D: Dues>(rt: &(impl Abort + AllocGlobal)) -> Result<(), Fail> {
+    let mut cell = controller::<D>(rt, crossing_plan(rt.alloc())?)?;
+    gives(rt, &mut cell, &late())?;
+    assert!(rt; cell.is_done() && !cell.punctual());
+    let mut cell = controller::<D>(rt, crossing_plan(rt.alloc())?)?;
+    gives(rt, &mut cell, &latest())?;
+    assert_eq!(rt; cell.reports_left(), 5);
+    Ok(())
+}
+
+fn moves_all_that_can<D: Dues>(rt: &(impl Abort + AllocGlobal)) -> Result<(), Fail> {
+    let mut cell = controller::<D>(rt, following_plan(rt.alloc())?)?;
+    gives(rt, &mut cell, &followed())?;
+    gives(rt, &mut cell, &freed())?;
+    assert!(rt; cell.is_done() && cell.punctual());
+    let mut cell = controller::<D>(rt, instant_plan(rt.alloc())?)?;
+    gives(rt, &mut cell, &instant())?;
+    assert!(rt; cell.is_done() && cell.punctual());
+    Ok(())
+}
+
+fn waits_for_cleanings<D: Dues>(rt: &(impl Abort + AllocGlobal)) -> Result<(), Fail> {
+    let mut cell = controller::<D>(rt, cleaned_plan(rt.alloc())?)?;
+    gives(rt, &mut cell, &dirty())?;
+    gives(rt, &mut cell, &cleaned())?;
+    assert!(rt; cell.is_done() && cell.punctual());
+    let mut cell = controller::<D>(rt, cleaned_plan(rt.alloc())?)?;
+    gives(rt, &mut cell, &dirty())?;
+    gives(rt, &mut cell, &unclean())?;
+    assert_eq!(rt; cell.reports_left(), 3);
+    Ok(())
+}
+
+#[test]
+fn scan_dues_serve_a_controller(rt: HostRuntime) -> Result<(), Fail> {
+    makes_a_run::<ScanDues>(&rt)?;
+    refuses_what_is_impossible::<ScanDues>(&rt)?;
+    takes_late_reports::<ScanDues>(&rt)?;
+    moves_all_that_can::<ScanDues>(&rt)?;
+    waits_for_cleanings::<ScanDues>(&rt)
+}
+
+#[test]
+fn tourney_dues_serve_a_controller(rt: HostRuntime) -> Result<(), Fail> {
+    makes_a_run::<TourneyDues>(&rt)?;
+    refuses_what_is_impossible::<TourneyDues>(&rt)?;
+    takes_late_reports::<TourneyDues>(&rt)?;
+    moves_all_that_can::<TourneyDues>(&rt)?;
+    waits_for_cleanings::<TourneyDues>(&rt)
+}
+
+/// What the readers tell of the job of this number: where it is, and when its activity is due.
+fn tells_of_job<D: Dues>(
+    rt: &(impl Abort + AllocGlobal),
+    cell: &Controller<D>,
+    job: JobNo,
+    phase: Option<Phase>,
+    due: Option<Moment>,
+) {
+    assert!(rt; cell.phase(job) == phase);
+    assert!(rt; cell.due(job) == due);
+}
+
+/// What the readers tell of the machine of this number: who is on it, and when its cleaning is due.
+fn tells_of_machine<D: Dues>(
+    rt: &(impl Abort + AllocGlobal),
+    cell: &Controller<D>,
+    machine: MachineNo,
+    holder: Option<JobNo>,
+    due: Option<Moment>,
+) {
+    assert!(rt; cell.holder(machine) == holder);
+    assert!(rt; cell.clean_due(machine) == due);
+}
+
+/// What the readers tell of a run: what is left, and when the last report was accepted.
+fn tells_of_run<D: Dues>(rt: &impl Abort, cell: &Controller<D>, left: u64, now: Moment) {
+    assert_eq!(rt; cell.reports_left(), left);
+    assert_eq!(rt; cell.now(), now);
+    assert!(rt; cell.is_done() == (left == 0));
+}
+
+#[test]
+fn the_readers_tell_the_start(rt: HostRuntime) -> Result<(), Fail> {
+    let mut cell = controller::<TourneyDues>(&rt, crossing_plan(rt.alloc())?)?;
+    let awaited = Phase::Outside { ready: false };
+    tells_of_job(&rt, &cell, 1, Some(awaited), Some(0));
+    tells_of_job(&rt, &cell, 2, None, None);
+    tells_of_machine(&rt, &cell, 2, None, None);
+    tells_of_run(&rt, &cell, 6, 0);
+    assert!(rt; cell.orders().is_empty());
+    assert!(rt; cell.report(arrive(0, 0)).is_ok());
+    let begun = Phase::OnMachine {
+        machine: 0,
+        ready: false,
+    };
+    tells_of_job(&rt, &cell, 0, Some(begun), Some(3));
+    tells_of_machine(&rt, &cell, 0, Some(0), None);
+    tells_of_run(&rt, &cell, 5, 0);
+    Ok(())
+}
+
+#[test]
+fn the_readers_tell_of_a_cleaning(rt: HostRuntime) -> Result<(), Fail> {
+    let mut cell = controller::<TourneyDues>(&rt, cleaned_plan(rt.alloc())?)?;
+    gives(&rt, &mut cell, &dirty())?;
+    let waiting = Phase::Outside { ready: true };
+    tells_of_job(&rt, &cell, 0, Some(Phase::Gone { at: 5 }), None);
+    tells_of_job(&rt, &cell, 1, Some(waiting), None);
+    tells_of_machine(&rt, &cell, 0, None, None);
+    tells_of_machine(&rt, &cell, 1, None, Some(7));
+    tells_of_run(&rt, &cell, 4, 5);
+    assert_eq!(rt; cell.verified().makespan(), 12);
+    assert_eq!(rt; cell.into_verified().makespan(), 12);
+    Ok(())
+}
