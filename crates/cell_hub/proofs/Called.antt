@@ -1,0 +1,67 @@
+-- What is done in the slots is a call of the definition.
+use Rattle.std.proofs.Common.{◌≡◌, ◌↔◌, ℕ, ◌+◌, ◌<◌, Some, None, IfOk, IfErr, OnErr, refl, sym, ap, ◌∙◌, subst}
+use Rattle.std.specs.Prelude.{Result}
+use Rattle.std.specs.declared.result.Result.TheVariants.{Ok, Err}
+use Rattle.slab.specs.Slab.{Slab, get, Updates}
+use Rattle.plan_verifier.specs.Accepted.{VerifiedPlan}
+use Rattle.cell_control.specs.Control.{Control, at_start}
+use Rattle.cell_control.specs.declared.report.Report.{Report}
+use Rattle.cell_control.specs.declared.report.Ack.{Ack}
+use Rattle.cell_hub.specs.declared.ticket.Ticket.{Ticket}
+use Rattle.cell_hub.specs.declared.slots.Placed.{Placed}
+use Rattle.cell_hub.specs.declared.hub_fault.HubFault.{HubFault}
+use Rattle.cell_hub.specs.declared.hub_fault.HubFault.TheVariants.{NoSuchCell, SerialsSpent, Memory, Cell}
+use Rattle.cell_hub.specs.Hub.{HubState, cell_at, Puts}
+use Rattle.cell_hub.specs.Slots.{hub_of}
+use Rattle.cell_hub.specs.Calls.{Reported, Dismissed, last_number, IsAdmitted, IsReported, IsNotReported, IsDismissed, IsCall}
+use Rattle.cell_hub.proofs.Puts.{HasSerial}
+use Rattle.cell_hub.proofs.Hubs.{none_there, puts_there}
+
+module _ {D : Type 0} (s new : Slab (Placed D)) (next : ℕ) (now : HubState) (seen : hub_of s next ≡ now) (t : Ticket) where
+  pub report_called : (r : Report) (result : Result Ack HubFault) → IfOk result (λ ack. (n : ℕ) → IsReported (hub_of s n) t r ack (hub_of new n)) → IfErr result (λ fault. (n : ℕ) → IsNotReported (hub_of s n) t r fault) → OnErr result (new ≡ s) → IsCall now (Reported t r result) (hub_of new next)
+  report_called r (Ok ack) reported refused unchanged = subst (λ h. IsReported h t r ack (hub_of new next)) seen (reported next)
+  report_called r (Err fault) reported refused unchanged = (subst (λ h. IsNotReported h t r fault) seen (refused next), ap (λ (x : Slab (Placed D)). hub_of x next) unchanged ∙ seen)
+
+  pub dismissal_called : (result : Result Control HubFault) → IfOk result (λ content. (n : ℕ) → IsDismissed (hub_of s n) t content (hub_of new n)) → OnErr result ((n : ℕ) → cell_at (hub_of s n) t ≡ None) → IfErr result (λ fault. fault ≡ NoSuchCell) → OnErr result (new ≡ s) → IsCall now (Dismissed t result) (hub_of new next)
+  dismissal_called (Ok content) taken none fault unchanged = subst (λ h. IsDismissed h t content (hub_of new next)) seen (taken next)
+  dismissal_called (Err _) taken none fault unchanged = (fault, subst (λ (h : HubState). cell_at h t ≡ None) seen (none next), ap (λ (x : Slab (Placed D)). hub_of x next) unchanged ∙ seen)
+
+module _ {D : Type 0} (s reserved new : Slab (Placed D)) (next : ℕ) (now : HubState) (seen : hub_of s next ≡ now) where
+  -- a cell is put into a slot that was reserved
+  pub is_admitted : (slot : ℕ) (plan : VerifiedPlan) (controller : Control) → reserved ≡ record s { capacity = reserved.capacity } → get reserved slot ≡ None → Updates reserved new slot (Some (record { serial = next; controller = controller })) → controller ≡ at_start plan → next < last_number → IsAdmitted now plan (record { slot = slot; serial = next }) (hub_of new (next + 1))
+  is_admitted slot plan controller room vacant updates start left =
+      subst (λ h. IsAdmitted h plan t (hub_of new (next + 1))) seen (record {
+        left = left;
+        serial = refl;
+        vacant = none_there s t (sym empty) next;
+        cells = subst (λ x. Puts (hub_of s next) (hub_of new (next + 1)) t (Some x)) start
+            (puts_there s t new next (next + 1) _ (record { changed = updates.changed; others = λ other differ. updates.others other differ ∙ as_before other }) (subst (λ o. HasSerial o next) (sym empty) tt) refl);
+        next_serial = refl;
+      })
+    where
+      t : Ticket
+      t = record { slot = slot; serial = next }
+
+      as_before : (key : ℕ) → get reserved key ≡ get s key
+      as_before key = ap (λ (x : Slab (Placed D)). get x key) room
+
+      empty : get s slot ≡ None
+      empty = sym (as_before slot) ∙ vacant
+
+-- a report finds no cell just where the ticket has none
+pub report_finds : (old new : HubState) (t : Ticket) (r : Report) (result : Result Ack HubFault) → IsCall old (Reported t r result) new → (result ≡ Err NoSuchCell) ↔ (cell_at old t ≡ None)
+report_finds old new t r (Ok ack) is = ((λ same. absurd (cc)), λ none. let e = is.cell in absurd (cc))
+report_finds old new t r (Err NoSuchCell) is = ((λ same. is.0), λ none. refl)
+report_finds old new t r (Err SerialsSpent) is = absurd is.0
+report_finds old new t r (Err Memory) is = absurd is.0
+report_finds old new t r (Err (Cell reason)) is = ((λ same. absurd (cc)), λ none. let e = is.0.1 in absurd (cc))
+
+-- a dismissal finds no cell just where the ticket has none
+pub dismissal_finds : (old new : HubState) (t : Ticket) (result : Result Control HubFault) → IsCall old (Dismissed t result) new → (result ≡ Err NoSuchCell) ↔ (cell_at old t ≡ None)
+dismissal_finds old new t (Ok content) is = ((λ same. absurd (cc)), λ none. let e = is.cell in absurd (cc))
+dismissal_finds old new t (Err fault) is = ((λ same. is.1), λ none. ap Err is.0)
+
+-- a dismissal that finds a cell takes it out
+pub dismissal_takes : (old new : HubState) (t : Ticket) (result : Result Control HubFault) → IsCall old (Dismissed t result) new → IfOk result (λ content. IsDismissed old t content new)
+dismissal_takes old new t (Ok content) is = is
+dismissal_takes old new t (Err fault) is = tt

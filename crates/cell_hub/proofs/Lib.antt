@@ -1,0 +1,5 @@
+pub mod Tickets
+pub mod Puts
+pub mod Lives
+pub mod Hubs
+pub mod Called

@@ -1,0 +1,18 @@
+use Rattle.std.proofs.Common.{◌≡◌, subst, sym}
+use Rattle.cell_hub.specs.Hub.{HubState, AreSerialsBelow}
+use Rattle.cell_hub.specs.Slots.{hub_of}
+use Rattle.cell_hub.specs.Calls.{Reported, IsCall}
+use Rattle.cell_hub.proofs.Lives.{call_serials}
+use Rattle.cell_hub.proofs.Called.{report_called, report_finds}
+use Rattle.cell_hub.proofs.hub.Hub.report.Goals as goal
+
+called : (g : _) (c : goal.After-report_in g) → IsCall c.args.self.now (Reported c.args.ticket c.args.report c.report_in.result) (hub_of c.report_in.new.cells c.self.inside.next_serial)
+called g c =
+    report_called c.self.inside.cells c.report_in.new.cells c.self.inside.next_serial c.args.self.now c.self.view_is c.args.ticket c.args.report c.report_in.result
+    c.report_in.ensures.reported c.report_in.ensures.refused c.report_in.ensures.unchanged
+
+pub invariant_of-self : goal.invariant_of-self
+invariant_of-self g c = call_serials c.args.self.now _ (Reported c.args.ticket c.args.report c.report_in.result) (called g c) (subst AreSerialsBelow c.self.view_is c.self.invariant)
+
+pub returns-clause-no_such_cell : goal.returns-clause-no_such_cell
+returns-clause-no_such_cell g c = report_finds c.args.self.now _ c.args.ticket c.args.report c.report_in.result (called g c)

@@ -1,0 +1,76 @@
+-- The calls on a hub.
+use Rattle.std.specs.Prelude.{◌≡◌, ℕ, ◌+◌, ◌-◌, ◌^◌, ◌<◌, List, [], ◌∷◌, Option, None, Some, Result}
+use Rattle.std.specs.declared.result.Result.TheVariants.{Ok, Err}
+use Rattle.plan_verifier.specs.Accepted.{VerifiedPlan}
+use Rattle.cell_control.specs.declared.report.Report.{Report}
+use Rattle.cell_control.specs.declared.report.Ack.{Ack}
+use Rattle.cell_control.specs.declared.report_fault.ReportFault.{ReportFault}
+use Rattle.cell_control.specs.Control.{Control, at_start, IsAnswered}
+use Rattle.cell_control.specs.Reports.{said, IsFirstReason}
+use Rattle.cell_hub.specs.declared.ticket.Ticket.{Ticket}
+use Rattle.cell_hub.specs.declared.hub_fault.HubFault.{HubFault}
+use Rattle.cell_hub.specs.declared.hub_fault.HubFault.TheVariants.{NoSuchCell, SerialsSpent, Memory, Cell}
+use Rattle.cell_hub.specs.Hub.{HubState, cell_at, Puts}
+
+-- this number is never a serial
+abbrev pub last_number : ℕ
+last_number = 2 ^ 64 - 1
+
+-- a cell is made of the plan: it has a controller before the first report, and a ticket with the next serial
+pub record IsAdmitted (old : HubState) (plan : VerifiedPlan) (t : Ticket) (new : HubState) : Type 0 where
+  pub left : old.next_serial < last_number
+  pub serial : t.serial ≡ old.next_serial
+  pub vacant : cell_at old t ≡ None
+  pub cells : Puts old new t (Some (at_start plan))
+  pub next_serial : new.next_serial ≡ old.next_serial + 1
+
+-- why no cell is made: the serials are spent, or else memory is wanting
+abbrev pub IsNotAdmitted : HubState → HubFault → Type 0
+IsNotAdmitted h NoSuchCell = ⊥
+IsNotAdmitted h SerialsSpent = h.next_serial ≡ last_number
+IsNotAdmitted h Memory = h.next_serial < last_number
+IsNotAdmitted h (Cell reason) = ⊥
+
+-- the controller of the ticket's cell answers the report, and the other cells stay as they are
+pub record IsReported (old : HubState) (t : Ticket) (r : Report) (ack : Ack) (new : HubState) : Type 0 where
+  pub before : Control
+  pub after : Control
+  pub cell : cell_at old t ≡ Some before
+  pub answered : IsAnswered before (said r) ack after
+  pub cells : Puts old new t (Some after)
+  pub next_serial : new.next_serial ≡ old.next_serial
+
+-- why a report isn't taken: the ticket has no cell, or its controller refuses the report by the first reason
+abbrev pub IsNotReported : HubState → Ticket → Report → HubFault → Type 0
+IsNotReported h t r NoSuchCell = cell_at h t ≡ None
+IsNotReported h t r SerialsSpent = ⊥
+IsNotReported h t r Memory = ⊥
+IsNotReported h t r (Cell reason) = (c : Control) × (cell_at h t ≡ Some c) × IsFirstReason c.plan.planned c.cell (said r) reason
+
+-- the ticket's cell is taken out with this content
+pub record IsDismissed (old : HubState) (t : Ticket) (content : Control) (new : HubState) : Type 0 where
+  pub cell : cell_at old t ≡ Some content
+  pub cells : Puts old new t None
+  pub next_serial : new.next_serial ≡ old.next_serial
+
+-- a call with its answer: a plan was admitted, a report made on a ticket, a ticket's cell looked at, a ticket dismissed
+pub data HubCall : Type 0 where
+  Admitted : VerifiedPlan → Result Ticket (HubFault × VerifiedPlan) → HubCall
+  Reported : Ticket → Report → Result Ack HubFault → HubCall
+  Shown : Ticket → Option Control → HubCall
+  Dismissed : Ticket → Result Control HubFault → HubCall
+
+-- a hub answers a call so, and is then this one. A call that is refused changes nothing
+abbrev pub IsCall : HubState → HubCall → HubState → Type 0
+IsCall old (Admitted plan (Ok t)) new = IsAdmitted old plan t new
+IsCall old (Admitted plan (Err refused)) new = IsNotAdmitted old refused.0 × (refused.1 ≡ plan) × (new ≡ old)
+IsCall old (Reported t r (Ok ack)) new = IsReported old t r ack new
+IsCall old (Reported t r (Err fault)) new = IsNotReported old t r fault × (new ≡ old)
+IsCall old (Shown t content) new = (content ≡ cell_at old t) × (new ≡ old)
+IsCall old (Dismissed t (Ok content)) new = IsDismissed old t content new
+IsCall old (Dismissed t (Err fault)) new = (fault ≡ NoSuchCell) × (cell_at old t ≡ None) × (new ≡ old)
+
+-- calls on a hub, one after another
+pub data AreCalls : HubState → List HubCall → HubState → Type 0 where
+  none_yet : (h : HubState) → AreCalls h [] h
+  once_more : (h mid end : HubState) (call : HubCall) (calls : List HubCall) → IsCall h call mid → AreCalls mid calls end → AreCalls h (call ∷ calls) end

@@ -1,0 +1,65 @@
+-- What holds of every list of calls on a hub.
+use Rattle.std.specs.Prelude.{◌≡◌, ◌≢◌, ℕ, List, [], ◌∷◌, ◌++◌, Option, None, Some, All}
+use Rattle.std.specs.declared.result.Result.TheVariants.{Ok, Err}
+use Rattle.plan_verifier.specs.Accepted.{VerifiedPlan}
+use Rattle.cell_control.specs.declared.report.Report.{Report}
+use Rattle.cell_control.specs.declared.report.Ack.{Ack}
+use Rattle.cell_control.specs.declared.report_fault.ReportFault.{ReportFault}
+use Rattle.cell_control.specs.Control.{Control, at_start, IsAnswered}
+use Rattle.cell_control.specs.Reports.{said, IsFirstReason}
+use Rattle.cell_hub.specs.declared.ticket.Ticket.{Ticket}
+use Rattle.cell_hub.specs.declared.hub_fault.HubFault.TheVariants.{NoSuchCell, Cell}
+use Rattle.cell_hub.specs.Hub.{HubState, hub_from, cell_at}
+use Rattle.cell_hub.specs.Calls.{HubCall, Admitted, Reported, Shown, Dismissed, AreCalls}
+
+-- the call gives this ticket to no plan, and finds no cell under it
+abbrev pub FindsNoCell : Ticket → HubCall → Type 0
+FindsNoCell t (Admitted plan answer) = answer ≢ Ok t
+FindsNoCell t (Reported other r answer) = other ≡ t → answer ≡ Err NoSuchCell
+FindsNoCell t (Shown other content) = other ≡ t → content ≡ None
+FindsNoCell t (Dismissed other answer) = other ≡ t → answer ≡ Err NoSuchCell
+
+-- once a ticket was dismissed, no call gives it again or finds a cell under it
+abbrev pub DismissedNeverAnswers : Type 0
+DismissedNeverAnswers = (first : ℕ) (before after : List HubCall) (end : HubState) (t : Ticket) (content : Control)
+    → AreCalls (hub_from first) (before ++ Dismissed t (Ok content) ∷ after) end → All (FindsNoCell t) after
+
+-- the call is on this ticket
+abbrev pub IsOn : Ticket → HubCall → Type 0
+IsOn t (Admitted plan answer) = answer ≡ Ok t
+IsOn t (Reported other r answer) = other ≡ t
+IsOn t (Shown other content) = other ≡ t
+IsOn t (Dismissed other answer) = other ≡ t
+
+-- the life of a ticket: it isn't given yet, a controller stands under it, or it was dismissed
+pub data Life : Type 0 where
+  not_given : Life
+  stands : Control → Life
+  dismissed : Life
+
+-- the content of the controller that stands under a ticket, if one does
+abbrev pub content_in : Life → Option Control
+content_in not_given = None
+content_in (stands c) = Some c
+content_in dismissed = None
+
+-- what a call makes of a ticket's life, where a controller alone answers: it is made of the plan for which the ticket is given, takes each report on the ticket, is shown, and is given back when the ticket is dismissed. Before and after that no cell is found. A call on another ticket is nothing to it
+pub data Lives (t : Ticket) : Life → HubCall → Life → Type 0 where
+  given : (plan : VerifiedPlan) → Lives t not_given (Admitted plan (Ok t)) (stands (at_start plan))
+  answered : (c new : Control) (r : Report) (ack : Ack) → IsAnswered c (said r) ack new → Lives t (stands c) (Reported t r (Ok ack)) (stands new)
+  refused : (c : Control) (r : Report) (reason : ReportFault) → IsFirstReason c.plan.planned c.cell (said r) reason → Lives t (stands c) (Reported t r (Err (Cell reason))) (stands c)
+  shown : (c : Control) → Lives t (stands c) (Shown t (Some c)) (stands c)
+  taken : (c : Control) → Lives t (stands c) (Dismissed t (Ok c)) dismissed
+  elsewhere : (c : Control) (call : HubCall) → (IsOn t call → ⊥) → Lives t (stands c) call (stands c)
+  before : (call : HubCall) → FindsNoCell t call → Lives t not_given call not_given
+  after : (call : HubCall) → FindsNoCell t call → Lives t dismissed call dismissed
+
+-- what calls make of a ticket's life, one after another
+pub data AreLived (t : Ticket) : Life → List HubCall → Life → Type 0 where
+  none_yet : (life : Life) → AreLived t life [] life
+  once_more : (life mid end : Life) (call : HubCall) (calls : List HubCall) → Lives t life call mid → AreLived t mid calls end → AreLived t life (call ∷ calls) end
+
+-- whatever is called on a hub, each ticket is answered as by a controller alone, whose content is that of the ticket's cell
+abbrev pub CellsAreApart : Type 0
+CellsAreApart = (first : ℕ) (calls : List HubCall) (end : HubState) (t : Ticket) → AreCalls (hub_from first) calls end
+    → (life : Life) × AreLived t not_given calls life × (cell_at end t ≡ content_in life)

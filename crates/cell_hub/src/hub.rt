@@ -1,0 +1,113 @@
+ghost use Rattle.std.specs.Prelude.{◌≡◌, ◌↔◌, None, option_copied, IfOk, IfErr, OnErr};
+ghost use Rattle.cell_hub.specs.Hub.{hub_from, cell_at, AreSerialsBelow};
+ghost use Rattle.cell_hub.specs.Calls.{last_number, IsAdmitted, IsNotAdmitted, IsReported, IsNotReported, IsDismissed, IsCall, Admitted, Reported, Shown, Dismissed};
+
+use crate::hub_fault::HubFault;
+use crate::slots::{Placed, cell_in, report_in, take_from};
+use crate::ticket::Ticket;
+use cell_control::{Ack, Controller, Dues, Report};
+use plan_verifier::Verified;
+use slab::Slab;
+use std::alloc::Global;
+use std::marker::Model;
+
+/// Runs many cells, each by an accepted plan and under a ticket of its own.
+///
+/// The cells stand in slots, which are used again after a dismissal. A ticket's serial tells its cell from the
+/// others that stood or will stand in its slot. Only [`Hub::admit`] takes memory; the other calls take as long
+/// with a thousand cells as with one.
+#[derive(Debug, Drop)]
+pub struct Hub<D: Dues> {
+    alloc: Global,
+    cells: Slab<Placed<D>>,
+    next_serial: u64,
+}
+
+impl<D: Dues> Model for Hub<D> {
+    ghost use Rattle.cell_hub.specs.Hub.{HubState, AreSerialsBelow};
+
+    ghost Value = { HubState };
+
+    ghost use Rattle.cell_hub.specs.Slots.{hub_of};
+
+    ghost view = { λ h. hub_of h.cells h.next_serial };
+
+    ghost invariant = { λ h. AreSerialsBelow (hub_of h.cells h.next_serial) };
+}
+
+impl<D: Dues> Hub<D> {
+    /// A hub without cells. Its serials begin at 0.
+    pub fn new(alloc: Global) -> Hub<D>
+        ensures { result ≡ hub_from 0 }
+    {
+        Hub::with_serial(alloc, 0)
+    }
+
+    /// A hub without cells, whose serials begin at `first`. `u64::MAX` is never a serial.
+    pub fn with_serial(alloc: Global, first: u64) -> Hub<D>
+        ensures { result ≡ hub_from first }
+    {
+        Hub {
+            alloc,
+            cells: Slab::new(alloc),
+            next_serial: first,
+        }
+    }
+
+    /// Makes a cell that is run by the plan, and gives its ticket. Where the serials are spent, or memory is
+    /// wanting, the plan comes back; a serial that wasn't given is the next one's.
+    pub fn admit(&mut self, verified: Verified) -> Result<Ticket, (HubFault, Verified)>
+        ensures admitted { IfOk result (λ ticket. IsAdmitted self.old verified ticket self.new) }
+        ensures refused { IfErr result (λ refused. IsNotAdmitted self.old refused.0) }
+        ensures handed_back { IfErr result (λ refused. refused.1 ≡ verified) }
+        ensures unchanged { OnErr result (self.new ≡ self.old) }
+        ensures called { IsCall self.old (Admitted verified result) self.new }
+    {
+        if self.next_serial == u64::MAX {
+            return Err((HubFault::SerialsSpent, verified));
+        }
+        if self.cells.reserve(1).is_err() {
+            return Err((HubFault::Memory, verified));
+        }
+        match Controller::new(self.alloc, verified) {
+            Ok(controller) => {
+                let serial = self.next_serial;
+                let slot = self.cells.insert_reserved(Placed { serial, controller });
+                self.next_serial = serial + 1;
+                Ok(Ticket { slot, serial })
+            }
+            Err((_, verified)) => Err((HubFault::Memory, verified)),
+        }
+    }
+
+    /// Takes a report on the ticket's cell, which answers it as a controller alone does.
+    pub fn report(&mut self, ticket: Ticket, report: Report) -> Result<Ack, HubFault>
+        ensures reported { IfOk result (λ ack. IsReported self.old ticket report ack self.new) }
+        ensures refused { IfErr result (IsNotReported self.old ticket report) }
+        ensures unchanged { OnErr result (self.new ≡ self.old) }
+        ensures no_such_cell { (result ≡ Err HubFault.NoSuchCell) ↔ (cell_at self.old ticket ≡ None) }
+        ensures called { IsCall self.old (Reported ticket report result) self.new }
+    {
+        report_in(&mut self.cells, ticket, report)
+    }
+
+    /// The ticket's cell, if it has one.
+    pub fn cell(&self, ticket: Ticket) -> Option<&Controller<D>>
+        ensures cell { option_copied result ≡ cell_at self.now ticket }
+        ensures called { IsCall self.now (Shown ticket (option_copied result)) self.now }
+        ensures serials { AreSerialsBelow self.now }
+    {
+        cell_in(&self.cells, ticket)
+    }
+
+    /// Takes the ticket's cell out of the hub. The ticket never answers again.
+    pub fn dismiss(&mut self, ticket: Ticket) -> Result<Controller<D>, HubFault>
+        ensures dismissed { IfOk result (λ content. IsDismissed self.old ticket content self.new) }
+        ensures no_such_cell { (result ≡ Err HubFault.NoSuchCell) ↔ (cell_at self.old ticket ≡ None) }
+        ensures refused { IfErr result (λ fault. fault ≡ HubFault.NoSuchCell) }
+        ensures unchanged { OnErr result (self.new ≡ self.old) }
+        ensures called { IsCall self.old (Dismissed ticket result) self.new }
+    {
+        take_from(&mut self.cells, ticket)
+    }
+}

@@ -1,0 +1,19 @@
+use cell_control::ReportFault;
+use thiserror::Error;
+
+/// Why a hub refuses a call.
+#[derive(Clone, Copy, Debug, PartialEq, Eq, Error)]
+pub enum HubFault {
+    /// No cell stands under the ticket: it was dismissed, or never admitted.
+    #[error("NoSuchCell")]
+    NoSuchCell,
+    /// All serials were given; `u64::MAX` is none.
+    #[error("SerialsSpent")]
+    SerialsSpent,
+    /// Memory was wanting.
+    #[error("Memory")]
+    Memory,
+    /// The cell refuses the report.
+    #[error("Cell {0}")]
+    Cell(ReportFault),
+}

@@ -1,0 +1,73 @@
+//! The cells in their slots, each with the serial of its ticket.
+
+ghost use Rattle.std.specs.Prelude.{◌≡◌, ℕ, None, option_copied, IfOk, IfErr, OnErr};
+ghost use Rattle.cell_hub.specs.Hub.{cell_at};
+ghost use Rattle.cell_hub.specs.Slots.{hub_of};
+ghost use Rattle.cell_hub.specs.Calls.{IsReported, IsNotReported, IsDismissed};
+
+use crate::hub_fault::HubFault;
+use crate::ticket::Ticket;
+use cell_control::{Ack, Controller, Dues, Report};
+use slab::Slab;
+
+/// A cell, with the serial of its ticket.
+#[derive(Debug, Drop)]
+pub(crate) struct Placed<D: Dues> {
+    pub serial: u64,
+    pub controller: Controller<D>,
+}
+
+/// The ticket's cell, if it has one.
+pub(crate) fn cell_in<D: Dues>(cells: &Slab<Placed<D>>, ticket: Ticket) -> Option<&Controller<D>>
+    ensures { (next : ℕ) → option_copied result ≡ cell_at (hub_of cells.now next) ticket }
+{
+    match cells.get(ticket.slot) {
+        Some(placed) if placed.serial == ticket.serial => Some(&placed.controller),
+        _ => None,
+    }
+}
+
+/// Takes a report on the ticket's cell.
+pub(crate) fn report_in<D: Dues>(
+    cells: &mut Slab<Placed<D>>,
+    ticket: Ticket,
+    report: Report,
+) -> Result<Ack, HubFault>
+    ensures reported { IfOk result (λ ack. (next : ℕ) → IsReported (hub_of cells.old next) ticket report ack (hub_of cells.new next)) }
+    ensures refused { IfErr result (λ fault. (next : ℕ) → IsNotReported (hub_of cells.old next) ticket report fault) }
+    ensures unchanged { OnErr result (cells.new ≡ cells.old) }
+{
+    if let Some(placed) = cells.get_mut(ticket.slot) {
+        if placed.serial == ticket.serial {
+            return match placed.controller.report(report) {
+                Ok(ack) => Ok(ack),
+                Err(reason) => Err(HubFault::Cell(reason)),
+            };
+        }
+    }
+    Err(HubFault::NoSuchCell)
+}
+
+/// Takes the ticket's cell out.
+pub(crate) fn take_from<D: Dues>(
+    cells: &mut Slab<Placed<D>>,
+    ticket: Ticket,
+) -> Result<Controller<D>, HubFault>
+    ensures dismissed { IfOk result (λ content. (next : ℕ) → IsDismissed (hub_of cells.old next) ticket content (hub_of cells.new next)) }
+    ensures none { OnErr result ((next : ℕ) → cell_at (hub_of cells.old next) ticket ≡ None) }
+    ensures fault { IfErr result (λ fault. fault ≡ HubFault.NoSuchCell) }
+    ensures unchanged { OnErr result (cells.new ≡ cells.old) }
+{
+    if cell_in(cells, ticket).is_none() {
+        return Err(HubFault::NoSuchCell);
+    }
+    match cells.try_remove(ticket.slot) {
+        Some(
+            Placed {
+                serial: _,
+                controller,
+            },
+        ) => Ok(controller),
+        None => Err(HubFault::NoSuchCell),
+    }
+}
