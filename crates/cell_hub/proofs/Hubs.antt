@@ -1,18 +1,17 @@
 -- What a look into a slot, and a change of it, say of a hub.
-use Rattle.std.proofs.Common.{◌≡◌, ◌≢◌, ℕ, ◌+◌, ◌<◌, Option, Some, None, IsSome, is_some, option_copied, Bor, true, false, inl, inr, refl, sym, ap, ◌∙◌, subst, arith}
+use Rattle.std.proofs.Common.{◌≡◌, ℕ, Option, Some, None, IsSome, is_some, option_copied, Bor, true, false, inl, inr, refl, sym, ap, ◌∙◌, subst}
 use Rattle.std.proofs.lemmas.Bool.{cases_eq, eq-eqb, ne_eqb}
 use Rattle.slab.specs.Slab.{Slab, get, with_value, Updates}
 use Rattle.slab.proofs.SlabLemmas.{Updates-with_value}
-use Rattle.plan_verifier.specs.Accepted.{VerifiedPlan}
 use Rattle.cell_control.specs.declared.report.Report.{Report}
 use Rattle.cell_control.specs.declared.report.Ack.{Ack}
-use Rattle.cell_control.specs.Control.{Control, at_start, IsAnswered}
+use Rattle.cell_control.specs.Control.{Control, IsAnswered}
 use Rattle.cell_control.specs.Reports.{said}
 use Rattle.cell_hub.specs.declared.ticket.Ticket.{Ticket}
 use Rattle.cell_hub.specs.declared.slots.Placed.{Placed}
-use Rattle.cell_hub.specs.Hub.{HubState, cell_at, Puts}
+use Rattle.cell_hub.specs.Hub.{cell_at, Puts}
 use Rattle.cell_hub.specs.Slots.{hub_of}
-use Rattle.cell_hub.specs.Calls.{last_number, IsAdmitted, IsReported, IsDismissed}
+use Rattle.cell_hub.specs.Calls.{IsReported, IsDismissed}
 use Rattle.cell_hub.proofs.Tickets.{in_slot, cell_at-slot}
 use Rattle.cell_hub.proofs.Puts.{HasSerial, slot_puts}
 

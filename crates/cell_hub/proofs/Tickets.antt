@@ -1,5 +1,5 @@
 -- The cell of a ticket is the one in the ticket's slot, where it has the ticket's serial.
-use Rattle.std.proofs.Common.{◌≡◌, ◌≢◌, ◌⊎◌, ℕ, zero, suc, ◌+◌, ◌<◌, List, [], ◌∷◌, Option, Some, None, map, get_or, refl, sym, ap, ◌∙◌, inl, inr, arith, Bool, true, false, cond, eqb, zero-add}
+use Rattle.std.proofs.Common.{◌≡◌, ◌≢◌, ◌⊎◌, ℕ, zero, suc, ◌+◌, ◌<◌, List, [], ◌∷◌, Option, Some, None, map, get_or, refl, sym, ap, inl, inr, arith, cond, eqb, zero-add}
 use Rattle.std.proofs.lemmas.Bool.{cases_eq, eq-eqb, ne_eqb}
 use Rattle.slab.specs.Slab.{Slab, get, entries_from}
 use Rattle.cell_control.specs.Control.{Control}

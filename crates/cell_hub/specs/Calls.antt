@@ -4,7 +4,6 @@ use Rattle.std.specs.declared.result.Result.TheVariants.{Ok, Err}
 use Rattle.plan_verifier.specs.Accepted.{VerifiedPlan}
 use Rattle.cell_control.specs.declared.report.Report.{Report}
 use Rattle.cell_control.specs.declared.report.Ack.{Ack}
-use Rattle.cell_control.specs.declared.report_fault.ReportFault.{ReportFault}
 use Rattle.cell_control.specs.Control.{Control, at_start, IsAnswered}
 use Rattle.cell_control.specs.Reports.{said, IsFirstReason}
 use Rattle.cell_hub.specs.declared.ticket.Ticket.{Ticket}

@@ -1,5 +1,5 @@
 -- How the cells of a hub stand in its slots. No public clause cites this module.
-use Rattle.std.specs.Prelude.{ℕ, List, map}
+use Rattle.std.specs.Prelude.{ℕ, map}
 use Rattle.slab.specs.Slab.{Slab, entries}
 use Rattle.cell_control.specs.Control.{Control}
 use Rattle.cell_hub.specs.declared.ticket.Ticket.{Ticket}

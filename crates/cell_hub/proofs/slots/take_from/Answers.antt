@@ -1,6 +1,4 @@
-use Rattle.std.proofs.Common.{◌≡◌, None, sym, ◌∙◌}
-use Rattle.cell_hub.specs.Hub.{cell_at}
-use Rattle.cell_hub.specs.Slots.{hub_of}
+use Rattle.std.proofs.Common.{sym, ◌∙◌}
 use Rattle.cell_hub.proofs.Hubs.{takes_there, none_there, shows, shows_none}
 use Rattle.cell_hub.proofs.slots.take_from.Goals as goal
 

@@ -1,4 +1,4 @@
-use Rattle.std.proofs.Common.{◌≡◌, subst}
+use Rattle.std.proofs.Common.{subst}
 use Rattle.cell_hub.specs.Hub.{AreSerialsBelow}
 use Rattle.cell_hub.specs.Slots.{hub_of}
 use Rattle.cell_hub.specs.Calls.{Dismissed, IsCall}

@@ -1,5 +1,5 @@
-use Rattle.std.proofs.Common.{◌≡◌, subst, sym}
-use Rattle.cell_hub.specs.Hub.{HubState, AreSerialsBelow}
+use Rattle.std.proofs.Common.{subst}
+use Rattle.cell_hub.specs.Hub.{AreSerialsBelow}
 use Rattle.cell_hub.specs.Slots.{hub_of}
 use Rattle.cell_hub.specs.Calls.{Reported, IsCall}
 use Rattle.cell_hub.proofs.Lives.{call_serials}
