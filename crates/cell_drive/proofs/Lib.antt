@@ -5,3 +5,8 @@ pub mod Drains
 pub mod WholeLines
 pub mod Streamed
 pub mod ReportLines
+pub mod WrittenParts
+pub mod DrivenRuns
+pub mod DrivenAnswers
+pub mod PromisesKept
+pub mod DrivenEnds

@@ -1,15 +1,15 @@
 -- A whole input, from what was drained and what came last.
-use Rattle.std.proofs.Common.{◌≡◌, ℕ, ◌+◌, List, [], ◌∷◌, ◌++◌, Bool, true, Option, Some, None, Result, Ok, Err, length, take, refl, sym, ap, ◌∙◌, arith, append_assoc, append-nil, subst, inl, inr, ◌⊎◌}
-use Rattle.std.specs.Io.KnownBytes.{Appends, Consumes, Keeps, IsAtEnd}
+use Rattle.std.proofs.Common.{◌≡◌, ℕ, ◌+◌, List, [], ◌∷◌, ◌++◌, Bool, Option, Some, Result, Ok, Err, take, refl, sym, ap, ◌∙◌, arith, append_assoc, append-nil, subst, inl, inr}
+use Rattle.std.specs.Io.KnownBytes.{Appends}
 use Rattle.std.proofs.KnownBytes.{Appends-nil, Appends-trans}
-use Rattle.run_log.specs.Sinks.{AllBut, TookPart, Wrote}
+use Rattle.run_log.specs.Sinks.{TookPart, Wrote}
 use Rattle.cell_drive.specs.declared.drive_fault.DriveFault.{DriveFault}
 use Rattle.cell_drive.specs.declared.drive_fault.DriveFault.TheVariants.{Read, Write, InputTooLong, Memory}
-use Rattle.cell_drive.specs.Lines.{input_lines, complete_lines}
+use Rattle.cell_drive.specs.Lines.{input_lines}
 use Rattle.cell_drive.specs.Holding.{held_line, ended, held_after}
 use Rattle.cell_drive.specs.Answering.{AnswerAll, WasAnswered, WasEnded, WereAnswered}
-use Rattle.cell_drive.specs.Streams.{AreAnswered, IsAllAnswered, IsPartAnswered, ComesTo, IsStreamed}
-use Rattle.cell_drive.specs.Reading.{IsPieceAnswered, IsPartTold, ReadsTo, IsDrained, IsFinished, last_line}
+use Rattle.cell_drive.specs.Streams.{IsAllAnswered, IsPartAnswered, IsStreamed}
+use Rattle.cell_drive.specs.Reading.{IsPieceAnswered, IsDrained, IsFinished, last_line}
 use Rattle.cell_drive.proofs.Told.{AnswerAll-append, AnswerAll-one}
 use Rattle.cell_drive.proofs.Taking.{TookPart-more}
 use Rattle.cell_drive.proofs.WholeLines.{input_lines-ended, complete_lines-ended, last_line-some}

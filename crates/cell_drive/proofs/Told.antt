@@ -1,5 +1,5 @@
 -- Lines that are answered one after another.
-use Rattle.std.proofs.Common.{◌≡◌, ℕ, suc, ◌+◌, List, [], ◌∷◌, ◌++◌, Option, length, refl, sym, ap, ◌∙◌, arith, append_assoc, append-nil, subst}
+use Rattle.std.proofs.Common.{◌≡◌, ℕ, ◌+◌, List, [], ◌∷◌, ◌++◌, Option, length, refl, sym, ap, ◌∙◌, arith, append_assoc, append-nil, subst}
 use Rattle.cell_drive.specs.Answering.{AnswerAll}
 
 pub AnswerAll-append : {S : Type 0} (answers : S → ℕ → Option (List ℕ) → List ℕ → S → Type 0) (xs ys : List (Option (List ℕ))) (start middle end : S) (number next : ℕ) (text more : List ℕ)

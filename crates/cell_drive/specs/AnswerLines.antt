@@ -1,6 +1,8 @@
--- The lines of answers that are no events.
+-- The lines of answers.
 use Rattle.std.specs.Prelude.{ℕ, List, [], ◌∷◌, codes, decimal}
-use Rattle.run_log.specs.EventLines.{line_of}
+use Rattle.std.specs.List.{flat_map}
+use Rattle.shop_base.specs.declared.move_order.MoveOrder.{MoveOrder}
+use Rattle.run_log.specs.EventLines.{line_of, order_line}
 
 -- `late T`
 abbrev pub late_line : ℕ → List ℕ
@@ -17,3 +19,7 @@ done_line at = line_of (codes "done" ∷ decimal at ∷ [])
 -- `unfinished K`
 abbrev pub unfinished_line : ℕ → List ℕ
 unfinished_line left = line_of (codes "unfinished" ∷ decimal left ∷ [])
+
+-- the lines of the orders that a report released, in order
+abbrev pub order_lines : List MoveOrder → List ℕ
+order_lines orders = flat_map order_line orders

@@ -6,3 +6,7 @@ pub mod Reading
 pub mod Devices
 pub mod InputLines
 pub mod AnswerLines
+pub mod DrivenLines
+pub mod Driven
+pub mod AnswerText
+pub mod Driving

@@ -1,8 +1,11 @@
 //! Cells driven by lines of text: reports in, move orders out, over any giver and any taker of bytes.
 #![tactic(auto)]
 
+mod accepted_lines;
 mod answer_lines;
 mod drive_fault;
+mod driven;
+mod driving;
 mod from_read;
 mod held_line;
 mod input_lines;
@@ -13,6 +16,7 @@ mod streaming;
 
 pub use answer_lines::{done_line, late_line, refused_line, unfinished_line};
 pub use drive_fault::DriveFault;
+pub use driving::{DriveEnd, drive};
 pub use from_read::FromRead;
 pub use held_line::LINE_LIMIT;
 pub use input_lines::report_of;

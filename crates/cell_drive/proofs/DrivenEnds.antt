@@ -1,0 +1,162 @@
+-- What a driven cell comes to, in the words of its answer text.
+use Rattle.std.proofs.Common.{◌≡◌, ℕ, ◌+◌, List, [], ◌∷◌, ◌++◌, Option, Ok, Err, Bool, refl, sym, ap, ◌∙◌, arith, subst, inl, inr}
+use Rattle.std.specs.Prelude.{IsTrue, ◌↔◌}
+use Rattle.std.specs.Io.KnownBytes.{Consumes}
+use Rattle.shop_base.specs.Plan.{PlannedShop}
+use Rattle.shop_base.specs.Cell.{Cell}
+use Rattle.shop_base.specs.Ends.{HasEnded, stated_number}
+use Rattle.shop_base.specs.Controlled.{IsControlledRun}
+use Rattle.shop_base.proofs.ControlledRuns.{controlled_to_run}
+use Rattle.shop_base.proofs.StatedNumber.{ends_on_the_stated_number-holds}
+use Rattle.plan_verifier.specs.Accepted.{VerifiedPlan}
+use Rattle.run_log.specs.declared.entry.Entry.{Entry}
+use Rattle.cell_drive.specs.declared.drive_fault.DriveFault.{DriveFault}
+use Rattle.cell_drive.specs.declared.drive_fault.DriveFault.TheVariants.{Read, Write, InputTooLong, Memory}
+use Rattle.cell_drive.specs.Answering.{AnswerAll}
+use Rattle.cell_drive.specs.Streams.{AreAnswered, IsPartAnswered, IsStreamed}
+use Rattle.cell_drive.specs.DrivenLines.{LineAnswer}
+use Rattle.cell_drive.specs.Driven.{DriveState, IsDriven, DriveAnswer, ControlEnds, drive_start, events_of}
+use Rattle.cell_drive.specs.AnswerText.{DrivenCell, undriven, CellAnswers, CellEnds, AreAnswersTo}
+use Rattle.cell_drive.specs.Driving.{cell_after, IsDrivenThrough, WereAnswersWritten, IsBrokenOff, IsRunOf, IsSoFar, NeverWentWrong}
+use Rattle.cell_drive.proofs.PromisesKept.{never_went_wrong}
+
+-- the cell and the log of a driven cell
+abbrev seen : DriveState → DrivenCell
+seen s = record { cell = s.control.cell; entries = s.log.entries }
+
+-- an answer is one of the cell's
+seen_answer : (p : PlannedShop) (s e : DriveState) (number : ℕ) (line : Option (List ℕ)) (text : List ℕ) → s.control.plan.planned ≡ p
+    → DriveAnswer s number line text e → CellAnswers p (seen s) number line text (seen e)
+seen_answer p s e number line text of_plan answer = record {
+  more = answer.entries;
+  answer = subst (λ q. LineAnswer q s.control.cell number line text answer.entries e.control.cell) of_plan answer.answer;
+  entries = answer.log.entries;
+}
+
+-- and so are all, and the plan stays
+seen_answers : (p : PlannedShop) (lines : List (Option (List ℕ))) (s e : DriveState) (number : ℕ) (text : List ℕ) → s.control.plan.planned ≡ p
+    → AnswerAll DriveAnswer s number lines text e → AnswerAll (CellAnswers p) (seen s) number lines text (seen e) × (e.control.plan ≡ s.control.plan)
+seen_answers p [] s e number text of_plan all = ((all.0, ap seen all.1), ap (λ (d : DriveState). d.control.plan) all.1)
+seen_answers p (line ∷ lines) s e number text of_plan all =
+    let next = all.2 in
+    let plan_is = all.3.plan in
+    let rest = seen_answers p lines next e (number + 1) all.1 (ap (λ (v : VerifiedPlan). v.planned) plan_is ∙ of_plan) all.4 in
+    ((all.0, all.1, seen next, seen_answer p s next number line all.0 of_plan all.3, rest.0, all.5), rest.1 ∙ plan_is)
+
+seen_ends : (p : PlannedShop) (s : DriveState) (text : List ℕ) → s.control.plan.planned ≡ p → ControlEnds s.control text → CellEnds p (seen s) text
+seen_ends p s text of_plan ends = subst (λ q. CellEnds q (seen s) text) of_plan ends
+
+abbrev the_ends : DriveState → List ℕ → Type 0
+the_ends s = ControlEnds s.control
+
+-- the cell of a driven cell is that after its log
+module _ (s : DriveState) (driven : IsDriven s) where
+  abbrev p : PlannedShop
+  p = s.control.plan.planned
+
+  pub cell_is : s.control.cell ≡ cell_after p s.log.entries
+  cell_is = (controlled_to_run p driven.reports (events_of s.log.entries) s.control.cell driven.verified.schedule.shaped driven.run).1
+
+  pub run_of : IsRunOf p s.log.entries
+  run_of = (driven.reports, subst (λ c. IsControlledRun p driven.reports (events_of s.log.entries) c) cell_is driven.run)
+
+  pub so_far : (is_done : Bool) (last left : ℕ) → IsTrue is_done ↔ HasEnded p s.control.cell → last ≡ s.control.cell.last → s.control.accepted + left ≡ stated_number p
+      → IsSoFar p s.log.entries is_done last left
+  so_far is_done last left ended moment count =
+      let law = (ends_on_the_stated_number-holds p driven.reports (events_of s.log.entries) s.control.cell driven.verified.schedule.shaped driven.run).1 in
+      let counted = driven.accepted in
+      record {
+        ended = ((λ is. subst (HasEnded p) cell_is (ended.0 is)), λ has. ended.1 (subst (HasEnded p) (sym cell_is) has));
+        counted = ((λ is. law.0 (ended.0 is)), λ all. ended.1 (law.1 all));
+        rest = omega (arith, counted, count);
+        moment = moment ∙ ap (λ (c : Cell). c.last) cell_is;
+      }
+
+-- the whole input was read and answered
+through : {T : Type 0} (v : VerifiedPlan) (x : T) (e : DriveState) (read_failed write_failed : Bool) (left_before left_after before after : Option (List ℕ))
+    → IsStreamed {T = T} (Ok x) DriveAnswer the_ends (drive_start v) e read_failed left_before left_after write_failed before after → IsDriven e
+    → IsDrivenThrough v.planned e.log.entries left_before left_after before after × (e.control.plan ≡ v)
+through v x e read_failed write_failed left_before left_after before after streamed driven =
+    let all = streamed.comes_to in
+    let answers = seen_answers v.planned _ (drive_start v) e 1 all.text refl all.are_answers in
+    let plan_is = answers.1 in
+    let same_plan : e.control.plan.planned ≡ v.planned = ap (λ (w : VerifiedPlan). w.planned) plan_is in
+    let end_is : seen e ≡ record { cell = cell_after v.planned e.log.entries; entries = e.log.entries } =
+    ap (λ c. record { cell = c; entries = e.log.entries }) (cell_is e driven ∙ ap (λ q. cell_after q e.log.entries) same_plan) in (
+      record {
+        input = streamed.input;
+        was_read = streamed.was_read;
+        at_end = all.at_end;
+        within = all.within;
+        text = all.text ++ all.closing;
+        is_answer_text = record {
+          answers = all.text;
+          are_answers = subst (AreAnswersTo v.planned _ all.text) end_is answers.0;
+          closing = all.closing;
+          is_end = subst (λ d. CellEnds v.planned d all.closing) end_is (seen_ends v.planned e all.closing same_plan all.is_end);
+          whole = refl;
+        };
+        written = all.written;
+      },
+      plan_is,
+    )
+
+pub driven_through : {T : Type 0} (v : VerifiedPlan) (x : T) (s e : DriveState) (read_failed write_failed : Bool) (left_before left_after before after : Option (List ℕ)) → s ≡ drive_start v
+    → IsStreamed {T = T} (Ok x) DriveAnswer the_ends s e read_failed left_before left_after write_failed before after → IsDriven e
+    → IsDrivenThrough v.planned e.log.entries left_before left_after before after × (e.control.plan ≡ v)
+driven_through {T} v x s e read_failed write_failed left_before left_after before after at_first streamed driven =
+    through v x e read_failed write_failed left_before left_after before after
+    (subst (λ d. IsStreamed {T = T} (Ok x) DriveAnswer the_ends d e read_failed left_before left_after write_failed before after) at_first streamed) driven
+
+seen_part : (v : VerifiedPlan) (input : List ℕ) (before after : Option (List ℕ))
+    → IsPartAnswered DriveAnswer the_ends (drive_start v) input before after → IsPartAnswered (CellAnswers v.planned) (CellEnds v.planned) (undriven v.planned) input before after
+seen_part v input before after part =
+    let answers = seen_answers v.planned part.told (drive_start v) part.state 1 part.text refl part.are_answers in
+    let same_plan = ap (λ (w : VerifiedPlan). w.planned) answers.1 in
+    record {
+      told = part.told;
+      rest = part.rest;
+      whole = part.whole;
+      text = part.text;
+      state = seen part.state;
+      are_answers = answers.0;
+      closing = part.closing;
+      is_end = elim part.is_end [
+        | inl none ↦ inl none
+        | inr ends ↦ inr (ends.0, seen_ends v.planned part.state part.closing same_plan ends.1)
+      ];
+      written = part.written;
+    }
+
+seen_written : (v : VerifiedPlan) (lines : List (Option (List ℕ))) (e : DriveState) (before after : Option (List ℕ))
+    → AreAnswered DriveAnswer (drive_start v) lines e before after → WereAnswersWritten v.planned lines before after
+seen_written v lines e before after all =
+    (all.text, seen e, (seen_answers v.planned lines (drive_start v) e 1 all.text refl all.are_answers).0, all.written)
+
+-- it was broken off
+off : {T : Type 0} (v : VerifiedPlan) (fault : DriveFault) (e : DriveState) (read_failed write_failed : Bool) (left_before left_after before after : Option (List ℕ))
+    → IsStreamed {T = T} (Err fault) DriveAnswer the_ends (drive_start v) e read_failed left_before left_after write_failed before after
+    → (input : List ℕ) × Consumes left_before left_after input × IsBrokenOff fault v.planned input read_failed write_failed before after
+off v Read e read_failed write_failed left_before left_after before after streamed =
+    let told = streamed.comes_to in (streamed.input, streamed.was_read, (told.0, told.1, seen_written v _ e before after told.2))
+off v Write e read_failed write_failed left_before left_after before after streamed =
+    let told = streamed.comes_to in (streamed.input, streamed.was_read, (told.0, seen_part v streamed.input before after told.1))
+off v InputTooLong e read_failed write_failed left_before left_after before after streamed =
+    let told = streamed.comes_to in (streamed.input, streamed.was_read, (told.0, seen_written v _ e before after told.1))
+off v Memory e read_failed write_failed left_before left_after before after streamed = absurd streamed.comes_to
+
+pub broken_off : {T : Type 0} (v : VerifiedPlan) (fault : DriveFault) (s e : DriveState) (read_failed write_failed : Bool) (left_before left_after before after : Option (List ℕ)) → s ≡ drive_start v
+    → IsStreamed {T = T} (Err fault) DriveAnswer the_ends s e read_failed left_before left_after write_failed before after
+    → (input : List ℕ) × Consumes left_before left_after input × IsBrokenOff fault v.planned input read_failed write_failed before after
+broken_off {T} v fault s e read_failed write_failed left_before left_after before after at_first streamed =
+    off v fault e read_failed write_failed left_before left_after before after
+    (subst (λ d. IsStreamed {T = T} (Err fault) DriveAnswer the_ends d e read_failed left_before left_after write_failed before after) at_first streamed)
+
+-- what is said of a driven cell is said of the plan that it was made of
+pub of_plan : (v : VerifiedPlan) (e : DriveState) (entries : List Entry) (is_done : Bool) (last left : ℕ) → IsDriven e → e.control.plan ≡ v → entries ≡ e.log.entries → IsSoFar e.control.plan.planned e.log.entries is_done last left
+    → IsRunOf v.planned entries × IsSoFar v.planned entries is_done last left × NeverWentWrong v entries
+of_plan v e entries is_done last left driven plan_is entries_are sofar =
+    let wrong : NeverWentWrong e.control.plan e.log.entries = never_went_wrong e.control.plan driven.reports e.log.entries e.control.cell driven.verified driven.run in
+    let here : IsRunOf e.control.plan.planned e.log.entries × IsSoFar e.control.plan.planned e.log.entries is_done last left × NeverWentWrong e.control.plan e.log.entries = (run_of e driven, sofar, wrong) in
+    subst (λ l. IsRunOf v.planned l × IsSoFar v.planned l is_done last left × NeverWentWrong v l) (sym entries_are)
+    (subst (λ w. IsRunOf w.planned e.log.entries × IsSoFar w.planned e.log.entries is_done last left × NeverWentWrong w e.log.entries) plan_is here)

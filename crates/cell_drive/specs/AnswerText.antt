@@ -1,0 +1,43 @@
+-- The answer text of an input: what a cell answers to its lines, one after another, from its start.
+use Rattle.std.specs.Prelude.{◌≡◌, ℕ, List, [], ◌++◌, Option, ◌⊎◌}
+use Rattle.shop_base.specs.Plan.{PlannedShop}
+use Rattle.shop_base.specs.Cell.{Cell, start}
+use Rattle.shop_base.specs.Ends.{HasEnded}
+use Rattle.shop_base.specs.ReportsLeft.{reports_left}
+use Rattle.run_log.specs.declared.entry.Entry.{Entry}
+use Rattle.cell_drive.specs.Lines.{input_lines}
+use Rattle.cell_drive.specs.Answering.{AnswerAll}
+use Rattle.cell_drive.specs.AnswerLines.{done_line, unfinished_line}
+use Rattle.cell_drive.specs.DrivenLines.{LineAnswer}
+
+-- a cell, and what was accepted and ordered in it
+pub record DrivenCell : Type 0 where
+  pub cell : Cell
+  pub entries : List Entry
+
+-- before the first line: the start of the cell, and no events
+abbrev pub undriven : PlannedShop → DrivenCell
+undriven p = record { cell = start p; entries = [] }
+
+-- the line of this number is answered by this text, which leads to another cell with more events
+pub record CellAnswers (p : PlannedShop) (before : DrivenCell) (number : ℕ) (line : Option (List ℕ)) (text : List ℕ) (next : DrivenCell) : Type 0 where
+  pub more : List Entry
+  pub answer : LineAnswer p before.cell number line text more next.cell
+  pub entries : next.entries ≡ before.entries ++ more
+
+-- the line behind the last answer: the run is done, or so many reports are left
+abbrev pub CellEnds : PlannedShop → DrivenCell → List ℕ → Type 0
+CellEnds p end text =
+    (HasEnded p end.cell × (text ≡ done_line end.cell.last)) ⊎ ((HasEnded p end.cell → ⊥) × (text ≡ unfinished_line (reports_left p end.cell)))
+
+-- the first lines of an input are answered by this text
+abbrev pub AreAnswersTo : PlannedShop → List (Option (List ℕ)) → List ℕ → DrivenCell → Type 0
+AreAnswersTo p lines text end = AnswerAll (CellAnswers p) (undriven p) 1 lines text end
+
+-- the answer text of an input: the answers to its lines, in order, and the line behind them
+pub record IsAnswerText (p : PlannedShop) (input text : List ℕ) (end : DrivenCell) : Type 0 where
+  pub answers : List ℕ
+  pub are_answers : AreAnswersTo p (input_lines input) answers end
+  pub closing : List ℕ
+  pub is_end : CellEnds p end closing
+  pub whole : text ≡ answers ++ closing

@@ -1,0 +1,51 @@
+-- A cell that is driven.
+use Rattle.std.specs.Prelude.{◌≡◌, ℕ, ◌*◌, List, [], ◌∷◌, Option, ◌⊎◌}
+use Rattle.shop_base.specs.Report.{Report}
+use Rattle.shop_base.specs.Run.{Event, Reported, Moved}
+use Rattle.shop_base.specs.Controlled.{IsControlledRun}
+use Rattle.shop_base.specs.Ends.{HasEnded, stated_number, reports_in}
+use Rattle.shop_base.specs.ReportsLeft.{reports_left}
+use Rattle.plan_verifier.specs.Accepted.{VerifiedPlan, IsVerified}
+use Rattle.cell_control.specs.Control.{Control, at_start}
+use Rattle.cell_control.specs.Reports.{said}
+use Rattle.run_log.specs.declared.entry.Entry.{Entry}
+use Rattle.run_log.specs.declared.entry.Entry.TheVariants.{Report as ReportEntry, Order as OrderEntry}
+use Rattle.run_log.specs.Log.{Noted, Notes}
+use Rattle.cell_drive.specs.AnswerLines.{done_line, unfinished_line}
+use Rattle.cell_drive.specs.DrivenLines.{LineAnswer}
+
+-- its controller, and the log of what was accepted and ordered
+pub record DriveState : Type 0 where
+  pub control : Control
+  pub log : Noted
+
+-- before the first line
+abbrev pub drive_start : VerifiedPlan → DriveState
+drive_start v = record { control = at_start v; log = record { entries = []; reserved = 2 * stated_number v.planned } }
+
+-- the entries of a log as events
+abbrev pub events_of : List Entry → List Event
+events_of [] = []
+events_of (ReportEntry report ∷ entries) = Reported (said report) ∷ events_of entries
+events_of (OrderEntry order ∷ entries) = Moved order ∷ events_of entries
+
+-- the log has the controlled run of some reports, which leads to the controller's cell, and room for the rest of it
+pub record IsDriven (s : DriveState) : Type 0 where
+  pub verified : IsVerified s.control.plan
+  pub reports : List Report
+  pub run : IsControlledRun s.control.plan.planned reports (events_of s.log.entries) s.control.cell
+  pub accepted : reports_in (events_of s.log.entries) ≡ s.control.accepted
+  pub reserved : s.log.reserved ≡ 2 * stated_number s.control.plan.planned
+
+-- the line of this number is answered by this text, by the cell and into the log
+pub record DriveAnswer (start : DriveState) (number : ℕ) (line : Option (List ℕ)) (text : List ℕ) (end : DriveState) : Type 0 where
+  pub entries : List Entry
+  pub answer : LineAnswer start.control.plan.planned start.control.cell number line text entries end.control.cell
+  pub plan : end.control.plan ≡ start.control.plan
+  pub log : Notes start.log end.log entries
+
+-- the line behind the last answer: the run is done, or so many reports are left
+abbrev pub ControlEnds : Control → List ℕ → Type 0
+ControlEnds s text =
+    (HasEnded s.plan.planned s.cell × (text ≡ done_line s.cell.last))
+    ⊎ ((HasEnded s.plan.planned s.cell → ⊥) × (text ≡ unfinished_line (reports_left s.plan.planned s.cell)))

@@ -1,0 +1,121 @@
+//! A cell that is driven by lines: its controller, and the log of what was accepted and ordered.
+
+ghost use Rattle.std.specs.Prelude.{◌≡◌, ◌+◌, ◌≤◌, ◌∷◌, Some, length, map, IfOk, IfErr};
+ghost use Rattle.cell_control.specs.Control.{IsAnswered};
+ghost use Rattle.cell_control.specs.Reports.{said, IsFirstReason};
+ghost use Rattle.run_log.specs.Log.{Notes};
+ghost use Rattle.cell_drive.specs.Answering.{WasAnswered, WasEnded};
+ghost use Rattle.cell_drive.specs.Driven.{IsDriven, DriveAnswer, ControlEnds};
+
+use crate::accepted_lines::put_accepted;
+use crate::answer_lines::{done_line, refused_line, unfinished_line};
+use crate::input_lines::report_of;
+use crate::line_handler::LineHandler;
+use cell_control::{Ack, Controller, Dues, Report, ReportFault};
+use run_log::{Entry, RunLog, Sink, WriteFault, put_all};
+use shop_base::MoveOrder;
+use std::marker::Model;
+
+/// The controller of a cell, and its log.
+#[derive(Drop)]
+pub(crate) struct Driven<D: Dues> {
+    pub controller: Controller<D>,
+    pub log: RunLog,
+}
+
+impl<D: Dues> Model for Driven<D> {
+    ghost use Rattle.cell_drive.specs.Driven.{DriveState, IsDriven};
+
+    ghost Value = { DriveState };
+
+    ghost view = { λ d. record { control = d.controller; log = d.log } };
+
+    ghost invariant = { λ d. IsDriven (record { control = d.controller; log = d.log }) };
+}
+
+/// Notes an accepted report and the moves that it released.
+fn note(log: &mut RunLog, report: Report, orders: &[MoveOrder])
+    requires { length log.old.entries + (1 + length orders.now) ≤ log.old.reserved }
+    ensures { Notes log.old log.new (Entry.Report report ∷ map Entry.Order orders.now) }
+{
+    log.note_report(report).unwrap();
+    log.note_orders(orders).unwrap();
+}
+
+/// Takes a report. Where it is accepted, it is noted with the moves that it releases.
+fn take_report<D: Dues>(
+    controller: &mut Controller<D>,
+    log: &mut RunLog,
+    report: Report,
+) -> Result<Ack, ReportFault>
+    requires { IsDriven (record { control = controller.old; log = log.old }) }
+    ensures driven { IsDriven (record { control = controller.new; log = log.new }) }
+    ensures accepted { IfOk result (λ ack. IsAnswered controller.old (said report) ack controller.new
+        × Notes log.old log.new (Entry.Report report ∷ map Entry.Order controller.new.orders)) }
+    ensures refused { IfErr result (λ reason. IsFirstReason controller.old.plan.planned controller.old.cell (said report) reason
+        × (controller.new ≡ controller.old) × (log.new ≡ log.old)) }
+{
+    let ack = controller.report(report)?;
+    note(log, report, controller.orders());
+    Ok(ack)
+}
+
+fn answer_line<D: Dues, W: Sink>(
+    controller: &mut Controller<D>,
+    log: &mut RunLog,
+    number: u64,
+    line: &[u8],
+    writer: &mut W,
+) -> Result<(), WriteFault>
+    requires { IsDriven (record { control = controller.old; log = log.old }) }
+    ensures driven { IsDriven (record { control = controller.new; log = log.new }) }
+    ensures answered { WasAnswered DriveAnswer (record { control = controller.old; log = log.old }) number (Some line.now)
+        (record { control = controller.new; log = log.new }) result (W.failed writer.new) (W.taken writer.old) (W.taken writer.new) }
+{
+    if line.is_empty() {
+        return Ok(());
+    }
+    let Some(report) = report_of(line) else {
+        return put_all(writer, refused_line(number, b"BadLine").bytes());
+    };
+    match take_report(controller, log, report) {
+        Ok(ack) => put_accepted(report, ack.late, report.at(), controller.orders(), writer),
+        Err(reason) => put_all(writer, refused_line(number, reason.name().as_bytes()).bytes()),
+    }
+}
+
+/// Writes whether the run is done, and when, or how many reports are left.
+fn put_end<D: Dues, W: Sink>(controller: &Controller<D>, writer: &mut W) -> Result<(), WriteFault>
+    ensures { WasEnded ControlEnds controller.now result (W.failed writer.new) (W.taken writer.old) (W.taken writer.new) }
+{
+    if controller.is_done() {
+        put_all(writer, done_line(controller.now()).bytes())
+    } else {
+        put_all(writer, unfinished_line(controller.reports_left()).bytes())
+    }
+}
+
+impl<D: Dues> LineHandler for Driven<D> {
+    ghost use Rattle.cell_drive.specs.Driven.{DriveAnswer, ControlEnds};
+
+    ghost answers = { DriveAnswer };
+
+    ghost ends = { λ s. ControlEnds s.control };
+
+    fn answer<W: Sink>(
+        &mut self,
+        number: u64,
+        line: &[u8],
+        writer: &mut W,
+    ) -> Result<(), WriteFault> {
+        answer_line(&mut self.controller, &mut self.log, number, line, writer)
+    }
+
+    fn answer_long<W: Sink>(&mut self, number: u64, writer: &mut W) -> Result<(), WriteFault> {
+        put_all(writer, refused_line(number, b"LongLine").bytes())
+    }
+
+    fn end<W: Sink>(&self, writer: &mut W) -> Result<(), WriteFault> {
+        put_end(&self.controller, writer)
+    }
+}

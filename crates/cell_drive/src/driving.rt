@@ -1,0 +1,89 @@
+//! A run that is driven from its start to the end of its input.
+
+ghost use Rattle.std.specs.Prelude.{◌≡◌, ℕ, List, ◌↔◌, IfOk, IfErr, IsTrue, Err};
+ghost use Rattle.std.specs.Io.KnownBytes.{Consumes};
+ghost use Rattle.shop_base.specs.Ends.{HasEnded};
+ghost use Rattle.shop_base.specs.ReportsLeft.{reports_left};
+ghost use Rattle.cell_drive.specs.Driven.{IsDriven, drive_start};
+ghost use Rattle.cell_drive.specs.Driving.{IsDrivenThrough, IsBrokenOff, IsRunOf, IsSoFar, NeverWentWrong};
+
+use crate::drive_fault::DriveFault;
+use crate::driven::Driven;
+use crate::source::Source;
+use crate::streaming::stream;
+use cell_control::{Controller, TourneyDues};
+use plan_verifier::Verified;
+use run_log::{RunLog, Sink};
+use shop_base::Moment;
+use std::alloc::{AllocError, Global};
+
+/// What a driven run has come to at the end of its input.
+#[derive(Debug, Drop)]
+pub struct DriveEnd {
+    /// Whether the run has ended: all jobs are gone, and no machine is being cleaned.
+    pub done: bool,
+    /// The moment of the last accepted report, 0 before the first.
+    pub last: Moment,
+    /// How many reports are still to come.
+    pub left: u64,
+    /// What was accepted and ordered.
+    pub log: RunLog,
+    /// The plan.
+    pub verified: Verified,
+}
+
+/// The cell of an accepted plan before the first report, and an empty log.
+fn start(alloc: Global, verified: Verified) -> Result<Driven<TourneyDues>, AllocError>
+    ensures { IfOk result (λ driven. driven ≡ drive_start verified) }
+{
+    let log = RunLog::for_run(alloc, &verified)?;
+    match Controller::new(alloc, verified) {
+        Ok(controller) => Ok(Driven { controller, log }),
+        Err((error, _)) => Err(error),
+    }
+}
+
+/// What the run has come to.
+fn end_of(driven: Driven<TourneyDues>) -> DriveEnd
+    ensures log { result.log ≡ driven.log }
+    ensures plan { result.verified ≡ driven.control.plan }
+    ensures driven { IsDriven driven }
+    ensures so_far { IsSoFar driven.control.plan.planned driven.log.entries result.done result.last result.left }
+{
+    let Driven { controller, log } = driven;
+    DriveEnd {
+        done: controller.is_done(),
+        last: controller.now(),
+        left: controller.reports_left(),
+        log,
+        verified: controller.into_verified(),
+    }
+}
+
+/// Drives the cell of an accepted plan: takes a report from each line of input, and writes the moves that it
+/// releases before the next line is answered.
+///
+/// All memory is taken before the first byte is read. After a fault the plan is gone.
+pub fn drive<R: Source, W: Sink>(
+    alloc: Global,
+    verified: Verified,
+    reader: &mut R,
+    writer: &mut W,
+) -> Result<DriveEnd, DriveFault>
+    ensures through { IfOk result (λ end. IsDrivenThrough verified.planned end.log.entries (R.left reader.old) (R.left reader.new) (W.taken writer.old) (W.taken writer.new)) }
+    ensures run { IfOk result (λ end. IsRunOf verified.planned end.log.entries) }
+    ensures so_far { IfOk result (λ end. IsSoFar verified.planned end.log.entries end.done end.last end.left) }
+    ensures promised { IfOk result (λ end. NeverWentWrong verified end.log.entries) }
+    ensures plan { IfOk result (λ end. end.verified ≡ verified) }
+    ensures broken_off { IfErr result (λ fault. (input : List ℕ) × Consumes (R.left reader.old) (R.left reader.new) input
+        × IsBrokenOff fault verified.planned input (R.failed reader.new) (W.failed writer.new) (W.taken writer.old) (W.taken writer.new)) }
+    ensures untouched { result ≡ Err DriveFault.Memory → (reader.new ≡ reader.old) × (writer.new ≡ writer.old) }
+{
+    let Ok(mut driven) = start(alloc, verified) else {
+        return Err(DriveFault::Memory);
+    };
+    match stream(&mut driven, reader, writer) {
+        Ok(()) => Ok(end_of(driven)),
+        Err(fault) => Err(fault),
+    }
+}
