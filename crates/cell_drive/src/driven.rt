@@ -80,7 +80,10 @@ fn answer_line<D: Dues, W: Sink>(
     };
     match take_report(controller, log, report) {
         Ok(ack) => put_accepted(report, ack.late, report.at(), controller.orders(), writer),
-        Err(reason) => put_all(writer, refused_line(number, reason.name().as_bytes()).bytes()),
+        Err(reason) => put_all(
+            writer,
+            refused_line(number, reason.name().as_bytes()).bytes(),
+        ),
     }
 }
 

@@ -1,5 +1,8 @@
 ghost use Rattle.std.specs.Prelude.{◌≡◌};
 
+mod cells;
+mod driving;
+
 use super::*;
 use cell_control::Report;
 use run_log::{IntoSink, Sink, WriteFault, put_all};
@@ -7,6 +10,9 @@ use std::cell::Cell;
 use std::io::{self, ErrorKind, Read, Write};
 use std::process::Abort;
 use std::test::Fail;
+
+/// How much the writer takes at most.
+const ROOM: usize = 512;
 
 /// Answers a line by its number's last digit, its bytes and a bar, an empty line by nothing, and ends by a full stop.
 #[derive(Drop)]
@@ -69,7 +75,7 @@ impl Read for PieceReader<'_> {
 /// Takes one byte a call, and fails once so many calls were made: with an error, or by taking nothing.
 #[derive(Drop)]
 struct OneByteWriter<'a> {
-    bytes: [u8; 128],
+    bytes: [u8; ROOM],
     written: &'a Cell<usize>,
     calls_left: usize,
     takes_nothing: bool,
@@ -78,7 +84,7 @@ struct OneByteWriter<'a> {
 impl Write for OneByteWriter<'_> {
     fn write(&mut self, buf: &[u8]) -> io::Result<usize> {
         let count = self.written.get();
-        if self.calls_left == 0 || count >= 128 || buf.is_empty() {
+        if self.calls_left == 0 || count >= ROOM || buf.is_empty() {
             if self.takes_nothing {
                 return Ok(0);
             }
@@ -103,7 +109,7 @@ fn streamed(
     reads: usize,
     writes: usize,
     takes_nothing: bool,
-) -> (Result<(), DriveFault>, [u8; 128], usize, usize) {
+) -> (Result<(), DriveFault>, [u8; ROOM], usize, usize) {
     let written = Cell::new(0);
     let mut reader = FromRead::new(PieceReader {
         bytes: input,
@@ -113,7 +119,7 @@ fn streamed(
         written_at_last: 0,
     });
     let mut writer = IntoSink::new(OneByteWriter {
-        bytes: [0; 128],
+        bytes: [0; ROOM],
         written: &written,
         calls_left: writes,
         takes_nothing,
@@ -123,8 +129,8 @@ fn streamed(
     (result, writer.into_inner().bytes, written.get(), at_last)
 }
 
-fn is_text(written: &[u8; 128], count: usize, text: &[u8]) -> bool {
-    count <= 128 && &written[..count] == text
+fn is_text(written: &[u8; ROOM], count: usize, text: &[u8]) -> bool {
+    count <= ROOM && &written[..count] == text
 }
 
 const INPUT: &[u8] = b"ab\n\ncd\r\ne\r\r\nlast\r";
@@ -236,7 +242,7 @@ fn an_input_has_so_many_bytes_at_most(rt: HostRuntime) -> Result<(), Fail> {
         let written = Cell::new(0);
         let mut reader = FromRead::new(LongLine(count));
         let mut writer = IntoSink::new(OneByteWriter {
-            bytes: [0; 128],
+            bytes: [0; ROOM],
             written: &written,
             calls_left: 100,
             takes_nothing: false,

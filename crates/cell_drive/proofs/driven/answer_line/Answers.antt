@@ -20,5 +20,5 @@ pub returns-in-Err-clause-answered : goal.returns-in-Err-clause-answered
 returns-in-Err-clause-answered g c =
     was_answered _ _ _ _ _ _ _ _ _
     (answer_refused _ _ _ _ _ c.in-Some.report c.in-Err.reason c.in-Some.ensures c.in-Err.ensures.refused
-    (c.bytes-in-Err.ensures ∙ c.refused_line-in-Err.ensures ∙ ap (refused_line c.args.number) c.reason_name.ensures.name))
+    (c.bytes-in-Err.ensures ∙ c.refused_line-in-Err.ensures ∙ ap (refused_line c.args.number) (c.as_bytes.ensures.value ∙ c.name.ensures)))
     c.put_all-in-Err.ensures.wrote
