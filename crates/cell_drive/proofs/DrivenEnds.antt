@@ -17,7 +17,9 @@ use Rattle.cell_drive.specs.Streams.{AreAnswered, IsPartAnswered, IsStreamed}
 use Rattle.cell_drive.specs.DrivenLines.{LineAnswer}
 use Rattle.cell_drive.specs.Driven.{DriveState, IsDriven, DriveAnswer, ControlEnds, drive_start, events_of}
 use Rattle.cell_drive.specs.AnswerText.{DrivenCell, undriven, CellAnswers, CellEnds, AreAnswersTo}
-use Rattle.cell_drive.specs.Driving.{cell_after, IsDrivenThrough, WereAnswersWritten, IsBrokenOff, IsRunOf, IsSoFar, NeverWentWrong}
+use Rattle.cell_drive.specs.Driving.{cell_after, IsDrivenThrough, WereAnswersWritten, IsBrokenOff, IsRunOf, IsSoFar, HasRoom, NeverWentWrong}
+use Rattle.run_log.specs.Log.{Noted}
+use Rattle.cell_drive.proofs.DrivenRuns.{driven-has_room}
 use Rattle.cell_drive.proofs.PromisesKept.{never_went_wrong}
 
 -- the cell and the log of a driven cell
@@ -153,6 +155,10 @@ broken_off {T} v fault s e read_failed write_failed left_before left_after befor
     (subst (λ d. IsStreamed {T = T} (Err fault) DriveAnswer the_ends d e read_failed left_before left_after write_failed before after) at_first streamed)
 
 -- what is said of a driven cell is said of the plan that it was made of
+pub room_of : (v : VerifiedPlan) (e : DriveState) (log : Noted) → IsDriven e → e.control.plan ≡ v → log ≡ e.log → HasRoom v.planned log
+room_of v e log driven plan_is log_is =
+    subst (λ (l : Noted). HasRoom v.planned l) (sym log_is) (subst (λ (w : VerifiedPlan). HasRoom w.planned e.log) plan_is (driven-has_room e driven))
+
 pub of_plan : (v : VerifiedPlan) (e : DriveState) (entries : List Entry) (is_done : Bool) (last left : ℕ) → IsDriven e → e.control.plan ≡ v → entries ≡ e.log.entries → IsSoFar e.control.plan.planned e.log.entries is_done last left
     → IsRunOf v.planned entries × IsSoFar v.planned entries is_done last left × NeverWentWrong v entries
 of_plan v e entries is_done last left driven plan_is entries_are sofar =

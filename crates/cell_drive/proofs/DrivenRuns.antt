@@ -17,6 +17,7 @@ use Rattle.cell_control.specs.Reports.{said}
 use Rattle.run_log.specs.declared.entry.Entry.{Entry}
 use Rattle.run_log.specs.declared.entry.Entry.TheVariants.{Report as ReportEntry, Order as OrderEntry}
 use Rattle.run_log.specs.Log.{Noted, Notes}
+use Rattle.cell_drive.specs.Driving.{HasRoom}
 use Rattle.cell_drive.specs.Driven.{DriveState, drive_start, events_of, IsDriven}
 
 events-append : (xs ys : List Entry) → events_of (xs ++ ys) ≡ events_of xs ++ events_of ys
@@ -55,6 +56,16 @@ starts_driven v control log verified at_first none =
     let nothing : IsDriven (drive_start v) = record { verified = verified; reports = []; run = done (start v.planned); accepted = refl; reserved = refl } in
     subst (λ (l : Noted). IsDriven (record { control = control; log = l })) (sym none)
     (subst (λ (k : Control). IsDriven (record { control = k; log = record { entries = []; reserved = 2 * stated_number v.planned } })) (sym at_first) nothing)
+
+-- its log has room
+pub driven-has_room : (s : DriveState) → IsDriven s → HasRoom s.control.plan.planned s.log
+driven-has_room s driven =
+    let p = s.control.plan.planned in
+    let shaped = driven.verified.schedule.shaped in
+    let reports = (ends_on_the_stated_number-holds p driven.reports (events_of s.log.entries) s.control.cell shaped driven.run).0 in
+    let moves = orders_never_outnumber_reports-holds p driven.reports (events_of s.log.entries) s.control.cell shaped driven.run in
+    let reserved = driven.reserved in
+    record { reserved = reserved; fits = omega (arith, reports, moves, reserved, length-events s.log.entries, length-counts (events_of s.log.entries)) }
 
 module _ (s : DriveState) (report : told.Report) (ack : Ack) (after : Control) (driven : IsDriven s) (answered : IsAnswered s.control (said report) ack after) where
   abbrev p : PlannedShop

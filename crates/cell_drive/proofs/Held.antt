@@ -1,8 +1,7 @@
 -- What is held of a line, and which lines end, piece after piece.
-use Rattle.std.proofs.Common.{◌≡◌, ℕ, zero, suc, ◌+◌, ◌-◌, ◌<◌, ◌≤◌, Bool, true, false, cond, List, [], ◌∷◌, ◌++◌, Option, Some, None, length, take, drop, refl, sym, ap, ◌∙◌, arith, append_assoc, append-nil, length-append, leb, subst}
+use Rattle.std.proofs.Common.{◌≡◌, ℕ, ◌-◌, ◌<◌, ◌≤◌, Bool, true, false, List, [], ◌∷◌, ◌++◌, Option, Some, None, length, refl, sym, ap, ◌∙◌, arith, append_assoc, append-nil, length-append, leb}
 use Rattle.std.proofs.lemmas.Bool.{le-leb, lt-leb, leb-true, leb-false}
-use Rattle.text_lines.specs.Lines.{is_line_feed, without_return}
-use Rattle.cell_drive.specs.Lines.{within_limit}
+use Rattle.text_lines.specs.Lines.{is_line_feed}
 use Rattle.text_lines.specs.Cuts.{HasNone}
 use Rattle.cell_drive.specs.Holding.{joined, held_line, ended, held_after}
 

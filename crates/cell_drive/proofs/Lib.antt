@@ -10,3 +10,6 @@ pub mod DrivenRuns
 pub mod DrivenAnswers
 pub mod PromisesKept
 pub mod DrivenEnds
+pub mod OneReport
+pub mod OneReason
+pub mod OneText

@@ -1,14 +1,12 @@
 -- The lines that end in a piece, answered one after another.
-use Rattle.std.proofs.Common.{◌≡◌, ℕ, ◌+◌, ◌-◌, ◌<◌, ◌≤◌, List, [], ◌∷◌, ◌++◌, Bool, true, Option, Some, None, Result, Ok, Err, length, take, drop, refl, sym, ap, ◌∙◌, arith, append_assoc, append-nil, length-append, subst, take-append-drop}
+use Rattle.std.proofs.Common.{◌≡◌, ℕ, ◌+◌, List, [], ◌∷◌, ◌++◌, Bool, true, Option, Some, Ok, Err, length, refl, sym, ap, ◌∙◌, arith, append_assoc, append-nil, length-append, subst}
 use Rattle.std.specs.Io.KnownBytes.{Appends}
 use Rattle.std.proofs.KnownBytes.{Appends-nil, Appends-trans}
-use Rattle.run_log.specs.Sinks.{AllBut, TookPart, Wrote}
-use Rattle.cell_drive.specs.declared.drive_fault.DriveFault.{DriveFault}
-use Rattle.cell_drive.specs.declared.drive_fault.DriveFault.TheVariants.{Read, Write, InputTooLong, Memory}
+use Rattle.run_log.specs.Sinks.{TookPart}
 use Rattle.text_lines.specs.Cuts.{HasNone, IsCutAt}
 use Rattle.cell_drive.specs.Holding.{joined, held_line, ended, held_after}
 use Rattle.cell_drive.specs.Answering.{AnswerAll, WasAnswered, WereAnswered}
-use Rattle.cell_drive.specs.Reading.{IsPieceAnswered, IsPartTold, IsTaken}
+use Rattle.cell_drive.specs.Reading.{IsPieceAnswered, IsPartTold}
 use Rattle.cell_drive.proofs.Held.{ended-first, held_after-first, ended-none, held_after-none, ended-append}
 use Rattle.cell_drive.proofs.Told.{AnswerAll-append, AnswerAll-one}
 

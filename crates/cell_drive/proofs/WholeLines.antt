@@ -1,9 +1,9 @@
 -- The lines of a whole input, and those that have ended in it.
-use Rattle.std.proofs.Common.{◌≡◌, ℕ, suc, ◌+◌, ◌-◌, ◌<◌, ◌≤◌, Bool, true, false, cond, List, [], ◌∷◌, ◌++◌, Option, Some, None, length, take, map, filter, refl, sym, ap, ◌∙◌, arith, append_assoc, append-nil, length-append, leb, nat_eq, length-take-le}
+use Rattle.std.proofs.Common.{◌≡◌, ℕ, suc, ◌+◌, ◌-◌, ◌<◌, ◌≤◌, cond, List, [], ◌∷◌, ◌++◌, Option, Some, None, length, take, map, filter, refl, sym, ap, ◌∙◌, arith, append_assoc, append-nil, length-append, leb, nat_eq, length-take-le}
 use Rattle.std.specs.List.{onto_first, ends_with}
 use Rattle.std.proofs.Math.Seq.{take-append_seam}
 use Rattle.std.proofs.lemmas.Bool.{le-leb, lt-leb, leb-true, leb-false}
-use Rattle.text_lines.specs.Lines.{is_line_feed, parts_of, without_return, lines_of}
+use Rattle.text_lines.specs.Lines.{is_line_feed, parts_of, without_return}
 use Rattle.cell_drive.specs.Lines.{within_limit, input_lines, complete_lines}
 use Rattle.cell_drive.specs.Holding.{joined, held_line, ended, held_after}
 use Rattle.cell_drive.specs.Reading.{last_line}

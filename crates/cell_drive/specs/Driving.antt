@@ -1,5 +1,5 @@
 -- What driving a cell comes to.
-use Rattle.std.specs.Prelude.{◌≡◌, ℕ, ◌+◌, ◌<◌, ◌≤◌, ◌↔◌, ◌⊎◌, List, [], ◌∷◌, ◌++◌, length, take, Option, Bool, true, IsTrue}
+use Rattle.std.specs.Prelude.{◌≡◌, ℕ, ◌+◌, ◌*◌, ◌<◌, ◌≤◌, ◌↔◌, ◌⊎◌, List, [], ◌∷◌, ◌++◌, length, take, Option, Bool, true, IsTrue}
 use Rattle.std.specs.Io.KnownBytes.{Appends, Consumes, IsAtEnd}
 use Rattle.shop_base.specs.Plan.{PlannedShop, jobs}
 use Rattle.shop_base.specs.Cell.{Cell, start}
@@ -13,6 +13,7 @@ use Rattle.shop_base.specs.Ends.{stated_number, reports_in, HasEnded, IsInTime}
 use Rattle.shop_base.specs.KeptMoments.{KeepsLeaving}
 use Rattle.plan_verifier.specs.Accepted.{VerifiedPlan, kept_at}
 use Rattle.run_log.specs.declared.entry.Entry.{Entry}
+use Rattle.run_log.specs.Log.{Noted}
 use Rattle.cell_drive.specs.declared.drive_fault.DriveFault.{DriveFault}
 use Rattle.cell_drive.specs.declared.drive_fault.DriveFault.TheVariants.{Read, Write, InputTooLong, Memory}
 use Rattle.cell_drive.specs.Lines.{complete_lines}
@@ -51,6 +52,11 @@ IsBrokenOff Memory p input read_failed write_failed before after = (input ≡ []
 -- the events are the controlled run of some reports by the plan, which leads to the cell after them
 abbrev pub IsRunOf : PlannedShop → List Entry → Type 0
 IsRunOf p entries = (reports : List Report) × IsControlledRun p reports (events_of entries) (cell_after p entries)
+
+-- the log has reserved two entries for each report of the stated number, and has no more
+pub record HasRoom (p : PlannedShop) (log : Noted) : Type 0 where
+  pub reserved : log.reserved ≡ 2 * stated_number p
+  pub fits : length log.entries ≤ log.reserved
 
 -- how far the run is: it is done just where the cell's run has ended, and just where as many reports were accepted as the stated number; the rest of that number is left
 pub record IsSoFar (p : PlannedShop) (entries : List Entry) (done : Bool) (last left : ℕ) : Type 0 where

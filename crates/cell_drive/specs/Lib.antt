@@ -10,3 +10,4 @@ pub mod DrivenLines
 pub mod Driven
 pub mod AnswerText
 pub mod Driving
+pub mod OneTextLaw

@@ -1,5 +1,5 @@
 -- The lines of an input text, as they are answered.
-use Rattle.std.specs.Prelude.{ℕ, nat_le, if◌then◌else◌, List, [], ◌∷◌, length, map, filter, take, Option, None, Some}
+use Rattle.std.specs.Prelude.{ℕ, nat_le, if◌then◌else◌, List, length, map, filter, take, Option, None, Some}
 use Rattle.text_lines.specs.Lines.{is_line_feed, lines_of}
 
 -- a line as it is answered: its bytes, or none where it is too long

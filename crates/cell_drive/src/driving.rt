@@ -5,7 +5,7 @@ ghost use Rattle.std.specs.Io.KnownBytes.{Consumes};
 ghost use Rattle.shop_base.specs.Ends.{HasEnded};
 ghost use Rattle.shop_base.specs.ReportsLeft.{reports_left};
 ghost use Rattle.cell_drive.specs.Driven.{IsDriven, drive_start};
-ghost use Rattle.cell_drive.specs.Driving.{IsDrivenThrough, IsBrokenOff, IsRunOf, IsSoFar, NeverWentWrong};
+ghost use Rattle.cell_drive.specs.Driving.{IsDrivenThrough, IsBrokenOff, IsRunOf, IsSoFar, HasRoom, NeverWentWrong};
 
 use crate::drive_fault::DriveFault;
 use crate::driven::Driven;
@@ -73,6 +73,7 @@ pub fn drive<R: Source, W: Sink>(
     ensures through { IfOk result (λ end. IsDrivenThrough verified.planned end.log.entries (R.left reader.old) (R.left reader.new) (W.taken writer.old) (W.taken writer.new)) }
     ensures run { IfOk result (λ end. IsRunOf verified.planned end.log.entries) }
     ensures so_far { IfOk result (λ end. IsSoFar verified.planned end.log.entries end.done end.last end.left) }
+    ensures never_full { IfOk result (λ end. HasRoom verified.planned end.log) }
     ensures promised { IfOk result (λ end. NeverWentWrong verified end.log.entries) }
     ensures plan { IfOk result (λ end. end.verified ≡ verified) }
     ensures broken_off { IfErr result (λ fault. (input : List ℕ) × Consumes (R.left reader.old) (R.left reader.new) input

@@ -9,6 +9,7 @@ mod driving;
 mod from_read;
 mod held_line;
 mod input_lines;
+pub mod laws;
 mod line_handler;
 mod pieces;
 mod source;

@@ -1,0 +1,8 @@
+use Rattle.cell_drive.proofs.OneText.{one_answer_text, one_text_for_lines}
+use Rattle.cell_drive.proofs.laws.one_answer_text.Goals as goal
+
+pub returns-clause-whole : goal.returns-clause-whole
+returns-clause-whole c = one_answer_text
+
+pub returns-clause-lines : goal.returns-clause-lines
+returns-clause-lines c = one_text_for_lines
