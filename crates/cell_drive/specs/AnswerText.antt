@@ -1,14 +1,11 @@
 -- The answer text of an input: what a cell answers to its lines, one after another, from its start.
-use Rattle.std.specs.Prelude.{◌≡◌, ℕ, List, [], ◌++◌, Option, ◌⊎◌}
+use Rattle.std.specs.Prelude.{◌≡◌, ℕ, List, [], ◌++◌, Option}
 use Rattle.shop_base.specs.Plan.{PlannedShop}
 use Rattle.shop_base.specs.Cell.{Cell, start}
-use Rattle.shop_base.specs.Ends.{HasEnded}
-use Rattle.shop_base.specs.ReportsLeft.{reports_left}
 use Rattle.run_log.specs.declared.entry.Entry.{Entry}
 use Rattle.cell_drive.specs.Lines.{input_lines}
 use Rattle.cell_drive.specs.Answering.{AnswerAll}
-use Rattle.cell_drive.specs.AnswerLines.{done_line, unfinished_line}
-use Rattle.cell_drive.specs.DrivenLines.{LineAnswer}
+use Rattle.cell_drive.specs.DrivenLines.{LineAnswer, IsEndLine}
 
 -- a cell, and what was accepted and ordered in it
 pub record DrivenCell : Type 0 where
@@ -25,10 +22,9 @@ pub record CellAnswers (p : PlannedShop) (before : DrivenCell) (number : ℕ) (l
   pub answer : LineAnswer p before.cell number line text more next.cell
   pub entries : next.entries ≡ before.entries ++ more
 
--- the line behind the last answer: the run is done, or so many reports are left
+-- the line behind the last answer
 abbrev pub CellEnds : PlannedShop → DrivenCell → List ℕ → Type 0
-CellEnds p end text =
-    (HasEnded p end.cell × (text ≡ done_line end.cell.last)) ⊎ ((HasEnded p end.cell → ⊥) × (text ≡ unfinished_line (reports_left p end.cell)))
+CellEnds p end = IsEndLine p end.cell
 
 -- the first lines of an input are answered by this text
 abbrev pub AreAnswersTo : PlannedShop → List (Option (List ℕ)) → List ℕ → DrivenCell → Type 0

@@ -1,18 +1,16 @@
 -- A cell that is driven.
-use Rattle.std.specs.Prelude.{◌≡◌, ℕ, ◌*◌, List, [], ◌∷◌, Option, ◌⊎◌}
+use Rattle.std.specs.Prelude.{◌≡◌, ℕ, ◌*◌, List, [], ◌∷◌, Option}
 use Rattle.shop_base.specs.Report.{Report}
 use Rattle.shop_base.specs.Run.{Event, Reported, Moved}
 use Rattle.shop_base.specs.Controlled.{IsControlledRun}
-use Rattle.shop_base.specs.Ends.{HasEnded, stated_number, reports_in}
-use Rattle.shop_base.specs.ReportsLeft.{reports_left}
+use Rattle.shop_base.specs.Ends.{stated_number, reports_in}
 use Rattle.plan_verifier.specs.Accepted.{VerifiedPlan, IsVerified}
 use Rattle.cell_control.specs.Control.{Control, at_start}
 use Rattle.cell_control.specs.Reports.{said}
 use Rattle.run_log.specs.declared.entry.Entry.{Entry}
 use Rattle.run_log.specs.declared.entry.Entry.TheVariants.{Report as ReportEntry, Order as OrderEntry}
 use Rattle.run_log.specs.Log.{Noted, Notes}
-use Rattle.cell_drive.specs.AnswerLines.{done_line, unfinished_line}
-use Rattle.cell_drive.specs.DrivenLines.{LineAnswer}
+use Rattle.cell_drive.specs.DrivenLines.{LineAnswer, IsEndLine}
 
 -- its controller, and the log of what was accepted and ordered
 pub record DriveState : Type 0 where
@@ -44,8 +42,6 @@ pub record DriveAnswer (start : DriveState) (number : ℕ) (line : Option (List 
   pub plan : end.control.plan ≡ start.control.plan
   pub log : Notes start.log end.log entries
 
--- the line behind the last answer: the run is done, or so many reports are left
+-- the line behind the last answer
 abbrev pub ControlEnds : Control → List ℕ → Type 0
-ControlEnds s text =
-    (HasEnded s.plan.planned s.cell × (text ≡ done_line s.cell.last))
-    ⊎ ((HasEnded s.plan.planned s.cell → ⊥) × (text ≡ unfinished_line (reports_left s.plan.planned s.cell)))
+ControlEnds s = IsEndLine s.plan.planned s.cell

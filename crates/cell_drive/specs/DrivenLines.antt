@@ -5,6 +5,8 @@ use Rattle.shop_base.specs.Cell.{Cell}
 use Rattle.shop_base.specs.Report as base
 use Rattle.shop_base.specs.Controlled.{IsStep, after_step, step_orders}
 use Rattle.shop_base.specs.Punctual.{IsPunctual}
+use Rattle.shop_base.specs.Ends.{HasEnded}
+use Rattle.shop_base.specs.ReportsLeft.{reports_left}
 use Rattle.cell_control.specs.declared.report.Report.{Report}
 use Rattle.cell_control.specs.declared.report_fault.ReportFault.{ReportFault}
 use Rattle.cell_control.specs.ReasonNames.{reason_name}
@@ -13,7 +15,7 @@ use Rattle.run_log.specs.declared.entry.Entry.{Entry}
 use Rattle.run_log.specs.declared.entry.Entry.TheVariants.{Report as Reported, Order as Ordered}
 use Rattle.run_log.specs.EventLines.{report_line}
 use Rattle.cell_drive.specs.InputLines.{IsReportLine, IsNoReport}
-use Rattle.cell_drive.specs.AnswerLines.{late_line, refused_line, order_lines}
+use Rattle.cell_drive.specs.AnswerLines.{late_line, refused_line, order_lines, done_line, unfinished_line}
 
 -- nothing where the report is punctual, and else the line that says that it is late
 abbrev pub IsLateText : PlannedShop → Cell → base.Report → List ℕ → Type 0
@@ -29,3 +31,7 @@ pub data LineAnswer (p : PlannedShop) (c : Cell) (number : ℕ) : Option (List �
   accepted : (line : List ℕ) (report : Report) (movers : List ℕ) (late : List ℕ) → IsReportLine line report → IsStep p c (said report) movers → IsLateText p c (said report) late
       → LineAnswer p c number (Some line) (report_line report ++ (late ++ order_lines (step_orders p c (said report) movers)))
       (Reported report ∷ map Ordered (step_orders p c (said report) movers)) (after_step p c (said report) movers)
+
+-- the line behind the last answer: the run is done, or so many reports are left
+abbrev pub IsEndLine : PlannedShop → Cell → List ℕ → Type 0
+IsEndLine p c text = (HasEnded p c × (text ≡ done_line c.last)) ⊎ ((HasEnded p c → ⊥) × (text ≡ unfinished_line (reports_left p c)))

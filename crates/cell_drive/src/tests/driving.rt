@@ -8,6 +8,7 @@ use run_log::IntoSink;
 use shop_base::Moment;
 use std::alloc::Global;
 use std::cell::Cell;
+use std::io::{self, Read};
 use std::process::Abort;
 use std::test::Fail;
 
@@ -118,6 +119,16 @@ fn what_is_not_possible_is_refused(rt: HostRuntime) -> Result<(), Fail> {
             b"arrive 0 1000000000000\narrive 1 1000000000001\narrive 1 5\n",
             b"report 1000000000000 arrive 0\nlate 1000000000000\norder 1000000000000 0 out 0\nrefused 2 MomentTooLarge\nrefused 3 Backwards\nunfinished 5\n",
             (false, 1_000_000_000_000, 5),
+        ),
+        (
+            b"777777777777777777777777777777777777777777777777777777777777777\n777777777777777777777777777777777777777777777777777777777777777\r\n7777777777777777777777777777777777777777777777777777777777777777\n777777777777777777777777777777777777777777777777777777777777777\r",
+            b"refused 1 BadLine\nrefused 2 BadLine\nrefused 3 LongLine\nrefused 4 BadLine\nunfinished 6\n",
+            (false, 0, 6),
+        ),
+        (
+            b"clean 0 0\nclean 2 0\nclean 0 1000000000001\n",
+            b"refused 1 NotExpected\nrefused 2 MachineOutOfRange\nrefused 3 MomentTooLarge\nunfinished 6\n",
+            (false, 0, 6),
         ),
     ] {
         is_answered(
@@ -251,4 +262,61 @@ fn faults_leave_the_first_bytes(rt: HostRuntime) -> Result<(), Fail> {
         (74, 208),
     ];
     fails_leave_the_first_bytes(&rt, rt.alloc(), None, IN_TIME, IN_TIME_ANSWERED, &answered)
+}
+
+#[test]
+fn faults_among_cleanings_leave_the_first_bytes(rt: HostRuntime) -> Result<(), Fail> {
+    let answered = [
+        (11, 34),
+        (22, 52),
+        (35, 86),
+        (48, 122),
+        (58, 155),
+        (72, 191),
+        (86, 229),
+        (97, 247),
+    ];
+    fails_leave_the_first_bytes(
+        &rt,
+        rt.alloc(),
+        Some(&[0, 2]),
+        CLEANED,
+        CLEANED_ANSWERED,
+        &answered,
+    )
+}
+
+/// Gives so many line feeds.
+#[derive(Drop)]
+struct BlankLines(usize);
+
+impl Read for BlankLines {
+    fn read(&mut self, buf: &mut [u8]) -> io::Result<usize> {
+        let count = self.0.min(buf.len());
+        self.0 -= count;
+        buf[..count].fill(b'\n');
+        Ok(count)
+    }
+}
+
+#[test]
+fn blank_lines_have_no_answers(rt: HostRuntime) -> Result<(), Fail> {
+    for (count, result, text) in [
+        (67_108_864, Ok(6), b"unfinished 6\n".as_slice()),
+        (67_108_865, Err(DriveFault::InputTooLong), b"".as_slice()),
+    ] {
+        let verified = crossing(rt.alloc(), None)?.expect(&rt, "an accepted plan");
+        let mut reader = FromRead::new(BlankLines(count));
+        let mut writer = IntoSink::new(Vec::new(rt.alloc()));
+        let left = match drive(rt.alloc(), verified, &mut reader, &mut writer) {
+            Ok(end) => Ok(end.left),
+            Err(fault) => Err(fault),
+        };
+        assert_eq!(rt; left, result, "{count} line feeds");
+        assert!(rt;
+            writer.into_inner().as_slice() == text,
+            "{count} line feeds"
+        );
+    }
+    Ok(())
 }
