@@ -1,2 +1,6 @@
 pub mod Written
 pub mod Entries
+pub mod GanttTimes
+pub mod GanttVisits
+pub mod GanttBars
+pub mod GanttShowing

@@ -1,0 +1,161 @@
+-- What a visit shows in the cells of a bar.
+use Rattle.std.proofs.Common.{◌≡◌, ℕ, ◌+◌, ◌*◌, ◌/◌, ◌%◌, ◌<◌, ◌≤◌, min, nat_le, Bool, true, false, ◌&&◌, if◌then◌else◌, List, [], ◌∷◌, length, get_or, Option, None, Some, refl, sym, ap, subst, replicate, map, take, drop, ◌++◌, add-one, append_assoc, drop-cons, ◌≢◌, ◌⊎◌, inl, inr, ◌∙◌, arith}
+use Rattle.std.proofs.lemmas.Bool.{le-ltb, ltb-false, le-leb, lt-leb, cases_lt}
+use Rattle.std.specs.Prelude.{flat_map}
+use Rattle.std.specs.List.{range_with_len}
+use Rattle.std.proofs.lemmas.List.{get_or-replicate, get_or_past, map-id, flat_map_more, ext_get_or, get_or-map, get_or-take, length-map, length-take-le}
+use Rattle.std.proofs.lemmas.List.FromFn.{map-range_with_len_more, get_or-map-range_with_len, length-map-range_with_len}
+use Rattle.std.proofs.lemmas.Nat.{mul-le}
+use Rattle.std.proofs.Math.Nat.{div-lt_iff_lt-mul}
+use Rattle.std.proofs.lemmas.Grind.{div_ceil_times}
+use Rattle.run_log.specs.declared.gantt_visit.Visit.{Visit}
+use Rattle.run_log.specs.GanttVisits.{or_else, first_of}
+use Rattle.run_log.specs.GanttText.{is_before, digit_of, sign_of, cell_of, bar_of}
+
+pub or_else-none : {T : Type 0} → (x : Option T) → or_else x None ≡ x
+or_else-none None = refl
+or_else-none (Some x) = refl
+
+pub or_else-assoc : {T : Type 0} → (x y z : Option T) → or_else (or_else x y) z ≡ or_else x (or_else y z)
+or_else-assoc None y z = refl
+or_else-assoc (Some x) y z = refl
+
+hidden : {T : Type 0} → (b : Bool) (x : T) → (if b && false then Some x else None) ≡ None
+hidden true x = refl
+hidden false x = refl
+
+before-ends : (t u : ℕ) (end : Option ℕ) → is_before t end ≡ false → t ≤ u → is_before u end ≡ false
+before-ends t u None past later = absurd (cc)
+before-ends t u (Some moment) past later = le-ltb u moment (omega (arith, ltb-false t moment past))
+
+-- a visit shows nothing before the job enters
+pub sign-early : (t : ℕ) (visit : Visit) → t < visit.enter → sign_of t visit ≡ None
+sign-early t visit early = rw (lt-leb visit.enter t early) refl
+
+-- nor once it has left
+pub sign-late : (t u : ℕ) (visit : Visit) → is_before t visit.leave ≡ false → t ≤ u → sign_of u visit ≡ None
+sign-late t u visit past later = rw (before-ends t u visit.leave past later) (hidden (nat_le visit.enter u) _)
+
+-- in between it shows its sign
+pub sign-there : (t : ℕ) (visit : Visit) → visit.enter ≤ t → is_before t visit.leave ≡ true
+    → sign_of t visit ≡ Some (if is_before t visit.finish then digit_of visit.job else 61)
+sign-there t visit entered before = rw (le-leb visit.enter t entered, before) refl
+
+-- the cells before the first at or after a moment are before the moment
+pub cell-before : (moment scale c : ℕ) → 0 < scale → c < moment / scale + min 1 (moment % scale) → c * scale < moment
+cell-before moment scale c above less =
+    let first : ℕ = moment / scale + min 1 (moment % scale) in
+    let (reached, near) = div_ceil_times moment scale above in
+    omega (arith, near, mul-le (c + 1) scale first scale (omega arith) (omega arith))
+
+pub cell-after : (moment scale : ℕ) → 0 < scale → moment ≤ (moment / scale + min 1 (moment % scale)) * scale
+cell-after moment scale above = (div_ceil_times moment scale above).0
+
+-- the first moments of later cells are later
+pub cells-rise : (a b scale : ℕ) → a ≤ b → a * scale ≤ b * scale
+cells-rise a b scale le = mul-le a scale b scale le (omega arith)
+
+-- one more cell is done
+pub cell-done : (before now after : List (Option ℕ)) (scale cell sign : ℕ) (visit : Visit)
+    → ((c : ℕ) → c < cell → c < 60 → get_or now c None ≡ or_else (get_or before c None) (sign_of (c * scale) visit))
+    → ((c : ℕ) → cell ≤ c → get_or now c None ≡ get_or before c None)
+    → sign_of (cell * scale) visit ≡ Some sign
+    → get_or after cell None ≡ or_else (get_or now cell None) (Some sign)
+    → ((c : ℕ) → c ≢ cell → get_or after c None ≡ get_or now c None)
+    → (c : ℕ) → c < cell + 1 → c < 60 → get_or after c None ≡ or_else (get_or before c None) (sign_of (c * scale) visit)
+cell-done before now after scale cell sign visit done others shows here elsewhere c less inside = go (cases_lt c cell)
+  where
+    go : (c < cell) ⊎ (cell ≤ c) → get_or after c None ≡ or_else (get_or before c None) (sign_of (c * scale) visit)
+    go (inl lower) = elsewhere c (λ same. absurd (omega (arith, same))) ∙ done c lower inside
+    go (inr reached) =
+        let same : cell ≡ c = omega arith in
+        subst (λ (x : ℕ). get_or after x None ≡ or_else (get_or before x None) (sign_of (x * scale) visit)) same
+        (here ∙ rw (others cell (omega arith), shows) refl)
+
+-- a sign is an ASCII character
+sign-ascii : (t sign : ℕ) (visit : Visit) → sign_of t visit ≡ Some sign → sign < 128
+sign-ascii t sign visit is = go (nat_le visit.enter t && is_before t visit.leave) (is_before t visit.finish) is
+  where
+    go : (there before : Bool) → (if there then Some (if before then digit_of visit.job else 61) else None) ≡ Some sign → sign < 128
+    go true true same = let digit : digit_of visit.job ≡ sign = cc in omega (arith, digit)
+    go true false same = let equals : 61 ≡ sign = cc in omega (arith, equals)
+    go false before same = absurd (cc)
+
+-- so is what a cell shows of some visits
+pub shown-ascii : (t sign : ℕ) (visits : List Visit) → first_of (sign_of t) visits ≡ Some sign → sign < 128
+shown-ascii t sign [] is = absurd (cc)
+shown-ascii t sign (visit ∷ visits) is = go (sign_of t visit) refl is (shown-ascii t sign visits)
+  where
+    go : (one : Option ℕ) → sign_of t visit ≡ one → or_else one (first_of (sign_of t) visits) ≡ Some sign → (first_of (sign_of t) visits ≡ Some sign → sign < 128) → sign < 128
+    go None here same later = later same
+    go (Some other) here same later = sign-ascii t sign visit (here ∙ same)
+
+-- a cell's character is an ASCII character
+pub cell-ascii : (cell : Option ℕ) → ((sign : ℕ) → cell ≡ Some sign → sign < 128) → cell_of cell < 128
+cell-ascii None ascii = omega arith
+cell-ascii (Some sign) ascii = ascii sign refl
+
+-- one more cell is written
+pub cells-more : (now new all : List ℕ) (cells : List (Option ℕ)) (i sign : ℕ) → i < length cells → new ≡ now ++ sign ∷ [] → sign ≡ cell_of (get_or cells i None)
+    → now ++ map cell_of (drop i cells) ≡ all → new ++ map cell_of (drop (i + 1) cells) ≡ all
+cells-more now new all cells i sign below pushed is so_far =
+    let here : drop i cells ≡ get_or cells i None ∷ drop (i + 1) cells = drop-cons cells i None below ∙ ap (λ (n : ℕ). get_or cells i None ∷ drop n cells) (sym (add-one i)) in
+    ap (λ (l : List ℕ). l ++ map cell_of (drop (i + 1) cells)) (pushed ∙ ap (λ (x : ℕ). now ++ x ∷ []) is)
+    ∙ append_assoc now (cell_of (get_or cells i None) ∷ []) (map cell_of (drop (i + 1) cells))
+    ∙ ap (λ (l : List (Option ℕ)). now ++ map cell_of l) (sym here)
+    ∙ so_far
+
+-- the cells of a bar, as text
+pub bar-text : (bar : List (Option ℕ)) (scale cells : ℕ) (visits : List Visit) → length bar ≡ 60 → cells ≤ 60
+    → ((c : ℕ) → c < 60 → get_or bar c None ≡ first_of (sign_of (c * scale)) visits) → map cell_of (take cells bar) ≡ bar_of scale cells visits
+bar-text bar scale cells visits whole few shown =
+    let taken : length (take cells bar) ≡ cells = length-take-le cells bar (omega (arith, whole)) in
+    let long : length (map cell_of (take cells bar)) ≡ cells = length-map (take cells bar) cell_of ∙ taken in
+    ext_get_or 0 _ _ (long ∙ sym (length-map-range_with_len _ 0 cells)) λ i inside.
+    let below : i < cells = omega (arith, long, inside) in
+    get_or-map cell_of (take cells bar) i None 0 (omega (arith, taken, below))
+    ∙ ap cell_of (get_or-take cells bar i None below ∙ shown i (omega arith))
+    ∙ sym (get_or-map-range_with_len _ 0 cells i i 0 below (omega arith))
+
+-- a bar of which nothing is shown yet
+pub bar-shown : (before after : List (Option ℕ)) (scale : ℕ) (visits : List Visit) → before ≡ replicate 60 None
+    → ((c : ℕ) → c < 60 → get_or after c None ≡ or_else (get_or before c None) (first_of (sign_of (c * scale)) visits))
+    → (c : ℕ) → c < 60 → get_or after c None ≡ first_of (sign_of (c * scale)) visits
+bar-shown before after scale visits empty shown c inside =
+    let none : get_or before c None ≡ None = rw empty (get_or-replicate 60 c None None inside) in
+    shown c inside ∙ ap (λ (x : Option ℕ). or_else x (first_of (sign_of (c * scale)) visits)) none
+
+-- the greatest moment of so many cells
+pub few_cells : (last : ℕ) → last / (last / 60 + 1) < 60
+few_cells last = (div-lt_iff_lt-mul {k = last / 60 + 1} {x = last} {y = 60} (omega arith)).1 (omega arith)
+
+-- all cells of a bar are ASCII characters
+pub cells-ascii : (bar : List (Option ℕ)) (scale cells : ℕ) (visits : List Visit) → length bar ≡ 60 → cells ≤ 60
+    → ((c : ℕ) → c < 60 → get_or bar c None ≡ first_of (sign_of (c * scale)) visits)
+    → (c sign : ℕ) → get_or (take cells bar) c None ≡ Some sign → sign < 128
+cells-ascii bar scale cells visits whole few shown c sign is = go (cases_lt c cells)
+  where
+    go : (c < cells) ⊎ (cells ≤ c) → sign < 128
+    go (inl below) = shown-ascii (c * scale) sign visits (sym (shown c (omega arith)) ∙ sym (get_or-take cells bar c None below) ∙ is)
+    go (inr past) =
+        let none : get_or (take cells bar) c None ≡ None = get_or_past (take cells bar) c None (omega (arith, past, length-take-le cells bar (omega (arith, whole)))) in
+        absurd (cc)
+
+-- the parts of a machine's lines are written one after another
+pub six_parts : (start a b c d e f one two three four five six : List ℕ) → one ≡ start ++ a → two ≡ one ++ b → three ≡ two ++ c → four ≡ three ++ d
+    → five ≡ four ++ e → six ≡ five ++ f → six ≡ start ++ (a ++ b ++ c ++ d ++ e ++ f)
+six_parts start a b c d e f one two three four five six is_one is_two is_three is_four is_five is_six =
+    rw (is_six, is_five, is_four, is_three, is_two, is_one) (simp append_assoc)
+
+range-more : (n : ℕ) → range_with_len 0 (n + 1) ≡ range_with_len 0 n ++ n ∷ []
+range-more n =
+    sym (map-id (range_with_len 0 (n + 1))) ∙ map-range_with_len_more (λ x. x) 0 n n (omega arith) ∙ ap (λ (l : List ℕ). l ++ n ∷ []) (map-id (range_with_len 0 n))
+
+-- the lines of one more machine
+pub one_more : (lines : ℕ → List ℕ) (start now new : List ℕ) (n : ℕ) → now ≡ start ++ flat_map lines (range_with_len 0 n) → new ≡ now ++ lines n
+    → new ≡ start ++ flat_map lines (range_with_len 0 (n + 1))
+one_more lines start now new n so_far pushed =
+    pushed
+    ∙ ap (λ (l : List ℕ). l ++ lines n) so_far
+    ∙ flat_map_more lines start (range_with_len 0 n) n
+    ∙ ap (λ (l : List ℕ). start ++ flat_map lines l) (sym (range-more n))
