@@ -1,9 +1,7 @@
 //! A run that is driven from its start to the end of its input.
 
-ghost use Rattle.std.specs.Prelude.{◌≡◌, ℕ, List, ◌↔◌, IfOk, IfErr, IsTrue, Err};
+ghost use Rattle.std.specs.Prelude.{◌≡◌, ℕ, List, IfOk, IfErr, Err};
 ghost use Rattle.std.specs.Io.KnownBytes.{Consumes};
-ghost use Rattle.shop_base.specs.Ends.{HasEnded};
-ghost use Rattle.shop_base.specs.ReportsLeft.{reports_left};
 ghost use Rattle.cell_drive.specs.Driven.{IsDriven, drive_start};
 ghost use Rattle.cell_drive.specs.Driving.{IsDrivenThrough, IsBrokenOff, IsRunOf, IsSoFar, HasRoom, NeverWentWrong};
 
@@ -60,10 +58,13 @@ fn end_of(driven: Driven<TourneyDues>) -> DriveEnd
     }
 }
 
-/// Drives the cell of an accepted plan: takes a report from each line of input, and writes the moves that it
-/// releases before the next line is answered.
+/// Drives the cell of an accepted plan: takes a report from each line of input, and answers it by the moves that it
+/// releases before the next line is read. Behind the last line comes whether the run is done.
 ///
-/// All memory is taken before the first byte is read. After a fault the plan is gone.
+/// The lines are `arrive JOB MOMENT`, `finish JOB MACHINE MOMENT` and `clean MACHINE MOMENT`. What isn't possible is
+/// refused by a line of its own, and changes nothing. A run that is done goes on to the end of its input.
+///
+/// All memory is taken before the first byte is read. After a fault no end is written, and the plan is gone.
 pub fn drive<R: Source, W: Sink>(
     alloc: Global,
     verified: Verified,
