@@ -276,6 +276,19 @@ fn stands_above_wrong_proposers(rt: HostRuntime) -> Result<(), Fail> {
 }
 
 #[test]
+fn asks_nobody_and_stops_at_want_of_memory(rt: HostRuntime) -> Result<(), Fail> {
+    let alloc = rt.alloc();
+    let mut proposers: Vec<Box<dyn Proposer>> = Vec::new(alloc);
+    let alone = found(alloc, &[0, 0], &[5, 10], None, &proposers, 0)?;
+    assert_eq!(rt; alone.as_str(), "0 1 ,0 1 ,");
+    proposers.push(Box::new(alloc, Hungry)?)?;
+    proposers.push(Box::new(alloc, ShiftProposer::new())?)?;
+    let hungry = found(alloc, &[0, 0], &[5, 10], None, &proposers, 20)?;
+    assert_eq!(rt; hungry.as_str(), "Memory");
+    Ok(())
+}
+
+#[test]
 fn shifts_the_jobs(rt: HostRuntime) -> Result<(), Fail> {
     let alloc = rt.alloc();
     let shop = shop_of(

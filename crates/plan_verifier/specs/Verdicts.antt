@@ -28,10 +28,10 @@ abbrev pub IsReason : PlannedShop → Why → Type 0
 IsReason p (Cycle nodes) = IsCycle p nodes.items
 IsReason p (Late job leaves chain) = IsFirstLate p job leaves chain.items
 
--- the plan is accepted
-abbrev pub IsAcceptance : Verdict → Type 0
-IsAcceptance (Accepted verified) = Unit {0}
-IsAcceptance (Refused back why) = ⊥
+-- the verdict says that the plan is accepted
+abbrev pub SaysAccepted : Verdict → Type 0
+SaysAccepted (Accepted verified) = Unit {0}
+SaysAccepted (Refused back why) = ⊥
 
 -- where the plan is accepted
 abbrev pub OnAccepted : (VerifiedPlan → Type 0) → Verdict → Type 0

@@ -4,7 +4,7 @@ ghost use Rattle.alt_graph.specs.Solved.{OnOrdered, OnCyclic};
 ghost use Rattle.shop_base.specs.ExactLaw.{IsNeverGoneBefore};
 ghost use Rattle.shop_base.specs.CycleLaw.{IsNeverDone, AreNeverMade};
 ghost use Rattle.plan_verifier.specs.Accepted.{IsAcceptable, IsFirstPast};
-ghost use Rattle.plan_verifier.specs.Verdicts.{IsAcceptance, OnAccepted, OnRefused, OnCycle, OnLate, IsReason, IsNeverInBudget};
+ghost use Rattle.plan_verifier.specs.Verdicts.{SaysAccepted, OnAccepted, OnRefused, OnCycle, OnLate, IsReason, IsNeverInBudget};
 
 use crate::leavings::{first_late, leave_time, leaving_of};
 use crate::verdict::{Verdict, Why};
@@ -18,7 +18,7 @@ use std::alloc::{AllocError, Global};
 pub fn verify(alloc: Global, shaped: Shaped) -> Result<Verdict, (AllocError, Shaped)>
     ensures accepted { IfOk result (OnAccepted (λ verified. (verified.planned ≡ shaped) × IsAcceptable shaped)) }
     ensures refused { IfOk result (OnRefused (λ back why. (back ≡ shaped) × IsReason shaped why)) }
-    ensures exact { IfOk result (λ verdict. IsAcceptance verdict ↔ IsAcceptable shaped) }
+    ensures exact { IfOk result (λ verdict. SaysAccepted verdict ↔ IsAcceptable shaped) }
     ensures stops { IfOk result (OnCycle (λ nodes. AreNeverMade shaped nodes × IsNeverDone shaped)) }
     ensures no_faster { IfOk result (OnLate (λ job leaves. IsNeverGoneBefore shaped job leaves)) }
     ensures just { IfOk result (OnRefused (λ back why. IsNeverInBudget shaped)) }
