@@ -14,7 +14,7 @@ use crate::ending::end_activity;
 use crate::releasing::{Orders, release_moves};
 use crate::report::{Ack, Report};
 use crate::tables::Tables;
-use shop_base::{Moment, Shaped};
+use shop_base::Shaped;
 
 /// Makes the step of a possible report. The orders of the last one are dropped.
 pub(crate) fn make_step<D: Dues>(
@@ -35,7 +35,7 @@ pub(crate) fn make_step<D: Dues>(
     ensures capacity { orders.new.capacity ≡ orders.old.capacity }
 {
     let ack = Ack {
-        late: is_late(dues, report.at()),
+        late: is_late(dues, report),
     };
     drop_orders(orders);
     let candidate = end_activity(shaped, tables, dues, report);
@@ -43,12 +43,12 @@ pub(crate) fn make_step<D: Dues>(
     ack
 }
 
-/// Whether the moment is past a due moment.
-fn is_late<D: Dues>(dues: &D, at: Moment) -> bool
-    ensures { (result ≡ false) ↔ AreDueFrom (D.dues dues.now) at }
+/// Whether the report comes past a due moment.
+fn is_late<D: Dues>(dues: &D, report: Report) -> bool
+    ensures { (result ≡ false) ↔ AreDueFrom (D.dues dues.now) (said report).at }
 {
     match dues.least() {
-        Some(due) => at > due,
+        Some(due) => report.at() > due,
         None => false,
     }
 }

@@ -19,7 +19,7 @@ pub returns-clause-made : goal.returns-clause-made
 returns-clause-made g c =
     let p = c.args.shaped.now in
     let cell = cell_of p c.args.tables.now in
-    let punctual = due_from-punctual p cell (g.D.Dues.dues c.args.dues.now) (said c.args.report) c.at.result c.requires.sound.sound c.requires.tied c.at.ensures in
+    let punctual = due_from-punctual p cell (g.D.Dues.dues c.args.dues.now) (said c.args.report) c.requires.sound.sound c.requires.tied in
     made_step p cell (cell_of p c.end_activity-candidate.new.tables) (cell_of p c.release_moves.new.tables) (said c.args.report) (record { late = c.is_late.result })
     c.release_moves.new.orders.items c.requires.possible c.end_activity-candidate.ensures.ended c.release_moves.ensures.sequence c.release_moves.ensures.rest (
       (λ no_late. punctual.0 (c.is_late.ensures.0 no_late)),
