@@ -29,7 +29,7 @@ IsUnexpected p c (Operation j m) = (ready c j ≡ true) ⊎ IsGone p c j
 IsUnexpected p c (Cleaning m) = cleaning c m ≡ None
 
 -- a report that is of the shop, and at a moment that can be the next
-pub record IsTaken (p : PlannedShop) (c : Cell) (r : base.Report) : Type 0 where
+pub record IsInTurn (p : PlannedShop) (c : Cell) (r : base.Report) : Type 0 where
   pub of_shop : IsOfShop p r.ended
   pub moment : IsNextMoment c r.at
 
@@ -68,9 +68,9 @@ IsFirstReason p c r JobOutOfRange = IsOfNoJob p r.ended
 IsFirstReason p c r MachineOutOfRange = IsOfNoMachine p r.ended
 IsFirstReason p c r MomentTooLarge = IsOfShop p r.ended × (MAX_MOMENT < r.at)
 IsFirstReason p c r (Backwards last) = IsOfShop p r.ended × (r.at ≤ MAX_MOMENT) × (r.at < c.last) × (last ≡ c.last)
-IsFirstReason p c r NotExpected = IsTaken p c r × IsUnexpected p c r.ended
-IsFirstReason p c r WrongKind = IsTaken p c r × IsOtherKind p c r.ended
-IsFirstReason p c r (WrongMachine actual) = IsTaken p c r × IsElsewhere p c r.ended actual
+IsFirstReason p c r NotExpected = IsInTurn p c r × IsUnexpected p c r.ended
+IsFirstReason p c r WrongKind = IsInTurn p c r × IsOtherKind p c r.ended
+IsFirstReason p c r (WrongMachine actual) = IsInTurn p c r × IsElsewhere p c r.ended actual
 
 -- this is the first reason against the moment of a report
 abbrev pub IsMomentReason : Cell → ℕ → ReportFault → Type 0
@@ -87,7 +87,7 @@ IsJobReason p c j t NotExpected = (j < jobs p) × IsNextMoment c t × ((ready c 
 IsJobReason p c j t _ = ⊥
 
 -- a job of the shop that has an activity, at a moment that can be the next
-pub record IsJobTaken (p : PlannedShop) (c : Cell) (j t : ℕ) : Type 0 where
+pub record IsBusyInTurn (p : PlannedShop) (c : Cell) (j t : ℕ) : Type 0 where
   pub of_shop : j < jobs p
   pub moment : IsNextMoment c t
   pub busy : IsBusy p c j

@@ -4,7 +4,7 @@ ghost use Rattle.std.specs.Prelude.{OnOk, IfErr};
 ghost use Rattle.shop_base.specs.Activity.{Arrival, Operation, Cleaning};
 ghost use Rattle.shop_base.specs.Report.{CanReport, IsNextMoment};
 ghost use Rattle.cell_control.specs.Tables.{cell_of, AreTables};
-ghost use Rattle.cell_control.specs.Reports.{said, IsFirstReason, IsMomentReason, IsJobReason, IsJobTaken};
+ghost use Rattle.cell_control.specs.Reports.{said, IsFirstReason, IsMomentReason, IsJobReason, IsBusyInTurn};
 
 use crate::places::machine_of;
 use crate::report::Report;
@@ -92,7 +92,7 @@ fn check_cleaning(
 /// Checks what any report of a job asks for: that it is one of the shop's, and has an activity.
 fn check_job(shaped: &Shaped, tables: &Tables, job: JobNo, at: Moment) -> Result<(), ReportFault>
     requires { AreTables shaped.now tables.now }
-    ensures taken { OnOk result (IsJobTaken shaped.now (cell_of shaped.now tables.now) job at) }
+    ensures in_turn { OnOk result (IsBusyInTurn shaped.now (cell_of shaped.now tables.now) job at) }
     ensures first { IfErr result (IsJobReason shaped.now (cell_of shaped.now tables.now) job at) }
 {
     if job >= job_count(shaped) {

@@ -16,10 +16,10 @@ returns-clause-possible c =
           k,
           record {
             on = subst (IsOn p cell c.args.job k) c.if-actual-machine.false c.in-Some.ensures;
-            not_ready = c.in_ok-check_job.ensures.taken.busy.not_ready;
+            not_ready = c.in_ok-check_job.ensures.in_turn.busy.not_ready;
             is_due = refl;
           },
         ),
       );
-      moment = c.in_ok-check_job.ensures.taken.moment;
+      moment = c.in_ok-check_job.ensures.in_turn.moment;
     }
