@@ -134,10 +134,9 @@ tidied_cell p t m n at tables inside is =
 
 -- the parts of a move make the move
 pub move_of_parts : (p : PlannedShop) (c left came new : Cell) (s spot : Spot) (j t : ℕ) → s ≡ source p c j → spot ≡ target p c j
-    → left ≡ after_leaving p c s t → came ≡ with_entry left j spot → new ≡ with_moved came j t → t ≡ c.last → new ≡ after_move p c j c.last
-move_of_parts p c left came new s spot j t from to leaves comes moves now =
+    → left ≡ after_leaving p c s t → came ≡ with_entry left j spot → new ≡ with_moved came j t → new ≡ after_move p c j t
+move_of_parts p c left came new s spot j t from to leaves comes moves =
     moves
     ∙ ap (λ x. with_moved x j t) (comes
     ∙ ap (λ x. with_entry x j spot) (leaves ∙ ap (λ x. after_leaving p c x t) from)
     ∙ ap (λ x. with_entry (after_leaving p c (source p c j) t) j x) to)
-    ∙ ap (λ x. after_move p c j x) now

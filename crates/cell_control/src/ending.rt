@@ -59,7 +59,7 @@ pub(crate) fn end_activity<D: Dues>(
 }
 
 /// A job has become ready.
-fn note_ready(shaped: &Shaped, tables: &mut Tables, job: JobNo, at: Moment)
+pub fn note_ready(shaped: &Shaped, tables: &mut Tables, job: JobNo, at: Moment)
     requires tables { AreTables shaped.now tables.old }
     requires job { job < jobs shaped.now }
     requires at { at ≤ MAX_MOMENT }
@@ -76,7 +76,7 @@ fn note_ready(shaped: &Shaped, tables: &mut Tables, job: JobNo, at: Moment)
 }
 
 /// A machine has become clean.
-fn note_clean(shaped: &Shaped, tables: &mut Tables, machine: MachineNo, at: Moment)
+pub fn note_clean(shaped: &Shaped, tables: &mut Tables, machine: MachineNo, at: Moment)
     requires tables { AreTables shaped.now tables.old }
     requires machine { machine < machines shaped.now }
     requires at { at ≤ MAX_MOMENT }

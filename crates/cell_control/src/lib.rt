@@ -10,11 +10,11 @@
 mod checking;
 mod controller;
 mod dues;
-mod ending;
+pub mod ending;
 mod entries;
 pub mod laws;
-mod moving;
-mod places;
+pub mod moving;
+pub mod places;
 mod readings;
 mod releasing;
 mod report;
@@ -22,7 +22,7 @@ mod report_fault;
 mod reserved;
 mod scan_dues;
 mod step;
-mod tables;
+pub mod tables;
 mod ties;
 mod tourney_dues;
 

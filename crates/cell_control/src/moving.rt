@@ -23,20 +23,41 @@ pub(crate) fn move_job(shaped: &Shaped, tables: &mut Tables, job: JobNo) -> Move
     ensures sound { AreSound shaped.now tables.new }
 {
     let at = tables.last;
-    let source = source_of(shaped, tables, job);
-    let target = target_of(shaped, tables, job);
-    leave(shaped, tables, source, at);
-    come(shaped, tables, job, target);
+    make_move(shaped, tables, job, at)
+}
+
+/// Moves a job that can move at this moment, and tells the order.
+pub fn make_move(shaped: &Shaped, tables: &mut Tables, job: JobNo, at: Moment) -> MoveOrder
+    requires sound { AreSound shaped.now tables.old }
+    requires can { CanMove shaped.now (cell_of shaped.now tables.old) job at }
+    requires keeps { KeepsPlan shaped.now (cell_of shaped.now tables.old) job }
+    ensures order { result ≡ order_for shaped.now (cell_of shaped.now tables.old) job at }
+    ensures moved { cell_of shaped.now tables.new ≡ after_move shaped.now (cell_of shaped.now tables.old) job at }
+    ensures sound { AreSound shaped.now tables.new }
+{
+    let order = next_order(shaped, tables, job, at);
+    leave(shaped, tables, order.source, at);
+    come(shaped, tables, job, order.target);
     note_move(shaped, tables, job, at);
+    order
+}
+
+/// The order to make the next move of the job at this moment, whether it can be made or not.
+pub fn next_order(shaped: &Shaped, tables: &Tables, job: JobNo, at: Moment) -> MoveOrder
+    requires tables { AreTables shaped.now tables.now }
+    requires job { job < jobs shaped.now }
+    requires not_gone { made (cell_of shaped.now tables.now) job ≤ steps shaped.now job }
+    ensures { result ≡ order_for shaped.now (cell_of shaped.now tables.now) job at }
+{
     MoveOrder {
         job,
-        source,
-        target,
+        source: source_of(shaped, tables, job),
+        target: target_of(shaped, tables, job),
         at,
     }
 }
 
-/// Where the job is that can move.
+/// Where the job is, as it isn't gone.
 fn source_of(shaped: &Shaped, tables: &Tables, job: JobNo) -> Spot
     requires tables { AreTables shaped.now tables.now }
     requires job { job < jobs shaped.now }

@@ -11,7 +11,7 @@ use shop_base::readers::{machine_at, order_of};
 use shop_base::{JobNo, MachineNo, Shaped};
 
 /// The machine that the job is on; none where it is outside or gone.
-pub(crate) fn machine_of(shaped: &Shaped, tables: &Tables, job: JobNo) -> Option<MachineNo>
+pub fn machine_of(shaped: &Shaped, tables: &Tables, job: JobNo) -> Option<MachineNo>
     requires job { job < jobs shaped.now }
     requires tables { AreTables shaped.now tables.now }
     ensures { let c = cell_of shaped.now tables.now in
@@ -25,7 +25,7 @@ pub(crate) fn machine_of(shaped: &Shaped, tables: &Tables, job: JobNo) -> Option
 }
 
 /// The job that is on the machine.
-pub(crate) fn holder_of(shaped: &Shaped, tables: &Tables, machine: MachineNo) -> Option<JobNo>
+pub fn holder_of(shaped: &Shaped, tables: &Tables, machine: MachineNo) -> Option<JobNo>
     requires machine { machine < machines shaped.now }
     requires sound { AreSound shaped.now tables.now }
     ensures { let c = cell_of shaped.now tables.now in
@@ -56,7 +56,7 @@ fn is_on(shaped: &Shaped, tables: &Tables, job: JobNo, machine: MachineNo) -> bo
 }
 
 /// The job that is to enter the machine next, none where all jobs of its order have entered it.
-pub(crate) fn next_on(shaped: &Shaped, tables: &Tables, machine: MachineNo) -> Option<JobNo>
+pub fn next_on(shaped: &Shaped, tables: &Tables, machine: MachineNo) -> Option<JobNo>
     requires machine { machine < machines shaped.now }
     requires tables { AreTables shaped.now tables.now }
     ensures { let n = length (entries (cell_of shaped.now tables.now) machine) in

@@ -1,4 +1,4 @@
-//! The tables of a controller: a row for each job and for each machine of the cell.
+//! The tables of a cell: a row for each job and for each machine.
 
 ghost use Rattle.std.specs.Prelude.{◌≡◌, ℕ, ◌<◌, ◌≤◌, length, replicate, false, Some, IfOk};
 ghost use Rattle.shop_base.specs.declared.limits.TheConstants.{MAX_MOMENT};
@@ -12,7 +12,7 @@ use std::alloc::{AllocError, Global};
 
 /// A machine: how many jobs have entered it, and since when it is being cleaned, if it is.
 #[derive(Clone, Copy, Debug)]
-pub(crate) struct MachineRow {
+pub struct MachineRow {
     pub entered: u32,
     pub cleaning: Option<Moment>,
 }
@@ -20,14 +20,14 @@ pub(crate) struct MachineRow {
 /// The cell in tables. Who has entered a machine follows from its order, and who is on it from the job
 /// that entered it last.
 #[derive(Debug, Drop)]
-pub(crate) struct Tables {
+pub struct Tables {
     pub jobs: Vec<JobState>,
     pub machines: Vec<MachineRow>,
     pub last: Moment,
 }
 
 /// The tables of a cell at the start of a run.
-pub(crate) fn start_tables(alloc: Global, shaped: &Shaped) -> Result<Tables, AllocError>
+pub fn start_tables(alloc: Global, shaped: &Shaped) -> Result<Tables, AllocError>
     ensures tables { IfOk result (AreTables shaped.now) }
     ensures start { IfOk result (λ tables. cell_of shaped.now tables ≡ start shaped.now) }
 {
@@ -68,7 +68,7 @@ fn start_machines(alloc: Global, count: usize) -> Result<Vec<MachineRow>, AllocE
 }
 
 /// The state of a job. The plan is there for the contract alone, as in the functions below.
-pub(crate) fn job_state(_shaped: &Shaped, tables: &Tables, job: JobNo) -> JobState
+pub fn job_state(_shaped: &Shaped, tables: &Tables, job: JobNo) -> JobState
     requires tables { AreTables _shaped.now tables.now }
     requires job { job < jobs _shaped.now }
     ensures { result ≡ job_in (cell_of _shaped.now tables.now) job }
@@ -86,7 +86,7 @@ pub(crate) fn entered(_shaped: &Shaped, tables: &Tables, machine: MachineNo) -> 
 }
 
 /// Since when the machine is being cleaned, if it is.
-pub(crate) fn cleaned_since(_shaped: &Shaped, tables: &Tables, machine: MachineNo) -> Option<Moment>
+pub fn cleaned_since(_shaped: &Shaped, tables: &Tables, machine: MachineNo) -> Option<Moment>
     requires tables { AreTables _shaped.now tables.now }
     requires machine { machine < machines _shaped.now }
     ensures { result ≡ cleaning (cell_of _shaped.now tables.now) machine }

@@ -4,3 +4,8 @@ pub mod GanttTimes
 pub mod GanttVisits
 pub mod GanttBars
 pub mod GanttShowing
+pub mod SpacedWords
+pub mod LogWords
+pub mod OneReading
+pub mod PossibleEntries
+pub mod Audits

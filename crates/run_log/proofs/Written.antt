@@ -1,8 +1,8 @@
 -- A text that is written part by part.
-use Rattle.std.proofs.Common.{◌≡◌, ℕ, List, [], ◌++◌, Bool, true, Option, None, Some, refl, sym, ap, ◌∙◌, append_assoc, append-nil, subst}
+use Rattle.std.proofs.Common.{◌≡◌, ℕ, List, [], ◌++◌, Option, refl, sym, ap, ◌∙◌, append_assoc, append-nil, subst}
 use Rattle.std.specs.Io.KnownBytes.{Appends, Keeps}
 use Rattle.std.proofs.KnownBytes.{Appends-nil, Appends-trans, Appends-kept}
-use Rattle.run_log.specs.Sinks.{AllBut, TookPart, Wrote}
+use Rattle.run_log.specs.Sinks.{AllBut, TookPart}
 
 -- at first nothing is taken
 pub AllBut-none : (before : Option (List ℕ)) (text : List ℕ) → AllBut before before text text

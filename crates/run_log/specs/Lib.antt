@@ -5,3 +5,9 @@ pub mod Log
 pub mod GanttVisits
 pub mod GanttText
 pub mod GanttTables
+pub mod Events
+pub mod LogLines
+pub mod LogWords
+pub mod Audits
+pub mod AuditNames
+pub mod Auditing

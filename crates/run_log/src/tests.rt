@@ -1,3 +1,5 @@
+mod audits;
+
 use super::*;
 use cell_control::Report;
 use shop_base::{MoveOrder, Spot};

@@ -1,45 +1,20 @@
-use Rattle.std.proofs.Common.{subst, sym}
-use Rattle.shop_base.specs.declared.move_order.Spot.{Spot}
-use Rattle.shop_base.specs.Sound.{IsSound}
-use Rattle.shop_base.proofs.Changes.{moves_within}
-use Rattle.shop_base.proofs.Keeping.{after_move-sound}
+use Rattle.std.proofs.Common.{ap, subst, sym, ◌∙◌}
+use Rattle.shop_base.specs.Move.{CanMove, order_for, after_move}
 use Rattle.cell_control.specs.Tables.{cell_of}
-use Rattle.cell_control.specs.Moving.{IsSpotOf, HasNext}
 use Rattle.cell_control.proofs.Cells.{last-read}
-use Rattle.cell_control.proofs.Moves.{can-next, source_or_out, next_once_left, move_of_parts}
 use Rattle.cell_control.proofs.moving.move_job.Goals as goal
 
-pub leave-requires-clause-source : goal.leave-requires-clause-source
-leave-requires-clause-source c =
+pub make_move-requires-clause-can : goal.make_move-requires-clause-can
+make_move-requires-clause-can c =
     let p = c.args.shaped.now in
-    let cell = cell_of p c.args.tables.now in
-    subst (IsSpotOf p) (sym c.source_of-source.ensures)
-    (source_or_out p cell c.args.job c.requires.sound.tables.shaped (moves_within p cell c.args.job cell.last c.requires.sound.sound c.requires.can))
-
-pub come-requires-clause-next : goal.come-requires-clause-next
-come-requires-clause-next c =
-    let p = c.args.shaped.now in
-    let cell = cell_of p c.args.tables.now in
-    next_once_left p cell (cell_of p c.leave.new.tables) c.source_of-source.result c.target_of-target.result c.args.job c.args.tables.now.last c.leave.ensures.left
-    (subst (λ (s : Spot). HasNext p cell s c.args.job) (sym c.target_of-target.ensures)
-    (can-next p cell c.args.job cell.last c.requires.sound.tables.shaped c.requires.can c.requires.keeps))
+    subst (CanMove p (cell_of p c.args.tables.now) c.args.job) (last-read p c.args.tables.now) c.requires.can
 
 pub returns-clause-order : goal.returns-clause-order
-returns-clause-order c = cc (c.source_of-source.ensures, c.target_of-target.ensures, last-read c.args.shaped.now c.args.tables.now)
+returns-clause-order c =
+    let p = c.args.shaped.now in
+    c.make_move.ensures.order ∙ ap (order_for p (cell_of p c.args.tables.now) c.args.job) (sym (last-read p c.args.tables.now))
 
 pub returns-clause-moved : goal.returns-clause-moved
 returns-clause-moved c =
     let p = c.args.shaped.now in
-    move_of_parts p (cell_of p c.args.tables.now) (cell_of p c.leave.new.tables) (cell_of p c.come.new.tables) (cell_of p c.note_move.new.tables) c.source_of-source.result
-    c.target_of-target.result c.args.job c.args.tables.now.last c.source_of-source.ensures c.target_of-target.ensures c.leave.ensures.left c.come.ensures.came c.note_move.ensures.moved
-    (sym (last-read p c.args.tables.now))
-
-pub returns-clause-sound : goal.returns-clause-sound
-returns-clause-sound c =
-    let p = c.args.shaped.now in
-    let cell = cell_of p c.args.tables.now in
-    record {
-      tables = c.note_move.ensures.tables;
-      sound = subst (IsSound p) (sym (returns-clause-moved c))
-          (after_move-sound p cell c.args.job cell.last c.requires.sound.tables.shaped c.requires.sound.sound c.requires.can c.requires.keeps);
-    }
+    c.make_move.ensures.moved ∙ ap (after_move p (cell_of p c.args.tables.now) c.args.job) (sym (last-read p c.args.tables.now))

@@ -1,0 +1,204 @@
+-- Which words tell what, and which tell nothing.
+use Rattle.std.proofs.Common.{◌≡◌, ◌≢◌, ℕ, false, List, [], ◌∷◌, ◌++◌, codes, eqb, refl, sym, ap, ◌∙◌, subst}
+use Rattle.std.specs.List.{join_with_byte}
+use Rattle.std.proofs.lemmas.Bool.{eq-eqb}
+use Rattle.shop_base.specs.declared.move_order.Spot.{Spot}
+use Rattle.shop_base.specs.declared.move_order.MoveOrder.{MoveOrder}
+use Rattle.text_lines.specs.Numbers.{IsNumeral, value_of}
+use Rattle.text_lines.specs.Cuts.{HasNone, IsCutAt}
+use Rattle.cell_control.specs.declared.report.Report.{Report}
+use Rattle.cell_control.specs.declared.report.Report.TheVariants.{Arrive, Finish, Clean}
+use Rattle.run_log.specs.declared.entry.Entry.{Entry}
+use Rattle.run_log.specs.declared.entry.Entry.TheVariants.{Report as ReportEntry, Order as OrderEntry}
+use Rattle.run_log.specs.LogLines.{spaced_words, IsSpotWord, AreSpotWords, AreEndWords, AreReportWords, AreOrderWords, IsEntryLine, moment_of}
+use Rattle.run_log.specs.LogWords.{IsNumberFirst, HasNoNumberFirst, AreEndWordsAt, AreNoEndWords}
+use Rattle.run_log.proofs.SpacedWords.{words_first, words_one, words_back, numeral_one, spot_one}
+
+pub different : (a b : ℕ) → eqb a b ≡ false → a ≡ b → ⊥
+different a b unequal same = let equal = eq-eqb a b same in cc
+
+-- ---- a number, and words behind it
+
+pub no_number-uncut : (most : ℕ) (bytes : List ℕ) → HasNone 32 bytes → HasNoNumberFirst most (spaced_words bytes)
+no_number-uncut most bytes none n next rest found = let one = words_one bytes none in let more = found.2 in absurd (cc)
+
+pub no_number-other : (most : ℕ) (bytes front rest : List ℕ) → IsCutAt 32 bytes front rest → ((n : ℕ) → IsNumeral most front n → ⊥) → HasNoNumberFirst most (spaced_words bytes)
+no_number-other most bytes front rest cut other n next more found =
+    let words = words_first bytes front rest cut in
+    let is = found.2 in
+    let same : found.0 ≡ front = cc in
+    other n (subst (λ w. IsNumeral most w n) same found.1)
+
+pub number-here : (most : ℕ) (bytes front rest : List ℕ) (n : ℕ) → IsCutAt 32 bytes front rest → IsNumeral most front n → IsNumberFirst most (spaced_words bytes) n (spaced_words rest)
+number-here most bytes front rest n cut is_number = (front, is_number, words_first bytes front rest cut)
+
+-- there is always a word
+pub some_word : (bytes : List ℕ) → (first : List ℕ) × (rest : List (List ℕ)) × (spaced_words bytes ≡ first ∷ rest)
+some_word bytes = go (spaced_words bytes) refl
+  where
+    go : (words : List (List ℕ)) → spaced_words bytes ≡ words → (first : List ℕ) × (rest : List (List ℕ)) × (spaced_words bytes ≡ first ∷ rest)
+    go [] none = let empty : bytes ≡ [] = words_back bytes [] none in let one : spaced_words bytes ≡ [] ∷ [] = ap spaced_words empty in absurd (cc)
+    go (first ∷ rest) is = (first, rest, is)
+
+-- ---- what has ended
+
+only_word : (bytes word : List ℕ) → spaced_words bytes ≡ word ∷ [] → word ≡ bytes
+only_word bytes word one = sym (words_back bytes (word ∷ []) one)
+
+tail_is : (word : List ℕ) (words more : List (List ℕ)) → word ∷ words ≡ word ∷ more → words ≡ more
+tail_is word words more same = cc
+
+pub arrival-here : (bytes : List ℕ) (job at : ℕ) → IsNumeral 9 bytes job → AreEndWordsAt (codes "arrive" ∷ spaced_words bytes) at (Arrive job at)
+arrival-here bytes job at is_number = ((bytes, is_number, ap (λ words. codes "arrive" ∷ words) (numeral_one 9 bytes job is_number)), refl)
+
+pub clean-here : (bytes : List ℕ) (machine at : ℕ) → IsNumeral 9 bytes machine → AreEndWordsAt (codes "clean" ∷ spaced_words bytes) at (Clean machine at)
+clean-here bytes machine at is_number = ((bytes, is_number, ap (λ words. codes "clean" ∷ words) (numeral_one 9 bytes machine is_number)), refl)
+
+pub finish-here : (bytes rest : List ℕ) (job machine at : ℕ) → IsNumberFirst 9 (spaced_words bytes) job (spaced_words rest) → IsNumeral 9 rest machine
+    → AreEndWordsAt (codes "finish" ∷ spaced_words bytes) at (Finish job machine at)
+finish-here bytes rest job machine at first is_number =
+    ((first.0, rest, first.1, is_number, ap (λ words. codes "finish" ∷ words) (first.2 ∙ ap (λ words. first.0 ∷ words) (numeral_one 9 rest machine is_number))), refl)
+
+pub no_arrival : (bytes : List ℕ) (at : ℕ) → ((n : ℕ) → IsNumeral 9 bytes n → ⊥) → AreNoEndWords (codes "arrive" ∷ spaced_words bytes) at
+no_arrival bytes at none (Arrive job t) found =
+    let same = only_word bytes found.0.0 (tail_is (codes "arrive") _ _ found.0.2) in none job (subst (λ w. IsNumeral 9 w job) same found.0.1)
+no_arrival bytes at none (Finish job machine t) found = let is = found.0.4 in let heads : 97 ≡ 102 = cc in different 97 102 refl heads
+no_arrival bytes at none (Clean machine t) found = let is = found.0.2 in let heads : 97 ≡ 99 = cc in different 97 99 refl heads
+
+pub no_clean : (bytes : List ℕ) (at : ℕ) → ((n : ℕ) → IsNumeral 9 bytes n → ⊥) → AreNoEndWords (codes "clean" ∷ spaced_words bytes) at
+no_clean bytes at none (Arrive job t) found = let is = found.0.2 in let heads : 99 ≡ 97 = cc in different 99 97 refl heads
+no_clean bytes at none (Finish job machine t) found = let is = found.0.4 in let heads : 99 ≡ 102 = cc in different 99 102 refl heads
+no_clean bytes at none (Clean machine t) found =
+    let same = only_word bytes found.0.0 (tail_is (codes "clean") _ _ found.0.2) in none machine (subst (λ w. IsNumeral 9 w machine) same found.0.1)
+
+pub no_finish : (bytes : List ℕ) (at : ℕ)
+    → ((job machine : ℕ) (j m : List ℕ) → IsNumeral 9 j job → IsNumeral 9 m machine → spaced_words bytes ≡ j ∷ m ∷ [] → ⊥)
+    → AreNoEndWords (codes "finish" ∷ spaced_words bytes) at
+no_finish bytes at none (Arrive job t) found = let is = found.0.2 in let heads : 102 ≡ 97 = cc in different 102 97 refl heads
+no_finish bytes at none (Finish job machine t) found = none job machine found.0.0 found.0.1 found.0.2 found.0.3 (tail_is (codes "finish") _ _ found.0.4)
+no_finish bytes at none (Clean machine t) found = let is = found.0.2 in let heads : 102 ≡ 99 = cc in different 102 99 refl heads
+
+pub no_finish-first : (bytes : List ℕ) (at : ℕ) → HasNoNumberFirst 9 (spaced_words bytes) → AreNoEndWords (codes "finish" ∷ spaced_words bytes) at
+no_finish-first bytes at none = no_finish bytes at (λ job machine j m is_job is_machine words. none job m [] (j, is_job, words))
+
+pub no_finish-last : (bytes rest : List ℕ) (job at : ℕ) → IsNumberFirst 9 (spaced_words bytes) job (spaced_words rest) → ((n : ℕ) → IsNumeral 9 rest n → ⊥)
+    → AreNoEndWords (codes "finish" ∷ spaced_words bytes) at
+no_finish-last bytes rest job at first none = no_finish bytes at refuse
+  where
+    refuse : (i machine : ℕ) (j m : List ℕ) → IsNumeral 9 j i → IsNumeral 9 m machine → spaced_words bytes ≡ j ∷ m ∷ [] → ⊥
+    refuse i machine j m is_job is_machine words =
+        let is = first.2 in
+        let one : spaced_words rest ≡ m ∷ [] = cc in
+        none machine (subst (λ w. IsNumeral 9 w machine) (only_word rest m one) is_machine)
+
+-- a report's words begin with what has ended
+pub no_kind : (bytes : List ℕ) (at : ℕ) → ((rest : List ℕ) → bytes ≢ codes "arrive " ++ rest) → ((rest : List ℕ) → bytes ≢ codes "finish " ++ rest)
+    → ((rest : List ℕ) → bytes ≢ codes "clean " ++ rest) → AreNoEndWords (spaced_words bytes) at
+no_kind bytes at a f c (Arrive job t) found = a found.0.0 (words_back bytes _ found.0.2)
+no_kind bytes at a f c (Finish job machine t) found = f (join_with_byte 32 (found.0.0 ∷ found.0.1 ∷ [])) (words_back bytes _ found.0.4)
+no_kind bytes at a f c (Clean machine t) found = c found.0.0 (words_back bytes _ found.0.2)
+
+-- ---- reports and orders
+
+pub no_report-moment : (words : List (List ℕ)) → HasNoNumberFirst 13 words → (report : Report) → AreReportWords words report → ⊥
+no_report-moment words none report found = go found.1 found.3 found.4
+  where
+    go : (rest : List (List ℕ)) → AreEndWords rest report → words ≡ found.0 ∷ rest → ⊥
+    go [] ends is = nothing report ends
+      where
+        nothing : (r : Report) → AreEndWords [] r → ⊥
+        nothing (Arrive job t) e = let no_words = e.2 in absurd (cc)
+        nothing (Finish job machine t) e = let no_words = e.4 in absurd (cc)
+        nothing (Clean machine t) e = let no_words = e.2 in absurd (cc)
+    go (next ∷ rest) ends is = none (moment_of report) next rest (found.0, found.2, is)
+
+pub same_number : (most n m : ℕ) (first other : List ℕ) → IsNumeral most first n → IsNumeral most other m → first ≡ other → m ≡ n
+same_number most n m first other is_first is_other same = is_other.value ∙ sym (ap value_of same) ∙ sym is_first.value
+
+pub report-ends : (words rest : List (List ℕ)) (at : ℕ) (report : Report) → IsNumberFirst 13 words at rest → AreEndWordsAt rest at report → AreReportWords words report
+report-ends words rest at report first ends = (first.0, rest, subst (λ n. IsNumeral 13 first.0 n) (sym ends.1) first.1, ends.0, first.2)
+
+pub no_report-end : (words rest : List (List ℕ)) (at : ℕ) → IsNumberFirst 13 words at rest → AreNoEndWords rest at → (report : Report) → AreReportWords words report → ⊥
+no_report-end words rest at first none report found =
+    let is = first.2 in
+    let also = found.4 in
+    let firsts : first.0 ≡ found.0 = cc in
+    let rests : found.1 ≡ rest = cc in
+    none report (subst (λ ws. AreEndWords ws report) rests found.3, same_number 13 at (moment_of report) first.0 found.0 first.1 found.2 firsts)
+
+pub spots-here : (bytes from to : List ℕ) (source target : Spot) → IsCutAt 32 bytes from to → IsSpotWord from source → IsSpotWord to target → AreSpotWords (spaced_words bytes) source target
+spots-here bytes from to source target cut is_source is_target =
+    (from, to, is_source, is_target, words_first bytes from to cut ∙ ap (λ words. from ∷ words) (spot_one to target is_target))
+
+pub no_spots-uncut : (bytes : List ℕ) → HasNone 32 bytes → (source target : Spot) → AreSpotWords (spaced_words bytes) source target → ⊥
+no_spots-uncut bytes none source target found = let one = words_one bytes none in let two = found.4 in absurd (cc)
+
+pub no_spots-source : (bytes from to : List ℕ) → IsCutAt 32 bytes from to → ((spot : Spot) → IsSpotWord from spot → ⊥) → (source target : Spot) → AreSpotWords (spaced_words bytes) source target → ⊥
+no_spots-source bytes from to cut none source target found =
+    let words = words_first bytes from to cut in
+    let is = found.4 in
+    let same : found.0 ≡ from = cc in
+    none source (subst (λ w. IsSpotWord w source) same found.2)
+
+pub no_spots-target : (bytes from to : List ℕ) → IsCutAt 32 bytes from to → ((spot : Spot) → IsSpotWord to spot → ⊥) → (source target : Spot) → AreSpotWords (spaced_words bytes) source target → ⊥
+no_spots-target bytes from to cut none source target found =
+    let words = words_first bytes from to cut in
+    let is = found.4 in
+    let one : spaced_words to ≡ found.1 ∷ [] = cc in
+    none target (subst (λ w. IsSpotWord w target) (only_word to found.1 one) found.3)
+
+pub no_order-moment : (words : List (List ℕ)) → HasNoNumberFirst 13 words → (o : MoveOrder) → AreOrderWords words o → ⊥
+no_order-moment words none o found = none o.at found.1 found.2 (found.0, found.3, found.6)
+
+pub no_order-job : (words rest : List (List ℕ)) (at : ℕ) → IsNumberFirst 13 words at rest → HasNoNumberFirst 9 rest → (o : MoveOrder) → AreOrderWords words o → ⊥
+no_order-job words rest at first none o found = go found.5
+  where
+    go : AreSpotWords found.2 o.source o.target → ⊥
+    go spots =
+        let is = first.2 in
+        let also = found.6 in
+        let two = spots.4 in
+        let rests : rest ≡ found.1 ∷ spots.0 ∷ spots.1 ∷ [] = cc in
+        none o.job spots.0 (spots.1 ∷ []) (found.1, found.4, rests)
+
+pub no_order-spots : (words rest spots : List (List ℕ)) (at job : ℕ) → IsNumberFirst 13 words at rest → IsNumberFirst 9 rest job spots
+    → ((source target : Spot) → AreSpotWords spots source target → ⊥) → (o : MoveOrder) → AreOrderWords words o → ⊥
+no_order-spots words rest spots at job first second none o found =
+    let is = first.2 in
+    let then_is = second.2 in
+    let also = found.6 in
+    let same : found.2 ≡ spots = cc in
+    none o.source o.target (subst (λ ws. AreSpotWords ws o.source o.target) same found.5)
+
+pub order-here : (words rest spots : List (List ℕ)) (o : MoveOrder) → IsNumberFirst 13 words o.at rest → IsNumberFirst 9 rest o.job spots
+    → AreSpotWords spots o.source o.target → AreOrderWords words o
+order-here words rest spots o first second two = (first.0, second.0, spots, first.1, second.1, two, first.2 ∙ ap (λ ws. first.0 ∷ ws) second.2)
+
+-- ---- lines
+
+pub no_report_line : (line rest : List ℕ) → spaced_words line ≡ codes "report" ∷ spaced_words rest → ((report : Report) → AreReportWords (spaced_words rest) report → ⊥)
+    → (entry : Entry) → IsEntryLine line entry → ⊥
+no_report_line line rest words none (ReportEntry report) found =
+    let is = found.2 in
+    let same : found.0 ≡ spaced_words rest = cc in
+    none report (subst (λ ws. AreReportWords ws report) same found.1)
+no_report_line line rest words none (OrderEntry order) found = let is = found.2 in let heads : 114 ≡ 111 = cc in different 114 111 refl heads
+
+pub no_order_line : (line rest : List ℕ) → spaced_words line ≡ codes "order" ∷ spaced_words rest → ((order : MoveOrder) → AreOrderWords (spaced_words rest) order → ⊥)
+    → (entry : Entry) → IsEntryLine line entry → ⊥
+no_order_line line rest words none (ReportEntry report) found = let is = found.2 in let heads : 111 ≡ 114 = cc in different 111 114 refl heads
+no_order_line line rest words none (OrderEntry order) found =
+    let is = found.2 in
+    let same : found.0 ≡ spaced_words rest = cc in
+    none order (subst (λ ws. AreOrderWords ws order) same found.1)
+
+-- a line with neither word first tells nothing
+pub no_line : (line : List ℕ) → ((rest : List ℕ) → line ≢ codes "report " ++ rest) → ((rest : List ℕ) → line ≢ codes "order " ++ rest) → (entry : Entry) → IsEntryLine line entry → ⊥
+no_line line r o (ReportEntry report) found =
+    let back = words_back line _ found.2 in
+    let moment = found.1.4 in
+    r (join_with_byte 32 (found.1.0 ∷ found.1.1)) (back ∙ ap (λ ws. join_with_byte 32 (codes "report" ∷ ws)) moment)
+no_line line r o (OrderEntry order) found =
+    let back = words_back line _ found.2 in
+    let moment = found.1.6 in
+    o (join_with_byte 32 (found.1.0 ∷ found.1.1 ∷ found.1.2)) (back ∙ ap (λ ws. join_with_byte 32 (codes "order" ∷ ws)) moment)

@@ -1,0 +1,129 @@
+-- Which logs an audit accepts, and what it finds first in the others.
+use Rattle.std.specs.Prelude.{◌≡◌, ℕ, ◌+◌, ◌<◌, ◌≤◌, ◌↔◌, true, false, None, Some, List, [], ◌∷◌, ◌++◌, length}
+use Rattle.shop_base.specs.declared.move_order.Spot.{Spot}
+use Rattle.shop_base.specs.declared.move_order.Spot.TheVariants.{Out, At}
+use Rattle.shop_base.specs.declared.move_order.MoveOrder.{MoveOrder}
+use Rattle.shop_base.specs.Plan.{PlannedShop, order}
+use Rattle.shop_base.specs.Cell.{Cell, ready, entries, cleaning, IsFree}
+use Rattle.shop_base.specs.Activity.{Activity, GoesOn}
+use Rattle.shop_base.specs.Move.{IsPrefix, source, target}
+use Rattle.shop_base.specs.Run.{IsRun, ends_in}
+use Rattle.shop_base.specs.Ends.{HasEnded, reports_in, moves_in}
+use Rattle.cell_control.specs.Reports.{said}
+use Rattle.run_log.specs.declared.entry.Entry.{Entry}
+use Rattle.run_log.specs.declared.entry.Entry.TheVariants.{Report as ReportEntry, Order as OrderEntry}
+use Rattle.run_log.specs.declared.audit_fault.AuditFault.{AuditFault}
+use Rattle.run_log.specs.declared.audit_fault.AuditFault.TheVariants.{BadLine, NotExpected, Backwards, NotReady, Occupied, OutOfOrder, WrongPlace, NotClean, Memory}
+use Rattle.run_log.specs.declared.audited.Audit.{Audit}
+use Rattle.run_log.specs.Events.{events_of}
+use Rattle.run_log.specs.LogLines.{is_passed_over, IsEntryLine, IsEntryOf, LineTells, LinesTell}
+
+-- the activity is going on
+abbrev pub IsGoingOn : PlannedShop → Cell → Activity → Type 0
+IsGoingOn p c a = (due : ℕ) × GoesOn p c a due
+
+-- a job is on the machine
+abbrev pub IsHeld : PlannedShop → Cell → Spot → Type 0
+IsHeld p c Out = ⊥
+IsHeld p c (At m) = IsFree p c m → ⊥
+
+-- the machine is being cleaned, and no job is on it
+abbrev pub IsUnclean : PlannedShop → Cell → Spot → Type 0
+IsUnclean p c Out = ⊥
+IsUnclean p c (At m) = IsFree p c m × ((s : ℕ) × (cleaning c m ≡ Some s))
+
+-- the machine can be entered, but job j isn't the next in its order
+abbrev pub IsOutOfTurn : PlannedShop → Cell → Spot → ℕ → Type 0
+IsOutOfTurn p c Out j = ⊥
+IsOutOfTurn p c (At m) j = IsFree p c m × (cleaning c m ≡ None) × (IsPrefix (entries c m ++ j ∷ []) (order p m) → ⊥)
+
+-- the machine can be entered, and job j is the next in its order; or it is no machine
+abbrev pub IsOpen : PlannedShop → Cell → Spot → ℕ → Type 0
+IsOpen p c Out j = Unit {0}
+IsOpen p c (At m) j = IsFree p c m × (cleaning c m ≡ None) × IsPrefix (entries c m ++ j ∷ []) (order p m)
+
+-- the first fault of a target for job j
+abbrev pub IsTargetFault : PlannedShop → Cell → Spot → ℕ → AuditFault → Type 0
+IsTargetFault p c spot j (Occupied line) = IsHeld p c spot
+IsTargetFault p c spot j (NotClean line) = IsUnclean p c spot
+IsTargetFault p c spot j (OutOfOrder line) = IsOutOfTurn p c spot j
+IsTargetFault p c spot j fault = ⊥
+
+-- the order goes from where its job is to where that goes next
+abbrev pub IsItsWay : PlannedShop → Cell → MoveOrder → Type 0
+IsItsWay p c o = (o.source ≡ source p c o.job) × (o.target ≡ target p c o.job)
+
+-- it goes from another spot, or to another
+abbrev pub IsWayFault : PlannedShop → Cell → MoveOrder → AuditFault → Type 0
+IsWayFault p c o (WrongPlace line) = IsItsWay p c o → ⊥
+IsWayFault p c o fault = ⊥
+
+-- an order that isn't before the last moment, of a job that is ready
+pub record IsTimely (c : Cell) (o : MoveOrder) : Type 0 where
+  pub in_order : c.last ≤ o.at
+  pub is_ready : ready c o.job ≡ true
+
+-- the first fault of an entry in a cell
+abbrev pub IsFaultOf : PlannedShop → Cell → Entry → AuditFault → Type 0
+IsFaultOf p c (ReportEntry report) (NotExpected line) = IsGoingOn p c (said report).ended → ⊥
+IsFaultOf p c (ReportEntry report) (Backwards line) = IsGoingOn p c (said report).ended × ((said report).at < c.last)
+IsFaultOf p c (OrderEntry o) (Backwards line) = o.at < c.last
+IsFaultOf p c (OrderEntry o) (NotReady line) = (c.last ≤ o.at) × (ready c o.job ≡ false)
+IsFaultOf p c (OrderEntry o) (Occupied line) = IsTimely c o × IsHeld p c o.target
+IsFaultOf p c (OrderEntry o) (NotClean line) = IsTimely c o × IsUnclean p c o.target
+IsFaultOf p c (OrderEntry o) (OutOfOrder line) = IsTimely c o × IsOutOfTurn p c o.target o.job
+IsFaultOf p c (OrderEntry o) (WrongPlace line) = IsTimely c o × IsOpen p c o.target o.job × (IsItsWay p c o → ⊥)
+IsFaultOf p c entry fault = ⊥
+
+-- the line isn't passed over, and tells no event of the shop
+pub record IsBadLine (p : PlannedShop) (line : List ℕ) : Type 0 where
+  pub told : is_passed_over line ≡ false
+  pub untold : (entry : Entry) → IsEntryLine line entry → IsEntryOf p entry → ⊥
+
+-- the first fault of a line in a cell
+abbrev pub IsLineFault : PlannedShop → Cell → List ℕ → AuditFault → Type 0
+IsLineFault p c line (BadLine number) = IsBadLine p line
+IsLineFault p c line Memory = ⊥
+IsLineFault p c line fault = (entry : Entry) × LineTells p line (entry ∷ []) × IsFaultOf p c entry fault
+
+-- the line of a fault
+abbrev pub line_of : AuditFault → ℕ
+line_of (BadLine line) = line
+line_of (NotExpected line) = line
+line_of (Backwards line) = line
+line_of (NotReady line) = line
+line_of (Occupied line) = line
+line_of (OutOfOrder line) = line
+line_of (WrongPlace line) = line
+line_of (NotClean line) = line
+line_of Memory = 0
+
+-- the fault is the first of these lines: those before its line tell a run
+pub record IsFirstBad (p : PlannedShop) (lines : List (List ℕ)) (fault : AuditFault) : Type 0 where
+  pub before : List (List ℕ)
+  pub line : List ℕ
+  pub after : List (List ℕ)
+  pub split : lines ≡ before ++ line ∷ after
+  pub number : line_of fault ≡ length before + 1
+  pub told : List Entry
+  pub tells : LinesTell p before told
+  pub run : IsRun p (events_of told)
+  pub is_fault : IsLineFault p (ends_in p (events_of told)) line fault
+
+-- what an audit found of lines that tell a run
+pub record IsAudit (p : PlannedShop) (lines : List (List ℕ)) (audit : Audit) : Type 0 where
+  pub tells : LinesTell p lines audit.entries.items
+  pub run : IsRun p (events_of audit.entries.items)
+  pub reports : audit.reports ≡ reports_in (events_of audit.entries.items)
+  pub orders : audit.orders ≡ moves_in (events_of audit.entries.items)
+  pub last : audit.last ≡ (ends_in p (events_of audit.entries.items)).last
+  pub complete : (audit.complete ≡ true) ↔ HasEnded p (ends_in p (events_of audit.entries.items))
+
+-- want of memory, or the first fault of the lines
+abbrev pub IsAuditFault : PlannedShop → List (List ℕ) → AuditFault → Type 0
+IsAuditFault p lines Memory = Unit {0}
+IsAuditFault p lines fault = IsFirstBad p lines fault
+
+-- the lines tell a run
+abbrev pub TellRun : PlannedShop → List (List ℕ) → Type 0
+TellRun p lines = (told : List Entry) × LinesTell p lines told × IsRun p (events_of told)

@@ -1,0 +1,203 @@
+//! The entries that the lines of a log tell.
+
+ghost use Rattle.std.specs.Prelude.{◌≡◌, ℕ, ◌^◌, ◌<◌, ◌≤◌, ◌↔◌, List, ◌∷◌, codes, MatchOption, IfSome, IsTrue};
+ghost use Rattle.cell_control.specs.Moving.{IsSpotOf};
+ghost use Rattle.run_log.specs.LogLines.{spaced_words, is_passed_over, IsSpotWord, AreSpotWords, AreReportWords, AreOrderWords, IsEntryLine, AreEndsOf, IsEntryOf};
+ghost use Rattle.run_log.specs.LogWords.{IsNumberFirst, HasNoNumberFirst, AreEndWordsAt, AreNoEndWords};
+
+use crate::entry::Entry;
+use cell_control::Report;
+use shop_base::limits::MAX_MOMENT;
+use shop_base::readers::{job_count, machine_count};
+use shop_base::{JobNo, Moment, MoveOrder, Shaped, Spot};
+use text_lines::{after_prefix, cut_at, number_of, short_number_of};
+
+/// Whether the line is passed over.
+pub(crate) fn is_passed_over(line: &[u8]) -> bool
+    ensures { result ≡ is_passed_over line.now }
+{
+    line.is_empty()
+        || line.starts_with(b"late ")
+        || line.starts_with(b"refused ")
+        || line.starts_with(b"done ")
+        || line.starts_with(b"unfinished ")
+}
+
+/// The spot that the word is.
+fn spot_of(word: &[u8]) -> Option<Spot>
+    ensures { MatchOption result ((spot : Spot) → IsSpotWord word.now spot → ⊥) (IsSpotWord word.now) }
+{
+    if word == b"out".as_slice() {
+        return Some(Spot::Out);
+    }
+    match short_number_of(word) {
+        Some(machine) => Some(Spot::At(machine)),
+        None => None,
+    }
+}
+
+/// The number before the first space, and the words behind it.
+fn number_first(words: &[u8], most: usize) -> Option<(u64, &[u8])>
+    requires { most ≤ 18 }
+    ensures number { MatchOption result (HasNoNumberFirst most (spaced_words words.now))
+        (λ found. IsNumberFirst most (spaced_words words.now) found.0 (spaced_words found.1.now)) }
+    ensures small { IfSome result (λ found. found.0 < 10 ^ most) }
+{
+    let (first, rest) = cut_at(b' ', words)?;
+    let number = number_of(first, most)?;
+    Some((number, rest))
+}
+
+/// The arrival that the word behind `arrive` tells.
+fn arrival_of(words: &[u8], at: Moment) -> Option<Report>
+    ensures { MatchOption result (AreNoEndWords (codes "arrive" ∷ spaced_words words.now) at) (AreEndWordsAt (codes "arrive" ∷ spaced_words words.now) at) }
+{
+    match short_number_of(words) {
+        Some(job) => Some(Report::Arrive { job, at }),
+        None => None,
+    }
+}
+
+/// The end of an operation that the words behind `finish` tell.
+fn finish_of(words: &[u8], at: Moment) -> Option<Report>
+    ensures { MatchOption result (AreNoEndWords (codes "finish" ∷ spaced_words words.now) at) (AreEndWordsAt (codes "finish" ∷ spaced_words words.now) at) }
+{
+    let (job, rest) = number_first(words, 9)?;
+    let machine = short_number_of(rest)?;
+    Some(Report::Finish {
+        job: job as JobNo,
+        machine,
+        at,
+    })
+}
+
+/// The end of a cleaning that the word behind `clean` tells.
+fn clean_of(words: &[u8], at: Moment) -> Option<Report>
+    ensures { MatchOption result (AreNoEndWords (codes "clean" ∷ spaced_words words.now) at) (AreEndWordsAt (codes "clean" ∷ spaced_words words.now) at) }
+{
+    match short_number_of(words) {
+        Some(machine) => Some(Report::Clean { machine, at }),
+        None => None,
+    }
+}
+
+/// What has ended at this moment, as the words tell.
+fn ended_of(words: &[u8], at: Moment) -> Option<Report>
+    ensures { MatchOption result (AreNoEndWords (spaced_words words.now) at) (AreEndWordsAt (spaced_words words.now) at) }
+{
+    if let Some(rest) = after_prefix(words, b"arrive ") {
+        return arrival_of(rest, at);
+    }
+    if let Some(rest) = after_prefix(words, b"finish ") {
+        return finish_of(rest, at);
+    }
+    match after_prefix(words, b"clean ") {
+        Some(rest) => clean_of(rest, at),
+        None => None,
+    }
+}
+
+/// The report that the words behind `report` tell.
+fn report_of(words: &[u8]) -> Option<Report>
+    ensures { MatchOption result ((report : Report) → AreReportWords (spaced_words words.now) report → ⊥) (AreReportWords (spaced_words words.now)) }
+{
+    let (at, rest) = number_first(words, 13)?;
+    ended_of(rest, at)
+}
+
+/// The spots that two words are.
+fn spots_of(words: &[u8]) -> Option<(Spot, Spot)>
+    ensures { MatchOption result ((source target : Spot) → AreSpotWords (spaced_words words.now) source target → ⊥)
+        (λ found. AreSpotWords (spaced_words words.now) found.0 found.1) }
+{
+    let (from, to) = cut_at(b' ', words)?;
+    let source = spot_of(from)?;
+    let target = spot_of(to)?;
+    Some((source, target))
+}
+
+/// The order that the words behind `order` tell.
+fn order_of(words: &[u8]) -> Option<MoveOrder>
+    ensures { MatchOption result ((order : MoveOrder) → AreOrderWords (spaced_words words.now) order → ⊥) (AreOrderWords (spaced_words words.now)) }
+{
+    let (at, rest) = number_first(words, 13)?;
+    let (job, spots) = number_first(rest, 9)?;
+    let (source, target) = spots_of(spots)?;
+    Some(MoveOrder {
+        job: job as JobNo,
+        source,
+        target,
+        at,
+    })
+}
+
+/// The report or the order that the line is.
+fn entry_of(line: &[u8]) -> Option<Entry>
+    ensures { MatchOption result ((entry : Entry) → IsEntryLine line.now entry → ⊥) (IsEntryLine line.now) }
+{
+    if let Some(words) = after_prefix(line, b"report ") {
+        return match report_of(words) {
+            Some(report) => Some(Entry::Report(report)),
+            None => None,
+        };
+    }
+    match order_of(after_prefix(line, b"order ")?) {
+        Some(order) => Some(Entry::Order(order)),
+        None => None,
+    }
+}
+
+fn is_spot_of(shaped: &Shaped, spot: Spot) -> bool
+    ensures { IsTrue result ↔ IsSpotOf shaped.now spot }
+{
+    match spot {
+        Spot::Out => true,
+        Spot::At(machine) => machine < machine_count(shaped),
+    }
+}
+
+fn ends_of_shop(shaped: &Shaped, report: Report) -> bool
+    ensures { IsTrue result ↔ AreEndsOf shaped.now report }
+{
+    match report {
+        Report::Arrive { job, at: _ } => job < job_count(shaped),
+        Report::Finish {
+            job,
+            machine,
+            at: _,
+        } => job < job_count(shaped) && machine < machine_count(shaped),
+        Report::Clean { machine, at: _ } => machine < machine_count(shaped),
+    }
+}
+
+fn is_order_of(shaped: &Shaped, order: MoveOrder) -> bool
+    ensures { IsTrue result ↔ IsEntryOf shaped.now (Entry.Order order) }
+{
+    if order.job >= job_count(shaped) || order.at > MAX_MOMENT {
+        return false;
+    }
+    is_spot_of(shaped, order.source) && is_spot_of(shaped, order.target)
+}
+
+/// Whether the jobs and machines of the entry are of the shop, and its moment isn't past the latest.
+fn is_entry_of(shaped: &Shaped, entry: Entry) -> bool
+    ensures { IsTrue result ↔ IsEntryOf shaped.now entry }
+{
+    match entry {
+        Entry::Report(report) => ends_of_shop(shaped, report) && report.at() <= MAX_MOMENT,
+        Entry::Order(order) => is_order_of(shaped, order),
+    }
+}
+
+/// The entry of the shop that the line tells.
+pub(crate) fn told_entry(shaped: &Shaped, line: &[u8]) -> Option<Entry>
+    ensures { MatchOption result ((entry : Entry) → IsEntryLine line.now entry → IsEntryOf shaped.now entry → ⊥)
+        (λ entry. IsEntryLine line.now entry × IsEntryOf shaped.now entry) }
+{
+    let entry = entry_of(line)?;
+    if is_entry_of(shaped, entry) {
+        Some(entry)
+    } else {
+        None
+    }
+}
