@@ -11,3 +11,4 @@ pub mod Driven
 pub mod AnswerText
 pub mod Driving
 pub mod OneTextLaw
+pub mod Statuses

@@ -7,8 +7,16 @@ ghost use Rattle.cell_drive.specs.AnswerLines.{late_line, order_lines};
 
 use crate::answer_lines::late_line;
 use cell_control::Report;
-use run_log::{Sink, WriteFault, order_line, put_all, report_line};
+use run_log::{LineText, Sink, WriteFault, put_all, put_order, put_report};
 use shop_base::{Moment, MoveOrder};
+
+fn put_report_line<W: Sink>(report: Report, writer: &mut W) -> Result<(), WriteFault>
+    ensures { Wrote result (W.failed writer.new) (W.taken writer.old) (W.taken writer.new) (report_line report) }
+{
+    let mut line = LineText::ended();
+    put_report(&mut line, report);
+    put_all(writer, line.bytes())
+}
 
 fn put_late<W: Sink>(late: bool, at: Moment, writer: &mut W) -> Result<(), WriteFault>
     ensures { Wrote result (W.failed writer.new) (W.taken writer.old) (W.taken writer.new) (if late then late_line at else []) }
@@ -23,7 +31,8 @@ fn put_orders<W: Sink>(orders: &[MoveOrder], writer: &mut W) -> Result<(), Write
     ensures { Wrote result (W.failed writer.new) (W.taken writer.old) (W.taken writer.new) (order_lines orders.now) }
 {
     for order in orders {
-        let line = order_line(*order);
+        let mut line = LineText::ended();
+        put_order(&mut line, *order);
         put_all(writer, line.bytes())?;
     }
     Ok(())
@@ -40,7 +49,7 @@ pub(crate) fn put_accepted<W: Sink>(
     ensures { Wrote result (W.failed writer.new) (W.taken writer.old) (W.taken writer.new)
         (report_line report ++ ((if late then late_line at else []) ++ order_lines orders.now)) }
 {
-    put_all(writer, report_line(report).bytes())?;
+    put_report_line(report, writer)?;
     put_late(late, at, writer)?;
     put_orders(orders, writer)
 }

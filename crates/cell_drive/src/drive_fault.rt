@@ -1,3 +1,6 @@
+ghost use Rattle.std.specs.Prelude.{◌≡◌};
+ghost use Rattle.cell_drive.specs.Statuses.{status_of};
+
 use thiserror::Error;
 
 /// Why lines were not all read and answered.
@@ -15,4 +18,16 @@ pub enum DriveFault {
     /// Memory was wanting, before the first byte was read.
     #[error("Memory")]
     Memory,
+}
+
+impl DriveFault {
+    /// The status that the program ends with at this fault.
+    pub fn status(&self) -> u8
+        ensures { result ≡ status_of self.now }
+    {
+        match self {
+            DriveFault::Read | DriveFault::Write | DriveFault::InputTooLong => 5,
+            DriveFault::Memory => 4,
+        }
+    }
 }

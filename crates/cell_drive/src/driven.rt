@@ -1,9 +1,11 @@
 //! A cell that is driven by lines: its controller, and the log of what was accepted and ordered.
 
-ghost use Rattle.std.specs.Prelude.{◌≡◌, ◌+◌, ◌≤◌, ◌∷◌, Some, length, map, IfOk, IfErr};
+ghost use Rattle.std.specs.Prelude.{◌≡◌, ◌≢◌, ◌+◌, ◌≤◌, [], ◌∷◌, Some, length, map, IfOk, IfErr};
 ghost use Rattle.cell_control.specs.Control.{IsAnswered};
 ghost use Rattle.cell_control.specs.Reports.{said, IsFirstReason};
 ghost use Rattle.run_log.specs.Log.{Notes};
+ghost use Rattle.run_log.specs.Sinks.{Wrote};
+ghost use Rattle.cell_drive.specs.AnswerLines.{refused_line};
 ghost use Rattle.cell_drive.specs.Answering.{WasAnswered, WasEnded};
 ghost use Rattle.cell_drive.specs.Driven.{IsDriven, DriveAnswer, ControlEnds};
 
@@ -60,6 +62,41 @@ fn take_report<D: Dues>(
     Ok(ack)
 }
 
+/// Refuses the line of this number by name.
+#[cold]
+#[inline(never)]
+fn put_refused<W: Sink>(number: u64, name: &[u8], writer: &mut W) -> Result<(), WriteFault>
+    requires { length name.now ≤ 20 }
+    ensures { Wrote result (W.failed writer.new) (W.taken writer.old) (W.taken writer.new) (refused_line number name.now) }
+{
+    put_all(writer, refused_line(number, name).bytes())
+}
+
+/// Answers a line that isn't empty. It stands apart, so that empty lines cost little.
+#[inline(never)]
+fn answer_told<D: Dues, W: Sink>(
+    controller: &mut Controller<D>,
+    log: &mut RunLog,
+    number: u64,
+    line: &[u8],
+    writer: &mut W,
+) -> Result<(), WriteFault>
+    requires driven { IsDriven (record { control = controller.old; log = log.old }) }
+    requires told { line.now ≢ [] }
+    ensures driven { IsDriven (record { control = controller.new; log = log.new }) }
+    ensures answered { WasAnswered DriveAnswer (record { control = controller.old; log = log.old }) number (Some line.now)
+        (record { control = controller.new; log = log.new }) result (W.failed writer.new) (W.taken writer.old) (W.taken writer.new) }
+{
+    let Some(report) = report_of(line) else {
+        return put_refused(number, b"BadLine", writer);
+    };
+    match take_report(controller, log, report) {
+        Ok(ack) => put_accepted(report, ack.late, report.at(), controller.orders(), writer),
+        Err(reason) => put_refused(number, reason.name().as_bytes(), writer),
+    }
+}
+
+/// Answers a line. An empty one has no answer.
 fn answer_line<D: Dues, W: Sink>(
     controller: &mut Controller<D>,
     log: &mut RunLog,
@@ -75,16 +112,7 @@ fn answer_line<D: Dues, W: Sink>(
     if line.is_empty() {
         return Ok(());
     }
-    let Some(report) = report_of(line) else {
-        return put_all(writer, refused_line(number, b"BadLine").bytes());
-    };
-    match take_report(controller, log, report) {
-        Ok(ack) => put_accepted(report, ack.late, report.at(), controller.orders(), writer),
-        Err(reason) => put_all(
-            writer,
-            refused_line(number, reason.name().as_bytes()).bytes(),
-        ),
-    }
+    answer_told(controller, log, number, line, writer)
 }
 
 /// Writes whether the run is done, and when, or how many reports are left.
@@ -115,7 +143,7 @@ impl<D: Dues> LineHandler for Driven<D> {
     }
 
     fn answer_long<W: Sink>(&mut self, number: u64, writer: &mut W) -> Result<(), WriteFault> {
-        put_all(writer, refused_line(number, b"LongLine").bytes())
+        put_refused(number, b"LongLine", writer)
     }
 
     fn end<W: Sink>(&self, writer: &mut W) -> Result<(), WriteFault> {

@@ -5,12 +5,12 @@ ghost use Rattle.cell_drive.specs.InputLines.{IsNumberAndMoment, IsFinishLine, I
 
 use cell_control::Report;
 use shop_base::Moment;
-use text_lines::{after_prefix, cut_at, number_of, short_number_of};
+use text_lines::{after_prefix, cut_word, number_of, short_number_of};
 
 fn number_and_moment(words: &[u8]) -> Option<(u32, Moment)>
     ensures { MatchOption result ((n at : ℕ) → IsNumberAndMoment words.now n at → ⊥) (λ found. IsNumberAndMoment words.now found.0 found.1) }
 {
-    let (first, second) = cut_at(b' ', words)?;
+    let (first, second) = cut_word(words)?;
     Some((short_number_of(first)?, number_of(second, 13)?))
 }
 
@@ -28,7 +28,7 @@ fn three_numbers(words: &[u8]) -> Option<(u32, u32, Moment)>
     ensures { MatchOption result ((job machine at : ℕ) → IsFinishLine (codes "finish " ++ words.now) job machine at → ⊥)
         (λ found. IsFinishLine (codes "finish " ++ words.now) found.0 found.1 found.2) }
 {
-    let (first, rest) = cut_at(b' ', words)?;
+    let (first, rest) = cut_word(words)?;
     let job = short_number_of(first)?;
     let (machine, at) = number_and_moment(rest)?;
     Some((job, machine, at))

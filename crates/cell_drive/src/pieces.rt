@@ -9,7 +9,7 @@ ghost use Rattle.cell_drive.specs.Answering.{WasAnswered, WereAnswered};
 use crate::held_line::{HeldLine, LINE_LIMIT};
 use crate::line_handler::LineHandler;
 use run_log::{Sink, WriteFault};
-use text_lines::{cut_at, without_return};
+use text_lines::{cut_line, without_return};
 
 /// How far an input has been read: how many lines have ended, and what is held of the next.
 #[derive(Drop)]
@@ -86,7 +86,7 @@ pub(crate) fn take_piece<H: LineHandler, W: Sink>(
     ensures lines { OnOk result (input.new.lines ≡ input.old.lines + length (ended input.old.held piece.now)) }
 {
     let mut rest = piece;
-    while let Some((line, after)) = cut_at(b'\n', rest) {
+    while let Some((line, after)) = cut_line(rest) {
         input.lines += 1;
         answer_ended(handler, input.lines, &mut input.held, line, writer)?;
         rest = after;

@@ -1,6 +1,6 @@
 //! The lines of events, each written into 64 bytes of its own.
 
-ghost use Rattle.std.specs.Prelude.{◌≡◌, ◌+◌, ◌≤◌, ◌++◌, length};
+ghost use Rattle.std.specs.Prelude.{◌≡◌, ◌+◌, ◌≤◌, [], ◌∷◌, ◌++◌, length};
 ghost use Rattle.run_log.specs.Sinks.{Wrote};
 ghost use Rattle.run_log.specs.EventLines.{spot_word, report_line, order_line, entry_line, entry_lines};
 
@@ -22,74 +22,72 @@ fn put_spot(line: &mut LineText, spot: Spot)
     }
 }
 
-fn arrival_line(job: JobNo, at: Moment) -> LineText
-    ensures { result ≡ report_line (Report.Arrive job at) }
+fn put_arrival(line: &mut LineText, job: JobNo, at: Moment)
+    requires { line.old ≡ 10 ∷ [] }
+    ensures { line.new ≡ report_line (Report.Arrive job at) }
 {
-    let mut line = LineText::ended();
     line.put_short_number(job);
     line.put_text(b" arrive ");
     line.put_number(at);
     line.put_text(b"report ");
-    line
 }
 
-fn finish_line(job: JobNo, machine: MachineNo, at: Moment) -> LineText
-    ensures { result ≡ report_line (Report.Finish job machine at) }
+fn put_finish(line: &mut LineText, job: JobNo, machine: MachineNo, at: Moment)
+    requires { line.old ≡ 10 ∷ [] }
+    ensures { line.new ≡ report_line (Report.Finish job machine at) }
 {
-    let mut line = LineText::ended();
     line.put_short_number(machine);
     line.put_text(b" ");
     line.put_short_number(job);
     line.put_text(b" finish ");
     line.put_number(at);
     line.put_text(b"report ");
-    line
 }
 
-fn clean_line(machine: MachineNo, at: Moment) -> LineText
-    ensures { result ≡ report_line (Report.Clean machine at) }
+fn put_clean(line: &mut LineText, machine: MachineNo, at: Moment)
+    requires { line.old ≡ 10 ∷ [] }
+    ensures { line.new ≡ report_line (Report.Clean machine at) }
 {
-    let mut line = LineText::ended();
     line.put_short_number(machine);
     line.put_text(b" clean ");
     line.put_number(at);
     line.put_text(b"report ");
-    line
 }
 
-/// The line of an accepted report: `report T arrive J`, `report T finish J M` or `report T clean M`.
-pub fn report_line(report: Report) -> LineText
-    ensures { result ≡ report_line report }
+/// Writes the line of an accepted report: `report T arrive J`, `report T finish J M` or `report T clean M`.
+pub fn put_report(line: &mut LineText, report: Report)
+    requires { line.old ≡ 10 ∷ [] }
+    ensures { line.new ≡ report_line report }
 {
     match report {
-        Report::Arrive { job, at } => arrival_line(job, at),
-        Report::Finish { job, machine, at } => finish_line(job, machine, at),
-        Report::Clean { machine, at } => clean_line(machine, at),
+        Report::Arrive { job, at } => put_arrival(line, job, at),
+        Report::Finish { job, machine, at } => put_finish(line, job, machine, at),
+        Report::Clean { machine, at } => put_clean(line, machine, at),
     }
 }
 
-/// The line of a move order: `order T J FROM TO`, with `out` for outside the cell.
-pub fn order_line(order: MoveOrder) -> LineText
-    ensures { result ≡ order_line order }
+/// Writes the line of a move order: `order T J FROM TO`, with `out` for outside the cell.
+pub fn put_order(line: &mut LineText, order: MoveOrder)
+    requires { line.old ≡ 10 ∷ [] }
+    ensures { line.new ≡ order_line order }
 {
-    let mut line = LineText::ended();
-    put_spot(&mut line, order.target);
+    put_spot(line, order.target);
     line.put_text(b" ");
-    put_spot(&mut line, order.source);
+    put_spot(line, order.source);
     line.put_text(b" ");
     line.put_short_number(order.job);
     line.put_text(b" ");
     line.put_number(order.at);
     line.put_text(b"order ");
-    line
 }
 
-fn entry_line(entry: Entry) -> LineText
-    ensures { result ≡ entry_line entry }
+fn put_entry(line: &mut LineText, entry: Entry)
+    requires { line.old ≡ 10 ∷ [] }
+    ensures { line.new ≡ entry_line entry }
 {
     match entry {
-        Entry::Report(report) => report_line(report),
-        Entry::Order(order) => order_line(order),
+        Entry::Report(report) => put_report(line, report),
+        Entry::Order(order) => put_order(line, order),
     }
 }
 
@@ -98,7 +96,8 @@ pub fn write_lines<W: Sink>(entries: &[Entry], writer: &mut W) -> Result<(), Wri
     ensures { Wrote result (W.failed writer.new) (W.taken writer.old) (W.taken writer.new) (entry_lines entries.now) }
 {
     for entry in entries {
-        let line = entry_line(*entry);
+        let mut line = LineText::ended();
+        put_entry(&mut line, *entry);
         put_all(writer, line.bytes())?;
     }
     Ok(())

@@ -26,7 +26,7 @@ pub use audit_fault::AuditFault;
 pub use audited::Audit;
 pub use auditing::audit;
 pub use entry::Entry;
-pub use event_lines::{order_line, report_line, write_lines};
+pub use event_lines::{put_order, put_report, write_lines};
 pub use gantt_text::gantt;
 pub use into_sink::IntoSink;
 pub use line_text::LineText;

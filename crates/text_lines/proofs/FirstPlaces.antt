@@ -1,6 +1,11 @@
 -- Where a byte stands first, from a search for it.
-use Rattle.std.proofs.Common.{◌≡◌, ℕ, zero, suc, ◌+◌, ◌-◌, ◌<◌, true, List, [], ◌∷◌, ◌++◌, Some, None, length, get_or, take, drop, sym, ap, ◌∙◌, arith, add-one, drop-cons, take-append-drop, eqb}
-use Rattle.std.proofs.lemmas.Bool.{false_from_ne_true, eqb-true}
+use Rattle.std.proofs.Common.{◌≡◌, ℕ, zero, suc, ◌+◌, ◌-◌, ◌<◌, ◌≤◌, true, List, [], ◌∷◌, ◌++◌, Some, None, length, get_or, take, drop, sym, ap, ◌∙◌, arith, add-one, drop-cons, take-append-drop, eqb}
+use Rattle.std.specs.Prelude.{position, not, ◌==◌}
+use Rattle.std.specs.List.{prefix_len}
+use Rattle.std.proofs.lemmas.Bool.{false_from_ne_true, eqb-true, false≢true}
+use Rattle.std.proofs.lemmas.Grind.{common_steps}
+use Rattle.std.proofs.lemmas.List.Sums.{prefix_len_passes}
+use Rattle.std.proofs.lemmas.List.Quantifiers.{position-Some}
 use Rattle.std.proofs.lemmas.List.{take_rest}
 use Rattle.memchr.specs.Find.{IsFirstByte, is_byte}
 use Rattle.text_lines.specs.Cuts.{HasNone, IsCutAt}
@@ -20,13 +25,29 @@ none_at_all byte (b ∷ bytes) nowhere =
 pub HasNone-from_search : (byte : ℕ) (bytes : List ℕ) → IsFirstByte (is_byte byte) bytes None → HasNone byte bytes
 HasNone-from_search byte bytes h = none_at_all byte bytes (λ j below. h j (omega arith) below)
 
-pub IsCutAt-from_search : (byte : ℕ) (bytes : List ℕ) (k : ℕ) → IsFirstByte (is_byte byte) bytes (Some k)
+-- the byte stands at a place, and at none before
+cut_here : (byte : ℕ) (bytes : List ℕ) (k : ℕ) → k < length bytes → get_or bytes k 0 ≡ byte → ((j : ℕ) → j < k → eqb (get_or bytes j 0) byte ≡ true → ⊥)
     → IsCutAt byte bytes (take k bytes) (take (length bytes - (k + 1)) (drop (k + 1) bytes))
-IsCutAt-from_search byte bytes k h =
-    let here : get_or bytes k 0 ≡ byte = eqb-true (get_or bytes k 0) byte h.1 in
-    let at : drop k bytes ≡ byte ∷ drop (suc k) bytes = drop-cons bytes k 0 h.0.high ∙ ap (λ b. b ∷ drop (suc k) bytes) here in
+cut_here byte bytes k inside here nowhere =
+    let at : drop k bytes ≡ byte ∷ drop (suc k) bytes = drop-cons bytes k 0 inside ∙ ap (λ b. b ∷ drop (suc k) bytes) here in
     let rest : drop (suc k) bytes ≡ take (length bytes - (k + 1)) (drop (k + 1) bytes) = ap (λ (n : ℕ). drop n bytes) (sym (add-one k)) ∙ sym (take_rest bytes (k + 1)) in
     record {
-      before = none_before byte bytes k (λ j below. h.0.before j (omega arith) below);
+      before = none_before byte bytes k nowhere;
       split = sym (take-append-drop k bytes) ∙ ap (λ l. take k bytes ++ l) (at ∙ ap (λ l. byte ∷ l) rest);
     }
+
+pub IsCutAt-from_search : (byte : ℕ) (bytes : List ℕ) (k : ℕ) → IsFirstByte (is_byte byte) bytes (Some k)
+    → IsCutAt byte bytes (take k bytes) (take (length bytes - (k + 1)) (drop (k + 1) bytes))
+IsCutAt-from_search byte bytes k h = cut_here byte bytes k h.0.high (eqb-true (get_or bytes k 0) byte h.1) (λ j below. h.0.before j (omega arith) below)
+
+pub IsCutAt-from_position : (byte : ℕ) (bytes : List ℕ) (k : ℕ) → position (λ b. b == byte) bytes ≡ Some k
+    → IsCutAt byte bytes (take k bytes) (take (length bytes - (k + 1)) (drop (k + 1) bytes))
+IsCutAt-from_position byte bytes k found =
+    let first = position-Some (λ b. b == byte) bytes k 0 found in
+    cut_here byte bytes k first.0 (eqb-true (get_or bytes k 0) byte first.1) (λ j below passes. false≢true (sym (first.2 j below) ∙ passes))
+
+pub HasNone-from_position : (byte : ℕ) (bytes : List ℕ) → position (λ b. b == byte) bytes ≡ None → HasNone byte bytes
+HasNone-from_position byte bytes nowhere =
+    let long : length bytes ≤ prefix_len (λ b. not (b == byte)) bytes = grind (arith, common_steps) in
+    none_at_all byte bytes (λ j below passes.
+      false≢true (sym (ap not passes) ∙ prefix_len_passes (λ b. not (b == byte)) bytes j 0 (omega (arith, long, below))))

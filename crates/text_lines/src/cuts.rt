@@ -1,14 +1,36 @@
-ghost use Rattle.std.specs.Prelude.{◌≡◌, ◌≢◌, ℕ, ◌++◌, List, MatchOption};
+ghost use Rattle.std.specs.Prelude.{◌≡◌, ◌≢◌, ℕ, ◌<◌, ◌==◌, ◌++◌, List, length, position, IfSome, MatchOption};
 ghost use Rattle.text_lines.specs.Cuts.{HasNone, IsCutAt};
 
 use memchr::memchr;
 
-/// The bytes before the first such byte and those after it, none where there is no such byte.
-pub fn cut_at(byte: u8, bytes: &[u8]) -> Option<(&[u8], &[u8])>
-    ensures { MatchOption result (HasNone byte bytes.now) (λ found. IsCutAt byte bytes.now found.0.now found.1.now) }
+/// The bytes before the first line feed and those after it, none where there is no line feed.
+pub fn cut_line(bytes: &[u8]) -> Option<(&[u8], &[u8])>
+    ensures { MatchOption result (HasNone 10 bytes.now) (λ found. IsCutAt 10 bytes.now found.0.now found.1.now) }
 {
-    match memchr(byte, bytes) {
+    if let Some((first, rest)) = bytes.split_first() {
+        if *first == b'\n' {
+            return Some((&[], rest));
+        }
+    }
+    match memchr(b'\n', bytes) {
         Some(end) => Some((&bytes[..end], &bytes[end + 1..])),
+        None => None,
+    }
+}
+
+fn word_end(line: &[u8]) -> Option<usize>
+    ensures first { result ≡ position (λ byte. byte == 32) line.now }
+    ensures within { IfSome result (λ end. end < length line.now) }
+{
+    line.iter().position(|byte| *byte == b' ')
+}
+
+/// The bytes before the first space and those after it, none where there is no space.
+pub fn cut_word(line: &[u8]) -> Option<(&[u8], &[u8])>
+    ensures { MatchOption result (HasNone 32 line.now) (λ found. IsCutAt 32 line.now found.0.now found.1.now) }
+{
+    match word_end(line) {
+        Some(end) => Some((&line[..end], &line[end + 1..])),
         None => None,
     }
 }

@@ -5,7 +5,7 @@ mod cuts;
 mod lines;
 mod numbers;
 
-pub use cuts::{after_prefix, cut_at};
+pub use cuts::{after_prefix, cut_line, cut_word};
 pub use lines::{line_count, next_line, without_return};
 pub use numbers::{number_of, short_number_of};
 

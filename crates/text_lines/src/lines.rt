@@ -1,7 +1,7 @@
 ghost use Rattle.std.specs.Prelude.{◌≡◌, [], ◌∷◌, ◌<◌, length, MatchOption, IfSome};
 ghost use Rattle.text_lines.specs.Lines.{without_return, lines_of};
 
-use crate::cuts::cut_at;
+use crate::cuts::cut_line;
 
 /// The line without one carriage return at its end, if it has one there.
 pub fn without_return(line: &[u8]) -> &[u8]
@@ -19,7 +19,7 @@ pub fn next_line(text: &[u8]) -> Option<(&[u8], &[u8])>
     if text.is_empty() {
         return None;
     }
-    match cut_at(b'\n', text) {
+    match cut_line(text) {
         Some((line, rest)) => Some((without_return(line), rest)),
         None => Some((without_return(text), &[])),
     }

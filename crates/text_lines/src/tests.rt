@@ -49,8 +49,8 @@ fn words_are_numbers_of_few_digits(rt: HostRuntime) -> Result<(), Fail> {
 
 #[test]
 fn bytes_are_cut_at_the_first(rt: HostRuntime) -> Result<(), Fail> {
-    assert!(rt; cut_at(b' ', b"a b c") == Some((b"a", b"b c")));
-    assert!(rt; cut_at(b' ', b"abc").is_none());
+    assert!(rt; cut_word(b"a b c") == Some((b"a", b"b c")));
+    assert!(rt; cut_word(b"abc").is_none());
     assert!(rt; after_prefix(b"late 4", b"late ") == Some(b"4"));
     assert!(rt; after_prefix(b"late", b"late ").is_none());
     Ok(())

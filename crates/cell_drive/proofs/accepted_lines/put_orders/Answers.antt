@@ -13,7 +13,7 @@ returns-in_err-put_all g c =
     rw p.1 (
       c.in_err-put_all.ensures.wrote.0,
       TookPart-rest _ _ _ _ _ _ (order_lines (drop (i + 1) orders)) c.loop-order.invariant c.in_err-put_all.ensures.wrote.1
-          (ap (λ l. l ++ order_lines (drop (i + 1) orders)) (c.bytes.ensures ∙ c.order_line-line.ensures) ∙ next_order orders i _ (omega arith)),
+          (ap (λ l. l ++ order_lines (drop (i + 1) orders)) (c.bytes.ensures ∙ c.put_order.ensures) ∙ next_order orders i _ (omega arith)),
     )
 
 pub loop-order-preserved : goal.loop-order-preserved
@@ -21,4 +21,4 @@ loop-order-preserved g c =
     let orders = c.args.orders.now in
     let i = c.loop-order.order-index in
     AllBut-more _ _ _ _ _ _ _ c.loop-order.invariant c.in_ok-put_all.ensures.wrote
-    (ap (λ l. l ++ order_lines (drop (i + 1) orders)) (c.bytes.ensures ∙ c.order_line-line.ensures) ∙ next_order orders i _ (omega arith))
+    (ap (λ l. l ++ order_lines (drop (i + 1) orders)) (c.bytes.ensures ∙ c.put_order.ensures) ∙ next_order orders i _ (omega arith))

@@ -13,7 +13,7 @@ returns-in_err-put_all g c =
     rw p.1 (
       c.in_err-put_all.ensures.wrote.0,
       TookPart-rest _ _ _ _ _ _ (entry_lines (drop (i + 1) entries)) c.loop-entry.invariant c.in_err-put_all.ensures.wrote.1
-          (ap (λ l. l ++ entry_lines (drop (i + 1) entries)) (c.bytes.ensures ∙ c.entry_line-line.ensures) ∙ next_line entries i _ (omega arith)),
+          (ap (λ l. l ++ entry_lines (drop (i + 1) entries)) (c.bytes.ensures ∙ c.put_entry.ensures) ∙ next_line entries i _ (omega arith)),
     )
 
 pub loop-entry-preserved : goal.loop-entry-preserved
@@ -21,4 +21,4 @@ loop-entry-preserved g c =
     let entries = c.args.entries.now in
     let i = c.loop-entry.entry-index in
     AllBut-more _ _ _ _ _ _ _ c.loop-entry.invariant c.in_ok-put_all.ensures.wrote
-    (ap (λ l. l ++ entry_lines (drop (i + 1) entries)) (c.bytes.ensures ∙ c.entry_line-line.ensures) ∙ next_line entries i _ (omega arith))
+    (ap (λ l. l ++ entry_lines (drop (i + 1) entries)) (c.bytes.ensures ∙ c.put_entry.ensures) ∙ next_line entries i _ (omega arith))
