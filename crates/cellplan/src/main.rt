@@ -4,8 +4,11 @@
 //! the system: the arguments, the files, the standard streams and the exit status.
 #![tactic(auto)]
 
+mod driving;
+mod failures;
 mod files;
 mod program;
+mod streams;
 
 use std::process::ExitCode;
 

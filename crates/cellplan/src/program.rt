@@ -1,9 +1,11 @@
 //! The program: its words, what it reads, what it writes, and the status that it ends with.
 
+use crate::driving::drive_streams;
+use crate::failures::{Failure, fail};
 use crate::files::read_file;
 use command_answers::{
-    Answer, CommandFault, FileFault, GOOD, check_of, facts_answer, load_instance, plan_for,
-    read_whole, shape_of,
+    Answer, FileFault, GOOD, Loaded, check_of, facts_answer, load_for, load_instance,
+    loaded_answer, plan_for, read_whole, shape_of,
 };
 use command_words::{Chosen, CommandName, WordsFault, read_words};
 use plan_seek::{GreedyProposer, Proposer, ShiftProposer};
@@ -11,39 +13,6 @@ use shop_base::Shop;
 use std::alloc::{AllocError, Global};
 use std::env;
 use std::io::{self, ErrorKind, Write};
-
-/// Why the program ends without an answer on the standard output.
-#[derive(Debug, Drop)]
-enum Failure {
-    /// The words of the command line are refused, with the text that says why.
-    Usage(String),
-    /// A word of the command line isn't UTF-8.
-    NotText,
-    /// The command has no answer yet.
-    NoAnswerYet,
-    Command(CommandFault),
-    File(FileFault),
-    Memory,
-    Write,
-}
-
-impl From<AllocError> for Failure {
-    fn from(_error: AllocError) -> Failure {
-        Failure::Memory
-    }
-}
-
-impl From<CommandFault> for Failure {
-    fn from(fault: CommandFault) -> Failure {
-        Failure::Command(fault)
-    }
-}
-
-impl From<FileFault> for Failure {
-    fn from(fault: FileFault) -> Failure {
-        Failure::File(fault)
-    }
-}
 
 /// Runs the program, and gives the status that it ends with.
 pub fn run(rt: &HostRuntime, alloc: Global) -> u8 {
@@ -108,6 +77,10 @@ fn command_answer(rt: &HostRuntime, alloc: Global, chosen: &Chosen) -> Result<An
             let shop = instance(rt, alloc, chosen)?;
             searched(alloc, shop, &file(rt, alloc, chosen, 1)?, chosen.rounds)
         }
+        CommandName::Drive => {
+            let shop = instance(rt, alloc, chosen)?;
+            driven(rt, alloc, shop, &file(rt, alloc, chosen, 1)?)
+        }
         _ => Err(Failure::NoAnswerYet),
     }
 }
@@ -120,6 +93,17 @@ fn searched(alloc: Global, shop: Shop, plan: &[u8], rounds: u32) -> Result<Answe
     let shift = Box::new(alloc, ShiftProposer::new()).map_err(AllocError::from)?;
     proposers.push(shift).map_err(AllocError::from)?;
     Ok(plan_for(alloc, shop, plan, &proposers, rounds)?)
+}
+
+/// The answer of `drive`. Where the plan is accepted, its lines have been written before.
+fn driven(rt: &HostRuntime, alloc: Global, shop: Shop, plan: &[u8]) -> Result<Answer, Failure> {
+    match load_for(alloc, shop, plan)? {
+        Loaded::Accepted(verified) => Ok(Answer {
+            text: Vec::new(alloc),
+            status: drive_streams(rt, alloc, verified)?,
+        }),
+        other => Ok(loaded_answer(alloc, &other)?),
+    }
 }
 
 /// The shop that the first file tells. It is read before any other file.
@@ -150,32 +134,3 @@ fn print(rt: &HostRuntime, answer: &Answer) -> Result<u8, Failure> {
     }
 }
 
-/// Says on the standard error why there is no answer, and gives the status. Nothing is left to do where
-/// that can't be written.
-fn fail(rt: &HostRuntime, failure: &Failure) -> u8 {
-    let _ = match failure {
-        Failure::Usage(text) => eprint!(rt; "{text}"),
-        Failure::NotText => eprintln!(rt; "cellplan: a word of the command line isn't UTF-8"),
-        Failure::NoAnswerYet => eprintln!(rt; "cellplan: this command has no answer yet"),
-        Failure::Command(CommandFault::Instance(fault)) => eprintln!(rt;
-            "cellplan: instance: {fault}"
-        ),
-        Failure::Command(CommandFault::Plan(fault)) => eprintln!(rt; "cellplan: plan: {fault}"),
-        Failure::Command(CommandFault::Memory)
-        | Failure::Memory
-        | Failure::File(FileFault::Memory) => { eprintln!(rt; "cellplan: out of memory") }
-        Failure::File(FileFault::Read) => eprintln!(rt; "cellplan: read"),
-        Failure::File(FileFault::TooLong) => eprintln!(rt; "cellplan: input too long"),
-        Failure::Write => eprintln!(rt; "cellplan: write"),
-    };
-    status_of(failure)
-}
-
-fn status_of(failure: &Failure) -> u8 {
-    match failure {
-        Failure::Usage(_) | Failure::NotText | Failure::NoAnswerYet => 2,
-        Failure::Command(fault) => fault.status(),
-        Failure::Memory | Failure::File(FileFault::Memory) => 4,
-        Failure::File(_) | Failure::Write => 5,
-    }
-}

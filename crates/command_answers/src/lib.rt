@@ -14,7 +14,7 @@ mod search;
 mod shapes;
 
 pub use answer::{Answer, GOOD, REFUSED};
-pub use checks::{check_answer, check_of};
+pub use checks::{check_answer, check_of, loaded_answer};
 pub use command_fault::CommandFault;
 pub use facts::facts_answer;
 pub use instances::load_instance;
