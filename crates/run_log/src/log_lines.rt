@@ -10,7 +10,7 @@ use cell_control::Report;
 use shop_base::limits::MAX_MOMENT;
 use shop_base::readers::{job_count, machine_count};
 use shop_base::{JobNo, Moment, MoveOrder, Shaped, Spot};
-use text_lines::{after_prefix, cut_at, number_of, short_number_of};
+use text_lines::{after_prefix, cut_word, number_of, short_number_of};
 
 /// Whether the line is passed over.
 pub(crate) fn is_passed_over(line: &[u8]) -> bool
@@ -43,7 +43,7 @@ fn number_first(words: &[u8], most: usize) -> Option<(u64, &[u8])>
         (λ found. IsNumberFirst most (spaced_words words.now) found.0 (spaced_words found.1.now)) }
     ensures small { IfSome result (λ found. found.0 < 10 ^ most) }
 {
-    let (first, rest) = cut_at(b' ', words)?;
+    let (first, rest) = cut_word(words)?;
     let number = number_of(first, most)?;
     Some((number, rest))
 }
@@ -110,7 +110,7 @@ fn spots_of(words: &[u8]) -> Option<(Spot, Spot)>
     ensures { MatchOption result ((source target : Spot) → AreSpotWords (spaced_words words.now) source target → ⊥)
         (λ found. AreSpotWords (spaced_words words.now) found.0 found.1) }
 {
-    let (from, to) = cut_at(b' ', words)?;
+    let (from, to) = cut_word(words)?;
     let source = spot_of(from)?;
     let target = spot_of(to)?;
     Some((source, target))
