@@ -209,73 +209,104 @@ pub(super) fn controller<D: Dues>(
     Ok(cell)
 }
 
-fn makes_a_run<D: Dues>(rt: &(impl Abort + AllocGlobal)) -> Result<(), Fail> {
-    let mut cell = controller::<D>(rt, crossing_plan(rt.alloc())?)?;
-    gives(rt, &mut cell, &begun())?;
-    gives(rt, &mut cell, &ended())?;
-    assert!(rt; cell.is_done() && cell.punctual());
-    assert_eq!(rt; cell.now(), 9);
+/// What the readers tell of a run: what is left, when the last report was accepted, and whether none was late.
+fn tells_of_run<D: Dues>(
+    rt: &impl Abort,
+    cell: &Controller<D>,
+    left: u64,
+    now: Moment,
+    punctual: bool,
+) {
+    assert!(rt; cell.reports_left() == left);
+    assert!(rt; cell.now() == now);
+    assert!(rt; cell.is_done() == (left == 0));
+    assert!(rt; cell.punctual() == punctual);
+}
+
+/// Gives the reports to a new controller, and tells what is left then, the last moment, and whether no report was late.
+fn plays<D: Dues>(
+    rt: &(impl Abort + AllocGlobal),
+    verified: Option<Verified>,
+    parts: [&[(Report, &str)]; 3],
+    end: (u64, Moment, bool),
+) -> Result<(), Fail> {
+    let mut cell = controller::<D>(rt, verified)?;
+    for run in parts {
+        gives(rt, &mut cell, run)?;
+    }
+    tells_of_run(rt, &cell, end.0, end.1, end.2);
     Ok(())
+}
+
+fn makes_a_run<D: Dues>(rt: &(impl Abort + AllocGlobal)) -> Result<(), Fail> {
+    let verified = crossing_plan(rt.alloc())?;
+    plays::<D>(rt, verified, [&begun(), &[], &ended()], (0, 9, true))
 }
 
 fn refuses_what_is_impossible<D: Dues>(rt: &(impl Abort + AllocGlobal)) -> Result<(), Fail> {
-    let mut cell = controller::<D>(rt, crossing_plan(rt.alloc())?)?;
-    gives(rt, &mut cell, &begun())?;
-    gives(rt, &mut cell, &refused())?;
-    gives(rt, &mut cell, &ended())?;
-    assert!(rt; cell.is_done() && cell.punctual());
-    Ok(())
+    let verified = crossing_plan(rt.alloc())?;
+    plays::<D>(rt, verified, [&begun(), &refused(), &ended()], (0, 9, true))
 }
 
 fn takes_late_reports<D: Dues>(rt: &(impl Abort + AllocGlobal)) -> Result<(), Fail> {
-    let mut cell = controller::<D>(rt, crossing_plan(rt.alloc())?)?;
-    gives(rt, &mut cell, &late())?;
-    assert!(rt; cell.is_done() && !cell.punctual());
-    let mut cell = controller::<D>(rt, crossing_plan(rt.alloc())?)?;
-    gives(rt, &mut cell, &latest())?;
-    assert_eq!(rt; cell.reports_left(), 5);
-    Ok(())
+    let verified = crossing_plan(rt.alloc())?;
+    plays::<D>(rt, verified, [&late(), &[], &[]], (0, 11, false))
+}
+
+fn takes_the_latest_moment<D: Dues>(rt: &(impl Abort + AllocGlobal)) -> Result<(), Fail> {
+    let verified = crossing_plan(rt.alloc())?;
+    plays::<D>(
+        rt,
+        verified,
+        [&latest(), &[], &[]],
+        (5, 1_000_000_000_000, false),
+    )
 }
 
 fn moves_all_that_can<D: Dues>(rt: &(impl Abort + AllocGlobal)) -> Result<(), Fail> {
-    let mut cell = controller::<D>(rt, following_plan(rt.alloc())?)?;
-    gives(rt, &mut cell, &followed())?;
-    gives(rt, &mut cell, &freed())?;
-    assert!(rt; cell.is_done() && cell.punctual());
-    let mut cell = controller::<D>(rt, instant_plan(rt.alloc())?)?;
-    gives(rt, &mut cell, &instant())?;
-    assert!(rt; cell.is_done() && cell.punctual());
-    Ok(())
+    let verified = following_plan(rt.alloc())?;
+    plays::<D>(rt, verified, [&followed(), &freed(), &[]], (0, 9, true))
+}
+
+fn takes_no_time<D: Dues>(rt: &(impl Abort + AllocGlobal)) -> Result<(), Fail> {
+    let verified = instant_plan(rt.alloc())?;
+    plays::<D>(rt, verified, [&instant(), &[], &[]], (0, 0, true))
 }
 
 fn waits_for_cleanings<D: Dues>(rt: &(impl Abort + AllocGlobal)) -> Result<(), Fail> {
-    let mut cell = controller::<D>(rt, cleaned_plan(rt.alloc())?)?;
-    gives(rt, &mut cell, &dirty())?;
-    gives(rt, &mut cell, &cleaned())?;
-    assert!(rt; cell.is_done() && cell.punctual());
-    let mut cell = controller::<D>(rt, cleaned_plan(rt.alloc())?)?;
-    gives(rt, &mut cell, &dirty())?;
-    gives(rt, &mut cell, &unclean())?;
-    assert_eq!(rt; cell.reports_left(), 3);
-    Ok(())
+    let verified = cleaned_plan(rt.alloc())?;
+    plays::<D>(rt, verified, [&dirty(), &cleaned(), &[]], (0, 13, true))
+}
+
+fn takes_a_late_cleaning<D: Dues>(rt: &(impl Abort + AllocGlobal)) -> Result<(), Fail> {
+    let verified = cleaned_plan(rt.alloc())?;
+    plays::<D>(rt, verified, [&dirty(), &unclean(), &[]], (3, 8, false))
+}
+
+fn makes_the_runs<D: Dues>(rt: &(impl Abort + AllocGlobal)) -> Result<(), Fail> {
+    makes_a_run::<D>(rt)?;
+    refuses_what_is_impossible::<D>(rt)?;
+    takes_late_reports::<D>(rt)?;
+    takes_the_latest_moment::<D>(rt)
+}
+
+fn makes_the_other_runs<D: Dues>(rt: &(impl Abort + AllocGlobal)) -> Result<(), Fail> {
+    moves_all_that_can::<D>(rt)?;
+    takes_no_time::<D>(rt)?;
+    waits_for_cleanings::<D>(rt)?;
+    takes_a_late_cleaning::<D>(rt)
 }
 
 #[test]
 fn scan_dues_serve_a_controller(rt: HostRuntime) -> Result<(), Fail> {
-    makes_a_run::<ScanDues>(&rt)?;
-    refuses_what_is_impossible::<ScanDues>(&rt)?;
-    takes_late_reports::<ScanDues>(&rt)?;
-    moves_all_that_can::<ScanDues>(&rt)?;
-    waits_for_cleanings::<ScanDues>(&rt)
+    makes_the_runs::<ScanDues>(&rt)?;
+    makes_the_other_runs::<ScanDues>(&rt)
 }
 
 #[test]
 fn tourney_dues_serve_a_controller(rt: HostRuntime) -> Result<(), Fail> {
-    makes_a_run::<TourneyDues>(&rt)?;
-    refuses_what_is_impossible::<TourneyDues>(&rt)?;
-    takes_late_reports::<TourneyDues>(&rt)?;
-    moves_all_that_can::<TourneyDues>(&rt)?;
-    waits_for_cleanings::<TourneyDues>(&rt)
+    makes_the_runs::<TourneyDues>(&rt)?;
+    makes_the_other_runs::<TourneyDues>(&rt)
 }
 
 /// What the readers tell of the job of this number: where it is, and when its activity is due.
@@ -302,13 +333,6 @@ fn tells_of_machine<D: Dues>(
     assert!(rt; cell.clean_due(machine) == due);
 }
 
-/// What the readers tell of a run: what is left, and when the last report was accepted.
-fn tells_of_run<D: Dues>(rt: &impl Abort, cell: &Controller<D>, left: u64, now: Moment) {
-    assert_eq!(rt; cell.reports_left(), left);
-    assert_eq!(rt; cell.now(), now);
-    assert!(rt; cell.is_done() == (left == 0));
-}
-
 #[test]
 fn the_readers_tell_the_start(rt: HostRuntime) -> Result<(), Fail> {
     let mut cell = controller::<TourneyDues>(&rt, crossing_plan(rt.alloc())?)?;
@@ -316,7 +340,7 @@ fn the_readers_tell_the_start(rt: HostRuntime) -> Result<(), Fail> {
     tells_of_job(&rt, &cell, 1, Some(awaited), Some(0));
     tells_of_job(&rt, &cell, 2, None, None);
     tells_of_machine(&rt, &cell, 2, None, None);
-    tells_of_run(&rt, &cell, 6, 0);
+    tells_of_run(&rt, &cell, 6, 0, true);
     assert!(rt; cell.orders().is_empty());
     assert!(rt; cell.report(arrive(0, 0)).is_ok());
     let begun = Phase::OnMachine {
@@ -325,7 +349,7 @@ fn the_readers_tell_the_start(rt: HostRuntime) -> Result<(), Fail> {
     };
     tells_of_job(&rt, &cell, 0, Some(begun), Some(3));
     tells_of_machine(&rt, &cell, 0, Some(0), None);
-    tells_of_run(&rt, &cell, 5, 0);
+    tells_of_run(&rt, &cell, 5, 0, true);
     Ok(())
 }
 
@@ -338,7 +362,7 @@ fn the_readers_tell_of_a_cleaning(rt: HostRuntime) -> Result<(), Fail> {
     tells_of_job(&rt, &cell, 1, Some(waiting), None);
     tells_of_machine(&rt, &cell, 0, None, None);
     tells_of_machine(&rt, &cell, 1, None, Some(7));
-    tells_of_run(&rt, &cell, 4, 5);
+    tells_of_run(&rt, &cell, 4, 5, true);
     assert_eq!(rt; cell.verified().makespan(), 12);
     assert_eq!(rt; cell.into_verified().makespan(), 12);
     Ok(())
