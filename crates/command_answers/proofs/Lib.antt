@@ -3,3 +3,4 @@ pub mod PlanTelling
 pub mod CheckLines
 pub mod Passing
 pub mod SearchLines
+pub mod LogAnswers

@@ -6,3 +6,5 @@ pub mod Plans
 pub mod Shapes
 pub mod Checks
 pub mod Search
+pub mod AuditLines
+pub mod GanttLines

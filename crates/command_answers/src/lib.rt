@@ -2,8 +2,10 @@
 #![tactic(auto)]
 
 mod answer;
+mod audits;
 mod checks;
 mod command_fault;
+mod drawings;
 mod facts;
 mod instances;
 mod loading;
@@ -14,8 +16,10 @@ mod search;
 mod shapes;
 
 pub use answer::{Answer, GOOD, REFUSED};
+pub use audits::{audit_answer, audit_of};
 pub use checks::{check_answer, check_of, loaded_answer};
 pub use command_fault::CommandFault;
+pub use drawings::{gantt_answer, gantt_of};
 pub use facts::facts_answer;
 pub use instances::load_instance;
 pub use loading::{Loaded, load, load_for};
