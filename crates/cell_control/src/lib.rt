@@ -3,8 +3,11 @@
 //! A [`Controller`] is made of a `Verified` plan and takes one [`Report`] at a time. It accepts just the
 //! reports that are possible, and answers each with the moves that it releases.
 //!
-//! Moments are whole time units, counted from moment 0. Only [`Controller::new`] and [`Dues::sized`] take
-//! memory.
+//! The cell that it keeps in tables stands in [`tables`], and in [`places`], [`moving`] and [`ending`] what is
+//! read and changed there, for others that follow a run.
+//!
+//! Moments are whole time units, counted from moment 0. Only [`Controller::new`], [`Dues::sized`] and
+//! [`tables::start_tables`] take memory.
 #![tactic(auto)]
 
 mod checking;
