@@ -1,5 +1,6 @@
 //! The commands' answers to the worked examples.
 
+mod audits;
 mod checks;
 mod facts;
 mod plans;
