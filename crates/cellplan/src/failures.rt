@@ -59,8 +59,12 @@ pub fn fail(rt: &HostRuntime, failure: &Failure) -> u8 {
         | Failure::Drive(DriveFault::Memory)
         | Failure::Memory
         | Failure::File(FileFault::Memory) => { eprintln!(rt; "cellplan: out of memory") }
-        Failure::File(FileFault::Read) | Failure::Drive(DriveFault::Read) => { eprintln!(rt; "cellplan: read") }
-        Failure::File(FileFault::TooLong) | Failure::Drive(DriveFault::InputTooLong) => { eprintln!(rt; "cellplan: input too long") }
+        Failure::File(FileFault::Read) | Failure::Drive(DriveFault::Read) => {
+            eprintln!(rt; "cellplan: read")
+        }
+        Failure::File(FileFault::TooLong) | Failure::Drive(DriveFault::InputTooLong) => {
+            eprintln!(rt; "cellplan: input too long")
+        }
         Failure::Write | Failure::Drive(DriveFault::Write) => eprintln!(rt; "cellplan: write"),
     };
     status_of(failure)

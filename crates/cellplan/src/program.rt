@@ -4,12 +4,12 @@ use crate::driving::drive_streams;
 use crate::failures::{Failure, fail};
 use crate::files::read_file;
 use command_answers::{
-    Answer, FileFault, GOOD, Loaded, check_of, facts_answer, load_for, load_instance,
-    loaded_answer, plan_for, read_whole, shape_of,
+    Answer, FileFault, GOOD, Loaded, check_of, drawn_answer, facts_answer, load_for, load_instance,
+    load_plan, loaded_answer, log_answer, not_shaped_answer, plan_for, read_whole, shape_of,
 };
 use command_words::{Chosen, CommandName, WordsFault, read_words};
 use plan_seek::{GreedyProposer, Proposer, ShiftProposer};
-use shop_base::Shop;
+use shop_base::{Shop, shape};
 use std::alloc::{AllocError, Global};
 use std::env;
 use std::io::{self, ErrorKind, Write};
@@ -81,7 +81,8 @@ fn command_answer(rt: &HostRuntime, alloc: Global, chosen: &Chosen) -> Result<An
             let shop = instance(rt, alloc, chosen)?;
             driven(rt, alloc, shop, &file(rt, alloc, chosen, 1)?)
         }
-        _ => Err(Failure::NoAnswerYet),
+        CommandName::Audit | CommandName::Gantt => logged(rt, alloc, chosen),
+        CommandName::Hub => Err(Failure::NoAnswerYet),
     }
 }
 
@@ -103,6 +104,21 @@ fn driven(rt: &HostRuntime, alloc: Global, shop: Shop, plan: &[u8]) -> Result<An
             status: drive_streams(rt, alloc, verified)?,
         }),
         other => Ok(loaded_answer(alloc, &other)?),
+    }
+}
+
+/// The answer to a log. It is opened once the plan is found to be well shaped.
+fn logged(rt: &HostRuntime, alloc: Global, chosen: &Chosen) -> Result<Answer, Failure> {
+    let shop = instance(rt, alloc, chosen)?;
+    let plan = load_plan(alloc, &file(rt, alloc, chosen, 1)?)?;
+    let shaped = match shape(shop, plan) {
+        Ok(shaped) => shaped,
+        Err(refused) => return Ok(not_shaped_answer(alloc, refused.fault)?),
+    };
+    let log = file(rt, alloc, chosen, 2)?;
+    match chosen.name {
+        CommandName::Gantt => Ok(drawn_answer(alloc, &shaped, &log)?),
+        _ => Ok(log_answer(alloc, &shaped, &log)?),
     }
 }
 
@@ -133,4 +149,3 @@ fn print(rt: &HostRuntime, answer: &Answer) -> Result<u8, Failure> {
         Err(_) => Err(Failure::Write),
     }
 }
-

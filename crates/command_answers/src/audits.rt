@@ -40,7 +40,7 @@ pub fn audit_answer(
 }
 
 /// Whether a log tells a run of a plan for a shop.
-pub fn audit_of(alloc: Global, shop: Shop, plan: &[u8], log: &[u8]) -> Result<Answer, CommandFault>
+fn audit_of(alloc: Global, shop: Shop, plan: &[u8], log: &[u8]) -> Result<Answer, CommandFault>
     ensures found { IfOk result (IsOfPlan shop plan.now (IsAuditLine log.now)) }
     ensures only { (told : ShopPlan) → IsPlanText plan.now told → Holds result (IsAuditLine log.now (record { shop = shop; plan = told })) }
     ensures fault { IfErr result (IsRightPlanFault plan.now) }
@@ -60,7 +60,7 @@ fn audit_line(alloc: Global, shop: Shop, plan: Plan, log: &[u8]) -> Result<Answe
 }
 
 /// The line of a log that is audited against a plan.
-fn log_answer(alloc: Global, shaped: &Shaped, log: &[u8]) -> Result<Answer, AllocError>
+pub fn log_answer(alloc: Global, shaped: &Shaped, log: &[u8]) -> Result<Answer, AllocError>
     ensures { IfOk result (IsLogLine shaped.now log.now) }
 {
     match audit(alloc, shaped, log) {

@@ -41,7 +41,7 @@ pub fn gantt_answer(
 }
 
 /// The Gantt text of a log of a plan for a shop.
-pub fn gantt_of(alloc: Global, shop: Shop, plan: &[u8], log: &[u8]) -> Result<Answer, CommandFault>
+fn gantt_of(alloc: Global, shop: Shop, plan: &[u8], log: &[u8]) -> Result<Answer, CommandFault>
     ensures found { IfOk result (IsOfPlan shop plan.now (IsGanttAnswer log.now)) }
     ensures only { (told : ShopPlan) → IsPlanText plan.now told → Holds result (IsGanttAnswer log.now (record { shop = shop; plan = told })) }
     ensures fault { IfErr result (IsRightPlanFault plan.now) }
@@ -61,7 +61,7 @@ fn gantt_line(alloc: Global, shop: Shop, plan: Plan, log: &[u8]) -> Result<Answe
 }
 
 /// The Gantt text of a log that is audited against a plan.
-fn drawn_answer(alloc: Global, shaped: &Shaped, log: &[u8]) -> Result<Answer, AllocError>
+pub fn drawn_answer(alloc: Global, shaped: &Shaped, log: &[u8]) -> Result<Answer, AllocError>
     ensures { IfOk result (IsDrawnLog shaped.now log.now) }
 {
     match audit(alloc, shaped, log) {

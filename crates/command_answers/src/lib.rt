@@ -16,14 +16,14 @@ mod search;
 mod shapes;
 
 pub use answer::{Answer, GOOD, REFUSED};
-pub use audits::{audit_answer, audit_of};
+pub use audits::{audit_answer, log_answer};
 pub use checks::{check_answer, check_of, loaded_answer};
 pub use command_fault::CommandFault;
-pub use drawings::{gantt_answer, gantt_of};
+pub use drawings::{drawn_answer, gantt_answer};
 pub use facts::facts_answer;
 pub use instances::load_instance;
 pub use loading::{Loaded, load, load_for};
 pub use plans::load_plan;
 pub use reading::{FileFault, MAX_BYTES, read_whole};
 pub use search::{plan_answer, plan_for};
-pub use shapes::{shape_answer, shape_of};
+pub use shapes::{not_shaped_answer, shape_answer, shape_of};
