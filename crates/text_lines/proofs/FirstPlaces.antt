@@ -50,4 +50,4 @@ pub HasNone-from_position : (byte : ℕ) (bytes : List ℕ) → position (λ b. 
 HasNone-from_position byte bytes nowhere =
     let long : length bytes ≤ prefix_len (λ b. not (b == byte)) bytes = grind (arith, common_steps) in
     none_at_all byte bytes (λ j below passes.
-      false≢true (sym (ap not passes) ∙ prefix_len_passes (λ b. not (b == byte)) bytes j 0 (omega (arith, long, below))))
+    false≢true (sym (ap not passes) ∙ prefix_len_passes (λ b. not (b == byte)) bytes j 0 (omega (arith, long, below))))

@@ -10,14 +10,16 @@ const CROSSED: &[u8] = b"release = [0, 0]\nbudget = [100, 100]\norder = [[0, 1],
 const CLEANED: &[u8] =
     b"version = 2\nrelease = [0, 0]\nbudget = [5, 12]\norder = [[0, 1], [0, 1]]\nclean = [0, 2]\n";
 
-const SERIES: &[u8] = b"report 0 arrive 0\norder 0 0 out 0\nreport 0 arrive 1\nreport 2 finish 0 0\n\
+const SERIES: &[u8] =
+    b"report 0 arrive 0\norder 0 0 out 0\nreport 0 arrive 1\nreport 2 finish 0 0\n\
     order 2 0 0 1\nreport 4 finish 0 1\norder 4 0 1 out\norder 4 1 out 1\nreport 8 finish 1 1\n\
     order 8 1 1 0\nreport 9 finish 1 0\norder 9 1 0 out\ndone 9\n";
 
 const EXCHANGED: &[u8] = b"report 0 arrive 0\norder 0 0 out 0\nreport 0 arrive 1\norder 0 1 out 1\n\
     report 3 finish 0 0\nreport 4 finish 1 1\norder 4 0 0 1\norder 4 1 1 0\n";
 
-const CLEANED_LOG: &[u8] = b"report 0 arrive 0\norder 0 0 out 0\nreport 0 arrive 1\nreport 3 finish 0 0\n\
+const CLEANED_LOG: &[u8] =
+    b"report 0 arrive 0\norder 0 0 out 0\nreport 0 arrive 1\nreport 3 finish 0 0\n\
     order 3 0 0 1\nreport 5 finish 0 1\norder 5 0 1 out\nreport 7 clean 1\norder 7 1 out 1\n\
     report 11 finish 1 1\norder 11 1 1 0\nreport 12 finish 1 0\norder 12 1 0 out\nreport 13 clean 1\ndone 13\n";
 
@@ -33,10 +35,25 @@ fn tells(answer: Result<Answer, CommandFault>, text: &[u8], status: u8) -> bool 
 fn tells_what_logs_are(rt: HostRuntime) -> Result<(), Fail> {
     let alloc = rt.alloc();
     let lines: [(&[u8], &[u8], &[u8], u8); 5] = [
-        (IN_TIME, SERIES, b"log kept reports 6 orders 6 last 9 complete\n", 0),
-        (IN_TIME, b"", b"log kept reports 0 orders 0 last 0 partial\n", 0),
+        (
+            IN_TIME,
+            SERIES,
+            b"log kept reports 6 orders 6 last 9 complete\n",
+            0,
+        ),
+        (
+            IN_TIME,
+            b"",
+            b"log kept reports 0 orders 0 last 0 partial\n",
+            0,
+        ),
         (CROSSED, EXCHANGED, b"log refused 7 Occupied\n", 1),
-        (CLEANED, CLEANED_LOG, b"log kept reports 8 orders 6 last 13 complete\n", 0),
+        (
+            CLEANED,
+            CLEANED_LOG,
+            b"log kept reports 8 orders 6 last 13 complete\n",
+            0,
+        ),
         (IN_TIME, CLEANED_LOG, b"log refused 8 NotExpected\n", 1),
     ];
     for (plan, log, line, status) in lines {
@@ -55,7 +72,12 @@ fn draws_logs(rt: HostRuntime) -> Result<(), Fail> {
             b"scale 1\nmachine 0 0:0-2-2 1:8-9-9\nbar 00......1.\nmachine 1 0:2-4-4 1:4-8-8\nbar ..001111..\n",
             0,
         ),
-        (IN_TIME, b"", b"scale 1\nmachine 0\nbar .\nmachine 1\nbar .\n", 0),
+        (
+            IN_TIME,
+            b"",
+            b"scale 1\nmachine 0\nbar .\nmachine 1\nbar .\n",
+            0,
+        ),
         (
             CLEANED,
             CLEANED_LOG,
