@@ -4,7 +4,7 @@
 pub struct Ticket {
     /// Where the cell stands.
     pub slot: usize,
-    /// Which of the cells that have stood there it is: the number of admissions before it, from the hub's first
+    /// Which of the hub's admissions it is: the number of admissions before it, from the hub's first
     /// serial on.
     pub serial: u64,
 }
