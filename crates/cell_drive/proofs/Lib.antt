@@ -13,3 +13,9 @@ pub mod DrivenEnds
 pub mod OneReport
 pub mod OneReason
 pub mod OneText
+pub mod CellReports
+pub mod Numbering
+pub mod CellTexts
+pub mod CellsAnswers
+pub mod CellsEnds
+pub mod CellsDriven

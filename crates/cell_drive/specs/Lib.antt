@@ -12,3 +12,7 @@ pub mod AnswerText
 pub mod Driving
 pub mod OneTextLaw
 pub mod Statuses
+pub mod CellLines
+pub mod ManyCells
+pub mod NumberedCells
+pub mod DrivingCells

@@ -3,14 +3,19 @@
 
 mod accepted_lines;
 mod answer_lines;
+mod cell_answers;
+mod cell_lines;
 mod drive_fault;
 mod driven;
+mod driven_cells;
 mod driving;
+mod driving_cells;
 mod from_read;
 mod held_line;
 mod input_lines;
 pub mod laws;
 mod line_handler;
+mod numbered_cells;
 mod pieces;
 mod source;
 mod streaming;
@@ -18,6 +23,7 @@ mod streaming;
 pub use answer_lines::{done_line, late_line, refused_line, unfinished_line};
 pub use drive_fault::DriveFault;
 pub use driving::{DriveEnd, drive};
+pub use driving_cells::{HubEnd, drive_hub};
 pub use from_read::FromRead;
 pub use held_line::LINE_LIMIT;
 pub use input_lines::report_of;

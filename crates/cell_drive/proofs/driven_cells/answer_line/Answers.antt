@@ -1,0 +1,25 @@
+use Rattle.std.proofs.Common.{ap, ◌∙◌}
+use Rattle.std.proofs.KnownBytes.{Appends-nil}
+use Rattle.cell_drive.specs.AnswerLines.{refused_line}
+use Rattle.cell_drive.proofs.DrivenAnswers.{no_bytes, some_bytes}
+use Rattle.cell_drive.proofs.CellsAnswers.{cells_answered, answer_empty, answer_bad, answer_refused, answer_accepted}
+use Rattle.cell_drive.proofs.driven_cells.answer_line.Goals as goal
+
+pub returns-then-is_empty-clause-answered : goal.returns-then-is_empty-clause-answered
+returns-then-is_empty-clause-answered g c =
+    cells_answered _ _ _ _ _ _ _ _ _ (answer_empty _ _ _ (no_bytes _ _ c.is_empty.ensures c.if-is_empty.true)) (Appends-nil _)
+
+pub returns-in_default-clause-answered : goal.returns-in_default-clause-answered
+returns-in_default-clause-answered g c =
+    cells_answered _ _ _ _ _ _ _ _ _ (answer_bad _ _ _ _ (some_bytes _ _ c.is_empty.ensures c.if-is_empty.false) c.in_default.ensures (c.bytes.ensures ∙ c.refused_line.ensures)) c.put_all.ensures.wrote
+
+pub returns-in-Ok-clause-answered : goal.returns-in-Ok-clause-answered
+returns-in-Ok-clause-answered g c =
+    cells_answered _ _ _ _ _ _ _ _ _ (answer_accepted _ _ _ _ c.in-Some.cell c.in-Some.report c.in-Ok.ack _ c.in-Some.ensures c.in-Ok.ensures.reported c.orders_of-orders.ensures) c.put_cell_answer.ensures
+
+pub returns-in-Err-clause-answered : goal.returns-in-Err-clause-answered
+returns-in-Err-clause-answered g c =
+    cells_answered _ _ _ _ _ _ _ _ _
+    (answer_refused _ _ _ _ _ c.in-Some.cell c.in-Some.report c.in-Err.fault c.in-Some.ensures c.in-Err.ensures.reported
+    (c.bytes-in-Err.ensures ∙ c.refused_line-in-Err.ensures ∙ ap (refused_line c.args.number) c.name_of.ensures.name))
+    c.put_all-in-Err.ensures.wrote

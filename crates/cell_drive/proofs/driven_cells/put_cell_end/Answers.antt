@@ -1,0 +1,14 @@
+use Rattle.std.proofs.Common.{◌≡◌, ◌++◌, ap, sym, subst, ◌∙◌, List, ℕ}
+use Rattle.run_log.specs.Sinks.{Wrote}
+use Rattle.cell_drive.specs.AnswerLines.{unfinished_line}
+use Rattle.cell_drive.specs.CellLines.{cell_prefix}
+use Rattle.cell_drive.specs.NumberedCells.{end_line_of}
+use Rattle.cell_drive.proofs.CellsEnds.{end_unfinished, both_parts}
+use Rattle.cell_drive.proofs.driven_cells.put_cell_end.Goals as goal
+
+pub returns-else-left-eq0 : goal.returns-else-left-eq0
+returns-else-left-eq0 g c =
+    let left = c.reports_left-left.ensures.left in
+    let line = ap unfinished_line left ∙ sym (end_unfinished c.args.controller.now (λ none. c.if-left-eq0.false (left ∙ none))) in
+    subst (λ (text : List ℕ). Wrote c.put_behind-else-left-eq0.result (g.W.Sink.failed c.put_behind-else-left-eq0.new.writer) (g.W.Sink.taken c.args.writer.now) (g.W.Sink.taken c.put_behind-else-left-eq0.new.writer) text)
+    (both_parts _ _ _ _ (c.bytes-else-left-eq0.ensures ∙ c.prefix_of-prefix.ensures) (c.bytes-else-left-eq0-2.ensures ∙ c.unfinished_line.ensures ∙ line)) c.put_behind-else-left-eq0.ensures

@@ -1,0 +1,56 @@
+-- How the cells of a hub are numbered by a row of tickets. No public clause cites this module.
+use Rattle.std.specs.Prelude.{◌≡◌, ◌≢◌, ◌==◌, if◌then◌else◌, ℕ, suc, ◌≤◌, List, [], ◌∷◌, ◌++◌, length, Option, None, Some, Result, slice_get, slice_set}
+use Rattle.std.specs.declared.result.Result.TheVariants.{Ok, Err}
+use Rattle.cell_control.specs.declared.report.Report.{Report}
+use Rattle.cell_control.specs.declared.report.Ack.{Ack}
+use Rattle.cell_control.specs.Control.{Control, IsControl, IsAnswered}
+use Rattle.cell_control.specs.Reports.{said, IsFirstReason}
+use Rattle.shop_base.specs.ReportsLeft.{reports_left}
+use Rattle.cell_drive.specs.AnswerLines.{done_line, unfinished_line}
+use Rattle.cell_drive.specs.CellLines.{cell_prefix}
+use Rattle.cell_hub.specs.declared.ticket.Ticket.{Ticket}
+use Rattle.cell_hub.specs.declared.hub_fault.HubFault.{HubFault}
+use Rattle.cell_hub.specs.declared.hub_fault.HubFault.TheVariants.{NoSuchCell, SerialsSpent, Memory, Cell}
+use Rattle.cell_hub.specs.Hub.{HubState, cell_at}
+
+abbrev pub with_content : Option Control → List Control → List Control
+with_content None cells = cells
+with_content (Some c) cells = c ∷ cells
+
+-- the contents of the cells of these tickets, in order
+abbrev pub contents_of : HubState → List Ticket → List Control
+contents_of h [] = []
+contents_of h (t ∷ tickets) = with_content (cell_at h t) (contents_of h tickets)
+
+-- the ticket is none of these
+abbrev pub IsNoneOf : Ticket → List Ticket → Type 0
+IsNoneOf t [] = Unit {0}
+IsNoneOf t (u ∷ tickets) = (u ≢ t) × IsNoneOf t tickets
+
+-- the ticket has a cell, whose content is a controller's
+pub record Stands (h : HubState) (t : Ticket) : Type 0 where
+  pub content : Control
+  pub there : cell_at h t ≡ Some content
+  pub control : IsControl content
+
+-- each of these tickets has a cell, and no two are one
+abbrev pub AreNumbered : HubState → List Ticket → Type 0
+AreNumbered h [] = Unit {0}
+AreNumbered h (t ∷ tickets) = Stands h t × IsNoneOf t tickets × AreNumbered h tickets
+
+-- what a report on the cell of a number makes of the cells
+abbrev pub IsReportedOn : List Control → ℕ → Report → Result Ack HubFault → List Control → Type 0
+IsReportedOn cells cell report (Ok ack) new = (before : Control) × (after : Control) × (slice_get cells cell ≡ Some before) × IsAnswered before (said report) ack after × (new ≡ slice_set cells cell after)
+IsReportedOn cells cell report (Err NoSuchCell) new = (length cells ≤ cell) × (new ≡ cells)
+IsReportedOn cells cell report (Err SerialsSpent) new = ⊥
+IsReportedOn cells cell report (Err Memory) new = ⊥
+IsReportedOn cells cell report (Err (Cell reason)) new = (content : Control) × (slice_get cells cell ≡ Some content) × IsFirstReason content.plan.planned content.cell (said report) reason × (new ≡ cells)
+
+-- the line behind the last answer, by the number of reports that are left
+abbrev pub end_line_of : Control → List ℕ
+end_line_of c = let left = reports_left c.plan.planned c.cell in if left == 0 then done_line c.cell.last else unfinished_line left
+
+-- these lines of cells, from a number on
+abbrev pub ends_text : ℕ → List Control → List ℕ
+ends_text number [] = []
+ends_text number (c ∷ cells) = (cell_prefix number ++ end_line_of c) ++ ends_text (suc number) cells

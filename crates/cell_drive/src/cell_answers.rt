@@ -1,0 +1,72 @@
+//! The lines that answer an accepted report, with the same bytes before each.
+
+ghost use Rattle.std.specs.Prelude.{◌≡◌, [], ◌++◌, if◌then◌else◌};
+ghost use Rattle.std.specs.List.{flat_map};
+ghost use Rattle.run_log.specs.Sinks.{Wrote};
+ghost use Rattle.run_log.specs.EventLines.{order_line};
+ghost use Rattle.cell_drive.specs.AnswerLines.{late_line};
+ghost use Rattle.cell_drive.specs.ManyCells.{accepted_lines};
+
+use crate::answer_lines::late_line;
+use cell_control::Report;
+use run_log::{LineText, Sink, WriteFault, put_all, put_order, put_report};
+use shop_base::{Moment, MoveOrder};
+
+/// Writes the line behind the prefix.
+pub(crate) fn put_behind<W: Sink>(
+    prefix: &[u8],
+    line: &[u8],
+    writer: &mut W,
+) -> Result<(), WriteFault>
+    ensures { Wrote result (W.failed writer.new) (W.taken writer.old) (W.taken writer.new) (prefix.now ++ line.now) }
+{
+    put_all(writer, prefix)?;
+    put_all(writer, line)
+}
+
+fn put_late<W: Sink>(
+    prefix: &[u8],
+    late: bool,
+    at: Moment,
+    writer: &mut W,
+) -> Result<(), WriteFault>
+    ensures { Wrote result (W.failed writer.new) (W.taken writer.old) (W.taken writer.new) (if late then prefix.now ++ late_line at else []) }
+{
+    if late {
+        put_behind(prefix, late_line(at).bytes(), writer)
+    } else {
+        put_all(writer, b"")
+    }
+}
+
+fn put_orders<W: Sink>(
+    prefix: &[u8],
+    orders: &[MoveOrder],
+    writer: &mut W,
+) -> Result<(), WriteFault>
+    ensures { Wrote result (W.failed writer.new) (W.taken writer.old) (W.taken writer.new) (flat_map (λ o. prefix.now ++ order_line o) orders.now) }
+{
+    for order in orders {
+        let mut line = LineText::ended();
+        put_order(&mut line, *order);
+        put_behind(prefix, line.bytes(), writer)?;
+    }
+    Ok(())
+}
+
+/// Writes the line of the report, the line that it is late, if it is, and the lines of the orders.
+pub(crate) fn put_accepted<W: Sink>(
+    prefix: &[u8],
+    report: Report,
+    late: bool,
+    orders: &[MoveOrder],
+    writer: &mut W,
+) -> Result<(), WriteFault>
+    ensures { Wrote result (W.failed writer.new) (W.taken writer.old) (W.taken writer.new) (accepted_lines prefix.now report late orders.now) }
+{
+    let mut line = LineText::ended();
+    put_report(&mut line, report);
+    put_behind(prefix, line.bytes(), writer)?;
+    put_late(prefix, late, report.at(), writer)?;
+    put_orders(prefix, orders, writer)
+}

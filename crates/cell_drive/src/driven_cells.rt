@@ -1,0 +1,252 @@
+//! Several cells that are driven by lines.
+
+ghost use Rattle.std.specs.Prelude.{◌≡◌, ◌≤◌, ◌↔◌, ◌++◌, length, slice_get, [], ◌∷◌, Some, IsTrue, IfErr, OnOk};
+ghost use Rattle.shop_base.specs.Ends.{HasEnded};
+ghost use Rattle.cell_control.specs.Control.{Control, at_start};
+ghost use Rattle.run_log.specs.Sinks.{Wrote};
+ghost use Rattle.cell_drive.specs.Answering.{WasAnswered};
+ghost use Rattle.cell_drive.specs.CellLines.{cell_prefix};
+ghost use Rattle.cell_drive.specs.ManyCells.{CellsAnswer, AreAllDone, accepted_lines, fault_name};
+ghost use Rattle.cell_drive.specs.NumberedCells.{contents_of, AreNumbered, end_line_of, ends_text};
+
+use crate::answer_lines::{done_line, refused_line, unfinished_line};
+use crate::cell_answers::{put_accepted, put_behind};
+use crate::cell_lines::cell_report_of;
+use crate::drive_fault::DriveFault;
+use crate::line_handler::LineHandler;
+use crate::numbered_cells::{numbered_cell, orders_of, report_on};
+use cell_control::{Controller, Dues, Report};
+use cell_hub::{Hub, HubFault, Ticket};
+use plan_verifier::Verified;
+use run_log::{LineText, Sink, WriteFault, put_all};
+use shop_base::MoveOrder;
+use std::alloc::Global;
+use std::marker::Model;
+
+/// The cells of a hub in the order of their numbers.
+#[derive(Drop)]
+pub(crate) struct DrivenCells<D: Dues> {
+    pub hub: Hub<D>,
+    pub tickets: Vec<Ticket>,
+}
+
+impl<D: Dues> Model for DrivenCells<D> {
+    ghost use Rattle.std.specs.Prelude.{List};
+    ghost use Rattle.cell_control.specs.Control.{Control, at_start};
+    ghost use Rattle.cell_drive.specs.NumberedCells.{contents_of, AreNumbered};
+
+    ghost Value = { List Control };
+
+    ghost view = { λ d. contents_of d.hub d.tickets.items };
+
+    ghost invariant = { λ d. AreNumbered d.hub d.tickets.items };
+}
+
+/// Adds the cell of the plan and its ticket.
+fn admit_cell<D: Dues>(
+    hub: &mut Hub<D>,
+    tickets: &mut Vec<Ticket>,
+    verified: Verified,
+) -> Result<(), DriveFault>
+    requires { AreNumbered hub.old tickets.old.items }
+    ensures numbered { AreNumbered hub.new tickets.new.items }
+    ensures added { OnOk result (contents_of hub.new tickets.new.items ≡ contents_of hub.old tickets.old.items ++ at_start verified ∷ []) }
+    ensures fault { IfErr result (λ fault. fault ≡ DriveFault.Memory) }
+{
+    if tickets.reserve(1).is_err() {
+        return Err(DriveFault::Memory);
+    }
+    let Ok(ticket) = hub.admit(verified) else {
+        return Err(DriveFault::Memory);
+    };
+    if let Some(cell) = hub.cell(ticket) {
+        let _plan = cell.verified();
+    }
+    tickets.push_reserved(ticket);
+    Ok(())
+}
+
+/// A cell's number and a space.
+fn prefix_of(cell: u64) -> LineText
+    ensures { result ≡ cell_prefix cell }
+{
+    let mut prefix = LineText::empty();
+    prefix.put_text(b" ");
+    prefix.put_number(cell);
+    prefix
+}
+
+/// The name of the reason for which a report is refused.
+fn name_of(fault: HubFault) -> &'static [u8]
+    ensures name { result.now ≡ fault_name fault }
+    ensures short { length result.now ≤ 20 }
+{
+    match fault {
+        HubFault::NoSuchCell => b"NoSuchCell",
+        HubFault::SerialsSpent => b"SerialsSpent",
+        HubFault::Memory => b"Memory",
+        HubFault::Cell(reason) => reason.name().as_bytes(),
+    }
+}
+
+fn put_cell_answer<W: Sink>(
+    cell: u32,
+    report: Report,
+    late: bool,
+    orders: &[MoveOrder],
+    writer: &mut W,
+) -> Result<(), WriteFault>
+    ensures { Wrote result (W.failed writer.new) (W.taken writer.old) (W.taken writer.new) (accepted_lines (cell_prefix cell) report late orders.now) }
+{
+    let prefix = prefix_of(u64::from(cell));
+    put_accepted(prefix.bytes(), report, late, orders, writer)
+}
+
+fn answer_line<D: Dues, W: Sink>(
+    hub: &mut Hub<D>,
+    tickets: &[Ticket],
+    number: u64,
+    line: &[u8],
+    writer: &mut W,
+) -> Result<(), WriteFault>
+    requires { AreNumbered hub.old tickets.now }
+    ensures numbered { AreNumbered hub.new tickets.now }
+    ensures answered { WasAnswered CellsAnswer (contents_of hub.old tickets.now) number (Some line.now) (contents_of hub.new tickets.now)
+        result (W.failed writer.new) (W.taken writer.old) (W.taken writer.new) }
+{
+    if line.is_empty() {
+        return Ok(());
+    }
+    let Some((cell, report)) = cell_report_of(line) else {
+        return put_all(writer, refused_line(number, b"BadLine").bytes());
+    };
+    match report_on(hub, tickets, cell as usize, report) {
+        Ok(ack) => {
+            let orders = orders_of(hub, tickets, cell as usize);
+            put_cell_answer(cell, report, ack.late, orders, writer)
+        }
+        Err(fault) => put_all(writer, refused_line(number, name_of(fault)).bytes()),
+    }
+}
+
+fn put_cell_end<D: Dues, W: Sink>(
+    cell: u64,
+    controller: &Controller<D>,
+    writer: &mut W,
+) -> Result<(), WriteFault>
+    ensures { Wrote result (W.failed writer.new) (W.taken writer.old) (W.taken writer.new) (cell_prefix cell ++ end_line_of controller.now) }
+{
+    let prefix = prefix_of(cell);
+    let left = controller.reports_left();
+    if left == 0 {
+        put_behind(prefix.bytes(), done_line(controller.now()).bytes(), writer)
+    } else {
+        put_behind(prefix.bytes(), unfinished_line(left).bytes(), writer)
+    }
+}
+
+fn put_numbered_end<D: Dues, W: Sink>(
+    hub: &Hub<D>,
+    tickets: &[Ticket],
+    cell: usize,
+    writer: &mut W,
+) -> Result<(), WriteFault>
+    requires { AreNumbered hub.now tickets.now }
+    ensures { (content : Control) → slice_get (contents_of hub.now tickets.now) cell ≡ Some content
+        → Wrote result (W.failed writer.new) (W.taken writer.old) (W.taken writer.new) (cell_prefix cell ++ end_line_of content) }
+{
+    match numbered_cell(hub, tickets, cell) {
+        Some(controller) => put_cell_end(cell as u64, controller, writer),
+        None => Ok(()),
+    }
+}
+
+/// Writes for each cell whether its run is done, and when, or how many reports are left.
+fn put_ends<D: Dues, W: Sink>(
+    hub: &Hub<D>,
+    tickets: &[Ticket],
+    writer: &mut W,
+) -> Result<(), WriteFault>
+    requires { AreNumbered hub.now tickets.now }
+    ensures { Wrote result (W.failed writer.new) (W.taken writer.old) (W.taken writer.new) (ends_text 0 (contents_of hub.now tickets.now)) }
+{
+    for cell in 0..tickets.len() {
+        put_numbered_end(hub, tickets, cell, writer)?;
+    }
+    Ok(())
+}
+
+/// Whether the run of each cell has ended.
+fn all_done<D: Dues>(hub: &Hub<D>, tickets: &[Ticket]) -> bool
+    requires { AreNumbered hub.now tickets.now }
+    ensures { IsTrue result ↔ AreAllDone (contents_of hub.now tickets.now) }
+{
+    for cell in 0..tickets.len() {
+        if !is_done(hub, tickets, cell) {
+            return false;
+        }
+    }
+    true
+}
+
+fn is_done<D: Dues>(hub: &Hub<D>, tickets: &[Ticket], cell: usize) -> bool
+    requires { AreNumbered hub.now tickets.now }
+    ensures { (content : Control) → slice_get (contents_of hub.now tickets.now) cell ≡ Some content → IsTrue result ↔ HasEnded content.plan.planned content.cell }
+{
+    match numbered_cell(hub, tickets, cell) {
+        Some(controller) => controller.is_done(),
+        None => true,
+    }
+}
+
+impl<D: Dues> DrivenCells<D> {
+    /// No cells.
+    pub(crate) fn none(alloc: Global) -> DrivenCells<D>
+        ensures { result ≡ [] }
+    {
+        DrivenCells {
+            hub: Hub::new(alloc),
+            tickets: Vec::new(alloc),
+        }
+    }
+
+    /// Adds the cell of the plan behind the others.
+    pub(crate) fn admit(&mut self, verified: Verified) -> Result<(), DriveFault>
+        ensures added { OnOk result (self.new ≡ self.old ++ at_start verified ∷ []) }
+        ensures fault { IfErr result (λ fault. fault ≡ DriveFault.Memory) }
+    {
+        admit_cell(&mut self.hub, &mut self.tickets, verified)
+    }
+
+    /// Whether the run of each cell has ended.
+    pub(crate) fn are_all_done(&self) -> bool
+        ensures { IsTrue result ↔ AreAllDone self.now }
+    {
+        all_done(&self.hub, &self.tickets)
+    }
+}
+
+impl<D: Dues> LineHandler for DrivenCells<D> {
+    ghost use Rattle.cell_drive.specs.ManyCells.{CellsAnswer, CellsEnd};
+
+    ghost answers = { CellsAnswer };
+
+    ghost ends = { CellsEnd 0 };
+
+    fn answer<W: Sink>(
+        &mut self,
+        number: u64,
+        line: &[u8],
+        writer: &mut W,
+    ) -> Result<(), WriteFault> {
+        answer_line(&mut self.hub, &self.tickets, number, line, writer)
+    }
+
+    fn answer_long<W: Sink>(&mut self, number: u64, writer: &mut W) -> Result<(), WriteFault> {
+        put_all(writer, refused_line(number, b"LongLine").bytes())
+    }
+
+    fn end<W: Sink>(&self, writer: &mut W) -> Result<(), WriteFault> {
+        put_ends(&self.hub, &self.tickets, writer)
+    }
+}
