@@ -10,12 +10,13 @@ use Rattle.shop_base.proofs.ControlledRuns.{controlled_to_run}
 use Rattle.shop_base.proofs.StatedNumber.{ends_on_the_stated_number-holds}
 use Rattle.plan_verifier.specs.Accepted.{VerifiedPlan}
 use Rattle.run_log.specs.declared.entry.Entry.{Entry}
+use Rattle.run_log.specs.Events.{events_of}
 use Rattle.cell_drive.specs.declared.drive_fault.DriveFault.{DriveFault}
 use Rattle.cell_drive.specs.declared.drive_fault.DriveFault.TheVariants.{Read, Write, InputTooLong, Memory}
 use Rattle.cell_drive.specs.Answering.{AnswerAll}
 use Rattle.cell_drive.specs.Streams.{AreAnswered, IsPartAnswered, IsStreamed}
 use Rattle.cell_drive.specs.DrivenLines.{LineAnswer}
-use Rattle.cell_drive.specs.Driven.{DriveState, IsDriven, DriveAnswer, ControlEnds, drive_start, events_of}
+use Rattle.cell_drive.specs.Driven.{DriveState, IsDriven, DriveAnswer, ControlEnds, drive_start}
 use Rattle.cell_drive.specs.AnswerText.{DrivenCell, undriven, CellAnswers, CellEnds, AreAnswersTo}
 use Rattle.cell_drive.specs.Driving.{cell_after, IsDrivenThrough, WereAnswersWritten, IsBrokenOff, IsRunOf, IsSoFar, HasRoom, NeverWentWrong}
 use Rattle.run_log.specs.Log.{Noted}

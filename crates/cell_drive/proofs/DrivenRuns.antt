@@ -17,15 +17,12 @@ use Rattle.cell_control.specs.Reports.{said}
 use Rattle.run_log.specs.declared.entry.Entry.{Entry}
 use Rattle.run_log.specs.declared.entry.Entry.TheVariants.{Report as ReportEntry, Order as OrderEntry}
 use Rattle.run_log.specs.Log.{Noted, Notes}
+use Rattle.run_log.specs.Events.{events_of}
+use Rattle.run_log.proofs.Audits.{events-join}
 use Rattle.cell_drive.specs.Driving.{HasRoom}
-use Rattle.cell_drive.specs.Driven.{DriveState, drive_start, events_of, IsDriven}
+use Rattle.cell_drive.specs.Driven.{DriveState, drive_start, IsDriven}
 
-events-append : (xs ys : List Entry) → events_of (xs ++ ys) ≡ events_of xs ++ events_of ys
-events-append [] ys = refl
-events-append (ReportEntry report ∷ xs) ys = ap (λ es. Reported (said report) ∷ es) (events-append xs ys)
-events-append (OrderEntry order ∷ xs) ys = ap (λ es. Moved order ∷ es) (events-append xs ys)
-
-events-orders : (os : List MoveOrder) → events_of (map OrderEntry os) ≡ moved os
+pub events-orders : (os : List MoveOrder) → events_of (map OrderEntry os) ≡ moved os
 events-orders [] = refl
 events-orders (o ∷ os) = ap (λ es. Moved o ∷ es) (events-orders os)
 
@@ -81,7 +78,7 @@ module _ (s : DriveState) (report : told.Report) (ack : Ack) (after : Control) (
   events_are =
       let orders : events_of (map OrderEntry after.orders) ≡ moved (step_orders p s.control.cell (said report) answered.movers) =
       events-orders after.orders ∙ ap moved answered.orders in
-      events-append s.log.entries new_entries ∙ ap (λ es. events_of s.log.entries ++ Reported (said report) ∷ es) orders
+      events-join s.log.entries new_entries ∙ ap (λ es. events_of s.log.entries ++ Reported (said report) ∷ es) orders
 
   -- the run with the step of the report
   longer_run : IsControlledRun p (driven.reports ++ said report ∷ []) new_events (after_step p s.control.cell (said report) answered.movers)

@@ -12,7 +12,7 @@ use Rattle.shop_base.proofs.NeverStuck.{ended-or-goes_on, rest-not_stuck}
 use Rattle.shop_base.proofs.InTime.{controlled-leavings_kept, leaving-in_time}
 use Rattle.plan_verifier.specs.Accepted.{VerifiedPlan, IsVerified, kept_at, rank_in}
 use Rattle.run_log.specs.declared.entry.Entry.{Entry}
-use Rattle.cell_drive.specs.Driven.{events_of}
+use Rattle.run_log.specs.Events.{events_of}
 use Rattle.cell_drive.specs.Driving.{IsBeforeReport, IsAsPromised, NeverWentWrong}
 
 -- moves and events after them, cut before a report: the cut comes after the moves

@@ -1,15 +1,13 @@
 -- A cell that is driven.
-use Rattle.std.specs.Prelude.{◌≡◌, ℕ, ◌*◌, List, [], ◌∷◌, Option}
+use Rattle.std.specs.Prelude.{◌≡◌, ℕ, ◌*◌, List, [], Option}
 use Rattle.shop_base.specs.Report.{Report}
-use Rattle.shop_base.specs.Run.{Event, Reported, Moved}
 use Rattle.shop_base.specs.Controlled.{IsControlledRun}
 use Rattle.shop_base.specs.Ends.{stated_number, reports_in}
 use Rattle.plan_verifier.specs.Accepted.{VerifiedPlan, IsVerified}
 use Rattle.cell_control.specs.Control.{Control, at_start}
-use Rattle.cell_control.specs.Reports.{said}
 use Rattle.run_log.specs.declared.entry.Entry.{Entry}
-use Rattle.run_log.specs.declared.entry.Entry.TheVariants.{Report as ReportEntry, Order as OrderEntry}
 use Rattle.run_log.specs.Log.{Noted, Notes}
+use Rattle.run_log.specs.Events.{events_of}
 use Rattle.cell_drive.specs.DrivenLines.{LineAnswer, IsEndLine}
 
 -- its controller, and the log of what was accepted and ordered
@@ -20,12 +18,6 @@ pub record DriveState : Type 0 where
 -- before the first line
 abbrev pub drive_start : VerifiedPlan → DriveState
 drive_start v = record { control = at_start v; log = record { entries = []; reserved = 2 * stated_number v.planned } }
-
--- the entries of a log as events
-abbrev pub events_of : List Entry → List Event
-events_of [] = []
-events_of (ReportEntry report ∷ entries) = Reported (said report) ∷ events_of entries
-events_of (OrderEntry order ∷ entries) = Moved order ∷ events_of entries
 
 -- the log has the controlled run of some reports, which leads to the controller's cell, and room for the rest of it
 pub record IsDriven (s : DriveState) : Type 0 where

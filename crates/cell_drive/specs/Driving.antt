@@ -14,12 +14,12 @@ use Rattle.shop_base.specs.KeptMoments.{KeepsLeaving}
 use Rattle.plan_verifier.specs.Accepted.{VerifiedPlan, kept_at}
 use Rattle.run_log.specs.declared.entry.Entry.{Entry}
 use Rattle.run_log.specs.Log.{Noted}
+use Rattle.run_log.specs.Events.{events_of}
 use Rattle.cell_drive.specs.declared.drive_fault.DriveFault.{DriveFault}
 use Rattle.cell_drive.specs.declared.drive_fault.DriveFault.TheVariants.{Read, Write, InputTooLong, Memory}
 use Rattle.cell_drive.specs.Lines.{complete_lines}
 use Rattle.cell_drive.specs.Streams.{IsPartAnswered}
 use Rattle.cell_drive.specs.AnswerText.{DrivenCell, undriven, CellAnswers, CellEnds, AreAnswersTo, IsAnswerText}
-use Rattle.cell_drive.specs.Driven.{events_of}
 
 -- the cell after the events of a log
 abbrev pub cell_after : PlannedShop → List Entry → Cell
