@@ -13,6 +13,11 @@ pub mod DrivenEnds
 pub mod OneReport
 pub mod OneReason
 pub mod OneText
+pub mod WrittenNumbers
+pub mod WrittenWords
+pub mod ShopEntries
+pub mod ReadBack
+pub mod AuditKeeps
 pub mod CellReports
 pub mod Numbering
 pub mod CellTexts

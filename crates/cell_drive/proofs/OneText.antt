@@ -119,7 +119,7 @@ module _ (p : PlannedShop) (c : Cell) (number : ℕ) (shaped : IsWellShaped p) (
   one_answer _ _ other _ entries' _ end' (accepted line report movers late is_line step is_late) also = once_accepted (Some line) other entries' end' line report movers late is_line step is_late refl also
 
   -- the cell stays sound and at rest
-  stays : (line : Option (List ℕ)) (text : List ℕ) (entries : List Entry) (end : Cell) → LineAnswer p c number line text entries end → IsSound p end × IsAtRest p end
+  pub stays : (line : Option (List ℕ)) (text : List ℕ) (entries : List Entry) (end : Cell) → LineAnswer p c number line text entries end → IsSound p end × IsAtRest p end
   stays _ _ _ _ too_long = (sound, rest)
   stays _ _ _ _ empty = (sound, rest)
   stays _ _ _ _ (no_report line some none) = (sound, rest)

@@ -11,6 +11,7 @@ pub mod Driven
 pub mod AnswerText
 pub mod Driving
 pub mod OneTextLaw
+pub mod AuditLaw
 pub mod Statuses
 pub mod CellLines
 pub mod ManyCells

@@ -1,10 +1,23 @@
 //! What holds of answer texts in general. Nothing is done here: a function's contract is the law.
 
 ghost use Rattle.cell_drive.specs.OneTextLaw.{OneAnswerText, OneTextForLines};
+ghost use Rattle.cell_drive.specs.AuditLaw.{AnAnswerTextIsALog, AnAuditKeepsWhatWasDriven};
 
 /// An input has one answer text: what is written for it is fixed by the plan and by all of its bytes, and not by the
 /// pieces in which these come.
 pub fn one_answer_text()
     ensures whole { OneAnswerText }
     ensures lines { OneTextForLines }
+{}
+
+/// What a driven cell writes is a log: its lines tell just what was accepted and ordered, in order, which is a run of
+/// the plan that leads to the driven cell.
+pub fn an_answer_text_is_a_log()
+    ensures { AnAnswerTextIsALog }
+{}
+
+/// The two ends meet: where driving succeeds, an audit of what was written, with the same plan, has no fault but want
+/// of memory, and finds what driving came to. It is complete just where the run is done.
+pub fn an_audit_keeps_what_was_driven()
+    ensures { AnAuditKeepsWhatWasDriven }
 {}

@@ -1,0 +1,56 @@
+-- An audit keeps what a driven cell wrote.
+use Rattle.std.proofs.Common.{◌≡◌, ℕ, List, Bool, true, false, Result, Ok, Err, ◌↔◌, refl, sym, ap, ◌∙◌, arith, subst}
+use Rattle.std.specs.Prelude.{IsTrue, IfOk, IfErr, MatchResult}
+use Rattle.std.proofs.lemmas.Bool.{false≢true}
+use Rattle.std.proofs.lemmas.List.{append_cancel_left}
+use Rattle.shop_base.specs.Plan.{PlannedShop}
+use Rattle.shop_base.specs.Ends.{HasEnded, moves_in, reports_in}
+use Rattle.text_lines.specs.Lines.{lines_of}
+use Rattle.run_log.specs.declared.entry.Entry.{Entry}
+use Rattle.run_log.specs.declared.audited.Audit.{Audit}
+use Rattle.run_log.specs.declared.audit_fault.AuditFault.{AuditFault}
+use Rattle.run_log.specs.declared.audit_fault.AuditFault.TheVariants.{Memory}
+use Rattle.run_log.specs.Events.{events_of}
+use Rattle.run_log.specs.Audits.{IsAudit}
+use Rattle.run_log.proofs.OneReading.{one_reading}
+use Rattle.cell_drive.specs.Driving.{cell_after, IsSoFar}
+use Rattle.cell_drive.specs.AuditLaw.{IsLogOf, IsFoundAgain, AnAuditKeepsWhatWasDriven}
+use Rattle.cell_drive.proofs.ReadBack.{an_answer_text_is_a_log}
+
+same_answer : {A : Type 0} (x y : Bool) → ((x ≡ true) ↔ A) → (IsTrue y ↔ A) → x ≡ y
+same_answer true true one other = refl
+same_answer false false one other = refl
+same_answer true false one other = absurd (false≢true (other.1 (one.0 refl)))
+same_answer false true one other = absurd (false≢true (one.1 (other.0 refl)))
+
+-- the lines tell one list of entries
+found_again : (p : PlannedShop) (entries : List Entry) (done : Bool) (last left : ℕ) (text : List ℕ) (audit : Audit)
+    → IsLogOf p text (record { cell = cell_after p entries; entries = entries }) → IsSoFar p entries done last left → IsAudit p (lines_of text) audit
+    → IsFoundAgain p entries done last left audit
+found_again p entries done last left text audit is_log so_far is_audit =
+    let told : audit.entries.items ≡ entries = one_reading p (lines_of text) audit.entries.items entries is_audit.tells is_log.tells in
+    let counted : audit.reports ≡ reports_in (events_of entries) = is_audit.reports ∙ ap (λ (es : List Entry). reports_in (events_of es)) told in
+    let ended : (audit.complete ≡ true) ↔ HasEnded p (cell_after p entries) =
+    subst (λ (es : List Entry). (audit.complete ≡ true) ↔ HasEnded p (cell_after p es)) told is_audit.complete in
+    record {
+      told = told;
+      reports = omega (arith, counted, so_far.rest);
+      orders = is_audit.orders ∙ ap (λ (es : List Entry). moves_in (events_of es)) told;
+      moment = is_audit.last ∙ ap (λ (es : List Entry). (cell_after p es).last) told ∙ sym so_far.moment;
+      complete = same_answer audit.complete done ended so_far.ended;
+    }
+
+found_where : (p : PlannedShop) (entries : List Entry) (done : Bool) (last left : ℕ) (text : List ℕ) (outcome : Result Audit AuditFault)
+    → IsLogOf p text (record { cell = cell_after p entries; entries = entries }) → IsSoFar p entries done last left
+    → IfOk outcome (IsAudit p (lines_of text)) → IfErr outcome (λ fault. fault ≡ Memory)
+    → MatchResult outcome (IsFoundAgain p entries done last left) (λ fault. fault ≡ Memory)
+found_where p entries done last left text (Ok audit) is_log so_far kept only = found_again p entries done last left text audit is_log so_far kept
+found_where p entries done last left text (Err fault) is_log so_far kept only = only
+
+pub an_audit_keeps_what_was_driven : AnAuditKeepsWhatWasDriven
+an_audit_keeps_what_was_driven p entries done last left left_before left_after before text outcome shaped through so_far kept only =
+    let same : through.text ≡ text = append_cancel_left before through.text text (sym through.written) in
+    let is_log : IsLogOf p text (record { cell = cell_after p entries; entries = entries }) =
+    subst (λ (t : List ℕ). IsLogOf p t (record { cell = cell_after p entries; entries = entries })) same
+    (an_answer_text_is_a_log p through.input through.text (record { cell = cell_after p entries; entries = entries }) shaped through.is_answer_text) in
+    found_where p entries done last left text outcome is_log so_far kept (only (entries, is_log.tells, is_log.run))

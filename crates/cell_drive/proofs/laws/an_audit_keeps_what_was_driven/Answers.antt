@@ -1,0 +1,5 @@
+use Rattle.cell_drive.proofs.AuditKeeps.{an_audit_keeps_what_was_driven}
+use Rattle.cell_drive.proofs.laws.an_audit_keeps_what_was_driven.Goals as goal
+
+pub returns : goal.returns
+returns c = an_audit_keeps_what_was_driven
