@@ -11,8 +11,6 @@ pub enum Failure {
     Usage(String),
     /// A word of the command line isn't UTF-8.
     NotText,
-    /// The command has no answer yet.
-    NoAnswerYet,
     Command(CommandFault),
     Drive(DriveFault),
     File(FileFault),
@@ -50,7 +48,6 @@ pub fn fail(rt: &HostRuntime, failure: &Failure) -> u8 {
     let _ = match failure {
         Failure::Usage(text) => eprint!(rt; "{text}"),
         Failure::NotText => eprintln!(rt; "cellplan: a word of the command line isn't UTF-8"),
-        Failure::NoAnswerYet => eprintln!(rt; "cellplan: this command has no answer yet"),
         Failure::Command(CommandFault::Instance(fault)) => eprintln!(rt;
             "cellplan: instance: {fault}"
         ),
@@ -72,7 +69,7 @@ pub fn fail(rt: &HostRuntime, failure: &Failure) -> u8 {
 
 fn status_of(failure: &Failure) -> u8 {
     match failure {
-        Failure::Usage(_) | Failure::NotText | Failure::NoAnswerYet => 2,
+        Failure::Usage(_) | Failure::NotText => 2,
         Failure::Command(fault) => fault.status(),
         Failure::Drive(fault) => fault.status(),
         Failure::Memory | Failure::File(FileFault::Memory) => 4,

@@ -1,11 +1,12 @@
 //! The program: its words, what it reads, what it writes, and the status that it ends with.
 
-use crate::driving::drive_streams;
+use crate::driving::{Cells, drive_streams};
 use crate::failures::{Failure, fail};
 use crate::files::read_file;
 use command_answers::{
     Answer, FileFault, GOOD, Loaded, check_of, drawn_answer, facts_answer, load_for, load_instance,
-    load_plan, loaded_answer, log_answer, not_shaped_answer, plan_for, read_whole, shape_of,
+    load_plan, loaded_answer, log_answer, not_shaped_answer, numbered_answer, plan_for, read_whole,
+    shape_of,
 };
 use command_words::{Chosen, CommandName, WordsFault, read_words};
 use plan_seek::{GreedyProposer, Proposer, ShiftProposer};
@@ -82,7 +83,7 @@ fn command_answer(rt: &HostRuntime, alloc: Global, chosen: &Chosen) -> Result<An
             driven(rt, alloc, shop, &file(rt, alloc, chosen, 1)?)
         }
         CommandName::Audit | CommandName::Gantt => logged(rt, alloc, chosen),
-        CommandName::Hub => Err(Failure::NoAnswerYet),
+        CommandName::Hub => driven_together(rt, alloc, chosen),
     }
 }
 
@@ -101,10 +102,44 @@ fn driven(rt: &HostRuntime, alloc: Global, shop: Shop, plan: &[u8]) -> Result<An
     match load_for(alloc, shop, plan)? {
         Loaded::Accepted(verified) => Ok(Answer {
             text: Vec::new(alloc),
-            status: drive_streams(rt, alloc, verified)?,
+            status: drive_streams(rt, alloc, Cells::One(verified))?,
         }),
         other => Ok(loaded_answer(alloc, &other)?),
     }
+}
+
+/// The answer of `hub`: the line of the first plan that isn't accepted. Where there is none, the lines of the cells
+/// have been written before. A plan's file is opened once the plan before it is accepted.
+fn driven_together(rt: &HostRuntime, alloc: Global, chosen: &Chosen) -> Result<Answer, Failure> {
+    let text = file(rt, alloc, chosen, 0)?;
+    let mut cells = Vec::new(alloc);
+    for place in 1..chosen.files.len() {
+        match loaded(rt, alloc, chosen, &text, place)? {
+            Loaded::Accepted(verified) => cells.push(verified).map_err(AllocError::from)?,
+            other => {
+                let line = loaded_answer(alloc, &other)?;
+                return Ok(numbered_answer(alloc, place as u64 - 1, &line)?);
+            }
+        }
+    }
+    drop(text);
+    Ok(Answer {
+        text: Vec::new(alloc),
+        status: drive_streams(rt, alloc, Cells::Numbered(cells))?,
+    })
+}
+
+/// What is to be said of the plan at a place of the command line. The text tells the instance.
+fn loaded(
+    rt: &HostRuntime,
+    alloc: Global,
+    chosen: &Chosen,
+    text: &[u8],
+    place: usize,
+) -> Result<Loaded, Failure> {
+    let name = chosen.instance.as_ref().map(|name| name.as_bytes());
+    let named = load_instance(alloc, text, name)?;
+    Ok(load_for(alloc, named.shop, &file(rt, alloc, chosen, place)?)?)
 }
 
 /// The answer to a log. It is opened once the plan is found to be well shaped.
