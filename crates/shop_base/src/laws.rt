@@ -4,7 +4,7 @@
 ghost use Rattle.shop_base.specs.StepLaw.{OneListOfMovesFitsAReport, EveryListHasOneControlledRun, NoTwoJobsAreOnOneMachine, AControlledRunIsARun};
 ghost use Rattle.shop_base.specs.StepLaw.{EveryRunIsSound, AMoveEntersItsTarget, NoJobMovesTwice};
 ghost use Rattle.shop_base.specs.NeverStuckLaw.{NoControlledRunIsStuck};
-ghost use Rattle.shop_base.specs.EndsLaw.{EndsOnTheStatedNumber, OrdersNeverOutnumberReports, MovesNeverOutnumberReports};
+ghost use Rattle.shop_base.specs.EndsLaw.{EndsOnTheStatedNumber, ReportsAddUpToTheStatedNumber, OrdersNeverOutnumberReports, MovesNeverOutnumberReports};
 ghost use Rattle.shop_base.specs.InTimeLaw.{PunctualRunsAreInTime, PunctualRunsEndInTime};
 ghost use Rattle.shop_base.specs.CycleLaw.{ACycleStopsEveryRun};
 ghost use Rattle.shop_base.specs.ExactLaw.{NoExactRunIsFaster, NoExactMoveIsEarlier, ExactRunsAreJustInTime};
@@ -57,9 +57,11 @@ pub fn never_stuck()
 {}
 
 /// Ends on the stated number: after every list of reports no more were accepted than the stated number,
-/// and the run has ended just where as many were.
+/// and the run has ended just where as many were. In every run, by any controller, the reports so far and those
+/// still to come are together that number.
 pub fn ends_on_the_stated_number()
-    ensures { EndsOnTheStatedNumber }
+    ensures controlled { EndsOnTheStatedNumber }
+    ensures any { ReportsAddUpToTheStatedNumber }
 {}
 
 /// There are never more orders than accepted reports, nor more moves than reports in any run at all.

@@ -1,5 +1,5 @@
-use Rattle.shop_base.proofs.StatedNumber.{ends_on_the_stated_number-holds}
+use Rattle.shop_base.proofs.StatedNumber.{ends_on_the_stated_number-holds, run-stated_number}
 use Rattle.shop_base.proofs.laws.ends_on_the_stated_number.Goals as goal
 
 pub returns : goal.returns
-returns c = ends_on_the_stated_number-holds
+returns c = record { controlled = ends_on_the_stated_number-holds; any = run-stated_number }
