@@ -24,3 +24,4 @@ pub mod CellTexts
 pub mod CellsAnswers
 pub mod CellsEnds
 pub mod CellsDriven
+pub mod OneCellsText

@@ -144,7 +144,8 @@ one_text p (line ∷ lines) before end last number text other shaped sound rest 
 pub one_text_for_lines : OneTextForLines
 one_text_for_lines p lines text other end last shaped all also = one_text p lines (undriven p) end last 1 text other shaped (start-sound p shaped) (start_at_rest p) all also
 
-one_end : (p : PlannedShop) (end : DrivenCell) (text other : List ℕ) → CellEnds p end text → CellEnds p end other → other ≡ text
+-- a cell has one end
+pub one_end : (p : PlannedShop) (end : DrivenCell) (text other : List ℕ) → CellEnds p end text → CellEnds p end other → other ≡ text
 one_end p end text other (inl ended) (inl also) = also.1 ∙ sym ended.1
 one_end p end text other (inl ended) (inr not_so) = absurd (not_so.0 ended.0)
 one_end p end text other (inr unfinished) (inl not_so) = absurd (unfinished.0 not_so.0)

@@ -17,3 +17,4 @@ pub mod CellLines
 pub mod ManyCells
 pub mod NumberedCells
 pub mod DrivingCells
+pub mod CellsTextLaw

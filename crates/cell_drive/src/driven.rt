@@ -65,7 +65,11 @@ fn take_report<D: Dues>(
 /// Refuses the line of this number by name.
 #[cold]
 #[inline(never)]
-fn put_refused<W: Sink>(number: u64, name: &[u8], writer: &mut W) -> Result<(), WriteFault>
+pub(crate) fn put_refused<W: Sink>(
+    number: u64,
+    name: &[u8],
+    writer: &mut W,
+) -> Result<(), WriteFault>
     requires { length name.now ≤ 20 }
     ensures { Wrote result (W.failed writer.new) (W.taken writer.old) (W.taken writer.new) (refused_line number name.now) }
 {

@@ -9,16 +9,17 @@ ghost use Rattle.cell_drive.specs.CellLines.{cell_prefix};
 ghost use Rattle.cell_drive.specs.ManyCells.{CellsAnswer, AreAllDone, accepted_lines, fault_name};
 ghost use Rattle.cell_drive.specs.NumberedCells.{contents_of, AreNumbered, end_line_of, ends_text};
 
-use crate::answer_lines::{done_line, refused_line, unfinished_line};
+use crate::answer_lines::{done_line, unfinished_line};
 use crate::cell_answers::{put_accepted, put_behind};
 use crate::cell_lines::cell_report_of;
 use crate::drive_fault::DriveFault;
+use crate::driven::put_refused;
 use crate::line_handler::LineHandler;
 use crate::numbered_cells::{numbered_cell, orders_of, report_on};
 use cell_control::{Controller, Dues, Report};
 use cell_hub::{Hub, HubFault, Ticket};
 use plan_verifier::Verified;
-use run_log::{LineText, Sink, WriteFault, put_all};
+use run_log::{LineText, Sink, WriteFault};
 use shop_base::MoveOrder;
 use std::alloc::Global;
 use std::marker::Model;
@@ -118,14 +119,14 @@ fn answer_line<D: Dues, W: Sink>(
         return Ok(());
     }
     let Some((cell, report)) = cell_report_of(line) else {
-        return put_all(writer, refused_line(number, b"BadLine").bytes());
+        return put_refused(number, b"BadLine", writer);
     };
     match report_on(hub, tickets, cell as usize, report) {
         Ok(ack) => {
             let orders = orders_of(hub, tickets, cell as usize);
             put_cell_answer(cell, report, ack.late, orders, writer)
         }
-        Err(fault) => put_all(writer, refused_line(number, name_of(fault)).bytes()),
+        Err(fault) => put_refused(number, name_of(fault), writer),
     }
 }
 
@@ -243,7 +244,7 @@ impl<D: Dues> LineHandler for DrivenCells<D> {
     }
 
     fn answer_long<W: Sink>(&mut self, number: u64, writer: &mut W) -> Result<(), WriteFault> {
-        put_all(writer, refused_line(number, b"LongLine").bytes())
+        put_refused(number, b"LongLine", writer)
     }
 
     fn end<W: Sink>(&self, writer: &mut W) -> Result<(), WriteFault> {

@@ -1,6 +1,7 @@
 //! What holds of answer texts in general. Nothing is done here: a function's contract is the law.
 
 ghost use Rattle.cell_drive.specs.OneTextLaw.{OneAnswerText, OneTextForLines};
+ghost use Rattle.cell_drive.specs.CellsTextLaw.{OneCellsAnswerText, OneCellsTextForLines};
 ghost use Rattle.cell_drive.specs.AuditLaw.{AnAnswerTextIsALog, AnAuditKeepsWhatWasDriven};
 
 /// An input has one answer text: what is written for it is fixed by the plan and by all of its bytes, and not by the
@@ -8,6 +9,12 @@ ghost use Rattle.cell_drive.specs.AuditLaw.{AnAnswerTextIsALog, AnAuditKeepsWhat
 pub fn one_answer_text()
     ensures whole { OneAnswerText }
     ensures lines { OneTextForLines }
+{}
+
+/// So has an input of several cells: what is written for it is fixed by the plans and by all of its bytes.
+pub fn one_answer_text_of_cells()
+    ensures whole { OneCellsAnswerText }
+    ensures lines { OneCellsTextForLines }
 {}
 
 /// What a driven cell writes is a log: its lines tell just what was accepted and ordered, in order, which is a run of

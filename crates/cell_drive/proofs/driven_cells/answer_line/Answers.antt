@@ -1,4 +1,4 @@
-use Rattle.std.proofs.Common.{ap, ◌∙◌}
+use Rattle.std.proofs.Common.{refl, ap}
 use Rattle.std.proofs.KnownBytes.{Appends-nil}
 use Rattle.cell_drive.specs.AnswerLines.{refused_line}
 use Rattle.cell_drive.proofs.DrivenAnswers.{no_bytes, some_bytes}
@@ -11,7 +11,7 @@ returns-then-is_empty-clause-answered g c =
 
 pub returns-in_default-clause-answered : goal.returns-in_default-clause-answered
 returns-in_default-clause-answered g c =
-    cells_answered _ _ _ _ _ _ _ _ _ (answer_bad _ _ _ _ (some_bytes _ _ c.is_empty.ensures c.if-is_empty.false) c.in_default.ensures (c.bytes.ensures ∙ c.refused_line.ensures)) c.put_all.ensures.wrote
+    cells_answered _ _ _ _ _ _ _ _ _ (answer_bad _ _ _ _ (some_bytes _ _ c.is_empty.ensures c.if-is_empty.false) c.in_default.ensures refl) c.put_refused.ensures
 
 pub returns-in-Ok-clause-answered : goal.returns-in-Ok-clause-answered
 returns-in-Ok-clause-answered g c =
@@ -21,5 +21,5 @@ pub returns-in-Err-clause-answered : goal.returns-in-Err-clause-answered
 returns-in-Err-clause-answered g c =
     cells_answered _ _ _ _ _ _ _ _ _
     (answer_refused _ _ _ _ _ c.in-Some.cell c.in-Some.report c.in-Err.fault c.in-Some.ensures c.in-Err.ensures.reported
-    (c.bytes-in-Err.ensures ∙ c.refused_line-in-Err.ensures ∙ ap (refused_line c.args.number) c.name_of.ensures.name))
-    c.put_all-in-Err.ensures.wrote
+    (ap (refused_line c.args.number) c.name_of.ensures.name))
+    c.put_refused-in-Err.ensures

@@ -1,6 +1,6 @@
-use Rattle.std.proofs.Common.{◌∙◌}
+use Rattle.std.proofs.Common.{refl}
 use Rattle.cell_drive.proofs.CellsAnswers.{cells_answered, answer_long}
 use Rattle.cell_drive.proofs.driven_cells.DrivenCellsLineHandler.answer_long.Goals as goal
 
 pub returns : goal.returns
-returns g c = cells_answered _ _ _ _ _ _ _ _ _ (answer_long _ _ _ (c.bytes.ensures ∙ c.refused_line.ensures)) c.put_all.ensures.wrote
+returns g c = cells_answered _ _ _ _ _ _ _ _ _ (answer_long _ _ _ refl) c.put_refused.ensures
