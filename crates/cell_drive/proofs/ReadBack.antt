@@ -44,7 +44,7 @@ use Rattle.cell_drive.proofs.WrittenWords.{IsWord, AreWords, decimal_word, line_
 
 module _ (p : PlannedShop) where
   -- put before a text, this one has it tell these entries first
-  abbrev pub TellsFirst : List ℕ → List Entry → Type 0
+  abbrev TellsFirst : List ℕ → List Entry → Type 0
   TellsFirst text own = (rest : List ℕ) (later : List Entry) → LinesTell p (lines_of rest) later → LinesTell p (lines_of (text ++ rest)) (own ++ later)
 
   tells_none : TellsFirst [] []
@@ -88,7 +88,7 @@ module _ (p : PlannedShop) where
   late_told c r text (inl (on_time, none)) = subst (λ (t : List ℕ). TellsFirst t []) (sym none) tells_none
   late_told c r text (inr (is_late, line)) = subst (λ (t : List ℕ). TellsFirst t []) (sym line) (tells_late r.at)
 
-  pub end_told : (end : DrivenCell) (text : List ℕ) → CellEnds p end text → TellsFirst text []
+  end_told : (end : DrivenCell) (text : List ℕ) → CellEnds p end text → TellsFirst text []
   end_told end text (inl (ended, line)) = subst (λ (t : List ℕ). TellsFirst t []) (sym line) (tells_done end.cell.last)
   end_told end text (inr (unfinished, line)) = subst (λ (t : List ℕ). TellsFirst t []) (sym line) (tells_unfinished _)
 

@@ -102,5 +102,4 @@ pub passed_over-begun : (word : List ℕ) (words : List (List ℕ)) (passed : Bo
 passed_over-begun word words passed some begins =
     let line = join_with_byte 32 (word ∷ words) in
     let some_bytes : (length line == 0) ≡ false = ne_eqb (length line) 0 (λ none. omega (arith, none, some, length-joined word words)) in
-    ap (λ (empty : Bool). empty || starts_with nat_eq line (codes "late ") || starts_with nat_eq line (codes "refused ") || starts_with nat_eq line (codes "done ") || starts_with nat_eq line (codes "unfinished ")) some_bytes
-    ∙ begins
+    rw some_bytes begins
