@@ -289,6 +289,19 @@ fn asks_nobody_and_stops_at_want_of_memory(rt: HostRuntime) -> Result<(), Fail> 
 }
 
 #[test]
+fn goes_on_to_the_second_round(rt: HostRuntime) -> Result<(), Fail> {
+    let alloc = rt.alloc();
+    let mut shift: Vec<Box<dyn Proposer>> = Vec::new(alloc);
+    shift.push(Box::new(alloc, ShiftProposer::new())?)?;
+    let cases: [(u32, &str); 2] = [(1, "Exhausted"), (2, "1 0 ,1 0 ,")];
+    for (rounds, want) in &cases {
+        let answer = found(alloc, &[0, 0], &[10, 5], None, &shift, *rounds)?;
+        assert_eq!(rt; answer.as_str(), *want);
+    }
+    Ok(())
+}
+
+#[test]
 fn shifts_the_jobs(rt: HostRuntime) -> Result<(), Fail> {
     let alloc = rt.alloc();
     let shop = shop_of(
