@@ -1,24 +1,12 @@
-/* Preloaded under the program by tests/refused-memory: refuses the request for memory with the number in
-   REFUSE, counted from 1, and says on the descriptor in REFUSE_TELL that it has met it. */
+/* Preloaded under the program and the tests by tests/refused-memory: refuses the request for memory with the number in
+   REFUSE, counted from 1, and says on the descriptor in REFUSE_TELL that it has met it. Where REFUSE_ASKED is set, it
+   counts those requests alone that come between a line `asked` on the standard error and the next line there. */
 #define _GNU_SOURCE
 #include <dlfcn.h>
 #include <errno.h>
 #include <stdlib.h>
+#include <string.h>
 #include <unistd.h>
-
-static long left = -1;
-
-static int refused(void) {
-  if (left == -1) {
-    const char *n = getenv("REFUSE");
-    left = n ? atol(n) : 0;
-  }
-  if (left == 0 || --left != 0) return 0;
-  const char *tell = getenv("REFUSE_TELL");
-  if (tell && write(atoi(tell), "met\n", 4) != 4) _exit(99);
-  errno = ENOMEM;
-  return 1;
-}
 
 #define NEXT(type, name) \
   static type next; \
@@ -28,6 +16,34 @@ typedef void *(*malloc_t)(size_t);
 typedef void *(*realloc_t)(void *, size_t);
 typedef void *(*aligned_t)(size_t, size_t);
 typedef int (*posix_t)(void **, size_t, size_t);
+typedef ssize_t (*write_t)(int, const void *, size_t);
+
+static long left = -1;
+static int from_asked, counts;
+
+static void begin(void) {
+  if (left != -1) return;
+  const char *n = getenv("REFUSE");
+  left = n ? atol(n) : 0;
+  from_asked = getenv("REFUSE_ASKED") != NULL;
+  counts = !from_asked;
+}
+
+ssize_t write(int to, const void *bytes, size_t size) {
+  NEXT(write_t, "write");
+  begin();
+  if (from_asked && to == STDERR_FILENO) counts = size >= 5 && memcmp(bytes, "asked", 5) == 0;
+  return next(to, bytes, size);
+}
+
+static int refused(void) {
+  begin();
+  if (!counts || left == 0 || --left != 0) return 0;
+  const char *tell = getenv("REFUSE_TELL");
+  if (tell && write(atoi(tell), "met\n", 4) != 4) _exit(99);
+  errno = ENOMEM;
+  return 1;
+}
 
 void *malloc(size_t size) {
   NEXT(malloc_t, "malloc");

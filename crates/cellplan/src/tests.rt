@@ -5,6 +5,8 @@ mod checks;
 mod facts;
 mod plans;
 mod shapes;
+mod statuses;
+mod wants;
 
 /// Two jobs on two machines.
 const TWO: &[u8] = b"two\n2 2\n0 3 1 2\n1 4 0 1\n";
@@ -16,3 +18,36 @@ instance ft06\n\n +++++++++++++++++++++++++++++\n Fisher and Thompson 6x6\n 6 6\
 2 1 0 3 1 6 3 7 5 3 4 6\n 1 8 2 5 4 10 5 10 0 10 3 4\n 2 5 3 4 5 8 0 9 1 1 4 7\n \
 1 5 0 5 2 5 3 3 4 8 5 9\n 2 9 1 3 4 5 5 4 0 3 3 1\n 1 3 3 3 5 9 0 10 4 4 2 1\n \
 +++++++++++++++++++++++++++++\n";
+
+/// Plans for the two jobs, as `plan_document` writes them: job 0 first on each machine, with the budgets that it just
+/// keeps, and with one that it doesn't.
+const IN_TIME: &[u8] = b"release = [0, 0]\nbudget = [5, 10]\norder = [[0, 1], [0, 1]]\n";
+
+const LATE: &[u8] = b"release = [0, 0]\nbudget = [5, 9]\norder = [[0, 1], [0, 1]]\n";
+
+/// The same, where machine 1 is cleaned.
+const CLEANED: &[u8] =
+    b"version = 2\nrelease = [0, 0]\nbudget = [5, 12]\norder = [[0, 1], [0, 1]]\nclean = [0, 2]\n";
+
+/// Each of the two jobs waits for the machine that the other one is on.
+const CROSSED: &[u8] = b"release = [0, 0]\nbudget = [100, 100]\norder = [[0, 1], [1, 0]]\n";
+
+/// Plans that aren't well shaped for the two jobs, each with its line.
+const NOT_SHAPED: [(&[u8], &[u8]); 4] = [
+    (
+        b"release = [0, 0]\nbudget = [5, 10]\norder = [[0, 1], [0]]\n",
+        b"not shaped JobMissing machine 1 job 1\n",
+    ),
+    (
+        b"release = [0, 0]\nbudget = [5, 10]\norder = [[0, 2], [0, 1]]\n",
+        b"not shaped JobOutOfRange machine 0 place 1\n",
+    ),
+    (
+        b"release = [0, 0]\nbudget = [5, 10]\norder = [[0, 0], [0, 1]]\n",
+        b"not shaped JobTwice machine 0 place 1\n",
+    ),
+    (
+        b"release = [0, 0]\nbudget = [5, 1000000000001]\norder = [[0, 1], [0, 1]]\n",
+        b"not shaped BudgetTooLarge job 1\n",
+    ),
+];

@@ -1,14 +1,7 @@
-use super::TWO;
+use super::{CLEANED, CROSSED, IN_TIME, TWO};
 use command_answers::{Answer, CommandFault, audit_answer, gantt_answer};
 use std::process::Abort;
 use std::test::Fail;
-
-const IN_TIME: &[u8] = b"release = [0, 0]\nbudget = [5, 10]\norder = [[0, 1], [0, 1]]\n";
-
-const CROSSED: &[u8] = b"release = [0, 0]\nbudget = [100, 100]\norder = [[0, 1], [1, 0]]\n";
-
-const CLEANED: &[u8] =
-    b"version = 2\nrelease = [0, 0]\nbudget = [5, 12]\norder = [[0, 1], [0, 1]]\nclean = [0, 2]\n";
 
 const SERIES: &[u8] =
     b"report 0 arrive 0\norder 0 0 out 0\nreport 0 arrive 1\nreport 2 finish 0 0\n\

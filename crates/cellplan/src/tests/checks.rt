@@ -1,4 +1,4 @@
-use super::{COLLECTION, TWO};
+use super::{CLEANED, COLLECTION, CROSSED, IN_TIME, LATE, NOT_SHAPED, TWO};
 use alt_graph::{check_chain, check_cycle};
 use command_answers::{CommandFault, Loaded, check_answer, load};
 use orlib_read::{OrFault, read_instance};
@@ -12,12 +12,6 @@ const RING: &[u8] = b"ring\n3 3\n0 1 1 1\n1 1 2 1\n2 1 0 1\n";
 
 const CHAIN: &[u8] = b"chain\n3 3\n0 1 1 1 2 5\n0 1 1 1 2 1\n0 1 1 1 2 1\n";
 
-const CROSSED: &[u8] = b"release = [0, 0]\nbudget = [100, 100]\norder = [[0, 1], [1, 0]]\n";
-
-const IN_TIME: &[u8] = b"release = [0, 0]\nbudget = [5, 10]\norder = [[0, 1], [0, 1]]\n";
-
-const LATE: &[u8] = b"release = [0, 0]\nbudget = [5, 9]\norder = [[0, 1], [0, 1]]\n";
-
 const FIRST_LATE: &[u8] = b"release = [0, 0]\nbudget = [4, 9]\norder = [[0, 1], [0, 1]]\n";
 
 const LATE_BY_CLEANING: &[u8] =
@@ -25,26 +19,6 @@ const LATE_BY_CLEANING: &[u8] =
 
 const LOCKED_RING: &[u8] =
     b"release = [0, 0, 0]\nbudget = [100, 100, 100]\norder = [[0, 2], [1, 0], [2, 1]]\n";
-
-/// Plans that aren't well shaped for the two jobs, each with its line.
-const NOT_SHAPED: [(&[u8], &[u8]); 4] = [
-    (
-        b"release = [0, 0]\nbudget = [5, 10]\norder = [[0, 1], [0]]\n",
-        b"not shaped JobMissing machine 1 job 1\n",
-    ),
-    (
-        b"release = [0, 0]\nbudget = [5, 10]\norder = [[0, 2], [0, 1]]\n",
-        b"not shaped JobOutOfRange machine 0 place 1\n",
-    ),
-    (
-        b"release = [0, 0]\nbudget = [5, 10]\norder = [[0, 0], [0, 1]]\n",
-        b"not shaped JobTwice machine 0 place 1\n",
-    ),
-    (
-        b"release = [0, 0]\nbudget = [5, 1000000000001]\norder = [[0, 1], [0, 1]]\n",
-        b"not shaped BudgetTooLarge job 1\n",
-    ),
-];
 
 #[test]
 fn tells_the_verdicts_on_plans(rt: HostRuntime) -> Result<(), Fail> {
@@ -72,12 +46,7 @@ fn tells_the_verdicts_on_plans(rt: HostRuntime) -> Result<(), Fail> {
             b"refused late 1 12 0.0 0.1 0.2 1.0 1.1 1.2\n",
             1,
         ),
-        (
-            TWO,
-            b"version = 2\nrelease = [0, 0]\nbudget = [5, 12]\norder = [[0, 1], [0, 1]]\nclean = [0, 2]\n",
-            b"accepted makespan 12 leaves 5 12\n",
-            0,
-        ),
+        (TWO, CLEANED, b"accepted makespan 12 leaves 5 12\n", 0),
     ];
     for (instance, plan, line, status) in lines {
         let answer = check_answer(rt.alloc(), instance, None, plan)?;

@@ -1,4 +1,4 @@
-use super::{COLLECTION, TWO};
+use super::{CLEANED, COLLECTION, IN_TIME, TWO};
 use command_answers::{CommandFault, plan_answer};
 use orlib_read::OrFault;
 use plan_seek::{GreedyProposer, Proposer, ShiftProposer};
@@ -8,9 +8,10 @@ use std::test::Fail;
 
 const CROSSING: &[u8] = b"release = [0, 0]\nbudget = [10, 5]\norder = [[0, 1], [0, 1]]\n";
 
-const LATE: &[u8] = b"release = [0, 0]\nbudget = [4, 4]\norder = [[0, 1], [0, 1]]\n";
+const BOTH_LATE: &[u8] = b"release = [0, 0]\nbudget = [4, 4]\norder = [[0, 1], [0, 1]]\n";
 
-const IN_TIME: &[u8] = b"release = [0, 0]\nbudget = [5, 10]\norder = []\n";
+/// With no orders, which aren't used.
+const NO_ORDERS: &[u8] = b"release = [0, 0]\nbudget = [5, 10]\norder = []\n";
 
 #[test]
 fn finds_plans(rt: HostRuntime) -> Result<(), Fail> {
@@ -25,26 +26,16 @@ fn finds_plans(rt: HostRuntime) -> Result<(), Fail> {
             0,
         ),
         (CROSSING, 0, b"exhausted\n", 1),
-        (LATE, 20, b"exhausted\n", 1),
-        (
-            IN_TIME,
-            0,
-            b"release = [0, 0]\nbudget = [5, 10]\norder = [[0, 1], [0, 1]]\n",
-            0,
-        ),
+        (BOTH_LATE, 20, b"exhausted\n", 1),
+        (NO_ORDERS, 0, IN_TIME, 0),
         (
             b"release = [0]\nbudget = [5, 10]\norder = []\n",
             1001,
             b"bad numbers ReleaseCount\n",
             1,
         ),
-        (IN_TIME, 1001, b"too many rounds\n", 1),
-        (
-            b"version = 2\nrelease = [0, 0]\nbudget = [5, 12]\norder = [[0, 1], [0, 1]]\nclean = [0, 2]\n",
-            20,
-            b"version = 2\nrelease = [0, 0]\nbudget = [5, 12]\norder = [[0, 1], [0, 1]]\nclean = [0, 2]\n",
-            0,
-        ),
+        (NO_ORDERS, 1001, b"too many rounds\n", 1),
+        (CLEANED, 20, CLEANED, 0),
         (
             b"version = 2\nrelease = [0, 0]\nbudget = [5, 11]\norder = [[0, 1], [0, 1]]\nclean = [0, 2]\n",
             20,
