@@ -1,16 +1,18 @@
 -- Which words tell what, and which tell nothing.
-use Rattle.std.proofs.Common.{◌≡◌, ◌≢◌, ℕ, false, List, [], ◌∷◌, ◌++◌, codes, eqb, refl, sym, ap, ◌∙◌, subst}
-use Rattle.std.specs.List.{join_with_byte}
-use Rattle.std.proofs.lemmas.Bool.{eq-eqb}
+use Rattle.std.proofs.Common.{◌≡◌, ◌≢◌, ℕ, true, false, List, [], ◌∷◌, ◌++◌, length, codes, eqb, refl, sym, ap, ◌∙◌, subst, arith, length-append}
+use Rattle.std.specs.Prelude.{nat_eq, Bool, ◌||◌}
+use Rattle.std.specs.List.{join_with_byte, starts_with}
+use Rattle.std.proofs.lemmas.Bool.{eq-eqb, ne_eqb}
 use Rattle.shop_base.specs.declared.move_order.Spot.{Spot}
 use Rattle.shop_base.specs.declared.move_order.MoveOrder.{MoveOrder}
-use Rattle.text_lines.specs.Numbers.{IsNumeral, value_of}
+use Rattle.text_lines.specs.Numbers.{IsNumeral, IsNumberBefore, value_of}
 use Rattle.text_lines.specs.Cuts.{HasNone, IsCutAt}
+use Rattle.text_lines.proofs.FirstWords.{no_space}
 use Rattle.cell_control.specs.declared.report.Report.{Report}
 use Rattle.cell_control.specs.declared.report.Report.TheVariants.{Arrive, Finish, Clean}
 use Rattle.run_log.specs.declared.entry.Entry.{Entry}
 use Rattle.run_log.specs.declared.entry.Entry.TheVariants.{Report as ReportEntry, Order as OrderEntry}
-use Rattle.run_log.specs.LogLines.{spaced_words, IsSpotWord, AreSpotWords, AreEndWords, AreReportWords, AreOrderWords, IsEntryLine, moment_of}
+use Rattle.run_log.specs.LogLines.{spaced_words, is_passed_over, IsSpotWord, AreSpotWords, AreEndWords, AreReportWords, AreOrderWords, IsEntryLine, moment_of}
 use Rattle.run_log.specs.LogWords.{IsNumberFirst, HasNoNumberFirst, AreEndWordsAt, AreNoEndWords}
 use Rattle.run_log.proofs.SpacedWords.{words_first, words_one, words_back, numeral_one, spot_one}
 
@@ -19,18 +21,13 @@ different a b unequal same = let equal = eq-eqb a b same in cc
 
 -- ---- a number, and words behind it
 
-pub no_number-uncut : (most : ℕ) (bytes : List ℕ) → HasNone 32 bytes → HasNoNumberFirst most (spaced_words bytes)
-no_number-uncut most bytes none n next rest found = let one = words_one bytes none in let more = found.2 in absurd (cc)
+pub no_number-before : (most : ℕ) (bytes : List ℕ) → ((n : ℕ) (rest : List ℕ) → IsNumberBefore most bytes n rest → ⊥) → HasNoNumberFirst most (spaced_words bytes)
+no_number-before most bytes none n next rest found =
+    none n (join_with_byte 32 (next ∷ rest)) (record { word = found.0; numeral = found.1; split = words_back bytes (found.0 ∷ next ∷ rest) found.2 })
 
-pub no_number-other : (most : ℕ) (bytes front rest : List ℕ) → IsCutAt 32 bytes front rest → ((n : ℕ) → IsNumeral most front n → ⊥) → HasNoNumberFirst most (spaced_words bytes)
-no_number-other most bytes front rest cut other n next more found =
-    let words = words_first bytes front rest cut in
-    let is = found.2 in
-    let same : found.0 ≡ front = cc in
-    other n (subst (λ w. IsNumeral most w n) same found.1)
-
-pub number-here : (most : ℕ) (bytes front rest : List ℕ) (n : ℕ) → IsCutAt 32 bytes front rest → IsNumeral most front n → IsNumberFirst most (spaced_words bytes) n (spaced_words rest)
-number-here most bytes front rest n cut is_number = (front, is_number, words_first bytes front rest cut)
+pub number-before : (most n : ℕ) (bytes rest : List ℕ) → IsNumberBefore most bytes n rest → IsNumberFirst most (spaced_words bytes) n (spaced_words rest)
+number-before most n bytes rest number =
+    (number.word, number.numeral, words_first bytes number.word rest (record { before = no_space number.word number.numeral.digits; split = number.split }))
 
 -- there is always a word
 pub some_word : (bytes : List ℕ) → (first : List ℕ) × (rest : List (List ℕ)) × (spaced_words bytes ≡ first ∷ rest)
@@ -193,7 +190,7 @@ no_order_line line rest words none (OrderEntry order) found =
     none order (subst (λ ws. AreOrderWords ws order) same found.1)
 
 -- a line with neither word first tells nothing
-pub no_line : (line : List ℕ) → ((rest : List ℕ) → line ≢ codes "report " ++ rest) → ((rest : List ℕ) → line ≢ codes "order " ++ rest) → (entry : Entry) → IsEntryLine line entry → ⊥
+no_line : (line : List ℕ) → ((rest : List ℕ) → line ≢ codes "report " ++ rest) → ((rest : List ℕ) → line ≢ codes "order " ++ rest) → (entry : Entry) → IsEntryLine line entry → ⊥
 no_line line r o (ReportEntry report) found =
     let back = words_back line _ found.2 in
     let moment = found.1.4 in
@@ -202,3 +199,31 @@ no_line line r o (OrderEntry order) found =
     let back = words_back line _ found.2 in
     let moment = found.1.6 in
     o (join_with_byte 32 (found.1.0 ∷ found.1.1 ∷ found.1.2)) (back ∙ ap (λ ws. join_with_byte 32 (codes "order" ∷ ws)) moment)
+
+-- with the first byte of `order` it is no report, and with another no order
+pub no_line-order : (line : List ℕ) → starts_with nat_eq line (codes "o") ≡ true → ((rest : List ℕ) → line ≢ codes "order " ++ rest) → (entry : Entry) → IsEntryLine line entry → ⊥
+no_line-order line first none = no_line line (λ rest is. let other : starts_with nat_eq line (codes "o") ≡ false = ap (λ l. starts_with nat_eq l (codes "o")) is in cc) none
+
+pub no_line-report : (line : List ℕ) → starts_with nat_eq line (codes "o") ≡ false → ((rest : List ℕ) → line ≢ codes "report " ++ rest) → (entry : Entry) → IsEntryLine line entry → ⊥
+no_line-report line first none = no_line line none (λ rest is. let other : starts_with nat_eq line (codes "o") ≡ true = ap (λ l. starts_with nat_eq l (codes "o")) is in cc)
+
+-- a line with bytes is passed over where it begins so
+begun : (line : List ℕ) → (length line ≡ 0 → ⊥) → is_passed_over line ≡ (false || starts_with nat_eq line (codes "late ") || starts_with nat_eq line (codes "refused ")
+    || starts_with nat_eq line (codes "done ") || starts_with nat_eq line (codes "unfinished "))
+begun line some = ap (λ (empty : Bool). empty || starts_with nat_eq line (codes "late ") || starts_with nat_eq line (codes "refused ")
+    || starts_with nat_eq line (codes "done ") || starts_with nat_eq line (codes "unfinished ")) (ne_eqb (length line) 0 some)
+
+-- a line that tells an entry isn't passed over
+pub told-not_passed : (line : List ℕ) (entry : Entry) → IsEntryLine line entry → is_passed_over line ≡ false
+told-not_passed line (ReportEntry report) found = ap is_passed_over (words_back line _ found.2) ∙ reported found.0
+  where
+    reported : (words : List (List ℕ)) → is_passed_over (join_with_byte 32 (codes "report" ∷ words)) ≡ false
+    reported [] = refl
+    reported (word ∷ words) = let rest = join_with_byte 32 (word ∷ words) in
+        begun (codes "report" ++ 32 ∷ rest) (λ none. omega (arith, none, length-append (codes "report") (32 ∷ rest)))
+told-not_passed line (OrderEntry order) found = ap is_passed_over (words_back line _ found.2) ∙ ordered found.0
+  where
+    ordered : (words : List (List ℕ)) → is_passed_over (join_with_byte 32 (codes "order" ∷ words)) ≡ false
+    ordered [] = refl
+    ordered (word ∷ words) = let rest = join_with_byte 32 (word ∷ words) in
+        begun (codes "order" ++ 32 ∷ rest) (λ none. omega (arith, none, length-append (codes "order") (32 ∷ rest)))

@@ -113,10 +113,10 @@ fn take_line(
     ensures number { IfErr result (λ fault. line_of fault ≡ number) }
     ensures fault { IfErr result (IsLineFault shaped.now (cell_of shaped.now tables.old) line.now) }
 {
-    if is_passed_over(line) {
-        return Ok(());
-    }
     let Some(entry) = told_entry(shaped, line) else {
+        if is_passed_over(line) {
+            return Ok(());
+        }
         return Err(AuditFault::BadLine { line: number });
     };
     check_entry(shaped, tables, entry, number)?;

@@ -175,6 +175,7 @@ fn push_moment(text: &mut String, moment: Option<Moment>) -> Result<(), AllocErr
     }
 }
 
+#[inline(always)]
 fn push_number(text: &mut String, number: u64) -> Result<(), AllocError>
     ensures { OnOk result (string_bytes text.new ≡ string_bytes text.old ++ decimal number) }
 {

@@ -1,8 +1,8 @@
 //! The entries that the lines of a log tell.
 
-ghost use Rattle.std.specs.Prelude.{◌≡◌, ℕ, ◌^◌, ◌<◌, ◌≤◌, ◌↔◌, List, ◌∷◌, codes, MatchOption, IfSome, IsTrue};
+ghost use Rattle.std.specs.Prelude.{◌≡◌, ℕ, ◌^◌, ◌<◌, ◌≤◌, ◌↔◌, List, [], ◌∷◌, codes, MatchOption, IfSome, IsTrue};
 ghost use Rattle.cell_control.specs.Moving.{IsSpotOf};
-ghost use Rattle.run_log.specs.LogLines.{spaced_words, is_passed_over, IsSpotWord, AreSpotWords, AreReportWords, AreOrderWords, IsEntryLine, AreEndsOf, IsEntryOf};
+ghost use Rattle.run_log.specs.LogLines.{spaced_words, is_passed_over, IsSpotWord, AreSpotWords, AreReportWords, AreOrderWords, IsEntryLine, AreEndsOf, IsEntryOf, LineTells};
 ghost use Rattle.run_log.specs.LogWords.{IsNumberFirst, HasNoNumberFirst, AreEndWordsAt, AreNoEndWords};
 
 use crate::entry::Entry;
@@ -10,7 +10,7 @@ use cell_control::Report;
 use shop_base::limits::MAX_MOMENT;
 use shop_base::readers::{job_count, machine_count};
 use shop_base::{JobNo, Moment, MoveOrder, Shaped, Spot};
-use text_lines::{after_prefix, cut_word, number_of, short_number_of};
+use text_lines::{after_prefix, cut_word, number_before_space, short_number_of};
 
 /// Whether the line is passed over.
 pub(crate) fn is_passed_over(line: &[u8]) -> bool
@@ -43,8 +43,7 @@ fn number_first(words: &[u8], most: usize) -> Option<(u64, &[u8])>
         (λ found. IsNumberFirst most (spaced_words words.now) found.0 (spaced_words found.1.now)) }
     ensures small { IfSome result (λ found. found.0 < 10 ^ most) }
 {
-    let (first, rest) = cut_word(words)?;
-    let number = number_of(first, most)?;
+    let (number, rest) = number_before_space(words, most)?;
     Some((number, rest))
 }
 
@@ -135,16 +134,12 @@ fn order_of(words: &[u8]) -> Option<MoveOrder>
 fn entry_of(line: &[u8]) -> Option<Entry>
     ensures { MatchOption result ((entry : Entry) → IsEntryLine line.now entry → ⊥) (IsEntryLine line.now) }
 {
-    if let Some(words) = after_prefix(line, b"report ") {
-        return match report_of(words) {
-            Some(report) => Some(Entry::Report(report)),
-            None => None,
-        };
+    if line.starts_with(b"o") {
+        let order = order_of(after_prefix(line, b"order ")?)?;
+        return Some(Entry::Order(order));
     }
-    match order_of(after_prefix(line, b"order ")?) {
-        Some(order) => Some(Entry::Order(order)),
-        None => None,
-    }
+    let report = report_of(after_prefix(line, b"report ")?)?;
+    Some(Entry::Report(report))
 }
 
 fn is_spot_of(shaped: &Shaped, spot: Spot) -> bool
@@ -189,10 +184,10 @@ fn is_entry_of(shaped: &Shaped, entry: Entry) -> bool
     }
 }
 
-/// The entry of the shop that the line tells.
+/// The entry of the shop that the line tells; no such line is passed over.
 pub(crate) fn told_entry(shaped: &Shaped, line: &[u8]) -> Option<Entry>
     ensures { MatchOption result ((entry : Entry) → IsEntryLine line.now entry → IsEntryOf shaped.now entry → ⊥)
-        (λ entry. IsEntryLine line.now entry × IsEntryOf shaped.now entry) }
+        (λ entry. LineTells shaped.now line.now (entry ∷ [])) }
 {
     let entry = entry_of(line)?;
     if is_entry_of(shaped, entry) {

@@ -1,5 +1,5 @@
 -- Words that are numbers.
-use Rattle.std.specs.Prelude.{◌≡◌, ℕ, ◌+◌, ◌-◌, ◌*◌, ◌<◌, ◌≤◌, nat_le, Bool, true, ◌&&◌, List, length, fold}
+use Rattle.std.specs.Prelude.{◌≡◌, ℕ, ◌+◌, ◌-◌, ◌*◌, ◌<◌, ◌≤◌, nat_le, Bool, true, ◌&&◌, List, ◌∷◌, ◌++◌, length, fold}
 use Rattle.std.specs.List.{list_all}
 
 -- `0` to `9`
@@ -16,3 +16,9 @@ pub record IsNumeral (most : ℕ) (word : List ℕ) (n : ℕ) : Type 0 where
   pub few : length word ≤ most
   pub digits : list_all is_digit word ≡ true
   pub value : n ≡ value_of word
+
+-- the bytes begin with such a word and a space, and these stand behind that
+pub record IsNumberBefore (most : ℕ) (bytes : List ℕ) (n : ℕ) (rest : List ℕ) : Type 0 where
+  pub word : List ℕ
+  pub numeral : IsNumeral most word n
+  pub split : bytes ≡ word ++ 32 ∷ rest

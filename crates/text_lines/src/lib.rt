@@ -7,7 +7,7 @@ mod numbers;
 
 pub use cuts::{after_prefix, cut_line, cut_word};
 pub use lines::{line_count, next_line, without_return};
-pub use numbers::{number_of, short_number_of};
+pub use numbers::{number_before_space, number_of, short_number_of};
 
 #[cfg(test)]
 mod tests;

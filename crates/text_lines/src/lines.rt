@@ -2,6 +2,7 @@ ghost use Rattle.std.specs.Prelude.{◌≡◌, [], ◌∷◌, ◌<◌, length, M
 ghost use Rattle.text_lines.specs.Lines.{without_return, lines_of};
 
 use crate::cuts::cut_line;
+use memchr::memchr;
 
 /// The line without one carriage return at its end, if it has one there.
 pub fn without_return(line: &[u8]) -> &[u8]
@@ -31,9 +32,9 @@ pub fn line_count(text: &[u8]) -> usize
 {
     let mut count = 0;
     let mut rest = text;
-    while let Some((_, after)) = next_line(rest) {
+    while let Some(end) = memchr(b'\n', rest) {
         count += 1;
-        rest = after;
+        rest = &rest[end + 1..];
     }
-    count
+    if rest.is_empty() { count } else { count + 1 }
 }

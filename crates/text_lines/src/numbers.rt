@@ -1,5 +1,6 @@
-ghost use Rattle.std.specs.Prelude.{◌≡◌, ℕ, ◌^◌, ◌<◌, ◌≤◌, IfSome, MatchOption};
-ghost use Rattle.text_lines.specs.Numbers.{is_digit, IsNumeral};
+ghost use Rattle.std.specs.Prelude.{◌≡◌, ℕ, ◌^◌, ◌<◌, ◌≤◌, List, length, take, slice_index, true, false, IfSome, MatchOption};
+ghost use Rattle.std.specs.List.{list_all};
+ghost use Rattle.text_lines.specs.Numbers.{is_digit, value_of, IsNumeral, IsNumberBefore};
 
 fn is_digit(byte: u8) -> bool
     ensures { result ≡ is_digit byte }
@@ -34,4 +35,43 @@ pub fn short_number_of(word: &[u8]) -> Option<u32>
         Some(number) => Some(number as u32),
         None => None,
     }
+}
+
+/// The number before the first space, in decimal with at most so many digits, and the bytes behind that space.
+pub fn number_before_space(bytes: &[u8], most: usize) -> Option<(u64, &[u8])>
+    requires { most ≤ 18 }
+    ensures number { MatchOption result ((n : ℕ) (rest : List ℕ) → IsNumberBefore most bytes.now n rest → ⊥)
+        (λ found. IsNumberBefore most bytes.now found.0 found.1.now) }
+    ensures small { IfSome result (λ found. found.0 < 10 ^ most) }
+{
+    let mut value = 0;
+    for end in 0..bytes.len().min(most + 1) {
+        let byte = bytes[end];
+        if !is_digit(byte) {
+            return ended_number(bytes, end, value, most);
+        }
+        value = 10 * value + u64::from(byte - b'0');
+    }
+    None
+}
+
+/// The number that the digits before this end are, and the bytes behind it, if there are digits and a space ends them.
+fn ended_number(bytes: &[u8], end: usize, value: u64, most: usize) -> Option<(u64, &[u8])>
+    requires end { end < length bytes.now }
+    requires few { end ≤ most }
+    requires digits { list_all is_digit (take end bytes.now) ≡ true }
+    requires ended { is_digit (slice_index bytes.now end) ≡ false }
+    requires value { value ≡ value_of (take end bytes.now) }
+    requires small { value < 10 ^ most }
+    ensures number { MatchOption result ((n : ℕ) (rest : List ℕ) → IsNumberBefore most bytes.now n rest → ⊥)
+        (λ found. IsNumberBefore most bytes.now found.0 found.1.now) }
+    ensures small { IfSome result (λ found. found.0 < 10 ^ most) }
+{
+    if end == 0 {
+        return None;
+    }
+    if bytes[end] != b' ' {
+        return None;
+    }
+    Some((value, &bytes[end + 1..]))
 }
