@@ -4,14 +4,15 @@ use crate::way_out::{Passage, place_in, way_out};
 use shop_base::{JobNo, Moment, Shop};
 use std::alloc::{AllocError, Global};
 
-/// How many choices the planner makes before it gives up.
+/// How many choices the planner makes before it gives up, and how many more in looking ahead.
 const MAX_CHOICES: u32 = 100_000;
 
 /// A planner that simulates the cell at nominal times, as if all releases were 0 and no machine had to be
 /// cleaned. At each choice the least job that can move does so, and where none can, it waits for the next
 /// operation to end. A move after which it finds no way out for all jobs in the cell is taken back. In round
 /// `r` the choice begins at job `r`, counted round, and in the odd rounds no more jobs are let in once more
-/// than half of the machines hold one. It gives up after 100,000 choices, those of looking ahead included.
+/// than half of the machines hold one. It gives up after 100,000 choices. Looking ahead has as many of its own;
+/// once they are spent, only moves on the way out that is known are made.
 #[derive(Clone, Copy, Debug, Default)]
 pub struct GreedyProposer;
 
@@ -43,7 +44,7 @@ struct Simulation {
     /// Moves by which all jobs that are in the cell can leave it, one after the other.
     way: Vec<Passage>,
     now: Moment,
-    /// How many choices are left.
+    /// How many choices of looking ahead are left.
     choices: u32,
 }
 
