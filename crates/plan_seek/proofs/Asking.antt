@@ -50,14 +50,6 @@ refused_outcome t back orders shop other_shop plan other_plan fault is same_shop
       λ accepted. shape_fault_refutes (record { shop = shop; plan = plan }) fault first (subst IsWellShaped (sym is) accepted.shaped),
     )
 
--- orders that may be answered were put to the test
-pub answered : (t : PlanTask) (may : Answer → Type 0) (orders : List (List ℕ)) (attempt : Attempt) → may (Some orders)
-    → IsOutcome t (λ found. found ≡ orders) (IsInVain t (Some orders)) attempt
-    → IsOutcome t (λ order. may (Some order)) (MayFail t may) attempt
-answered t may orders (Accepted verified) given (plan, is) = (plan, subst (λ order. may (Some order)) (sym is) given)
-answered t may orders (InVain back) given (same, failed) = (same, record { answer = Some orders; given = given; in_vain = failed })
-answered t may orders (WantsMemory back) given same = same
-
 module _ {B : Type 0} (proposers : List B) (may : B → JobShop → ℕ → Answer → Type 0) where
   -- what they may answer at each turn
   abbrev answers : JobShop → Answers

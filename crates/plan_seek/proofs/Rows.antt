@@ -5,7 +5,7 @@ use Rattle.std.proofs.lemmas.List.{append-nil, append_assoc, map-append}
 use Rattle.std.proofs.lemmas.List.Elements.{filter-append}
 use Rattle.std.proofs.lemmas.List.FromFn.{map-range_with_len_more}
 use Rattle.shop_base.specs.Shop.{JobShop, route_at}
-use Rattle.plan_seek.specs.Orders.{is_on_route, visitors, jobs_from}
+use Rattle.plan_seek.specs.Orders.{is_on_route, visitors}
 
 -- one number more
 pub range_more : (a n j : ℕ) → a + n ≡ j → range_with_len a (n + 1) ≡ range_with_len a n ++ j ∷ []
@@ -23,15 +23,6 @@ visitors_more shop a j m from =
     ap (λ n. visitors shop (range_with_len a n) m) longer
     ∙ ap (filter on) (range_more a (j - a) j (omega arith))
     ∙ filter-append on (range_with_len a (j - a)) (j ∷ [])
-
--- the jobs from one on, and then those before it
-pub visitors_round : (shop : JobShop) (n first m : ℕ)
-    → visitors shop (range_with_len first (n - first)) m ++ visitors shop (range_with_len 0 first) m ≡ visitors shop (jobs_from n first) m
-visitors_round shop n first m = sym (filter-append (λ j. is_on_route (route_at shop.routes j) m) (range_with_len first (n - first)) (range_with_len 0 first))
-
--- counted from job 0 on, they are in ascending order
-pub jobs_from-zero : (n : ℕ) → jobs_from n 0 ≡ range_with_len 0 n
-jobs_from-zero n = let same : n - 0 ≡ n = omega arith in append-nil (range_with_len 0 (n - 0)) ∙ ap (range_with_len 0) same
 
 module _ (shop : JobShop) where
   -- before the first job
