@@ -1,6 +1,6 @@
 //! The lines of events, each written into 64 bytes of its own.
 
-ghost use Rattle.std.specs.Prelude.{◌≡◌, ◌+◌, ◌≤◌, [], ◌∷◌, ◌++◌, length};
+ghost use Rattle.std.specs.Prelude.{◌≡◌, ◌+◌, ◌≤◌, [], ◌∷◌, ◌++◌, length, OnOk};
 ghost use Rattle.run_log.specs.Sinks.{Wrote};
 ghost use Rattle.run_log.specs.EventLines.{spot_word, report_line, order_line, entry_line, entry_lines};
 
@@ -93,7 +93,8 @@ fn put_entry(line: &mut LineText, entry: Entry)
 
 /// Writes the lines of the entries. A fault leaves the first bytes of them written.
 pub fn write_lines<W: Sink>(entries: &[Entry], writer: &mut W) -> Result<(), WriteFault>
-    ensures { Wrote result (W.failed writer.new) (W.taken writer.old) (W.taken writer.new) (entry_lines entries.now) }
+    ensures wrote { Wrote result (W.failed writer.new) (W.taken writer.old) (W.taken writer.new) (entry_lines entries.now) }
+    ensures unfailed { OnOk result (W.failed writer.new ≡ W.failed writer.old) }
 {
     for entry in entries {
         let mut line = LineText::ended();

@@ -1,4 +1,5 @@
 mod audits;
+mod full_log;
 
 use super::*;
 use cell_control::Report;
@@ -69,6 +70,7 @@ fn nothing_is_written_without_a_call(rt: HostRuntime) -> Result<(), Fail> {
     assert_eq!(rt; put_all(&mut writer, b"ab"), Ok(()));
     assert_eq!(rt; put_all(&mut writer, b"c"), Ok(()));
     assert!(rt; writer.into_inner().as_slice() == b"abc".as_slice());
+    assert_eq!(rt; WriteFault.to_string(rt.alloc())?.as_str(), "Write");
     Ok(())
 }
 
