@@ -311,3 +311,18 @@ fn answers_are_written_as_lines(rt: HostRuntime) -> Result<(), Fail> {
     assert!(rt; unfinished_line(4).bytes() == b"unfinished 4\n".as_slice());
     Ok(())
 }
+
+#[test]
+fn faults_have_texts_and_statuses(rt: HostRuntime) -> Result<(), Fail> {
+    for (fault, text, status) in [
+        (DriveFault::Read, "Read", 5),
+        (DriveFault::Write, "Write", 5),
+        (DriveFault::InputTooLong, "InputTooLong", 5),
+        (DriveFault::Memory, "Memory", 4),
+    ] {
+        assert_eq!(rt; fault.to_string(rt.alloc())?.as_str(), text);
+        assert_eq!(rt; fault.status(), status);
+    }
+    assert_eq!(rt; ReadFault.to_string(rt.alloc())?.as_str(), "Read");
+    Ok(())
+}

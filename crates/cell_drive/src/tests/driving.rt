@@ -25,8 +25,14 @@ const CLEANED: &[u8] =
 const CLEANED_ANSWERED: &[u8] =
     b"report 0 arrive 0\norder 0 0 out 0\nreport 0 arrive 1\nreport 3 finish 0 0\norder 3 0 0 1\nreport 5 finish 0 1\norder 5 0 1 out\nreport 7 clean 1\norder 7 1 out 1\nreport 11 finish 1 1\norder 11 1 1 0\nreport 12 finish 1 0\norder 12 1 0 out\nreport 13 clean 1\ndone 13\n";
 
-/// How a run ended: whether it is done, its last moment and how many reports are left; and what was written.
-type Driven = (Result<(bool, Moment, u64), DriveFault>, [u8; ROOM], usize);
+/// How a run ended: whether it is done, its last moment and how many reports are left; what was written, and how much
+/// of that before the last read.
+type Driven = (
+    Result<(bool, Moment, u64), DriveFault>,
+    [u8; ROOM],
+    usize,
+    usize,
+);
 
 /// Drives the cell, with a reader that gives so many bytes a call at most, and a reader and a writer that fail after
 /// so many calls.
@@ -57,7 +63,8 @@ fn driven(
         Ok(end) => Ok((end.done, end.last, end.left)),
         Err(fault) => Err(fault),
     };
-    (end, writer.into_inner().bytes, written.get())
+    let at_last = reader.into_inner().written_at_last;
+    (end, writer.into_inner().bytes, written.get(), at_last)
 }
 
 fn is_answered(
@@ -69,7 +76,7 @@ fn is_answered(
     end: (bool, Moment, u64),
 ) {
     let verified = verified.expect(rt, "an accepted plan");
-    let (result, bytes, count) = driven(alloc, verified, input, 74, 1000, 1000, false);
+    let (result, bytes, count, _) = driven(alloc, verified, input, 74, 1000, 1000, false);
     assert_eq!(rt; result, Ok(end));
     assert!(rt; is_text(&bytes, count, text));
 }
@@ -195,7 +202,15 @@ fn chains_of_moves_are_answered(rt: HostRuntime) -> Result<(), Fail> {
 fn the_answers_do_not_depend_on_the_pieces(rt: HostRuntime) -> Result<(), Fail> {
     for most in [1, 2, 3, 7, 74] {
         let verified = crossing(rt.alloc(), None)?.expect(&rt, "an accepted plan");
-        let (result, bytes, count) = driven(rt.alloc(), verified, IN_TIME, most, 1000, 1000, false);
+        let (result, bytes, count, _) = driven(
+            rt.alloc(),
+            verified,
+            IN_TIME,
+            most,
+            1000,
+            1000,
+            false,
+        );
         assert_eq!(rt; result, Ok((true, 9, 0)), "pieces of {most}");
         assert!(rt;
             is_text(&bytes, count, IN_TIME_ANSWERED),
@@ -205,7 +220,8 @@ fn the_answers_do_not_depend_on_the_pieces(rt: HostRuntime) -> Result<(), Fail> 
     Ok(())
 }
 
-/// A failed write leaves the first bytes of the answers, and a failed read those of the lines that are complete.
+/// A failed write leaves the first bytes of the answers, and a failed read those of the lines that are complete: they
+/// were out before that read was tried, so each answer is out before more is read.
 fn fails_leave_the_first_bytes(
     rt: &impl Abort,
     alloc: Global,
@@ -217,7 +233,7 @@ fn fails_leave_the_first_bytes(
     for takes_nothing in [false, true] {
         for writes in 0..text.len() {
             let verified = crossing(alloc, clean)?.expect(rt, "an accepted plan");
-            let (result, bytes, count) = driven(
+            let (result, bytes, count, _) = driven(
                 alloc,
                 verified,
                 input,
@@ -235,7 +251,7 @@ fn fails_leave_the_first_bytes(
     }
     for reads in 0..input.len() + 1 {
         let verified = crossing(alloc, clean)?.expect(rt, "an accepted plan");
-        let (result, bytes, count) = driven(alloc, verified, input, 1, reads, 1000, false);
+        let (result, bytes, count, at_last) = driven(alloc, verified, input, 1, reads, 1000, false);
         let mut out = 0;
         for (complete, written) in answered {
             if *complete <= reads {
@@ -243,6 +259,7 @@ fn fails_leave_the_first_bytes(
             }
         }
         assert_eq!(rt; result, Err(DriveFault::Read), "after {reads} reads");
+        assert_eq!(rt; at_last, out, "before the read after {reads}");
         assert!(rt;
             out <= text.len() && is_text(&bytes, count, &text[..out]),
             "after {reads} reads"

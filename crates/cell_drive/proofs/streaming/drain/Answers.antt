@@ -1,7 +1,18 @@
-use Rattle.std.proofs.Common.{◌≡◌, ◌≤◌, ◌∙◌, length, take, length-take-le, arith}
+use Rattle.std.proofs.Common.{◌≡◌, ◌≤◌, ℕ, ◌∙◌, ap, length, take, length-take-le, arith, rules}
 use Rattle.std.proofs.lemmas.Result.{err_from_is_err_and}
-use Rattle.cell_drive.proofs.Drains.{Draining-lines, Draining-more, Draining-failed}
+use Rattle.cell_drive.proofs.Drains.{Draining-lines, Draining-unread, Draining-ended, Draining-more, Draining-failed}
 use Rattle.cell_drive.proofs.streaming.drain.Goals as goal
+
+pub returns-in_default : goal.returns-in_default
+returns-in_default g c =
+    Draining-unread _ _ _ _ _ _ _ _ _ _ c.reads.invariant.so_far _ _ _ c.in_default.ensures.given c.in_default.ensures.failed
+
+pub returns-then-count-eq0 : goal.returns-then-count-eq0
+returns-then-count-eq0 g c =
+    let none : c.in-Ok.count ≡ 0 = search rules in
+    let room : length c.get.new.room ≡ 64 = c.get.auto.room ∙ c.reads.invariant.room in
+    Draining-ended _ _ _ _ _ _ _ _ _ _ c.reads.invariant.so_far _ _ c.in-Ok.ensures.given.0 _ _ _ (ap (λ (n : ℕ). take n c.get.new.room) none)
+    (c.in-Ok.ensures.given.1 none (omega (arith, room)))
 
 pub take_read-requires : goal.take_read-requires
 take_read-requires g c =
