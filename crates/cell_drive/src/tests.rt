@@ -2,6 +2,7 @@ ghost use Rattle.std.specs.Prelude.{◌≡◌};
 
 mod cells;
 mod driving;
+mod driving_cells;
 
 use super::*;
 use cell_control::Report;
