@@ -7,6 +7,7 @@ use cell_control::Report;
 use shop_base::Moment;
 use text_lines::{after_prefix, cut_word, number_of, short_number_of};
 
+#[inline(always)]
 fn number_and_moment(words: &[u8]) -> Option<(u32, Moment)>
     ensures { MatchOption result ((n at : ℕ) → IsNumberAndMoment words.now n at → ⊥) (λ found. IsNumberAndMoment words.now found.0 found.1) }
 {
@@ -15,6 +16,7 @@ fn number_and_moment(words: &[u8]) -> Option<(u32, Moment)>
 }
 
 /// The report that the words after `arrive` are.
+#[inline(always)]
 fn arrival_of(words: &[u8]) -> Option<Report>
     ensures { MatchOption result (IsNoReport (codes "arrive " ++ words.now)) (IsReportLine (codes "arrive " ++ words.now)) }
 {
@@ -24,6 +26,7 @@ fn arrival_of(words: &[u8]) -> Option<Report>
     }
 }
 
+#[inline(always)]
 fn three_numbers(words: &[u8]) -> Option<(u32, u32, Moment)>
     ensures { MatchOption result ((job machine at : ℕ) → IsFinishLine (codes "finish " ++ words.now) job machine at → ⊥)
         (λ found. IsFinishLine (codes "finish " ++ words.now) found.0 found.1 found.2) }
@@ -35,6 +38,7 @@ fn three_numbers(words: &[u8]) -> Option<(u32, u32, Moment)>
 }
 
 /// The report that the words after `finish` are.
+#[inline(always)]
 fn finish_of(words: &[u8]) -> Option<Report>
     ensures { MatchOption result (IsNoReport (codes "finish " ++ words.now)) (IsReportLine (codes "finish " ++ words.now)) }
 {
@@ -45,6 +49,7 @@ fn finish_of(words: &[u8]) -> Option<Report>
 }
 
 /// The report that the words after `clean` are.
+#[inline(always)]
 fn clean_of(words: &[u8]) -> Option<Report>
     ensures { MatchOption result (IsNoReport (codes "clean " ++ words.now)) (IsReportLine (codes "clean " ++ words.now)) }
 {
@@ -55,6 +60,7 @@ fn clean_of(words: &[u8]) -> Option<Report>
 }
 
 /// The report that the line is, if it is one.
+#[inline(always)]
 pub fn report_of(line: &[u8]) -> Option<Report>
     ensures { MatchOption result (IsNoReport line.now) (IsReportLine line.now) }
 {

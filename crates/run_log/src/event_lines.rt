@@ -22,6 +22,7 @@ fn put_spot(line: &mut LineText, spot: Spot)
     }
 }
 
+#[inline(always)]
 fn put_arrival(line: &mut LineText, job: JobNo, at: Moment)
     requires { line.old ≡ 10 ∷ [] }
     ensures { line.new ≡ report_line (Report.Arrive job at) }
@@ -32,6 +33,7 @@ fn put_arrival(line: &mut LineText, job: JobNo, at: Moment)
     line.put_text(b"report ");
 }
 
+#[inline(always)]
 fn put_finish(line: &mut LineText, job: JobNo, machine: MachineNo, at: Moment)
     requires { line.old ≡ 10 ∷ [] }
     ensures { line.new ≡ report_line (Report.Finish job machine at) }
@@ -44,6 +46,7 @@ fn put_finish(line: &mut LineText, job: JobNo, machine: MachineNo, at: Moment)
     line.put_text(b"report ");
 }
 
+#[inline(always)]
 fn put_clean(line: &mut LineText, machine: MachineNo, at: Moment)
     requires { line.old ≡ 10 ∷ [] }
     ensures { line.new ≡ report_line (Report.Clean machine at) }
@@ -55,6 +58,7 @@ fn put_clean(line: &mut LineText, machine: MachineNo, at: Moment)
 }
 
 /// Writes the line of an accepted report: `report T arrive J`, `report T finish J M` or `report T clean M`.
+#[inline(always)]
 pub fn put_report(line: &mut LineText, report: Report)
     requires { line.old ≡ 10 ∷ [] }
     ensures { line.new ≡ report_line report }
@@ -67,6 +71,7 @@ pub fn put_report(line: &mut LineText, report: Report)
 }
 
 /// Writes the line of a move order: `order T J FROM TO`, with `out` for outside the cell.
+#[inline(always)]
 pub fn put_order(line: &mut LineText, order: MoveOrder)
     requires { line.old ≡ 10 ∷ [] }
     ensures { line.new ≡ order_line order }
