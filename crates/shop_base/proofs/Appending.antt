@@ -2,7 +2,7 @@
 use Rattle.std.proofs.Common.{◌≡◌, ℕ, List, [], ◌∷◌, ◌++◌, refl, sym, ap, subst, append_assoc, append-nil}
 use Rattle.shop_base.specs.Plan.{PlannedShop}
 use Rattle.shop_base.specs.Cell.{Cell}
-use Rattle.shop_base.specs.Report.{Report, CanReport}
+use Rattle.shop_base.specs.Report.{Report}
 use Rattle.shop_base.specs.Move.{CanMove, KeepsPlan, after_move, order_for}
 use Rattle.shop_base.specs.Run.{Event, Reported}
 use Rattle.shop_base.specs.Controlled.{AreMoves, after_moves, orders_for, after_step, step_orders, IsStep, moved, Leads, done, accepted, refused}
@@ -34,12 +34,3 @@ leads_more p c end rs es r js (accepted start q is qs fs last first later) step 
     (leads_more p (after_step p c q is) end qs fs r js later step))
 leads_more p c end rs es r js (refused start q qs fs last cannot later) step =
     refused c q (qs ++ r ∷ []) (es ++ Reported r ∷ moved (step_orders p end r js)) (after_step p end r js) cannot (leads_more p c end qs es r js later step)
-
--- a report that isn't possible, at its end
-pub leads_past : (p : PlannedShop) (c end : Cell) (rs : List Report) (es : List Event) (r : Report) → Leads p c rs es end → (CanReport p end r → ⊥)
-    → Leads p c (rs ++ r ∷ []) es end
-leads_past p c end rs es r (done start) cannot = refused c r [] [] c cannot (done c)
-leads_past p c end rs es r (accepted start q is qs fs last first later) cannot =
-    accepted c q is (qs ++ r ∷ []) fs end first (leads_past p (after_step p c q is) end qs fs r later cannot)
-leads_past p c end rs es r (refused start q qs fs last cannot_first later) cannot =
-    refused c q (qs ++ r ∷ []) es end cannot_first (leads_past p c end qs es r later cannot)

@@ -23,11 +23,6 @@ pub only_line : (text : List ℕ) → HasNone 10 text → (length text == 0) ≡
 only_line [] none some = absurd cc
 only_line (b ∷ text) none some = ap (λ parts. map without_return parts) (last_part b text none)
 
--- there is none
-pub no_line : (text : List ℕ) → length text ≡ 0 → lines_of text ≡ []
-no_line [] none = refl
-no_line (b ∷ text) none = absurd (omega arith)
-
 length-onto_first : (b : ℕ) (parts : List (List ℕ)) (n : ℕ) → length parts ≤ n → length (onto_first b parts) ≤ n + 1
 length-onto_first b [] n few = omega arith
 length-onto_first b (part ∷ parts) n few = omega (arith, few)
