@@ -1,6 +1,5 @@
-//! The status at which each fault ends the program.
+//! The status at which each fault of a command ends the program.
 
-use cell_drive::DriveFault;
 use command_answers::CommandFault;
 use orlib_read::OrFault;
 use plan_text::PlanFault;
@@ -15,19 +14,6 @@ fn faults_of_commands_have_a_status(rt: HostRuntime) -> Result<(), Fail> {
         (CommandFault::Plan(PlanFault::NotToml), 3),
         (CommandFault::Plan(PlanFault::NotReadBack), 3),
         (CommandFault::Memory, 4),
-    ] {
-        assert_eq!(rt; fault.status(), status);
-    }
-    Ok(())
-}
-
-#[test]
-fn faults_of_driven_cells_have_a_status(rt: HostRuntime) -> Result<(), Fail> {
-    for (fault, status) in [
-        (DriveFault::Read, 5),
-        (DriveFault::Write, 5),
-        (DriveFault::InputTooLong, 5),
-        (DriveFault::Memory, 4),
     ] {
         assert_eq!(rt; fault.status(), status);
     }
