@@ -32,6 +32,12 @@ const CLEANED: &[u8] =
 /// Each of the two jobs waits for the machine that the other one is on.
 const CROSSED: &[u8] = b"release = [0, 0]\nbudget = [100, 100]\norder = [[0, 1], [1, 0]]\n";
 
+/// Three jobs that follow each other over three machines, and their plan.
+const CHAIN: &[u8] = b"chain\n3 3\n0 1 1 1 2 5\n0 1 1 1 2 1\n0 1 1 1 2 1\n";
+
+const CHAINED: &[u8] =
+    b"release = [0, 0, 0]\nbudget = [7, 8, 9]\norder = [[0, 1, 2], [0, 1, 2], [0, 1, 2]]\n";
+
 /// Plans that aren't well shaped for the two jobs, each with its line.
 const NOT_SHAPED: [(&[u8], &[u8]); 4] = [
     (

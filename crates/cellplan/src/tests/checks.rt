@@ -1,4 +1,4 @@
-use super::{CLEANED, COLLECTION, CROSSED, IN_TIME, LATE, NOT_SHAPED, TWO};
+use super::{CHAIN, CHAINED, CLEANED, COLLECTION, CROSSED, IN_TIME, LATE, NOT_SHAPED, TWO};
 use alt_graph::{check_chain, check_cycle};
 use command_answers::{CommandFault, Loaded, check_answer, load};
 use orlib_read::{OrFault, read_instance};
@@ -9,8 +9,6 @@ use std::alloc::Global;
 use std::test::Fail;
 
 const RING: &[u8] = b"ring\n3 3\n0 1 1 1\n1 1 2 1\n2 1 0 1\n";
-
-const CHAIN: &[u8] = b"chain\n3 3\n0 1 1 1 2 5\n0 1 1 1 2 1\n0 1 1 1 2 1\n";
 
 const FIRST_LATE: &[u8] = b"release = [0, 0]\nbudget = [4, 9]\norder = [[0, 1], [0, 1]]\n";
 
@@ -28,12 +26,7 @@ fn tells_the_verdicts_on_plans(rt: HostRuntime) -> Result<(), Fail> {
         (TWO, IN_TIME, b"accepted makespan 10 leaves 5 10\n", 0),
         (TWO, LATE, b"refused late 1 10 0.0 0.1 0.2 1.0 1.1 1.2\n", 1),
         (TWO, FIRST_LATE, b"refused late 0 5 0.0 0.1 0.2\n", 1),
-        (
-            CHAIN,
-            b"release = [0, 0, 0]\nbudget = [7, 8, 9]\norder = [[0, 1, 2], [0, 1, 2], [0, 1, 2]]\n",
-            b"accepted makespan 9 leaves 7 8 9\n",
-            0,
-        ),
+        (CHAIN, CHAINED, b"accepted makespan 9 leaves 7 8 9\n", 0),
         (
             b"z\n1 1\n0 0\n",
             b"release = [0]\nbudget = [0]\norder = [[0]]\n",
