@@ -1,6 +1,5 @@
 -- The cell that the tables stand for: what is read in it, and what each write of a row makes of it.
-use Rattle.std.proofs.Common.{◌≡◌, ℕ, zero, suc, ◌+◌, ◌<◌, ◌≤◌, List, [], ◌∷◌, length, length-take-le, take, get_or, set, None, refl, ◌∙◌, ap, arith}
-use Rattle.std.proofs.lemmas.List.{get_or_past}
+use Rattle.std.proofs.Common.{◌≡◌, ℕ, zero, suc, ◌+◌, ◌<◌, List, [], ◌∷◌, length, length-take-le, take, get_or, set, refl, ◌∙◌, ap, arith}
 use Rattle.shop_base.specs.Plan.{PlannedShop, machines, order}
 use Rattle.shop_base.specs.Cell.{MachineState, absent, unused, job_in, machine_in, entries, cleaning}
 use Rattle.cell_control.specs.declared.tables.MachineRow.{MachineRow}
@@ -59,12 +58,6 @@ cleaning-read p t m tables inside = ap (λ (s : MachineState). s.cleaning) (mach
 pub entries-count : (p : PlannedShop) (t : Tables) (m : ℕ) → AreTables p t → m < machines p → length (entries (cell_of p t) m) ≡ entered_at t m
 entries-count p t m tables inside =
     ap length (entries-read p t m tables inside) ∙ length-take-le (entered_at t m) (order p m) (tables.cursors m inside)
-
--- a machine past the last isn't being cleaned
-pub cleaning-past : (p : PlannedShop) (t : Tables) (m : ℕ) → AreTables p t → machines p ≤ m → cleaning (cell_of p t) m ≡ None
-unfolding cell_of
-cleaning-past p t m tables past =
-    ap (λ (s : MachineState). s.cleaning) (get_or_past (states_from p 0 t.machines.items) m unused (omega (arith, length-states p 0 t.machines.items, tables.machine_count)))
 
 -- the machines with one row written
 pub machines-set : (p : PlannedShop) (rows : List MachineRow) (m : ℕ) (row : MachineRow)

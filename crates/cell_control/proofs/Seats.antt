@@ -1,22 +1,15 @@
 -- Who is where, as it is read: a job on a machine or on none, a machine that is held or free, and who can move.
-use Rattle.std.proofs.Common.{◌≡◌, ℕ, ◌-◌, ◌≤◌, ◌↔◌, length, Option, None, Some, Bool, true, false, not, refl, sym, subst, arith, ◌⊎◌, inl, inr}
+use Rattle.std.proofs.Common.{◌≡◌, ℕ, ◌-◌, ◌≤◌, ◌↔◌, length, Option, None, Some, Bool, true, false, not, refl, sym, subst, arith, inr}
 use Rattle.std.specs.Prelude.{MatchOption, IsTrue}
-use Rattle.std.proofs.lemmas.List.{nil_from_length, drop_all}
-use Rattle.shop_base.specs.Plan.{PlannedShop, machines, route, steps, job_at, Visits, Stands, IsWellShaped}
-use Rattle.shop_base.specs.Cell.{Cell, made, ready, entries, IsOutside, IsOn, IsGone, IsFree}
+use Rattle.std.proofs.lemmas.List.{nil_from_length}
+use Rattle.shop_base.specs.Plan.{PlannedShop, machines, job_at, Visits, Stands, IsWellShaped}
+use Rattle.shop_base.specs.Cell.{Cell, made, ready, entries, IsOn, IsFree}
 use Rattle.shop_base.specs.Move.{CanEnter, CanMove, KeepsPlan}
 use Rattle.shop_base.specs.Sound.{IsSound}
 use Rattle.shop_base.proofs.Visits.{visits_machine}
 use Rattle.shop_base.proofs.Keeping.{target_place, target_free}
-use Rattle.shop_base.proofs.Decisions.{stands-keeps, leaving-keeps, moment_now}
+use Rattle.shop_base.proofs.Decisions.{stands-keeps, moment_now}
 use Rattle.shop_base.proofs.CellFacts.{unentered_free, left_free}
-
--- a job that has made a move is on the machine of the step before its next, or gone
-pub on_or_gone : (p : PlannedShop) (c : Cell) (j n : ℕ) (machine : Option ℕ) → n ≡ made c j → (n ≡ 0 → ⊥) → MatchOption machine (steps p j ≤ n - 1) (Visits p j (n - 1))
-    → MatchOption machine (IsOutside c j ⊎ IsGone p c j) (IsOn p c j (made c j - 1))
-on_or_gone p c j n None is moved past = inr (omega (arith, moved))
-on_or_gone p c j n (Some m) is moved visits =
-    record { entered = omega (arith, moved); visits = subst (λ k. Visits p j (k - 1) m) is visits }
 
 -- a machine that nobody has entered is free
 pub free_at_first : (p : PlannedShop) (c : Cell) (m n : ℕ) → IsWellShaped p → IsSound p c → n ≡ length (entries c m) → n ≡ 0 → IsFree p c m
@@ -45,13 +38,6 @@ moves-entering p c j m takes sound is_ready visits entering = (
     (let (free, is_clean) = target_free p c j c.last m both.0 visits in record { next = visits; free = free; is_clean = is_clean }),
     target_place p c j m both.1 visits,
   ),
-)
-
--- a ready job with no step left can leave
-pub moves-leaving : (p : PlannedShop) (c : Cell) (j : ℕ) → IsSound p c → ready c j ≡ true → steps p j ≤ made c j → CanMove p c j c.last × KeepsPlan p c j
-moves-leaving p c j sound is_ready past = (
-  record { is_ready = is_ready; way = inl (drop_all (made c j) (route p j) past); moment = moment_now p c sound },
-  leaving-keeps p c j past,
 )
 
 -- of the machine that a job is on, whichever its step

@@ -2,7 +2,7 @@
 use Rattle.std.proofs.Common.{◌≡◌, ℕ, ◌+◌, ◌≤◌, List, [], ◌++◌, Bool, true, Option, Some, Ok, Err, length, take, refl, sym, ap, ◌∙◌, arith, append_assoc, append-nil, length-append, subst}
 use Rattle.std.proofs.Math.Seq.{take-append-add}
 use Rattle.std.specs.Io.KnownBytes.{Consumes, Keeps, IsAtEnd}
-use Rattle.std.proofs.KnownBytes.{Appends-nil, Appends-trans, Consumes-nil, Consumes-trans, Consumes-kept}
+use Rattle.std.proofs.KnownBytes.{Appends-trans, Consumes-trans, Consumes-kept}
 use Rattle.cell_drive.specs.declared.drive_fault.DriveFault.{DriveFault}
 use Rattle.cell_drive.specs.declared.drive_fault.DriveFault.TheVariants.{Read, Write, InputTooLong, Memory}
 use Rattle.cell_drive.specs.Holding.{ended, held_after}
@@ -11,16 +11,6 @@ use Rattle.cell_drive.specs.Reading.{IsPieceAnswered, IsPartTold, IsTaken, IsDra
 use Rattle.cell_drive.proofs.Held.{ended-append, held_after-append, length-ended}
 use Rattle.cell_drive.proofs.Told.{AnswerAll-append}
 use Rattle.cell_drive.proofs.Taking.{TookPart-more}
-
-pub piece_none : {S : Type 0} (answers : S → ℕ → Option (List ℕ) → List ℕ → S → Type 0) (start : S) (lines : ℕ) (held : Option (List ℕ)) (before : Option (List ℕ))
-    → lines ≡ 0 → held ≡ Some [] → IsPieceAnswered answers start 0 (Some []) [] start lines held before before
-piece_none answers start lines held before no_lines none_held = record {
-  text = [];
-  are_answers = (refl, refl);
-  written = Appends-nil before;
-  lines_are = no_lines;
-  held_is = none_held;
-}
 
 -- a piece is answered, and the next
 pub piece_more : {S : Type 0} (answers : S → ℕ → Option (List ℕ) → List ℕ → S → Type 0) (start now end : S) (lines lines_then : ℕ) (held held_then : Option (List ℕ)) (bytes piece : List ℕ) (before middle after : Option (List ℕ))
@@ -67,15 +57,6 @@ pub record Draining {S : Type 0} (answers : S → ℕ → Option (List ℕ) → 
   pub was_read : Consumes left_before left_after bytes
   pub count : length bytes + left ≡ 67108864
   pub answered : IsPieceAnswered answers start 0 (Some []) bytes now lines held before after
-
-pub Draining-none : {S : Type 0} (answers : S → ℕ → Option (List ℕ) → List ℕ → S → Type 0) (start : S) (lines : ℕ) (held : Option (List ℕ)) (left_before before : Option (List ℕ))
-    → lines ≡ 0 → held ≡ Some [] → Draining answers start start lines held 67108864 left_before left_before before before
-Draining-none answers start lines held left_before before no_lines none_held = record {
-  bytes = [];
-  was_read = Consumes-nil left_before;
-  count = refl;
-  answered = piece_none answers start lines held before no_lines none_held;
-}
 
 -- fewer lines have ended than the limit has bytes
 pub Draining-lines : {S : Type 0} (answers : S → ℕ → Option (List ℕ) → List ℕ → S → Type 0) (start now : S) (lines : ℕ) (held : Option (List ℕ)) (left : ℕ) (left_before left_after before after : Option (List ℕ))

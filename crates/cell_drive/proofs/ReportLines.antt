@@ -1,5 +1,5 @@
 -- Which lines are reports, and which aren't.
-use Rattle.std.proofs.Common.{◌≡◌, ◌≢◌, ℕ, false, List, ◌∷◌, ◌++◌, codes, refl, subst, eqb}
+use Rattle.std.proofs.Common.{◌≡◌, ℕ, false, List, ◌∷◌, ◌++◌, codes, refl, subst, eqb}
 use Rattle.std.proofs.lemmas.Bool.{eq-eqb}
 use Rattle.text_lines.specs.Numbers.{IsNumeral}
 use Rattle.cell_control.specs.declared.report.Report.TheVariants.{Arrive, Finish, Clean}
@@ -59,9 +59,3 @@ pub no_clean : (words : List ℕ) → ((n at : ℕ) → IsNumberAndMoment words 
 no_clean words none (Arrive job at) found = let e = found.2 in let heads : 99 ≡ 97 = cc in different 99 97 refl heads
 no_clean words none (Finish job machine at) found = let e = found.4 in let heads : 99 ≡ 102 = cc in different 99 102 refl heads
 no_clean words none (Clean machine at) found = let same : found.0 ≡ words = let e = found.2 in cc in none machine at (subst (λ w. IsNumberAndMoment w machine at) same found.1)
-
--- a line that begins with none of the three words is no report
-pub no_kind : (line : List ℕ) → ((rest : List ℕ) → line ≢ codes "arrive " ++ rest) → ((rest : List ℕ) → line ≢ codes "finish " ++ rest) → ((rest : List ℕ) → line ≢ codes "clean " ++ rest) → IsNoReport line
-no_kind line a f c (Arrive job at) found = a found.0 found.2
-no_kind line a f c (Finish job machine at) found = f (found.0 ++ 32 ∷ found.1) found.4
-no_kind line a f c (Clean machine at) found = c found.0 found.2

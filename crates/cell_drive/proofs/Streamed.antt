@@ -1,7 +1,7 @@
 -- A whole input, from what was drained and what came last.
 use Rattle.std.proofs.Common.{◌≡◌, ℕ, ◌+◌, List, [], ◌∷◌, ◌++◌, Bool, Option, Some, Result, Ok, Err, take, refl, sym, ap, ◌∙◌, arith, append_assoc, append-nil, subst, inl, inr}
 use Rattle.std.specs.Io.KnownBytes.{Appends}
-use Rattle.std.proofs.KnownBytes.{Appends-nil, Appends-trans}
+use Rattle.std.proofs.KnownBytes.{Appends-trans}
 use Rattle.run_log.specs.Sinks.{TookPart, Wrote}
 use Rattle.cell_drive.specs.declared.drive_fault.DriveFault.{DriveFault}
 use Rattle.cell_drive.specs.declared.drive_fault.DriveFault.TheVariants.{Read, Write, InputTooLong, Memory}
@@ -15,20 +15,6 @@ use Rattle.cell_drive.proofs.Taking.{TookPart-more}
 use Rattle.cell_drive.proofs.WholeLines.{input_lines-ended, complete_lines-ended, last_line-some}
 
 -- ---- the last line
-
-pub last_none : {S T E : Type 0} (answers : S → ℕ → Option (List ℕ) → List ℕ → S → Type 0) (start : S) (lines : ℕ) (held : Option (List ℕ)) (x : T) (failed : Bool) (before : Option (List ℕ))
-    → held ≡ Some [] → WereAnswered {T = T} {E = E} answers start lines (last_line held) start (Ok x) failed before before
-last_none answers start lines held x failed before none_held = record {
-  told = [];
-  rest = [];
-  whole = sym (ap last_line none_held);
-  all = refl;
-  text = [];
-  state = start;
-  are_answers = (refl, refl);
-  reached = refl;
-  wrote = Appends-nil before;
-}
 
 all_told : {T E : Type 0} (r : Result T E) (P : Type 0) → P → Rattle.std.specs.Result.OnOk r P
 all_told (Ok x) P h = h
@@ -53,23 +39,6 @@ last_some answers start lines held end outcome failed before after some_held was
 
 TookPart-nil : (before after : Option (List ℕ)) (text : List ℕ) → TookPart before after text → TookPart before after (text ++ [])
 TookPart-nil before after text part = subst (TookPart before after) (sym (append-nil text)) part
-
--- the last line's answer failed
-pub finish_failed : {S T E : Type 0} (answers : S → ℕ → Option (List ℕ) → List ℕ → S → Type 0) (ends : S → List ℕ → Type 0) (start : S) (lines : ℕ) (held : Option (List ℕ)) (end : S) (e e' : E) (failed : Bool) (before after : Option (List ℕ))
-    → WereAnswered {T = T} {E = E} answers start (lines + 1) (last_line held) end (Err e) failed before after
-    → IsFinished {T = T} {E = E} (Err e') answers ends start lines held end failed before after
-finish_failed answers ends start lines held end e e' failed before after were = record {
-  told = were.told;
-  rest = were.rest;
-  whole = were.whole;
-  text = were.text;
-  state = were.state;
-  are_answers = were.are_answers;
-  closing = [];
-  is_end = inl refl;
-  all = tt;
-  wrote = (were.wrote.0, TookPart-nil before after were.text were.wrote.1);
-}
 
 finish_wrote : {T E : Type 0} (outcome : Result T E) (failed : Bool) (before middle after : Option (List ℕ)) (text closing : List ℕ)
     → Appends before middle text → Wrote outcome failed middle after closing → Wrote outcome failed before after (text ++ closing)

@@ -1,12 +1,12 @@
 -- The lines that end in a piece, answered one after another.
 use Rattle.std.proofs.Common.{◌≡◌, ℕ, ◌+◌, List, [], ◌∷◌, ◌++◌, Bool, true, Option, Some, Ok, Err, length, refl, sym, ap, ◌∙◌, arith, append_assoc, append-nil, length-append, subst}
 use Rattle.std.specs.Io.KnownBytes.{Appends}
-use Rattle.std.proofs.KnownBytes.{Appends-nil, Appends-trans}
+use Rattle.std.proofs.KnownBytes.{Appends-trans}
 use Rattle.run_log.specs.Sinks.{TookPart}
 use Rattle.text_lines.specs.Cuts.{HasNone, IsCutAt}
 use Rattle.cell_drive.specs.Holding.{joined, held_line, ended, held_after}
 use Rattle.cell_drive.specs.Answering.{AnswerAll, WasAnswered, WereAnswered}
-use Rattle.cell_drive.specs.Reading.{IsPieceAnswered, IsPartTold}
+use Rattle.cell_drive.specs.Reading.{IsPartTold}
 use Rattle.cell_drive.proofs.Held.{ended-first, held_after-first, ended-none, held_after-none, ended-append}
 use Rattle.cell_drive.proofs.Told.{AnswerAll-append, AnswerAll-one}
 
@@ -31,18 +31,6 @@ pub record Taking {S : Type 0} (answers : S → ℕ → Option (List ℕ) → Li
   pub are_answers : AnswerAll answers start (lines + 1) done text now
   pub written : Appends before after text
   pub lines_are : lines_now ≡ lines + length done
-
-pub Taking-none : {S : Type 0} (answers : S → ℕ → Option (List ℕ) → List ℕ → S → Type 0) (start : S) (lines : ℕ) (held : Option (List ℕ)) (piece : List ℕ) (before : Option (List ℕ))
-    → Taking answers start lines held piece start lines held piece before before
-Taking-none answers start lines held piece before = record {
-  done = [];
-  text = [];
-  split = refl;
-  same = refl;
-  are_answers = (refl, refl);
-  written = Appends-nil before;
-  lines_are = omega arith;
-}
 
 -- ---- one more line
 
@@ -117,22 +105,6 @@ module _ {S : Type 0} (answers : S → ℕ → Option (List ℕ) → List ℕ �
   Taking-lines = so_far.lines_are ∙ ap (λ l. lines + length l) (sym all_done)
 
 -- ---- a piece as a whole
-
-pub piece_answered : {S T E : Type 0} (answers : S → ℕ → Option (List ℕ) → List ℕ → S → Type 0) (start : S) (lines : ℕ) (held : Option (List ℕ)) (piece : List ℕ)
-    (end : S) (lines_then : ℕ) (held_then : Option (List ℕ)) (x : T) (failed : Bool) (before after : Option (List ℕ))
-    → WereAnswered {T = T} {E = E} answers start (lines + 1) (ended held piece) end (Ok x) failed before after
-    → held_then ≡ held_after held piece → lines_then ≡ lines + length (ended held piece)
-    → IsPieceAnswered answers start lines held piece end lines_then held_then before after
-piece_answered answers start lines held piece end lines_then held_then x failed before after were held_is lines_are =
-    let told : were.told ≡ ended held piece = sym (append-nil were.told) ∙ ap (λ l. were.told ++ l) (sym were.all) ∙ were.whole in
-    let to_end = subst (AnswerAll answers start (lines + 1) were.told were.text) (sym were.reached) were.are_answers in
-    record {
-      text = were.text;
-      are_answers = subst (λ l. AnswerAll answers start (lines + 1) l were.text end) told to_end;
-      written = were.wrote;
-      lines_are = lines_are;
-      held_is = held_is;
-    }
 
 -- what was told of the front of a piece is part of what ends in the piece
 pub part_told : {S T E : Type 0} (answers : S → ℕ → Option (List ℕ) → List ℕ → S → Type 0) (start : S) (lines : ℕ) (held : Option (List ℕ)) (piece front more : List ℕ)

@@ -51,10 +51,6 @@ held_line-kept raw = cases_bool (leb (length raw) 64) _
     let over : 63 < length (without_return raw) = omega (arith, gt, length-without_return raw) in
     ap held_line (kept-none raw gt) ∙ sym (within_limit-over (without_return raw) over))
 
--- a line of which nothing is held yet is answered as it lies in its piece
-pub held_line-direct : (held : Option (List ℕ)) (bytes : List ℕ) → held ≡ Some [] → within_limit (without_return bytes) ≡ held_line (joined held bytes)
-held_line-direct held bytes none_held = sym (ap (λ h. held_line (joined h bytes)) none_held ∙ ap held_line (joined-kept [] bytes) ∙ held_line-kept bytes)
-
 -- ---- the last line
 
 pub last_line-some : (held : Option (List ℕ)) → (held ≡ Some [] → ⊥) → last_line held ≡ held_line held ∷ []

@@ -1,12 +1,11 @@
 -- What a visit shows in the cells of a bar.
 use Rattle.std.proofs.Common.{◌≡◌, ℕ, ◌+◌, ◌*◌, ◌/◌, ◌%◌, ◌<◌, ◌≤◌, min, nat_le, Bool, true, false, ◌&&◌, if◌then◌else◌, List, [], ◌∷◌, length, get_or, Option, None, Some, refl, sym, ap, subst, replicate, map, take, drop, ◌++◌, add-one, append_assoc, drop-cons, ◌≢◌, ◌⊎◌, inl, inr, ◌∙◌, arith}
-use Rattle.std.proofs.lemmas.Bool.{le-ltb, ltb-false, le-leb, lt-leb, cases_lt}
+use Rattle.std.proofs.lemmas.Bool.{le-leb, lt-leb, cases_lt}
 use Rattle.std.specs.Prelude.{flat_map}
 use Rattle.std.specs.List.{range_with_len}
 use Rattle.std.proofs.lemmas.List.{get_or-replicate, get_or_past, map-id, flat_map_more, ext_get_or, get_or-map, get_or-take, length-map, length-take-le}
 use Rattle.std.proofs.lemmas.List.FromFn.{map-range_with_len_more, get_or-map-range_with_len, length-map-range_with_len}
 use Rattle.std.proofs.lemmas.Nat.{mul-le}
-use Rattle.std.proofs.Math.Nat.{div-lt_iff_lt-mul}
 use Rattle.std.proofs.lemmas.Grind.{div_ceil_times}
 use Rattle.run_log.specs.declared.gantt_visit.Visit.{Visit}
 use Rattle.run_log.specs.GanttVisits.{or_else, first_of}
@@ -20,21 +19,9 @@ pub or_else-assoc : {T : Type 0} → (x y z : Option T) → or_else (or_else x y
 or_else-assoc None y z = refl
 or_else-assoc (Some x) y z = refl
 
-hidden : {T : Type 0} → (b : Bool) (x : T) → (if b && false then Some x else None) ≡ None
-hidden true x = refl
-hidden false x = refl
-
-before-ends : (t u : ℕ) (end : Option ℕ) → is_before t end ≡ false → t ≤ u → is_before u end ≡ false
-before-ends t u None past later = absurd (cc)
-before-ends t u (Some moment) past later = le-ltb u moment (omega (arith, ltb-false t moment past))
-
 -- a visit shows nothing before the job enters
 pub sign-early : (t : ℕ) (visit : Visit) → t < visit.enter → sign_of t visit ≡ None
 sign-early t visit early = rw (lt-leb visit.enter t early) refl
-
--- nor once it has left
-pub sign-late : (t u : ℕ) (visit : Visit) → is_before t visit.leave ≡ false → t ≤ u → sign_of u visit ≡ None
-sign-late t u visit past later = rw (before-ends t u visit.leave past later) (hidden (nat_le visit.enter u) _)
 
 -- in between it shows its sign
 pub sign-there : (t : ℕ) (visit : Visit) → visit.enter ≤ t → is_before t visit.leave ≡ true
@@ -124,10 +111,6 @@ pub bar-shown : (before after : List (Option ℕ)) (scale : ℕ) (visits : List 
 bar-shown before after scale visits empty shown c inside =
     let none : get_or before c None ≡ None = rw empty (get_or-replicate 60 c None None inside) in
     shown c inside ∙ ap (λ (x : Option ℕ). or_else x (first_of (sign_of (c * scale)) visits)) none
-
--- the greatest moment of so many cells
-pub few_cells : (last : ℕ) → last / (last / 60 + 1) < 60
-few_cells last = (div-lt_iff_lt-mul {k = last / 60 + 1} {x = last} {y = 60} (omega arith)).1 (omega arith)
 
 -- all cells of a bar are ASCII characters
 pub cells-ascii : (bar : List (Option ℕ)) (scale cells : ℕ) (visits : List Visit) → length bar ≡ 60 → cells ≤ 60

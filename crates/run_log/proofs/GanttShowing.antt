@@ -21,10 +21,6 @@ pub record AreLeft (table : List LinkedVisit) (next : Option ℕ) (visits : List
   pub text : now ++ flat_map visit_word rest ≡ start ++ flat_map visit_word visits
   pub bar : (c : ℕ) → c < 60 → or_else (get_or after c None) (first_of (sign_of (c * scale)) rest) ≡ or_else (get_or before c None) (first_of (sign_of (c * scale)) visits)
 
-pub all-left : (table : List LinkedVisit) (next : Option ℕ) (visits : List Visit) (start : List ℕ) (bar : List (Option ℕ)) (scale : ℕ)
-    → IsChain table next visits → AreLeft table next visits start start bar bar scale
-all-left table next visits start bar scale chain = record { rest = visits; chain = chain; text = refl; bar = λ c inside. refl }
-
 -- a chain that goes on with this visit
 record GoesOn (table : List LinkedVisit) (place : ℕ) (linked : LinkedVisit) (visits : List Visit) : Type 0 where
   rest : List Visit

@@ -29,14 +29,6 @@ pub number-before : (most n : ℕ) (bytes rest : List ℕ) → IsNumberBefore mo
 number-before most n bytes rest number =
     (number.word, number.numeral, words_first bytes number.word rest (record { before = no_space number.word number.numeral.digits; split = number.split }))
 
--- there is always a word
-pub some_word : (bytes : List ℕ) → (first : List ℕ) × (rest : List (List ℕ)) × (spaced_words bytes ≡ first ∷ rest)
-some_word bytes = go (spaced_words bytes) refl
-  where
-    go : (words : List (List ℕ)) → spaced_words bytes ≡ words → (first : List ℕ) × (rest : List (List ℕ)) × (spaced_words bytes ≡ first ∷ rest)
-    go [] none = let empty : bytes ≡ [] = words_back bytes [] none in let one : spaced_words bytes ≡ [] ∷ [] = ap spaced_words empty in absurd (cc)
-    go (first ∷ rest) is = (first, rest, is)
-
 -- ---- what has ended
 
 only_word : (bytes word : List ℕ) → spaced_words bytes ≡ word ∷ [] → word ≡ bytes
@@ -112,17 +104,6 @@ no_report-moment words none report found = go found.1 found.3 found.4
 pub same_number : (most n m : ℕ) (first other : List ℕ) → IsNumeral most first n → IsNumeral most other m → first ≡ other → m ≡ n
 same_number most n m first other is_first is_other same = is_other.value ∙ sym (ap value_of same) ∙ sym is_first.value
 
-pub report-ends : (words rest : List (List ℕ)) (at : ℕ) (report : Report) → IsNumberFirst 13 words at rest → AreEndWordsAt rest at report → AreReportWords words report
-report-ends words rest at report first ends = (first.0, rest, subst (λ n. IsNumeral 13 first.0 n) (sym ends.1) first.1, ends.0, first.2)
-
-pub no_report-end : (words rest : List (List ℕ)) (at : ℕ) → IsNumberFirst 13 words at rest → AreNoEndWords rest at → (report : Report) → AreReportWords words report → ⊥
-no_report-end words rest at first none report found =
-    let is = first.2 in
-    let also = found.4 in
-    let firsts : first.0 ≡ found.0 = cc in
-    let rests : found.1 ≡ rest = cc in
-    none report (subst (λ ws. AreEndWords ws report) rests found.3, same_number 13 at (moment_of report) first.0 found.0 first.1 found.2 firsts)
-
 pub spots-here : (bytes from to : List ℕ) (source target : Spot) → IsCutAt 32 bytes from to → IsSpotWord from source → IsSpotWord to target → AreSpotWords (spaced_words bytes) source target
 spots-here bytes from to source target cut is_source is_target =
     (from, to, is_source, is_target, words_first bytes from to cut ∙ ap (λ words. from ∷ words) (spot_one to target is_target))
@@ -166,10 +147,6 @@ no_order-spots words rest spots at job first second none o found =
     let also = found.6 in
     let same : found.2 ≡ spots = cc in
     none o.source o.target (subst (λ ws. AreSpotWords ws o.source o.target) same found.5)
-
-pub order-here : (words rest spots : List (List ℕ)) (o : MoveOrder) → IsNumberFirst 13 words o.at rest → IsNumberFirst 9 rest o.job spots
-    → AreSpotWords spots o.source o.target → AreOrderWords words o
-order-here words rest spots o first second two = (first.0, second.0, spots, first.1, second.1, two, first.2 ∙ ap (λ ws. first.0 ∷ ws) second.2)
 
 -- ---- lines
 
