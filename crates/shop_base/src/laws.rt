@@ -33,7 +33,7 @@ pub fn no_two_jobs_are_on_one_machine()
     ensures { NoTwoJobsAreOnOneMachine }
 {}
 
-/// Every run, by any controller, ends in a sound cell, which is all that a controller has to keep.
+/// Every run, by any controller, ends in a sound cell.
 pub fn every_run_is_sound()
     ensures { EveryRunIsSound }
 {}
