@@ -1,5 +1,5 @@
 -- Which lines are reports on cells, and which aren't.
-use Rattle.std.proofs.Common.{◌≡◌, ℕ, List, ◌∷◌, ◌++◌, subst}
+use Rattle.std.proofs.Common.{ℕ, List, subst}
 use Rattle.text_lines.specs.Numbers.{IsNumeral}
 use Rattle.text_lines.specs.Cuts.{HasNone, IsCutAt}
 use Rattle.text_lines.proofs.FirstWords.{no_first_word, first_word}

@@ -1,8 +1,8 @@
 -- The lines behind the last answer of several cells.
-use Rattle.std.proofs.Common.{◌≡◌, ◌==◌, ℕ, zero, suc, ◌+◌, ◌<◌, ◌≤◌, List, [], ◌∷◌, ◌++◌, length, drop, Option, Some, None, Bool, true, false, cond, refl, sym, ap, ◌∙◌, subst, arith, inl, inr, add-one}
+use Rattle.std.proofs.Common.{◌≡◌, ◌==◌, ℕ, zero, suc, ◌+◌, ◌<◌, ◌≤◌, List, [], ◌∷◌, ◌++◌, length, drop, Some, cond, refl, sym, ap, ◌∙◌, subst, arith, inl, inr, add-one}
 use Rattle.std.proofs.lemmas.Bool.{eqb-true, eqb-false, ne_eqb, cases_Bool}
 use Rattle.std.proofs.lemmas.List.{drop_all}
-use Rattle.std.specs.Prelude.{slice_get, ◌↔◌, IsTrue}
+use Rattle.std.specs.Prelude.{slice_get, ◌↔◌}
 use Rattle.shop_base.specs.Ends.{HasEnded, stated_number}
 use Rattle.shop_base.specs.ReportsLeft.{reports_left}
 use Rattle.cell_control.specs.Control.{Control, IsControl}
@@ -14,7 +14,7 @@ use Rattle.cell_drive.specs.CellLines.{cell_prefix}
 use Rattle.cell_drive.specs.DrivenLines.{IsEndLine}
 use Rattle.cell_drive.specs.ManyCells.{CellsEnd, AreAllDone}
 use Rattle.cell_drive.specs.NumberedCells.{with_content, contents_of, AreNumbered, end_line_of, ends_text}
-use Rattle.cell_drive.proofs.Numbering.{stands_at, content_at, length_contents}
+use Rattle.cell_drive.proofs.Numbering.{stands_at, content_at}
 
 -- the line that goes by the reports that are left says whether the run has ended
 pub end_line_is : (c : Control) → IsControl c → IsEndLine c.plan.planned c.cell (end_line_of c)

@@ -1,12 +1,11 @@
 -- What a driven cell answers to a line.
-use Rattle.std.proofs.Common.{◌≡◌, ◌==◌, ℕ, ◌+◌, ◌<◌, length, codes, get_or, drop, add-one, drop-cons, Bool, true, false, cond, List, [], ◌∷◌, ◌++◌, map, Option, Some, None, Result, Ok, Err, refl, sym, ap, ◌∙◌, subst, append-nil, inl, inr, OnOk, ◌↔◌, arith}
+use Rattle.std.proofs.Common.{◌≡◌, ◌==◌, ℕ, length, codes, Bool, true, false, cond, List, [], ◌∷◌, map, Option, Some, None, Result, Ok, Err, refl, sym, ap, ◌∙◌, subst, append-nil, inl, inr, OnOk, ◌↔◌, arith}
 use Rattle.std.proofs.lemmas.Bool.{eqb-true, false≢true}
-use Rattle.std.proofs.lemmas.List.Concat.{flat_map-cons}
 use Rattle.run_log.specs.Sinks.{Wrote}
 use Rattle.shop_base.specs.declared.move_order.MoveOrder.{MoveOrder}
 use Rattle.shop_base.specs.Plan.{PlannedShop}
 use Rattle.shop_base.specs.Cell.{Cell}
-use Rattle.shop_base.specs.Controlled.{after_step, step_orders}
+use Rattle.shop_base.specs.Controlled.{after_step}
 use Rattle.shop_base.specs.Punctual.{IsPunctual}
 use Rattle.shop_base.specs.Report as base
 use Rattle.cell_control.specs.declared.report.Ack.{Ack}
@@ -16,19 +15,13 @@ use Rattle.cell_control.specs.declared.report_fault.ReportFault.{ReportFault}
 use Rattle.cell_control.specs.ReasonNames.{reason_name}
 use Rattle.cell_control.specs.Reports.{said, IsFirstReason}
 use Rattle.run_log.specs.declared.entry.Entry.TheVariants.{Report as ReportEntry, Order as OrderEntry}
-use Rattle.run_log.specs.EventLines.{report_line, order_line}
 use Rattle.run_log.specs.Log.{Noted, Notes}
 use Rattle.cell_drive.specs.Answering.{WasAnswered}
-use Rattle.cell_drive.specs.AnswerLines.{late_line, refused_line, order_lines}
+use Rattle.cell_drive.specs.AnswerLines.{late_line, refused_line}
 use Rattle.cell_drive.specs.InputLines.{IsReportLine, IsNoReport}
 use Rattle.cell_drive.specs.DrivenLines.{LineAnswer, IsLateText, too_long, empty, no_report, refused, accepted}
+use Rattle.cell_drive.specs.ManyCells.{accepted_lines}
 use Rattle.cell_drive.specs.Driven.{DriveState, DriveAnswer}
-
--- the line of the next order, and those of the orders after it
-pub next_order : (orders : List MoveOrder) (i : ℕ) (d : MoveOrder) → i < length orders → order_line (get_or orders i d) ++ order_lines (drop (i + 1) orders) ≡ order_lines (drop i orders)
-next_order orders i d below =
-    let here : drop i orders ≡ get_or orders i d ∷ drop (i + 1) orders = drop-cons orders i d below ∙ ap (λ (n : ℕ). get_or orders i d ∷ drop n orders) (sym (add-one i)) in
-    sym (ap order_lines here ∙ flat_map-cons order_line (get_or orders i d) (drop (i + 1) orders))
 
 same_end : {T E : Type 0} (outcome : Result T E) (s : DriveState) → OnOk outcome (s ≡ s)
 same_end (Ok x) s = refl
@@ -92,22 +85,20 @@ late_text p c r true tells = inr (λ punctual. let not_late = tells.1 punctual i
 late_text p c r false tells = inl (tells.0 refl, refl)
 
 -- to a report that is possible
-pub answer_accepted : (start : DriveState) (control : Control) (log : Noted) (number at : ℕ) (line : List ℕ) (report : Report) (ack : Ack) (orders : List MoveOrder)
-    → IsReportLine line report → at ≡ (said report).at → orders ≡ control.orders
+pub answer_accepted : (start : DriveState) (control : Control) (log : Noted) (number : ℕ) (line : List ℕ) (report : Report) (ack : Ack) (orders : List MoveOrder)
+    → IsReportLine line report → orders ≡ control.orders
     → IsAnswered start.control (said report) ack control × Notes start.log log (ReportEntry report ∷ map OrderEntry control.orders)
-    → DriveAnswer start number (Some line) (report_line report ++ (cond ack.late (late_line at) [] ++ order_lines orders)) (record { control = control; log = log })
-answer_accepted start control log number at line report ack orders is_line at_is orders_are told =
+    → DriveAnswer start number (Some line) (accepted_lines [] report ack.late orders) (record { control = control; log = log })
+answer_accepted start control log number line report ack orders is_line orders_are told =
     let p = start.control.plan.planned in
     let c = start.control.cell in
     let answered = told.0 in
-    let moves = step_orders p c (said report) answered.movers in
     let step = accepted line report answered.movers (cond ack.late (late_line (said report).at) []) is_line answered.step (late_text p c (said report) ack.late answered.late) in
     record {
       entries = ReportEntry report ∷ map OrderEntry control.orders;
-      answer = subst (λ (cell : Cell). LineAnswer p c number (Some line) (report_line report ++ (cond ack.late (late_line at) [] ++ order_lines orders)) (ReportEntry report ∷ map OrderEntry control.orders) cell) (sym answered.cell)
-          (subst (λ (os : List MoveOrder). LineAnswer p c number (Some line) (report_line report ++ (cond ack.late (late_line at) [] ++ order_lines os)) (ReportEntry report ∷ map OrderEntry control.orders) (after_step p c (said report) answered.movers)) (sym orders_are)
-          (subst (λ (os : List MoveOrder). LineAnswer p c number (Some line) (report_line report ++ (cond ack.late (late_line at) [] ++ order_lines os)) (ReportEntry report ∷ map OrderEntry os) (after_step p c (said report) answered.movers)) (sym answered.orders)
-          (subst (λ (t : ℕ). LineAnswer p c number (Some line) (report_line report ++ (cond ack.late (late_line t) [] ++ order_lines moves)) (ReportEntry report ∷ map OrderEntry moves) (after_step p c (said report) answered.movers)) (sym at_is) step)));
+      answer = subst (λ (cell : Cell). LineAnswer p c number (Some line) (accepted_lines [] report ack.late orders) (ReportEntry report ∷ map OrderEntry control.orders) cell) (sym answered.cell)
+          (subst (λ (os : List MoveOrder). LineAnswer p c number (Some line) (accepted_lines [] report ack.late os) (ReportEntry report ∷ map OrderEntry control.orders) (after_step p c (said report) answered.movers)) (sym orders_are)
+          (subst (λ (os : List MoveOrder). LineAnswer p c number (Some line) (accepted_lines [] report ack.late os) (ReportEntry report ∷ map OrderEntry os) (after_step p c (said report) answered.movers)) (sym answered.orders) step));
       plan = answered.plan;
       log = told.1;
     }

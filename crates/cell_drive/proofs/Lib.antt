@@ -5,7 +5,6 @@ pub mod Drains
 pub mod WholeLines
 pub mod Streamed
 pub mod ReportLines
-pub mod WrittenParts
 pub mod DrivenRuns
 pub mod DrivenAnswers
 pub mod PromisesKept

@@ -1,5 +1,5 @@
 -- What driving several cells comes to.
-use Rattle.std.specs.Prelude.{◌≡◌, ℕ, ◌↔◌, List, Option, Bool, Result, IsTrue}
+use Rattle.std.specs.Prelude.{ℕ, ◌↔◌, List, Option, Bool, Result, IsTrue}
 use Rattle.std.specs.declared.result.Result.TheVariants.{Ok, Err}
 use Rattle.cell_control.specs.Control.{Control}
 use Rattle.cell_drive.specs.declared.drive_fault.DriveFault.{DriveFault}

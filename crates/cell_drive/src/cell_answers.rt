@@ -2,17 +2,19 @@
 
 ghost use Rattle.std.specs.Prelude.{◌≡◌, [], ◌++◌, if◌then◌else◌};
 ghost use Rattle.std.specs.List.{flat_map};
+ghost use Rattle.cell_control.specs.Reports.{said};
 ghost use Rattle.run_log.specs.Sinks.{Wrote};
-ghost use Rattle.run_log.specs.EventLines.{order_line};
+ghost use Rattle.run_log.specs.EventLines.{report_line, order_line};
 ghost use Rattle.cell_drive.specs.AnswerLines.{late_line};
 ghost use Rattle.cell_drive.specs.ManyCells.{accepted_lines};
 
 use crate::answer_lines::late_line;
 use cell_control::Report;
 use run_log::{LineText, Sink, WriteFault, put_all, put_order, put_report};
-use shop_base::{Moment, MoveOrder};
+use shop_base::MoveOrder;
 
-/// Writes the line behind the prefix.
+/// Writes the line behind the prefix. An empty one costs nothing.
+#[inline(always)]
 pub(crate) fn put_behind<W: Sink>(
     prefix: &[u8],
     line: &[u8],
@@ -20,25 +22,38 @@ pub(crate) fn put_behind<W: Sink>(
 ) -> Result<(), WriteFault>
     ensures { Wrote result (W.failed writer.new) (W.taken writer.old) (W.taken writer.new) (prefix.now ++ line.now) }
 {
+    if prefix.is_empty() {
+        return put_all(writer, line);
+    }
     put_all(writer, prefix)?;
     put_all(writer, line)
 }
 
-fn put_late<W: Sink>(
-    prefix: &[u8],
-    late: bool,
-    at: Moment,
-    writer: &mut W,
-) -> Result<(), WriteFault>
-    ensures { Wrote result (W.failed writer.new) (W.taken writer.old) (W.taken writer.new) (if late then prefix.now ++ late_line at else []) }
+#[inline(always)]
+fn put_report_line<W: Sink>(prefix: &[u8], report: Report, writer: &mut W) -> Result<(), WriteFault>
+    ensures { Wrote result (W.failed writer.new) (W.taken writer.old) (W.taken writer.new) (prefix.now ++ report_line report) }
 {
-    if late {
-        put_behind(prefix, late_line(at).bytes(), writer)
-    } else {
-        put_all(writer, b"")
-    }
+    let mut line = LineText::ended();
+    put_report(&mut line, report);
+    put_behind(prefix, line.bytes(), writer)
 }
 
+#[inline(always)]
+fn put_late<W: Sink>(
+    prefix: &[u8],
+    report: Report,
+    late: bool,
+    writer: &mut W,
+) -> Result<(), WriteFault>
+    ensures { Wrote result (W.failed writer.new) (W.taken writer.old) (W.taken writer.new) (if late then prefix.now ++ late_line (said report).at else []) }
+{
+    if !late {
+        return Ok(());
+    }
+    put_behind(prefix, late_line(report.at()).bytes(), writer)
+}
+
+#[inline(always)]
 fn put_orders<W: Sink>(
     prefix: &[u8],
     orders: &[MoveOrder],
@@ -55,6 +70,7 @@ fn put_orders<W: Sink>(
 }
 
 /// Writes the line of the report, the line that it is late, if it is, and the lines of the orders.
+#[inline(always)]
 pub(crate) fn put_accepted<W: Sink>(
     prefix: &[u8],
     report: Report,
@@ -64,9 +80,7 @@ pub(crate) fn put_accepted<W: Sink>(
 ) -> Result<(), WriteFault>
     ensures { Wrote result (W.failed writer.new) (W.taken writer.old) (W.taken writer.new) (accepted_lines prefix.now report late orders.now) }
 {
-    let mut line = LineText::ended();
-    put_report(&mut line, report);
-    put_behind(prefix, line.bytes(), writer)?;
-    put_late(prefix, late, report.at(), writer)?;
+    put_report_line(prefix, report, writer)?;
+    put_late(prefix, report, late, writer)?;
     put_orders(prefix, orders, writer)
 }

@@ -9,8 +9,8 @@ ghost use Rattle.cell_drive.specs.AnswerLines.{refused_line};
 ghost use Rattle.cell_drive.specs.Answering.{WasAnswered, WasEnded};
 ghost use Rattle.cell_drive.specs.Driven.{IsDriven, DriveAnswer, ControlEnds};
 
-use crate::accepted_lines::put_accepted;
 use crate::answer_lines::{done_line, refused_line, unfinished_line};
+use crate::cell_answers::put_accepted;
 use crate::input_lines::report_of;
 use crate::line_handler::LineHandler;
 use cell_control::{Ack, Controller, Dues, Report, ReportFault};
@@ -95,7 +95,7 @@ fn answer_told<D: Dues, W: Sink>(
         return put_refused(number, b"BadLine", writer);
     };
     match take_report(controller, log, report) {
-        Ok(ack) => put_accepted(report, ack.late, report.at(), controller.orders(), writer),
+        Ok(ack) => put_accepted(b"", report, ack.late, controller.orders(), writer),
         Err(reason) => put_refused(number, reason.name().as_bytes(), writer),
     }
 }

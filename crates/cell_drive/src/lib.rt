@@ -1,7 +1,6 @@
 //! Cells driven by lines of text: reports in, move orders out, over any giver and any taker of bytes.
 #![tactic(auto)]
 
-mod accepted_lines;
 mod answer_lines;
 mod cell_answers;
 mod cell_lines;

@@ -11,6 +11,7 @@ use crate::writing::put_all;
 use cell_control::Report;
 use shop_base::{JobNo, MachineNo, Moment, MoveOrder, Spot};
 
+#[inline(always)]
 fn put_spot(line: &mut LineText, spot: Spot)
     requires { length line.old ≤ 54 }
     ensures written { line.new ≡ spot_word spot ++ line.old }

@@ -1,6 +1,14 @@
+use Rattle.std.proofs.Common.{◌++◌, subst, sym}
 use Rattle.std.proofs.lemmas.Result.{err_from_is_err_and}
+use Rattle.run_log.specs.Sinks.{Wrote}
 use Rattle.cell_drive.proofs.CellTexts.{wrote_next, took_first}
+use Rattle.cell_drive.proofs.DrivenAnswers.{no_bytes}
 use Rattle.cell_drive.proofs.cell_answers.put_behind.Goals as goal
+
+pub returns-then-is_empty : goal.returns-then-is_empty
+returns-then-is_empty g c =
+    subst (λ p. Wrote c.put_all.result (g.W.Sink.failed c.put_all.new.writer) (g.W.Sink.taken c.args.writer.now) (g.W.Sink.taken c.put_all.new.writer) (p ++ c.args.line.now))
+    (sym (no_bytes _ _ c.is_empty.ensures c.if-is_empty.true)) c.put_all.ensures.wrote
 
 pub returns-in_err-put_all : goal.returns-in_err-put_all
 returns-in_err-put_all g c =
@@ -8,4 +16,4 @@ returns-in_err-put_all g c =
     rw p.1 (c.in_err-put_all.ensures.wrote.0, took_first _ _ c.args.prefix.now c.args.line.now c.in_err-put_all.ensures.wrote.1)
 
 pub returns : goal.returns
-returns g c = wrote_next c.put_all-2.result _ _ _ _ c.args.prefix.now c.args.line.now c.in_ok-put_all.ensures.wrote c.put_all-2.ensures.wrote
+returns g c = wrote_next c.put_all-3.result _ _ _ _ c.args.prefix.now c.args.line.now c.in_ok-put_all.ensures.wrote c.put_all-3.ensures.wrote

@@ -9,7 +9,7 @@ returns-in_default-clause-answered g c =
 
 pub returns-in-Ok-clause-answered : goal.returns-in-Ok-clause-answered
 returns-in-Ok-clause-answered g c =
-    was_answered _ _ _ _ _ _ _ _ _ (answer_accepted _ _ _ _ _ _ c.in-Some.report c.in-Ok.ack _ c.in-Some.ensures c.at.ensures c.orders.ensures c.in-Ok.ensures.accepted) c.put_accepted.ensures
+    was_answered _ _ _ _ _ _ _ _ _ (answer_accepted _ _ _ _ _ c.in-Some.report c.in-Ok.ack _ c.in-Some.ensures c.orders.ensures c.in-Ok.ensures.accepted) c.put_accepted.ensures
 
 pub returns-in-Err-clause-answered : goal.returns-in-Err-clause-answered
 returns-in-Err-clause-answered g c =

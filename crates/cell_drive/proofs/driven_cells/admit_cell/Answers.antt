@@ -1,5 +1,5 @@
-use Rattle.std.proofs.Common.{◌≡◌, ◌∷◌, [], ◌++◌, List, Some, None, sym, ap, subst, ◌∙◌}
-use Rattle.cell_control.specs.Control.{Control, IsControl, at_start}
+use Rattle.std.proofs.Common.{◌≡◌, ◌∷◌, [], ◌++◌, List, sym, ap, subst, ◌∙◌}
+use Rattle.cell_control.specs.Control.{IsControl, at_start}
 use Rattle.cell_hub.specs.declared.ticket.Ticket.{Ticket}
 use Rattle.cell_drive.specs.NumberedCells.{contents_of, AreNumbered}
 use Rattle.cell_drive.proofs.Numbering.{admits_more, at_start_control, none_shown}

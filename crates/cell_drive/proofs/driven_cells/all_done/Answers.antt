@@ -1,6 +1,4 @@
-use Rattle.std.proofs.Common.{◌≡◌, ◌≤◌, length, drop, arith, refl, sym, subst}
-use Rattle.cell_control.specs.Control.{Control}
-use Rattle.cell_drive.specs.ManyCells.{AreAllDone}
+use Rattle.std.proofs.Common.{arith, refl}
 use Rattle.cell_drive.specs.NumberedCells.{contents_of}
 use Rattle.cell_drive.proofs.Numbering.{length_contents}
 use Rattle.cell_drive.proofs.CellsEnds.{content_below, next_done, one_more_done, none_left}

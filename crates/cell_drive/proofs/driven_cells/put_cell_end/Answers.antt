@@ -1,8 +1,6 @@
-use Rattle.std.proofs.Common.{◌≡◌, ◌++◌, ap, sym, subst, ◌∙◌, List, ℕ}
+use Rattle.std.proofs.Common.{ap, sym, subst, ◌∙◌, List, ℕ}
 use Rattle.run_log.specs.Sinks.{Wrote}
 use Rattle.cell_drive.specs.AnswerLines.{unfinished_line}
-use Rattle.cell_drive.specs.CellLines.{cell_prefix}
-use Rattle.cell_drive.specs.NumberedCells.{end_line_of}
 use Rattle.cell_drive.proofs.CellsEnds.{end_unfinished, both_parts}
 use Rattle.cell_drive.proofs.driven_cells.put_cell_end.Goals as goal
 

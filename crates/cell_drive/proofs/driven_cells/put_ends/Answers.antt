@@ -1,4 +1,4 @@
-use Rattle.std.proofs.Common.{◌+◌, ◌≤◌, length, drop, arith}
+use Rattle.std.proofs.Common.{◌+◌, drop, arith}
 use Rattle.std.proofs.lemmas.Result.{err_from_is_err_and}
 use Rattle.run_log.proofs.Written.{AllBut-more, AllBut-all, TookPart-rest}
 use Rattle.cell_drive.specs.NumberedCells.{contents_of, ends_text}

@@ -1,4 +1,4 @@
-use Rattle.std.proofs.Common.{◌≡◌, sym, ◌∙◌, ap, option_copied}
+use Rattle.std.proofs.Common.{sym, ◌∙◌}
 use Rattle.cell_drive.proofs.Numbering.{past_the_last, no_content, content_there}
 use Rattle.cell_drive.proofs.numbered_cells.numbered_cell.Goals as goal
 

@@ -1,4 +1,4 @@
-use Rattle.std.proofs.Common.{◌≡◌, ap, List, ◌∙◌, sym, subst, ℕ}
+use Rattle.std.proofs.Common.{List, subst}
 use Rattle.cell_control.specs.Control.{Control}
 use Rattle.cell_hub.specs.declared.ticket.Ticket.{Ticket}
 use Rattle.run_log.specs.Sinks.{Wrote}
