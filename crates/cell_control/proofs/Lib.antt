@@ -9,6 +9,6 @@ pub mod Sequences
 pub mod Endings
 pub mod Reading
 pub mod Steps
-pub mod Holding
+pub mod Fields
 pub mod Promises
 pub mod Reasons

@@ -9,5 +9,5 @@ pub mod Reports
 pub mod ReasonNames
 pub mod Readings
 pub mod Control
-pub mod Held
+pub mod Fields
 pub mod Promises

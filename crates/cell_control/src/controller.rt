@@ -46,13 +46,13 @@ pub struct Controller<D: Dues> {
 
 impl<D: Dues> Model for Controller<D> {
     ghost use Rattle.cell_control.specs.Control.{Control};
-    ghost use Rattle.cell_control.specs.Held.{control_of, IsHeld};
+    ghost use Rattle.cell_control.specs.Fields.{control_of, AreFieldsOf};
 
     ghost Value = { Control };
 
     ghost view = { λ c. control_of c.verified c.tables c.orders.items c.accepted c.punctual };
 
-    ghost invariant = { λ c. IsHeld c.verified c.tables (D.dues c.dues) c.orders c.accepted c.left c.punctual };
+    ghost invariant = { λ c. AreFieldsOf c.verified c.tables (D.dues c.dues) c.orders c.accepted c.left c.punctual };
 }
 
 impl<D: Dues> Controller<D> {

@@ -1,4 +1,5 @@
 pub mod Hub
 pub mod Slots
 pub mod Calls
+pub mod RefusalNames
 pub mod Laws

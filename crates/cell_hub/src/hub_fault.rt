@@ -1,3 +1,6 @@
+ghost use Rattle.std.specs.Prelude.{◌≡◌};
+ghost use Rattle.cell_hub.specs.RefusalNames.{refusal_name};
+
 use cell_control::ReportFault;
 use thiserror::Error;
 
@@ -16,4 +19,18 @@ pub enum HubFault {
     /// The cell refuses the report.
     #[error("Cell {0}")]
     Cell(ReportFault),
+}
+
+impl HubFault {
+    /// The name of the fault; where the cell refuses the report, that of its reason.
+    pub fn name(self) -> &'static str
+        ensures { result.now ≡ refusal_name self }
+    {
+        match self {
+            HubFault::NoSuchCell => "NoSuchCell",
+            HubFault::SerialsSpent => "SerialsSpent",
+            HubFault::Memory => "Memory",
+            HubFault::Cell(reason) => reason.name(),
+        }
+    }
 }

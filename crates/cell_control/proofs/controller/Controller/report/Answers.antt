@@ -2,14 +2,14 @@ use Rattle.std.proofs.Common.{◌+◌, ◌-◌, arith, sym, subst, refl, []}
 use Rattle.shop_base.specs.Report.{CanReport}
 use Rattle.shop_base.specs.Run.{IsAtRest}
 use Rattle.cell_control.specs.Control.{Control, IsAnswered}
-use Rattle.cell_control.specs.Held.{control_of, IsHeld}
+use Rattle.cell_control.specs.Fields.{control_of, AreFieldsOf}
 use Rattle.cell_control.specs.Reports.{said, IsFirstReason}
 use Rattle.cell_control.specs.Promises.{answered as called_answered, refused}
 use Rattle.cell_control.specs.Steps.{IsMade}
 use Rattle.cell_control.specs.Tables.{cell_of, AreSound}
 use Rattle.cell_control.specs.Ties.{AreTied}
 use Rattle.cell_control.proofs.Reasons.{reason-cannot}
-use Rattle.cell_control.proofs.Holding.{answered, some_left, counts_fit, held_after}
+use Rattle.cell_control.proofs.Fields.{answered, some_left, counts_fit, fields_after}
 use Rattle.cell_control.proofs.controller.Controller.report.Goals as goal
 
 pub make_step-ack-requires-clause-rest : goal.make_step-ack-requires-clause-rest
@@ -43,8 +43,8 @@ invariant_of-self g c =
     let sound : AreSound s.verified.planned new.tables = subst (λ p. AreSound p new.tables) c.shaped-shaped.ensures.same c.make_step-ack.ensures.sound in
     let tied : AreTied s.verified.planned (cell_of s.verified.planned new.tables) (g.D.Dues.dues new.dues) =
     subst (λ p. AreTied p (cell_of p new.tables) (g.D.Dues.dues new.dues)) c.shaped-shaped.ensures.same c.make_step-ack.ensures.tied in
-    subst (λ still. IsHeld s.verified new.tables (g.D.Dues.dues new.dues) new.orders (s.accepted + 1) (s.left - 1) still) (sym c.still_punctual-self-inside.ensures)
-    (held_after s.verified s.tables (g.D.Dues.dues s.dues) s.orders s.accepted s.left s.punctual c.self.invariant new.tables (said c.args.report) c.make_step-ack.result new.orders.items made
+    subst (λ still. AreFieldsOf s.verified new.tables (g.D.Dues.dues new.dues) new.orders (s.accepted + 1) (s.left - 1) still) (sym c.still_punctual-self-inside.ensures)
+    (fields_after s.verified s.tables (g.D.Dues.dues s.dues) s.orders s.accepted s.left s.punctual c.self.invariant new.tables (said c.args.report) c.make_step-ack.result new.orders.items made
     (g.D.Dues.dues new.dues) new.orders refl c.make_step-ack.ensures.capacity sound tied)
 
 pub returns-clause-answered : goal.returns-clause-answered

@@ -15,7 +15,7 @@ control_of v tables orders accepted punctual =
     record { plan = v; cell = cell_of v.planned tables; orders = orders; accepted = accepted; punctual = punctual }
 
 -- what holds of the fields of a controller: beside what holds of every controller, the tables and due moments are those of the cell, the two counts add up to the stated number, and an order of each job fits the reserved memory
-pub record IsHeld (v : VerifiedPlan) (tables : Tables) (dues : List (Option ℕ)) (orders : SmallVec MoveOrder) (accepted left : ℕ) (punctual : Bool) : Type 0 where
+pub record AreFieldsOf (v : VerifiedPlan) (tables : Tables) (dues : List (Option ℕ)) (orders : SmallVec MoveOrder) (accepted left : ℕ) (punctual : Bool) : Type 0 where
   pub control : IsControl (control_of v tables orders.items accepted punctual)
   pub rows : AreTables v.planned tables
   pub tied : AreTied v.planned (cell_of v.planned tables) dues

@@ -21,7 +21,7 @@ use Rattle.cell_control.specs.Tables.{cell_of, AreTables, AreSound}
 use Rattle.cell_control.specs.Ties.{AreTied}
 use Rattle.cell_control.specs.Steps.{IsMade}
 use Rattle.cell_control.specs.Control.{Control, at_start, IsAnswered, IsControl}
-use Rattle.cell_control.specs.Held.{control_of, IsHeld}
+use Rattle.cell_control.specs.Fields.{control_of, AreFieldsOf}
 
 -- both hold where both are told at once
 both : (punctual late : Bool) → (punctual && not late) ≡ true → (punctual ≡ true) × (late ≡ false)
@@ -46,10 +46,10 @@ start_is v tables orders is none =
     ∙ ap (λ (c : Cell). let w : Control = record { plan = v; cell = c; orders = []; accepted = 0; punctual = true } in w) is
 
 -- a controller at the start
-pub held_at_start : (v : VerifiedPlan) (tables : Tables) (dues : List (Option ℕ)) (orders : SmallVec MoveOrder) (left : ℕ) → IsVerified v
+pub fields_at_start : (v : VerifiedPlan) (tables : Tables) (dues : List (Option ℕ)) (orders : SmallVec MoveOrder) (left : ℕ) → IsVerified v
     → AreTables v.planned tables → cell_of v.planned tables ≡ start v.planned → AreTied v.planned (start v.planned) dues → orders.items ≡ [] → jobs v.planned ≤ orders.capacity
-    → left ≡ stated_number v.planned → left < 2 ^ 64 → IsHeld v tables dues orders 0 left true
-held_at_start v tables dues orders left verified rows is tied none room stated fits = record {
+    → left ≡ stated_number v.planned → left < 2 ^ 64 → AreFieldsOf v tables dues orders 0 left true
+fields_at_start v tables dues orders left verified rows is tied none room stated fits = record {
   control = subst IsControl (sym (start_is v tables orders is none)) (start_control v verified);
   rows = rows;
   tied = subst (λ c. AreTied v.planned c dues) (sym is) tied;
@@ -73,41 +73,41 @@ answered v old new before more accepted punctual r ack made = record {
   punctual = refl;
 }
 
-module _ (v : VerifiedPlan) (old : Tables) (dues : List (Option ℕ)) (orders : SmallVec MoveOrder) (accepted left : ℕ) (punctual : Bool) (held : IsHeld v old dues orders accepted left punctual)
+module _ (v : VerifiedPlan) (old : Tables) (dues : List (Option ℕ)) (orders : SmallVec MoveOrder) (accepted left : ℕ) (punctual : Bool) (fields : AreFieldsOf v old dues orders accepted left punctual)
     (new : Tables) (r : Report) (ack : Ack) (items : List MoveOrder) (made : IsMade v.planned (cell_of v.planned old) r ack items (cell_of v.planned new)) where
   -- one report less is to come
   fewer : reports_left v.planned (cell_of v.planned new) + 1 ≡ reports_left v.planned (cell_of v.planned old)
   fewer = ap (λ c. reports_left v.planned c + 1) made.leads
-      ∙ after_step-reports_left v.planned (cell_of v.planned old) r made.movers held.rows.shaped held.control.sound made.step
+      ∙ after_step-reports_left v.planned (cell_of v.planned old) r made.movers fields.rows.shaped fields.control.sound made.step
 
   -- so there was one, and the counts stay within their type
   pub some_left : 0 < left
-  some_left = omega (arith, fewer, held.counts, held.control.counted)
+  some_left = omega (arith, fewer, fields.counts, fields.control.counted)
 
   pub counts_fit : accepted + 1 < 2 ^ 64
-  counts_fit = omega (arith, some_left, held.counts, held.fits)
+  counts_fit = omega (arith, some_left, fields.counts, fields.fits)
 
   keeps : AreSound v.planned new → IsTrue (punctual && not ack.late) → KeepsMoments v.planned (kept_at v) (cell_of v.planned new)
   keeps sound still =
       let (so_far, now) = both punctual ack.late still in
       subst (KeepsMoments v.planned (kept_at v)) (sym made.leads)
-      (step-keeps_moments v.planned (rank_in v) (kept_at v) (cell_of v.planned old) r made.movers held.rows.shaped held.control.verified.schedule.ranks
-      held.control.verified.schedule.moments held.control.sound held.control.at_rest (held.control.moments_kept so_far) made.step (made.late.0 now))
+      (step-keeps_moments v.planned (rank_in v) (kept_at v) (cell_of v.planned old) r made.movers fields.rows.shaped fields.control.verified.schedule.ranks
+      fields.control.verified.schedule.moments fields.control.sound fields.control.at_rest (fields.control.moments_kept so_far) made.step (made.late.0 now))
 
   -- what holds of a controller holds after a step
-  pub held_after : (dues' : List (Option ℕ)) (orders' : SmallVec MoveOrder) → orders'.items ≡ items → orders'.capacity ≡ orders.capacity → AreSound v.planned new
-      → AreTied v.planned (cell_of v.planned new) dues' → IsHeld v new dues' orders' (accepted + 1) (left - 1) (punctual && not ack.late)
-  held_after dues' orders' same capacity sound tied = record {
+  pub fields_after : (dues' : List (Option ℕ)) (orders' : SmallVec MoveOrder) → orders'.items ≡ items → orders'.capacity ≡ orders.capacity → AreSound v.planned new
+      → AreTied v.planned (cell_of v.planned new) dues' → AreFieldsOf v new dues' orders' (accepted + 1) (left - 1) (punctual && not ack.late)
+  fields_after dues' orders' same capacity sound tied = record {
     control = record {
-      verified = held.control.verified;
+      verified = fields.control.verified;
       sound = sound.sound;
       at_rest = subst (IsAtRest v.planned) (sym made.leads) made.step.rest;
-      counted = omega (arith, fewer, held.control.counted);
+      counted = omega (arith, fewer, fields.control.counted);
       moments_kept = keeps sound;
     };
     rows = sound.tables;
     tied = tied;
-    counts = omega (arith, some_left, held.counts);
-    fits = held.fits;
-    room = omega (arith, held.room, capacity);
+    counts = omega (arith, some_left, fields.counts);
+    fits = fields.fits;
+    room = omega (arith, fields.room, capacity);
   }
