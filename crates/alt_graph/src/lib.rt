@@ -23,10 +23,3 @@ pub use chain_check::check_chain;
 pub use cycle_check::check_cycle;
 pub use solving::{Solved, solve};
 pub use times::Times;
-
-#[cfg(test)]
-mod check_tests;
-#[cfg(test)]
-mod solve_tests;
-#[cfg(test)]
-mod test_plans;

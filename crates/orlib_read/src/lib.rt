@@ -13,6 +13,3 @@ mod words;
 pub use named::Named;
 pub use or_fault::OrFault;
 pub use readers::{read_from_collection, read_instance};
-
-#[cfg(test)]
-mod tests;

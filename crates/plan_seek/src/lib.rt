@@ -23,6 +23,3 @@ pub use proposer::Proposer;
 pub use search::{MAX_ROUNDS, seek};
 pub use seek_fault::SeekFault;
 pub use shift::ShiftProposer;
-
-#[cfg(test)]
-mod tests;

@@ -14,6 +14,3 @@ pub use document::plan_document;
 pub use plan_fault::PlanFault;
 pub use plan_key::PlanKey;
 pub use read::read_plan;
-
-#[cfg(test)]
-mod tests;

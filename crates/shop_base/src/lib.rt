@@ -28,6 +28,3 @@ pub use shape_fault::ShapeFault;
 pub use shaped::{NotShaped, Shaped, shape};
 pub use shop::{JobNo, MachineNo, Moment, Shop, Step};
 pub use shop_fault::ShopFault;
-
-#[cfg(test)]
-mod tests;

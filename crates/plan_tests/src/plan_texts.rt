@@ -1,4 +1,4 @@
-use super::*;
+use plan_text::{PlanFault, plan_document, read_plan};
 use std::alloc::Global;
 use std::process::Abort;
 use std::test::Fail;

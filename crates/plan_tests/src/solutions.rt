@@ -1,5 +1,5 @@
-use super::*;
-use crate::test_plans::{cleaned, crossed, in_series, orders, planned, routes};
+use crate::plans::{cleaned, crossed, in_series, orders, planned, routes};
+use alt_graph::{Solved, Times, solve};
 use shop_base::{Moment, Node, Plan, Shaped, Shop, Step};
 use std::alloc::Global;
 use std::test::Fail;

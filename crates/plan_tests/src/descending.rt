@@ -1,4 +1,4 @@
-use crate::Proposer;
+use plan_seek::Proposer;
 use shop_base::{JobNo, MachineNo, Shop};
 use std::alloc::{AllocError, Global};
 

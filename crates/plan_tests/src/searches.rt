@@ -1,11 +1,9 @@
-use super::*;
-use descending::DescendingProposer;
-use shop_base::{JobNo, MachineNo, Moment, ShapeFault, Shop, Step};
+use crate::descending::DescendingProposer;
+use plan_seek::{GreedyProposer, Proposer, ShiftProposer, seek};
+use shop_base::{JobNo, MachineNo, Moment, Shop, Step};
 use std::alloc::{AllocError, Global};
 use std::process::Abort;
 use std::test::Fail;
-
-mod descending;
 
 /// The rows as vectors.
 fn lists(alloc: Global, rows: &[&[JobNo]]) -> Result<Vec<Vec<JobNo>>, AllocError> {

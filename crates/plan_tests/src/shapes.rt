@@ -1,4 +1,4 @@
-use super::*;
+use shop_base::{JobNo, MachineNo, Moment, Node, Plan, Shop, Step, shape};
 use std::alloc::{AllocError, Global};
 use std::process::Abort;
 use std::test::Fail;

@@ -1,5 +1,5 @@
-use super::*;
-use crate::test_plans::{cleaned, crossed, in_series, two_jobs};
+use crate::plans::{cleaned, crossed, in_series, two_jobs};
+use alt_graph::{check_chain, check_cycle};
 use shop_base::{JobNo, Moment, Node, Shaped};
 use std::alloc::{AllocError, Global};
 use std::process::Abort;

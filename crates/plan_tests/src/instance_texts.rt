@@ -1,4 +1,4 @@
-use super::*;
+use orlib_read::{Named, OrFault, read_from_collection, read_instance};
 use shop_base::Step;
 use std::alloc::Global;
 use std::process::Abort;
