@@ -1,15 +1,13 @@
+//! How instance texts are read.
+
+use crate::plans::{FT06, TWO};
 use orlib_read::{Named, OrFault, read_from_collection, read_instance};
 use shop_base::Step;
 use std::alloc::Global;
 use std::process::Abort;
 use std::test::Fail;
 
-const TWO: &[u8] = b"two\n2 2\n0 3 1 2\n1 4 0 1\n";
-
 const TWO_READ: &[u8] = b"two: 2 machines / 0 3 1 2 / 1 4 0 1";
-
-const FT06: &[u8] = b"ft06\n6 6\n2 1 0 3 1 6 3 7 5 3 4 6\n1 8 2 5 4 10 5 10 0 10 3 4\n\
-    2 5 3 4 5 8 0 9 1 1 4 7\n1 5 0 5 2 5 3 3 4 8 5 9\n2 9 1 3 4 5 5 4 0 3 3 1\n1 3 3 3 5 9 0 10 4 4 2 1\n";
 
 const FT06_READ: &[u8] =
     b"ft06: 6 machines / 2 1 0 3 1 6 3 7 5 3 4 6 / 1 8 2 5 4 10 5 10 0 10 3 4 / \
@@ -49,21 +47,28 @@ fn said(alloc: Global, named: &Named) -> Result<Vec<u8>, Fail> {
 
 /// Compares what was answered.
 fn shows(
-    rt: &impl Abort,
-    alloc: Global,
+    rt: &(impl Abort + AllocGlobal),
     answer: Result<Named, OrFault>,
     expected: &[u8],
 ) -> Result<(), Fail> {
     let text = match answer {
-        Ok(named) => said(alloc, &named)?,
-        Err(fault) => fault.to_string(alloc)?.into_bytes(),
+        Ok(named) => said(rt.alloc(), &named)?,
+        Err(fault) => fault.to_string(rt.alloc())?.into_bytes(),
     };
     assert_eq!(rt; text.as_slice(), expected);
     Ok(())
 }
 
+/// Compares what is answered to each text of one instance.
+fn all_show(rt: &(impl Abort + AllocGlobal), rows: &[(&[u8], &[u8])]) -> Result<(), Fail> {
+    for &(text, expected) in rows {
+        shows(rt, read_instance(rt.alloc(), text), expected)?;
+    }
+    Ok(())
+}
+
 #[test]
-fn single_instances(rt: HostRuntime) -> Result<(), Fail> {
+fn an_instance_is_read_or_its_fault_is_told(rt: HostRuntime) -> Result<(), Fail> {
     let rows: [(&[u8], &[u8]); 12] = [
         (TWO, TWO_READ),
         (b"", b"NoSizes"),
@@ -88,14 +93,11 @@ fn single_instances(rt: HostRuntime) -> Result<(), Fail> {
             b"\xff\x00 +\r\x80: 1 machines / 0 1",
         ),
     ];
-    for (text, expected) in rows {
-        shows(&rt, rt.alloc(), read_instance(rt.alloc(), text), expected)?;
-    }
-    Ok(())
+    all_show(&rt, &rows)
 }
 
 #[test]
-fn line_ends_and_blanks(rt: HostRuntime) -> Result<(), Fail> {
+fn line_ends_blanks_and_filler_are_passed_over(rt: HostRuntime) -> Result<(), Fail> {
     let rows: [(&[u8], &[u8]); 12] = [
         // Only one carriage return is dropped, and only at the end of a line.
         (b"two\r\n2 2\r\n0 3 1 2\r\n1 4 0 1\r\n", TWO_READ),
@@ -116,14 +118,11 @@ fn line_ends_and_blanks(rt: HostRuntime) -> Result<(), Fail> {
         (b"\n+\ntwo\n\n2 +\n", b"BadSizes line 5"),
         (b"two\n+-\n", b"BadSizes line 2"),
     ];
-    for (text, expected) in rows {
-        shows(&rt, rt.alloc(), read_instance(rt.alloc(), text), expected)?;
-    }
-    Ok(())
+    all_show(&rt, &rows)
 }
 
 #[test]
-fn instance_lines(rt: HostRuntime) -> Result<(), Fail> {
+fn instance_lines_are_passed_over_before_other_lines(rt: HostRuntime) -> Result<(), Fail> {
     let rows: [(&[u8], &[u8]); 7] = [
         // Instance lines are passed over before the first other line alone.
         (
@@ -146,14 +145,11 @@ fn instance_lines(rt: HostRuntime) -> Result<(), Fail> {
         ),
         (b"two\n1 2\n0 3 1 2\ninstance a\n", b"Extra line 4"),
     ];
-    for (text, expected) in rows {
-        shows(&rt, rt.alloc(), read_instance(rt.alloc(), text), expected)?;
-    }
-    Ok(())
+    all_show(&rt, &rows)
 }
 
 #[test]
-fn numbers_of_lines(rt: HostRuntime) -> Result<(), Fail> {
+fn numbers_have_one_to_nine_digits(rt: HostRuntime) -> Result<(), Fail> {
     let rows: [(&[u8], &[u8]); 5] = [
         // Numbers have one to nine digits.
         (b"two\n000000002 2\n0 3 1 2\n01 4 0 000000001\n", TWO_READ),
@@ -165,14 +161,11 @@ fn numbers_of_lines(rt: HostRuntime) -> Result<(), Fail> {
         ),
         (b"two\n1 1\n+0 1\n", b"BadNumber line 3 word 1"),
     ];
-    for (text, expected) in rows {
-        shows(&rt, rt.alloc(), read_instance(rt.alloc(), text), expected)?;
-    }
-    Ok(())
+    all_show(&rt, &rows)
 }
 
 #[test]
-fn order_of_faults(rt: HostRuntime) -> Result<(), Fail> {
+fn what_lines_say_comes_before_what_numbers_say(rt: HostRuntime) -> Result<(), Fail> {
     let rows: [(&[u8], &[u8]); 9] = [
         // In one line, the number of words comes first, and then the first of them that is no number.
         (b"two\n1 2\n0 x 1\n", b"OddWords line 3"),
@@ -186,14 +179,11 @@ fn order_of_faults(rt: HostRuntime) -> Result<(), Fail> {
         (b"1 2\n0 1 0 1\n", b"Shop MachineTwice job 0 step 1"),
         (b"999999999 1\n0 1\n", b"MissingJob job 1"),
     ];
-    for (text, expected) in rows {
-        shows(&rt, rt.alloc(), read_instance(rt.alloc(), text), expected)?;
-    }
-    Ok(())
+    all_show(&rt, &rows)
 }
 
 #[test]
-fn collections(rt: HostRuntime) -> Result<(), Fail> {
+fn instances_of_a_collection_are_found_by_name(rt: HostRuntime) -> Result<(), Fail> {
     let rows: [(&[u8], &[u8], &[u8]); 13] = [
         (
             COLLECTION,
@@ -236,12 +226,7 @@ fn collections(rt: HostRuntime) -> Result<(), Fail> {
         (COLLECTION, b"ft06", FT06_OF_COLLECTION),
     ];
     for (text, name, expected) in rows {
-        shows(
-            &rt,
-            rt.alloc(),
-            read_from_collection(rt.alloc(), text, name),
-            expected,
-        )?;
+        shows(&rt, read_from_collection(rt.alloc(), text, name), expected)?;
     }
     Ok(())
 }
@@ -262,22 +247,21 @@ fn alike(alloc: Global, jobs: u32) -> Result<String, Fail> {
 }
 
 #[test]
-fn limits(rt: HostRuntime) -> Result<(), Fail> {
+fn a_text_has_as_many_jobs_as_a_shop_can(rt: HostRuntime) -> Result<(), Fail> {
     let most = alike(rt.alloc(), 200)?;
     let named = read_instance(rt.alloc(), most.as_bytes())?;
     assert_eq!(rt; named.shop.operations(), 20000);
     let more = alike(rt.alloc(), 201)?;
     shows(
         &rt,
-        rt.alloc(),
         read_instance(rt.alloc(), more.as_bytes()),
         b"Shop TooManyJobs",
     )?;
-    shows(&rt, rt.alloc(), Err(OrFault::Memory), b"Memory")
+    shows(&rt, Err(OrFault::Memory), b"Memory")
 }
 
 #[test]
-fn prefixes(rt: HostRuntime) {
+fn prefixes_have_no_fault_of_the_other_reader(rt: HostRuntime) {
     for end in 0..=TWO.len() {
         let answer = read_instance(rt.alloc(), &TWO[..end]);
         assert!(rt;

@@ -1,21 +1,29 @@
+//! How plan texts are read and written.
+
+use crate::plans::{CLEANED, IN_SERIES};
 use plan_text::{PlanFault, plan_document, read_plan};
 use std::alloc::Global;
 use std::process::Abort;
 use std::test::Fail;
 
-/// The text of the plan that two crossing jobs take one after the other.
-const IN_SERIES: &[u8] = b"release = [0, 0]\nbudget = [5, 10]\norder = [[0, 1], [0, 1]]\n";
-
 const IN_SERIES_READ: &[u8] =
     b"Plan { release: [0, 0], budget: [5, 10], order: [[0, 1], [0, 1]], clean: None }";
 
 /// Compares what is answered to a text.
-fn shows(rt: &impl Abort, alloc: Global, text: &[u8], expected: &[u8]) -> Result<(), Fail> {
-    let answer = match read_plan(alloc, text) {
-        Ok(plan) => format!(in alloc; "{plan:?}")?,
-        Err(fault) => fault.to_string(alloc)?,
+fn shows(rt: &(impl Abort + AllocGlobal), text: &[u8], expected: &[u8]) -> Result<(), Fail> {
+    let answer = match read_plan(rt.alloc(), text) {
+        Ok(plan) => format!(in rt.alloc(); "{plan:?}")?,
+        Err(fault) => fault.to_string(rt.alloc())?,
     };
     assert!(rt; answer.as_bytes() == expected, "{answer}");
+    Ok(())
+}
+
+/// The same for each text and its answer.
+fn all_show(rt: &(impl Abort + AllocGlobal), rows: &[(&[u8], &[u8])]) -> Result<(), Fail> {
+    for &(text, expected) in rows {
+        shows(rt, text, expected)?;
+    }
     Ok(())
 }
 
@@ -29,7 +37,7 @@ fn joined(alloc: Global, parts: &[&[u8]]) -> Result<Vec<u8>, Fail> {
 }
 
 #[test]
-fn missing_and_unknown_keys(rt: HostRuntime) -> Result<(), Fail> {
+fn unknown_keys_are_told_before_missing_ones(rt: HostRuntime) -> Result<(), Fail> {
     let rows: [(&[u8], &[u8]); 11] = [
         (b"", b"MissingKey key release"),
         (b"release = [", b"NotToml"),
@@ -50,15 +58,12 @@ fn missing_and_unknown_keys(rt: HostRuntime) -> Result<(), Fail> {
         (b"release = 3\nbudget = 3\n", b"MissingKey key order"),
         (b"version = 2\nrelease = [0, 0]\n", b"MissingKey key budget"),
     ];
-    for (text, expected) in rows {
-        shows(&rt, rt.alloc(), text, expected)?;
-    }
-    Ok(())
+    all_show(&rt, &rows)
 }
 
 #[test]
-fn whole_texts(rt: HostRuntime) -> Result<(), Fail> {
-    let rows: [(&[u8], &[u8]); 13] = [
+fn any_toml_with_the_lists_is_a_plan(rt: HostRuntime) -> Result<(), Fail> {
+    let rows: [(&[u8], &[u8]); 14] = [
         // A key given twice, and numbers that no TOML integer holds.
         (
             b"release = []\nrelease = []\nbudget = []\norder = []\n",
@@ -71,6 +76,10 @@ fn whole_texts(rt: HostRuntime) -> Result<(), Fail> {
         (
             b"release = [9223372036854775807]\nbudget = []\norder = [[4294967295]]\n",
             b"Plan { release: [9223372036854775807], budget: [], order: [[4294967295]], clean: None }",
+        ),
+        (
+            b"version = 2\nrelease = [4294967296]\nbudget = [4294967296]\norder = [[4294967295]]\nclean = [4294967296]",
+            b"Plan { release: [4294967296], budget: [4294967296], order: [[4294967295]], clean: Some([4294967296]) }",
         ),
         // The counts aren't looked at here.
         (
@@ -107,14 +116,11 @@ fn whole_texts(rt: HostRuntime) -> Result<(), Fail> {
         (b"# \xc3\n", b"NotToml"),
         (b"release = [0]\nx = '\x80'\n", b"NotToml"),
     ];
-    for (text, expected) in rows {
-        shows(&rt, rt.alloc(), text, expected)?;
-    }
-    Ok(())
+    all_show(&rt, &rows)
 }
 
 #[test]
-fn order_of_faults(rt: HostRuntime) -> Result<(), Fail> {
+fn the_first_fault_in_the_order_of_the_keys_is_told(rt: HostRuntime) -> Result<(), Fail> {
     let rows: [(&[u8], &[u8]); 7] = [
         // The lists come in the order of their keys, each from its first element on.
         (
@@ -146,14 +152,11 @@ fn order_of_faults(rt: HostRuntime) -> Result<(), Fail> {
             b"NotWhole key budget place 0",
         ),
     ];
-    for (text, expected) in rows {
-        shows(&rt, rt.alloc(), text, expected)?;
-    }
-    Ok(())
+    all_show(&rt, &rows)
 }
 
 #[test]
-fn versions(rt: HostRuntime) -> Result<(), Fail> {
+fn the_version_says_which_keys_there_are(rt: HostRuntime) -> Result<(), Fail> {
     let rows: [(&[u8], &[u8], &[u8]); 17] = [
         (b"", b"", IN_SERIES_READ),
         (b"version = 1\n", b"", IN_SERIES_READ),
@@ -184,97 +187,61 @@ fn versions(rt: HostRuntime) -> Result<(), Fail> {
     ];
     for (before, after, expected) in rows {
         let text = joined(rt.alloc(), &[before, IN_SERIES, after])?;
-        shows(&rt, rt.alloc(), &text, expected)?;
+        shows(&rt, &text, expected)?;
+    }
+    Ok(())
+}
+
+/// A text of version 2 in which this key has this value, and each other an empty list.
+fn with_value(alloc: Global, key: &str, value: &str) -> Result<String, Fail> {
+    let mut text = String::from_str(alloc, "version = 2\n")?;
+    for other in ["release", "budget", "order", "clean"] {
+        let value = if other == key { value } else { "[]" };
+        text.push_str(format!(in alloc; "{other} = {value}\n")?.as_str())?;
+    }
+    Ok(text)
+}
+
+#[test]
+fn values_of_other_kinds_are_told_by_their_places(rt: HostRuntime) -> Result<(), Fail> {
+    for (key, value, fault) in [
+        ("release", "3", "NotArray key release"),
+        ("budget", "'a'", "NotArray key budget"),
+        ("order", "true", "NotArray key order"),
+        ("order", "[[], 1]", "NotArray key order row 1"),
+        ("clean", "2.5", "NotArray key clean"),
+        ("release", "[0, \"1\"]", "NotWhole key release place 1"),
+        ("budget", "[1.0]", "NotWhole key budget place 0"),
+        (
+            "order",
+            "[[], [0, 1, true]]",
+            "NotWhole key order row 1 place 2",
+        ),
+        ("clean", "[0, 1, []]", "NotWhole key clean place 2"),
+        ("release", "[0, -1]", "OutOfRange key release place 1"),
+        ("budget", "[-5]", "OutOfRange key budget place 0"),
+        ("order", "[[0, -1]]", "OutOfRange key order row 0 place 1"),
+        (
+            "order",
+            "[[0], [4294967296]]",
+            "OutOfRange key order row 1 place 0",
+        ),
+        ("clean", "[0, 0, -9]", "OutOfRange key clean place 2"),
+        (
+            "release",
+            "[-9223372036854775808]",
+            "OutOfRange key release place 0",
+        ),
+        ("release", "[1979-05-27]", "NotWhole key release place 0"),
+    ] {
+        let text = with_value(rt.alloc(), key, value)?;
+        shows(&rt, text.as_bytes(), fault.as_bytes())?;
     }
     Ok(())
 }
 
 #[test]
-fn values(rt: HostRuntime) -> Result<(), Fail> {
-    let rows: [([&[u8]; 4], &[u8]); 17] = [
-        ([b"3", b"[]", b"[]", b"[]"], b"NotArray key release"),
-        ([b"[]", b"'a'", b"[]", b"[]"], b"NotArray key budget"),
-        ([b"[]", b"[]", b"true", b"[]"], b"NotArray key order"),
-        (
-            [b"[]", b"[]", b"[[], 1]", b"[]"],
-            b"NotArray key order row 1",
-        ),
-        ([b"[]", b"[]", b"[]", b"2.5"], b"NotArray key clean"),
-        (
-            [b"[0, \"1\"]", b"[]", b"[]", b"[]"],
-            b"NotWhole key release place 1",
-        ),
-        (
-            [b"[]", b"[1.0]", b"[]", b"[]"],
-            b"NotWhole key budget place 0",
-        ),
-        (
-            [b"[]", b"[]", b"[[], [0, 1, true]]", b"[]"],
-            b"NotWhole key order row 1 place 2",
-        ),
-        (
-            [b"[]", b"[]", b"[]", b"[0, 1, []]"],
-            b"NotWhole key clean place 2",
-        ),
-        (
-            [b"[0, -1]", b"[]", b"[]", b"[]"],
-            b"OutOfRange key release place 1",
-        ),
-        (
-            [b"[]", b"[-5]", b"[]", b"[]"],
-            b"OutOfRange key budget place 0",
-        ),
-        (
-            [b"[]", b"[]", b"[[0, -1]]", b"[]"],
-            b"OutOfRange key order row 0 place 1",
-        ),
-        (
-            [b"[]", b"[]", b"[[0], [4294967296]]", b"[]"],
-            b"OutOfRange key order row 1 place 0",
-        ),
-        (
-            [b"[]", b"[]", b"[]", b"[0, 0, -9]"],
-            b"OutOfRange key clean place 2",
-        ),
-        (
-            [b"[-9223372036854775808]", b"[]", b"[]", b"[]"],
-            b"OutOfRange key release place 0",
-        ),
-        (
-            [b"[1979-05-27]", b"[]", b"[]", b"[]"],
-            b"NotWhole key release place 0",
-        ),
-        (
-            [
-                b"[4294967296]",
-                b"[4294967296]",
-                b"[[4294967295]]",
-                b"[4294967296]",
-            ],
-            b"Plan { release: [4294967296], budget: [4294967296], order: [[4294967295]], clean: Some([4294967296]) }",
-        ),
-    ];
-    for (lists, expected) in rows {
-        let text = joined(
-            rt.alloc(),
-            &[
-                b"version = 2\nrelease = ",
-                lists[0],
-                b"\nbudget = ",
-                lists[1],
-                b"\norder = ",
-                lists[2],
-                b"\nclean = ",
-                lists[3],
-            ],
-        )?;
-        shows(&rt, rt.alloc(), &text, expected)?;
-    }
-    Ok(())
-}
-
-#[test]
-fn prefixes(rt: HostRuntime) -> Result<(), Fail> {
+fn a_prefix_is_a_plan_only_with_the_whole_last_line(rt: HostRuntime) -> Result<(), Fail> {
     for end in 0..=IN_SERIES.len() {
         let expected: &[u8] = match end {
             0 => b"MissingKey key release",
@@ -283,30 +250,30 @@ fn prefixes(rt: HostRuntime) -> Result<(), Fail> {
             58 | 59 => IN_SERIES_READ,
             _ => b"NotToml",
         };
-        shows(&rt, rt.alloc(), &IN_SERIES[..end], expected)?;
+        shows(&rt, &IN_SERIES[..end], expected)?;
     }
     Ok(())
 }
 
 /// Compares a text with the document of its plan.
-fn is_written_again(rt: &impl Abort, alloc: Global, text: &[u8]) -> Result<(), Fail> {
-    let plan = read_plan(alloc, text)?;
-    let written = plan_document(alloc, &plan)?;
+fn is_written_again(rt: &(impl Abort + AllocGlobal), text: &[u8]) -> Result<(), Fail> {
+    let plan = read_plan(rt.alloc(), text)?;
+    let written = plan_document(rt.alloc(), &plan)?;
     assert!(rt; written.as_bytes() == text, "{written}");
     Ok(())
 }
 
 #[test]
-fn documents(rt: HostRuntime) -> Result<(), Fail> {
+fn documents_are_the_texts_of_their_plans(rt: HostRuntime) -> Result<(), Fail> {
     let rows: [&[u8]; 4] = [
         IN_SERIES,
-        b"version = 2\nrelease = [0, 0]\nbudget = [5, 12]\norder = [[0, 1], [0, 1]]\nclean = [0, 2]\n",
+        CLEANED,
         // A plan of version 2 stays one without any cleaning time above 0.
         b"version = 2\nrelease = []\nbudget = []\norder = []\nclean = []\n",
         b"release = [9223372036854775807]\nbudget = [0, 1, 2]\norder = [[], [4294967295], []]\n",
     ];
     for text in rows {
-        is_written_again(&rt, rt.alloc(), text)?;
+        is_written_again(&rt, text)?;
     }
     Ok(())
 }
@@ -325,7 +292,7 @@ fn list_of(alloc: Global, element: &[u8], count: usize) -> Result<Vec<u8>, Fail>
 }
 
 #[test]
-fn greatest_plan(rt: HostRuntime) -> Result<(), Fail> {
+fn the_greatest_plan_is_written_and_read(rt: HostRuntime) -> Result<(), Fail> {
     let moments = list_of(rt.alloc(), b"1000000000000", 200)?;
     let order = list_of(rt.alloc(), &list_of(rt.alloc(), b"199", 200)?, 100)?;
     let clean = list_of(rt.alloc(), b"1000000", 100)?;
@@ -343,14 +310,17 @@ fn greatest_plan(rt: HostRuntime) -> Result<(), Fail> {
             b"\n",
         ],
     )?;
-    is_written_again(&rt, rt.alloc(), &text)
+    is_written_again(&rt, &text)
 }
 
 #[test]
-fn moments_past_the_greatest_integer(rt: HostRuntime) -> Result<(), Fail> {
+fn moments_past_the_greatest_integer_are_not_read_back(rt: HostRuntime) -> Result<(), Fail> {
     let alloc = rt.alloc();
     let mut plan = read_plan(alloc, IN_SERIES)?;
-    plan.budget.push(9223372036854775808)?;
+    assert_eq!(rt; plan_document(alloc, &plan)?.as_bytes(), IN_SERIES);
+    plan.budget = [9223372036854775808, 0].to_vec(alloc)?;
+    assert!(rt; matches!(plan_document(alloc, &plan), Err(PlanFault::NotReadBack)));
+    plan.budget = [5, 10, 9223372036854775808].to_vec(alloc)?;
     assert!(rt; matches!(plan_document(alloc, &plan), Err(PlanFault::NotReadBack)));
     let told = PlanFault::NotReadBack.to_string(alloc)?;
     assert_eq!(rt; told.as_str(), "NotReadBack");

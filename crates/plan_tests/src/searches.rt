@@ -1,51 +1,12 @@
+//! What the search for a plan finds, and what its planners answer.
+
 use crate::descending::DescendingProposer;
+use crate::plans::{FT06, two_jobs};
+use orlib_read::read_instance;
 use plan_seek::{GreedyProposer, Proposer, ShiftProposer, seek};
-use shop_base::{JobNo, MachineNo, Moment, Shop, Step};
+use shop_base::{JobNo, Moment, Shop};
 use std::alloc::{AllocError, Global};
-use std::process::Abort;
 use std::test::Fail;
-
-/// The rows as vectors.
-fn lists(alloc: Global, rows: &[&[JobNo]]) -> Result<Vec<Vec<JobNo>>, AllocError> {
-    let mut lists = Vec::new(alloc);
-    for row in rows {
-        lists.push(row.to_vec(alloc)?)?;
-    }
-    Ok(lists)
-}
-
-fn shop_of(alloc: Global, machines: u32, rows: &[&[(MachineNo, Moment)]]) -> Result<Shop, Fail> {
-    let mut routes = Vec::new(alloc);
-    for row in rows {
-        let mut route = Vec::new(alloc);
-        for &(machine, nominal) in *row {
-            route.push(Step { machine, nominal })?;
-        }
-        routes.push(route)?;
-    }
-    Ok(Shop::new(machines, routes)?)
-}
-
-/// Two jobs on two machines: job 0 on machine 0 and then 1, job 1 the other way round.
-fn two_jobs(alloc: Global) -> Result<Shop, Fail> {
-    shop_of(alloc, 2, &[&[(0, 3), (1, 2)], &[(1, 4), (0, 1)]])
-}
-
-/// The instance of Fisher and Thompson, 6 by 6.
-fn ft06(alloc: Global) -> Result<Shop, Fail> {
-    shop_of(
-        alloc,
-        6,
-        &[
-            &[(2, 1), (0, 3), (1, 6), (3, 7), (5, 3), (4, 6)],
-            &[(1, 8), (2, 5), (4, 10), (5, 10), (0, 10), (3, 4)],
-            &[(2, 5), (3, 4), (5, 8), (0, 9), (1, 1), (4, 7)],
-            &[(1, 5), (0, 5), (2, 5), (3, 3), (4, 8), (5, 9)],
-            &[(2, 9), (1, 3), (4, 5), (5, 4), (0, 3), (3, 1)],
-            &[(1, 3), (3, 3), (5, 9), (0, 10), (4, 4), (2, 1)],
-        ],
-    )
-}
 
 /// The order of each machine, its jobs parted by a blank, each order ended by a comma; `none` for no order.
 fn text_of(alloc: Global, orders: Option<Vec<Vec<JobNo>>>) -> Result<String, AllocError> {
@@ -62,11 +23,22 @@ fn text_of(alloc: Global, orders: Option<Vec<Vec<JobNo>>>) -> Result<String, All
     Ok(text)
 }
 
-/// One list too few.
+/// Planners that always answer the same.
 #[derive(Drop)]
-struct Short;
+enum Wrong {
+    /// One list too few.
+    Short,
+    /// A number that is no job's.
+    Stranger,
+    /// Orders with a cycle.
+    Crossed,
+    /// No answer.
+    Silent,
+    /// Want of memory.
+    Hungry,
+}
 
-impl Proposer for Short {
+impl Proposer for Wrong {
     ghost may = { λ proposer shop round answer. Unit {0} };
 
     fn propose(
@@ -75,75 +47,18 @@ impl Proposer for Short {
         _shop: &Shop,
         _round: u32,
     ) -> Result<Option<Vec<Vec<JobNo>>>, AllocError> {
-        Ok(Some(lists(alloc, &[&[0, 1]])?))
-    }
-}
-
-/// A number that is no job's.
-#[derive(Drop)]
-struct Stranger;
-
-impl Proposer for Stranger {
-    ghost may = { λ proposer shop round answer. Unit {0} };
-
-    fn propose(
-        &self,
-        alloc: Global,
-        _shop: &Shop,
-        _round: u32,
-    ) -> Result<Option<Vec<Vec<JobNo>>>, AllocError> {
-        Ok(Some(lists(alloc, &[&[0, 7], &[0, 1]])?))
-    }
-}
-
-/// Orders with a cycle.
-#[derive(Drop)]
-struct Crossed;
-
-impl Proposer for Crossed {
-    ghost may = { λ proposer shop round answer. Unit {0} };
-
-    fn propose(
-        &self,
-        alloc: Global,
-        _shop: &Shop,
-        _round: u32,
-    ) -> Result<Option<Vec<Vec<JobNo>>>, AllocError> {
-        Ok(Some(lists(alloc, &[&[0, 1], &[1, 0]])?))
-    }
-}
-
-/// Want of memory.
-#[derive(Drop)]
-struct Hungry;
-
-impl Proposer for Hungry {
-    ghost may = { λ proposer shop round answer. Unit {0} };
-
-    fn propose(
-        &self,
-        _alloc: Global,
-        _shop: &Shop,
-        _round: u32,
-    ) -> Result<Option<Vec<Vec<JobNo>>>, AllocError> {
-        Err(AllocError)
-    }
-}
-
-/// No answer.
-#[derive(Drop)]
-struct Silent;
-
-impl Proposer for Silent {
-    ghost may = { λ proposer shop round answer. Unit {0} };
-
-    fn propose(
-        &self,
-        _alloc: Global,
-        _shop: &Shop,
-        _round: u32,
-    ) -> Result<Option<Vec<Vec<JobNo>>>, AllocError> {
-        Ok(None)
+        let rows: &[&[JobNo]] = match self {
+            Wrong::Short => &[&[0, 1]],
+            Wrong::Stranger => &[&[0, 7], &[0, 1]],
+            Wrong::Crossed => &[&[0, 1], &[1, 0]],
+            Wrong::Silent => return Ok(None),
+            Wrong::Hungry => return Err(AllocError),
+        };
+        let mut orders = Vec::new(alloc);
+        for row in rows {
+            orders.push(row.to_vec(alloc)?)?;
+        }
+        Ok(Some(orders))
     }
 }
 
@@ -192,7 +107,7 @@ fn found(
 }
 
 #[test]
-fn finds_the_plans_of_two_jobs(rt: HostRuntime) -> Result<(), Fail> {
+fn plans_are_found_where_the_budgets_allow(rt: HostRuntime) -> Result<(), Fail> {
     let alloc = rt.alloc();
     let mut usual: Vec<Box<dyn Proposer>> = Vec::new(alloc);
     usual.push(Box::new(alloc, GreedyProposer::new())?)?;
@@ -215,10 +130,10 @@ fn finds_the_plans_of_two_jobs(rt: HostRuntime) -> Result<(), Fail> {
 }
 
 #[test]
-fn refuses_bad_numbers_first(rt: HostRuntime) -> Result<(), Fail> {
+fn bad_numbers_are_told_before_too_many_rounds(rt: HostRuntime) -> Result<(), Fail> {
     let alloc = rt.alloc();
     let mut wrong: Vec<Box<dyn Proposer>> = Vec::new(alloc);
-    wrong.push(Box::new(alloc, Hungry)?)?;
+    wrong.push(Box::new(alloc, Wrong::Hungry)?)?;
     let cases: [(&[Moment], &[Moment], Option<&[Moment]>, &str); 7] = [
         (&[0], &[5], None, "BadNumbers ReleaseCount"),
         (&[0, 0], &[5], Some(&[0]), "BadNumbers BudgetCount"),
@@ -256,30 +171,30 @@ fn refuses_bad_numbers_first(rt: HostRuntime) -> Result<(), Fail> {
 }
 
 #[test]
-fn stands_above_wrong_proposers(rt: HostRuntime) -> Result<(), Fail> {
+fn wrong_answers_do_no_harm(rt: HostRuntime) -> Result<(), Fail> {
     let alloc = rt.alloc();
     let mut wrong: Vec<Box<dyn Proposer>> = Vec::new(alloc);
-    wrong.push(Box::new(alloc, Short)?)?;
-    wrong.push(Box::new(alloc, Stranger)?)?;
-    wrong.push(Box::new(alloc, Crossed)?)?;
-    wrong.push(Box::new(alloc, Silent)?)?;
+    wrong.push(Box::new(alloc, Wrong::Short)?)?;
+    wrong.push(Box::new(alloc, Wrong::Stranger)?)?;
+    wrong.push(Box::new(alloc, Wrong::Crossed)?)?;
+    wrong.push(Box::new(alloc, Wrong::Silent)?)?;
     let in_time = found(alloc, &[0, 0], &[5, 10], None, &wrong, 20)?;
     assert_eq!(rt; in_time.as_str(), "0 1 ,0 1 ,");
     let late = found(alloc, &[0, 0], &[4, 4], None, &wrong, 20)?;
     assert_eq!(rt; late.as_str(), "Exhausted");
-    wrong.push(Box::new(alloc, Hungry)?)?;
+    wrong.push(Box::new(alloc, Wrong::Hungry)?)?;
     let hungry = found(alloc, &[0, 0], &[5, 10], None, &wrong, 20)?;
     assert_eq!(rt; hungry.as_str(), "Memory");
     Ok(())
 }
 
 #[test]
-fn asks_nobody_and_stops_at_want_of_memory(rt: HostRuntime) -> Result<(), Fail> {
+fn a_search_needs_no_proposer_and_stops_at_want_of_memory(rt: HostRuntime) -> Result<(), Fail> {
     let alloc = rt.alloc();
     let mut proposers: Vec<Box<dyn Proposer>> = Vec::new(alloc);
     let alone = found(alloc, &[0, 0], &[5, 10], None, &proposers, 0)?;
     assert_eq!(rt; alone.as_str(), "0 1 ,0 1 ,");
-    proposers.push(Box::new(alloc, Hungry)?)?;
+    proposers.push(Box::new(alloc, Wrong::Hungry)?)?;
     proposers.push(Box::new(alloc, ShiftProposer::new())?)?;
     let hungry = found(alloc, &[0, 0], &[5, 10], None, &proposers, 20)?;
     assert_eq!(rt; hungry.as_str(), "Memory");
@@ -287,7 +202,7 @@ fn asks_nobody_and_stops_at_want_of_memory(rt: HostRuntime) -> Result<(), Fail> 
 }
 
 #[test]
-fn goes_on_to_the_second_round(rt: HostRuntime) -> Result<(), Fail> {
+fn a_search_goes_on_to_the_second_round(rt: HostRuntime) -> Result<(), Fail> {
     let alloc = rt.alloc();
     let mut shift: Vec<Box<dyn Proposer>> = Vec::new(alloc);
     shift.push(Box::new(alloc, ShiftProposer::new())?)?;
@@ -300,13 +215,9 @@ fn goes_on_to_the_second_round(rt: HostRuntime) -> Result<(), Fail> {
 }
 
 #[test]
-fn shifts_the_jobs(rt: HostRuntime) -> Result<(), Fail> {
+fn the_shift_proposer_begins_each_round_at_another_job(rt: HostRuntime) -> Result<(), Fail> {
     let alloc = rt.alloc();
-    let shop = shop_of(
-        alloc,
-        2,
-        &[&[(0, 1)], &[(0, 1), (1, 1)], &[(1, 1)], &[(0, 1)]],
-    )?;
+    let shop = read_instance(alloc, b"\n4 2\n0 1\n0 1 1 1\n1 1\n0 1\n")?.shop;
     let rounds = [
         "0 1 3 ,1 2 ,",
         "1 3 0 ,1 2 ,",
@@ -322,25 +233,26 @@ fn shifts_the_jobs(rt: HostRuntime) -> Result<(), Fail> {
 }
 
 #[test]
-fn plans_greedily(rt: HostRuntime) -> Result<(), Fail> {
+fn the_greedy_proposer_orders_each_round_anew(rt: HostRuntime) -> Result<(), Fail> {
     let alloc = rt.alloc();
     let greedy = GreedyProposer::new();
     let two = greedy.propose(alloc, &two_jobs(alloc)?, 0)?;
     assert_eq!(rt; text_of(alloc, two)?.as_str(), "0 1 ,0 1 ,");
+    let shop = read_instance(alloc, FT06)?.shop;
     let rounds = [
         "0 2 1 3 4 5 ,1 0 2 3 4 5 ,0 2 1 4 3 5 ,2 0 1 5 3 4 ,1 2 0 4 3 5 ,2 1 0 4 5 3 ,",
         "0 2 5 1 3 4 ,1 5 0 2 3 4 ,2 0 1 5 4 3 ,2 5 0 1 3 4 ,1 2 5 0 4 3 ,2 5 1 0 4 3 ,",
         "3 2 5 0 4 1 ,3 5 4 2 0 1 ,2 4 3 0 5 1 ,2 5 3 4 0 1 ,4 2 5 3 0 1 ,2 5 4 3 0 1 ,",
     ];
     for (round, want) in rounds.iter().enumerate() {
-        let answer = greedy.propose(alloc, &ft06(alloc)?, round as u32)?;
+        let answer = greedy.propose(alloc, &shop, round as u32)?;
         assert_eq!(rt; text_of(alloc, answer)?.as_str(), *want);
     }
     Ok(())
 }
 
 #[test]
-fn takes_a_planner_of_ones_own(rt: HostRuntime) -> Result<(), Fail> {
+fn a_planner_of_ones_own_is_taken(rt: HostRuntime) -> Result<(), Fail> {
     let alloc = rt.alloc();
     let mut own: Vec<Box<dyn Proposer>> = Vec::new(alloc);
     own.push(Box::new(alloc, DescendingProposer)?)?;

@@ -1,4 +1,9 @@
-use shop_base::{JobNo, MachineNo, Moment, Node, Plan, Shop, Step, shape};
+//! Which routes are a shop, and which plans are well shaped for it.
+
+use crate::plans::{CLEANED, IN_SERIES, TWO, planned, two_jobs};
+use orlib_read::read_instance;
+use plan_text::{plan_document, read_plan};
+use shop_base::{MachineNo, Moment, Node, Shop, Step, shape};
 use std::alloc::{AllocError, Global};
 use std::process::Abort;
 use std::test::Fail;
@@ -15,37 +20,8 @@ fn routes(alloc: Global, rows: &[&[(MachineNo, Moment)]]) -> Result<Vec<Vec<Step
     Ok(routes)
 }
 
-fn plan(
-    alloc: Global,
-    release: &[Moment],
-    budget: &[Moment],
-    order: &[&[JobNo]],
-    clean: Option<&[Moment]>,
-) -> Result<Plan, AllocError> {
-    let mut orders = Vec::new(alloc);
-    for row in order {
-        orders.push(row.to_vec(alloc)?)?;
-    }
-    let clean = match clean {
-        Some(times) => Some(times.to_vec(alloc)?),
-        None => None,
-    };
-    Ok(Plan {
-        release: release.to_vec(alloc)?,
-        budget: budget.to_vec(alloc)?,
-        order: orders,
-        clean,
-    })
-}
-
-/// Two jobs on two machines, crossing: job 0 on machine 0 and then 1, job 1 the other way round.
-fn two_jobs(alloc: Global) -> Result<Shop, Fail> {
-    let shop = Shop::new(2, routes(alloc, &[&[(0, 3), (1, 2)], &[(1, 4), (0, 1)]])?)?;
-    Ok(shop)
-}
-
 #[test]
-fn tells_what_the_shop_is(rt: HostRuntime) -> Result<(), Fail> {
+fn a_shop_tells_its_size_its_work_and_its_routes(rt: HostRuntime) -> Result<(), Fail> {
     let shop = two_jobs(rt.alloc())?;
     assert_eq!(rt; shop.jobs(), 2);
     assert_eq!(rt; shop.machines(), 2);
@@ -69,7 +45,7 @@ fn shop_answer(
 }
 
 #[test]
-fn refuses_what_is_no_shop(rt: HostRuntime) -> Result<(), Fail> {
+fn what_is_no_shop_is_refused(rt: HostRuntime) -> Result<(), Fail> {
     let refusals: [(u32, &[&[(MachineNo, Moment)]], &str); 7] = [
         (1, &[], "NoJobs"),
         (0, &[&[(0, 1)]], "NoMachines"),
@@ -99,98 +75,84 @@ fn refuses_what_is_no_shop(rt: HostRuntime) -> Result<(), Fail> {
 }
 
 #[test]
-fn counts_the_reports_of_a_run(rt: HostRuntime) -> Result<(), Fail> {
-    let counts: [(Option<&[Moment]>, u64); 3] = [(None, 6), (Some(&[0, 2]), 8), (Some(&[0, 0]), 6)];
-    for (clean, count) in counts {
-        let plan = plan(rt.alloc(), &[0, 0], &[5, 12], &[&[0, 1], &[0, 1]], clean)?;
-        match shape(two_jobs(rt.alloc())?, plan) {
-            Ok(shaped) => assert_eq!(rt; shaped.report_count(), count),
-            Err(_) => panic!(rt; "the plan is refused"),
-        }
+fn the_reports_of_cleanings_are_counted(rt: HostRuntime) -> Result<(), Fail> {
+    let never =
+        b"version = 2\nrelease = [0, 0]\nbudget = [5, 12]\norder = [[0, 1], [0, 1]]\nclean = [0, 0]\n";
+    let counts: [(&[u8], u64); 3] = [(IN_SERIES, 6), (CLEANED, 8), (never, 6)];
+    for (plan, count) in counts {
+        assert_eq!(rt; planned(rt.alloc(), TWO, plan)?.report_count(), count);
     }
     Ok(())
 }
 
 /// The text of the fault that `shape` finds in a plan for the two jobs, empty for none; what it refuses
 /// comes back as it was.
-fn shape_answer(
-    rt: &(impl Abort + AllocGlobal),
-    release: &[Moment],
-    budget: &[Moment],
-    order: &[&[JobNo]],
-    clean: Option<&[Moment]>,
-) -> Result<String, Fail> {
-    match shape(
-        two_jobs(rt.alloc())?,
-        plan(rt.alloc(), release, budget, order, clean)?,
-    ) {
+fn shape_answer(rt: &(impl Abort + AllocGlobal), plan: &[u8]) -> Result<String, Fail> {
+    match shape(two_jobs(rt.alloc())?, read_plan(rt.alloc(), plan)?) {
         Ok(_) => Ok(String::new(rt.alloc())),
         Err(refused) => {
             assert_eq!(rt; refused.shop.work(), 10);
-            assert_eq!(rt; refused.plan.release.as_slice(), release);
-            assert_eq!(rt; refused.plan.budget.as_slice(), budget);
-            assert_eq!(rt; refused.plan.order.len(), order.len());
-            assert_eq!(rt; refused.plan.clean.is_some(), clean.is_some());
+            let document = plan_document(rt.alloc(), &refused.plan)?;
+            assert_eq!(rt; document.as_bytes(), plan);
             Ok(refused.fault.to_string(rt.alloc())?)
         }
     }
 }
 
 #[test]
-fn refuses_plans_with_other_counts_or_past_the_limits(rt: HostRuntime) -> Result<(), Fail> {
-    let answer = shape_answer(&rt, &[0], &[5], &[], None)?;
-    assert_eq!(rt; answer.as_str(), "ReleaseCount");
-    let answer = shape_answer(&rt, &[0, 0], &[5], &[], None)?;
-    assert_eq!(rt; answer.as_str(), "BudgetCount");
-    let answer = shape_answer(&rt, &[0, 0], &[5, 10], &[&[0, 1]], Some(&[]))?;
-    assert_eq!(rt; answer.as_str(), "OrderCount");
-    let answer = shape_answer(
-        &rt,
-        &[1_000_000_001, 0],
-        &[5, 10],
-        &[&[0, 1], &[0, 1]],
-        Some(&[0]),
-    )?;
-    assert_eq!(rt; answer.as_str(), "CleanCount");
-    let answer = shape_answer(
-        &rt,
-        &[0, 1_000_000_001],
-        &[1_000_000_000_001, 10],
-        &[&[0, 1], &[0, 1]],
-        None,
-    )?;
-    assert_eq!(rt; answer.as_str(), "ReleaseTooLarge job 1");
-    let answer = shape_answer(
-        &rt,
-        &[0, 0],
-        &[5, 1_000_000_000_001],
-        &[&[0, 1], &[0, 1]],
-        Some(&[1_000_001, 0]),
-    )?;
-    assert_eq!(rt; answer.as_str(), "BudgetTooLarge job 1");
-    let answer = shape_answer(&rt, &[0, 0], &[5, 10], &[&[2], &[]], Some(&[0, 1_000_001]))?;
-    assert_eq!(rt; answer.as_str(), "CleanTooLarge machine 1");
+fn plans_with_other_counts_or_past_the_limits_are_refused(rt: HostRuntime) -> Result<(), Fail> {
+    let refusals: [(&[u8], &str); 7] = [
+        (b"release = [0]\nbudget = [5]\norder = []\n", "ReleaseCount"),
+        (
+            b"release = [0, 0]\nbudget = [5]\norder = []\n",
+            "BudgetCount",
+        ),
+        (
+            b"version = 2\nrelease = [0, 0]\nbudget = [5, 10]\norder = [[0, 1]]\nclean = []\n",
+            "OrderCount",
+        ),
+        (
+            b"version = 2\nrelease = [1000000001, 0]\nbudget = [5, 10]\norder = [[0, 1], [0, 1]]\nclean = [0]\n",
+            "CleanCount",
+        ),
+        (
+            b"release = [0, 1000000001]\nbudget = [1000000000001, 10]\norder = [[0, 1], [0, 1]]\n",
+            "ReleaseTooLarge job 1",
+        ),
+        (
+            b"version = 2\nrelease = [0, 0]\nbudget = [5, 1000000000001]\norder = [[0, 1], [0, 1]]\nclean = [1000001, 0]\n",
+            "BudgetTooLarge job 1",
+        ),
+        (
+            b"version = 2\nrelease = [0, 0]\nbudget = [5, 10]\norder = [[2], []]\nclean = [0, 1000001]\n",
+            "CleanTooLarge machine 1",
+        ),
+    ];
+    for (plan, text) in refusals {
+        let answer = shape_answer(&rt, plan)?;
+        assert_eq!(rt; answer.as_str(), text);
+    }
     Ok(())
 }
 
 #[test]
-fn refuses_plans_with_other_orders(rt: HostRuntime) -> Result<(), Fail> {
-    let orders: [(&[&[JobNo]], &str); 7] = [
-        (&[&[0, 2], &[0, 1]], "JobOutOfRange machine 0 place 1"),
-        (&[&[0, 0], &[0, 1]], "JobTwice machine 0 place 1"),
-        (&[&[0, 1], &[0]], "JobMissing machine 1 job 1"),
-        (&[&[0, 1], &[1]], "JobMissing machine 1 job 0"),
-        (&[&[0], &[0, 0]], "JobMissing machine 0 job 1"),
-        (&[&[1, 1, 2], &[0, 1]], "JobTwice machine 0 place 1"),
-        (&[&[0, 1], &[0, 1]], ""),
+fn plans_with_other_orders_are_refused(rt: HostRuntime) -> Result<(), Fail> {
+    let orders = [
+        ("[[0, 2], [0, 1]]", "JobOutOfRange machine 0 place 1"),
+        ("[[0, 0], [0, 1]]", "JobTwice machine 0 place 1"),
+        ("[[0, 1], [0]]", "JobMissing machine 1 job 1"),
+        ("[[0, 1], [1]]", "JobMissing machine 1 job 0"),
+        ("[[0], [0, 0]]", "JobMissing machine 0 job 1"),
+        ("[[1, 1, 2], [0, 1]]", "JobTwice machine 0 place 1"),
+        ("[[0, 1], [0, 1]]", ""),
     ];
     for (order, text) in orders {
-        let answer = shape_answer(&rt, &[0, 0], &[5, 10], order, None)?;
+        let plan = format!(in rt.alloc(); "release = [0, 0]\nbudget = [5, 10]\norder = {order}\n")?;
+        let answer = shape_answer(&rt, plan.as_bytes())?;
         assert_eq!(rt; answer.as_str(), text);
     }
-    let shop = Shop::new(2, routes(rt.alloc(), &[&[(0, 3), (1, 2)], &[(1, 4)]])?)?;
-    let stranger = plan(rt.alloc(), &[0, 0], &[5, 10], &[&[0, 1], &[0, 1]], None)?;
-    match shape(shop, stranger) {
+    let named = read_instance(rt.alloc(), b"\n2 2\n0 3 1 2\n1 4\n")?;
+    match shape(named.shop, read_plan(rt.alloc(), IN_SERIES)?) {
         Ok(_) => panic!(rt; "the plan is taken"),
         Err(refused) => {
             let answer = refused.fault.to_string(rt.alloc())?;
@@ -201,38 +163,30 @@ fn refuses_plans_with_other_orders(rt: HostRuntime) -> Result<(), Fail> {
 }
 
 #[test]
-fn takes_what_just_keeps_the_limits(rt: HostRuntime) -> Result<(), Fail> {
+fn what_just_keeps_the_limits_is_taken(rt: HostRuntime) -> Result<(), Fail> {
     let answer = shop_answer(rt.alloc(), 100, &[&[(99, 1_000_000), (0, 1)]])?;
     assert_eq!(rt; answer.as_str(), "");
-    let answer = shape_answer(
-        &rt,
-        &[0, 1_000_000_000],
-        &[5, 1_000_000_000_000],
-        &[&[0, 1], &[0, 1]],
-        Some(&[0, 1_000_000]),
-    )?;
+    let plan =
+        b"version = 2\nrelease = [0, 1000000000]\nbudget = [5, 1000000000000]\norder = [[0, 1], [0, 1]]\nclean = [0, 1000000]\n";
+    let answer = shape_answer(&rt, plan)?;
     assert_eq!(rt; answer.as_str(), "");
     Ok(())
 }
 
 #[test]
-fn gives_the_shop_and_the_plan_back(rt: HostRuntime) -> Result<(), Fail> {
-    let plan = plan(
-        rt.alloc(),
-        &[0, 7],
-        &[5, 10],
-        &[&[0, 1], &[1, 0]],
-        Some(&[0, 2]),
-    )?;
-    match shape(two_jobs(rt.alloc())?, plan) {
-        Ok(shaped) => {
-            assert_eq!(rt; shaped.plan().release.as_slice(), [0, 7].as_slice());
-            let (shop, plan) = shaped.into_parts();
-            assert_eq!(rt; shop.work(), 10);
-            assert_eq!(rt; plan.budget.as_slice(), [5, 10].as_slice());
-        }
-        Err(_) => panic!(rt; "the plan is refused"),
-    }
+fn the_shop_and_the_plan_come_back(rt: HostRuntime) -> Result<(), Fail> {
+    let plan =
+        b"version = 2\nrelease = [0, 7]\nbudget = [5, 10]\norder = [[0, 1], [1, 0]]\nclean = [0, 2]\n";
+    let shaped = planned(rt.alloc(), TWO, plan)?;
+    assert_eq!(rt; shaped.plan().release.as_slice(), [0, 7].as_slice());
+    let (shop, plan) = shaped.into_parts();
+    assert_eq!(rt; shop.work(), 10);
+    assert_eq!(rt; plan.budget.as_slice(), [5, 10].as_slice());
+    Ok(())
+}
+
+#[test]
+fn a_node_is_written_as_its_job_and_place(rt: HostRuntime) -> Result<(), Fail> {
     assert_eq!(rt;
         format!(in rt.alloc(); "{}", Node { job: 1, place: 2 })?.as_str(),
         "1.2"

@@ -1,6 +1,8 @@
-use crate::plans::{cleaned, crossed, in_series, orders, planned, routes};
+//! What the solver of the alternative graph finds.
+
+use crate::plans::{CLEANED, CROSSED, IN_SERIES, TWO, planned};
 use alt_graph::{Solved, Times, solve};
-use shop_base::{Moment, Node, Plan, Shaped, Shop, Step};
+use shop_base::{Moment, Node, Plan, Shaped, Shop, Step, shape};
 use std::alloc::Global;
 use std::test::Fail;
 
@@ -28,8 +30,8 @@ const NODES: [Node; 6] = [
 ];
 
 #[test]
-fn tells_the_times_of_two_jobs_in_series(rt: HostRuntime) -> Result<(), Fail> {
-    let shaped = in_series(rt.alloc())?;
+fn two_jobs_in_series_have_their_times(rt: HostRuntime) -> Result<(), Fail> {
+    let shaped = planned(rt.alloc(), TWO, IN_SERIES)?;
     let times = ordered(rt.alloc(), &shaped)?.ok_or("a cycle")?;
     let earliest: [Moment; 6] = [0, 3, 5, 5, 9, 10];
     for (i, moment) in earliest.iter().enumerate() {
@@ -48,7 +50,7 @@ fn tells_the_times_of_two_jobs_in_series(rt: HostRuntime) -> Result<(), Fail> {
 
 #[test]
 fn ranks_rise_along_the_arcs(rt: HostRuntime) -> Result<(), Fail> {
-    let shaped = in_series(rt.alloc())?;
+    let shaped = planned(rt.alloc(), TWO, IN_SERIES)?;
     let times = ordered(rt.alloc(), &shaped)?.ok_or("a cycle")?;
     let arcs = [(0, 1), (1, 2), (3, 4), (4, 5), (1, 4), (2, 3)];
     for (from, to) in arcs {
@@ -58,29 +60,20 @@ fn ranks_rise_along_the_arcs(rt: HostRuntime) -> Result<(), Fail> {
 }
 
 #[test]
-fn finds_the_cycle_of_crossed_orders(rt: HostRuntime) -> Result<(), Fail> {
-    let shaped = crossed(rt.alloc())?;
+fn crossed_orders_have_a_cycle(rt: HostRuntime) -> Result<(), Fail> {
+    let shaped = planned(rt.alloc(), TWO, CROSSED)?;
     let nodes = cycle(rt.alloc(), &shaped)?.ok_or("no cycle")?;
     assert_eq!(rt; nodes.as_slice(), [NODES[1], NODES[4]].as_slice());
     Ok(())
 }
 
 #[test]
-fn finds_the_cycle_of_a_ring(rt: HostRuntime) -> Result<(), Fail> {
-    let shop = Shop::new(
-        3,
-        routes(
-            rt.alloc(),
-            &[&[(0, 1), (1, 1)], &[(1, 1), (2, 1)], &[(2, 1), (0, 1)]],
-        )?,
+fn three_jobs_in_a_ring_have_a_cycle(rt: HostRuntime) -> Result<(), Fail> {
+    let shaped = planned(
+        rt.alloc(),
+        b"ring\n3 3\n0 1 1 1\n1 1 2 1\n2 1 0 1\n",
+        b"release = [0, 0, 0]\nbudget = [100, 100, 100]\norder = [[0, 2], [1, 0], [2, 1]]\n",
     )?;
-    let plan = Plan {
-        release: [0, 0, 0].to_vec(rt.alloc())?,
-        budget: [100, 100, 100].to_vec(rt.alloc())?,
-        order: orders(rt.alloc(), &[&[0, 2], &[1, 0], &[2, 1]])?,
-        clean: None,
-    };
-    let shaped = planned(shop, plan)?;
     let nodes = cycle(rt.alloc(), &shaped)?.ok_or("no cycle")?;
     let ring = [
         Node { job: 0, place: 1 },
@@ -93,7 +86,7 @@ fn finds_the_cycle_of_a_ring(rt: HostRuntime) -> Result<(), Fail> {
 
 #[test]
 fn cleaning_delays_the_second_job(rt: HostRuntime) -> Result<(), Fail> {
-    let shaped = cleaned(rt.alloc())?;
+    let shaped = planned(rt.alloc(), TWO, CLEANED)?;
     let times = ordered(rt.alloc(), &shaped)?.ok_or("a cycle")?;
     assert_eq!(rt; times.earliest(NODES[2]), Some(5));
     assert_eq!(rt; times.earliest(NODES[5]), Some(12));
@@ -130,11 +123,14 @@ fn crowd(alloc: Global) -> Result<Shaped, Fail> {
         order,
         clean: None,
     };
-    planned(Shop::new(100, routes)?, plan)
+    match shape(Shop::new(100, routes)?, plan) {
+        Ok(shaped) => Ok(shaped),
+        Err(refused) => Err(refused.fault.into()),
+    }
 }
 
 #[test]
-fn solves_a_plan_at_the_limits(rt: HostRuntime) -> Result<(), Fail> {
+fn a_plan_at_the_limits_is_solved(rt: HostRuntime) -> Result<(), Fail> {
     let shaped = crowd(rt.alloc())?;
     let times = ordered(rt.alloc(), &shaped)?.ok_or("a cycle")?;
     let last = Node {
