@@ -8,10 +8,11 @@ use Rattle.cell_control.specs.declared.report.Ack.{Ack}
 use Rattle.cell_control.specs.Control.{Control}
 use Rattle.cell_hub.specs.declared.hub_fault.HubFault.{HubFault}
 use Rattle.cell_hub.specs.declared.hub_fault.HubFault.TheVariants.{NoSuchCell, SerialsSpent, Memory, Cell}
+use Rattle.cell_hub.specs.RefusalNames.{refusal_name}
 use Rattle.cell_drive.specs.Answering.{WasAnswered}
 use Rattle.cell_drive.specs.AnswerLines.{refused_line}
 use Rattle.cell_drive.specs.CellLines.{IsCellReport, IsNoCellReport, cell_prefix}
-use Rattle.cell_drive.specs.ManyCells.{CellsAnswer, accepted_lines, fault_name}
+use Rattle.cell_drive.specs.ManyCells.{CellsAnswer, accepted_lines}
 use Rattle.cell_drive.specs.ManyCells as answer
 use Rattle.cell_drive.specs.NumberedCells.{IsReportedOn}
 
@@ -34,7 +35,7 @@ pub answer_bad : (cells : List Control) (number : ℕ) (line text : List ℕ) �
 answer_bad cells number line text some no_report is = subst (λ (t : List ℕ). CellsAnswer cells number (Some line) t cells) (sym is) (answer.no_report line some no_report)
 
 pub answer_refused : (cells new : List Control) (number : ℕ) (line text : List ℕ) (cell : ℕ) (report : Report) (fault : HubFault) → IsCellReport line cell report
-    → IsReportedOn cells cell report (Err fault) new → text ≡ refused_line number (fault_name fault) → CellsAnswer cells number (Some line) text new
+    → IsReportedOn cells cell report (Err fault) new → text ≡ refused_line number (refusal_name fault) → CellsAnswer cells number (Some line) text new
 answer_refused cells new number line text cell report NoSuchCell is_line told is =
     subst (λ (t : List ℕ). CellsAnswer cells number (Some line) t new) (sym is)
     (subst (CellsAnswer cells number (Some line) (refused_line number (codes "NoSuchCell"))) (sym told.1) (answer.no_cell line cell report is_line told.0))
@@ -42,7 +43,7 @@ answer_refused cells new number line text cell report SerialsSpent is_line told 
 answer_refused cells new number line text cell report Memory is_line told is = absurd told
 answer_refused cells new number line text cell report (Cell reason) is_line told is =
     subst (λ (t : List ℕ). CellsAnswer cells number (Some line) t new) (sym is)
-    (subst (CellsAnswer cells number (Some line) (refused_line number (fault_name (Cell reason)))) (sym told.3) (answer.refused line cell report told.0 reason is_line told.1 told.2))
+    (subst (CellsAnswer cells number (Some line) (refused_line number (refusal_name (Cell reason)))) (sym told.3) (answer.refused line cell report told.0 reason is_line told.1 told.2))
 
 set_there : (cells : List Control) (k : ℕ) (before after : Control) → slice_get cells k ≡ Some before → slice_get (set cells k after) k ≡ Some after
 set_there [] k before after found = absurd (cc)

@@ -7,7 +7,7 @@ use Rattle.cell_drive.specs.declared.drive_fault.DriveFault.{DriveFault}
 use Rattle.cell_drive.specs.declared.drive_fault.DriveFault.TheVariants.{Read, Write, InputTooLong, Memory}
 use Rattle.cell_drive.specs.Holding.{ended, held_after}
 use Rattle.cell_drive.specs.Answering.{AnswerAll}
-use Rattle.cell_drive.specs.Reading.{IsPieceAnswered, IsPartTold, IsTaken, IsDrained}
+use Rattle.cell_drive.specs.Reading.{IsPieceAnswered, IsPartTold, IsReadTaken, IsDrained}
 use Rattle.cell_drive.proofs.Held.{ended-append, held_after-append, length-ended}
 use Rattle.cell_drive.proofs.Told.{AnswerAll-append}
 use Rattle.cell_drive.proofs.Taking.{TookPart-more}
@@ -94,7 +94,7 @@ module _ {S : Type 0} (answers : S → ℕ → Option (List ℕ) → List ℕ �
 
     -- a piece was read and answered
     pub Draining-more : (rest : ℕ) (end : S) (lines_then : ℕ) (held_then after : Option (List ℕ)) (failed : Bool)
-        → IsTaken (Ok rest) answers now lines held piece left end lines_then held_then failed middle after
+        → IsReadTaken (Ok rest) answers now lines held piece left end lines_then held_then failed middle after
         → Draining answers start end lines_then held_then rest left_before left_then before after
     Draining-more rest end lines_then held_then after failed taken =
         let count = so_far.count in
@@ -108,7 +108,7 @@ module _ {S : Type 0} (answers : S → ℕ → Option (List ℕ) → List ℕ �
 
     -- a piece was read, and a write failed, or it went past the limit
     pub Draining-failed : {T : Type 0} (e : DriveFault) (end : S) (lines_then : ℕ) (held_then after : Option (List ℕ)) (read_failed failed : Bool)
-        → IsTaken (Err e) answers now lines held piece left end lines_then held_then failed middle after
+        → IsReadTaken (Err e) answers now lines held piece left end lines_then held_then failed middle after
         → IsDrained {T = T} (Err e) answers start end lines_then held_then read_failed left_before left_then failed before after
     Draining-failed Read end lines_then held_then after read_failed failed taken = absurd taken
     Draining-failed Memory end lines_then held_then after read_failed failed taken = absurd taken

@@ -15,12 +15,13 @@ use Rattle.cell_drive.specs.declared.drive_fault.DriveFault.{DriveFault}
 use Rattle.cell_drive.specs.declared.drive_fault.DriveFault.TheVariants.{Read, Write, InputTooLong, Memory}
 use Rattle.cell_drive.specs.Answering.{AnswerAll}
 use Rattle.cell_drive.specs.Streams.{AreAnswered, IsPartAnswered, IsStreamed}
-use Rattle.cell_drive.specs.DrivenLines.{LineAnswer}
-use Rattle.cell_drive.specs.Driven.{DriveState, IsDriven, DriveAnswer, ControlEnds, drive_start}
-use Rattle.cell_drive.specs.AnswerText.{DrivenCell, undriven, CellAnswers, CellEnds, AreAnswersTo}
-use Rattle.cell_drive.specs.Driving.{cell_after, IsDrivenThrough, WereAnswersWritten, IsBrokenOff, IsRunOf, IsSoFar, HasRoom, NeverWentWrong}
+use Rattle.cell_drive.specs.DrivenLines.{LineAnswer, closing_line}
+use Rattle.cell_drive.specs.Driven.{DriveState, IsDriven, DriveAnswer, ControlCloses, drive_start}
+use Rattle.cell_drive.specs.AnswerText.{DrivenCell, undriven, CellAnswers, CellCloses, AreAnswersTo}
+use Rattle.cell_drive.specs.Driving.{cell_after, IsDrivenThrough, WereAnswersWritten, IsBrokenOff, IsRunOf, IsSoFar, IsNeverFull, NeverWentWrong}
 use Rattle.run_log.specs.Log.{Noted}
-use Rattle.cell_drive.proofs.DrivenRuns.{driven-has_room}
+use Rattle.cell_drive.proofs.Closing.{closing_line_is}
+use Rattle.cell_drive.proofs.DrivenRuns.{driven-never_full}
 use Rattle.cell_drive.proofs.PromisesKept.{never_went_wrong}
 
 -- the cell and the log of a driven cell
@@ -46,11 +47,11 @@ seen_answers p (line ∷ lines) s e number text of_plan all =
     let rest = seen_answers p lines next e (number + 1) all.1 (ap (λ (v : VerifiedPlan). v.planned) plan_is ∙ of_plan) all.4 in
     ((all.0, all.1, seen next, seen_answer p s next number line all.0 of_plan all.3, rest.0, all.5), rest.1 ∙ plan_is)
 
-seen_ends : (p : PlannedShop) (s : DriveState) (text : List ℕ) → s.control.plan.planned ≡ p → ControlEnds s.control text → CellEnds p (seen s) text
-seen_ends p s text of_plan ends = subst (λ q. CellEnds q (seen s) text) of_plan ends
+seen_closes : (p : PlannedShop) (s : DriveState) (text : List ℕ) → s.control.plan.planned ≡ p → ControlCloses s.control text → CellCloses p (seen s) text
+seen_closes p s text of_plan closes = subst (λ q. CellCloses q (seen s) text) of_plan closes
 
-abbrev the_ends : DriveState → List ℕ → Type 0
-the_ends s = ControlEnds s.control
+abbrev the_closing : DriveState → List ℕ → Type 0
+the_closing s = ControlCloses s.control
 
 -- the cell of a driven cell is that after its log
 module _ (s : DriveState) (driven : IsDriven s) where
@@ -59,6 +60,11 @@ module _ (s : DriveState) (driven : IsDriven s) where
 
   pub cell_is : s.control.cell ≡ cell_after p s.log.entries
   cell_is = (controlled_to_run p driven.reports (events_of s.log.entries) s.control.cell driven.verified.schedule.shaped driven.run).1
+
+  pub closes : ControlCloses s.control (closing_line p s.control.cell)
+  closes =
+      let (run, leads, sound, rest) = controlled_to_run p driven.reports (events_of s.log.entries) s.control.cell driven.verified.schedule.shaped driven.run in
+      closing_line_is p s.control.cell driven.verified.schedule.shaped sound rest
 
   pub run_of : IsRunOf p s.log.entries
   run_of = (driven.reports, subst (λ c. IsControlledRun p driven.reports (events_of s.log.entries) c) cell_is driven.run)
@@ -77,7 +83,7 @@ module _ (s : DriveState) (driven : IsDriven s) where
 
 -- the whole input was read and answered
 through : {T : Type 0} (v : VerifiedPlan) (x : T) (e : DriveState) (read_failed write_failed : Bool) (left_before left_after before after : Option (List ℕ))
-    → IsStreamed {T = T} (Ok x) DriveAnswer the_ends (drive_start v) e read_failed left_before left_after write_failed before after → IsDriven e
+    → IsStreamed {T = T} (Ok x) DriveAnswer the_closing (drive_start v) e read_failed left_before left_after write_failed before after → IsDriven e
     → IsDrivenThrough v.planned e.log.entries left_before left_after before after × (e.control.plan ≡ v)
 through v x e read_failed write_failed left_before left_after before after streamed driven =
     let all = streamed.comes_to in
@@ -96,7 +102,7 @@ through v x e read_failed write_failed left_before left_after before after strea
           answers = all.text;
           are_answers = subst (AreAnswersTo v.planned _ all.text) end_is answers.0;
           closing = all.closing;
-          is_end = subst (λ d. CellEnds v.planned d all.closing) end_is (seen_ends v.planned e all.closing same_plan all.is_end);
+          is_closing = subst (λ d. CellCloses v.planned d all.closing) end_is (seen_closes v.planned e all.closing same_plan all.is_closing);
           whole = refl;
         };
         written = all.written;
@@ -105,14 +111,14 @@ through v x e read_failed write_failed left_before left_after before after strea
     )
 
 pub driven_through : {T : Type 0} (v : VerifiedPlan) (x : T) (s e : DriveState) (read_failed write_failed : Bool) (left_before left_after before after : Option (List ℕ)) → s ≡ drive_start v
-    → IsStreamed {T = T} (Ok x) DriveAnswer the_ends s e read_failed left_before left_after write_failed before after → IsDriven e
+    → IsStreamed {T = T} (Ok x) DriveAnswer the_closing s e read_failed left_before left_after write_failed before after → IsDriven e
     → IsDrivenThrough v.planned e.log.entries left_before left_after before after × (e.control.plan ≡ v)
 driven_through {T} v x s e read_failed write_failed left_before left_after before after at_first streamed driven =
     through v x e read_failed write_failed left_before left_after before after
-    (subst (λ d. IsStreamed {T = T} (Ok x) DriveAnswer the_ends d e read_failed left_before left_after write_failed before after) at_first streamed) driven
+    (subst (λ d. IsStreamed {T = T} (Ok x) DriveAnswer the_closing d e read_failed left_before left_after write_failed before after) at_first streamed) driven
 
 seen_part : (v : VerifiedPlan) (input : List ℕ) (before after : Option (List ℕ))
-    → IsPartAnswered DriveAnswer the_ends (drive_start v) input before after → IsPartAnswered (CellAnswers v.planned) (CellEnds v.planned) (undriven v.planned) input before after
+    → IsPartAnswered DriveAnswer the_closing (drive_start v) input before after → IsPartAnswered (CellAnswers v.planned) (CellCloses v.planned) (undriven v.planned) input before after
 seen_part v input before after part =
     let answers = seen_answers v.planned part.told (drive_start v) part.state 1 part.text refl part.are_answers in
     let same_plan = ap (λ (w : VerifiedPlan). w.planned) answers.1 in
@@ -124,9 +130,9 @@ seen_part v input before after part =
       state = seen part.state;
       are_answers = answers.0;
       closing = part.closing;
-      is_end = elim part.is_end [
+      is_closing = elim part.is_closing [
         | inl none ↦ inl none
-        | inr ends ↦ inr (ends.0, seen_ends v.planned part.state part.closing same_plan ends.1)
+        | inr closes ↦ inr (closes.0, seen_closes v.planned part.state part.closing same_plan closes.1)
       ];
       written = part.written;
     }
@@ -138,7 +144,7 @@ seen_written v lines e before after all =
 
 -- it was broken off
 off : {T : Type 0} (v : VerifiedPlan) (fault : DriveFault) (e : DriveState) (read_failed write_failed : Bool) (left_before left_after before after : Option (List ℕ))
-    → IsStreamed {T = T} (Err fault) DriveAnswer the_ends (drive_start v) e read_failed left_before left_after write_failed before after
+    → IsStreamed {T = T} (Err fault) DriveAnswer the_closing (drive_start v) e read_failed left_before left_after write_failed before after
     → (input : List ℕ) × Consumes left_before left_after input × IsBrokenOff fault v.planned input read_failed write_failed before after
 off v Read e read_failed write_failed left_before left_after before after streamed =
     let told = streamed.comes_to in (streamed.input, streamed.was_read, (told.0, told.1, seen_written v _ e before after told.2))
@@ -149,16 +155,16 @@ off v InputTooLong e read_failed write_failed left_before left_after before afte
 off v Memory e read_failed write_failed left_before left_after before after streamed = absurd streamed.comes_to
 
 pub broken_off : {T : Type 0} (v : VerifiedPlan) (fault : DriveFault) (s e : DriveState) (read_failed write_failed : Bool) (left_before left_after before after : Option (List ℕ)) → s ≡ drive_start v
-    → IsStreamed {T = T} (Err fault) DriveAnswer the_ends s e read_failed left_before left_after write_failed before after
+    → IsStreamed {T = T} (Err fault) DriveAnswer the_closing s e read_failed left_before left_after write_failed before after
     → (input : List ℕ) × Consumes left_before left_after input × IsBrokenOff fault v.planned input read_failed write_failed before after
 broken_off {T} v fault s e read_failed write_failed left_before left_after before after at_first streamed =
     off v fault e read_failed write_failed left_before left_after before after
-    (subst (λ d. IsStreamed {T = T} (Err fault) DriveAnswer the_ends d e read_failed left_before left_after write_failed before after) at_first streamed)
+    (subst (λ d. IsStreamed {T = T} (Err fault) DriveAnswer the_closing d e read_failed left_before left_after write_failed before after) at_first streamed)
 
 -- what is said of a driven cell is said of the plan that it was made of
-pub room_of : (v : VerifiedPlan) (e : DriveState) (log : Noted) → IsDriven e → e.control.plan ≡ v → log ≡ e.log → HasRoom v.planned log
-room_of v e log driven plan_is log_is =
-    subst (λ (l : Noted). HasRoom v.planned l) (sym log_is) (subst (λ (w : VerifiedPlan). HasRoom w.planned e.log) plan_is (driven-has_room e driven))
+pub never_full_of : (v : VerifiedPlan) (e : DriveState) (log : Noted) → IsDriven e → e.control.plan ≡ v → log ≡ e.log → IsNeverFull v.planned log
+never_full_of v e log driven plan_is log_is =
+    subst (λ (l : Noted). IsNeverFull v.planned l) (sym log_is) (subst (λ (w : VerifiedPlan). IsNeverFull w.planned e.log) plan_is (driven-never_full e driven))
 
 pub of_plan : (v : VerifiedPlan) (e : DriveState) (entries : List Entry) (is_done : Bool) (last left : ℕ) → IsDriven e → e.control.plan ≡ v → entries ≡ e.log.entries → IsSoFar e.control.plan.planned e.log.entries is_done last left
     → IsRunOf v.planned entries × IsSoFar v.planned entries is_done last left × NeverWentWrong v entries

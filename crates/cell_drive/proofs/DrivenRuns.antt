@@ -19,7 +19,7 @@ use Rattle.run_log.specs.declared.entry.Entry.TheVariants.{Report as ReportEntry
 use Rattle.run_log.specs.Log.{Noted, Notes}
 use Rattle.run_log.specs.Events.{events_of}
 use Rattle.run_log.proofs.Audits.{events-join}
-use Rattle.cell_drive.specs.Driving.{HasRoom}
+use Rattle.cell_drive.specs.Driving.{IsNeverFull}
 use Rattle.cell_drive.specs.Driven.{DriveState, drive_start, IsDriven}
 
 pub events-orders : (os : List MoveOrder) → events_of (map OrderEntry os) ≡ moved os
@@ -55,8 +55,8 @@ starts_driven v control log verified at_first none =
     (subst (λ (k : Control). IsDriven (record { control = k; log = record { entries = []; reserved = 2 * stated_number v.planned } })) (sym at_first) nothing)
 
 -- its log has room
-pub driven-has_room : (s : DriveState) → IsDriven s → HasRoom s.control.plan.planned s.log
-driven-has_room s driven =
+pub driven-never_full : (s : DriveState) → IsDriven s → IsNeverFull s.control.plan.planned s.log
+driven-never_full s driven =
     let p = s.control.plan.planned in
     let shaped = driven.verified.schedule.shaped in
     let reports = (ends_on_the_stated_number-holds p driven.reports (events_of s.log.entries) s.control.cell shaped driven.run).0 in

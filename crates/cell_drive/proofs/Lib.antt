@@ -21,6 +21,6 @@ pub mod CellReports
 pub mod Numbering
 pub mod CellTexts
 pub mod CellsAnswers
-pub mod CellsEnds
+pub mod Closing
 pub mod CellsDriven
 pub mod OneCellsText

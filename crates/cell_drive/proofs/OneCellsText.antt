@@ -1,8 +1,6 @@
 -- An input of several cells has one answer text.
 use Rattle.std.proofs.Common.{◌≡◌, ℕ, zero, suc, ◌+◌, List, [], ◌∷◌, ◌++◌, set, map, Option, Some, None, Bool, true, false, not, ◌&&◌, codes, refl, sym, ap, ◌∙◌, subst, inl, inr, ◌⊎◌, ◌↔◌}
 use Rattle.std.specs.Prelude.{slice_get}
-use Rattle.text_lines.specs.Numbers.{value_of}
-use Rattle.text_lines.proofs.FirstWords.{no_space, same_cut}
 use Rattle.shop_base.specs.Plan.{IsWellShaped}
 use Rattle.shop_base.specs.Cell.{Cell}
 use Rattle.shop_base.specs.Report as base
@@ -24,14 +22,13 @@ use Rattle.cell_control.proofs.Reasons.{reason-cannot}
 use Rattle.cell_drive.specs.Lines.{input_lines}
 use Rattle.cell_drive.specs.Answering.{AnswerAll}
 use Rattle.cell_drive.specs.AnswerLines.{refused_line}
-use Rattle.cell_drive.specs.InputLines.{IsReportLine}
 use Rattle.cell_drive.specs.CellLines.{IsCellReport, IsNoCellReport, cell_prefix}
-use Rattle.cell_drive.specs.ManyCells.{CellsAnswer, CellsEnd, accepted_lines, too_long, empty, no_report, no_cell, refused, accepted}
+use Rattle.cell_drive.specs.ManyCells.{CellsAnswer, CellsClose, accepted_lines, too_long, empty, no_report, no_cell, refused, accepted}
 use Rattle.cell_drive.specs.CellsTextLaw.{AreVerified, OneCellsTextForLines, OneCellsAnswerText}
 use Rattle.cell_drive.proofs.Numbering.{no_content}
-use Rattle.cell_drive.proofs.OneReport.{one_report}
+use Rattle.cell_drive.proofs.CellReports.{one_cell_report}
 use Rattle.cell_drive.proofs.OneReason.{one_name}
-use Rattle.cell_drive.proofs.OneText.{one_end}
+use Rattle.cell_drive.proofs.OneText.{one_closing}
 
 -- a cell by a well-shaped plan, as it can be in a run, and at rest
 record Keeps (v : Control) : Type 0 where
@@ -99,12 +96,6 @@ one_answered before after other r ack again keeps is also =
           (also.punctual ∙ ap (λ l. before.punctual && not l) late ∙ sym is.punctual),
     )
 
--- a line is a report on one cell at most
-one_cell_report : (line : List ℕ) (cell other_cell : ℕ) (report other : Report) → IsCellReport line cell report → IsCellReport line other_cell other → (other_cell ≡ cell) × (other ≡ report)
-one_cell_report line cell other_cell report other is also =
-    let same = same_cut is.1.0 also.1.0 is.0 also.0 (no_space is.1.0 is.1.1.digits) (no_space also.1.0 also.1.1.digits) (sym is.1.2 ∙ also.1.2) in
-    (also.1.1.value ∙ ap value_of (sym same.0) ∙ sym is.1.1.value, one_report is.0 report other is.2 (subst (λ w. IsReportLine w other) (sym same.1) also.2))
-
 some_bytes : (word rest : List ℕ) → [] ≡ word ++ 32 ∷ rest → ⊥
 some_bytes [] rest none = absurd (cc)
 some_bytes (b ∷ word) rest none = absurd (cc)
@@ -156,7 +147,7 @@ module _ (cells : List Control) (number : ℕ) where
       (IsNoCellReport (b ∷ line) × (text ≡ refused_line number (codes "BadLine")) × (end ≡ cells)) ⊎ IsTold (b ∷ line) text end
 
   told : (line text : List ℕ) (end : List Control) → IsTold line text end → AnswerTo (Some line) text end
-  told [] text end is = absurd (some_bytes is.2.1.0 is.2.0 is.2.1.2)
+  told [] text end is = absurd (some_bytes is.2.1.word is.2.0 is.2.1.split)
   told (b ∷ line) text end is = inr is
 
   answer_to : (line : Option (List ℕ)) (text : List ℕ) (end : List Control) → CellsAnswer cells number line text end → AnswerTo line text end
@@ -210,15 +201,15 @@ one_text (line ∷ lines) cells end last number text other keep all also =
 pub one_cells_text_for_lines : OneCellsTextForLines
 one_cells_text_for_lines plans lines text other end last verified all also = one_text lines (map at_start plans) end last 1 text other (starts_keep plans verified) all also
 
-one_closing : (cells : List Control) (number : ℕ) (text other : List ℕ) → CellsEnd number cells text → CellsEnd number cells other → other ≡ text
-one_closing [] number text other is also = also ∙ sym is
-one_closing (v ∷ cells) number text other is also =
-    let line = one_end v.plan.planned (record { cell = v.cell; entries = [] }) is.0 also.0 is.2 also.2 in
-    let rest = one_closing cells (suc number) is.1 also.1 is.3 also.3 in
+one_closing_text : (cells : List Control) (number : ℕ) (text other : List ℕ) → CellsClose number cells text → CellsClose number cells other → other ≡ text
+one_closing_text [] number text other is also = also ∙ sym is
+one_closing_text (v ∷ cells) number text other is also =
+    let line = one_closing v.plan.planned (record { cell = v.cell; entries = [] }) is.0 also.0 is.2 also.2 in
+    let rest = one_closing_text cells (suc number) is.1 also.1 is.3 also.3 in
     also.4 ∙ ap (λ (l : List ℕ). (cell_prefix number ++ l) ++ also.1) line ∙ ap (λ (t : List ℕ). (cell_prefix number ++ is.0) ++ t) rest ∙ sym is.4
 
 pub one_cells_answer_text : OneCellsAnswerText
 one_cells_answer_text plans input text other end last verified is also =
     let one = one_cells_text_for_lines plans (input_lines input) is.answers also.answers end last verified is.are_answers also.are_answers in
-    let closing = one_closing end 0 is.closing also.closing is.is_end (subst (λ (s : List Control). CellsEnd 0 s also.closing) one.1 also.is_end) in
+    let closing = one_closing_text end 0 is.closing also.closing is.is_closing (subst (λ (s : List Control). CellsClose 0 s also.closing) one.1 also.is_closing) in
     (also.whole ∙ ap (λ (t : List ℕ). t ++ also.closing) one.0 ∙ ap (λ (t : List ℕ). is.answers ++ t) closing ∙ sym is.whole, one.1)

@@ -15,14 +15,14 @@ use Rattle.cell_control.specs.ReasonNames.{reason_name}
 use Rattle.cell_control.specs.Reports.{said, IsFirstReason}
 use Rattle.cell_control.proofs.Reasons.{reason-cannot}
 use Rattle.run_log.specs.declared.entry.Entry.{Entry}
-use Rattle.run_log.specs.declared.entry.Entry.TheVariants.{Report as Reported, Order as Ordered}
+use Rattle.run_log.specs.declared.entry.Entry.TheVariants.{Report as ReportEntry, Order as OrderEntry}
 use Rattle.run_log.specs.EventLines.{report_line}
 use Rattle.cell_drive.specs.Lines.{input_lines}
 use Rattle.cell_drive.specs.Answering.{AnswerAll}
 use Rattle.cell_drive.specs.AnswerLines.{refused_line, order_lines}
 use Rattle.cell_drive.specs.InputLines.{IsReportLine, IsNoReport}
 use Rattle.cell_drive.specs.DrivenLines.{LineAnswer, IsLateText, too_long, empty, no_report, refused, accepted}
-use Rattle.cell_drive.specs.AnswerText.{DrivenCell, undriven, CellAnswers, CellEnds}
+use Rattle.cell_drive.specs.AnswerText.{DrivenCell, undriven, CellAnswers, CellCloses}
 use Rattle.cell_drive.specs.OneTextLaw.{OneAnswerText, OneTextForLines}
 use Rattle.cell_drive.proofs.OneReport.{one_report, some_line}
 use Rattle.cell_drive.proofs.OneReason.{one_name}
@@ -86,7 +86,7 @@ module _ (p : PlannedShop) (c : Cell) (number : ℕ) (shaped : IsWellShaped p) (
   once_accepted : (line : Option (List ℕ)) (text : List ℕ) (entries : List Entry) (end : Cell) (bytes : List ℕ) (told : Report) (js : List ℕ) (late_part : List ℕ)
       → IsReportLine bytes told → IsStep p c (said told) js → IsLateText p c (said told) late_part → line ≡ Some bytes
       → LineAnswer p c number line text entries end
-      → IsOne (report_line told ++ (late_part ++ order_lines (step_orders p c (said told) js))) text (Reported told ∷ map Ordered (step_orders p c (said told) js)) entries (after_step p c (said told) js) end
+      → IsOne (report_line told ++ (late_part ++ order_lines (step_orders p c (said told) js))) text (ReportEntry told ∷ map OrderEntry (step_orders p c (said told) js)) entries (after_step p c (said told) js) end
   once_accepted _ _ _ _ bytes told js late_part is_told is_step is_part is too_long = absurd (cc)
   once_accepted _ _ _ _ bytes told js late_part is_told is_step is_part is empty = absurd (some_line bytes told is_told (cc))
   once_accepted _ _ _ _ bytes told js late_part is_told is_step is_part is (no_report line some none) =
@@ -106,7 +106,7 @@ module _ (p : PlannedShop) (c : Cell) (number : ℕ) (shaped : IsWellShaped p) (
         text_is = ap (λ (r : Report). report_line r ++ (late ++ order_lines (step_orders p c (said report) movers))) one
             ∙ ap (λ l. report_line told ++ (l ++ order_lines (step_orders p c (said report) movers))) late_is
             ∙ ap (λ os. report_line told ++ (late_part ++ order_lines os)) orders;
-        entries_are = ap (λ (r : Report). Reported r ∷ map Ordered (step_orders p c (said report) movers)) one ∙ ap (λ os. Reported told ∷ map Ordered os) orders;
+        entries_are = ap (λ (r : Report). ReportEntry r ∷ map OrderEntry (step_orders p c (said report) movers)) one ∙ ap (λ os. ReportEntry told ∷ map OrderEntry os) orders;
         end_is = ap (λ (r : Report). after_step p c (said r) movers) one ∙ ap (after_step p c (said told)) moves;
       }
 
@@ -145,14 +145,14 @@ pub one_text_for_lines : OneTextForLines
 one_text_for_lines p lines text other end last shaped all also = one_text p lines (undriven p) end last 1 text other shaped (start-sound p shaped) (start_at_rest p) all also
 
 -- a cell has one end
-pub one_end : (p : PlannedShop) (end : DrivenCell) (text other : List ℕ) → CellEnds p end text → CellEnds p end other → other ≡ text
-one_end p end text other (inl ended) (inl also) = also.1 ∙ sym ended.1
-one_end p end text other (inl ended) (inr not_so) = absurd (not_so.0 ended.0)
-one_end p end text other (inr unfinished) (inl not_so) = absurd (unfinished.0 not_so.0)
-one_end p end text other (inr unfinished) (inr also) = also.1 ∙ sym unfinished.1
+pub one_closing : (p : PlannedShop) (end : DrivenCell) (text other : List ℕ) → CellCloses p end text → CellCloses p end other → other ≡ text
+one_closing p end text other (inl ended) (inl also) = also.1 ∙ sym ended.1
+one_closing p end text other (inl ended) (inr not_so) = absurd (not_so.0 ended.0)
+one_closing p end text other (inr unfinished) (inl not_so) = absurd (unfinished.0 not_so.0)
+one_closing p end text other (inr unfinished) (inr also) = also.1 ∙ sym unfinished.1
 
 pub one_answer_text : OneAnswerText
 one_answer_text p input text other end last shaped is also =
     let one = one_text_for_lines p (input_lines input) is.answers also.answers end last shaped is.are_answers also.are_answers in
-    let closing = one_end p end is.closing also.closing is.is_end (subst (λ s. CellEnds p s also.closing) one.1 also.is_end) in
+    let closing = one_closing p end is.closing also.closing is.is_closing (subst (λ s. CellCloses p s also.closing) one.1 also.is_closing) in
     (also.whole ∙ ap (λ (t : List ℕ). t ++ also.closing) one.0 ∙ ap (λ (t : List ℕ). is.answers ++ t) closing ∙ sym is.whole, one.1)

@@ -27,14 +27,14 @@ use Rattle.cell_control.specs.Reports.{said}
 use Rattle.run_log.specs.declared.entry.Entry.{Entry}
 use Rattle.run_log.specs.declared.entry.Entry.TheVariants.{Report as ReportEntry, Order as OrderEntry}
 use Rattle.run_log.specs.Events.{events_of}
-use Rattle.run_log.specs.EventLines.{line_of, spot_word, report_line, order_line}
+use Rattle.run_log.specs.EventLines.{spaced_line, spot_word, report_line, order_line}
 use Rattle.run_log.specs.LogLines.{IsSpotWord, IsEntryOf, LineTells, LinesTell}
 use Rattle.run_log.proofs.Audits.{events-join}
 use Rattle.cell_drive.specs.Lines.{input_lines}
 use Rattle.cell_drive.specs.Answering.{AnswerAll}
 use Rattle.cell_drive.specs.AnswerLines.{late_line, refused_line, done_line, unfinished_line, order_lines}
 use Rattle.cell_drive.specs.DrivenLines.{LineAnswer, IsLateText, too_long, empty, no_report, refused, accepted}
-use Rattle.cell_drive.specs.AnswerText.{DrivenCell, undriven, CellAnswers, CellEnds}
+use Rattle.cell_drive.specs.AnswerText.{DrivenCell, undriven, CellAnswers, CellCloses}
 use Rattle.cell_drive.specs.AuditLaw.{AnAnswerTextIsALog}
 use Rattle.cell_drive.proofs.DrivenRuns.{events-orders}
 use Rattle.cell_drive.proofs.OneText.{stays}
@@ -57,7 +57,7 @@ module _ (p : PlannedShop) where
       (one (second ++ rest) (more ++ later) (other rest later tells)))
 
   tells_line : (word : List ℕ) (words : List (List ℕ)) (own : List Entry) → AreWords (word ∷ words) → LineTells p (join_with_byte 32 (word ∷ words)) own
-      → TellsFirst (line_of (word ∷ words)) own
+      → TellsFirst (spaced_line (word ∷ words)) own
   tells_line word words own are tells rest later after =
       subst (λ (lines : List (List ℕ)). LinesTell p lines (own ++ later)) (sym (line_first word words rest are)) (own, later, tells, after, refl)
 
@@ -88,9 +88,9 @@ module _ (p : PlannedShop) where
   late_told c r text (inl (on_time, none)) = subst (λ (t : List ℕ). TellsFirst t []) (sym none) tells_none
   late_told c r text (inr (is_late, line)) = subst (λ (t : List ℕ). TellsFirst t []) (sym line) (tells_late r.at)
 
-  end_told : (end : DrivenCell) (text : List ℕ) → CellEnds p end text → TellsFirst text []
-  end_told end text (inl (ended, line)) = subst (λ (t : List ℕ). TellsFirst t []) (sym line) (tells_done end.cell.last)
-  end_told end text (inr (unfinished, line)) = subst (λ (t : List ℕ). TellsFirst t []) (sym line) (tells_unfinished _)
+  closing_told : (end : DrivenCell) (text : List ℕ) → CellCloses p end text → TellsFirst text []
+  closing_told end text (inl (ended, line)) = subst (λ (t : List ℕ). TellsFirst t []) (sym line) (tells_done end.cell.last)
+  closing_told end text (inr (unfinished, line)) = subst (λ (t : List ℕ). TellsFirst t []) (sym line) (tells_unfinished _)
 
   module _ (shaped : IsWellShaped p) where
     -- ---- lines of entries
@@ -239,7 +239,7 @@ pub an_answer_text_is_a_log : AnAnswerTextIsALog
 an_answer_text_is_a_log p input text end shaped is =
     let told = answers_told p shaped (input_lines input) (undriven p) end 1 is.answers (start-sound p shaped) (start_at_rest p) is.are_answers in
     let tells : LinesTell p (lines_of ((is.answers ++ is.closing) ++ [])) ((told.more ++ []) ++ []) =
-    tells_both p is.answers is.closing told.more [] told.tells (end_told p end is.closing is.is_end) [] [] refl in
+    tells_both p is.answers is.closing told.more [] told.tells (closing_told p end is.closing is.is_closing) [] [] refl in
     let same_text : (is.answers ++ is.closing) ++ [] ≡ text = append-nil (is.answers ++ is.closing) ∙ sym is.whole in
     let same_entries : (told.more ++ []) ++ [] ≡ end.entries = append-nil (told.more ++ []) ∙ append-nil told.more ∙ sym told.entries in
     record {

@@ -7,7 +7,7 @@ use Rattle.cell_drive.specs.declared.drive_fault.DriveFault.{DriveFault}
 use Rattle.cell_drive.specs.declared.drive_fault.DriveFault.TheVariants.{Read, Write, InputTooLong, Memory}
 use Rattle.cell_drive.specs.Lines.{input_lines}
 use Rattle.cell_drive.specs.Holding.{held_line, ended, held_after}
-use Rattle.cell_drive.specs.Answering.{AnswerAll, WasAnswered, WasEnded, WereAnswered}
+use Rattle.cell_drive.specs.Answering.{AnswerAll, WasAnswered, WasClosed, WereAnswered}
 use Rattle.cell_drive.specs.Streams.{IsAllAnswered, IsPartAnswered, IsStreamed}
 use Rattle.cell_drive.specs.Reading.{IsPieceAnswered, IsDrained, IsFinished, last_line}
 use Rattle.cell_drive.proofs.Told.{AnswerAll-append, AnswerAll-one}
@@ -46,12 +46,12 @@ finish_wrote (Ok x) failed before middle after text closing first second = Appen
 finish_wrote (Err e) failed before middle after text closing first second = (second.0, TookPart-more before middle after text closing first second.1)
 
 -- the last line is answered, and the end is written, all of it or part
-pub finish_end : {S T U E F : Type 0} (answers : S → ℕ → Option (List ℕ) → List ℕ → S → Type 0) (ends : S → List ℕ → Type 0) (start : S) (lines : ℕ) (held : Option (List ℕ)) (end : S)
+pub finish_closed : {S T U E F : Type 0} (answers : S → ℕ → Option (List ℕ) → List ℕ → S → Type 0) (closes : S → List ℕ → Type 0) (start : S) (lines : ℕ) (held : Option (List ℕ)) (end : S)
     (x : T) (outcome : Result U E) (failed failed_before : Bool) (before middle after : Option (List ℕ))
     → WereAnswered {T = T} {E = F} answers start (lines + 1) (last_line held) end (Ok x) failed_before before middle
-    → WasEnded ends end outcome failed middle after
-    → IsFinished outcome answers ends start lines held end failed before after
-finish_end answers ends start lines held end x outcome failed failed_before before middle after were was = record {
+    → WasClosed closes end outcome failed middle after
+    → IsFinished outcome answers closes start lines held end failed before after
+finish_closed answers closes start lines held end x outcome failed failed_before before middle after were was = record {
   told = were.told;
   rest = were.rest;
   whole = were.whole;
@@ -59,20 +59,20 @@ finish_end answers ends start lines held end x outcome failed failed_before befo
   state = end;
   are_answers = subst (AnswerAll answers start (lines + 1) were.told were.text) (sym were.reached) were.are_answers;
   closing = was.text;
-  is_end = inr (were.all, was.is_end);
-  all = all_told outcome _ (were.all, was.is_end, refl);
+  is_closing = inr (were.all, was.is_closing);
+  all = all_told outcome _ (were.all, was.is_closing, refl);
   wrote = finish_wrote outcome failed before middle after were.text was.text were.wrote was.wrote;
 }
 
 -- ---- all of the input
 
 -- reading came to a fault
-pub stream_drained : {S T U : Type 0} (e : DriveFault) (answers : S → ℕ → Option (List ℕ) → List ℕ → S → Type 0) (ends : S → List ℕ → Type 0) (start end : S) (lines : ℕ) (held : Option (List ℕ))
+pub stream_drained : {S T U : Type 0} (e : DriveFault) (answers : S → ℕ → Option (List ℕ) → List ℕ → S → Type 0) (closes : S → List ℕ → Type 0) (start end : S) (lines : ℕ) (held : Option (List ℕ))
     (read_failed : Bool) (left_before left_after : Option (List ℕ)) (write_failed : Bool) (before after : Option (List ℕ))
     → IsDrained {T = T} (Err e) answers start end lines held read_failed left_before left_after write_failed before after
-    → IsStreamed {T = U} (Err e) answers ends start end read_failed left_before left_after write_failed before after
-stream_drained Memory answers ends start end lines held read_failed left_before left_after write_failed before after drained = absurd drained.comes_to
-stream_drained Read answers ends start end lines held read_failed left_before left_after write_failed before after drained =
+    → IsStreamed {T = U} (Err e) answers closes start end read_failed left_before left_after write_failed before after
+stream_drained Memory answers closes start end lines held read_failed left_before left_after write_failed before after drained = absurd drained.comes_to
+stream_drained Read answers closes start end lines held read_failed left_before left_after write_failed before after drained =
     let told = drained.comes_to.2 in
     record {
       input = drained.bytes;
@@ -87,7 +87,7 @@ stream_drained Read answers ends start end lines held read_failed left_before le
         },
       );
     }
-stream_drained InputTooLong answers ends start end lines held read_failed left_before left_after write_failed before after drained =
+stream_drained InputTooLong answers closes start end lines held read_failed left_before left_after write_failed before after drained =
     let told = drained.comes_to.1 in
     record {
       input = drained.bytes;
@@ -101,7 +101,7 @@ stream_drained InputTooLong answers ends start end lines held read_failed left_b
         },
       );
     }
-stream_drained Write answers ends start end lines held read_failed left_before left_after write_failed before after drained =
+stream_drained Write answers closes start end lines held read_failed left_before left_after write_failed before after drained =
     let part = drained.comes_to.1 in
     let last = last_line (held_after (Some []) drained.bytes) in
     record {
@@ -117,16 +117,16 @@ stream_drained Write answers ends start end lines held read_failed left_before l
           state = part.state;
           are_answers = part.are_answers;
           closing = [];
-          is_end = inl refl;
+          is_closing = inl refl;
           written = TookPart-nil before after part.text part.written;
         },
       );
     }
 
-module _ {S T U E : Type 0} (answers : S → ℕ → Option (List ℕ) → List ℕ → S → Type 0) (ends : S → List ℕ → Type 0) (start middle end : S) (lines : ℕ) (held : Option (List ℕ)) (x : T) (outcome : Result U E)
+module _ {S T U E : Type 0} (answers : S → ℕ → Option (List ℕ) → List ℕ → S → Type 0) (closes : S → List ℕ → Type 0) (start middle end : S) (lines : ℕ) (held : Option (List ℕ)) (x : T) (outcome : Result U E)
     (read_failed : Bool) (left_before left_after : Option (List ℕ)) (write_failed failed : Bool) (before between after : Option (List ℕ))
     (drained : IsDrained {T = T} (Ok x) answers start middle lines held read_failed left_before left_after write_failed before between)
-    (finished : IsFinished outcome answers ends middle lines held end failed between after) where
+    (finished : IsFinished outcome answers closes middle lines held end failed between after) where
   abbrev so_far : IsPieceAnswered answers start 0 (Some []) drained.bytes middle lines held before between
   so_far = drained.comes_to.2
 
@@ -138,8 +138,8 @@ module _ {S T U E : Type 0} (answers : S → ℕ → Option (List ℕ) → List 
       let lines_are = so_far.lines_are in
       AnswerAll-append answers (ended (Some []) drained.bytes) finished.told start middle finished.state 1 (lines + 1) so_far.text finished.text so_far.are_answers (omega arith) finished.are_answers
 
-  -- the end failed
-  stream_part : TookPart between after (finished.text ++ finished.closing) → IsPartAnswered answers ends start drained.bytes before after
+  -- the closing text failed
+  stream_part : TookPart between after (finished.text ++ finished.closing) → IsPartAnswered answers closes start drained.bytes before after
   stream_part part = record {
     told = ended (Some []) drained.bytes ++ finished.told;
     rest = finished.rest;
@@ -148,14 +148,14 @@ module _ {S T U E : Type 0} (answers : S → ℕ → Option (List ℕ) → List 
     state = finished.state;
     are_answers = answers_all;
     closing = finished.closing;
-    is_end = finished.is_end;
+    is_closing = finished.is_closing;
     written = subst (TookPart before after) (sym (append_assoc so_far.text finished.text finished.closing))
         (TookPart-more before between after so_far.text (finished.text ++ finished.closing) so_far.written part);
   }
 
-  stream_whole : finished.rest ≡ [] → ends finished.state finished.closing → end ≡ finished.state → Appends between after (finished.text ++ finished.closing)
-      → IsAllAnswered answers ends start drained.bytes end left_after before after
-  stream_whole none_left is_end reached wrote =
+  stream_whole : finished.rest ≡ [] → closes finished.state finished.closing → end ≡ finished.state → Appends between after (finished.text ++ finished.closing)
+      → IsAllAnswered answers closes start drained.bytes end left_after before after
+  stream_whole none_left is_closing reached wrote =
       let told : ended (Some []) drained.bytes ++ finished.told ≡ input_lines drained.bytes =
       ap (λ l. ended (Some []) drained.bytes ++ l) (sym (append-nil finished.told) ∙ ap (λ l. finished.told ++ l) (sym none_left)) ∙ told_all in
       let to_end = subst (AnswerAll answers start 1 (ended (Some []) drained.bytes ++ finished.told) (so_far.text ++ finished.text)) (sym reached) answers_all in
@@ -165,30 +165,30 @@ module _ {S T U E : Type 0} (answers : S → ℕ → Option (List ℕ) → List 
         text = so_far.text ++ finished.text;
         are_answers = subst (λ l. AnswerAll answers start 1 l (so_far.text ++ finished.text) end) told to_end;
         closing = finished.closing;
-        is_end = subst (λ s. ends s finished.closing) (sym reached) is_end;
+        is_closing = subst (λ s. closes s finished.closing) (sym reached) is_closing;
         written = subst (Appends before after) (sym (append_assoc so_far.text finished.text finished.closing))
             (Appends-trans before between after so_far.text (finished.text ++ finished.closing) so_far.written wrote);
       }
 
-pub stream_done : {S T U E V : Type 0} (answers : S → ℕ → Option (List ℕ) → List ℕ → S → Type 0) (ends : S → List ℕ → Type 0) (start middle end : S) (lines : ℕ) (held : Option (List ℕ)) (x : T) (u : U) (v : V)
+pub stream_done : {S T U E V : Type 0} (answers : S → ℕ → Option (List ℕ) → List ℕ → S → Type 0) (closes : S → List ℕ → Type 0) (start middle end : S) (lines : ℕ) (held : Option (List ℕ)) (x : T) (u : U) (v : V)
     (read_failed : Bool) (left_before left_after : Option (List ℕ)) (write_failed failed : Bool) (before between after : Option (List ℕ))
     → IsDrained {T = T} (Ok x) answers start middle lines held read_failed left_before left_after write_failed before between
-    → IsFinished {T = U} {E = E} (Ok u) answers ends middle lines held end failed between after
-    → IsStreamed {T = V} (Ok v) answers ends start end read_failed left_before left_after failed before after
-stream_done answers ends start middle end lines held x u v read_failed left_before left_after write_failed failed before between after drained finished = record {
+    → IsFinished {T = U} {E = E} (Ok u) answers closes middle lines held end failed between after
+    → IsStreamed {T = V} (Ok v) answers closes start end read_failed left_before left_after failed before after
+stream_done answers closes start middle end lines held x u v read_failed left_before left_after write_failed failed before between after drained finished = record {
   input = drained.bytes;
   was_read = drained.was_read;
-  comes_to = stream_whole answers ends start middle end lines held x (Ok u) read_failed left_before left_after write_failed failed before between after drained finished
+  comes_to = stream_whole answers closes start middle end lines held x (Ok u) read_failed left_before left_after write_failed failed before between after drained finished
       finished.all.0 finished.all.1 finished.all.2 finished.wrote;
 }
 
-pub stream_failed : {S T U E V : Type 0} (answers : S → ℕ → Option (List ℕ) → List ℕ → S → Type 0) (ends : S → List ℕ → Type 0) (start middle end : S) (lines : ℕ) (held : Option (List ℕ)) (x : T) (e : E)
+pub stream_failed : {S T U E V : Type 0} (answers : S → ℕ → Option (List ℕ) → List ℕ → S → Type 0) (closes : S → List ℕ → Type 0) (start middle end : S) (lines : ℕ) (held : Option (List ℕ)) (x : T) (e : E)
     (read_failed : Bool) (left_before left_after : Option (List ℕ)) (write_failed failed : Bool) (before between after : Option (List ℕ))
     → IsDrained {T = T} (Ok x) answers start middle lines held read_failed left_before left_after write_failed before between
-    → IsFinished {T = U} {E = E} (Err e) answers ends middle lines held end failed between after
-    → IsStreamed {T = V} (Err Write) answers ends start end read_failed left_before left_after failed before after
-stream_failed answers ends start middle end lines held x e read_failed left_before left_after write_failed failed before between after drained finished = record {
+    → IsFinished {T = U} {E = E} (Err e) answers closes middle lines held end failed between after
+    → IsStreamed {T = V} (Err Write) answers closes start end read_failed left_before left_after failed before after
+stream_failed answers closes start middle end lines held x e read_failed left_before left_after write_failed failed before between after drained finished = record {
   input = drained.bytes;
   was_read = drained.was_read;
-  comes_to = (finished.wrote.0, stream_part answers ends start middle end lines held x (Err e) read_failed left_before left_after write_failed failed before between after drained finished finished.wrote.1);
+  comes_to = (finished.wrote.0, stream_part answers closes start middle end lines held x (Err e) read_failed left_before left_after write_failed failed before between after drained finished finished.wrote.1);
 }

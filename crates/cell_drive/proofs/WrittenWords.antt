@@ -8,7 +8,7 @@ use Rattle.text_lines.specs.Cuts.{HasNone}
 use Rattle.text_lines.specs.Lines.{without_return, lines_of}
 use Rattle.text_lines.proofs.Digits.{digit_bounds}
 use Rattle.text_lines.proofs.NextLines.{first_line}
-use Rattle.run_log.specs.EventLines.{line_of}
+use Rattle.run_log.specs.EventLines.{spaced_line}
 use Rattle.run_log.specs.LogLines.{spaced_words, is_passed_over}
 use Rattle.run_log.proofs.SpacedWords.{words_first, words_one}
 use Rattle.cell_drive.proofs.WrittenNumbers.{decimal_digits}
@@ -67,15 +67,15 @@ unreturned line none =
 
 -- ---- the line that is read, and its words
 
-line_joined : (word : List ℕ) (words : List (List ℕ)) → line_of (word ∷ words) ≡ join_with_byte 32 (word ∷ words) ++ 10 ∷ []
+line_joined : (word : List ℕ) (words : List (List ℕ)) → spaced_line (word ∷ words) ≡ join_with_byte 32 (word ∷ words) ++ 10 ∷ []
 line_joined word [] = refl
 line_joined word (next ∷ words) = ap (λ line. word ++ 32 ∷ line) (line_joined next words) ∙ sym (append_assoc word (32 ∷ join_with_byte 32 (next ∷ words)) (10 ∷ []))
 
 pub line_first : (word : List ℕ) (words : List (List ℕ)) (rest : List ℕ) → AreWords (word ∷ words)
-    → lines_of (line_of (word ∷ words) ++ rest) ≡ join_with_byte 32 (word ∷ words) ∷ lines_of rest
+    → lines_of (spaced_line (word ∷ words) ++ rest) ≡ join_with_byte 32 (word ∷ words) ∷ lines_of rest
 line_first word words rest are =
     let line = join_with_byte 32 (word ∷ words) in
-    first_line (line_of (word ∷ words) ++ rest) line rest (record {
+    first_line (spaced_line (word ∷ words) ++ rest) line rest (record {
       before = absent_from_words 10 (word ∷ words) (omega arith) are;
       split = ap (λ text. text ++ rest) (line_joined word words) ∙ append_assoc line (10 ∷ []) rest;
     })

@@ -5,7 +5,7 @@ use Rattle.shop_base.specs.Cell.{Cell, start}
 use Rattle.run_log.specs.declared.entry.Entry.{Entry}
 use Rattle.cell_drive.specs.Lines.{input_lines}
 use Rattle.cell_drive.specs.Answering.{AnswerAll}
-use Rattle.cell_drive.specs.DrivenLines.{LineAnswer, IsEndLine}
+use Rattle.cell_drive.specs.DrivenLines.{LineAnswer, IsClosingLine}
 
 -- a cell, and what was accepted and ordered in it
 pub record DrivenCell : Type 0 where
@@ -22,18 +22,18 @@ pub record CellAnswers (p : PlannedShop) (before : DrivenCell) (number : ℕ) (l
   pub answer : LineAnswer p before.cell number line text more next.cell
   pub entries : next.entries ≡ before.entries ++ more
 
--- the line behind the last answer
-abbrev pub CellEnds : PlannedShop → DrivenCell → List ℕ → Type 0
-CellEnds p end = IsEndLine p end.cell
+-- the closing line
+abbrev pub CellCloses : PlannedShop → DrivenCell → List ℕ → Type 0
+CellCloses p end = IsClosingLine p end.cell
 
 -- the first lines of an input are answered by this text
 abbrev pub AreAnswersTo : PlannedShop → List (Option (List ℕ)) → List ℕ → DrivenCell → Type 0
 AreAnswersTo p lines text end = AnswerAll (CellAnswers p) (undriven p) 1 lines text end
 
--- the answer text of an input: the answers to its lines, in order, and the line behind them
+-- the answer text of an input: the answers to its lines, in order, and the closing line
 pub record IsAnswerText (p : PlannedShop) (input text : List ℕ) (end : DrivenCell) : Type 0 where
   pub answers : List ℕ
   pub are_answers : AreAnswersTo p (input_lines input) answers end
   pub closing : List ℕ
-  pub is_end : CellEnds p end closing
+  pub is_closing : CellCloses p end closing
   pub whole : text ≡ answers ++ closing

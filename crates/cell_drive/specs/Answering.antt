@@ -18,11 +18,11 @@ pub record WasAnswered {S T E : Type 0} (answers : S → ℕ → Option (List �
   pub reached : OnOk outcome (end ≡ state)
   pub wrote : Wrote outcome failed before after text
 
--- what comes after the last line was written, all of it, or its first bytes up to a write that failed
-pub record WasEnded {S T E : Type 0} (ends : S → List ℕ → Type 0) (end : S)
+-- the closing text was written, all of it, or its first bytes up to a write that failed
+pub record WasClosed {S T E : Type 0} (closes : S → List ℕ → Type 0) (end : S)
     (outcome : Result T E) (failed : Bool) (before after : Option (List ℕ)) : Type 0 where
   pub text : List ℕ
-  pub is_end : ends end text
+  pub is_closing : closes end text
   pub wrote : Wrote outcome failed before after text
 
 -- of these lines all were answered, or the first ones up to a write that failed

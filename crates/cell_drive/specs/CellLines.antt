@@ -1,16 +1,12 @@
 -- Lines where there are several cells: each is on the cell of a number.
-use Rattle.std.specs.Prelude.{◌≡◌, ℕ, List, [], ◌∷◌, ◌++◌, decimal}
-use Rattle.text_lines.specs.Numbers.{IsNumeral}
+use Rattle.std.specs.Prelude.{ℕ, List, [], ◌∷◌, ◌++◌, decimal}
+use Rattle.text_lines.specs.Numbers.{IsNumberBefore}
 use Rattle.cell_control.specs.declared.report.Report.{Report}
 use Rattle.cell_drive.specs.InputLines.{IsReportLine}
 
--- the line begins with the number of a cell, with at most 9 digits, and a space, and this is the rest
-abbrev pub IsCellLine : List ℕ → ℕ → List ℕ → Type 0
-IsCellLine line cell rest = (word : List ℕ) × IsNumeral 9 word cell × (line ≡ word ++ 32 ∷ rest)
-
--- the line is this report on this cell
+-- the line is this report on this cell: the cell's number, with at most 9 digits, and a space stand before it
 abbrev pub IsCellReport : List ℕ → ℕ → Report → Type 0
-IsCellReport line cell report = (rest : List ℕ) × IsCellLine line cell rest × IsReportLine rest report
+IsCellReport line cell report = (rest : List ℕ) × IsNumberBefore 9 line cell rest × IsReportLine rest report
 
 -- the line is no report on any cell
 abbrev pub IsNoCellReport : List ℕ → Type 0

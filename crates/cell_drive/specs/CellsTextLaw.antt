@@ -4,7 +4,7 @@ use Rattle.plan_verifier.specs.Accepted.{VerifiedPlan, IsVerified}
 use Rattle.cell_control.specs.Control.{Control, at_start}
 use Rattle.cell_drive.specs.Lines.{input_lines}
 use Rattle.cell_drive.specs.Answering.{AnswerAll}
-use Rattle.cell_drive.specs.ManyCells.{CellsAnswer, CellsEnd}
+use Rattle.cell_drive.specs.ManyCells.{CellsAnswer, CellsClose}
 
 -- the plans are accepted ones
 abbrev pub AreVerified : List VerifiedPlan → Type 0
@@ -20,12 +20,12 @@ abbrev pub OneCellsTextForLines : Type 0
 OneCellsTextForLines = (plans : List VerifiedPlan) (lines : List (Option (List ℕ))) (text other : List ℕ) (end last : List Control)
     → AreVerified plans → AreCellsAnswersTo plans lines text end → AreCellsAnswersTo plans lines other last → (other ≡ text) × (last ≡ end)
 
--- the answer text of an input: the answers to its lines, in order, and the lines of the cells' ends behind them
+-- the answer text of an input: the answers to its lines, in order, and the cells' closing lines
 pub record IsCellsAnswerText (plans : List VerifiedPlan) (input text : List ℕ) (end : List Control) : Type 0 where
   pub answers : List ℕ
   pub are_answers : AreCellsAnswersTo plans (input_lines input) answers end
   pub closing : List ℕ
-  pub is_end : CellsEnd 0 end closing
+  pub is_closing : CellsClose 0 end closing
   pub whole : text ≡ answers ++ closing
 
 -- and an input has one answer text at most

@@ -8,7 +8,7 @@ use Rattle.cell_control.specs.Control.{Control, at_start}
 use Rattle.run_log.specs.declared.entry.Entry.{Entry}
 use Rattle.run_log.specs.Log.{Noted, Notes}
 use Rattle.run_log.specs.Events.{events_of}
-use Rattle.cell_drive.specs.DrivenLines.{LineAnswer, IsEndLine}
+use Rattle.cell_drive.specs.DrivenLines.{LineAnswer, IsClosingLine}
 
 -- its controller, and the log of what was accepted and ordered
 pub record DriveState : Type 0 where
@@ -34,6 +34,6 @@ pub record DriveAnswer (start : DriveState) (number : ℕ) (line : Option (List 
   pub plan : end.control.plan ≡ start.control.plan
   pub log : Notes start.log end.log entries
 
--- the line behind the last answer
-abbrev pub ControlEnds : Control → List ℕ → Type 0
-ControlEnds s = IsEndLine s.plan.planned s.cell
+-- the closing line
+abbrev pub ControlCloses : Control → List ℕ → Type 0
+ControlCloses s = IsClosingLine s.plan.planned s.cell

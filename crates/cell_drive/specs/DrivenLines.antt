@@ -1,5 +1,5 @@
 -- What a driven cell answers, line by line.
-use Rattle.std.specs.Prelude.{◌≡◌, ℕ, List, [], ◌∷◌, ◌++◌, codes, map, Option, None, Some, ◌⊎◌}
+use Rattle.std.specs.Prelude.{◌≡◌, ℕ, List, [], ◌∷◌, ◌++◌, codes, map, Option, None, Some, ◌⊎◌, ◌==◌, if◌then◌else◌}
 use Rattle.shop_base.specs.Plan.{PlannedShop}
 use Rattle.shop_base.specs.Cell.{Cell}
 use Rattle.shop_base.specs.Report as base
@@ -12,7 +12,7 @@ use Rattle.cell_control.specs.declared.report_fault.ReportFault.{ReportFault}
 use Rattle.cell_control.specs.ReasonNames.{reason_name}
 use Rattle.cell_control.specs.Reports.{said, IsFirstReason}
 use Rattle.run_log.specs.declared.entry.Entry.{Entry}
-use Rattle.run_log.specs.declared.entry.Entry.TheVariants.{Report as Reported, Order as Ordered}
+use Rattle.run_log.specs.declared.entry.Entry.TheVariants.{Report as ReportEntry, Order as OrderEntry}
 use Rattle.run_log.specs.EventLines.{report_line}
 use Rattle.cell_drive.specs.InputLines.{IsReportLine, IsNoReport}
 use Rattle.cell_drive.specs.AnswerLines.{late_line, refused_line, order_lines, done_line, unfinished_line}
@@ -30,8 +30,12 @@ pub data LineAnswer (p : PlannedShop) (c : Cell) (number : ℕ) : Option (List �
       → LineAnswer p c number (Some line) (refused_line number (reason_name reason)) [] c
   accepted : (line : List ℕ) (report : Report) (movers : List ℕ) (late : List ℕ) → IsReportLine line report → IsStep p c (said report) movers → IsLateText p c (said report) late
       → LineAnswer p c number (Some line) (report_line report ++ (late ++ order_lines (step_orders p c (said report) movers)))
-      (Reported report ∷ map Ordered (step_orders p c (said report) movers)) (after_step p c (said report) movers)
+      (ReportEntry report ∷ map OrderEntry (step_orders p c (said report) movers)) (after_step p c (said report) movers)
 
--- the line behind the last answer: the run is done, or so many reports are left
-abbrev pub IsEndLine : PlannedShop → Cell → List ℕ → Type 0
-IsEndLine p c text = (HasEnded p c × (text ≡ done_line c.last)) ⊎ ((HasEnded p c → ⊥) × (text ≡ unfinished_line (reports_left p c)))
+-- the closing line, behind the last answer: the run is done, or so many reports are left
+abbrev pub IsClosingLine : PlannedShop → Cell → List ℕ → Type 0
+IsClosingLine p c text = (HasEnded p c × (text ≡ done_line c.last)) ⊎ ((HasEnded p c → ⊥) × (text ≡ unfinished_line (reports_left p c)))
+
+-- that line, by the number of reports that are left
+abbrev pub closing_line : PlannedShop → Cell → List ℕ
+closing_line p c = let left = reports_left p c in if left == 0 then done_line c.last else unfinished_line left

@@ -19,7 +19,7 @@ use Rattle.cell_drive.specs.declared.drive_fault.DriveFault.{DriveFault}
 use Rattle.cell_drive.specs.declared.drive_fault.DriveFault.TheVariants.{Read, Write, InputTooLong, Memory}
 use Rattle.cell_drive.specs.Lines.{complete_lines}
 use Rattle.cell_drive.specs.Streams.{IsPartAnswered}
-use Rattle.cell_drive.specs.AnswerText.{DrivenCell, undriven, CellAnswers, CellEnds, AreAnswersTo, IsAnswerText}
+use Rattle.cell_drive.specs.AnswerText.{DrivenCell, undriven, CellAnswers, CellCloses, AreAnswersTo, IsAnswerText}
 
 -- the cell after the events of a log
 abbrev pub cell_after : PlannedShop → List Entry → Cell
@@ -44,7 +44,7 @@ abbrev pub IsBrokenOff : DriveFault → PlannedShop → List ℕ → Bool → Bo
 IsBrokenOff Read p input read_failed write_failed before after =
     (read_failed ≡ true) × (length input ≤ 67108864) × WereAnswersWritten p (complete_lines input) before after
 IsBrokenOff Write p input read_failed write_failed before after =
-    (write_failed ≡ true) × IsPartAnswered (CellAnswers p) (CellEnds p) (undriven p) input before after
+    (write_failed ≡ true) × IsPartAnswered (CellAnswers p) (CellCloses p) (undriven p) input before after
 IsBrokenOff InputTooLong p input read_failed write_failed before after =
     (67108864 < length input) × WereAnswersWritten p (complete_lines (take 67108864 input)) before after
 IsBrokenOff Memory p input read_failed write_failed before after = (input ≡ []) × (after ≡ before)
@@ -54,7 +54,7 @@ abbrev pub IsRunOf : PlannedShop → List Entry → Type 0
 IsRunOf p entries = (reports : List Report) × IsControlledRun p reports (events_of entries) (cell_after p entries)
 
 -- the log has reserved two entries for each report of the stated number, and has no more
-pub record HasRoom (p : PlannedShop) (log : Noted) : Type 0 where
+pub record IsNeverFull (p : PlannedShop) (log : Noted) : Type 0 where
   pub reserved : log.reserved ≡ 2 * stated_number p
   pub fits : length log.entries ≤ log.reserved
 

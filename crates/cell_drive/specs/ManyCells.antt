@@ -8,25 +8,16 @@ use Rattle.cell_control.specs.declared.report_fault.ReportFault.{ReportFault}
 use Rattle.cell_control.specs.Control.{Control, IsAnswered}
 use Rattle.cell_control.specs.Reports.{said, IsFirstReason}
 use Rattle.cell_control.specs.ReasonNames.{reason_name}
-use Rattle.cell_hub.specs.declared.hub_fault.HubFault.{HubFault}
-use Rattle.cell_hub.specs.declared.hub_fault.HubFault.TheVariants.{NoSuchCell, SerialsSpent, Memory, Cell}
 use Rattle.run_log.specs.EventLines.{report_line, order_line}
 use Rattle.cell_drive.specs.AnswerLines.{late_line, refused_line}
 use Rattle.shop_base.specs.Ends.{HasEnded}
-use Rattle.cell_drive.specs.DrivenLines.{IsEndLine}
+use Rattle.cell_drive.specs.DrivenLines.{IsClosingLine}
 use Rattle.cell_drive.specs.CellLines.{IsCellReport, IsNoCellReport, cell_prefix}
 
 -- the lines that answer an accepted report, with this before each
 abbrev pub accepted_lines : List ℕ → Report → Bool → List MoveOrder → List ℕ
 accepted_lines prefix report late orders =
     (prefix ++ report_line report) ++ ((if late then prefix ++ late_line (said report).at else []) ++ flat_map (λ o. prefix ++ order_line o) orders)
-
--- the name of the reason for which a report on a cell is refused
-abbrev pub fault_name : HubFault → List ℕ
-fault_name NoSuchCell = codes "NoSuchCell"
-fault_name SerialsSpent = codes "SerialsSpent"
-fault_name Memory = codes "Memory"
-fault_name (Cell reason) = reason_name reason
 
 -- the line of this number is answered by this text, and the cells are then these. A line that is too long is refused, an empty one has no answer, and one of another form than a report on a cell is refused; then a report on no cell, and one that the cell's controller refuses, by its first reason. Any other is answered by the controller, with the cell's number before each line, and leaves the other cells
 pub data CellsAnswer (cells : List Control) (number : ℕ) : Option (List ℕ) → List ℕ → List Control → Type 0 where
@@ -42,10 +33,10 @@ pub data CellsAnswer (cells : List Control) (number : ℕ) : Option (List ℕ) �
       → IsAnswered before (said report) ack after
       → CellsAnswer cells number (Some line) (accepted_lines (cell_prefix cell) report ack.late after.orders) (slice_set cells cell after)
 
--- the lines behind the last answer, of each cell from a number on: its run is done, or so many reports are left
-abbrev pub CellsEnd : ℕ → List Control → List ℕ → Type 0
-CellsEnd number [] text = text ≡ []
-CellsEnd number (c ∷ cells) text = (line : List ℕ) × (rest : List ℕ) × IsEndLine c.plan.planned c.cell line × CellsEnd (suc number) cells rest × (text ≡ (cell_prefix number ++ line) ++ rest)
+-- the closing lines, of each cell from a number on
+abbrev pub CellsClose : ℕ → List Control → List ℕ → Type 0
+CellsClose number [] text = text ≡ []
+CellsClose number (c ∷ cells) text = (line : List ℕ) × (rest : List ℕ) × IsClosingLine c.plan.planned c.cell line × CellsClose (suc number) cells rest × (text ≡ (cell_prefix number ++ line) ++ rest)
 
 -- the run of each cell has ended
 abbrev pub AreAllDone : List Control → Type 0

@@ -1,12 +1,11 @@
 -- How the cells of a hub are numbered by a row of tickets. No public clause cites this module.
-use Rattle.std.specs.Prelude.{◌≡◌, ◌≢◌, ◌==◌, if◌then◌else◌, ℕ, suc, ◌≤◌, List, [], ◌∷◌, ◌++◌, length, Option, None, Some, Result, slice_get, slice_set}
+use Rattle.std.specs.Prelude.{◌≡◌, ◌≢◌, ℕ, suc, ◌≤◌, List, [], ◌∷◌, ◌++◌, length, Option, None, Some, Result, slice_get, slice_set}
 use Rattle.std.specs.declared.result.Result.TheVariants.{Ok, Err}
 use Rattle.cell_control.specs.declared.report.Report.{Report}
 use Rattle.cell_control.specs.declared.report.Ack.{Ack}
 use Rattle.cell_control.specs.Control.{Control, IsControl, IsAnswered}
 use Rattle.cell_control.specs.Reports.{said, IsFirstReason}
-use Rattle.shop_base.specs.ReportsLeft.{reports_left}
-use Rattle.cell_drive.specs.AnswerLines.{done_line, unfinished_line}
+use Rattle.cell_drive.specs.DrivenLines.{closing_line}
 use Rattle.cell_drive.specs.CellLines.{cell_prefix}
 use Rattle.cell_hub.specs.declared.ticket.Ticket.{Ticket}
 use Rattle.cell_hub.specs.declared.hub_fault.HubFault.{HubFault}
@@ -46,11 +45,7 @@ IsReportedOn cells cell report (Err SerialsSpent) new = ⊥
 IsReportedOn cells cell report (Err Memory) new = ⊥
 IsReportedOn cells cell report (Err (Cell reason)) new = (content : Control) × (slice_get cells cell ≡ Some content) × IsFirstReason content.plan.planned content.cell (said report) reason × (new ≡ cells)
 
--- the line behind the last answer, by the number of reports that are left
-abbrev pub end_line_of : Control → List ℕ
-end_line_of c = let left = reports_left c.plan.planned c.cell in if left == 0 then done_line c.cell.last else unfinished_line left
-
--- these lines of cells, from a number on
-abbrev pub ends_text : ℕ → List Control → List ℕ
-ends_text number [] = []
-ends_text number (c ∷ cells) = (cell_prefix number ++ end_line_of c) ++ ends_text (suc number) cells
+-- the closing lines of these cells, from a number on
+abbrev pub closing_text : ℕ → List Control → List ℕ
+closing_text number [] = []
+closing_text number (c ∷ cells) = (cell_prefix number ++ closing_line c.plan.planned c.cell) ++ closing_text (suc number) cells

@@ -29,16 +29,16 @@ pub record IsPartTold {S : Type 0} (answers : S → ℕ → Option (List ℕ) �
   pub written : TookPart before after text
 
 -- what was read was taken, as far as so many bytes were left of the limit
-abbrev pub IsTaken : {S : Type 0} → Result ℕ DriveFault → (S → ℕ → Option (List ℕ) → List ℕ → S → Type 0) → S → ℕ → Option (List ℕ) → List ℕ → ℕ
+abbrev pub IsReadTaken : {S : Type 0} → Result ℕ DriveFault → (S → ℕ → Option (List ℕ) → List ℕ → S → Type 0) → S → ℕ → Option (List ℕ) → List ℕ → ℕ
     → S → ℕ → Option (List ℕ) → Bool → Option (List ℕ) → Option (List ℕ) → Type 0
-IsTaken (Ok rest) answers start lines held piece left end lines_then held_then failed before after =
+IsReadTaken (Ok rest) answers start lines held piece left end lines_then held_then failed before after =
     (rest + length piece ≡ left) × IsPieceAnswered answers start lines held piece end lines_then held_then before after
-IsTaken (Err InputTooLong) answers start lines held piece left end lines_then held_then failed before after =
+IsReadTaken (Err InputTooLong) answers start lines held piece left end lines_then held_then failed before after =
     (left < length piece) × IsPieceAnswered answers start lines held (take left piece) end lines_then held_then before after
-IsTaken (Err Write) answers start lines held piece left end lines_then held_then failed before after =
+IsReadTaken (Err Write) answers start lines held piece left end lines_then held_then failed before after =
     (failed ≡ true) × IsPartTold answers start lines held piece before after
-IsTaken (Err Read) answers start lines held piece left end lines_then held_then failed before after = ⊥
-IsTaken (Err Memory) answers start lines held piece left end lines_then held_then failed before after = ⊥
+IsReadTaken (Err Read) answers start lines held piece left end lines_then held_then failed before after = ⊥
+IsReadTaken (Err Memory) answers start lines held piece left end lines_then held_then failed before after = ⊥
 
 -- what reading comes to once these bytes were read, the last line apart
 abbrev pub ReadsTo : {S T : Type 0} → Result T DriveFault → (S → ℕ → Option (List ℕ) → List ℕ → S → Type 0) → S → List ℕ
@@ -66,8 +66,8 @@ last_line None = None ∷ []
 last_line (Some []) = []
 last_line (Some (b ∷ bytes)) = held_line (Some (b ∷ bytes)) ∷ []
 
--- the last line was answered, and the end written behind it, or the first bytes of that up to a write that failed
-pub record IsFinished {S T E : Type 0} (outcome : Result T E) (answers : S → ℕ → Option (List ℕ) → List ℕ → S → Type 0) (ends : S → List ℕ → Type 0) (start : S) (lines : ℕ) (held : Option (List ℕ))
+-- the last line was answered, and the closing text written behind it, or the first bytes of that up to a write that failed
+pub record IsFinished {S T E : Type 0} (outcome : Result T E) (answers : S → ℕ → Option (List ℕ) → List ℕ → S → Type 0) (closes : S → List ℕ → Type 0) (start : S) (lines : ℕ) (held : Option (List ℕ))
     (end : S) (failed : Bool) (before after : Option (List ℕ)) : Type 0 where
   pub told : List (Option (List ℕ))
   pub rest : List (Option (List ℕ))
@@ -76,6 +76,6 @@ pub record IsFinished {S T E : Type 0} (outcome : Result T E) (answers : S → �
   pub state : S
   pub are_answers : AnswerAll answers start (lines + 1) told text state
   pub closing : List ℕ
-  pub is_end : (closing ≡ []) ⊎ ((rest ≡ []) × ends state closing)
-  pub all : OnOk outcome ((rest ≡ []) × ends state closing × (end ≡ state))
+  pub is_closing : (closing ≡ []) ⊎ ((rest ≡ []) × closes state closing)
+  pub all : OnOk outcome ((rest ≡ []) × closes state closing × (end ≡ state))
   pub wrote : Wrote outcome failed before after (text ++ closing)

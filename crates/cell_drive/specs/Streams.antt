@@ -14,19 +14,19 @@ pub record AreAnswered {S : Type 0} (answers : S → ℕ → Option (List ℕ) �
   pub are_answers : AnswerAll answers start 1 lines text end
   pub written : Appends before after text
 
--- all lines of an input were answered, the end was written behind them, and the input was read to its end
-pub record IsAllAnswered {S : Type 0} (answers : S → ℕ → Option (List ℕ) → List ℕ → S → Type 0) (ends : S → List ℕ → Type 0) (start : S) (input : List ℕ) (end : S)
+-- all lines of an input were answered, the closing text was written behind them, and the input was read to its end
+pub record IsAllAnswered {S : Type 0} (answers : S → ℕ → Option (List ℕ) → List ℕ → S → Type 0) (closes : S → List ℕ → Type 0) (start : S) (input : List ℕ) (end : S)
     (left before after : Option (List ℕ)) : Type 0 where
   pub at_end : IsAtEnd left
   pub within : length input ≤ 67108864
   pub text : List ℕ
   pub are_answers : AnswerAll answers start 1 (input_lines input) text end
   pub closing : List ℕ
-  pub is_end : ends end closing
+  pub is_closing : closes end closing
   pub written : Appends before after (text ++ closing)
 
--- what was written are the first bytes of the answers of an input's first lines, or of all and of the end behind them
-pub record IsPartAnswered {S : Type 0} (answers : S → ℕ → Option (List ℕ) → List ℕ → S → Type 0) (ends : S → List ℕ → Type 0) (start : S) (input : List ℕ)
+-- what was written are the first bytes of the answers of an input's first lines, or of all and of the closing text behind them
+pub record IsPartAnswered {S : Type 0} (answers : S → ℕ → Option (List ℕ) → List ℕ → S → Type 0) (closes : S → List ℕ → Type 0) (start : S) (input : List ℕ)
     (before after : Option (List ℕ)) : Type 0 where
   pub told : List (Option (List ℕ))
   pub rest : List (Option (List ℕ))
@@ -35,24 +35,24 @@ pub record IsPartAnswered {S : Type 0} (answers : S → ℕ → Option (List ℕ
   pub state : S
   pub are_answers : AnswerAll answers start 1 told text state
   pub closing : List ℕ
-  pub is_end : (closing ≡ []) ⊎ ((rest ≡ []) × ends state closing)
+  pub is_closing : (closing ≡ []) ⊎ ((rest ≡ []) × closes state closing)
   pub written : TookPart before after (text ++ closing)
 
 -- what a stream comes to once this input was read, on success and with each fault
 abbrev pub ComesTo : {S T : Type 0} → Result T DriveFault → (S → ℕ → Option (List ℕ) → List ℕ → S → Type 0) → (S → List ℕ → Type 0) → S → List ℕ → S
     → Bool → Option (List ℕ) → Bool → Option (List ℕ) → Option (List ℕ) → Type 0
-ComesTo (Ok x) answers ends start input end read_failed left write_failed before after = IsAllAnswered answers ends start input end left before after
-ComesTo (Err Read) answers ends start input end read_failed left write_failed before after =
+ComesTo (Ok x) answers closes start input end read_failed left write_failed before after = IsAllAnswered answers closes start input end left before after
+ComesTo (Err Read) answers closes start input end read_failed left write_failed before after =
     (read_failed ≡ true) × (length input ≤ 67108864) × AreAnswered answers start (complete_lines input) end before after
-ComesTo (Err Write) answers ends start input end read_failed left write_failed before after =
-    (write_failed ≡ true) × IsPartAnswered answers ends start input before after
-ComesTo (Err InputTooLong) answers ends start input end read_failed left write_failed before after =
+ComesTo (Err Write) answers closes start input end read_failed left write_failed before after =
+    (write_failed ≡ true) × IsPartAnswered answers closes start input before after
+ComesTo (Err InputTooLong) answers closes start input end read_failed left write_failed before after =
     (67108864 < length input) × AreAnswered answers start (complete_lines (take 67108864 input)) end before after
-ComesTo (Err Memory) answers ends start input end read_failed left write_failed before after = ⊥
+ComesTo (Err Memory) answers closes start input end read_failed left write_failed before after = ⊥
 
 -- an input was read from what was left to read, and this is what the stream comes to
-pub record IsStreamed {S T : Type 0} (outcome : Result T DriveFault) (answers : S → ℕ → Option (List ℕ) → List ℕ → S → Type 0) (ends : S → List ℕ → Type 0) (start end : S)
+pub record IsStreamed {S T : Type 0} (outcome : Result T DriveFault) (answers : S → ℕ → Option (List ℕ) → List ℕ → S → Type 0) (closes : S → List ℕ → Type 0) (start end : S)
     (read_failed : Bool) (left_before left_after : Option (List ℕ)) (write_failed : Bool) (before after : Option (List ℕ)) : Type 0 where
   pub input : List ℕ
   pub was_read : Consumes left_before left_after input
-  pub comes_to : ComesTo outcome answers ends start input end read_failed left_after write_failed before after
+  pub comes_to : ComesTo outcome answers closes start input end read_failed left_after write_failed before after

@@ -1,15 +1,16 @@
-//! The lines that answer an accepted report, with the same bytes before each.
+//! The lines that answer an accepted report, and the closing line, with the same bytes before each.
 
-ghost use Rattle.std.specs.Prelude.{◌≡◌, [], ◌++◌, if◌then◌else◌};
+ghost use Rattle.std.specs.Prelude.{[], ◌++◌, if◌then◌else◌};
 ghost use Rattle.std.specs.List.{flat_map};
 ghost use Rattle.cell_control.specs.Reports.{said};
 ghost use Rattle.run_log.specs.Sinks.{Wrote};
 ghost use Rattle.run_log.specs.EventLines.{report_line, order_line};
 ghost use Rattle.cell_drive.specs.AnswerLines.{late_line};
+ghost use Rattle.cell_drive.specs.DrivenLines.{closing_line};
 ghost use Rattle.cell_drive.specs.ManyCells.{accepted_lines};
 
-use crate::answer_lines::late_line;
-use cell_control::Report;
+use crate::answer_lines::{done_line, late_line, unfinished_line};
+use cell_control::{Controller, Dues, Report};
 use run_log::{LineText, Sink, WriteFault, put_all, put_order, put_report};
 use shop_base::MoveOrder;
 
@@ -83,4 +84,20 @@ pub(crate) fn put_accepted<W: Sink>(
     put_report_line(prefix, report, writer)?;
     put_late(prefix, report, late, writer)?;
     put_orders(prefix, orders, writer)
+}
+
+/// Writes the closing line: whether the run is done, and when, or how many reports are left.
+pub(crate) fn put_closing<D: Dues, W: Sink>(
+    prefix: &[u8],
+    controller: &Controller<D>,
+    writer: &mut W,
+) -> Result<(), WriteFault>
+    ensures { Wrote result (W.failed writer.new) (W.taken writer.old) (W.taken writer.new) (prefix.now ++ closing_line controller.now.plan.planned controller.now.cell) }
+{
+    let left = controller.reports_left();
+    if left == 0 {
+        put_behind(prefix, done_line(controller.now()).bytes(), writer)
+    } else {
+        put_behind(prefix, unfinished_line(left).bytes(), writer)
+    }
 }

@@ -6,11 +6,11 @@ ghost use Rattle.cell_control.specs.Reports.{said, IsFirstReason};
 ghost use Rattle.run_log.specs.Log.{Notes};
 ghost use Rattle.run_log.specs.Sinks.{Wrote};
 ghost use Rattle.cell_drive.specs.AnswerLines.{refused_line};
-ghost use Rattle.cell_drive.specs.Answering.{WasAnswered, WasEnded};
-ghost use Rattle.cell_drive.specs.Driven.{IsDriven, DriveAnswer, ControlEnds};
+ghost use Rattle.cell_drive.specs.Answering.{WasAnswered};
+ghost use Rattle.cell_drive.specs.Driven.{IsDriven, DriveAnswer};
 
-use crate::answer_lines::{done_line, refused_line, unfinished_line};
-use crate::cell_answers::put_accepted;
+use crate::answer_lines::refused_line;
+use crate::cell_answers::{put_accepted, put_closing};
 use crate::input_lines::report_of;
 use crate::line_handler::LineHandler;
 use cell_control::{Ack, Controller, Dues, Report, ReportFault};
@@ -119,23 +119,12 @@ fn answer_line<D: Dues, W: Sink>(
     answer_told(controller, log, number, line, writer)
 }
 
-/// Writes whether the run is done, and when, or how many reports are left.
-fn put_end<D: Dues, W: Sink>(controller: &Controller<D>, writer: &mut W) -> Result<(), WriteFault>
-    ensures { WasEnded ControlEnds controller.now result (W.failed writer.new) (W.taken writer.old) (W.taken writer.new) }
-{
-    if controller.is_done() {
-        put_all(writer, done_line(controller.now()).bytes())
-    } else {
-        put_all(writer, unfinished_line(controller.reports_left()).bytes())
-    }
-}
-
 impl<D: Dues> LineHandler for Driven<D> {
-    ghost use Rattle.cell_drive.specs.Driven.{DriveAnswer, ControlEnds};
+    ghost use Rattle.cell_drive.specs.Driven.{DriveAnswer, ControlCloses};
 
     ghost answers = { DriveAnswer };
 
-    ghost ends = { λ s. ControlEnds s.control };
+    ghost closes = { λ s. ControlCloses s.control };
 
     fn answer<W: Sink>(
         &mut self,
@@ -150,7 +139,7 @@ impl<D: Dues> LineHandler for Driven<D> {
         put_refused(number, b"LongLine", writer)
     }
 
-    fn end<W: Sink>(&self, writer: &mut W) -> Result<(), WriteFault> {
-        put_end(&self.controller, writer)
+    fn put_closing<W: Sink>(&self, writer: &mut W) -> Result<(), WriteFault> {
+        put_closing(b"", &self.controller, writer)
     }
 }

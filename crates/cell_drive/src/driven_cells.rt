@@ -1,23 +1,23 @@
 //! Several cells that are driven by lines.
 
-ghost use Rattle.std.specs.Prelude.{◌≡◌, ◌≤◌, ◌↔◌, ◌++◌, length, slice_get, [], ◌∷◌, Some, IsTrue, IfErr, OnOk};
+ghost use Rattle.std.specs.Prelude.{◌≡◌, ◌↔◌, ◌++◌, slice_get, [], ◌∷◌, Some, IsTrue, IfErr, OnOk};
 ghost use Rattle.shop_base.specs.Ends.{HasEnded};
 ghost use Rattle.cell_control.specs.Control.{Control, at_start};
 ghost use Rattle.run_log.specs.Sinks.{Wrote};
 ghost use Rattle.cell_drive.specs.Answering.{WasAnswered};
 ghost use Rattle.cell_drive.specs.CellLines.{cell_prefix};
-ghost use Rattle.cell_drive.specs.ManyCells.{CellsAnswer, AreAllDone, accepted_lines, fault_name};
-ghost use Rattle.cell_drive.specs.NumberedCells.{contents_of, AreNumbered, end_line_of, ends_text};
+ghost use Rattle.cell_drive.specs.DrivenLines.{closing_line};
+ghost use Rattle.cell_drive.specs.ManyCells.{CellsAnswer, AreAllDone, accepted_lines};
+ghost use Rattle.cell_drive.specs.NumberedCells.{contents_of, AreNumbered, closing_text};
 
-use crate::answer_lines::{done_line, unfinished_line};
-use crate::cell_answers::{put_accepted, put_behind};
+use crate::cell_answers::{put_accepted, put_closing};
 use crate::cell_lines::cell_report_of;
 use crate::drive_fault::DriveFault;
 use crate::driven::put_refused;
 use crate::line_handler::LineHandler;
 use crate::numbered_cells::{numbered_cell, orders_of, report_on};
-use cell_control::{Controller, Dues, Report};
-use cell_hub::{Hub, HubFault, Ticket};
+use cell_control::{Dues, Report};
+use cell_hub::{Hub, Ticket};
 use plan_verifier::Verified;
 use run_log::{LineText, Sink, WriteFault};
 use shop_base::MoveOrder;
@@ -77,19 +77,6 @@ fn prefix_of(cell: u64) -> LineText
     prefix
 }
 
-/// The name of the reason for which a report is refused.
-fn name_of(fault: HubFault) -> &'static [u8]
-    ensures name { result.now ≡ fault_name fault }
-    ensures short { length result.now ≤ 20 }
-{
-    match fault {
-        HubFault::NoSuchCell => b"NoSuchCell",
-        HubFault::SerialsSpent => b"SerialsSpent",
-        HubFault::Memory => b"Memory",
-        HubFault::Cell(reason) => reason.name().as_bytes(),
-    }
-}
-
 fn put_cell_answer<W: Sink>(
     cell: u32,
     report: Report,
@@ -126,27 +113,11 @@ fn answer_line<D: Dues, W: Sink>(
             let orders = orders_of(hub, tickets, cell as usize);
             put_cell_answer(cell, report, ack.late, orders, writer)
         }
-        Err(fault) => put_refused(number, name_of(fault), writer),
+        Err(fault) => put_refused(number, fault.name().as_bytes(), writer),
     }
 }
 
-fn put_cell_end<D: Dues, W: Sink>(
-    cell: u64,
-    controller: &Controller<D>,
-    writer: &mut W,
-) -> Result<(), WriteFault>
-    ensures { Wrote result (W.failed writer.new) (W.taken writer.old) (W.taken writer.new) (cell_prefix cell ++ end_line_of controller.now) }
-{
-    let prefix = prefix_of(cell);
-    let left = controller.reports_left();
-    if left == 0 {
-        put_behind(prefix.bytes(), done_line(controller.now()).bytes(), writer)
-    } else {
-        put_behind(prefix.bytes(), unfinished_line(left).bytes(), writer)
-    }
-}
-
-fn put_numbered_end<D: Dues, W: Sink>(
+fn put_numbered_closing<D: Dues, W: Sink>(
     hub: &Hub<D>,
     tickets: &[Ticket],
     cell: usize,
@@ -154,25 +125,25 @@ fn put_numbered_end<D: Dues, W: Sink>(
 ) -> Result<(), WriteFault>
     requires { AreNumbered hub.now tickets.now }
     ensures { (content : Control) → slice_get (contents_of hub.now tickets.now) cell ≡ Some content
-        → Wrote result (W.failed writer.new) (W.taken writer.old) (W.taken writer.new) (cell_prefix cell ++ end_line_of content) }
+        → Wrote result (W.failed writer.new) (W.taken writer.old) (W.taken writer.new) (cell_prefix cell ++ closing_line content.plan.planned content.cell) }
 {
     match numbered_cell(hub, tickets, cell) {
-        Some(controller) => put_cell_end(cell as u64, controller, writer),
+        Some(controller) => put_closing(prefix_of(cell as u64).bytes(), controller, writer),
         None => Ok(()),
     }
 }
 
-/// Writes for each cell whether its run is done, and when, or how many reports are left.
-fn put_ends<D: Dues, W: Sink>(
+/// Writes the closing line of each cell.
+fn put_closings<D: Dues, W: Sink>(
     hub: &Hub<D>,
     tickets: &[Ticket],
     writer: &mut W,
 ) -> Result<(), WriteFault>
     requires { AreNumbered hub.now tickets.now }
-    ensures { Wrote result (W.failed writer.new) (W.taken writer.old) (W.taken writer.new) (ends_text 0 (contents_of hub.now tickets.now)) }
+    ensures { Wrote result (W.failed writer.new) (W.taken writer.old) (W.taken writer.new) (closing_text 0 (contents_of hub.now tickets.now)) }
 {
     for cell in 0..tickets.len() {
-        put_numbered_end(hub, tickets, cell, writer)?;
+        put_numbered_closing(hub, tickets, cell, writer)?;
     }
     Ok(())
 }
@@ -228,11 +199,11 @@ impl<D: Dues> DrivenCells<D> {
 }
 
 impl<D: Dues> LineHandler for DrivenCells<D> {
-    ghost use Rattle.cell_drive.specs.ManyCells.{CellsAnswer, CellsEnd};
+    ghost use Rattle.cell_drive.specs.ManyCells.{CellsAnswer, CellsClose};
 
     ghost answers = { CellsAnswer };
 
-    ghost ends = { CellsEnd 0 };
+    ghost closes = { CellsClose 0 };
 
     fn answer<W: Sink>(
         &mut self,
@@ -247,7 +218,7 @@ impl<D: Dues> LineHandler for DrivenCells<D> {
         put_refused(number, b"LongLine", writer)
     }
 
-    fn end<W: Sink>(&self, writer: &mut W) -> Result<(), WriteFault> {
-        put_ends(&self.hub, &self.tickets, writer)
+    fn put_closing<W: Sink>(&self, writer: &mut W) -> Result<(), WriteFault> {
+        put_closings(&self.hub, &self.tickets, writer)
     }
 }

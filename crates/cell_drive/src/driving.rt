@@ -3,7 +3,7 @@
 ghost use Rattle.std.specs.Prelude.{◌≡◌, ℕ, List, IfOk, IfErr, Err};
 ghost use Rattle.std.specs.Io.KnownBytes.{Consumes};
 ghost use Rattle.cell_drive.specs.Driven.{IsDriven, drive_start};
-ghost use Rattle.cell_drive.specs.Driving.{IsDrivenThrough, IsBrokenOff, IsRunOf, IsSoFar, HasRoom, NeverWentWrong};
+ghost use Rattle.cell_drive.specs.Driving.{IsDrivenThrough, IsBrokenOff, IsRunOf, IsSoFar, IsNeverFull, NeverWentWrong};
 
 use crate::drive_fault::DriveFault;
 use crate::driven::Driven;
@@ -59,12 +59,12 @@ fn end_of(driven: Driven<TourneyDues>) -> DriveEnd
 }
 
 /// Drives the cell of an accepted plan: takes a report from each line of input, and answers it by the moves that it
-/// releases before the next line is read. Behind the last line comes whether the run is done.
+/// releases before the next line is read. The closing line says whether the run is done.
 ///
 /// The lines are `arrive JOB MOMENT`, `finish JOB MACHINE MOMENT` and `clean MACHINE MOMENT`. What isn't possible is
 /// refused by a line of its own, and changes nothing. A run that is done goes on to the end of its input.
 ///
-/// All memory is taken before the first byte is read. After a fault no end is written, and the plan is gone.
+/// All memory is taken before the first byte is read. After a fault no closing line is written, and the plan is gone.
 pub fn drive<R: Source, W: Sink>(
     alloc: Global,
     verified: Verified,
@@ -74,7 +74,7 @@ pub fn drive<R: Source, W: Sink>(
     ensures through { IfOk result (λ end. IsDrivenThrough verified.planned end.log.entries (R.left reader.old) (R.left reader.new) (W.taken writer.old) (W.taken writer.new)) }
     ensures run { IfOk result (λ end. IsRunOf verified.planned end.log.entries) }
     ensures so_far { IfOk result (λ end. IsSoFar verified.planned end.log.entries end.done end.last end.left) }
-    ensures never_full { IfOk result (λ end. HasRoom verified.planned end.log) }
+    ensures never_full { IfOk result (λ end. IsNeverFull verified.planned end.log) }
     ensures promised { IfOk result (λ end. NeverWentWrong verified end.log.entries) }
     ensures plan { IfOk result (λ end. end.verified ≡ verified) }
     ensures broken_off { IfErr result (λ fault. (input : List ℕ) × Consumes (R.left reader.old) (R.left reader.new) input

@@ -1,6 +1,6 @@
 //! Several runs that are driven from their starts to the end of one input.
 
-ghost use Rattle.std.specs.Prelude.{◌≡◌, ◌++◌, ◌∷◌, [], List, map, IfOk, IfErr, OnOk, Err};
+ghost use Rattle.std.specs.Prelude.{◌≡◌, List, map, IfOk, IfErr, Err};
 ghost use Rattle.cell_control.specs.Control.{Control, at_start};
 ghost use Rattle.cell_drive.specs.DrivingCells.{AreDriven};
 
@@ -9,7 +9,6 @@ use crate::driven_cells::DrivenCells;
 use crate::source::Source;
 use crate::streaming::stream;
 use cell_control::TourneyDues;
-use cell_hub::Hub;
 use plan_verifier::Verified;
 use run_log::Sink;
 use std::alloc::Global;

@@ -1,6 +1,6 @@
 //! The reports that lines of input are.
 
-ghost use Rattle.std.specs.Prelude.{◌≡◌, ◌≢◌, ℕ, ◌^◌, ◌<◌, ◌≤◌, ◌∷◌, ◌++◌, List, length, codes, IfSome, MatchOption};
+ghost use Rattle.std.specs.Prelude.{ℕ, ◌<◌, ◌++◌, codes, MatchOption};
 ghost use Rattle.cell_drive.specs.InputLines.{IsNumberAndMoment, IsFinishLine, IsReportLine, IsNoReport};
 
 use cell_control::Report;

@@ -1,5 +1,5 @@
 ghost use Rattle.std.specs.Prelude.{ℕ, ◌≤◌, List, length, Option, Some, None};
-ghost use Rattle.cell_drive.specs.Answering.{WasAnswered, WasEnded};
+ghost use Rattle.cell_drive.specs.Answering.{WasAnswered, WasClosed};
 
 use crate::held_line::LINE_LIMIT;
 use run_log::{Sink, WriteFault};
@@ -10,8 +10,8 @@ pub trait LineHandler {
     // to that state.
     ghost answers: { Self → ℕ → Option (List ℕ) → List ℕ → Self → Type 0 };
 
-    // What is written in this state after the last line.
-    ghost ends: { Self → List ℕ → Type 0 };
+    // The closing text in this state.
+    ghost closes: { Self → List ℕ → Type 0 };
 
     /// Answers the line of this number, from 1.
     fn answer<W: Sink>(
@@ -27,7 +27,7 @@ pub trait LineHandler {
     fn answer_long<W: Sink>(&mut self, number: u64, writer: &mut W) -> Result<(), WriteFault>
         ensures { WasAnswered answers self.old number None self.new result (W.failed writer.new) (W.taken writer.old) (W.taken writer.new) };
 
-    /// Writes what comes after the last line.
-    fn end<W: Sink>(&self, writer: &mut W) -> Result<(), WriteFault>
-        ensures { WasEnded ends self.now result (W.failed writer.new) (W.taken writer.old) (W.taken writer.new) };
+    /// Writes the closing text, which stands behind the last answer.
+    fn put_closing<W: Sink>(&self, writer: &mut W) -> Result<(), WriteFault>
+        ensures { WasClosed closes self.now result (W.failed writer.new) (W.taken writer.old) (W.taken writer.new) };
 }

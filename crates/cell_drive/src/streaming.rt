@@ -2,7 +2,7 @@
 
 ghost use Rattle.std.specs.Prelude.{◌≡◌, ◌+◌, ◌^◌, ◌<◌, [], length, Some};
 ghost use Rattle.cell_drive.specs.Answering.{WereAnswered};
-ghost use Rattle.cell_drive.specs.Reading.{IsTaken, IsDrained, IsFinished, last_line};
+ghost use Rattle.cell_drive.specs.Reading.{IsReadTaken, IsDrained, IsFinished, last_line};
 ghost use Rattle.cell_drive.specs.Streams.{IsStreamed};
 
 use crate::drive_fault::DriveFault;
@@ -24,7 +24,7 @@ fn take_read<H: LineHandler, W: Sink>(
     writer: &mut W,
 ) -> Result<usize, DriveFault>
     requires { input.old.lines + length piece.now < 2 ^ 64 }
-    ensures { IsTaken result H.answers handler.old input.old.lines input.old.held piece.now left handler.new input.new.lines input.new.held
+    ensures { IsReadTaken result H.answers handler.old input.old.lines input.old.held piece.now left handler.new input.new.lines input.new.held
         (W.failed writer.new) (W.taken writer.old) (W.taken writer.new) }
 {
     let within = piece.len().min(left);
@@ -76,21 +76,21 @@ fn answer_last<H: LineHandler, W: Sink>(
     answer_held(handler, input.lines + 1, &input.held, writer)
 }
 
-/// Answers the last line, where bytes of it are held, and writes the end.
+/// Answers the last line, where bytes of it are held, and writes the closing text.
 fn finish<H: LineHandler, W: Sink>(
     handler: &mut H,
     input: &Input,
     writer: &mut W,
 ) -> Result<(), WriteFault>
     requires { input.now.lines + 1 < 2 ^ 64 }
-    ensures { IsFinished result H.answers H.ends handler.old input.now.lines input.now.held handler.new
+    ensures { IsFinished result H.answers H.closes handler.old input.now.lines input.now.held handler.new
         (W.failed writer.new) (W.taken writer.old) (W.taken writer.new) }
 {
     answer_last(handler, input, writer)?;
-    handler.end(writer)
+    handler.put_closing(writer)
 }
 
-/// Answers each line that the reader gives, and writes the end behind the last.
+/// Answers each line that the reader gives, and writes the closing text behind the last answer.
 ///
 /// A line is answered once its line feed is read, or at the end of the input if bytes are left. One carriage
 /// return before the line feed, or at the end, isn't part of the line. No memory is taken: one line is held at
@@ -100,7 +100,7 @@ pub fn stream<H: LineHandler, R: Source, W: Sink>(
     reader: &mut R,
     writer: &mut W,
 ) -> Result<(), DriveFault>
-    ensures { IsStreamed result H.answers H.ends handler.old handler.new
+    ensures { IsStreamed result H.answers H.closes handler.old handler.new
         (R.failed reader.new) (R.left reader.old) (R.left reader.new) (W.failed writer.new) (W.taken writer.old) (W.taken writer.new) }
 {
     let mut input = Input {

@@ -22,7 +22,7 @@ struct Echo;
 impl LineHandler for Echo {
     ghost answers = { λ s number line text end. end ≡ s };
 
-    ghost ends = { λ s text. s ≡ s };
+    ghost closes = { λ s text. s ≡ s };
 
     fn answer<W: Sink>(
         &mut self,
@@ -43,7 +43,7 @@ impl LineHandler for Echo {
         put_all(writer, b"long|")
     }
 
-    fn end<W: Sink>(&self, writer: &mut W) -> Result<(), WriteFault> {
+    fn put_closing<W: Sink>(&self, writer: &mut W) -> Result<(), WriteFault> {
         put_all(writer, b".")
     }
 }

@@ -4,7 +4,7 @@ use Rattle.text_lines.specs.Lines.{lines_of}
 use Rattle.run_log.specs.declared.audited.Audit.{Audit}
 use Rattle.run_log.specs.declared.audit_fault.AuditFault.{AuditFault}
 use Rattle.run_log.specs.declared.audit_fault.AuditFault.TheVariants.{Memory}
-use Rattle.run_log.specs.Audits.{IsAudit, IsFirstBad, line_of}
+use Rattle.run_log.specs.Audits.{IsAudit, IsFirstBad, fault_line}
 use Rattle.run_log.specs.AuditNames.{fault_name}
 use Rattle.command_answers.specs.declared.answer.Answer.{Answer}
 use Rattle.command_answers.specs.Shapes.{IsNotShapedLine}
@@ -27,7 +27,7 @@ pub record IsKeptLine (p : PlannedShop) (log : List ℕ) (answer : Answer) : Typ
 
 -- the line of a fault
 pub record IsFaultLine (fault : AuditFault) (answer : Answer) : Type 0 where
-  pub line : answer.text.items ≡ codes "log refused " ++ decimal (line_of fault) ++ codes " " ++ fault_name fault ++ codes "\n"
+  pub line : answer.text.items ≡ codes "log refused " ++ decimal (fault_line fault) ++ codes " " ++ fault_name fault ++ codes "\n"
   pub refused : answer.status ≡ 1
 
 -- the line of a log that tells none: its first fault

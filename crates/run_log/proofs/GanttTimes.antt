@@ -6,7 +6,7 @@ use Rattle.shop_base.specs.declared.move_order.Spot.TheVariants.{Out, At}
 use Rattle.shop_base.specs.declared.move_order.MoveOrder.{MoveOrder}
 use Rattle.cell_control.specs.declared.report.Report.TheVariants.{Arrive, Finish, Clean}
 use Rattle.run_log.specs.declared.entry.Entry.{Entry}
-use Rattle.run_log.specs.declared.entry.Entry.TheVariants.{Report as Reported, Order as Ordered}
+use Rattle.run_log.specs.declared.entry.Entry.TheVariants.{Report as ReportEntry, Order as OrderEntry}
 use Rattle.run_log.specs.declared.gantt_times.Times.{Times}
 use Rattle.run_log.specs.GanttVisits.{finish_told, leave_told, times_of}
 use Rattle.run_log.specs.GanttTables.{no_times, IsPlace, AreTimes}
@@ -25,29 +25,29 @@ neither true true at apart = absurd (apart refl refl)
 neither true false at apart = refl
 neither false b at apart = refl
 
-finish-elsewhere : (j m i n at : ℕ) → (j ≡ i → m ≡ n → ⊥) → TellsNothing (Reported (Finish j m at)) i n
+finish-elsewhere : (j m i n at : ℕ) → (j ≡ i → m ≡ n → ⊥) → TellsNothing (ReportEntry (Finish j m at)) i n
 finish-elsewhere j m i n at apart = record {
   finish = neither (j == i) (m == n) at (λ same_job same_machine. apart (eqb-true j i same_job) (eqb-true m n same_machine));
   leave = refl;
 }
 
-leave-elsewhere : (order : MoveOrder) (m i n : ℕ) → order.source ≡ At m → (order.job ≡ i → m ≡ n → ⊥) → TellsNothing (Ordered order) i n
+leave-elsewhere : (order : MoveOrder) (m i n : ℕ) → order.source ≡ At m → (order.job ≡ i → m ≡ n → ⊥) → TellsNothing (OrderEntry order) i n
 leave-elsewhere order m i n from apart = record {
   finish = refl;
   leave = rw from (neither (order.job == i) (m == n) order.at (λ same_job same_machine. apart (eqb-true order.job i same_job) (eqb-true m n same_machine)));
 }
 
-entry-tells_nothing : (order : MoveOrder) (i n : ℕ) → order.source ≡ Out → TellsNothing (Ordered order) i n
+entry-tells_nothing : (order : MoveOrder) (i n : ℕ) → order.source ≡ Out → TellsNothing (OrderEntry order) i n
 entry-tells_nothing order i n from = record {
   finish = refl;
   leave = rw from (neither (order.job == i) false order.at (λ same_job never. cc));
 }
 
-told-finish : (j m at : ℕ) (later : List Entry) → times_of j m (Reported (Finish j m at) ∷ later) ≡ record { finish = Some at; leave = (times_of j m later).leave }
+told-finish : (j m at : ℕ) (later : List Entry) → times_of j m (ReportEntry (Finish j m at) ∷ later) ≡ record { finish = Some at; leave = (times_of j m later).leave }
 told-finish j m at later = rw (eq-eqb j j refl, eq-eqb m m refl) refl
 
 told-leave : (order : MoveOrder) (m : ℕ) (later : List Entry) → order.source ≡ At m
-    → times_of order.job m (Ordered order ∷ later) ≡ record { finish = (times_of order.job m later).finish; leave = Some order.at }
+    → times_of order.job m (OrderEntry order ∷ later) ≡ record { finish = (times_of order.job m later).finish; leave = Some order.at }
 told-leave order m later from = rw (from, eq-eqb order.job order.job refl, eq-eqb m m refl) refl
 
 -- an entry that tells nothing of what the table is for leaves it as it was
@@ -59,26 +59,26 @@ times-kept times entry later nothing are = record {
 
 -- an end of an operation of which the table has no place
 pub finish-passed : (times : List Times) (later : List Entry) (j m at : ℕ)
-    → (m < 100 → j * 100 + m < length times → ⊥) → AreTimes times later → AreTimes times (Reported (Finish j m at) ∷ later)
+    → (m < 100 → j * 100 + m < length times → ⊥) → AreTimes times later → AreTimes times (ReportEntry (Finish j m at) ∷ later)
 finish-passed times later j m at no_place = times-kept times _ later λ i n place is.
     finish-elsewhere j m i n at (λ same_job same_machine. no_place (omega (arith, is.machine)) (omega (arith, is.index, is.within)))
 
 -- a move from a machine of which the table has no place
 pub leave-passed : (times : List Times) (later : List Entry) (order : MoveOrder) (m : ℕ) → order.source ≡ At m
-    → (m < 100 → order.job * 100 + m < length times → ⊥) → AreTimes times later → AreTimes times (Ordered order ∷ later)
+    → (m < 100 → order.job * 100 + m < length times → ⊥) → AreTimes times later → AreTimes times (OrderEntry order ∷ later)
 leave-passed times later order m from no_place = times-kept times _ later λ i n place is.
     leave-elsewhere order m i n from (λ same_job same_machine. no_place (omega (arith, is.machine)) (omega (arith, is.index, is.within)))
 
 -- a move into the cell
-pub entering-passed : (times : List Times) (later : List Entry) (order : MoveOrder) → order.source ≡ Out → AreTimes times later → AreTimes times (Ordered order ∷ later)
+pub entering-passed : (times : List Times) (later : List Entry) (order : MoveOrder) → order.source ≡ Out → AreTimes times later → AreTimes times (OrderEntry order ∷ later)
 entering-passed times later order from = times-kept times _ later λ i n place is. entry-tells_nothing order i n from
 
 -- an arrival
-pub arrival-passed : (times : List Times) (later : List Entry) (j at : ℕ) → AreTimes times later → AreTimes times (Reported (Arrive j at) ∷ later)
+pub arrival-passed : (times : List Times) (later : List Entry) (j at : ℕ) → AreTimes times later → AreTimes times (ReportEntry (Arrive j at) ∷ later)
 arrival-passed times later j at = times-kept times _ later λ i n place is. record { finish = refl; leave = refl }
 
 -- the end of a cleaning
-pub cleaning-passed : (times : List Times) (later : List Entry) (m at : ℕ) → AreTimes times later → AreTimes times (Reported (Clean m at) ∷ later)
+pub cleaning-passed : (times : List Times) (later : List Entry) (m at : ℕ) → AreTimes times later → AreTimes times (ReportEntry (Clean m at) ∷ later)
 cleaning-passed times later m at = times-kept times _ later λ i n place is. record { finish = refl; leave = refl }
 
 -- the table with new times at one place
@@ -104,15 +104,15 @@ times-noted times entry later j m place new at is_new nothing are = record { tol
 
 -- the end of an operation is noted
 pub finish-noted : (times : List Times) (later : List Entry) (j m place at : ℕ) → IsPlace (length times) j m place → AreTimes times later
-    → AreTimes (set times place (record { finish = Some at; leave = (get_or times place no_times).leave })) (Reported (Finish j m at) ∷ later)
-finish-noted times later j m place at is are = times-noted times (Reported (Finish j m at)) later j m place _ is
+    → AreTimes (set times place (record { finish = Some at; leave = (get_or times place no_times).leave })) (ReportEntry (Finish j m at) ∷ later)
+finish-noted times later j m place at is are = times-noted times (ReportEntry (Finish j m at)) later j m place _ is
     (rw (are.told j m place is) (sym (told-finish j m at later)))
     (λ i n apart. finish-elsewhere j m i n at apart) are
 
 -- a move away from a machine is noted
 pub leave-noted : (times : List Times) (later : List Entry) (order : MoveOrder) (m place : ℕ) → order.source ≡ At m → IsPlace (length times) order.job m place
     → AreTimes times later
-    → AreTimes (set times place (record { finish = (get_or times place no_times).finish; leave = Some order.at })) (Ordered order ∷ later)
-leave-noted times later order m place from is are = times-noted times (Ordered order) later order.job m place _ is
+    → AreTimes (set times place (record { finish = (get_or times place no_times).finish; leave = Some order.at })) (OrderEntry order ∷ later)
+leave-noted times later order m place from is are = times-noted times (OrderEntry order) later order.job m place _ is
     (rw (are.told order.job m place is) (sym (told-leave order m later from)))
     (λ i n apart. leave-elsewhere order m i n from apart) are

@@ -6,7 +6,7 @@ use Rattle.std.proofs.lemmas.Bool.{eqb-true, eqb-false}
 use Rattle.shop_base.specs.declared.move_order.Spot.TheVariants.{At}
 use Rattle.shop_base.specs.declared.move_order.MoveOrder.{MoveOrder}
 use Rattle.run_log.specs.declared.entry.Entry.{Entry}
-use Rattle.run_log.specs.declared.entry.Entry.TheVariants.{Order as Ordered}
+use Rattle.run_log.specs.declared.entry.Entry.TheVariants.{Order as OrderEntry}
 use Rattle.run_log.specs.declared.gantt_visit.Visit.{Visit}
 use Rattle.run_log.specs.declared.gantt_visits.LinkedVisit.{LinkedVisit}
 use Rattle.run_log.specs.declared.gantt_visits.Visits.{Visits}
@@ -49,7 +49,7 @@ chain-cons table first visit visits chain =
 pub visits-more : (before after : Visits) (later : List Entry) (order : MoveOrder) (m : ℕ) → order.target ≡ At m → m < length before.first.items
     → after.table.items ≡ before.table.items ++ record { visit = visit_of order m later; next = get_or before.first.items m None } ∷ []
     → after.first.items ≡ set before.first.items m (Some (length before.table.items))
-    → AreVisits before later → AreVisits after (Ordered order ∷ later)
+    → AreVisits before later → AreVisits after (OrderEntry order ∷ later)
 visits-more before after later order m to inside table first are = record { chain = λ n within. rw (table, first, to) (go n (omega (arith, within, ap length first, length-set before.first.items m (Some (length before.table.items)))) (m == n) refl) }
   where
     new : LinkedVisit

@@ -10,9 +10,10 @@ use Rattle.text_lines.specs.Cuts.{HasNone, IsCutAt}
 use Rattle.text_lines.proofs.FirstWords.{no_space}
 use Rattle.cell_control.specs.declared.report.Report.{Report}
 use Rattle.cell_control.specs.declared.report.Report.TheVariants.{Arrive, Finish, Clean}
+use Rattle.cell_control.specs.Reports.{said}
 use Rattle.run_log.specs.declared.entry.Entry.{Entry}
 use Rattle.run_log.specs.declared.entry.Entry.TheVariants.{Report as ReportEntry, Order as OrderEntry}
-use Rattle.run_log.specs.LogLines.{spaced_words, is_passed_over, IsSpotWord, AreSpotWords, AreEndWords, AreReportWords, AreOrderWords, IsEntryLine, moment_of}
+use Rattle.run_log.specs.LogLines.{spaced_words, is_passed_over, IsSpotWord, AreSpotWords, AreEndWords, AreReportWords, AreOrderWords, IsEntryLine}
 use Rattle.run_log.specs.LogWords.{IsNumberFirst, HasNoNumberFirst, AreEndWordsAt, AreNoEndWords}
 use Rattle.run_log.proofs.SpacedWords.{words_first, words_one, words_back, numeral_one, spot_one}
 
@@ -99,7 +100,7 @@ no_report-moment words none report found = go found.1 found.3 found.4
         nothing (Arrive job t) e = let no_words = e.2 in absurd (cc)
         nothing (Finish job machine t) e = let no_words = e.4 in absurd (cc)
         nothing (Clean machine t) e = let no_words = e.2 in absurd (cc)
-    go (next ∷ rest) ends is = none (moment_of report) next rest (found.0, found.2, is)
+    go (next ∷ rest) ends is = none (said report).at next rest (found.0, found.2, is)
 
 pub same_number : (most n m : ℕ) (first other : List ℕ) → IsNumeral most first n → IsNumeral most other m → first ≡ other → m ≡ n
 same_number most n m first other is_first is_other same = is_other.value ∙ sym (ap value_of same) ∙ sym is_first.value

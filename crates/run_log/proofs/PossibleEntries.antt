@@ -16,18 +16,14 @@ use Rattle.shop_base.proofs.Visits.{past_leaves}
 use Rattle.shop_base.proofs.Keeping.{target_free}
 use Rattle.shop_base.proofs.CellFacts.{target_visited, visits_target}
 use Rattle.shop_base.proofs.Decisions.{leaving-keeps}
-use Rattle.cell_control.specs.declared.report.Report.{Report}
-use Rattle.cell_control.specs.declared.report.Report.TheVariants.{Arrive, Finish, Clean}
 use Rattle.cell_control.specs.declared.tables.Tables.{Tables}
 use Rattle.cell_control.specs.Tables.{cell_of, AreTables}
-use Rattle.cell_control.specs.Reports.{said}
 use Rattle.cell_control.proofs.Moves.{entries-more}
 use Rattle.run_log.specs.declared.entry.Entry.{Entry}
 use Rattle.run_log.specs.declared.entry.Entry.TheVariants.{Report as ReportEntry, Order as OrderEntry}
 use Rattle.run_log.specs.declared.audit_fault.AuditFault.{AuditFault}
 use Rattle.run_log.specs.declared.audit_fault.AuditFault.TheVariants.{BadLine, NotExpected, Backwards, NotReady, Occupied, OutOfOrder, WrongPlace, NotClean, Memory}
 use Rattle.run_log.specs.Events.{event_of}
-use Rattle.run_log.specs.LogLines.{moment_of}
 use Rattle.run_log.specs.Audits.{IsGoingOn, IsOpen, IsItsWay, IsTimely, IsTargetFault, IsWayFault, IsFaultOf}
 
 -- the operation of a job that is on a machine goes on there alone
@@ -53,11 +49,6 @@ worked_there p c j m actual on not_ready = (
 pub cleaning_there : (p : PlannedShop) (c : Cell) (m : ℕ) (from : Option ℕ) → from ≡ cleaning c m → IsTrue (is_some from) ↔ IsGoingOn p c (Cleaning m)
 cleaning_there p c m None is = ((λ some. absurd (cc)), λ going. let at = going.1.1.is_cleaned in absurd (cc))
 cleaning_there p c m (Some s) is = ((λ some. (s + clean p m, (s, record { is_cleaned = sym is; is_due = refl }))), λ going. refl)
-
-pub said_at : (report : Report) → moment_of report ≡ (said report).at
-said_at (Arrive job at) = refl
-said_at (Finish job machine at) = refl
-said_at (Clean machine at) = refl
 
 -- ---- the target of an order
 

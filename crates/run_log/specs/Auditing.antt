@@ -16,8 +16,8 @@ pub record IsTold (p : PlannedShop) (t : Tables) (told : List Entry) : Type 0 wh
   pub cell : cell_of p t ≡ ends_in p (events_of told)
 
 -- the entries that a line tells were put behind those before
-abbrev pub IsTaken : PlannedShop → List ℕ → List Entry → List Entry → Type 0
-IsTaken p line before after = (own : List Entry) × LineTells p line own × (after ≡ before ++ own)
+abbrev pub IsLineTaken : PlannedShop → List ℕ → List Entry → List Entry → Type 0
+IsLineTaken p line before after = (own : List Entry) × LineTells p line own × (after ≡ before ++ own)
 
 -- there is room for an entry of each of so many lines, as far as a run can have so many
 abbrev pub HasRoom : PlannedShop → ℕ → ℕ → Type 0

@@ -23,9 +23,9 @@ abbrev pub IsGoingOn : PlannedShop → Cell → Activity → Type 0
 IsGoingOn p c a = (due : ℕ) × GoesOn p c a due
 
 -- a job is on the machine
-abbrev pub IsHeld : PlannedShop → Cell → Spot → Type 0
-IsHeld p c Out = ⊥
-IsHeld p c (At m) = IsFree p c m → ⊥
+abbrev pub IsOccupied : PlannedShop → Cell → Spot → Type 0
+IsOccupied p c Out = ⊥
+IsOccupied p c (At m) = IsFree p c m → ⊥
 
 -- the machine is being cleaned, and no job is on it
 abbrev pub IsUnclean : PlannedShop → Cell → Spot → Type 0
@@ -44,7 +44,7 @@ IsOpen p c (At m) j = IsFree p c m × (cleaning c m ≡ None) × IsPrefix (entri
 
 -- the first fault of a target for job j
 abbrev pub IsTargetFault : PlannedShop → Cell → Spot → ℕ → AuditFault → Type 0
-IsTargetFault p c spot j (Occupied line) = IsHeld p c spot
+IsTargetFault p c spot j (Occupied line) = IsOccupied p c spot
 IsTargetFault p c spot j (NotClean line) = IsUnclean p c spot
 IsTargetFault p c spot j (OutOfOrder line) = IsOutOfTurn p c spot j
 IsTargetFault p c spot j fault = ⊥
@@ -69,7 +69,7 @@ IsFaultOf p c (ReportEntry report) (NotExpected line) = IsGoingOn p c (said repo
 IsFaultOf p c (ReportEntry report) (Backwards line) = IsGoingOn p c (said report).ended × ((said report).at < c.last)
 IsFaultOf p c (OrderEntry o) (Backwards line) = o.at < c.last
 IsFaultOf p c (OrderEntry o) (NotReady line) = (c.last ≤ o.at) × (ready c o.job ≡ false)
-IsFaultOf p c (OrderEntry o) (Occupied line) = IsTimely c o × IsHeld p c o.target
+IsFaultOf p c (OrderEntry o) (Occupied line) = IsTimely c o × IsOccupied p c o.target
 IsFaultOf p c (OrderEntry o) (NotClean line) = IsTimely c o × IsUnclean p c o.target
 IsFaultOf p c (OrderEntry o) (OutOfOrder line) = IsTimely c o × IsOutOfTurn p c o.target o.job
 IsFaultOf p c (OrderEntry o) (WrongPlace line) = IsTimely c o × IsOpen p c o.target o.job × (IsItsWay p c o → ⊥)
@@ -87,16 +87,16 @@ IsLineFault p c line Memory = ⊥
 IsLineFault p c line fault = (entry : Entry) × LineTells p line (entry ∷ []) × IsFaultOf p c entry fault
 
 -- the line of a fault
-abbrev pub line_of : AuditFault → ℕ
-line_of (BadLine line) = line
-line_of (NotExpected line) = line
-line_of (Backwards line) = line
-line_of (NotReady line) = line
-line_of (Occupied line) = line
-line_of (OutOfOrder line) = line
-line_of (WrongPlace line) = line
-line_of (NotClean line) = line
-line_of Memory = 0
+abbrev pub fault_line : AuditFault → ℕ
+fault_line (BadLine line) = line
+fault_line (NotExpected line) = line
+fault_line (Backwards line) = line
+fault_line (NotReady line) = line
+fault_line (Occupied line) = line
+fault_line (OutOfOrder line) = line
+fault_line (WrongPlace line) = line
+fault_line (NotClean line) = line
+fault_line Memory = 0
 
 -- the fault is the first of these lines: those before its line tell a run
 pub record IsFirstBad (p : PlannedShop) (lines : List (List ℕ)) (fault : AuditFault) : Type 0 where
@@ -104,7 +104,7 @@ pub record IsFirstBad (p : PlannedShop) (lines : List (List ℕ)) (fault : Audit
   pub line : List ℕ
   pub after : List (List ℕ)
   pub split : lines ≡ before ++ line ∷ after
-  pub number : line_of fault ≡ length before + 1
+  pub number : fault_line fault ≡ length before + 1
   pub told : List Entry
   pub tells : LinesTell p before told
   pub run : IsRun p (events_of told)

@@ -7,13 +7,13 @@ use Rattle.shop_base.specs.declared.move_order.MoveOrder.{MoveOrder}
 use Rattle.cell_control.specs.declared.report.Report.{Report}
 use Rattle.cell_control.specs.declared.report.Report.TheVariants.{Arrive, Finish, Clean}
 use Rattle.run_log.specs.declared.entry.Entry.{Entry}
-use Rattle.run_log.specs.declared.entry.Entry.TheVariants.{Report as Reported, Order as Ordered}
+use Rattle.run_log.specs.declared.entry.Entry.TheVariants.{Report as ReportEntry, Order as OrderEntry}
 
 -- words with one space between them, and a line feed at the end
-abbrev pub line_of : List (List ℕ) → List ℕ
-line_of [] = 10 ∷ []
-line_of (word ∷ []) = word ++ 10 ∷ []
-line_of (word ∷ next ∷ words) = word ++ 32 ∷ line_of (next ∷ words)
+abbrev pub spaced_line : List (List ℕ) → List ℕ
+spaced_line [] = 10 ∷ []
+spaced_line (word ∷ []) = word ++ 10 ∷ []
+spaced_line (word ∷ next ∷ words) = word ++ 32 ∷ spaced_line (next ∷ words)
 
 -- a machine's number, or `out` for outside the cell
 abbrev pub spot_word : Spot → List ℕ
@@ -22,18 +22,18 @@ spot_word (At machine) = decimal machine
 
 -- `report T arrive J`, `report T finish J M` or `report T clean M`
 abbrev pub report_line : Report → List ℕ
-report_line (Arrive job at) = line_of (codes "report" ∷ decimal at ∷ codes "arrive" ∷ decimal job ∷ [])
-report_line (Finish job machine at) = line_of (codes "report" ∷ decimal at ∷ codes "finish" ∷ decimal job ∷ decimal machine ∷ [])
-report_line (Clean machine at) = line_of (codes "report" ∷ decimal at ∷ codes "clean" ∷ decimal machine ∷ [])
+report_line (Arrive job at) = spaced_line (codes "report" ∷ decimal at ∷ codes "arrive" ∷ decimal job ∷ [])
+report_line (Finish job machine at) = spaced_line (codes "report" ∷ decimal at ∷ codes "finish" ∷ decimal job ∷ decimal machine ∷ [])
+report_line (Clean machine at) = spaced_line (codes "report" ∷ decimal at ∷ codes "clean" ∷ decimal machine ∷ [])
 
 -- `order T J FROM TO`
 abbrev pub order_line : MoveOrder → List ℕ
-order_line o = line_of (codes "order" ∷ decimal o.at ∷ decimal o.job ∷ spot_word o.source ∷ spot_word o.target ∷ [])
+order_line o = spaced_line (codes "order" ∷ decimal o.at ∷ decimal o.job ∷ spot_word o.source ∷ spot_word o.target ∷ [])
 
 -- the line of an entry
 abbrev pub entry_line : Entry → List ℕ
-entry_line (Reported report) = report_line report
-entry_line (Ordered order) = order_line order
+entry_line (ReportEntry report) = report_line report
+entry_line (OrderEntry order) = order_line order
 
 -- the lines of the entries, in order
 abbrev pub entry_lines : List Entry → List ℕ

@@ -5,13 +5,13 @@ use Rattle.run_log.specs.declared.entry.Entry.{Entry}
 use Rattle.run_log.specs.declared.gantt_visit.Visit.{Visit}
 use Rattle.run_log.specs.GanttVisits.{first_of, last_of, visits_to}
 
--- how long a cell of a bar is, so that at most 60 cells reach to the last moment
+-- how long a column of a bar is, so that at most 60 columns reach to the last moment
 abbrev pub scale_for : ℕ → ℕ
 scale_for last = last / 60 + 1
 
--- how many cells of this length reach to the last moment
-abbrev pub cells_for : ℕ → ℕ → ℕ
-cells_for last scale = last / scale + 1
+-- how many columns of this length reach to the last moment
+abbrev pub columns_for : ℕ → ℕ → ℕ
+columns_for last scale = last / scale + 1
 
 -- whether moment t is before a moment that may never come
 abbrev pub is_before : ℕ → Option ℕ → Bool
@@ -29,14 +29,14 @@ sign_of t visit =
     then Some (if is_before t visit.finish then digit_of visit.job else 61)
     else None
 
--- a cell: what is shown in it, else `.`
-abbrev pub cell_of : Option ℕ → ℕ
-cell_of None = 46
-cell_of (Some sign) = sign
+-- a column: what is shown in it, else `.`
+abbrev pub column_sign : Option ℕ → ℕ
+column_sign None = 46
+column_sign (Some sign) = sign
 
--- a bar: each cell shows the first visit that shows something at the cell's first moment
+-- a bar: each column shows the first visit that shows something at the column's first moment
 abbrev pub bar_of : ℕ → ℕ → List Visit → List ℕ
-bar_of scale cells visits = map (λ c. cell_of (first_of (sign_of (c * scale)) visits)) (range_with_len 0 cells)
+bar_of scale columns visits = map (λ c. column_sign (first_of (sign_of (c * scale)) visits)) (range_with_len 0 columns)
 
 -- a moment, or `?` for one that isn't told
 abbrev pub moment_word : Option ℕ → List ℕ
@@ -49,13 +49,13 @@ visit_word visit = codes " " ++ decimal visit.job ++ codes ":" ++ decimal visit.
 
 -- the two lines of machine m: its visits, and its bar
 abbrev pub machine_lines : ℕ → ℕ → List Entry → ℕ → List ℕ
-machine_lines scale cells entries m =
+machine_lines scale columns entries m =
     codes "machine " ++ decimal m ++ flat_map visit_word (visits_to m entries)
-    ++ codes "\nbar " ++ bar_of scale cells (visits_to m entries) ++ codes "\n"
+    ++ codes "\nbar " ++ bar_of scale columns (visits_to m entries) ++ codes "\n"
 
 -- the Gantt text of entries, for so many machines
 abbrev pub gantt_text : ℕ → List Entry → List ℕ
 gantt_text machines entries =
     let last = last_of entries in
     let scale = scale_for last in
-    codes "scale " ++ decimal scale ++ codes "\n" ++ flat_map (machine_lines scale (cells_for last scale) entries) (range_with_len 0 machines)
+    codes "scale " ++ decimal scale ++ codes "\n" ++ flat_map (machine_lines scale (columns_for last scale) entries) (range_with_len 0 machines)

@@ -6,7 +6,7 @@ use Rattle.shop_base.specs.declared.move_order.MoveOrder.{MoveOrder}
 use Rattle.cell_control.specs.declared.report.Report.TheVariants.{Arrive, Finish, Clean}
 use Rattle.cell_control.specs.Reports.{said}
 use Rattle.run_log.specs.declared.entry.Entry.{Entry}
-use Rattle.run_log.specs.declared.entry.Entry.TheVariants.{Report as Reported, Order as Ordered}
+use Rattle.run_log.specs.declared.entry.Entry.TheVariants.{Report as ReportEntry, Order as OrderEntry}
 use Rattle.run_log.specs.declared.gantt_visit.Visit.{Visit}
 use Rattle.run_log.specs.declared.gantt_times.Times.{Times}
 
@@ -21,14 +21,14 @@ first_of f [] = None
 first_of f (x ∷ xs) = or_else (f x) (first_of f xs)
 
 -- the moment of an entry
-abbrev pub moment_of : Entry → ℕ
-moment_of (Reported report) = (said report).at
-moment_of (Ordered order) = order.at
+abbrev pub entry_moment : Entry → ℕ
+entry_moment (ReportEntry report) = (said report).at
+entry_moment (OrderEntry order) = order.at
 
 -- the greatest moment of an entry, 0 where there is none
 abbrev pub last_of : List Entry → ℕ
 last_of [] = 0
-last_of (entry ∷ entries) = max (moment_of entry) (last_of entries)
+last_of (entry ∷ entries) = max (entry_moment entry) (last_of entries)
 
 -- whether the spot is machine m
 abbrev pub is_at : ℕ → Spot → Bool
@@ -37,15 +37,15 @@ is_at m (At machine) = machine == m
 
 -- the moment of the entry, if it ends the operation of job j on machine m
 abbrev pub finish_told : ℕ → ℕ → Entry → Option ℕ
-finish_told j m (Reported (Arrive job at)) = None
-finish_told j m (Reported (Finish job machine at)) = if (job == j) && (machine == m) then Some at else None
-finish_told j m (Reported (Clean machine at)) = None
-finish_told j m (Ordered order) = None
+finish_told j m (ReportEntry (Arrive job at)) = None
+finish_told j m (ReportEntry (Finish job machine at)) = if (job == j) && (machine == m) then Some at else None
+finish_told j m (ReportEntry (Clean machine at)) = None
+finish_told j m (OrderEntry order) = None
 
 -- the moment of the entry, if it moves job j away from machine m
 abbrev pub leave_told : ℕ → ℕ → Entry → Option ℕ
-leave_told j m (Reported report) = None
-leave_told j m (Ordered order) = if (order.job == j) && is_at m order.source then Some order.at else None
+leave_told j m (ReportEntry report) = None
+leave_told j m (OrderEntry order) = if (order.job == j) && is_at m order.source then Some order.at else None
 
 -- when the operation of job j on machine m first ends, and when j first leaves m
 abbrev pub times_of : ℕ → ℕ → List Entry → Times
@@ -63,5 +63,5 @@ visit_of order m later = record {
 -- the visits to machine m, in the order of the entries that begin them
 abbrev pub visits_to : ℕ → List Entry → List Visit
 visits_to m [] = []
-visits_to m (Reported report ∷ later) = visits_to m later
-visits_to m (Ordered order ∷ later) = if is_at m order.target then visit_of order m later ∷ visits_to m later else visits_to m later
+visits_to m (ReportEntry report ∷ later) = visits_to m later
+visits_to m (OrderEntry order ∷ later) = if is_at m order.target then visit_of order m later ∷ visits_to m later else visits_to m later

@@ -10,6 +10,7 @@ use Rattle.text_lines.specs.Numbers.{IsNumeral}
 use Rattle.cell_control.specs.declared.report.Report.{Report}
 use Rattle.cell_control.specs.declared.report.Report.TheVariants.{Arrive, Finish, Clean}
 use Rattle.cell_control.specs.Moving.{IsSpotOf}
+use Rattle.cell_control.specs.Reports.{said}
 use Rattle.run_log.specs.declared.entry.Entry.{Entry}
 use Rattle.run_log.specs.declared.entry.Entry.TheVariants.{Report as ReportEntry, Order as OrderEntry}
 
@@ -32,15 +33,9 @@ AreEndWords words (Arrive job at) = (j : List ℕ) × IsNumeral 9 j job × (word
 AreEndWords words (Finish job machine at) = (j : List ℕ) × (m : List ℕ) × IsNumeral 9 j job × IsNumeral 9 m machine × (words ≡ codes "finish" ∷ j ∷ m ∷ [])
 AreEndWords words (Clean machine at) = (m : List ℕ) × IsNumeral 9 m machine × (words ≡ codes "clean" ∷ m ∷ [])
 
--- the moment of a report
-abbrev pub moment_of : Report → ℕ
-moment_of (Arrive job at) = at
-moment_of (Finish job machine at) = at
-moment_of (Clean machine at) = at
-
 -- `T` with at most 13 digits, and the words behind it
 abbrev pub AreReportWords : List (List ℕ) → Report → Type 0
-AreReportWords words report = (t : List ℕ) × (rest : List (List ℕ)) × IsNumeral 13 t (moment_of report) × AreEndWords rest report × (words ≡ t ∷ rest)
+AreReportWords words report = (t : List ℕ) × (rest : List (List ℕ)) × IsNumeral 13 t (said report).at × AreEndWords rest report × (words ≡ t ∷ rest)
 
 -- `T J FROM TO`
 abbrev pub AreOrderWords : List (List ℕ) → MoveOrder → Type 0
@@ -60,7 +55,7 @@ AreEndsOf p (Clean machine at) = machine < machines p
 
 -- so are its moment and, of an order, both spots
 abbrev pub IsEntryOf : PlannedShop → Entry → Type 0
-IsEntryOf p (ReportEntry report) = AreEndsOf p report × (moment_of report ≤ MAX_MOMENT)
+IsEntryOf p (ReportEntry report) = AreEndsOf p report × ((said report).at ≤ MAX_MOMENT)
 IsEntryOf p (OrderEntry order) = (order.job < jobs p) × IsSpotOf p order.source × IsSpotOf p order.target × (order.at ≤ MAX_MOMENT)
 
 -- a line that tells no event, whatever follows its first word: empty, or begun as the other answers are

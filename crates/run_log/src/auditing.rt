@@ -1,13 +1,13 @@
 //! The audit of a log: whether its lines tell a run of the plan.
 
-ghost use Rattle.std.specs.Prelude.{◌≡◌, ◌+◌, ◌*◌, ◌<◌, ◌≤◌, ◌↔◌, [], ◌∷◌, ◌++◌, length, vec_len, vec_capacity, IfOk, OnOk, IfErr, OnErr};
+ghost use Rattle.std.specs.Prelude.{◌≡◌, ◌+◌, ◌*◌, ◌<◌, ◌≤◌, [], ◌∷◌, length, vec_capacity, IfOk, OnOk, IfErr};
 ghost use Rattle.shop_base.specs.Ends.{stated_number, reports_in};
 ghost use Rattle.text_lines.specs.Lines.{lines_of};
 ghost use Rattle.cell_control.specs.Tables.{cell_of};
 ghost use Rattle.run_log.specs.Events.{event_of, events_of};
 ghost use Rattle.run_log.specs.LogLines.{LinesTell};
-ghost use Rattle.run_log.specs.Audits.{IsAudit, IsAuditFault, IsLineFault, IsFirstBad, TellRun, line_of};
-ghost use Rattle.run_log.specs.Auditing.{IsTold, IsTaken, HasRoom};
+ghost use Rattle.run_log.specs.Audits.{IsAudit, IsAuditFault, IsLineFault, IsFirstBad, TellRun, fault_line};
+ghost use Rattle.run_log.specs.Auditing.{IsTold, IsLineTaken, HasRoom};
 
 use crate::audit_fault::AuditFault;
 use crate::audited::Audit;
@@ -108,9 +108,9 @@ fn take_line(
     requires told { IsTold shaped.now tables.old entries.old.items }
     requires room { length entries.old.items < 2 * stated_number shaped.now → length entries.old.items < vec_capacity entries.old }
     ensures told { OnOk result (IsTold shaped.now tables.new entries.new.items) }
-    ensures tells { OnOk result (IsTaken shaped.now line.now entries.old.items entries.new.items) }
+    ensures tells { OnOk result (IsLineTaken shaped.now line.now entries.old.items entries.new.items) }
     ensures capacity { OnOk result (vec_capacity entries.new ≡ vec_capacity entries.old) }
-    ensures number { IfErr result (λ fault. line_of fault ≡ number) }
+    ensures number { IfErr result (λ fault. fault_line fault ≡ number) }
     ensures fault { IfErr result (IsLineFault shaped.now (cell_of shaped.now tables.old) line.now) }
 {
     let Some(entry) = told_entry(shaped, line) else {

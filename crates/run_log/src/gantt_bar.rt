@@ -1,4 +1,4 @@
-//! The bar of a machine: which job is on it, in cells of equal length.
+//! The bar of a machine: which job is on it, in columns of equal length.
 
 ghost use Rattle.std.specs.Prelude.{◌≡◌, ◌≢◌, ℕ, ◌*◌, ◌<◌, ◌≤◌, if◌then◌else◌, slice_index_or, None, Some};
 ghost use Rattle.run_log.specs.declared.gantt_bar.TheConstants.{MAX_SCALE};
@@ -8,40 +8,40 @@ ghost use Rattle.run_log.specs.GanttText.{is_before, digit_of, sign_of};
 use crate::gantt_visit::Visit;
 use shop_base::Moment;
 
-/// The greatest number of cells.
-pub(crate) const MAX_CELLS: usize = 60;
+/// The greatest number of columns.
+pub(crate) const MAX_COLUMNS: usize = 60;
 
-/// The greatest length of a cell.
+/// The greatest length of a column.
 pub(crate) const MAX_SCALE: Moment = u64::MAX / 60 + 1;
 
-/// A bar's cells, each with what it shows so far.
-pub(crate) type Bar = [Option<char>; MAX_CELLS];
+/// A bar's columns, each with what it shows so far.
+pub(crate) type Bar = [Option<char>; MAX_COLUMNS];
 
-/// Shows a visit in each cell in which its job is there and none is shown yet.
+/// Shows a visit in each column in which its job is there and none is shown yet.
 pub(crate) fn show_visit(bar: &mut Bar, scale: Moment, visit: Visit)
     requires above { 0 < scale }
     requires below { scale ≤ MAX_SCALE }
     ensures { (c : ℕ) → c < 60 → slice_index_or bar.new c None ≡ or_else (slice_index_or bar.old c None) (sign_of (c * scale) visit) }
 {
-    let mut cell = visit.enter.div_ceil(scale);
-    while cell < MAX_CELLS as u64 {
-        let moment = cell * scale;
+    let mut column = visit.enter.div_ceil(scale);
+    while column < MAX_COLUMNS as u64 {
+        let moment = column * scale;
         if !is_before(moment, visit.leave) {
             return;
         }
-        show_sign(bar, cell as usize, sign_at(moment, visit));
-        cell += 1;
+        show_sign(bar, column as usize, sign_at(moment, visit));
+        column += 1;
     }
 }
 
-/// Shows a sign in a cell in which none is shown yet.
-fn show_sign(bar: &mut Bar, cell: usize, sign: char)
-    requires { cell < 60 }
-    ensures here { slice_index_or bar.new cell None ≡ or_else (slice_index_or bar.old cell None) (Some sign) }
-    ensures others { (c : ℕ) → c ≢ cell → slice_index_or bar.new c None ≡ slice_index_or bar.old c None }
+/// Shows a sign in a column in which none is shown yet.
+fn show_sign(bar: &mut Bar, column: usize, sign: char)
+    requires { column < 60 }
+    ensures here { slice_index_or bar.new column None ≡ or_else (slice_index_or bar.old column None) (Some sign) }
+    ensures others { (c : ℕ) → c ≢ column → slice_index_or bar.new c None ≡ slice_index_or bar.old c None }
 {
-    if bar[cell].is_none() {
-        bar[cell] = Some(sign);
+    if bar[column].is_none() {
+        bar[column] = Some(sign);
     }
 }
 

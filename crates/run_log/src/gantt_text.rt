@@ -3,13 +3,13 @@
 ghost use Rattle.std.specs.Prelude.{◌≡◌, ℕ, ◌*◌, ◌<◌, ◌≤◌, ◌++◌, length, map, flat_map, slice_index_or, None, Some, decimal, string_bytes, IfOk, OnOk};
 ghost use Rattle.std.specs.List.{range_with_len};
 ghost use Rattle.shop_base.specs.Plan.{machines};
-ghost use Rattle.run_log.specs.GanttVisits.{or_else, first_of, last_of, moment_of, visits_to};
-ghost use Rattle.run_log.specs.GanttText.{gantt_text, scale_for, cells_for, machine_lines, visit_word, moment_word, sign_of, cell_of};
+ghost use Rattle.run_log.specs.GanttVisits.{or_else, first_of, last_of, entry_moment, visits_to};
+ghost use Rattle.run_log.specs.GanttText.{gantt_text, scale_for, columns_for, machine_lines, visit_word, moment_word, sign_of, column_sign};
 ghost use Rattle.run_log.specs.GanttTables.{AreVisits};
 ghost use Rattle.run_log.specs.declared.gantt_bar.TheConstants.{MAX_SCALE};
 
 use crate::entry::Entry;
-use crate::gantt_bar::{Bar, MAX_CELLS, show_visit};
+use crate::gantt_bar::{Bar, MAX_COLUMNS, show_visit};
 use crate::gantt_visit::Visit;
 use crate::gantt_visits::{Visits, visits_of};
 use itoa::Buffer;
@@ -17,10 +17,10 @@ use shop_base::readers::machine_count;
 use shop_base::{MachineNo, Moment, Shaped};
 use std::alloc::{AllocError, Global};
 
-/// The Gantt text of the entries: the scale, which is the length of a bar's cell, and for each machine of the
-/// shop its visits as ` JOB:ENTER-FINISH-LEAVE` and its bar of at most 60 cells.
+/// The Gantt text of the entries: the scale, which is the length of a bar's column, and for each machine of the
+/// shop its visits as ` JOB:ENTER-FINISH-LEAVE` and its bar of at most 60 columns.
 ///
-/// A cell shows the job that is on the machine at the cell's first moment, by the last digit of its number, or
+/// A column shows the job that is on the machine at the column's first moment, by the last digit of its number, or
 /// `=` once its operation has ended. Any entries are taken, whether they are a run's or not.
 pub fn gantt(alloc: Global, shaped: &Shaped, entries: &[Entry]) -> Result<String, AllocError>
     ensures { IfOk result (λ text. string_bytes text ≡ gantt_text (machines shaped.now) entries.now) }
@@ -28,7 +28,7 @@ pub fn gantt(alloc: Global, shaped: &Shaped, entries: &[Entry]) -> Result<String
     let visits = visits_of(alloc, shaped, entries)?;
     let last = last_moment(entries);
     let scale = scale_for(last);
-    let cells = cells_for(last, scale);
+    let columns = columns_for(last, scale);
     let mut text = String::new(alloc);
     text.push_str("scale ")?;
     push_number(&mut text, scale)?;
@@ -38,7 +38,7 @@ pub fn gantt(alloc: Global, shaped: &Shaped, entries: &[Entry]) -> Result<String
         &visits,
         machine_count(shaped),
         scale,
-        cells,
+        columns,
         entries,
     )?;
     Ok(text)
@@ -49,12 +49,12 @@ fn scale_for(last: Moment) -> Moment
     ensures above { 0 < result }
     ensures below { result ≤ MAX_SCALE }
 {
-    last / MAX_CELLS as u64 + 1
+    last / MAX_COLUMNS as u64 + 1
 }
 
-fn cells_for(last: Moment, scale: Moment) -> usize
+fn columns_for(last: Moment, scale: Moment) -> usize
     requires { scale ≡ scale_for last }
-    ensures cells { result ≡ cells_for last scale }
+    ensures columns { result ≡ columns_for last scale }
     ensures few { result ≤ 60 }
 {
     (last / scale + 1) as usize
@@ -65,13 +65,13 @@ fn last_moment(entries: &[Entry]) -> Moment
 {
     let mut last = 0;
     for entry in entries {
-        last = last.max(moment_of(*entry));
+        last = last.max(entry_moment(*entry));
     }
     last
 }
 
-fn moment_of(entry: Entry) -> Moment
-    ensures { result ≡ moment_of entry }
+fn entry_moment(entry: Entry) -> Moment
+    ensures { result ≡ entry_moment entry }
 {
     match entry {
         Entry::Report(report) => report.at(),
@@ -84,18 +84,18 @@ fn push_machines(
     visits: &Visits,
     machines: u32,
     scale: Moment,
-    cells: usize,
+    columns: usize,
     _entries: &[Entry],
 ) -> Result<(), AllocError>
     requires visits { AreVisits visits.now _entries.now }
     requires machines { length visits.now.first.items ≡ machines }
     requires above { 0 < scale }
     requires below { scale ≤ MAX_SCALE }
-    requires cells { cells ≤ 60 }
-    ensures { OnOk result (string_bytes text.new ≡ string_bytes text.old ++ flat_map (machine_lines scale cells _entries.now) (range_with_len 0 machines)) }
+    requires columns { columns ≤ 60 }
+    ensures { OnOk result (string_bytes text.new ≡ string_bytes text.old ++ flat_map (machine_lines scale columns _entries.now) (range_with_len 0 machines)) }
 {
     for machine in 0..machines {
-        push_machine(text, visits, machine, scale, cells, _entries)?;
+        push_machine(text, visits, machine, scale, columns, _entries)?;
     }
     Ok(())
 }
@@ -106,22 +106,22 @@ fn push_machine(
     visits: &Visits,
     machine: MachineNo,
     scale: Moment,
-    cells: usize,
+    columns: usize,
     _entries: &[Entry],
 ) -> Result<(), AllocError>
     requires visits { AreVisits visits.now _entries.now }
     requires machine { machine < length visits.now.first.items }
     requires above { 0 < scale }
     requires below { scale ≤ MAX_SCALE }
-    requires cells { cells ≤ 60 }
-    ensures { OnOk result (string_bytes text.new ≡ string_bytes text.old ++ machine_lines scale cells _entries.now machine) }
+    requires columns { columns ≤ 60 }
+    ensures { OnOk result (string_bytes text.new ≡ string_bytes text.old ++ machine_lines scale columns _entries.now machine) }
 {
     text.push_str("machine ")?;
     push_number(text, u64::from(machine))?;
-    let mut bar = [None; MAX_CELLS];
+    let mut bar = [None; MAX_COLUMNS];
     push_visits(text, &mut bar, visits, machine, scale, _entries)?;
     text.push_str("\nbar ")?;
-    push_cells(text, &bar[..cells])?;
+    push_columns(text, &bar[..columns])?;
     text.push_str("\n")?;
     Ok(())
 }
@@ -183,20 +183,20 @@ fn push_number(text: &mut String, number: u64) -> Result<(), AllocError>
     text.push_str(buffer.format(number))
 }
 
-fn push_cells(text: &mut String, cells: &[Option<char>]) -> Result<(), AllocError>
-    requires { (c sign : ℕ) → slice_index_or cells.now c None ≡ Some sign → sign < 128 }
-    ensures { OnOk result (string_bytes text.new ≡ string_bytes text.old ++ map cell_of cells.now) }
+fn push_columns(text: &mut String, columns: &[Option<char>]) -> Result<(), AllocError>
+    requires { (c sign : ℕ) → slice_index_or columns.now c None ≡ Some sign → sign < 128 }
+    ensures { OnOk result (string_bytes text.new ≡ string_bytes text.old ++ map column_sign columns.now) }
 {
-    for cell in cells {
-        text.push(cell_shown(*cell))?;
+    for column in columns {
+        text.push(column_sign(*column))?;
     }
     Ok(())
 }
 
-fn cell_shown(cell: Option<char>) -> char
-    ensures { result ≡ cell_of cell }
+fn column_sign(column: Option<char>) -> char
+    ensures { result ≡ column_sign column }
 {
-    match cell {
+    match column {
         Some(sign) => sign,
         None => '.',
     }

@@ -1,7 +1,6 @@
 //! The visits to each machine, found in one pass over the entries, from the last to the first.
 
-ghost use Rattle.std.specs.Prelude.{◌≡◌, ◌<◌, ◌≤◌, ◌++◌, [], ◌∷◌, length, slice_set, slice_index_or, None, Some, IfOk, OnOk};
-ghost use Rattle.shop_base.specs.declared.limits.TheConstants.{MAX_JOBS};
+ghost use Rattle.std.specs.Prelude.{◌≡◌, ◌<◌, ◌++◌, [], ◌∷◌, length, slice_set, slice_index_or, None, Some, IfOk, OnOk};
 ghost use Rattle.shop_base.specs.Plan.{machines};
 ghost use Rattle.run_log.specs.GanttTables.{AreTimes, AreVisits};
 
@@ -9,7 +8,7 @@ use crate::entry::Entry;
 use crate::gantt_times::{Times, no_times, note_times, times_at};
 use crate::gantt_visit::Visit;
 use shop_base::readers::{job_count, machine_count};
-use shop_base::{MachineNo, MoveOrder, Shaped, Spot};
+use shop_base::{MachineNo, Shaped, Spot};
 use std::alloc::{AllocError, Global};
 
 /// A visit, with the place of the next one to the same machine.

@@ -11,7 +11,7 @@ ghost use Rattle.cell_control.specs.Moving.{IsSpotOf};
 ghost use Rattle.cell_control.specs.Reports.{said};
 ghost use Rattle.run_log.specs.Events.{event_of};
 ghost use Rattle.run_log.specs.LogLines.{AreEndsOf, IsEntryOf};
-ghost use Rattle.run_log.specs.Audits.{IsGoingOn, IsOpen, IsItsWay, IsFaultOf, IsTargetFault, IsWayFault, line_of};
+ghost use Rattle.run_log.specs.Audits.{IsGoingOn, IsOpen, IsItsWay, IsFaultOf, IsTargetFault, IsWayFault, fault_line};
 
 use crate::audit_fault::AuditFault;
 use crate::entry::Entry;
@@ -32,7 +32,7 @@ pub(crate) fn check_entry(
     requires sound { AreSound shaped.now tables.now }
     requires of_shop { IsEntryOf shaped.now entry }
     ensures possible { OnOk result (CanHappen shaped.now (cell_of shaped.now tables.now) (event_of entry)) }
-    ensures number { IfErr result (λ fault. line_of fault ≡ line) }
+    ensures number { IfErr result (λ fault. fault_line fault ≡ line) }
     ensures fault { IfErr result (IsFaultOf shaped.now (cell_of shaped.now tables.now) entry) }
 {
     match entry {
@@ -50,7 +50,7 @@ fn check_end(
     requires sound { AreSound shaped.now tables.now }
     requires of_shop { IsEntryOf shaped.now (Entry.Report report) }
     ensures possible { OnOk result (CanHappen shaped.now (cell_of shaped.now tables.now) (event_of (Entry.Report report))) }
-    ensures number { IfErr result (λ fault. line_of fault ≡ line) }
+    ensures number { IfErr result (λ fault. fault_line fault ≡ line) }
     ensures fault { IfErr result (IsFaultOf shaped.now (cell_of shaped.now tables.now) (Entry.Report report)) }
 {
     if !is_going_on(shaped, tables, report) {
@@ -111,7 +111,7 @@ fn check_order(
     requires sound { AreSound shaped.now tables.now }
     requires of_shop { IsEntryOf shaped.now (Entry.Order order) }
     ensures possible { OnOk result (CanHappen shaped.now (cell_of shaped.now tables.now) (event_of (Entry.Order order))) }
-    ensures number { IfErr result (λ fault. line_of fault ≡ line) }
+    ensures number { IfErr result (λ fault. fault_line fault ≡ line) }
     ensures fault { IfErr result (IsFaultOf shaped.now (cell_of shaped.now tables.now) (Entry.Order order)) }
 {
     if order.at < tables.last {
@@ -137,7 +137,7 @@ fn check_way(
     requires job { order.job < jobs shaped.now }
     requires not_gone { made (cell_of shaped.now tables.now) order.job ≤ steps shaped.now order.job }
     ensures way { OnOk result (IsItsWay shaped.now (cell_of shaped.now tables.now) order) }
-    ensures number { IfErr result (λ fault. line_of fault ≡ line) }
+    ensures number { IfErr result (λ fault. fault_line fault ≡ line) }
     ensures fault { IfErr result (IsWayFault shaped.now (cell_of shaped.now tables.now) order) }
 {
     let next = next_order(shaped, tables, order.job, order.at);
@@ -175,7 +175,7 @@ fn check_target(
     requires sound { AreSound shaped.now tables.now }
     requires target { IsSpotOf shaped.now order.target }
     ensures open { OnOk result (IsOpen shaped.now (cell_of shaped.now tables.now) order.target order.job) }
-    ensures number { IfErr result (λ fault. line_of fault ≡ line) }
+    ensures number { IfErr result (λ fault. fault_line fault ≡ line) }
     ensures fault { IfErr result (IsTargetFault shaped.now (cell_of shaped.now tables.now) order.target order.job) }
 {
     let Spot::At(machine) = order.target else {

@@ -1,6 +1,6 @@
 //! The entries that the lines of a log tell.
 
-ghost use Rattle.std.specs.Prelude.{◌≡◌, ℕ, ◌^◌, ◌<◌, ◌≤◌, ◌↔◌, List, [], ◌∷◌, codes, MatchOption, IfSome, IsTrue};
+ghost use Rattle.std.specs.Prelude.{◌≡◌, ◌^◌, ◌<◌, ◌≤◌, ◌↔◌, [], ◌∷◌, codes, MatchOption, IfSome, IsTrue};
 ghost use Rattle.cell_control.specs.Moving.{IsSpotOf};
 ghost use Rattle.run_log.specs.LogLines.{spaced_words, is_passed_over, IsSpotWord, AreSpotWords, AreReportWords, AreOrderWords, IsEntryLine, AreEndsOf, IsEntryOf, LineTells};
 ghost use Rattle.run_log.specs.LogWords.{IsNumberFirst, HasNoNumberFirst, AreEndWordsAt, AreNoEndWords};

@@ -1,5 +1,5 @@
 use Rattle.std.proofs.Common.{◌+◌, ◌≤◌, ◌∷◌, length, map, sym, subst}
-use Rattle.run_log.specs.declared.entry.Entry.TheVariants.{Report, Order}
+use Rattle.run_log.specs.declared.entry.Entry.TheVariants.{Report as ReportEntry, Order as OrderEntry}
 use Rattle.run_log.specs.Log.{Notes}
 use Rattle.cell_drive.proofs.DrivenRuns.{room_for, driven_more}
 use Rattle.cell_drive.proofs.driven.take_report.Goals as goal
@@ -11,5 +11,5 @@ note-requires g c =
 
 pub returns-clause-driven : goal.returns-clause-driven
 returns-clause-driven g c =
-    let notes = subst (λ os. Notes c.args.log.now c.note.new.log (Report c.args.report ∷ map Order os)) c.orders.ensures c.note.ensures in
+    let notes = subst (λ os. Notes c.args.log.now c.note.new.log (ReportEntry c.args.report ∷ map OrderEntry os)) c.orders.ensures c.note.ensures in
     driven_more (record { control = c.args.controller.now; log = c.args.log.now }) c.args.report c.in_ok-ack.ack c.report.new.self c.requires c.in_ok-ack.ensures.answered c.note.new.log notes

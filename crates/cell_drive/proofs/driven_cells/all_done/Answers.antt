@@ -1,7 +1,7 @@
 use Rattle.std.proofs.Common.{arith, refl}
 use Rattle.cell_drive.specs.NumberedCells.{contents_of}
 use Rattle.cell_drive.proofs.Numbering.{length_contents}
-use Rattle.cell_drive.proofs.CellsEnds.{content_below, next_done, one_more_done, none_left}
+use Rattle.cell_drive.proofs.Closing.{content_below, next_done, one_more_done, none_left}
 use Rattle.cell_drive.proofs.driven_cells.all_done.Goals as goal
 
 pub returns-then-not-is_done : goal.returns-then-not-is_done

@@ -1,4 +1,4 @@
-use Rattle.std.proofs.Common.{refl, ap}
+use Rattle.std.proofs.Common.{refl, ap, ◌∙◌}
 use Rattle.std.proofs.KnownBytes.{Appends-nil}
 use Rattle.cell_drive.specs.AnswerLines.{refused_line}
 use Rattle.cell_drive.proofs.DrivenAnswers.{no_bytes, some_bytes}
@@ -21,5 +21,5 @@ pub returns-in-Err-clause-answered : goal.returns-in-Err-clause-answered
 returns-in-Err-clause-answered g c =
     cells_answered _ _ _ _ _ _ _ _ _
     (answer_refused _ _ _ _ _ c.in-Some.cell c.in-Some.report c.in-Err.fault c.in-Some.ensures c.in-Err.ensures.reported
-    (ap (refused_line c.args.number) c.name_of.ensures.name))
+    (ap (refused_line c.args.number) (c.as_bytes.ensures.value ∙ c.name.ensures)))
     c.put_refused-in-Err.ensures

@@ -1,6 +1,6 @@
 use Rattle.std.proofs.Common.{◌∙◌, ap}
 use Rattle.run_log.specs.Log.{Noted}
-use Rattle.cell_drive.proofs.DrivenEnds.{driven_through, broken_off, room_of, of_plan}
+use Rattle.cell_drive.proofs.DrivenEnds.{driven_through, broken_off, never_full_of, of_plan}
 use Rattle.cell_drive.proofs.driving.drive.Goals as goal
 
 pub returns-in-Ok-stream-clause-through : goal.returns-in-Ok-stream-clause-through
@@ -21,7 +21,7 @@ returns-in-Ok-stream-clause-so_far g c =
 pub returns-in-Ok-stream-clause-never_full : goal.returns-in-Ok-stream-clause-never_full
 returns-in-Ok-stream-clause-never_full g c =
     let through = driven_through c.args.verified _ c.in-Ok.driven c.stream.new.handler _ _ _ _ _ _ c.in-Ok.ensures c.in-Ok-stream.ensures c.end_of.ensures.driven in
-    room_of c.args.verified c.stream.new.handler c.end_of.result.log c.end_of.ensures.driven through.1 c.end_of.ensures.log
+    never_full_of c.args.verified c.stream.new.handler c.end_of.result.log c.end_of.ensures.driven through.1 c.end_of.ensures.log
 
 pub returns-in-Ok-stream-clause-promised : goal.returns-in-Ok-stream-clause-promised
 returns-in-Ok-stream-clause-promised g c =

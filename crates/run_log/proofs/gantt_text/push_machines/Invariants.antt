@@ -5,4 +5,4 @@ use Rattle.run_log.specs.GanttText.{machine_lines}
 use Rattle.run_log.proofs.gantt_text.push_machines.Given as goal
 
 abbrev pub invariant-loop-machine : goal.invariant-loop-machine
-invariant-loop-machine l = string_bytes l.text ≡ string_bytes l.initial.text ++ flat_map (machine_lines l.scale l.cells l._entries) (range_with_len 0 l.machine)
+invariant-loop-machine l = string_bytes l.text ≡ string_bytes l.initial.text ++ flat_map (machine_lines l.scale l.columns l._entries) (range_with_len 0 l.machine)

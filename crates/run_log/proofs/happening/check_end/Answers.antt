@@ -1,6 +1,5 @@
 use Rattle.std.proofs.Common.{arith}
 use Rattle.cell_control.proofs.Cells.{last-read}
-use Rattle.run_log.proofs.PossibleEntries.{said_at}
 use Rattle.run_log.proofs.happening.check_end.Goals as goal
 
 pub returns-then-at-tables-clause-fault : goal.returns-then-at-tables-clause-fault
@@ -12,6 +11,6 @@ returns-clause-possible c = record {
   going = c.is_going_on.ensures.0 c.if-not-is_going_on.false;
   moment = record {
     in_order = omega (arith, c.if-at-tables.false, c.at.ensures, last-read c.args.shaped.now c.args.tables.now);
-    in_range = omega (arith, c.requires.of_shop.1, said_at c.args.report);
+    in_range = c.requires.of_shop.1;
   };
 }

@@ -1,8 +1,0 @@
-use Rattle.std.proofs.Common.{drop}
-use Rattle.run_log.specs.Sinks.{AllBut}
-use Rattle.cell_drive.specs.NumberedCells.{contents_of, ends_text}
-use Rattle.cell_drive.proofs.driven_cells.put_ends.Given as goal
-
-abbrev pub invariant-loop-cell : goal.invariant-loop-cell
-invariant-loop-cell g l =
-    AllBut (g.W.Sink.taken l.initial.writer) (g.W.Sink.taken l.writer) (ends_text 0 (contents_of l.hub l.tickets)) (ends_text l.cell (drop l.cell (contents_of l.hub l.tickets)))
