@@ -4,7 +4,7 @@ ghost use Rattle.cell_drive.specs.Holding.{joined};
 use std::marker::Model;
 
 /// The most bytes of a line of input. Its line feed, and one carriage return before that, don't count.
-pub const LINE_LIMIT: usize = 63;
+pub const MAX_LINE: usize = 63;
 
 pub(crate) const ROOM: usize = 64;
 

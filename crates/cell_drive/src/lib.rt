@@ -24,11 +24,11 @@ pub use drive_fault::DriveFault;
 pub use driving::{DriveEnd, drive};
 pub use driving_cells::{HubEnd, drive_hub};
 pub use from_read::FromRead;
-pub use held_line::LINE_LIMIT;
+pub use held_line::MAX_LINE;
 pub use input_lines::report_of;
 pub use line_handler::LineHandler;
 pub use source::{ReadFault, Source};
-pub use streaming::{INPUT_LIMIT, stream};
+pub use streaming::stream;
 
 #[cfg(test)]
 mod tests;

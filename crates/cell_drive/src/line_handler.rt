@@ -1,7 +1,7 @@
 ghost use Rattle.std.specs.Prelude.{ℕ, ◌≤◌, List, length, Option, Some, None};
 ghost use Rattle.cell_drive.specs.Answering.{WasAnswered, WasClosed};
 
-use crate::held_line::LINE_LIMIT;
+use crate::held_line::MAX_LINE;
 use run_log::{Sink, WriteFault};
 
 /// What answers the lines of an input, one after another.
@@ -20,7 +20,7 @@ pub trait LineHandler {
         line: &[u8],
         writer: &mut W,
     ) -> Result<(), WriteFault>
-        requires { length line.now ≤ LINE_LIMIT }
+        requires { length line.now ≤ MAX_LINE }
         ensures { WasAnswered answers self.old number (Some line.now) self.new result (W.failed writer.new) (W.taken writer.old) (W.taken writer.new) };
 
     /// Answers the line of this number, which has too many bytes.

@@ -6,7 +6,7 @@ ghost use Rattle.cell_drive.specs.Lines.{within_limit};
 ghost use Rattle.cell_drive.specs.Holding.{joined, held_line, ended, held_after};
 ghost use Rattle.cell_drive.specs.Answering.{WasAnswered, WereAnswered};
 
-use crate::held_line::{HeldLine, LINE_LIMIT};
+use crate::held_line::{HeldLine, MAX_LINE};
 use crate::line_handler::LineHandler;
 use run_log::{Sink, WriteFault};
 use text_lines::{cut_line, without_return};
@@ -28,7 +28,7 @@ fn answer_bytes<H: LineHandler, W: Sink>(
         (W.failed writer.new) (W.taken writer.old) (W.taken writer.new) }
 {
     let line = without_return(bytes);
-    if line.len() <= LINE_LIMIT {
+    if line.len() <= MAX_LINE {
         handler.answer(number, line, writer)
     } else {
         handler.answer_long(number, writer)

@@ -11,9 +11,7 @@ use crate::line_handler::LineHandler;
 use crate::pieces::{Input, answer_held, take_piece};
 use crate::source::Source;
 use run_log::{Sink, WriteFault};
-
-/// The most bytes of an input.
-pub const INPUT_LIMIT: usize = 67_108_864;
+use text_lines::MAX_INPUT;
 
 /// Takes what was read, as far as so many bytes are left of the limit, and tells how many then are.
 fn take_read<H: LineHandler, W: Sink>(
@@ -48,7 +46,7 @@ fn drain<H: LineHandler, R: Source, W: Sink>(
         (R.failed reader.new) (R.left reader.old) (R.left reader.new) (W.failed writer.new) (W.taken writer.old) (W.taken writer.new) }
 {
     let mut room = [0; ROOM];
-    let mut left = INPUT_LIMIT;
+    let mut left = MAX_INPUT;
     'reads: loop {
         let Ok(count) = reader.get(&mut room) else {
             return Err(DriveFault::Read);

@@ -26,6 +26,6 @@ pub use instances::load_instance;
 pub use loading::{Loaded, load, load_for};
 pub use numbered::numbered_answer;
 pub use plans::load_plan;
-pub use reading::{FileFault, MAX_BYTES, read_whole};
+pub use reading::{FileFault, read_whole};
 pub use search::{plan_answer, plan_for};
 pub use shapes::{not_shaped_answer, shape_answer, shape_of};

@@ -5,9 +5,7 @@ ghost use Rattle.command_answers.specs.Reading.{IsFaultOf};
 
 use std::alloc::Global;
 use std::io::{self, ErrorKind, Read};
-
-/// The most bytes of a file, or of the standard input.
-pub const MAX_BYTES: usize = 67_108_864;
+use text_lines::MAX_INPUT;
 
 /// Why the bytes of a file, or of the standard input, can't be had.
 #[derive(Clone, Copy, Debug, PartialEq, Eq)]
@@ -41,7 +39,7 @@ pub fn read_whole<R: Read + Drop>(alloc: Global, reader: R) -> Result<Vec<u8>, F
     ensures too_long { IfErr result (λ fault. fault ≡ FileFault.TooLong → IfSome (R.remaining reader) (λ all. 67108864 < length all)) }
 {
     let mut bytes = Vec::new(alloc);
-    let mut limited = reader.take(MAX_BYTES as u64 + 1);
+    let mut limited = reader.take(MAX_INPUT as u64 + 1);
     let read = limited.read_to_end(&mut bytes);
     whole_of(read, bytes)
 }
@@ -53,7 +51,7 @@ fn whole_of(read: io::Result<usize>, bytes: Vec<u8>) -> Result<Vec<u8>, FileFaul
     ensures fault { IfErr read (λ error. IsErrAnd result (IsFaultOf error)) }
 {
     match read {
-        Ok(_) if bytes.len() > MAX_BYTES => Err(FileFault::TooLong),
+        Ok(_) if bytes.len() > MAX_INPUT => Err(FileFault::TooLong),
         Ok(_) => Ok(bytes),
         Err(error) => Err(FileFault::from(error)),
     }
