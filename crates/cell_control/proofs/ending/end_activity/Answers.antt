@@ -1,4 +1,5 @@
-use Rattle.std.proofs.Common.{subst, sym, ◌∙◌, ap, set, None}
+use Rattle.std.proofs.Common.{subst, sym, ◌∙◌, ap, set, None, arith}
+use Rattle.std.proofs.lemmas.Grind.{common_steps}
 use Rattle.shop_base.specs.Activity.{Arrival, Operation, Cleaning}
 use Rattle.shop_base.specs.Report.{CanReport}
 use Rattle.shop_base.specs.Movers.{OnlyMoves}
@@ -89,3 +90,21 @@ returns-in-Clean-clause-of_shop g c =
     let can : CanReport p cell (record { ended = Cleaning c.in-Clean.machine; at = c.in-Clean.at }) = subst (λ (r : Report). CanReport p cell (said r)) c.in-Clean.is c.requires.possible in
     next_of_shop p c.in-Clean.machine _ c.next_on.result c.requires.sound.tables.shaped
     (cleaned-machine p cell (cell_of p c.note_clean.new.tables) c.requires.sound.sound c.in-Clean.machine c.in-Clean.at can) c.next_on.ensures
+
+pub clear-requires : goal.clear-requires
+clear-requires g c = grind (arith, common_steps)
+
+pub next_on-requires-clause-machine : goal.next_on-requires-clause-machine
+next_on-requires-clause-machine g c = grind (arith, common_steps)
+
+pub note_clean-requires-clause-machine : goal.note_clean-requires-clause-machine
+note_clean-requires-clause-machine g c = grind (arith, common_steps)
+
+pub note_ready-requires-clause-job : goal.note_ready-requires-clause-job
+note_ready-requires-clause-job g c = grind (arith, common_steps)
+
+pub returns-in-Arrive-clause-of_shop : goal.returns-in-Arrive-clause-of_shop
+returns-in-Arrive-clause-of_shop g c = grind (arith, common_steps)
+
+pub returns-in-Finish-clause-of_shop : goal.returns-in-Finish-clause-of_shop
+returns-in-Finish-clause-of_shop g c = grind (arith, common_steps)

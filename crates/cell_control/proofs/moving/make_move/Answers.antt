@@ -1,4 +1,5 @@
-use Rattle.std.proofs.Common.{subst, sym, ap}
+use Rattle.std.proofs.Common.{subst, sym, ap, arith}
+use Rattle.std.proofs.lemmas.Grind.{common_steps}
 use Rattle.shop_base.specs.declared.move_order.Spot.{Spot}
 use Rattle.shop_base.specs.declared.move_order.MoveOrder.{MoveOrder}
 use Rattle.shop_base.specs.Sound.{IsSound}
@@ -45,3 +46,9 @@ returns-clause-sound c =
       sound = subst (IsSound p) (sym (returns-clause-moved c))
           (after_move-sound p cell c.args.job c.args.at c.requires.sound.tables.shaped c.requires.sound.sound c.requires.can c.requires.keeps);
     }
+
+pub next_order-order-requires-clause-job : goal.next_order-order-requires-clause-job
+next_order-order-requires-clause-job c = grind (arith, common_steps)
+
+pub note_move-requires-clause-job : goal.note_move-requires-clause-job
+note_move-requires-clause-job c = grind (arith, common_steps)

@@ -1,4 +1,5 @@
-use Rattle.std.proofs.Common.{◌≡◌, true, ap, subst, sym, ◌∙◌}
+use Rattle.std.proofs.Common.{◌≡◌, true, ap, subst, sym, ◌∙◌, arith}
+use Rattle.std.proofs.lemmas.Grind.{common_steps}
 use Rattle.shop_base.specs.declared.job_state.JobState.{JobState}
 use Rattle.shop_base.specs.Plan.{Visits}
 use Rattle.shop_base.specs.Cell.{made, ready}
@@ -14,3 +15,6 @@ returns-in-Some c =
     let visits : Visits p c.args.job (made cell c.args.job) c.in-Some.machine =
     subst (λ (s : JobState). Visits p c.args.job s.made c.in-Some.machine) c.job_state-state.ensures c.in-Some.ensures.machine in
     moves-entering p cell c.args.job c.in-Some.machine c.admits.result c.requires.sound.sound is_ready visits c.admits.ensures
+
+pub returns-in-None : goal.returns-in-None
+returns-in-None c = grind (arith, common_steps)

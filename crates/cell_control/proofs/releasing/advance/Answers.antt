@@ -1,4 +1,5 @@
-use Rattle.std.proofs.Common.{◌≡◌, ◌+◌, ◌-◌, ap, sym, subst, ◌∙◌, set}
+use Rattle.std.proofs.Common.{◌≡◌, ◌+◌, ◌-◌, ap, sym, subst, ◌∙◌, set, arith}
+use Rattle.std.proofs.lemmas.Grind.{common_steps}
 use Rattle.shop_base.specs.declared.move_order.MoveOrder.{MoveOrder}
 use Rattle.shop_base.specs.declared.move_order.Spot.TheVariants.{Out, At}
 use Rattle.shop_base.specs.Plan.{jobs}
@@ -49,3 +50,6 @@ returns-in_default-clause-tied g c =
     (tied-entered p cell new (g.D.Dues.dues c.args.dues.now) c.args.job cell.last
     (ready_in_shop p cell c.args.job c.requires.sound.sound c.requires.can.is_ready) c.requires.tied moved
     (outside_source p cell c.args.job (moves_within p cell c.args.job cell.last c.requires.sound.sound c.requires.can) out))
+
+pub renew_job-requires-clause-job : goal.renew_job-requires-clause-job
+renew_job-requires-clause-job g c = grind (arith, common_steps)

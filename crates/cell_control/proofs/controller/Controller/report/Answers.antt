@@ -1,4 +1,5 @@
 use Rattle.std.proofs.Common.{◌+◌, ◌-◌, arith, sym, subst, refl, []}
+use Rattle.std.proofs.lemmas.Grind.{common_steps}
 use Rattle.shop_base.specs.Report.{CanReport}
 use Rattle.shop_base.specs.Run.{IsAtRest}
 use Rattle.cell_control.specs.Control.{Control, IsAnswered}
@@ -70,3 +71,9 @@ returns-in_err-check_report-clause-called g c =
           (reason-cannot s.verified.planned (cell_of s.verified.planned s.tables) (said c.args.report) c.in_err-check_report.field-0.0 c.self.invariant.control.sound
           (subst (λ p. IsFirstReason p (cell_of p s.tables) (said c.args.report) c.in_err-check_report.field-0.0) c.shaped-shaped.ensures.same c.in_err-check_report.ensures.first))),
     )
+
+pub returns-in_err-check_report-clause-never_refused : goal.returns-in_err-check_report-clause-never_refused
+returns-in_err-check_report-clause-never_refused g c = grind (arith, common_steps)
+
+pub returns-in_err-check_report-clause-possible : goal.returns-in_err-check_report-clause-possible
+returns-in_err-check_report-clause-possible g c = grind (arith, common_steps)
