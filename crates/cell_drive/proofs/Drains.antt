@@ -106,6 +106,10 @@ module _ {S : Type 0} (answers : S → ℕ → Option (List ℕ) → List ℕ �
           answered = piece_more answers start now end lines lines_then held held_then so_far.bytes piece before middle after so_far.answered taken.1;
         }
 
+    -- what is left of the limit takes so much of the piece
+    cut : so_far.bytes ++ take left piece ≡ take 67108864 (so_far.bytes ++ piece)
+    cut = sym (take-append-add so_far.bytes piece left) ∙ ap (λ (n : ℕ). take n (so_far.bytes ++ piece)) so_far.count
+
     -- a piece was read, and a write failed, or it went past the limit
     pub Draining-failed : {T : Type 0} (e : DriveFault) (end : S) (lines_then : ℕ) (held_then after : Option (List ℕ)) (read_failed failed : Bool)
         → IsReadTaken (Err e) answers now lines held piece left end lines_then held_then failed middle after
@@ -115,13 +119,15 @@ module _ {S : Type 0} (answers : S → ℕ → Option (List ℕ) → List ℕ �
     Draining-failed Write end lines_then held_then after read_failed failed taken = record {
       bytes = so_far.bytes ++ piece;
       was_read = Consumes-trans left_before left_after left_then so_far.bytes piece so_far.was_read gave;
-      comes_to = (taken.0, part_more answers start now lines held so_far.bytes piece before middle after so_far.answered taken.1);
+      comes_to = (
+        taken.0,
+        subst (λ l. IsPartTold answers start 0 (Some []) l before after) cut
+            (part_more answers start now lines held so_far.bytes (take left piece) before middle after so_far.answered taken.1),
+      );
     }
     Draining-failed InputTooLong end lines_then held_then after read_failed failed taken =
         let count = so_far.count in
         let over = taken.0 in
-        let cut : so_far.bytes ++ take left piece ≡ take 67108864 (so_far.bytes ++ piece) =
-        sym (take-append-add so_far.bytes piece left) ∙ ap (λ (n : ℕ). take n (so_far.bytes ++ piece)) so_far.count in
         let both = piece_more answers start now end lines lines_then held held_then so_far.bytes (take left piece) before middle after so_far.answered taken.1 in
         record {
           bytes = so_far.bytes ++ piece;

@@ -14,7 +14,7 @@ use Rattle.run_log.specs.Events.{events_of}
 use Rattle.cell_drive.specs.declared.drive_fault.DriveFault.{DriveFault}
 use Rattle.cell_drive.specs.declared.drive_fault.DriveFault.TheVariants.{Read, Write, InputTooLong, Memory}
 use Rattle.cell_drive.specs.Answering.{AnswerAll}
-use Rattle.cell_drive.specs.Streams.{AreAnswered, IsPartAnswered, IsStreamed}
+use Rattle.cell_drive.specs.Streams.{AreAnswered, IsPartAnswered, IsCutOff, IsStreamed}
 use Rattle.cell_drive.specs.DrivenLines.{LineAnswer, closing_line}
 use Rattle.cell_drive.specs.Driven.{DriveState, IsDriven, DriveAnswer, ControlCloses, drive_start}
 use Rattle.cell_drive.specs.AnswerText.{DrivenCell, undriven, CellAnswers, CellCloses, AreAnswersTo}
@@ -137,6 +137,21 @@ seen_part v input before after part =
       written = part.written;
     }
 
+seen_cut : (v : VerifiedPlan) (input : List ℕ) (left before after : Option (List ℕ))
+    → IsCutOff DriveAnswer the_closing (drive_start v) input left before after → IsCutOff (CellAnswers v.planned) (CellCloses v.planned) (undriven v.planned) input left before after
+seen_cut v input left before after (inl part) =
+    inl
+    (record {
+      told = part.told;
+      rest = part.rest;
+      whole = part.whole;
+      text = part.text;
+      state = seen part.state;
+      are_answers = (seen_answers v.planned part.told (drive_start v) part.state 1 part.text refl part.are_answers).0;
+      written = part.written;
+    })
+seen_cut v input left before after (inr all) = inr (all.0, all.1, seen_part v input before after all.2)
+
 seen_written : (v : VerifiedPlan) (lines : List (Option (List ℕ))) (e : DriveState) (before after : Option (List ℕ))
     → AreAnswered DriveAnswer (drive_start v) lines e before after → WereAnswersWritten v.planned lines before after
 seen_written v lines e before after all =
@@ -145,18 +160,18 @@ seen_written v lines e before after all =
 -- it was broken off
 off : {T : Type 0} (v : VerifiedPlan) (fault : DriveFault) (e : DriveState) (read_failed write_failed : Bool) (left_before left_after before after : Option (List ℕ))
     → IsStreamed {T = T} (Err fault) DriveAnswer the_closing (drive_start v) e read_failed left_before left_after write_failed before after
-    → (input : List ℕ) × Consumes left_before left_after input × IsBrokenOff fault v.planned input read_failed write_failed before after
+    → (input : List ℕ) × Consumes left_before left_after input × IsBrokenOff fault v.planned input left_after read_failed write_failed before after
 off v Read e read_failed write_failed left_before left_after before after streamed =
     let told = streamed.comes_to in (streamed.input, streamed.was_read, (told.0, told.1, seen_written v _ e before after told.2))
 off v Write e read_failed write_failed left_before left_after before after streamed =
-    let told = streamed.comes_to in (streamed.input, streamed.was_read, (told.0, seen_part v streamed.input before after told.1))
+    let told = streamed.comes_to in (streamed.input, streamed.was_read, (told.0, seen_cut v streamed.input left_after before after told.1))
 off v InputTooLong e read_failed write_failed left_before left_after before after streamed =
     let told = streamed.comes_to in (streamed.input, streamed.was_read, (told.0, seen_written v _ e before after told.1))
 off v Memory e read_failed write_failed left_before left_after before after streamed = absurd streamed.comes_to
 
 pub broken_off : {T : Type 0} (v : VerifiedPlan) (fault : DriveFault) (s e : DriveState) (read_failed write_failed : Bool) (left_before left_after before after : Option (List ℕ)) → s ≡ drive_start v
     → IsStreamed {T = T} (Err fault) DriveAnswer the_closing s e read_failed left_before left_after write_failed before after
-    → (input : List ℕ) × Consumes left_before left_after input × IsBrokenOff fault v.planned input read_failed write_failed before after
+    → (input : List ℕ) × Consumes left_before left_after input × IsBrokenOff fault v.planned input left_after read_failed write_failed before after
 broken_off {T} v fault s e read_failed write_failed left_before left_after before after at_first streamed =
     off v fault e read_failed write_failed left_before left_after before after
     (subst (λ d. IsStreamed {T = T} (Err fault) DriveAnswer the_closing d e read_failed left_before left_after write_failed before after) at_first streamed)

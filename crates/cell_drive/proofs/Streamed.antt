@@ -6,7 +6,7 @@ use Rattle.run_log.specs.Sinks.{TookPart, Wrote}
 use Rattle.cell_drive.specs.declared.drive_fault.DriveFault.{DriveFault}
 use Rattle.cell_drive.specs.declared.drive_fault.DriveFault.TheVariants.{Read, Write, InputTooLong, Memory}
 use Rattle.cell_drive.specs.Lines.{input_lines}
-use Rattle.cell_drive.specs.Holding.{held_line, ended, held_after}
+use Rattle.cell_drive.specs.Holding.{held_line, ended}
 use Rattle.cell_drive.specs.Answering.{AnswerAll, WasAnswered, WasClosed, WereAnswered}
 use Rattle.cell_drive.specs.Streams.{IsAllAnswered, IsPartAnswered, IsStreamed}
 use Rattle.cell_drive.specs.Reading.{IsPieceAnswered, IsDrained, IsFinished, last_line}
@@ -35,17 +35,14 @@ last_some answers start lines held end outcome failed before after some_held was
   wrote = was.wrote;
 }
 
--- ---- the end behind it
-
-TookPart-nil : (before after : Option (List ℕ)) (text : List ℕ) → TookPart before after text → TookPart before after (text ++ [])
-TookPart-nil before after text part = subst (TookPart before after) (sym (append-nil text)) part
+-- ---- the closing text behind it
 
 finish_wrote : {T E : Type 0} (outcome : Result T E) (failed : Bool) (before middle after : Option (List ℕ)) (text closing : List ℕ)
     → Appends before middle text → Wrote outcome failed middle after closing → Wrote outcome failed before after (text ++ closing)
 finish_wrote (Ok x) failed before middle after text closing first second = Appends-trans before middle after text closing first second
 finish_wrote (Err e) failed before middle after text closing first second = (second.0, TookPart-more before middle after text closing first second.1)
 
--- the last line is answered, and the end is written, all of it or part
+-- the last line is answered, and the closing text is written, all of it or part
 pub finish_closed : {S T U E F : Type 0} (answers : S → ℕ → Option (List ℕ) → List ℕ → S → Type 0) (closes : S → List ℕ → Type 0) (start : S) (lines : ℕ) (held : Option (List ℕ)) (end : S)
     (x : T) (outcome : Result U E) (failed failed_before : Bool) (before middle after : Option (List ℕ))
     → WereAnswered {T = T} {E = F} answers start (lines + 1) (last_line held) end (Ok x) failed_before before middle
@@ -103,23 +100,21 @@ stream_drained InputTooLong answers closes start end lines held read_failed left
     }
 stream_drained Write answers closes start end lines held read_failed left_before left_after write_failed before after drained =
     let part = drained.comes_to.1 in
-    let last = last_line (held_after (Some []) drained.bytes) in
     record {
       input = drained.bytes;
       was_read = drained.was_read;
       comes_to = (
         drained.comes_to.0,
-        record {
-          told = part.told;
-          rest = part.rest ++ last;
-          whole = sym (append_assoc part.told part.rest last) ∙ ap (λ l. l ++ last) part.whole ∙ input_lines-ended drained.bytes;
-          text = part.text;
-          state = part.state;
-          are_answers = part.are_answers;
-          closing = [];
-          is_closing = inl refl;
-          written = TookPart-nil before after part.text part.written;
-        },
+        inl
+            (record {
+              told = part.told;
+              rest = part.rest;
+              whole = part.whole ∙ complete_lines-ended (take 67108864 drained.bytes);
+              text = part.text;
+              state = part.state;
+              are_answers = part.are_answers;
+              written = part.written;
+            }),
       );
     }
 
@@ -190,5 +185,12 @@ pub stream_failed : {S T U E V : Type 0} (answers : S → ℕ → Option (List �
 stream_failed answers closes start middle end lines held x e read_failed left_before left_after write_failed failed before between after drained finished = record {
   input = drained.bytes;
   was_read = drained.was_read;
-  comes_to = (finished.wrote.0, stream_part answers closes start middle end lines held x (Err e) read_failed left_before left_after write_failed failed before between after drained finished finished.wrote.1);
+  comes_to = (
+    finished.wrote.0,
+    inr (
+      drained.comes_to.0,
+      drained.comes_to.1,
+      stream_part answers closes start middle end lines held x (Err e) read_failed left_before left_after write_failed failed before between after drained finished finished.wrote.1,
+    ),
+  );
 }

@@ -1,5 +1,7 @@
 -- The lines that end in a piece, answered one after another.
-use Rattle.std.proofs.Common.{◌≡◌, ℕ, ◌+◌, List, [], ◌∷◌, ◌++◌, Bool, true, Option, Some, Ok, Err, length, refl, sym, ap, ◌∙◌, arith, append_assoc, append-nil, length-append, subst}
+use Rattle.std.proofs.Common.{◌≡◌, ℕ, ◌+◌, min, List, [], ◌∷◌, ◌++◌, Bool, true, Option, Some, Ok, Err, length, take, inl, inr, refl, sym, ap, ◌∙◌, arith, append_assoc, append-nil, length-append, subst}
+use Rattle.std.proofs.lemmas.Bool.{cases_lt}
+use Rattle.std.proofs.lemmas.List.{take_all}
 use Rattle.std.specs.Io.KnownBytes.{Appends}
 use Rattle.std.proofs.KnownBytes.{Appends-trans}
 use Rattle.run_log.specs.Sinks.{TookPart}
@@ -7,7 +9,7 @@ use Rattle.text_lines.specs.Cuts.{HasNone, IsCutAt}
 use Rattle.cell_drive.specs.Holding.{joined, held_line, ended, held_after}
 use Rattle.cell_drive.specs.Answering.{AnswerAll, WasAnswered, WereAnswered}
 use Rattle.cell_drive.specs.Reading.{IsPartTold}
-use Rattle.cell_drive.proofs.Held.{ended-first, held_after-first, ended-none, held_after-none, ended-append}
+use Rattle.cell_drive.proofs.Held.{ended-first, held_after-first, ended-none, held_after-none}
 use Rattle.cell_drive.proofs.Told.{AnswerAll-append, AnswerAll-one}
 
 -- a text was written, and part of another behind it
@@ -106,19 +108,25 @@ module _ {S : Type 0} (answers : S → ℕ → Option (List ℕ) → List ℕ �
 
 -- ---- a piece as a whole
 
--- what was told of the front of a piece is part of what ends in the piece
-pub part_told : {S T E : Type 0} (answers : S → ℕ → Option (List ℕ) → List ℕ → S → Type 0) (start : S) (lines : ℕ) (held : Option (List ℕ)) (piece front more : List ℕ)
+-- so many bytes of a piece are within what is left
+pub take_within : (piece : List ℕ) (within left : ℕ) → within ≡ min (length piece) left → take within piece ≡ take left piece
+take_within piece within left is = elim (cases_lt left (length piece)) [
+  | inl over ↦ ap (λ (n : ℕ). take n piece) (omega (arith, is))
+  | inr whole ↦ take_all within piece (omega (arith, is)) ∙ sym (take_all left piece whole)
+]
+
+-- what was told of a piece is part of what ends in it
+pub part_told : {S T E : Type 0} (answers : S → ℕ → Option (List ℕ) → List ℕ → S → Type 0) (start : S) (lines : ℕ) (held : Option (List ℕ)) (piece front : List ℕ)
     (end : S) (e : E) (failed : Bool) (before after : Option (List ℕ))
     → WereAnswered {T = T} {E = E} answers start (lines + 1) (ended held front) end (Err e) failed before after
-    → front ++ more ≡ piece
+    → front ≡ piece
     → (failed ≡ true) × IsPartTold answers start lines held piece before after
-part_told answers start lines held piece front more end e failed before after were split = (
+part_told answers start lines held piece front end e failed before after were same = (
   were.wrote.0,
   record {
     told = were.told;
-    rest = were.rest ++ ended (held_after held front) more;
-    whole = sym (append_assoc were.told were.rest (ended (held_after held front) more)) ∙ ap (λ l. l ++ ended (held_after held front) more) were.whole
-        ∙ sym (ended-append front more held) ∙ ap (ended held) split;
+    rest = were.rest;
+    whole = were.whole ∙ ap (ended held) same;
     text = were.text;
     state = were.state;
     are_answers = were.are_answers;

@@ -18,7 +18,7 @@ use Rattle.run_log.specs.Events.{events_of}
 use Rattle.cell_drive.specs.declared.drive_fault.DriveFault.{DriveFault}
 use Rattle.cell_drive.specs.declared.drive_fault.DriveFault.TheVariants.{Read, Write, InputTooLong, Memory}
 use Rattle.cell_drive.specs.Lines.{complete_lines}
-use Rattle.cell_drive.specs.Streams.{IsPartAnswered}
+use Rattle.cell_drive.specs.Streams.{IsCutOff}
 use Rattle.cell_drive.specs.AnswerText.{DrivenCell, undriven, CellAnswers, CellCloses, AreAnswersTo, IsAnswerText}
 
 -- the cell after the events of a log
@@ -39,15 +39,15 @@ pub record IsDrivenThrough (p : PlannedShop) (entries : List Entry) (left_before
 abbrev pub WereAnswersWritten : PlannedShop → List (Option (List ℕ)) → Option (List ℕ) → Option (List ℕ) → Type 0
 WereAnswersWritten p lines before after = (text : List ℕ) × (end : DrivenCell) × AreAnswersTo p lines text end × Appends before after text
 
--- where driving was broken off: after a failed read, and where too much came, the answers to the complete lines within the limit were written; after a failed write the first bytes of the answers; and without memory nothing
-abbrev pub IsBrokenOff : DriveFault → PlannedShop → List ℕ → Bool → Bool → Option (List ℕ) → Option (List ℕ) → Type 0
-IsBrokenOff Read p input read_failed write_failed before after =
+-- where driving was broken off: after a failed read, and where too much came, the answers to the complete lines within the limit were written; after a failed write the first bytes of these, or, once the input was read to its end, of all answers and the closing line; and without memory nothing
+abbrev pub IsBrokenOff : DriveFault → PlannedShop → List ℕ → Option (List ℕ) → Bool → Bool → Option (List ℕ) → Option (List ℕ) → Type 0
+IsBrokenOff Read p input left read_failed write_failed before after =
     (read_failed ≡ true) × (length input ≤ 67108864) × WereAnswersWritten p (complete_lines input) before after
-IsBrokenOff Write p input read_failed write_failed before after =
-    (write_failed ≡ true) × IsPartAnswered (CellAnswers p) (CellCloses p) (undriven p) input before after
-IsBrokenOff InputTooLong p input read_failed write_failed before after =
+IsBrokenOff Write p input left read_failed write_failed before after =
+    (write_failed ≡ true) × IsCutOff (CellAnswers p) (CellCloses p) (undriven p) input left before after
+IsBrokenOff InputTooLong p input left read_failed write_failed before after =
     (67108864 < length input) × WereAnswersWritten p (complete_lines (take 67108864 input)) before after
-IsBrokenOff Memory p input read_failed write_failed before after = (input ≡ []) × (after ≡ before)
+IsBrokenOff Memory p input left read_failed write_failed before after = (input ≡ []) × (after ≡ before)
 
 -- the events are the controlled run of some reports by the plan, which leads to the cell after them
 abbrev pub IsRunOf : PlannedShop → List Entry → Type 0

@@ -36,7 +36,7 @@ IsReadTaken (Ok rest) answers start lines held piece left end lines_then held_th
 IsReadTaken (Err InputTooLong) answers start lines held piece left end lines_then held_then failed before after =
     (left < length piece) × IsPieceAnswered answers start lines held (take left piece) end lines_then held_then before after
 IsReadTaken (Err Write) answers start lines held piece left end lines_then held_then failed before after =
-    (failed ≡ true) × IsPartTold answers start lines held piece before after
+    (failed ≡ true) × IsPartTold answers start lines held (take left piece) before after
 IsReadTaken (Err Read) answers start lines held piece left end lines_then held_then failed before after = ⊥
 IsReadTaken (Err Memory) answers start lines held piece left end lines_then held_then failed before after = ⊥
 
@@ -48,7 +48,7 @@ ReadsTo (Ok x) answers start bytes end lines held read_failed left write_failed 
 ReadsTo (Err Read) answers start bytes end lines held read_failed left write_failed before after =
     (read_failed ≡ true) × (length bytes ≤ 67108864) × AreAnswered answers start (ended (Some []) bytes) end before after
 ReadsTo (Err Write) answers start bytes end lines held read_failed left write_failed before after =
-    (write_failed ≡ true) × IsPartTold answers start 0 (Some []) bytes before after
+    (write_failed ≡ true) × IsPartTold answers start 0 (Some []) (take 67108864 bytes) before after
 ReadsTo (Err InputTooLong) answers start bytes end lines held read_failed left write_failed before after =
     (67108864 < length bytes) × AreAnswered answers start (ended (Some []) (take 67108864 bytes)) end before after
 ReadsTo (Err Memory) answers start bytes end lines held read_failed left write_failed before after = ⊥

@@ -25,7 +25,18 @@ pub record IsAllAnswered {S : Type 0} (answers : S → ℕ → Option (List ℕ)
   pub is_closing : closes end closing
   pub written : Appends before after (text ++ closing)
 
--- what was written are the first bytes of the answers of an input's first lines, or of all and of the closing text behind them
+-- of the answers to these lines the first bytes were written
+pub record ArePartAnswered {S : Type 0} (answers : S → ℕ → Option (List ℕ) → List ℕ → S → Type 0) (start : S) (lines : List (Option (List ℕ)))
+    (before after : Option (List ℕ)) : Type 0 where
+  pub told : List (Option (List ℕ))
+  pub rest : List (Option (List ℕ))
+  pub whole : told ++ rest ≡ lines
+  pub text : List ℕ
+  pub state : S
+  pub are_answers : AnswerAll answers start 1 told text state
+  pub written : TookPart before after text
+
+-- of the answers to all lines of an input, and of the closing text behind them, the first bytes were written
 pub record IsPartAnswered {S : Type 0} (answers : S → ℕ → Option (List ℕ) → List ℕ → S → Type 0) (closes : S → List ℕ → Type 0) (start : S) (input : List ℕ)
     (before after : Option (List ℕ)) : Type 0 where
   pub told : List (Option (List ℕ))
@@ -38,6 +49,12 @@ pub record IsPartAnswered {S : Type 0} (answers : S → ℕ → Option (List ℕ
   pub is_closing : (closing ≡ []) ⊎ ((rest ≡ []) × closes state closing)
   pub written : TookPart before after (text ++ closing)
 
+-- a write failed: the first bytes were written of the answers to the complete lines within the limit, or, once the input was read to its end, to all lines, and of the closing text
+abbrev pub IsCutOff : {S : Type 0} → (S → ℕ → Option (List ℕ) → List ℕ → S → Type 0) → (S → List ℕ → Type 0) → S → List ℕ → Option (List ℕ) → Option (List ℕ) → Option (List ℕ) → Type 0
+IsCutOff answers closes start input left before after =
+    ArePartAnswered answers start (complete_lines (take 67108864 input)) before after
+    ⊎ (IsAtEnd left × (length input ≤ 67108864) × IsPartAnswered answers closes start input before after)
+
 -- what a stream comes to once this input was read, on success and with each fault
 abbrev pub ComesTo : {S T : Type 0} → Result T DriveFault → (S → ℕ → Option (List ℕ) → List ℕ → S → Type 0) → (S → List ℕ → Type 0) → S → List ℕ → S
     → Bool → Option (List ℕ) → Bool → Option (List ℕ) → Option (List ℕ) → Type 0
@@ -45,7 +62,7 @@ ComesTo (Ok x) answers closes start input end read_failed left write_failed befo
 ComesTo (Err Read) answers closes start input end read_failed left write_failed before after =
     (read_failed ≡ true) × (length input ≤ 67108864) × AreAnswered answers start (complete_lines input) end before after
 ComesTo (Err Write) answers closes start input end read_failed left write_failed before after =
-    (write_failed ≡ true) × IsPartAnswered answers closes start input before after
+    (write_failed ≡ true) × IsCutOff answers closes start input left before after
 ComesTo (Err InputTooLong) answers closes start input end read_failed left write_failed before after =
     (67108864 < length input) × AreAnswered answers start (complete_lines (take 67108864 input)) end before after
 ComesTo (Err Memory) answers closes start input end read_failed left write_failed before after = ⊥

@@ -78,7 +78,7 @@ pub fn drive<R: Source, W: Sink>(
     ensures promised { IfOk result (λ end. NeverWentWrong verified end.log.entries) }
     ensures plan { IfOk result (λ end. end.verified ≡ verified) }
     ensures broken_off { IfErr result (λ fault. (input : List ℕ) × Consumes (R.left reader.old) (R.left reader.new) input
-        × IsBrokenOff fault verified.planned input (R.failed reader.new) (W.failed writer.new) (W.taken writer.old) (W.taken writer.new)) }
+        × IsBrokenOff fault verified.planned input (R.left reader.new) (R.failed reader.new) (W.failed writer.new) (W.taken writer.old) (W.taken writer.new)) }
     ensures untouched { result ≡ Err DriveFault.Memory → (reader.new ≡ reader.old) × (writer.new ≡ writer.old) }
 {
     let Ok(mut driven) = start(alloc, verified) else {

@@ -8,3 +8,6 @@ pub returns-in_err-report_of : goal.returns-in_err-report_of
 returns-in_err-report_of c =
     rw c.from_residual-in_err-report_of.ensures
     (cell_report-no_report c.args.line.now c.in_ok-cell.rest.now c.in_ok-cell.cell c.in_ok-cell.ensures.number c.in_err-report_of.ensures)
+
+pub returns : goal.returns
+returns c = (c.in_ok-cell.rest.now, c.in_ok-cell.ensures.number, c.in_ok-report_of.ensures)

@@ -1,7 +1,9 @@
-use Rattle.std.proofs.Common.{drop, take-append-drop}
-use Rattle.cell_drive.proofs.Taking.{part_told}
+use Rattle.std.proofs.Common.{◌≡◌, min, length, rules, arith}
+use Rattle.std.proofs.lemmas.Grind.{common_steps}
+use Rattle.cell_drive.proofs.Taking.{take_within, part_told}
 use Rattle.cell_drive.proofs.streaming.take_read.Goals as goal
 
 pub returns-in-Err : goal.returns-in-Err
 returns-in-Err g c =
-    part_told _ _ _ _ _ _ (drop c.min-within.result c.args.piece.now) _ _ _ _ _ c.in-Err.ensures.answered (take-append-drop c.min-within.result c.args.piece.now)
+    let within : c.min-within.result ≡ min (length c.args.piece.now) c.args.left = first_of (search rules, cc, grind (arith, common_steps)) in
+    part_told _ _ _ _ _ _ _ _ _ _ _ c.in-Err.ensures.answered (take_within c.args.piece.now c.min-within.result c.args.left within)
