@@ -4,3 +4,12 @@ use Rattle.run_log.proofs.gantt_visits.visits_of.Goals as goal
 
 pub loop-place-preserved : goal.loop-place-preserved
 loop-place-preserved c = grind (arith, common_steps)
+
+pub returns-clause-visits : goal.returns-clause-visits
+returns-clause-visits c = grind (arith, common_steps)
+
+pub note_entry-requires-clause-times : goal.note_entry-requires-clause-times
+note_entry-requires-clause-times c = grind (arith, common_steps)
+
+pub note_entry-requires-clause-visits : goal.note_entry-requires-clause-visits
+note_entry-requires-clause-visits c = grind (arith, common_steps)
