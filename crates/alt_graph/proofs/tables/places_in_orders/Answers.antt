@@ -1,4 +1,5 @@
 use Rattle.std.proofs.Common.{arith, ◌≡◌, ◌<◌, length, drop}
+use Rattle.std.proofs.lemmas.Grind.{common_steps}
 use Rattle.std.proofs.lemmas.List.{take_at}
 use Rattle.shop_base.specs.Plan.{machines}
 use Rattle.alt_graph.specs.Tables.{HasSlots}
@@ -16,3 +17,6 @@ loop-machine-preserved c =
       slots = slots;
       places = machines_more _ c.loop-machine.places.items _ _ c.machine_count-machine-end.ensures.well_shaped machine c.loop-machine.invariant.places c.note_places.ensures.noted others;
     })
+
+pub returns-clause-places : goal.returns-clause-places
+returns-clause-places c = grind (arith, common_steps)
