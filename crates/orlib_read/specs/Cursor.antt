@@ -7,8 +7,8 @@ use Rattle.orlib_read.specs.Kinds.{is_told}
 use Rattle.orlib_read.specs.Reading.{before_title}
 
 -- a line without where it lies in memory
-abbrev pub line_of : Line → NumberedLine
-line_of line = record { number = line.number; bytes = line.bytes.now }
+abbrev pub numbered_line : Line → NumberedLine
+numbered_line line = record { number = line.number; bytes = line.bytes.now }
 
 -- the lines that are told, in a section those before the next instance line
 abbrev pub left_of : Bool → List NumberedLine → List NumberedLine

@@ -25,7 +25,7 @@ pub(crate) struct Lines<'a> {
 }
 
 impl<'a> Lines<'a> {
-    ghost use Rattle.orlib_read.specs.Cursor.{line_of, raw_left, lines_left};
+    ghost use Rattle.orlib_read.specs.Cursor.{numbered_line, raw_left, lines_left};
 
     /// All lines of a text.
     #[tactic(auto, unfolding(crate::specs::Cursor::lines_left, crate::specs::Cursor::raw_left))]
@@ -69,7 +69,7 @@ impl<'a> Lines<'a> {
 
     fn next_line(self) -> Option<(Line<'a>, Lines<'a>)>
         ensures line { MatchOption result (raw_left self.entry ≡ [])
-            (λ found. raw_left self.entry ≡ line_of found.0 ∷ raw_left found.1) }
+            (λ found. raw_left self.entry ≡ numbered_line found.0 ∷ raw_left found.1) }
         ensures same { IfSome result (λ found. found.1.in_section ≡ self.entry.in_section) }
     {
         let (bytes, rest) = next_line(self.rest)?;
@@ -88,7 +88,7 @@ impl<'a> Lines<'a> {
     /// The next line that isn't filler, and the lines after it.
     pub(crate) fn next_told(self) -> Option<(Line<'a>, Lines<'a>)>
         ensures line { MatchOption result (lines_left self.entry ≡ [])
-            (λ found. lines_left self.entry ≡ line_of found.0 ∷ lines_left found.1) }
+            (λ found. lines_left self.entry ≡ numbered_line found.0 ∷ lines_left found.1) }
         ensures same { IfSome result (λ found. found.1.in_section ≡ self.entry.in_section) }
     {
         let mut lines = self;

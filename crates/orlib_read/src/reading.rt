@@ -3,7 +3,7 @@
 ghost use Rattle.std.specs.Prelude.{◌≡◌, ◌∷◌, [], ◌+◌, ◌<◌, ◌^◌, MatchOption};
 ghost use Rattle.shop_base.specs.Vectors.{lists_of};
 ghost use Rattle.orlib_read.specs.Words.{words_of};
-ghost use Rattle.orlib_read.specs.Cursor.{line_of, lines_left};
+ghost use Rattle.orlib_read.specs.Cursor.{numbered_line, lines_left};
 ghost use Rattle.orlib_read.specs.Reading.{Gives, GivesExactly, without_titles, head_at, step_at, steps_at, route_at, jobs_at, draft_at};
 ghost use Rattle.orlib_read.specs.Views.{head_of, content_of};
 
@@ -18,7 +18,7 @@ use std::alloc::Global;
 /// The next line that isn't an instance line, and the lines after it.
 fn first_line<'a>(lines: Lines<'a>) -> Option<(Line<'a>, Lines<'a>)>
     ensures { MatchOption result (without_titles (lines_left lines.entry) ≡ [])
-        (λ found. without_titles (lines_left lines.entry) ≡ line_of found.0 ∷ lines_left found.1) }
+        (λ found. without_titles (lines_left lines.entry) ≡ numbered_line found.0 ∷ lines_left found.1) }
 {
     let mut left = lines;
     while let Some((line, rest)) = left.next_told() {
@@ -85,7 +85,7 @@ fn step_of(line: usize, before: usize, machine: &[u8], nominal: &[u8]) -> Result
 /// The route on a job line.
 #[tactic(auto, unfolding(crate::specs::Reading::route_at))]
 fn route_of(alloc: Global, line: Line) -> Result<Vec<Step>, OrFault>
-    ensures { Gives (λ route. route.items) result (route_at (line_of line.entry)) }
+    ensures { Gives (λ route. route.items) result (route_at (numbered_line line.entry)) }
 {
     let route = steps_of(alloc, line);
     // An odd number of words comes before a word that isn't a number.

@@ -3,7 +3,7 @@ use Rattle.std.proofs.lemmas.List.{map_push}
 use Rattle.std.proofs.lemmas.Result.{err_from_is_err_and}
 use Rattle.shop_base.specs.Vectors.{lists_of}
 use Rattle.orlib_read.specs.Reading.{jobs_at}
-use Rattle.orlib_read.specs.Cursor.{line_of, lines_left}
+use Rattle.orlib_read.specs.Cursor.{numbered_line, lines_left}
 use Rattle.orlib_read.proofs.Loops.{jobs_missing, jobs_fail, jobs_on, jobs_end}
 use Rattle.orlib_read.proofs.reading.read_jobs.Goals as goal
 
@@ -16,7 +16,7 @@ pub returns-in_err-route : goal.returns-in_err-route
 returns-in_err-route c =
     let p = err_from_is_err_and c.from_residual.result c.from_residual.ensures.1 in
     rw (p.1, p.2) (jobs_fail c.in_err-route.field-0.0 (lists_of c.loop-job.routes.items) c.args.jobs c.loop-job.job (lines_left c.loop-job.left)
-    (line_of c.in-Some.line) (lines_left c.in-Some.rest) (jobs_at 0 c.args.jobs (lines_left c.args.lines))
+    (numbered_line c.in-Some.line) (lines_left c.in-Some.rest) (jobs_at 0 c.args.jobs (lines_left c.args.lines))
     c.loop-job-test.true c.in-Some.ensures.line c.in_err-route.ensures c.loop-job.invariant)
 
 pub loop-job-preserved : goal.loop-job-preserved
@@ -24,7 +24,7 @@ loop-job-preserved c =
     let pushed : c.push.new.self.items ≡ c.loop-job.routes.items ++ c.in_ok-route.route ∷ [] = search rules in
     let lists : lists_of c.push.new.self.items ≡ lists_of c.loop-job.routes.items ++ c.in_ok-route.route.items ∷ [] = rw pushed (map_push _ c.loop-job.routes.items c.in_ok-route.route) in
     rw lists (jobs_on (lists_of c.loop-job.routes.items) c.args.jobs c.loop-job.job (lines_left c.loop-job.left)
-    (line_of c.in-Some.line) (lines_left c.in-Some.rest) c.in_ok-route.route.items (jobs_at 0 c.args.jobs (lines_left c.args.lines))
+    (numbered_line c.in-Some.line) (lines_left c.in-Some.rest) c.in_ok-route.route.items (jobs_at 0 c.args.jobs (lines_left c.args.lines))
     c.loop-job-test.true c.in-Some.ensures.line c.in_ok-route.ensures c.loop-job.invariant)
 
 pub returns : goal.returns
