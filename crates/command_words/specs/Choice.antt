@@ -1,12 +1,9 @@
 -- What the words of a command line ask for, by the matches that `clap` finds in them.
-use Rattle.std.specs.Prelude.{◌≡◌, ◌≤◌, ◌++◌, ℕ, Bool, true, false, List, [], Option, Some, None, length, pos, codes}
-use Rattle.std.specs.Prelude.{option_map, unwrap_or, ⊤}
+use Rattle.std.specs.Prelude.{◌≡◌, ◌≢◌, ◌≤◌, ◌++◌, ℕ, Bool, true, false, List, [], Option, Some, None, length, map, option_map, unwrap_or, pos, codes}
 use Rattle.std.specs.Option.{option_map_or}
-use Rattle.std.specs.Prelude.{◌≢◌, map}
 use Rattle.std.specs.String.{string_bytes}
 use Rattle.std.specs.Str.Parse.{digits_value, without_leading_plus}
-use Rattle.clap.specs.Words.{IsAmong, IsSignedIn, Kinds, Row, Text, all_of, fault_of, first_of, one_of, subcommand_of}
-use Rattle.clap.specs.Words.{without_minus}
+use Rattle.clap.specs.Words.{IsAmong, IsSignedIn, Kinds, Row, Text, all_of, fault_of, first_of, one_of, subcommand_of, without_minus}
 use Rattle.clap.specs.declared.error.kind.ErrorKind.{ErrorKind}
 use Rattle.clap.specs.declared.error.kind.ErrorKind.TheVariants.{DisplayHelp, DisplayVersion, OutOfMemory}
 use Rattle.command_words.specs.CommandLine.{command_line}
@@ -99,24 +96,24 @@ asks_for_help _ = false
 
 -- the fault is want of memory, or tells of this reason
 abbrev pub TellsReason : ErrorKind → WordsFault → Type 0
-TellsReason kind Memory = ⊤
+TellsReason kind Memory = Unit {0}
 TellsReason kind (Usage help text) = (kind ≢ OutOfMemory) × (help ≡ asks_for_help kind)
 
 -- the fault is want of memory, or tells of one of these reasons
 abbrev pub TellsOneOf : Kinds → WordsFault → Type 0
-TellsOneOf kinds Memory = ⊤
+TellsOneOf kinds Memory = Unit {0}
 TellsOneOf kinds (Usage help text) =
     (kind : ErrorKind) × IsAmong kind kinds × (help ≡ asks_for_help kind)
 
 -- a text for the number of rounds: none, or a number from 0 to 1000, as it is read
 abbrev pub FitsRounds : Option Text → Type 0
-FitsRounds None = ⊤
+FitsRounds None = Unit {0}
 FitsRounds (Some text) =
     (written : Text) × (text ≡ without_minus written) × IsSignedIn (pos 0) (pos 1000) written
 
 -- what is found where `clap` takes the words: a command of the program with as many files as it
 -- takes, or no command
 abbrev pub IsFit : Found → Type 0
-IsFit None = ⊤
+IsFit None = Unit {0}
 IsFit (Some p) = ((name : CommandName) × (word_of name ≡ Some p.0)
     × TakesFiles name (length (files_in p.1))) × FitsRounds (one_of (codes "rounds") p.1)

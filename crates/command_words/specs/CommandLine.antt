@@ -6,8 +6,7 @@ use Rattle.clap.specs.Simple.{new_shape, with_subcommand}
 use Rattle.clap.specs.declared.builder.command.Command.{Command}
 use Rattle.clap.specs.declared.builder.command.Command.TheViews.{out-Command}
 use Rattle.command_words.specs.declared.words.CommandName.{CommandName}
-use Rattle.command_words.specs.declared.words.CommandName.TheVariants.{Input, Facts, Shape as ShapeName}
-use Rattle.command_words.specs.declared.words.CommandName.TheVariants.{Check, Plan, Drive, Hub, Audit, Gantt}
+use Rattle.command_words.specs.declared.words.CommandName.TheVariants.{Input, Facts, Shape as ShapeName, Check, Plan, Drive, Hub, Audit, Gantt}
 use Rattle.clap.specs.declared.builder.value_parser.ValueParser.TheVariants.{Signed}
 
 -- a file that has to be named, under the name that help gives it

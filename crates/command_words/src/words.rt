@@ -2,11 +2,9 @@
 
 ghost use Rattle.std.specs.Prelude.{◌≡◌, ◌≤◌, ◌++◌, [], IfOk, IfErr, OnOk, codes, map, option_map};
 ghost use Rattle.std.specs.String.{string_bytes};
-ghost use Rattle.clap.specs.Words.{found_of, kind_of, rows_of, subcommand_rows_of};
-ghost use Rattle.clap.specs.Words.{one_of};
+ghost use Rattle.clap.specs.Words.{found_of, kind_of, rows_of, subcommand_rows_of, one_of};
 ghost use Rattle.command_words.specs.declared.words.CommandName.{CommandName};
-ghost use Rattle.command_words.specs.Choice.{FitsRounds, IsChoiceOf, IsFit, IsWithin, TellsOneOf, TellsReason};
-ghost use Rattle.command_words.specs.Choice.{files_in, found_in, instance_in, reasons_in, rounds_in, values_of, word_of};
+ghost use Rattle.command_words.specs.Choice.{FitsRounds, IsChoiceOf, IsFit, IsWithin, TellsOneOf, TellsReason, files_in, found_in, instance_in, reasons_in, rounds_in, values_of, word_of};
 
 mod command_line;
 #[cfg(test)]
@@ -64,7 +62,7 @@ pub enum WordsFault {
         /// The help, or what is wrong with the words.
         text: String,
     },
-    /// Memory ran out.
+    /// Memory was wanting.
     #[error("Memory")]
     Memory,
 }
@@ -95,7 +93,7 @@ pub fn read_words(alloc: Global, words: &[&str]) -> Result<Chosen, WordsFault>
     }
 }
 
-// What `clap` refuses, as a fault.
+/// What `clap` refuses, as a fault.
 fn fault_of(alloc: Global, error: &clap::Error) -> WordsFault
     ensures { TellsReason (kind_of error.now) result }
 {
@@ -110,7 +108,7 @@ fn fault_of(alloc: Global, error: &clap::Error) -> WordsFault
     }
 }
 
-// The choice that the matches of the whole command line make.
+/// The choice that the matches of the whole command line make.
 fn chosen_by(alloc: Global, matches: &ArgMatches<'_>) -> Result<Chosen, AllocError>
     requires { IsFit (subcommand_rows_of matches.now) }
     ensures holds { IfOk result (IsChoiceOf (subcommand_rows_of matches.now)) }
@@ -127,7 +125,7 @@ fn chosen_by(alloc: Global, matches: &ArgMatches<'_>) -> Result<Chosen, AllocErr
     }
 }
 
-// The choice that the matches of one command make.
+/// The choice that the matches of one command make.
 fn chosen_of(alloc: Global, word: &str, matches: &ArgMatches<'_>) -> Result<Chosen, AllocError>
     requires { IsFit (Some (word.now, rows_of (found_of matches.now))) }
     ensures holds { IfOk result (IsChoiceOf (Some (word.now, rows_of (found_of matches.now)))) }
@@ -141,7 +139,7 @@ fn chosen_of(alloc: Global, word: &str, matches: &ArgMatches<'_>) -> Result<Chos
     })
 }
 
-// The command of a word.
+/// The command of a word.
 fn name_of(word: &str) -> CommandName
     requires { (name : CommandName) × (word_of name ≡ Some word.now) }
     ensures { word_of result ≡ Some word.now }
@@ -158,7 +156,7 @@ fn name_of(word: &str) -> CommandName
     }
 }
 
-// The files, in the order given.
+/// The files, in the order given.
 fn files_of(alloc: Global, matches: &ArgMatches<'_>) -> Result<Vec<String>, AllocError>
     ensures { IfOk result (λ files. map string_bytes files.items ≡ files_in (rows_of (found_of matches.now))) }
 {
@@ -169,7 +167,7 @@ fn files_of(alloc: Global, matches: &ArgMatches<'_>) -> Result<Vec<String>, Allo
     Ok(files)
 }
 
-// Adds the values of an argument.
+/// Adds the values of an argument.
 fn add_values(
     alloc: Global,
     files: &mut Vec<String>,
@@ -188,7 +186,7 @@ fn add_values(
     Ok(())
 }
 
-// The name of the instance, if it is given.
+/// The name of the instance, if it is given.
 fn instance_of(alloc: Global, matches: &ArgMatches<'_>) -> Result<Option<String>, AllocError>
     ensures { IfOk result (λ name. option_map string_bytes name ≡ instance_in (rows_of (found_of matches.now))) }
 {
@@ -198,7 +196,7 @@ fn instance_of(alloc: Global, matches: &ArgMatches<'_>) -> Result<Option<String>
     }
 }
 
-// The number of rounds.
+/// The number of rounds.
 fn rounds_of(matches: &ArgMatches<'_>) -> u32
     requires { FitsRounds (one_of (codes "rounds") (rows_of (found_of matches.now))) }
     ensures exact { result ≡ rounds_in (rows_of (found_of matches.now)) }

@@ -1,6 +1,6 @@
 -- Where a command without commands of its own takes the words, the values of each argument are as many as it takes, and pass its parser.
 use Rattle.std.proofs.Common.{◌≡◌, ◌∙◌, ◌⊎◌, ◌≤◌, ◌==◌, ◌&&◌, ◌||◌, ℕ, Bool, cond, true, false, zero, suc, refl, sym, ap, subst, arith, List, [], ◌∷◌, ◌++◌, length, Option, Some, None, inl, inr, not, nat_lt, true≢false}
-use Rattle.std.specs.Prelude.{⊤, drop, slice_get, encode_utf8}
+use Rattle.std.specs.Prelude.{drop, slice_get, encode_utf8}
 use Rattle.std.specs.List.{find, fold, list_any}
 use Rattle.std.specs.Option.{option_map_or}
 use Rattle.std.specs.Str.{bytes_eq, chars}
@@ -37,7 +37,7 @@ abbrev pub FitRow : List Rule → Row → Type 0
 FitRow c r = (a : Rule) × (arg_by_id c r.id ≡ Some a) × Fit a r
 
 abbrev pub FitRows : List Rule → List Row → Type 0
-FitRows c [] = ⊤
+FitRows c [] = Unit {0}
 FitRows c (r ∷ rs) = FitRow c r × FitRows c rs
 
 -- an argument of the fair kinds, alone with its id
@@ -48,7 +48,7 @@ pub record PlainRule (c : List Rule) (a : Rule) : Type 0 where
   pub defaults : (is_empty a.defaults ≡ true) ⊎ ((least_of a ≤ length a.defaults) × (length a.defaults ≤ most_values a))
 
 abbrev pub PlainRules : List Rule → List Rule → Type 0
-PlainRules c [] = ⊤
+PlainRules c [] = Unit {0}
 PlainRules c (a ∷ rest) = PlainRule c a × PlainRules c rest
 
 pub both_none : (a b : Kinds) → or_else a b ≡ [] → (a ≡ []) × (b ≡ [])
@@ -380,7 +380,7 @@ defaults_fit c (a ∷ rest) rows h e ok =
 
 -- the row that was found fits its argument; one that is required was found
 abbrev pub FitFound : Option Rule → Option Row → Type 0
-FitFound None None = ⊤
+FitFound None None = Unit {0}
 FitFound None (Some r) = ⊥
 FitFound (Some a) None = a.required ≡ false
 FitFound (Some a) (Some r) = Fit a r

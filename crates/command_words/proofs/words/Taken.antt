@@ -1,6 +1,6 @@
 -- Where the program's command line takes the words, what is found is fit for its command.
 use Rattle.std.proofs.Common.{◌≡◌, ◌∙◌, ◌≤◌, ◌+◌, ◌++◌, ℕ, Bool, cond, true, false, refl, sym, ap, subst, arith, List, [], ◌∷◌, length, Option, Some, None, inl, inr, codes}
-use Rattle.std.specs.Prelude.{⊤, option_map, option_and_then, unwrap_or, pos, slice_get}
+use Rattle.std.specs.Prelude.{option_map, option_and_then, unwrap_or, pos, slice_get}
 use Rattle.std.specs.List.{find}
 use Rattle.std.specs.Option.{option_map_or}
 use Rattle.std.proofs.lemmas.List.{length-append}
@@ -77,7 +77,7 @@ accepted true p e = refl
 accepted false p e = cc
 
 abbrev CountsRounds : Option Rule → Type 0
-CountsRounds None = ⊤
+CountsRounds None = Unit {0}
 CountsRounds (Some a) = a.parser ≡ Some (Signed (pos 0) (pos 1000))
 
 fit_rounds : (o : Option Rule) (r : Option Row) → CountsRounds o → FitFound o r → FitsRounds (option_and_then row_text r)
@@ -184,7 +184,7 @@ hub_fits = fits_leaf (as_built (command (codes "hub") (plans_rule ∷ []))) Hub 
 -- ---- the whole command line
 
 abbrev Leaves : List Shape → Type 0
-Leaves [] = ⊤
+Leaves [] = Unit {0}
 Leaves (s ∷ ss) = FitsLeaf s × Leaves ss
 
 leaf_found : (ss : List Shape) → Leaves ss → (p : Shape → Bool) (s : Shape) → find p ss ≡ Some s → FitsLeaf s

@@ -1,16 +1,15 @@
 //! The command line as `clap` is told of it, one command in each function.
+
 ghost use Rattle.std.specs.Prelude.{◌≡◌, IfOk, [], false};
 ghost use Rattle.clap.specs.Words.{rule_of};
-ghost use Rattle.command_words.specs.CommandLine.{Describes, bare_program, command, command_line, described};
-ghost use Rattle.command_words.specs.CommandLine.{file_rule, leaf, log_command, option_rule, plan_command};
-ghost use Rattle.command_words.specs.CommandLine.{plans_rule, program_with, rounds_rule};
+ghost use Rattle.command_words.specs.CommandLine.{Describes, bare_program, command, command_line, described, file_rule, leaf, log_command, option_rule, plan_command, plans_rule, program_with, rounds_rule};
 
 use crate::words::CommandName;
 use clap::builder::ValueParser;
 use clap::{Arg, Command};
 use std::alloc::{AllocError, Global};
 
-// A file that has to be named.
+/// A file that has to be named.
 fn file<'a>(alloc: Global, name: &'a str, help: &'a str) -> Arg<'a>
     ensures rule { rule_of result ≡ file_rule name.entry.now }
     ensures local { result.global ≡ false }
@@ -18,7 +17,7 @@ fn file<'a>(alloc: Global, name: &'a str, help: &'a str) -> Arg<'a>
     Arg::new(alloc, name).required(true).help(help)
 }
 
-// An option with one value.
+/// An option with one value.
 fn option<'a>(alloc: Global, name: &'a str, value: &'a str, help: &'a str) -> Arg<'a>
     ensures rule { rule_of result ≡ option_rule name.entry.now }
     ensures local { result.global ≡ false }
@@ -29,7 +28,7 @@ fn option<'a>(alloc: Global, name: &'a str, value: &'a str, help: &'a str) -> Ar
         .help(help)
 }
 
-// The plan files of a hub, one or more.
+/// The plan files of a hub, one or more.
 fn plans<'a>(alloc: Global) -> Arg<'a>
     ensures rule { rule_of result ≡ plans_rule }
     ensures local { result.global ≡ false }
@@ -37,7 +36,7 @@ fn plans<'a>(alloc: Global) -> Arg<'a>
     file(alloc, "PLAN", "A plan for each cell, in TOML").num_args(1..)
 }
 
-// The number of rounds of a search.
+/// The number of rounds of a search.
 fn rounds<'a>(alloc: Global) -> Arg<'a>
     ensures rule { rule_of result ≡ rounds_rule }
     ensures local { result.global ≡ false }
@@ -52,7 +51,7 @@ fn rounds<'a>(alloc: Global) -> Arg<'a>
     .default_value("20")
 }
 
-// A command on an instance.
+/// A command on an instance.
 fn on_instance<'a>(alloc: Global, name: &'a str, about: &'a str) -> Result<Command<'a>, AllocError>
     ensures { IfOk result (Describes (leaf (command name.entry.now []))) }
 {
@@ -73,21 +72,21 @@ fn on_instance<'a>(alloc: Global, name: &'a str, about: &'a str) -> Result<Comma
         .arg(file)
 }
 
-// A command on an instance and a plan.
+/// A command on an instance and a plan.
 fn on_plan<'a>(alloc: Global, name: &'a str, about: &'a str) -> Result<Command<'a>, AllocError>
     ensures { IfOk result (Describes (leaf (plan_command name.entry.now []))) }
 {
     on_instance(alloc, name, about)?.arg(file(alloc, "PLAN", "The plan, in TOML"))
 }
 
-// A command on an instance, a plan and a log.
+/// A command on an instance, a plan and a log.
 fn on_log<'a>(alloc: Global, name: &'a str, about: &'a str) -> Result<Command<'a>, AllocError>
     ensures { IfOk result (Describes (leaf (log_command name.entry.now))) }
 {
     on_plan(alloc, name, about)?.arg(file(alloc, "LOG", "The log of a run, as drive writes it"))
 }
 
-// The search of a plan.
+/// The search of a plan.
 fn search<'a>(alloc: Global) -> Result<Command<'a>, AllocError>
     ensures { IfOk result (Describes (leaf (described CommandName.Plan))) }
 {
@@ -95,7 +94,7 @@ fn search<'a>(alloc: Global) -> Result<Command<'a>, AllocError>
     on_plan(alloc, "plan", about)?.arg(rounds(alloc))
 }
 
-// The cells of several plans.
+/// The cells of several plans.
 fn hub<'a>(alloc: Global) -> Result<Command<'a>, AllocError>
     ensures { IfOk result (Describes (leaf (described CommandName.Hub))) }
 {
@@ -103,7 +102,7 @@ fn hub<'a>(alloc: Global) -> Result<Command<'a>, AllocError>
     on_instance(alloc, "hub", about)?.arg(plans(alloc))
 }
 
-// The program before it has a command.
+/// The program before it has a command.
 fn bare<'a>(alloc: Global) -> Command<'a>
     ensures { Describes (leaf bare_program) result }
 {
@@ -115,7 +114,7 @@ fn bare<'a>(alloc: Global) -> Command<'a>
         .disable_help_subcommand(true)
 }
 
-// One command.
+/// One command.
 fn command_of<'a>(alloc: Global, name: CommandName) -> Result<Command<'a>, AllocError>
     ensures { IfOk result (Describes (leaf (described name))) }
 {
@@ -148,7 +147,7 @@ fn command_of<'a>(alloc: Global, name: CommandName) -> Result<Command<'a>, Alloc
     }
 }
 
-// The program with these commands.
+/// The program with these commands.
 fn program_with<'a>(alloc: Global, names: &[CommandName]) -> Result<Command<'a>, AllocError>
     ensures { IfOk result (Describes (program_with names.now)) }
 {
