@@ -36,6 +36,3 @@ pub use report_fault::ReportFault;
 pub use scan_dues::ScanDues;
 pub use shop_base::{MoveOrder, Spot};
 pub use tourney_dues::TourneyDues;
-
-#[cfg(test)]
-mod tests;

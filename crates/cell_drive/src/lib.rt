@@ -29,6 +29,3 @@ pub use input_lines::report_of;
 pub use line_handler::LineHandler;
 pub use source::{ReadFault, Source};
 pub use streaming::stream;
-
-#[cfg(test)]
-mod tests;

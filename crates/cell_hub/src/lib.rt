@@ -15,6 +15,3 @@ mod ticket;
 pub use hub::Hub;
 pub use hub_fault::HubFault;
 pub use ticket::Ticket;
-
-#[cfg(test)]
-mod tests;

@@ -34,8 +34,3 @@ pub use log_fault::LogFault;
 pub use run_entries::RunLog;
 pub use sink::{Sink, WriteFault};
 pub use writing::put_all;
-
-#[cfg(test)]
-mod gantt_tests;
-#[cfg(test)]
-mod tests;

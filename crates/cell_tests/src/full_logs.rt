@@ -1,8 +1,8 @@
 //! A log without room.
 
-use crate::{Entry, LogFault, RunLog};
 use cell_control::Report;
 use plan_verifier::{Verdict, Verified, verify};
+use run_log::{Entry, LogFault, RunLog};
 use shop_base::{MoveOrder, Plan, Shop, Spot, Step, shape};
 use std::alloc::Global;
 use std::test::Fail;

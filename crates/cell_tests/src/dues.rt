@@ -1,7 +1,7 @@
 ghost use Rattle.std.specs.Prelude.{◌≡◌, ◌<◌, length, slice_set, Some};
 ghost use Rattle.cell_control.specs.Dues.{due_at};
 
-use crate::{Dues, ScanDues, TourneyDues};
+use cell_control::{Dues, ScanDues, TourneyDues};
 use shop_base::Moment;
 use std::process::Abort;
 use std::test::Fail;

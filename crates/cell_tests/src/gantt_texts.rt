@@ -1,5 +1,5 @@
-use super::*;
 use cell_control::Report;
+use run_log::{Entry, gantt};
 use shop_base::{JobNo, MachineNo, Moment, MoveOrder, Plan, Shaped, Shop, Spot, Step, shape};
 use std::alloc::Global;
 use std::process::Abort;

@@ -1,5 +1,5 @@
-use crate::{Hub, HubFault, Ticket};
 use cell_control::{Ack, Controller, Dues, Report, ReportFault, ScanDues, TourneyDues};
+use cell_hub::{Hub, HubFault, Ticket};
 use plan_verifier::{Verdict, Verified, verify};
 use shop_base::{MachineNo, Moment, Plan, Shop, Step, shape};
 use std::alloc::{AllocError, Global};

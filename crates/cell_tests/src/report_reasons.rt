@@ -1,6 +1,6 @@
 //! The texts of the reasons for which reports are refused.
 
-use crate::ReportFault;
+use cell_control::ReportFault;
 use std::process::Abort;
 use std::test::Fail;
 

@@ -1,8 +1,8 @@
 //! The reports of a run in many orders.
 
 use super::cells::{cleaned_plan, crossing_plan, following_plan};
-use super::runs::{arrive, clean, controller, finish};
-use crate::{Controller, Dues, Report, ScanDues, TourneyDues};
+use super::controller_runs::{arrive, clean, controller, finish};
+use cell_control::{Controller, Dues, Report, ScanDues, TourneyDues};
 use plan_verifier::Verified;
 use shop_base::Moment;
 use std::process::Abort;

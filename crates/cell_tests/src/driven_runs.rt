@@ -1,8 +1,8 @@
 //! Runs that are driven, byte for byte.
 
-use super::cells::{crossing, following, instant};
-use super::{OneByteWriter, PieceReader, ROOM, is_text};
-use crate::{DriveFault, FromRead, drive};
+use super::driven_plans::{crossing, following, instant};
+use super::streams::{OneByteWriter, PieceReader, ROOM, is_text};
+use cell_drive::{DriveFault, FromRead, drive};
 use plan_verifier::Verified;
 use run_log::IntoSink;
 use shop_base::Moment;

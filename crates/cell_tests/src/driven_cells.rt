@@ -1,8 +1,8 @@
 //! Several runs that are driven, byte for byte.
 
-use super::cells::crossing;
-use super::{OneByteWriter, PieceReader, ROOM, is_text};
-use crate::{DriveFault, FromRead, HubEnd, drive_hub};
+use super::driven_plans::crossing;
+use super::streams::{OneByteWriter, PieceReader, ROOM, is_text};
+use cell_drive::{DriveFault, FromRead, HubEnd, drive_hub};
 use plan_verifier::Verified;
 use run_log::IntoSink;
 use std::alloc::Global;

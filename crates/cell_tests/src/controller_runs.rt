@@ -1,7 +1,7 @@
 //! Runs of a controller, report by report.
 
 use super::cells::{cleaned_plan, crossing_plan, following_plan, instant_plan};
-use crate::{
+use cell_control::{
     Ack, Controller, Dues, MoveOrder, Phase, Report, ReportFault, ScanDues, Spot, TourneyDues,
 };
 use plan_verifier::Verified;

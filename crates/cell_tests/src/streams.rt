@@ -1,11 +1,10 @@
 ghost use Rattle.std.specs.Prelude.{◌≡◌};
 
-mod cells;
-mod driving;
-mod driving_cells;
-
-use super::*;
 use cell_control::Report;
+use cell_drive::{
+    DriveFault, FromRead, LineHandler, ReadFault, done_line, late_line, refused_line, report_of,
+    stream, unfinished_line,
+};
 use run_log::{IntoSink, Sink, WriteFault, put_all};
 use std::cell::Cell;
 use std::io::{self, ErrorKind, Read, Write};
@@ -13,7 +12,7 @@ use std::process::Abort;
 use std::test::Fail;
 
 /// How much the writer takes at most.
-const ROOM: usize = 512;
+pub(super) const ROOM: usize = 512;
 
 /// Answers a line by its number's last digit, its bytes and a bar, an empty line by nothing, and ends by a full stop.
 #[derive(Drop)]
@@ -51,12 +50,12 @@ impl LineHandler for Echo {
 /// Gives some bytes in pieces of a size at most, and fails once so many calls were made. It tells how many bytes were
 /// written when a call was made.
 #[derive(Drop)]
-struct PieceReader<'a> {
-    bytes: &'a [u8],
-    most: usize,
-    calls_left: usize,
-    written: &'a Cell<usize>,
-    written_at_last: usize,
+pub(super) struct PieceReader<'a> {
+    pub(super) bytes: &'a [u8],
+    pub(super) most: usize,
+    pub(super) calls_left: usize,
+    pub(super) written: &'a Cell<usize>,
+    pub(super) written_at_last: usize,
 }
 
 impl Read for PieceReader<'_> {
@@ -75,11 +74,11 @@ impl Read for PieceReader<'_> {
 
 /// Takes one byte a call, and fails once so many calls were made: with an error, or by taking nothing.
 #[derive(Drop)]
-struct OneByteWriter<'a> {
-    bytes: [u8; ROOM],
-    written: &'a Cell<usize>,
-    calls_left: usize,
-    takes_nothing: bool,
+pub(super) struct OneByteWriter<'a> {
+    pub(super) bytes: [u8; ROOM],
+    pub(super) written: &'a Cell<usize>,
+    pub(super) calls_left: usize,
+    pub(super) takes_nothing: bool,
 }
 
 impl Write for OneByteWriter<'_> {
@@ -130,7 +129,7 @@ fn streamed(
     (result, writer.into_inner().bytes, written.get(), at_last)
 }
 
-fn is_text(written: &[u8; ROOM], count: usize, text: &[u8]) -> bool {
+pub(super) fn is_text(written: &[u8; ROOM], count: usize, text: &[u8]) -> bool {
     count <= ROOM && &written[..count] == text
 }
 

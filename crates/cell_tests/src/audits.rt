@@ -1,4 +1,4 @@
-use crate::{Audit, AuditFault, audit};
+use run_log::{Audit, AuditFault, audit};
 use shop_base::{JobNo, MachineNo, Moment, Plan, Shaped, Shop, Step, shape};
 use std::alloc::{AllocError, Global};
 use std::process::Abort;

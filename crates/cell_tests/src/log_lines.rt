@@ -1,8 +1,5 @@
-mod audits;
-mod full_log;
-
-use super::*;
 use cell_control::Report;
+use run_log::{Entry, IntoSink, WriteFault, put_all, write_lines};
 use shop_base::{MoveOrder, Spot};
 use std::io::{self, ErrorKind, Write};
 use std::test::Fail;

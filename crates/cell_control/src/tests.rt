@@ -1,5 +1,0 @@
-mod cells;
-mod dues;
-mod orders;
-mod reasons;
-mod runs;
