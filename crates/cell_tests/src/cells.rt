@@ -1,8 +1,10 @@
-//! Accepted plans for the tests.
+//! The cells of the tests: their plans, which are accepted, and their controllers.
 
+use cell_control::{Controller, Dues};
 use plan_verifier::{Verdict, Verified, verify};
-use shop_base::{JobNo, MachineNo, Moment, Plan, Shop, Step, shape};
+use shop_base::{JobNo, MachineNo, Moment, Plan, Shaped, Shop, Step, shape};
 use std::alloc::{AllocError, Global};
+use std::process::Abort;
 use std::test::Fail;
 
 fn routes(alloc: Global, rows: &[&[(MachineNo, Moment)]]) -> Result<Vec<Vec<Step>>, AllocError> {
@@ -26,26 +28,38 @@ fn orders(alloc: Global, machines: u32, jobs: &[JobNo]) -> Result<Vec<Vec<JobNo>
     Ok(orders)
 }
 
-/// The accepted plan in which each machine takes these jobs in turn; none where it isn't accepted.
+/// The plan with these orders, in which all releases are 0.
+fn shaped(
+    rt: &(impl Abort + AllocGlobal),
+    shop: Shop,
+    order: Vec<Vec<JobNo>>,
+    budget: &[Moment],
+    clean: Option<Vec<Moment>>,
+) -> Result<Shaped, Fail> {
+    let plan = Plan {
+        release: vec![in rt.alloc(); 0; budget.len()]?,
+        budget: budget.to_vec(rt.alloc())?,
+        order,
+        clean,
+    };
+    match shape(shop, plan) {
+        Ok(shaped) => Ok(shaped),
+        Err(_) => panic!(rt; "the plan isn't well shaped"),
+    }
+}
+
+/// The accepted plan in which each machine takes these jobs in turn.
 fn accepted(
-    alloc: Global,
+    rt: &(impl Abort + AllocGlobal),
     shop: Shop,
     jobs: &[JobNo],
     budget: &[Moment],
     clean: Option<Vec<Moment>>,
-) -> Result<Option<Verified>, AllocError> {
-    let plan = Plan {
-        release: vec![in alloc; 0; budget.len()]?,
-        budget: budget.to_vec(alloc)?,
-        order: orders(alloc, shop.machines(), jobs)?,
-        clean,
-    };
-    let Ok(shaped) = shape(shop, plan) else {
-        return Ok(None);
-    };
-    match verify(alloc, shaped) {
-        Ok(Verdict::Accepted(verified)) => Ok(Some(verified)),
-        _ => Ok(None),
+) -> Result<Verified, Fail> {
+    let order = orders(rt.alloc(), shop.machines(), jobs)?;
+    match verify(rt.alloc(), shaped(rt, shop, order, budget, clean)?) {
+        Ok(Verdict::Accepted(verified)) => Ok(verified),
+        _ => panic!(rt; "the plan isn't accepted"),
     }
 }
 
@@ -54,30 +68,52 @@ fn two_jobs(alloc: Global) -> Result<Shop, Fail> {
     Ok(Shop::new(2, routes(alloc, &[&[(0, 3), (1, 2)], &[(1, 4), (0, 1)]])?)?)
 }
 
-/// The two jobs, job 0 before job 1.
-pub(super) fn crossing_plan(alloc: Global) -> Result<Option<Verified>, Fail> {
-    Ok(accepted(alloc, two_jobs(alloc)?, &[0, 1], &[5, 10], None)?)
+/// The two jobs, job 0 before job 1. Machine 1 may have to be cleaned for this long after each job.
+pub(super) fn crossing(
+    rt: &(impl Abort + AllocGlobal),
+    cleaning: Option<Moment>,
+) -> Result<Verified, Fail> {
+    let shop = two_jobs(rt.alloc())?;
+    match cleaning {
+        None => accepted(rt, shop, &[0, 1], &[5, 10], None),
+        Some(time) => {
+            let clean = vec![in rt.alloc(); 0, time]?;
+            accepted(rt, shop, &[0, 1], &[5, 12], Some(clean))
+        }
+    }
 }
 
-/// The same, where machine 1 is cleaned for 2 time units after each job.
-pub(super) fn cleaned_plan(alloc: Global) -> Result<Option<Verified>, Fail> {
-    let clean = vec![in alloc; 0, 2]?;
-    Ok(accepted(alloc, two_jobs(alloc)?, &[0, 1], &[5, 12], Some(clean))?)
+/// The two jobs, each first on the machine where its route begins, so that the plan has a cycle.
+pub(super) fn crossed(rt: &(impl Abort + AllocGlobal)) -> Result<Shaped, Fail> {
+    let alloc = rt.alloc();
+    let order = vec![in alloc; vec![in alloc; 0, 1]?, vec![in alloc; 1, 0]?]?;
+    shaped(rt, two_jobs(alloc)?, order, &[100, 100], None)
 }
 
 /// Three jobs that follow one another over three machines.
-pub(super) fn following_plan(alloc: Global) -> Result<Option<Verified>, Fail> {
+pub(super) fn following(rt: &(impl Abort + AllocGlobal)) -> Result<Verified, Fail> {
     let rows: [&[(MachineNo, Moment)]; 3] = [
         &[(0, 1), (1, 1), (2, 5)],
         &[(0, 1), (1, 1), (2, 1)],
         &[(0, 1), (1, 1), (2, 1)],
     ];
-    let shop = Shop::new(3, routes(alloc, &rows)?)?;
-    Ok(accepted(alloc, shop, &[0, 1, 2], &[7, 8, 9], None)?)
+    let shop = Shop::new(3, routes(rt.alloc(), &rows)?)?;
+    accepted(rt, shop, &[0, 1, 2], &[7, 8, 9], None)
 }
 
 /// One job on one machine, which takes no time.
-pub(super) fn instant_plan(alloc: Global) -> Result<Option<Verified>, Fail> {
-    let shop = Shop::new(1, routes(alloc, &[&[(0, 0)]])?)?;
-    Ok(accepted(alloc, shop, &[0], &[0], None)?)
+pub(super) fn instant(rt: &(impl Abort + AllocGlobal)) -> Result<Verified, Fail> {
+    let shop = Shop::new(1, routes(rt.alloc(), &[&[(0, 0)]])?)?;
+    accepted(rt, shop, &[0], &[0], None)
+}
+
+/// A controller of the plan.
+pub(super) fn controller<D: Dues>(
+    rt: &(impl Abort + AllocGlobal),
+    verified: Verified,
+) -> Result<Controller<D>, Fail> {
+    match Controller::new(rt.alloc(), verified) {
+        Ok(cell) => Ok(cell),
+        Err(_) => panic!(rt; "no memory"),
+    }
 }

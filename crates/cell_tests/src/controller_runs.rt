@@ -1,6 +1,8 @@
 //! Runs of a controller, report by report.
 
-use super::cells::{cleaned_plan, crossing_plan, following_plan, instant_plan};
+use super::cells::{controller, crossing, following, instant};
+use super::events::{arrive, clean, finish};
+use super::worked_runs::{cleaned, followed, in_time};
 use cell_control::{
     Ack, Controller, Dues, MoveOrder, Phase, Report, ReportFault, ScanDues, Spot, TourneyDues,
 };
@@ -10,40 +12,7 @@ use std::alloc::{AllocError, Global};
 use std::process::Abort;
 use std::test::Fail;
 
-// Each report stands with what is answered to it and the orders that stand then: a job, where it leaves and where it
-// enters, and the moment.
-
-pub(super) fn arrive(job: JobNo, at: Moment) -> Report {
-    Report::Arrive { job, at }
-}
-
-pub(super) fn finish(job: JobNo, machine: MachineNo, at: Moment) -> Report {
-    Report::Finish { job, machine, at }
-}
-
-pub(super) fn clean(machine: MachineNo, at: Moment) -> Report {
-    Report::Clean { machine, at }
-}
-
-/// Two jobs arrive, and the first goes on to its second machine.
-fn begun() -> [(Report, &'static str); 3] {
-    [
-        (arrive(0, 0), "ok 0:out>0@0"),
-        (arrive(1, 0), "ok"),
-        (finish(0, 0, 2), "ok 0:0>1@2"),
-    ]
-}
-
-/// The rest of that run.
-fn ended() -> [(Report, &'static str); 3] {
-    [
-        (finish(0, 1, 4), "ok 0:1>out@4 1:out>1@4"),
-        (finish(1, 1, 8), "ok 1:1>0@8"),
-        (finish(1, 0, 9), "ok 1:0>out@9"),
-    ]
-}
-
-/// What isn't possible between the two.
+/// What isn't possible once the first job is on its second machine.
 fn refused() -> [(Report, &'static str); 8] {
     [
         (finish(0, 0, 2), "WrongMachine actual 1 0:0>1@2"),
@@ -88,55 +57,11 @@ fn latest() -> [(Report, &'static str); 4] {
     ]
 }
 
-/// Three jobs that follow one another, till two wait for the machine before them.
-fn followed() -> [(Report, &'static str); 8] {
-    [
-        (arrive(0, 0), "ok 0:out>0@0"),
-        (arrive(1, 0), "ok"),
-        (arrive(2, 0), "ok"),
-        (finish(0, 0, 1), "ok 0:0>1@1 1:out>0@1"),
-        (finish(0, 1, 2), "ok 0:1>2@2"),
-        (finish(1, 0, 2), "ok 1:0>1@2 2:out>0@2"),
-        (finish(1, 1, 3), "ok"),
-        (finish(2, 0, 3), "ok"),
-    ]
-}
-
-/// The rest of that run: all three move at once, and leave.
-fn freed() -> [(Report, &'static str); 4] {
-    [
-        (finish(0, 2, 7), "ok 0:2>out@7 1:1>2@7 2:0>1@7"),
-        (finish(1, 2, 8), "ok 1:2>out@8"),
-        (finish(2, 1, 8), "ok 2:1>2@8"),
-        (finish(2, 2, 9), "ok 2:2>out@9"),
-    ]
-}
-
 /// One operation that takes no time.
-fn instant() -> [(Report, &'static str); 2] {
+fn at_once() -> [(Report, &'static str); 2] {
     [
         (arrive(0, 0), "ok 0:out>0@0"),
         (finish(0, 0, 0), "ok 0:0>out@0"),
-    ]
-}
-
-/// The first job has left machine 1, which isn't clean yet.
-fn dirty() -> [(Report, &'static str); 4] {
-    [
-        (arrive(0, 0), "ok 0:out>0@0"),
-        (arrive(1, 0), "ok"),
-        (finish(0, 0, 3), "ok 0:0>1@3"),
-        (finish(0, 1, 5), "ok 0:1>out@5"),
-    ]
-}
-
-/// The rest of that run.
-fn cleaned() -> [(Report, &'static str); 4] {
-    [
-        (clean(1, 7), "ok 1:out>1@7"),
-        (finish(1, 1, 11), "ok 1:1>0@11"),
-        (finish(1, 0, 12), "ok 1:0>out@12"),
-        (clean(1, 13), "ok"),
     ]
 }
 
@@ -195,20 +120,6 @@ fn gives<D: Dues>(
     Ok(())
 }
 
-/// A controller of the plan.
-pub(super) fn controller<D: Dues>(
-    rt: &(impl Abort + AllocGlobal),
-    verified: Option<Verified>,
-) -> Result<Controller<D>, Fail> {
-    let Some(verified) = verified else {
-        panic!(rt; "no accepted plan");
-    };
-    let Ok(cell) = Controller::new(rt.alloc(), verified) else {
-        panic!(rt; "no memory");
-    };
-    Ok(cell)
-}
-
 /// What the readers tell of a run: what is left, when the last report was accepted, and whether none was late.
 fn tells_of_run<D: Dues>(
     rt: &impl Abort,
@@ -226,7 +137,7 @@ fn tells_of_run<D: Dues>(
 /// Gives the reports to a new controller, and tells what is left then, the last moment, and whether no report was late.
 fn plays<D: Dues>(
     rt: &(impl Abort + AllocGlobal),
-    verified: Option<Verified>,
+    verified: Verified,
     parts: [&[(Report, &str)]; 3],
     end: (u64, Moment, bool),
 ) -> Result<(), Fail> {
@@ -238,63 +149,43 @@ fn plays<D: Dues>(
     Ok(())
 }
 
-fn makes_a_run<D: Dues>(rt: &(impl Abort + AllocGlobal)) -> Result<(), Fail> {
-    let verified = crossing_plan(rt.alloc())?;
-    plays::<D>(rt, verified, [&begun(), &[], &ended()], (0, 9, true))
-}
-
-fn refuses_what_is_impossible<D: Dues>(rt: &(impl Abort + AllocGlobal)) -> Result<(), Fail> {
-    let verified = crossing_plan(rt.alloc())?;
-    plays::<D>(rt, verified, [&begun(), &refused(), &ended()], (0, 9, true))
-}
-
-fn takes_late_reports<D: Dues>(rt: &(impl Abort + AllocGlobal)) -> Result<(), Fail> {
-    let verified = crossing_plan(rt.alloc())?;
-    plays::<D>(rt, verified, [&late(), &[], &[]], (0, 11, false))
-}
-
-fn takes_the_latest_moment<D: Dues>(rt: &(impl Abort + AllocGlobal)) -> Result<(), Fail> {
-    let verified = crossing_plan(rt.alloc())?;
+fn makes_the_runs<D: Dues>(rt: &(impl Abort + AllocGlobal)) -> Result<(), Fail> {
     plays::<D>(
         rt,
-        verified,
+        crossing(rt, None)?,
+        [&in_time(), &[], &[]],
+        (0, 9, true),
+    )?;
+    plays::<D>(
+        rt,
+        crossing(rt, None)?,
+        [&in_time()[..3], &refused(), &in_time()[3..]],
+        (0, 9, true),
+    )?;
+    plays::<D>(rt, crossing(rt, None)?, [&late(), &[], &[]], (0, 11, false))?;
+    plays::<D>(
+        rt,
+        crossing(rt, None)?,
         [&latest(), &[], &[]],
         (5, 1_000_000_000_000, false),
     )
 }
 
-fn moves_all_that_can<D: Dues>(rt: &(impl Abort + AllocGlobal)) -> Result<(), Fail> {
-    let verified = following_plan(rt.alloc())?;
-    plays::<D>(rt, verified, [&followed(), &freed(), &[]], (0, 9, true))
-}
-
-fn takes_no_time<D: Dues>(rt: &(impl Abort + AllocGlobal)) -> Result<(), Fail> {
-    let verified = instant_plan(rt.alloc())?;
-    plays::<D>(rt, verified, [&instant(), &[], &[]], (0, 0, true))
-}
-
-fn waits_for_cleanings<D: Dues>(rt: &(impl Abort + AllocGlobal)) -> Result<(), Fail> {
-    let verified = cleaned_plan(rt.alloc())?;
-    plays::<D>(rt, verified, [&dirty(), &cleaned(), &[]], (0, 13, true))
-}
-
-fn takes_a_late_cleaning<D: Dues>(rt: &(impl Abort + AllocGlobal)) -> Result<(), Fail> {
-    let verified = cleaned_plan(rt.alloc())?;
-    plays::<D>(rt, verified, [&dirty(), &unclean(), &[]], (3, 8, false))
-}
-
-fn makes_the_runs<D: Dues>(rt: &(impl Abort + AllocGlobal)) -> Result<(), Fail> {
-    makes_a_run::<D>(rt)?;
-    refuses_what_is_impossible::<D>(rt)?;
-    takes_late_reports::<D>(rt)?;
-    takes_the_latest_moment::<D>(rt)
-}
-
 fn makes_the_other_runs<D: Dues>(rt: &(impl Abort + AllocGlobal)) -> Result<(), Fail> {
-    moves_all_that_can::<D>(rt)?;
-    takes_no_time::<D>(rt)?;
-    waits_for_cleanings::<D>(rt)?;
-    takes_a_late_cleaning::<D>(rt)
+    plays::<D>(rt, following(rt)?, [&followed(), &[], &[]], (0, 9, true))?;
+    plays::<D>(rt, instant(rt)?, [&at_once(), &[], &[]], (0, 0, true))?;
+    plays::<D>(
+        rt,
+        crossing(rt, Some(2))?,
+        [&cleaned(), &[], &[]],
+        (0, 13, true),
+    )?;
+    plays::<D>(
+        rt,
+        crossing(rt, Some(2))?,
+        [&cleaned()[..4], &unclean(), &[]],
+        (3, 8, false),
+    )
 }
 
 #[test]
@@ -335,7 +226,7 @@ fn tells_of_machine<D: Dues>(
 
 #[test]
 fn the_readers_tell_the_start(rt: HostRuntime) -> Result<(), Fail> {
-    let mut cell = controller::<TourneyDues>(&rt, crossing_plan(rt.alloc())?)?;
+    let mut cell = controller::<TourneyDues>(&rt, crossing(&rt, None)?)?;
     let awaited = Phase::Outside { ready: false };
     tells_of_job(&rt, &cell, 1, Some(awaited), Some(0));
     tells_of_job(&rt, &cell, 2, None, None);
@@ -355,8 +246,8 @@ fn the_readers_tell_the_start(rt: HostRuntime) -> Result<(), Fail> {
 
 #[test]
 fn the_readers_tell_of_a_cleaning(rt: HostRuntime) -> Result<(), Fail> {
-    let mut cell = controller::<TourneyDues>(&rt, cleaned_plan(rt.alloc())?)?;
-    gives(&rt, &mut cell, &dirty())?;
+    let mut cell = controller::<TourneyDues>(&rt, crossing(&rt, Some(2))?)?;
+    gives(&rt, &mut cell, &cleaned()[..4])?;
     let waiting = Phase::Outside { ready: true };
     tells_of_job(&rt, &cell, 0, Some(Phase::Gone { at: 5 }), None);
     tells_of_job(&rt, &cell, 1, Some(waiting), None);

@@ -1,90 +1,68 @@
 //! Runs that are driven, byte for byte.
 
-use super::driven_plans::{crossing, following, instant};
-use super::streams::{OneByteWriter, PieceReader, ROOM, is_text};
+use super::cells::{crossing, following, instant};
+use super::devices::{GOOD, Limits, Outcome};
+use super::one_byte_writer::{OneByteWriter, ROOM};
+use super::piece_reader::PieceReader;
+use super::same_bytes::SameBytes;
+use super::worked_runs::{
+    CLEANED_INPUT, CLEANED_LINES, FOLLOWING_INPUT, FOLLOWING_LINES, IN_TIME_INPUT, IN_TIME_LINES,
+};
 use cell_drive::{DriveFault, FromRead, drive};
 use plan_verifier::Verified;
 use run_log::IntoSink;
 use shop_base::Moment;
-use std::alloc::Global;
 use std::cell::Cell;
-use std::io::{self, Read};
 use std::process::Abort;
 use std::test::Fail;
 
-const IN_TIME: &[u8] =
-    b"arrive 0 0\narrive 1 0\nfinish 0 0 2\nfinish 0 1 4\nfinish 1 1 8\nfinish 1 0 9\n";
+/// Whether the run is done, its last moment, and how many reports are left.
+type End = (bool, Moment, u64);
 
-const IN_TIME_ANSWERED: &[u8] =
-    b"report 0 arrive 0\norder 0 0 out 0\nreport 0 arrive 1\nreport 2 finish 0 0\norder 2 0 0 1\nreport 4 finish 0 1\norder 4 0 1 out\norder 4 1 out 1\nreport 8 finish 1 1\norder 8 1 1 0\nreport 9 finish 1 0\norder 9 1 0 out\ndone 9\n";
-
-/// With a cleaning of machine 1 that takes 2.
-const CLEANED: &[u8] =
-    b"arrive 0 0\narrive 1 0\nfinish 0 0 3\nfinish 0 1 5\nclean 1 7\nfinish 1 1 11\nfinish 1 0 12\nclean 1 13\n";
-
-const CLEANED_ANSWERED: &[u8] =
-    b"report 0 arrive 0\norder 0 0 out 0\nreport 0 arrive 1\nreport 3 finish 0 0\norder 3 0 0 1\nreport 5 finish 0 1\norder 5 0 1 out\nreport 7 clean 1\norder 7 1 out 1\nreport 11 finish 1 1\norder 11 1 1 0\nreport 12 finish 1 0\norder 12 1 0 out\nreport 13 clean 1\ndone 13\n";
-
-/// How a run ended: whether it is done, its last moment and how many reports are left; what was written, and how much
-/// of that before the last read.
-type Driven = (
-    Result<(bool, Moment, u64), DriveFault>,
-    [u8; ROOM],
-    usize,
-    usize,
-);
-
-/// Drives the cell, with a reader that gives so many bytes a call at most, and a reader and a writer that fail after
-/// so many calls.
-fn driven(
-    alloc: Global,
-    verified: Verified,
-    input: &[u8],
-    most: usize,
-    reads: usize,
-    writes: usize,
-    takes_nothing: bool,
-) -> Driven {
+fn driven(rt: &impl AllocGlobal, verified: Verified, input: &[u8], limits: Limits) -> Outcome<End> {
     let written = Cell::new(0);
     let mut reader = FromRead::new(PieceReader {
         bytes: input,
-        most,
-        calls_left: reads,
+        most: limits.piece,
+        calls_left: limits.reads,
         written: &written,
         written_at_last: 0,
     });
     let mut writer = IntoSink::new(OneByteWriter {
         bytes: [0; ROOM],
         written: &written,
-        calls_left: writes,
-        takes_nothing,
+        calls_left: limits.writes,
+        takes_nothing: limits.takes_nothing,
     });
-    let end = match drive(alloc, verified, &mut reader, &mut writer) {
+    let end = match drive(rt.alloc(), verified, &mut reader, &mut writer) {
         Ok(end) => Ok((end.done, end.last, end.left)),
         Err(fault) => Err(fault),
     };
-    let at_last = reader.into_inner().written_at_last;
-    (end, writer.into_inner().bytes, written.get(), at_last)
+    let before_last_read = reader.into_inner().written_at_last;
+    Outcome {
+        end,
+        bytes: writer.into_inner().bytes,
+        count: written.get(),
+        before_last_read,
+    }
 }
 
 fn is_answered(
-    rt: &impl Abort,
-    alloc: Global,
-    verified: Option<Verified>,
+    rt: &(impl Abort + AllocGlobal),
+    verified: Verified,
     input: &[u8],
     text: &[u8],
-    end: (bool, Moment, u64),
+    end: End,
 ) {
-    let verified = verified.expect(rt, "an accepted plan");
-    let (result, bytes, count, _) = driven(alloc, verified, input, 74, 1000, 1000, false);
-    assert_eq!(rt; result, Ok(end));
-    assert!(rt; is_text(&bytes, count, text));
+    let outcome = driven(rt, verified, input, GOOD);
+    assert_eq!(rt; outcome.end, Ok(end));
+    assert!(rt; outcome.has(text));
 }
 
 #[test]
 fn runs_are_answered(rt: HostRuntime) -> Result<(), Fail> {
     for (input, text, end) in [
-        (IN_TIME, IN_TIME_ANSWERED, (true, 9, 0)),
+        (IN_TIME_INPUT, IN_TIME_LINES, (true, 9, 0)),
         (
             b"arrive 0 0\narrive 1 0\n".as_slice(),
             b"report 0 arrive 0\norder 0 0 out 0\nreport 0 arrive 1\nunfinished 4\n".as_slice(),
@@ -97,14 +75,7 @@ fn runs_are_answered(rt: HostRuntime) -> Result<(), Fail> {
             (true, 11, 0),
         ),
     ] {
-        is_answered(
-            &rt,
-            rt.alloc(),
-            crossing(rt.alloc(), None)?,
-            input,
-            text,
-            end,
-        );
+        is_answered(&rt, crossing(&rt, None)?, input, text, end);
     }
     Ok(())
 }
@@ -138,14 +109,7 @@ fn what_is_not_possible_is_refused(rt: HostRuntime) -> Result<(), Fail> {
             (false, 0, 6),
         ),
     ] {
-        is_answered(
-            &rt,
-            rt.alloc(),
-            crossing(rt.alloc(), None)?,
-            input,
-            text,
-            end,
-        );
+        is_answered(&rt, crossing(&rt, None)?, input, text, end);
     }
     Ok(())
 }
@@ -153,9 +117,9 @@ fn what_is_not_possible_is_refused(rt: HostRuntime) -> Result<(), Fail> {
 #[test]
 fn cleanings_are_answered(rt: HostRuntime) -> Result<(), Fail> {
     for (input, text, end) in [
-        (CLEANED, CLEANED_ANSWERED, (true, 13, 0)),
+        (CLEANED_INPUT, CLEANED_LINES, (true, 13, 0)),
         (
-            &CLEANED[..86],
+            &CLEANED_INPUT[..86],
             b"report 0 arrive 0\norder 0 0 out 0\nreport 0 arrive 1\nreport 3 finish 0 0\norder 3 0 0 1\nreport 5 finish 0 1\norder 5 0 1 out\nreport 7 clean 1\norder 7 1 out 1\nreport 11 finish 1 1\norder 11 1 1 0\nreport 12 finish 1 0\norder 12 1 0 out\nunfinished 1\n".as_slice(),
             (false, 12, 1),
         ),
@@ -165,14 +129,7 @@ fn cleanings_are_answered(rt: HostRuntime) -> Result<(), Fail> {
             (false, 8, 3),
         ),
     ] {
-        is_answered(
-            &rt,
-            rt.alloc(),
-            crossing(rt.alloc(), Some(&[0, 2]))?,
-            input,
-            text,
-            end,
-        );
+        is_answered(&rt, crossing(&rt, Some(2))?, input, text, end);
     }
     Ok(())
 }
@@ -181,16 +138,14 @@ fn cleanings_are_answered(rt: HostRuntime) -> Result<(), Fail> {
 fn chains_of_moves_are_answered(rt: HostRuntime) -> Result<(), Fail> {
     is_answered(
         &rt,
-        rt.alloc(),
-        following(rt.alloc())?,
-        b"arrive 0 0\narrive 1 0\narrive 2 0\nfinish 0 0 1\nfinish 0 1 2\nfinish 1 0 2\nfinish 1 1 3\nfinish 2 0 3\nfinish 0 2 7\nfinish 1 2 8\nfinish 2 1 8\nfinish 2 2 9\n",
-        b"report 0 arrive 0\norder 0 0 out 0\nreport 0 arrive 1\nreport 0 arrive 2\nreport 1 finish 0 0\norder 1 0 0 1\norder 1 1 out 0\nreport 2 finish 0 1\norder 2 0 1 2\nreport 2 finish 1 0\norder 2 1 0 1\norder 2 2 out 0\nreport 3 finish 1 1\nreport 3 finish 2 0\nreport 7 finish 0 2\norder 7 0 2 out\norder 7 1 1 2\norder 7 2 0 1\nreport 8 finish 1 2\norder 8 1 2 out\nreport 8 finish 2 1\norder 8 2 1 2\nreport 9 finish 2 2\norder 9 2 2 out\ndone 9\n",
+        following(&rt)?,
+        FOLLOWING_INPUT,
+        FOLLOWING_LINES,
         (true, 9, 0),
     );
     is_answered(
         &rt,
-        rt.alloc(),
-        instant(rt.alloc())?,
+        instant(&rt)?,
         b"arrive 0 0\nfinish 0 0 0\n",
         b"report 0 arrive 0\norder 0 0 out 0\nreport 0 finish 0 0\norder 0 0 0 out\ndone 0\n",
         (true, 0, 0),
@@ -200,22 +155,11 @@ fn chains_of_moves_are_answered(rt: HostRuntime) -> Result<(), Fail> {
 
 #[test]
 fn the_answers_do_not_depend_on_the_pieces(rt: HostRuntime) -> Result<(), Fail> {
-    for most in [1, 2, 3, 7, 74] {
-        let verified = crossing(rt.alloc(), None)?.expect(&rt, "an accepted plan");
-        let (result, bytes, count, _) = driven(
-            rt.alloc(),
-            verified,
-            IN_TIME,
-            most,
-            1000,
-            1000,
-            false,
-        );
-        assert_eq!(rt; result, Ok((true, 9, 0)), "pieces of {most}");
-        assert!(rt;
-            is_text(&bytes, count, IN_TIME_ANSWERED),
-            "pieces of {most}"
-        );
+    for piece in [1, 2, 3, 7, 74] {
+        let limits = Limits { piece, ..GOOD };
+        let outcome = driven(&rt, crossing(&rt, None)?, IN_TIME_INPUT, limits);
+        assert_eq!(rt; outcome.end, Ok((true, 9, 0)), "pieces of {piece}");
+        assert!(rt; outcome.has(IN_TIME_LINES), "pieces of {piece}");
     }
     Ok(())
 }
@@ -223,46 +167,33 @@ fn the_answers_do_not_depend_on_the_pieces(rt: HostRuntime) -> Result<(), Fail> 
 /// A failed write leaves the first bytes of the answers, and a failed read those of the lines that are complete: they
 /// were out before that read was tried, so each answer is out before more is read.
 fn fails_leave_the_first_bytes(
-    rt: &impl Abort,
-    alloc: Global,
-    clean: Option<&[Moment]>,
+    rt: &(impl Abort + AllocGlobal),
+    cleaning: Option<Moment>,
     input: &[u8],
     text: &[u8],
     answered: &[(usize, usize)],
 ) -> Result<(), Fail> {
     for takes_nothing in [false, true] {
         for writes in 0..text.len() {
-            let verified = crossing(alloc, clean)?.expect(rt, "an accepted plan");
-            let (result, bytes, count, _) = driven(
-                alloc,
-                verified,
-                input,
-                74,
-                1000,
+            let limits = Limits {
                 writes,
                 takes_nothing,
-            );
-            assert_eq!(rt; result, Err(DriveFault::Write), "after {writes} writes");
-            assert!(rt;
-                is_text(&bytes, count, &text[..writes]),
-                "after {writes} writes"
+                ..GOOD
+            };
+            driven(rt, crossing(rt, cleaning)?, input, limits).is_of_failed_write(
+                rt,
+                &text[..writes],
             );
         }
     }
     for reads in 0..input.len() + 1 {
-        let verified = crossing(alloc, clean)?.expect(rt, "an accepted plan");
-        let (result, bytes, count, at_last) = driven(alloc, verified, input, 1, reads, 1000, false);
-        let mut out = 0;
-        for (complete, written) in answered {
-            if *complete <= reads {
-                out = *written;
-            }
-        }
-        assert_eq!(rt; result, Err(DriveFault::Read), "after {reads} reads");
-        assert_eq!(rt; at_last, out, "before the read after {reads}");
-        assert!(rt;
-            out <= text.len() && is_text(&bytes, count, &text[..out]),
-            "after {reads} reads"
+        let limits = Limits {
+            piece: 1,
+            reads,
+            ..GOOD
+        };
+        driven(rt, crossing(rt, cleaning)?, input, limits).is_of_failed_read(
+            rt, text, answered, reads,
         );
     }
     Ok(())
@@ -278,7 +209,7 @@ fn faults_leave_the_first_bytes(rt: HostRuntime) -> Result<(), Fail> {
         (61, 172),
         (74, 208),
     ];
-    fails_leave_the_first_bytes(&rt, rt.alloc(), None, IN_TIME, IN_TIME_ANSWERED, &answered)
+    fails_leave_the_first_bytes(&rt, None, IN_TIME_INPUT, IN_TIME_LINES, &answered)
 }
 
 #[test]
@@ -293,47 +224,23 @@ fn faults_among_cleanings_leave_the_first_bytes(rt: HostRuntime) -> Result<(), F
         (86, 229),
         (97, 247),
     ];
-    fails_leave_the_first_bytes(
-        &rt,
-        rt.alloc(),
-        Some(&[0, 2]),
-        CLEANED,
-        CLEANED_ANSWERED,
-        &answered,
-    )
-}
-
-/// Gives so many line feeds.
-#[derive(Drop)]
-struct BlankLines(usize);
-
-impl Read for BlankLines {
-    fn read(&mut self, buf: &mut [u8]) -> io::Result<usize> {
-        let count = self.0.min(buf.len());
-        self.0 -= count;
-        buf[..count].fill(b'\n');
-        Ok(count)
-    }
+    fails_leave_the_first_bytes(&rt, Some(2), CLEANED_INPUT, CLEANED_LINES, &answered)
 }
 
 #[test]
 fn blank_lines_have_no_answers(rt: HostRuntime) -> Result<(), Fail> {
-    for (count, result, text) in [
+    for (left, result, text) in [
         (67_108_864, Ok(6), b"unfinished 6\n".as_slice()),
         (67_108_865, Err(DriveFault::InputTooLong), b"".as_slice()),
     ] {
-        let verified = crossing(rt.alloc(), None)?.expect(&rt, "an accepted plan");
-        let mut reader = FromRead::new(BlankLines(count));
+        let mut reader = FromRead::new(SameBytes { byte: b'\n', left });
         let mut writer = IntoSink::new(Vec::new(rt.alloc()));
-        let left = match drive(rt.alloc(), verified, &mut reader, &mut writer) {
+        let reports = match drive(rt.alloc(), crossing(&rt, None)?, &mut reader, &mut writer) {
             Ok(end) => Ok(end.left),
             Err(fault) => Err(fault),
         };
-        assert_eq!(rt; left, result, "{count} line feeds");
-        assert!(rt;
-            writer.into_inner().as_slice() == text,
-            "{count} line feeds"
-        );
+        assert_eq!(rt; reports, result, "{left} line feeds");
+        assert!(rt; writer.into_inner().as_slice() == text, "{left} line feeds");
     }
     Ok(())
 }

@@ -1,3 +1,5 @@
+//! Both ways to keep due moments.
+
 ghost use Rattle.std.specs.Prelude.{◌≡◌, ◌<◌, length, slice_set, Some};
 ghost use Rattle.cell_control.specs.Dues.{due_at};
 

@@ -1,48 +1,15 @@
 //! A log without room.
 
-use cell_control::Report;
-use plan_verifier::{Verdict, Verified, verify};
+use super::cells::instant;
+use super::events::{arrive, enter};
 use run_log::{Entry, LogFault, RunLog};
-use shop_base::{MoveOrder, Plan, Shop, Spot, Step, shape};
-use std::alloc::Global;
 use std::test::Fail;
-
-/// The accepted plan of one job on one machine, which takes no time.
-fn instant(alloc: Global) -> Result<Option<Verified>, Fail> {
-    let mut route = Vec::new(alloc);
-    route.push(Step {
-        machine: 0,
-        nominal: 0,
-    })?;
-    let mut routes = Vec::new(alloc);
-    routes.push(route)?;
-    let mut order = Vec::new(alloc);
-    order.push(vec![in alloc; 0; 1]?)?;
-    let plan = Plan {
-        release: vec![in alloc; 0; 1]?,
-        budget: vec![in alloc; 0; 1]?,
-        order,
-        clean: None,
-    };
-    let Ok(shaped) = shape(Shop::new(1, routes)?, plan) else {
-        return Ok(None);
-    };
-    match verify(alloc, shaped) {
-        Ok(Verdict::Accepted(verified)) => Ok(Some(verified)),
-        _ => Ok(None),
-    }
-}
 
 #[test]
 fn a_log_has_room_for_one_run(rt: HostRuntime) -> Result<(), Fail> {
-    let verified = instant(rt.alloc())?.expect(&rt, "an accepted plan");
-    let report = Report::Arrive { job: 0, at: 0 };
-    let order = MoveOrder {
-        job: 0,
-        source: Spot::Out,
-        target: Spot::At(0),
-        at: 0,
-    };
+    let verified = instant(&rt)?;
+    let report = arrive(0, 0);
+    let order = enter(0, 0, 0);
     let noted = [
         Entry::Report(report),
         Entry::Order(order),

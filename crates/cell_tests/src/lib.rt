@@ -11,13 +11,15 @@ mod cells;
 #[cfg(test)]
 mod controller_runs;
 #[cfg(test)]
-mod driven_cells;
+mod devices;
 #[cfg(test)]
-mod driven_plans;
+mod driven_cells;
 #[cfg(test)]
 mod driven_runs;
 #[cfg(test)]
 mod dues;
+#[cfg(test)]
+mod events;
 #[cfg(test)]
 mod full_logs;
 #[cfg(test)]
@@ -29,6 +31,14 @@ mod log_lines;
 #[cfg(test)]
 mod many_orders;
 #[cfg(test)]
+mod one_byte_writer;
+#[cfg(test)]
+mod piece_reader;
+#[cfg(test)]
 mod report_reasons;
 #[cfg(test)]
+mod same_bytes;
+#[cfg(test)]
 mod streams;
+#[cfg(test)]
+mod worked_runs;

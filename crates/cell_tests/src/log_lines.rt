@@ -1,49 +1,18 @@
-use cell_control::Report;
+//! Bytes and lines that are written.
+
+use super::events::{arrive, clean, enter, finish, go_on, leave};
+use super::one_byte_writer::{OneByteWriter, is_text};
 use run_log::{Entry, IntoSink, WriteFault, put_all, write_lines};
-use shop_base::{MoveOrder, Spot};
-use std::io::{self, ErrorKind, Write};
+use std::cell::Cell;
 use std::test::Fail;
-
-/// Takes one byte a call, and fails once so many calls were made: with an error, or by taking nothing.
-#[derive(Drop)]
-struct OneByteWriter {
-    bytes: [u8; 16],
-    count: usize,
-    calls_left: usize,
-    takes_nothing: bool,
-}
-
-impl Write for OneByteWriter {
-    fn write(&mut self, buf: &[u8]) -> io::Result<usize> {
-        if self.calls_left == 0 || self.count >= 16 || buf.is_empty() {
-            if self.takes_nothing {
-                return Ok(0);
-            }
-            return Err(io::Error::from(ErrorKind::Other));
-        }
-        self.calls_left -= 1;
-        self.bytes[self.count] = buf[0];
-        self.count += 1;
-        Ok(1)
-    }
-
-    fn flush(&mut self) -> io::Result<()> {
-        Ok(())
-    }
-}
 
 #[test]
 fn all_is_written_or_its_first_bytes(rt: HostRuntime) -> Result<(), Fail> {
     let text = b"a short line\n";
     for takes_nothing in [false, true] {
         for calls in 0..15 {
-            let device = OneByteWriter {
-                bytes: [0; 16],
-                count: 0,
-                calls_left: calls,
-                takes_nothing,
-            };
-            let mut writer = IntoSink::new(device);
+            let count = Cell::new(0);
+            let mut writer = IntoSink::new(OneByteWriter::new(&count, calls, takes_nothing));
             let result = put_all(&mut writer, text);
             let device = writer.into_inner();
             let written = calls.min(text.len());
@@ -52,9 +21,8 @@ fn all_is_written_or_its_first_bytes(rt: HostRuntime) -> Result<(), Fail> {
                 written == text.len(),
                 "after {calls} calls"
             );
-            assert_eq!(rt; device.count, written, "after {calls} calls");
-            let written = written.min(13);
-            assert!(rt; &device.bytes[..written] == &text[..written]);
+            assert_eq!(rt; count.get(), written, "after {calls} calls");
+            assert!(rt; is_text(&device.bytes, written, &text[..written]));
         }
     }
     Ok(())
@@ -74,31 +42,12 @@ fn nothing_is_written_without_a_call(rt: HostRuntime) -> Result<(), Fail> {
 #[test]
 fn events_are_written_as_lines(rt: HostRuntime) -> Result<(), Fail> {
     let entries = [
-        Entry::Report(Report::Arrive { job: 0, at: 0 }),
-        Entry::Order(MoveOrder {
-            job: 0,
-            source: Spot::Out,
-            target: Spot::At(0),
-            at: 0,
-        }),
-        Entry::Report(Report::Finish {
-            job: 0,
-            machine: 1,
-            at: 4,
-        }),
-        Entry::Order(MoveOrder {
-            job: 0,
-            source: Spot::At(1),
-            target: Spot::Out,
-            at: 4,
-        }),
-        Entry::Report(Report::Clean { machine: 1, at: 7 }),
-        Entry::Order(MoveOrder {
-            job: u32::MAX,
-            source: Spot::At(u32::MAX),
-            target: Spot::At(u32::MAX),
-            at: u64::MAX,
-        }),
+        Entry::Report(arrive(0, 0)),
+        Entry::Order(enter(0, 0, 0)),
+        Entry::Report(finish(0, 1, 4)),
+        Entry::Order(leave(0, 1, 4)),
+        Entry::Report(clean(1, 7)),
+        Entry::Order(go_on(u32::MAX, u32::MAX, u32::MAX, u64::MAX)),
     ];
     let text =
         b"report 0 arrive 0\norder 0 0 out 0\nreport 4 finish 0 1\norder 4 0 1 out\nreport 7 clean 1\norder 18446744073709551615 4294967295 4294967295 4294967295\n";

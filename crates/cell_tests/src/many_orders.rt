@@ -1,42 +1,21 @@
 //! The reports of a run in many orders.
 
-use super::cells::{cleaned_plan, crossing_plan, following_plan};
-use super::controller_runs::{arrive, clean, controller, finish};
+use super::cells::{controller, crossing, following};
+use super::events::{arrive, clean, finish};
+use super::worked_runs::{followed, in_time};
 use cell_control::{Controller, Dues, Report, ScanDues, TourneyDues};
 use plan_verifier::Verified;
 use shop_base::Moment;
+use std::alloc::{AllocError, Global};
 use std::process::Abort;
 use std::test::Fail;
 
-/// The reports of two jobs that cross on two machines, the second of which may have to be cleaned.
-fn of_crossing() -> [Report; 7] {
-    [
-        arrive(0, 0),
-        arrive(1, 0),
-        finish(0, 0, 0),
-        finish(0, 1, 0),
-        finish(1, 1, 0),
-        finish(1, 0, 0),
-        clean(1, 0),
-    ]
-}
-
-/// The reports of three jobs that follow one another over three machines.
-fn of_following() -> [Report; 12] {
-    [
-        arrive(0, 0),
-        arrive(1, 0),
-        arrive(2, 0),
-        finish(0, 0, 0),
-        finish(0, 1, 0),
-        finish(1, 0, 0),
-        finish(1, 1, 0),
-        finish(2, 0, 0),
-        finish(0, 2, 0),
-        finish(1, 2, 0),
-        finish(2, 1, 0),
-        finish(2, 2, 0),
-    ]
+fn reports_of(alloc: Global, run: &[(Report, &str)]) -> Result<Vec<Report>, AllocError> {
+    let mut reports = Vec::new(alloc);
+    for &(report, _) in run {
+        reports.push(report)?;
+    }
+    Ok(reports)
 }
 
 /// The report, so long after the last moment.
@@ -109,7 +88,7 @@ fn ends_at_each_pace<D: Dues>(
 ) -> Result<Verified, Fail> {
     let mut verified = verified;
     for pace in [0, 1, 9] {
-        let mut cell = controller::<D>(rt, Some(verified))?;
+        let mut cell = controller::<D>(rt, verified)?;
         ends(rt, &mut cell, reports, first, pace);
         verified = cell.into_verified();
     }
@@ -119,12 +98,9 @@ fn ends_at_each_pace<D: Dues>(
 /// The same from each of the reports on.
 fn ends_from_each<D: Dues>(
     rt: &(impl Abort + AllocGlobal),
-    verified: Option<Verified>,
+    verified: Verified,
     reports: &[Report],
 ) -> Result<(), Fail> {
-    let Some(verified) = verified else {
-        panic!(rt; "no accepted plan");
-    };
     let mut verified = verified;
     for first in 0..reports.len() {
         verified = ends_at_each_pace::<D>(rt, verified, reports, first)?;
@@ -134,8 +110,11 @@ fn ends_from_each<D: Dues>(
 
 #[test]
 fn an_accepted_plan_goes_on_in_many_orders(rt: HostRuntime) -> Result<(), Fail> {
-    ends_from_each::<TourneyDues>(&rt, crossing_plan(rt.alloc())?, &of_crossing())?;
-    ends_from_each::<TourneyDues>(&rt, cleaned_plan(rt.alloc())?, &of_crossing())?;
-    ends_from_each::<TourneyDues>(&rt, following_plan(rt.alloc())?, &of_following())?;
-    ends_from_each::<ScanDues>(&rt, following_plan(rt.alloc())?, &of_following())
+    let mut crossed = reports_of(rt.alloc(), &in_time())?;
+    crossed.push(clean(1, 0))?;
+    ends_from_each::<TourneyDues>(&rt, crossing(&rt, None)?, &crossed)?;
+    ends_from_each::<TourneyDues>(&rt, crossing(&rt, Some(2))?, &crossed)?;
+    let following_reports = reports_of(rt.alloc(), &followed())?;
+    ends_from_each::<TourneyDues>(&rt, following(&rt)?, &following_reports)?;
+    ends_from_each::<ScanDues>(&rt, following(&rt)?, &following_reports)
 }

@@ -1,18 +1,20 @@
+//! Inputs that are answered line by line.
+
 ghost use Rattle.std.specs.Prelude.{◌≡◌};
 
-use cell_control::Report;
+use super::devices::{GOOD, Limits, Outcome};
+use super::events::{arrive, clean, finish};
+use super::one_byte_writer::{OneByteWriter, ROOM, is_text};
+use super::piece_reader::PieceReader;
+use super::same_bytes::SameBytes;
 use cell_drive::{
     DriveFault, FromRead, LineHandler, ReadFault, done_line, late_line, refused_line, report_of,
     stream, unfinished_line,
 };
 use run_log::{IntoSink, Sink, WriteFault, put_all};
 use std::cell::Cell;
-use std::io::{self, ErrorKind, Read, Write};
 use std::process::Abort;
 use std::test::Fail;
-
-/// How much the writer takes at most.
-pub(super) const ROOM: usize = 512;
 
 /// Answers a line by its number's last digit, its bytes and a bar, an empty line by nothing, and ends by a full stop.
 #[derive(Drop)]
@@ -47,112 +49,41 @@ impl LineHandler for Echo {
     }
 }
 
-/// Gives some bytes in pieces of a size at most, and fails once so many calls were made. It tells how many bytes were
-/// written when a call was made.
-#[derive(Drop)]
-pub(super) struct PieceReader<'a> {
-    pub(super) bytes: &'a [u8],
-    pub(super) most: usize,
-    pub(super) calls_left: usize,
-    pub(super) written: &'a Cell<usize>,
-    pub(super) written_at_last: usize,
-}
-
-impl Read for PieceReader<'_> {
-    fn read(&mut self, buf: &mut [u8]) -> io::Result<usize> {
-        self.written_at_last = self.written.get();
-        if self.calls_left == 0 {
-            return Err(io::Error::from(ErrorKind::Other));
-        }
-        self.calls_left -= 1;
-        let count = self.bytes.len().min(buf.len()).min(self.most);
-        buf[..count].copy_from_slice(&self.bytes[..count]);
-        self.bytes = &self.bytes[count..];
-        Ok(count)
-    }
-}
-
-/// Takes one byte a call, and fails once so many calls were made: with an error, or by taking nothing.
-#[derive(Drop)]
-pub(super) struct OneByteWriter<'a> {
-    pub(super) bytes: [u8; ROOM],
-    pub(super) written: &'a Cell<usize>,
-    pub(super) calls_left: usize,
-    pub(super) takes_nothing: bool,
-}
-
-impl Write for OneByteWriter<'_> {
-    fn write(&mut self, buf: &[u8]) -> io::Result<usize> {
-        let count = self.written.get();
-        if self.calls_left == 0 || count >= ROOM || buf.is_empty() {
-            if self.takes_nothing {
-                return Ok(0);
-            }
-            return Err(io::Error::from(ErrorKind::Other));
-        }
-        self.calls_left -= 1;
-        self.bytes[count] = buf[0];
-        self.written.set(count + 1);
-        Ok(1)
-    }
-
-    fn flush(&mut self) -> io::Result<()> {
-        Ok(())
-    }
-}
-
-/// Streams the input, with a reader and a writer that fail after so many calls, and tells how it ended, what was
-/// written, and how much of that before the last read.
-fn streamed(
-    input: &[u8],
-    most: usize,
-    reads: usize,
-    writes: usize,
-    takes_nothing: bool,
-) -> (Result<(), DriveFault>, [u8; ROOM], usize, usize) {
+fn streamed(input: &[u8], limits: Limits) -> Outcome<()> {
     let written = Cell::new(0);
     let mut reader = FromRead::new(PieceReader {
         bytes: input,
-        most,
-        calls_left: reads,
+        most: limits.piece,
+        calls_left: limits.reads,
         written: &written,
         written_at_last: 0,
     });
     let mut writer = IntoSink::new(OneByteWriter {
         bytes: [0; ROOM],
         written: &written,
-        calls_left: writes,
-        takes_nothing,
+        calls_left: limits.writes,
+        takes_nothing: limits.takes_nothing,
     });
-    let result = stream(&mut Echo, &mut reader, &mut writer);
-    let at_last = reader.into_inner().written_at_last;
-    (result, writer.into_inner().bytes, written.get(), at_last)
-}
-
-pub(super) fn is_text(written: &[u8; ROOM], count: usize, text: &[u8]) -> bool {
-    count <= ROOM && &written[..count] == text
+    let end = stream(&mut Echo, &mut reader, &mut writer);
+    let before_last_read = reader.into_inner().written_at_last;
+    Outcome {
+        end,
+        bytes: writer.into_inner().bytes,
+        count: written.get(),
+        before_last_read,
+    }
 }
 
 const INPUT: &[u8] = b"ab\n\ncd\r\ne\r\r\nlast\r";
 
 const OUTPUT: &[u8] = b"1ab|3cd|4e\r|5last|.";
 
-/// How many bytes of the output answer the lines that are complete in so many bytes of the input.
-fn answered_in(count: usize) -> usize {
-    match count {
-        0..=2 => 0,
-        3..=7 => 4,
-        8..=11 => 8,
-        _ => 12,
-    }
-}
-
 #[test]
 fn the_text_does_not_depend_on_the_pieces(rt: HostRuntime) -> Result<(), Fail> {
-    for most in [1, 2, 3, 7, 74] {
-        let (result, bytes, count, _) = streamed(INPUT, most, 100, 100, false);
-        assert_eq!(rt; result, Ok(()), "pieces of {most}");
-        assert!(rt; is_text(&bytes, count, OUTPUT), "pieces of {most}");
+    for piece in [1, 2, 3, 7, 74] {
+        let outcome = streamed(INPUT, Limits { piece, ..GOOD });
+        assert_eq!(rt; outcome.end, Ok(()), "pieces of {piece}");
+        assert!(rt; outcome.has(OUTPUT), "pieces of {piece}");
     }
     Ok(())
 }
@@ -161,12 +92,13 @@ fn the_text_does_not_depend_on_the_pieces(rt: HostRuntime) -> Result<(), Fail> {
 fn a_failed_write_leaves_the_first_bytes(rt: HostRuntime) -> Result<(), Fail> {
     for takes_nothing in [false, true] {
         for writes in 0..OUTPUT.len() {
-            let (result, bytes, count, _) = streamed(INPUT, 1, 100, writes, takes_nothing);
-            assert_eq!(rt; result, Err(DriveFault::Write), "after {writes} writes");
-            assert!(rt;
-                is_text(&bytes, count, &OUTPUT[..writes]),
-                "after {writes} writes"
-            );
+            let limits = Limits {
+                piece: 1,
+                writes,
+                takes_nothing,
+                ..GOOD
+            };
+            streamed(INPUT, limits).is_of_failed_write(&rt, &OUTPUT[..writes]);
         }
     }
     Ok(())
@@ -174,29 +106,24 @@ fn a_failed_write_leaves_the_first_bytes(rt: HostRuntime) -> Result<(), Fail> {
 
 #[test]
 fn a_failed_read_leaves_the_answers_of_the_complete_lines(rt: HostRuntime) -> Result<(), Fail> {
+    let answered = [(3, 4), (8, 8), (12, 12)];
     for reads in 0..INPUT.len() + 1 {
-        let (result, bytes, count, at_last) = streamed(INPUT, 1, reads, 100, false);
-        let answered = answered_in(reads);
-        assert_eq!(rt; result, Err(DriveFault::Read), "after {reads} reads");
-        assert_eq!(rt; at_last, answered, "before read {reads}");
-        assert!(rt;
-            answered <= OUTPUT.len() && is_text(&bytes, count, &OUTPUT[..answered]),
-            "after {reads} reads"
-        );
+        let limits = Limits {
+            piece: 1,
+            reads,
+            ..GOOD
+        };
+        streamed(INPUT, limits).is_of_failed_read(&rt, OUTPUT, &answered, reads);
     }
     Ok(())
 }
 
 fn is_long(rt: &impl Abort, line: &[u8], long: bool) {
-    for most in [1, 74] {
-        let (result, bytes, count, _) = streamed(line, most, 100, 100, false);
-        assert_eq!(rt; result, Ok(()));
-        assert_eq!(rt;
-            is_text(&bytes, count, b"long|."),
-            long,
-            "in pieces of {most}"
-        );
-        assert_eq!(rt; count == 66, !long, "in pieces of {most}");
+    for piece in [1, 74] {
+        let outcome = streamed(line, Limits { piece, ..GOOD });
+        assert_eq!(rt; outcome.end, Ok(()));
+        assert_eq!(rt; outcome.has(b"long|."), long, "in pieces of {piece}");
+        assert_eq!(rt; outcome.count == 66, !long, "in pieces of {piece}");
     }
 }
 
@@ -221,32 +148,15 @@ fn a_line_has_63_bytes_at_most(rt: HostRuntime) -> Result<(), Fail> {
     Ok(())
 }
 
-/// Gives so many bytes, in which no line ends: it leaves the room as it is.
-#[derive(Drop)]
-struct LongLine(usize);
-
-impl Read for LongLine {
-    fn read(&mut self, buf: &mut [u8]) -> io::Result<usize> {
-        let count = self.0.min(buf.len());
-        self.0 -= count;
-        Ok(count)
-    }
-}
-
 #[test]
 fn an_input_has_so_many_bytes_at_most(rt: HostRuntime) -> Result<(), Fail> {
-    for (count, result, text) in [
+    for (left, result, text) in [
         (67_108_864, Ok(()), b"long|.".as_slice()),
         (67_108_865, Err(DriveFault::InputTooLong), b"".as_slice()),
     ] {
+        let mut reader = FromRead::new(SameBytes { byte: b'7', left });
         let written = Cell::new(0);
-        let mut reader = FromRead::new(LongLine(count));
-        let mut writer = IntoSink::new(OneByteWriter {
-            bytes: [0; ROOM],
-            written: &written,
-            calls_left: 100,
-            takes_nothing: false,
-        });
+        let mut writer = IntoSink::new(OneByteWriter::new(&written, 100, false));
         assert_eq!(rt; stream(&mut Echo, &mut reader, &mut writer), result);
         assert!(rt; is_text(&writer.into_inner().bytes, written.get(), text));
     }
@@ -256,26 +166,13 @@ fn an_input_has_so_many_bytes_at_most(rt: HostRuntime) -> Result<(), Fail> {
 #[test]
 fn lines_are_read_as_reports(rt: HostRuntime) -> Result<(), Fail> {
     let told = [
-        (b"arrive 0 0".as_slice(), Report::Arrive { job: 0, at: 0 }),
-        (
-            b"finish 1 0 9".as_slice(),
-            Report::Finish {
-                job: 1,
-                machine: 0,
-                at: 9,
-            },
-        ),
-        (b"clean 1 7".as_slice(), Report::Clean { machine: 1, at: 7 }),
-        (
-            b"arrive 000000002 0000000000010".as_slice(),
-            Report::Arrive { job: 2, at: 10 },
-        ),
+        (b"arrive 0 0".as_slice(), arrive(0, 0)),
+        (b"finish 1 0 9".as_slice(), finish(1, 0, 9)),
+        (b"clean 1 7".as_slice(), clean(1, 7)),
+        (b"arrive 000000002 0000000000010".as_slice(), arrive(2, 10)),
         (
             b"clean 999999999 9999999999999".as_slice(),
-            Report::Clean {
-                machine: 999_999_999,
-                at: 9_999_999_999_999,
-            },
+            clean(999_999_999, 9_999_999_999_999),
         ),
     ];
     for (line, report) in told {

@@ -1,0 +1,29 @@
+//! A reader that gives its bytes in pieces, and fails.
+
+use std::cell::Cell;
+use std::io::{self, ErrorKind, Read};
+
+/// Gives some bytes in pieces of a size at most, and fails once so many calls were made. It tells how many bytes were
+/// written when a call was made.
+#[derive(Drop)]
+pub(super) struct PieceReader<'a> {
+    pub(super) bytes: &'a [u8],
+    pub(super) most: usize,
+    pub(super) calls_left: usize,
+    pub(super) written: &'a Cell<usize>,
+    pub(super) written_at_last: usize,
+}
+
+impl Read for PieceReader<'_> {
+    fn read(&mut self, buf: &mut [u8]) -> io::Result<usize> {
+        self.written_at_last = self.written.get();
+        if self.calls_left == 0 {
+            return Err(io::Error::from(ErrorKind::Other));
+        }
+        self.calls_left -= 1;
+        let count = self.bytes.len().min(buf.len()).min(self.most);
+        buf[..count].copy_from_slice(&self.bytes[..count]);
+        self.bytes = &self.bytes[count..];
+        Ok(count)
+    }
+}
