@@ -7,6 +7,7 @@ mod plans;
 mod shapes;
 mod statuses;
 mod wants;
+mod words;
 
 /// Two jobs on two machines.
 const TWO: &[u8] = b"two\n2 2\n0 3 1 2\n1 4 0 1\n";

@@ -7,8 +7,6 @@ ghost use Rattle.command_words.specs.declared.words.CommandName.{CommandName};
 ghost use Rattle.command_words.specs.Choice.{FitsRounds, IsChoiceOf, IsFit, IsWithin, TellsOneOf, TellsReason, files_in, found_in, instance_in, reasons_in, rounds_in, values_of, word_of};
 
 mod command_line;
-#[cfg(test)]
-mod tests;
 
 use clap::ArgMatches;
 use clap::error::ErrorKind;

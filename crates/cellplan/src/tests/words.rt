@@ -1,4 +1,6 @@
-use super::{WordsFault, read_words};
+//! What the words of command lines choose.
+
+use command_words::{WordsFault, read_words};
 use std::alloc::Global;
 
 // What the words of a line choose, as text.
@@ -10,7 +12,7 @@ fn read(alloc: Global, line: &str) -> Result<String, WordsFault> {
 }
 
 #[test]
-fn reads_each_command(rt: HostRuntime) {
+fn the_words_of_each_command_are_read(rt: HostRuntime) {
     let alloc = rt.alloc();
     for (line, wanted) in [
         ("cellplan", "Input [] None 20"),
@@ -83,7 +85,7 @@ fn reads_each_command(rt: HostRuntime) {
 }
 
 #[test]
-fn refuses_other_words(rt: HostRuntime) {
+fn other_words_get_a_usage_text(rt: HostRuntime) {
     let alloc = rt.alloc();
     for (line, wants_help, part) in [
         (
