@@ -251,12 +251,18 @@ fn a_text_has_as_many_jobs_as_a_shop_can(rt: HostRuntime) -> Result<(), Fail> {
     let most = alike(rt.alloc(), 200)?;
     let named = read_instance(rt.alloc(), most.as_bytes())?;
     assert_eq!(rt; named.shop.operations(), 20000);
+    Ok(())
+}
+
+#[test]
+fn a_text_with_more_jobs_is_refused(rt: HostRuntime) -> Result<(), Fail> {
     let more = alike(rt.alloc(), 201)?;
-    shows(
-        &rt,
-        read_instance(rt.alloc(), more.as_bytes()),
-        b"Shop TooManyJobs",
-    )?;
+    let answer = read_instance(rt.alloc(), more.as_bytes());
+    shows(&rt, answer, b"Shop TooManyJobs")
+}
+
+#[test]
+fn want_of_memory_is_told_as_such(rt: HostRuntime) -> Result<(), Fail> {
     shows(&rt, Err(OrFault::Memory), b"Memory")
 }
 

@@ -2,6 +2,7 @@
 
 use crate::plans::{CLEANED, IN_SERIES};
 use plan_text::{PlanFault, plan_document, read_plan};
+use shop_base::Moment;
 use std::alloc::Global;
 use std::process::Abort;
 use std::test::Fail;
@@ -313,18 +314,26 @@ fn the_greatest_plan_is_written_and_read(rt: HostRuntime) -> Result<(), Fail> {
     is_written_again(&rt, &text)
 }
 
+/// Asserts that no text is read back as the two-job plan with these budgets.
+fn is_not_read_back(rt: &(impl Abort + AllocGlobal), budget: &[Moment]) -> Result<(), Fail> {
+    let mut plan = read_plan(rt.alloc(), IN_SERIES)?;
+    plan.budget = budget.to_vec(rt.alloc())?;
+    let answer = plan_document(rt.alloc(), &plan);
+    assert_eq!(rt; answer.err(), Some(PlanFault::NotReadBack));
+    Ok(())
+}
+
 #[test]
 fn moments_past_the_greatest_integer_are_not_read_back(rt: HostRuntime) -> Result<(), Fail> {
-    let alloc = rt.alloc();
-    let mut plan = read_plan(alloc, IN_SERIES)?;
-    assert_eq!(rt; plan_document(alloc, &plan)?.as_bytes(), IN_SERIES);
-    plan.budget = [9223372036854775808, 0].to_vec(alloc)?;
-    assert!(rt; matches!(plan_document(alloc, &plan), Err(PlanFault::NotReadBack)));
-    plan.budget = [5, 10, 9223372036854775808].to_vec(alloc)?;
-    assert!(rt; matches!(plan_document(alloc, &plan), Err(PlanFault::NotReadBack)));
-    let told = PlanFault::NotReadBack.to_string(alloc)?;
+    is_not_read_back(&rt, &[9223372036854775808, 0])?;
+    is_not_read_back(&rt, &[5, 10, 9223372036854775808])
+}
+
+#[test]
+fn faults_of_writing_are_told_by_name(rt: HostRuntime) -> Result<(), Fail> {
+    let told = PlanFault::NotReadBack.to_string(rt.alloc())?;
     assert_eq!(rt; told.as_str(), "NotReadBack");
-    let told = PlanFault::Memory.to_string(alloc)?;
+    let told = PlanFault::Memory.to_string(rt.alloc())?;
     assert_eq!(rt; told.as_str(), "Memory");
     Ok(())
 }

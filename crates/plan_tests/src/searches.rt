@@ -1,11 +1,13 @@
 //! What the search for a plan finds, and what its planners answer.
 
 use crate::descending::DescendingProposer;
-use crate::plans::{FT06, two_jobs};
+use crate::plans::{CLEANED, FT06, IN_SERIES, TWO, two_jobs};
 use orlib_read::read_instance;
-use plan_seek::{GreedyProposer, Proposer, ShiftProposer, seek};
-use shop_base::{JobNo, Moment, Shop};
+use plan_seek::{GreedyProposer, NotFound, Proposer, ShiftProposer, seek};
+use plan_text::{plan_document, read_plan};
+use shop_base::{JobNo, Plan, Shop};
 use std::alloc::{AllocError, Global};
+use std::process::Abort;
 use std::test::Fail;
 
 /// The order of each machine, its jobs parted by a blank, each order ended by a comma; `none` for no order.
@@ -24,7 +26,7 @@ fn text_of(alloc: Global, orders: Option<Vec<Vec<JobNo>>>) -> Result<String, All
 }
 
 /// Planners that always answer the same.
-#[derive(Drop)]
+#[derive(Clone, Copy)]
 enum Wrong {
     /// One list too few.
     Short,
@@ -62,201 +64,223 @@ impl Proposer for Wrong {
     }
 }
 
-/// What the search for two jobs in two machines answers: the orders, or the fault's text and a mark where
-/// something isn't handed back.
-fn found(
-    alloc: Global,
-    release: &[Moment],
-    budget: &[Moment],
-    clean: Option<&[Moment]>,
-    proposers: &[Box<dyn Proposer>],
-    rounds: u32,
-) -> Result<String, Fail> {
-    let clean_given = match clean {
-        Some(times) => Some(times.to_vec(alloc)?),
-        None => None,
+/// Some planner.
+#[derive(Clone, Copy)]
+enum Planner {
+    Greedy,
+    Shift,
+    Descending,
+    Wrong(Wrong),
+}
+
+fn boxed(alloc: Global, planners: &[Planner]) -> Result<Vec<Box<dyn Proposer>>, AllocError> {
+    let mut proposers: Vec<Box<dyn Proposer>> = Vec::new(alloc);
+    for planner in planners {
+        match *planner {
+            Planner::Greedy => proposers.push(Box::new(alloc, GreedyProposer::new())?)?,
+            Planner::Shift => proposers.push(Box::new(alloc, ShiftProposer::new())?)?,
+            Planner::Descending => proposers.push(Box::new(alloc, DescendingProposer)?)?,
+            Planner::Wrong(wrong) => proposers.push(Box::new(alloc, wrong)?)?,
+        }
+    }
+    Ok(proposers)
+}
+
+/// The fault's text, and a mark where shop and numbers aren't handed back.
+fn refusal(alloc: Global, refused: NotFound, given: &[u8]) -> Result<String, Fail> {
+    let NotFound {
+        fault,
+        shop,
+        release,
+        budget,
+        clean,
+    } = refused;
+    let order = read_plan(alloc, given)?.order;
+    let plan = Plan {
+        release,
+        budget,
+        order,
+        clean,
     };
-    let answer = seek(
+    let document = plan_document(alloc, &plan)?;
+    let same = shop.work() == 10 && document.as_bytes() == given;
+    let mark = if same { "" } else { " not handed back" };
+    Ok(format!(in alloc; "{fault}{mark}")?)
+}
+
+/// What the search for the two jobs with the numbers of a plan answers: the orders, or why there are none.
+fn found(alloc: Global, given: &[u8], planners: &[Planner], rounds: u32) -> Result<String, Fail> {
+    let proposers = boxed(alloc, planners)?;
+    let numbers = read_plan(alloc, given)?;
+    match seek(
         alloc,
         two_jobs(alloc)?,
-        release.to_vec(alloc)?,
-        budget.to_vec(alloc)?,
-        clean_given,
-        proposers,
+        numbers.release,
+        numbers.budget,
+        numbers.clean,
+        &proposers,
         rounds,
-    );
-    match answer {
+    ) {
         Ok(verified) => {
             let (_, plan) = verified.into_shaped().into_parts();
             Ok(text_of(alloc, Some(plan.order))?)
         }
-        Err(refused) => {
-            let same_clean = match (&refused.clean, clean) {
-                (Some(times), Some(given)) => times.as_slice() == given,
-                (None, None) => true,
-                _ => false,
-            };
-            let same = refused.shop.work() == 10
-                && refused.release.as_slice() == release
-                && refused.budget.as_slice() == budget
-                && same_clean;
-            let mark = if same { "" } else { " not handed back" };
-            Ok(format!(in alloc; "{}{mark}", refused.fault)?)
-        }
+        Err(refused) => refusal(alloc, refused, given),
     }
 }
 
+/// Asserts that answer.
+fn finds(
+    rt: &(impl Abort + AllocGlobal),
+    given: &[u8],
+    planners: &[Planner],
+    rounds: u32,
+    wanted: &str,
+) -> Result<(), Fail> {
+    let answer = found(rt.alloc(), given, planners, rounds)?;
+    assert_eq!(rt; answer.as_str(), wanted);
+    Ok(())
+}
+
+/// Job 1 is to be out first.
+const SWAPPED: &[u8] = b"release = [0, 0]\nbudget = [10, 5]\norder = [[0, 1], [0, 1]]\n";
+
+/// No plan has both jobs out by then.
+const TIGHT: &[u8] = b"release = [0, 0]\nbudget = [4, 4]\norder = [[0, 1], [0, 1]]\n";
+
+const TIGHTLY_CLEANED: &[u8] =
+    b"version = 2\nrelease = [0, 0]\nbudget = [5, 11]\norder = [[0, 1], [0, 1]]\nclean = [0, 2]\n";
+
+const USUAL: &[Planner] = &[Planner::Greedy, Planner::Shift];
+
 #[test]
 fn plans_are_found_where_the_budgets_allow(rt: HostRuntime) -> Result<(), Fail> {
-    let alloc = rt.alloc();
-    let mut usual: Vec<Box<dyn Proposer>> = Vec::new(alloc);
-    usual.push(Box::new(alloc, GreedyProposer::new())?)?;
-    usual.push(Box::new(alloc, ShiftProposer::new())?)?;
-    let cases: [(&[Moment], Option<&[Moment]>, u32, &str); 8] = [
-        (&[10, 5], None, 20, "1 0 ,1 0 ,"),
-        (&[4, 4], None, 20, "Exhausted"),
-        (&[5, 10], None, 0, "0 1 ,0 1 ,"),
-        (&[10, 5], None, 0, "Exhausted"),
-        (&[5, 12], Some(&[0, 2]), 20, "0 1 ,0 1 ,"),
-        (&[5, 11], Some(&[0, 2]), 20, "Exhausted"),
-        (&[5, 10], None, 1001, "TooManyRounds"),
-        (&[5, 10], None, 1000, "0 1 ,0 1 ,"),
-    ];
-    for (budget, clean, rounds, want) in &cases {
-        let answer = found(alloc, &[0, 0], budget, *clean, &usual, *rounds)?;
-        assert_eq!(rt; answer.as_str(), *want);
-    }
-    Ok(())
+    finds(&rt, SWAPPED, USUAL, 20, "1 0 ,1 0 ,")?;
+    finds(&rt, TIGHT, USUAL, 20, "Exhausted")?;
+    finds(&rt, CLEANED, USUAL, 20, "0 1 ,0 1 ,")?;
+    finds(&rt, TIGHTLY_CLEANED, USUAL, 20, "Exhausted")
+}
+
+#[test]
+fn a_search_has_at_most_a_thousand_rounds(rt: HostRuntime) -> Result<(), Fail> {
+    finds(&rt, IN_SERIES, USUAL, 0, "0 1 ,0 1 ,")?;
+    finds(&rt, SWAPPED, USUAL, 0, "Exhausted")?;
+    finds(&rt, IN_SERIES, USUAL, 1000, "0 1 ,0 1 ,")?;
+    finds(&rt, IN_SERIES, USUAL, 1001, "TooManyRounds")
 }
 
 #[test]
 fn bad_numbers_are_told_before_too_many_rounds(rt: HostRuntime) -> Result<(), Fail> {
-    let alloc = rt.alloc();
-    let mut wrong: Vec<Box<dyn Proposer>> = Vec::new(alloc);
-    wrong.push(Box::new(alloc, Wrong::Hungry)?)?;
-    let cases: [(&[Moment], &[Moment], Option<&[Moment]>, &str); 7] = [
-        (&[0], &[5], None, "BadNumbers ReleaseCount"),
-        (&[0, 0], &[5], Some(&[0]), "BadNumbers BudgetCount"),
+    let rows: [(&[u8], &str); 7] = [
         (
-            &[0, 1_000_000_001],
-            &[5, 10],
-            Some(&[0]),
+            b"release = [0]\nbudget = [5]\norder = []\n",
+            "BadNumbers ReleaseCount",
+        ),
+        (
+            b"version = 2\nrelease = [0, 0]\nbudget = [5]\norder = []\nclean = [0]\n",
+            "BadNumbers BudgetCount",
+        ),
+        (
+            b"version = 2\nrelease = [0, 1000000001]\nbudget = [5, 10]\norder = []\nclean = [0]\n",
             "BadNumbers CleanCount",
         ),
         (
-            &[0, 1_000_000_001],
-            &[1_000_000_000_001, 10],
-            None,
+            b"release = [0, 1000000001]\nbudget = [1000000000001, 10]\norder = []\n",
             "BadNumbers ReleaseTooLarge job 1",
         ),
         (
-            &[0, 0],
-            &[1_000_000_000_001, 10],
-            Some(&[0, 1_000_001]),
+            b"version = 2\nrelease = [0, 0]\nbudget = [1000000000001, 10]\norder = []\nclean = [0, 1000001]\n",
             "BadNumbers BudgetTooLarge job 0",
         ),
         (
-            &[0, 0],
-            &[5, 10],
-            Some(&[0, 1_000_001]),
+            b"version = 2\nrelease = [0, 0]\nbudget = [5, 10]\norder = []\nclean = [0, 1000001]\n",
             "BadNumbers CleanTooLarge machine 1",
         ),
-        (&[0, 0], &[5, 10], None, "TooManyRounds"),
+        (IN_SERIES, "TooManyRounds"),
     ];
-    for (release, budget, clean, want) in &cases {
-        let answer = found(alloc, release, budget, *clean, &wrong, 1001)?;
-        assert_eq!(rt; answer.as_str(), *want);
+    for (given, wanted) in rows {
+        finds(&rt, given, &[Planner::Wrong(Wrong::Hungry)], 1001, wanted)?;
     }
     Ok(())
 }
 
 #[test]
 fn wrong_answers_do_no_harm(rt: HostRuntime) -> Result<(), Fail> {
-    let alloc = rt.alloc();
-    let mut wrong: Vec<Box<dyn Proposer>> = Vec::new(alloc);
-    wrong.push(Box::new(alloc, Wrong::Short)?)?;
-    wrong.push(Box::new(alloc, Wrong::Stranger)?)?;
-    wrong.push(Box::new(alloc, Wrong::Crossed)?)?;
-    wrong.push(Box::new(alloc, Wrong::Silent)?)?;
-    let in_time = found(alloc, &[0, 0], &[5, 10], None, &wrong, 20)?;
-    assert_eq!(rt; in_time.as_str(), "0 1 ,0 1 ,");
-    let late = found(alloc, &[0, 0], &[4, 4], None, &wrong, 20)?;
-    assert_eq!(rt; late.as_str(), "Exhausted");
-    wrong.push(Box::new(alloc, Wrong::Hungry)?)?;
-    let hungry = found(alloc, &[0, 0], &[5, 10], None, &wrong, 20)?;
-    assert_eq!(rt; hungry.as_str(), "Memory");
-    Ok(())
+    let wrong = [
+        Planner::Wrong(Wrong::Short),
+        Planner::Wrong(Wrong::Stranger),
+        Planner::Wrong(Wrong::Crossed),
+        Planner::Wrong(Wrong::Silent),
+        Planner::Wrong(Wrong::Hungry),
+    ];
+    finds(&rt, IN_SERIES, &wrong[..4], 20, "0 1 ,0 1 ,")?;
+    finds(&rt, TIGHT, &wrong[..4], 20, "Exhausted")?;
+    finds(&rt, IN_SERIES, &wrong, 20, "Memory")
 }
 
 #[test]
-fn a_search_needs_no_proposer_and_stops_at_want_of_memory(rt: HostRuntime) -> Result<(), Fail> {
-    let alloc = rt.alloc();
-    let mut proposers: Vec<Box<dyn Proposer>> = Vec::new(alloc);
-    let alone = found(alloc, &[0, 0], &[5, 10], None, &proposers, 0)?;
-    assert_eq!(rt; alone.as_str(), "0 1 ,0 1 ,");
-    proposers.push(Box::new(alloc, Wrong::Hungry)?)?;
-    proposers.push(Box::new(alloc, ShiftProposer::new())?)?;
-    let hungry = found(alloc, &[0, 0], &[5, 10], None, &proposers, 20)?;
-    assert_eq!(rt; hungry.as_str(), "Memory");
-    Ok(())
+fn a_search_needs_no_planner_and_stops_at_want_of_memory(rt: HostRuntime) -> Result<(), Fail> {
+    finds(&rt, IN_SERIES, &[], 0, "0 1 ,0 1 ,")?;
+    let hungry = [Planner::Wrong(Wrong::Hungry), Planner::Shift];
+    finds(&rt, IN_SERIES, &hungry, 20, "Memory")
 }
 
 #[test]
 fn a_search_goes_on_to_the_second_round(rt: HostRuntime) -> Result<(), Fail> {
-    let alloc = rt.alloc();
-    let mut shift: Vec<Box<dyn Proposer>> = Vec::new(alloc);
-    shift.push(Box::new(alloc, ShiftProposer::new())?)?;
-    let cases: [(u32, &str); 2] = [(1, "Exhausted"), (2, "1 0 ,1 0 ,")];
-    for (rounds, want) in &cases {
-        let answer = found(alloc, &[0, 0], &[10, 5], None, &shift, *rounds)?;
-        assert_eq!(rt; answer.as_str(), *want);
+    finds(&rt, SWAPPED, &[Planner::Shift], 1, "Exhausted")?;
+    finds(&rt, SWAPPED, &[Planner::Shift], 2, "1 0 ,1 0 ,")
+}
+
+#[test]
+fn a_planner_of_ones_own_is_taken(rt: HostRuntime) -> Result<(), Fail> {
+    finds(&rt, SWAPPED, &[Planner::Descending], 1, "1 0 ,1 0 ,")
+}
+
+/// Asserts what a planner answers in some rounds for an instance.
+fn proposes(
+    rt: &(impl Abort + AllocGlobal),
+    planner: &impl Proposer,
+    instance: &[u8],
+    rounds: &[(u32, &str)],
+) -> Result<(), Fail> {
+    let shop = read_instance(rt.alloc(), instance)?.shop;
+    for &(round, wanted) in rounds {
+        let answer = planner.propose(rt.alloc(), &shop, round)?;
+        assert_eq!(rt; text_of(rt.alloc(), answer)?.as_str(), wanted);
     }
     Ok(())
 }
 
 #[test]
 fn the_shift_proposer_begins_each_round_at_another_job(rt: HostRuntime) -> Result<(), Fail> {
-    let alloc = rt.alloc();
-    let shop = read_instance(alloc, b"\n4 2\n0 1\n0 1 1 1\n1 1\n0 1\n")?.shop;
     let rounds = [
-        "0 1 3 ,1 2 ,",
-        "1 3 0 ,1 2 ,",
-        "3 0 1 ,2 1 ,",
-        "3 0 1 ,1 2 ,",
-        "0 1 3 ,1 2 ,",
+        (0, "0 1 3 ,1 2 ,"),
+        (1, "1 3 0 ,1 2 ,"),
+        (2, "3 0 1 ,2 1 ,"),
+        (3, "3 0 1 ,1 2 ,"),
+        (4, "0 1 3 ,1 2 ,"),
     ];
-    for (round, want) in rounds.iter().enumerate() {
-        let answer = ShiftProposer::new().propose(alloc, &shop, round as u32)?;
-        assert_eq!(rt; text_of(alloc, answer)?.as_str(), *want);
-    }
-    Ok(())
+    let instance = b"\n4 2\n0 1\n0 1 1 1\n1 1\n0 1\n";
+    proposes(&rt, &ShiftProposer::new(), instance, &rounds)
 }
 
 #[test]
 fn the_greedy_proposer_orders_each_round_anew(rt: HostRuntime) -> Result<(), Fail> {
-    let alloc = rt.alloc();
     let greedy = GreedyProposer::new();
-    let two = greedy.propose(alloc, &two_jobs(alloc)?, 0)?;
-    assert_eq!(rt; text_of(alloc, two)?.as_str(), "0 1 ,0 1 ,");
-    let shop = read_instance(alloc, FT06)?.shop;
+    proposes(&rt, &greedy, TWO, &[(0, "0 1 ,0 1 ,")])?;
     let rounds = [
-        "0 2 1 3 4 5 ,1 0 2 3 4 5 ,0 2 1 4 3 5 ,2 0 1 5 3 4 ,1 2 0 4 3 5 ,2 1 0 4 5 3 ,",
-        "0 2 5 1 3 4 ,1 5 0 2 3 4 ,2 0 1 5 4 3 ,2 5 0 1 3 4 ,1 2 5 0 4 3 ,2 5 1 0 4 3 ,",
-        "3 2 5 0 4 1 ,3 5 4 2 0 1 ,2 4 3 0 5 1 ,2 5 3 4 0 1 ,4 2 5 3 0 1 ,2 5 4 3 0 1 ,",
+        (
+            0,
+            "0 2 1 3 4 5 ,1 0 2 3 4 5 ,0 2 1 4 3 5 ,2 0 1 5 3 4 ,1 2 0 4 3 5 ,2 1 0 4 5 3 ,",
+        ),
+        (
+            1,
+            "0 2 5 1 3 4 ,1 5 0 2 3 4 ,2 0 1 5 4 3 ,2 5 0 1 3 4 ,1 2 5 0 4 3 ,2 5 1 0 4 3 ,",
+        ),
+        (
+            2,
+            "3 2 5 0 4 1 ,3 5 4 2 0 1 ,2 4 3 0 5 1 ,2 5 3 4 0 1 ,4 2 5 3 0 1 ,2 5 4 3 0 1 ,",
+        ),
     ];
-    for (round, want) in rounds.iter().enumerate() {
-        let answer = greedy.propose(alloc, &shop, round as u32)?;
-        assert_eq!(rt; text_of(alloc, answer)?.as_str(), *want);
-    }
-    Ok(())
-}
-
-#[test]
-fn a_planner_of_ones_own_is_taken(rt: HostRuntime) -> Result<(), Fail> {
-    let alloc = rt.alloc();
-    let mut own: Vec<Box<dyn Proposer>> = Vec::new(alloc);
-    own.push(Box::new(alloc, DescendingProposer)?)?;
-    let answer = found(alloc, &[0, 0], &[10, 5], None, &own, 1)?;
-    assert_eq!(rt; answer.as_str(), "1 0 ,1 0 ,");
-    Ok(())
+    proposes(&rt, &greedy, FT06, &rounds)
 }

@@ -3,7 +3,7 @@
 use crate::plans::{CLEANED, IN_SERIES, TWO, planned, two_jobs};
 use orlib_read::read_instance;
 use plan_text::{plan_document, read_plan};
-use shop_base::{MachineNo, Moment, Node, Shop, Step, shape};
+use shop_base::{MachineNo, Moment, Node, ShapeFault, Shop, Step, shape};
 use std::alloc::{AllocError, Global};
 use std::process::Abort;
 use std::test::Fail;
@@ -67,6 +67,11 @@ fn what_is_no_shop_is_refused(rt: HostRuntime) -> Result<(), Fail> {
         let answer = shop_answer(rt.alloc(), machines, rows)?;
         assert_eq!(rt; answer.as_str(), text);
     }
+    Ok(())
+}
+
+#[test]
+fn a_shop_has_at_most_200_jobs(rt: HostRuntime) -> Result<(), Fail> {
     let crowd: [&[(MachineNo, Moment)]; 201] = [&[(0, 1)]; 201];
     let answer = shop_answer(rt.alloc(), 1, &crowd)?;
     assert_eq!(rt; answer.as_str(), "TooManyJobs");
@@ -85,18 +90,38 @@ fn the_reports_of_cleanings_are_counted(rt: HostRuntime) -> Result<(), Fail> {
     Ok(())
 }
 
-/// The text of the fault that `shape` finds in a plan for the two jobs, empty for none; what it refuses
-/// comes back as it was.
-fn shape_answer(rt: &(impl Abort + AllocGlobal), plan: &[u8]) -> Result<String, Fail> {
-    match shape(two_jobs(rt.alloc())?, read_plan(rt.alloc(), plan)?) {
-        Ok(_) => Ok(String::new(rt.alloc())),
+/// The fault that `shape` finds in a plan, if any; what it refuses comes back as it was.
+fn fault_of(
+    rt: &(impl Abort + AllocGlobal),
+    instance: &[u8],
+    plan: &[u8],
+) -> Result<Option<ShapeFault>, Fail> {
+    let shop = read_instance(rt.alloc(), instance)?.shop;
+    let work = shop.work();
+    match shape(shop, read_plan(rt.alloc(), plan)?) {
+        Ok(_) => Ok(None),
         Err(refused) => {
-            assert_eq!(rt; refused.shop.work(), 10);
+            assert_eq!(rt; refused.shop.work(), work);
             let document = plan_document(rt.alloc(), &refused.plan)?;
             assert_eq!(rt; document.as_bytes(), plan);
-            Ok(refused.fault.to_string(rt.alloc())?)
+            Ok(Some(refused.fault))
         }
     }
+}
+
+/// Asserts the text of that fault, empty for none.
+fn is_shaped(
+    rt: &(impl Abort + AllocGlobal),
+    instance: &[u8],
+    plan: &[u8],
+    wanted: &str,
+) -> Result<(), Fail> {
+    let answer = match fault_of(rt, instance, plan)? {
+        Some(fault) => fault.to_string(rt.alloc())?,
+        None => String::new(rt.alloc()),
+    };
+    assert_eq!(rt; answer.as_str(), wanted);
+    Ok(())
 }
 
 #[test]
@@ -129,8 +154,7 @@ fn plans_with_other_counts_or_past_the_limits_are_refused(rt: HostRuntime) -> Re
         ),
     ];
     for (plan, text) in refusals {
-        let answer = shape_answer(&rt, plan)?;
-        assert_eq!(rt; answer.as_str(), text);
+        is_shaped(&rt, TWO, plan, text)?;
     }
     Ok(())
 }
@@ -148,18 +172,15 @@ fn plans_with_other_orders_are_refused(rt: HostRuntime) -> Result<(), Fail> {
     ];
     for (order, text) in orders {
         let plan = format!(in rt.alloc(); "release = [0, 0]\nbudget = [5, 10]\norder = {order}\n")?;
-        let answer = shape_answer(&rt, plan.as_bytes())?;
-        assert_eq!(rt; answer.as_str(), text);
-    }
-    let named = read_instance(rt.alloc(), b"\n2 2\n0 3 1 2\n1 4\n")?;
-    match shape(named.shop, read_plan(rt.alloc(), IN_SERIES)?) {
-        Ok(_) => panic!(rt; "the plan is taken"),
-        Err(refused) => {
-            let answer = refused.fault.to_string(rt.alloc())?;
-            assert_eq!(rt; answer.as_str(), "NotOnRoute machine 0 place 1");
-        }
+        is_shaped(&rt, TWO, plan.as_bytes(), text)?;
     }
     Ok(())
+}
+
+#[test]
+fn a_job_is_in_the_orders_of_its_machines_alone(rt: HostRuntime) -> Result<(), Fail> {
+    let instance = b"\n2 2\n0 3 1 2\n1 4\n";
+    is_shaped(&rt, instance, IN_SERIES, "NotOnRoute machine 0 place 1")
 }
 
 #[test]
@@ -168,9 +189,7 @@ fn what_just_keeps_the_limits_is_taken(rt: HostRuntime) -> Result<(), Fail> {
     assert_eq!(rt; answer.as_str(), "");
     let plan =
         b"version = 2\nrelease = [0, 1000000000]\nbudget = [5, 1000000000000]\norder = [[0, 1], [0, 1]]\nclean = [0, 1000000]\n";
-    let answer = shape_answer(&rt, plan)?;
-    assert_eq!(rt; answer.as_str(), "");
-    Ok(())
+    is_shaped(&rt, TWO, plan, "")
 }
 
 #[test]
