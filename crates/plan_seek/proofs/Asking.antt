@@ -1,4 +1,4 @@
--- What comes of one answer, of one round and of all rounds.
+-- What comes of one proposal, of one round and of all rounds.
 use Rattle.std.proofs.Common.{◌≡◌, ℕ, ◌+◌, ◌<◌, List, length, get_or, Some, inl, inr, sym, ap, ◌∙◌, subst}
 use borrow.Author.Count.{below_more}
 use Rattle.shop_base.specs.Shop.{JobShop}
@@ -8,9 +8,9 @@ use Rattle.shop_base.specs.ShapeFault.{IsFirstShapeFault}
 use Rattle.plan_verifier.specs.Accepted.{IsAcceptable}
 use Rattle.plan_seek.specs.declared.attempt.Attempt.{Attempt}
 use Rattle.plan_seek.specs.declared.attempt.Attempt.TheVariants.{Accepted, InVain, WantsMemory}
-use Rattle.plan_seek.specs.Orders.{Answer}
+use Rattle.plan_seek.specs.Orders.{Proposal}
 use Rattle.plan_seek.specs.Tasks.{PlanTask, with_order}
-use Rattle.plan_seek.specs.Turns.{Answers, MayAnswer, IsInVain, MayFail, IsFirstFound, EachMayFail, EachInRound, turn_of}
+use Rattle.plan_seek.specs.Turns.{Proposals, MayPropose, IsInVain, MayFail, IsFirstFound, EachMayFail, EachInRound, turn_of}
 use Rattle.plan_seek.specs.Outcomes.{IsPlanFor, IsOutcome, IsFoundIn}
 use Rattle.shop_base.proofs.Refusals.{shape_fault_refutes}
 
@@ -50,26 +50,26 @@ refused_outcome t back orders shop other_shop plan other_plan fault is same_shop
       λ accepted. shape_fault_refutes (record { shop = shop; plan = plan }) fault first (subst IsWellShaped (sym is) accepted.shaped),
     )
 
-module _ {B : Type 0} (proposers : List B) (may : B → JobShop → ℕ → Answer → Type 0) where
-  -- what they may answer at each turn
-  abbrev answers : JobShop → Answers
-  answers shop = MayAnswer (λ b. may b shop) proposers
+module _ {B : Type 0} (proposers : List B) (may : B → JobShop → ℕ → Proposal → Type 0) where
+  -- what they may propose at each turn
+  abbrev proposals : JobShop → Proposals
+  proposals shop = MayPropose (λ b. may b shop) proposers
 
   -- the proposer at a place was asked in vain, after those before it
   pub one_more_fails : (s t : PlanTask) (b : B) (round place : ℕ) → s ≡ t → place < length proposers → b ≡ get_or proposers place b
-      → MayFail s (may b s.shop round) → EachInRound t (answers t.shop) round place → EachInRound t (answers t.shop) round (place + 1)
+      → MayFail s (may b s.shop round) → EachInRound t (proposals t.shop) round place → EachInRound t (proposals t.shop) round (place + 1)
   one_more_fails s t b round place same within stands failed before =
       let moved : MayFail t (may b t.shop round) = subst (λ x. MayFail x (may b x.shop round)) same failed in
-      below_more (λ k. MayFail t (answers t.shop (turn_of round k))) place before (record {
-        answer = moved.answer;
+      below_more (λ k. MayFail t (proposals t.shop (turn_of round k))) place before (record {
+        proposal = moved.proposal;
         given = record { who = b; within = within; stands = sym stands; given = moved.given };
         in_vain = moved.in_vain;
       })
 
-  -- the proposer at a place gave an answer that is accepted, after those before it failed
+  -- the proposer at a place made a proposal that is accepted, after those before it failed
   pub found_in_round : (s t : PlanTask) (p : PlannedShop) (b : B) (round place : ℕ) → s ≡ t → place < length proposers → b ≡ get_or proposers place b
-      → IsPlanFor s p × may b s.shop round (Some p.plan.order) → EachInRound t (answers t.shop) round place
-      → IsPlanFor t p × IsFoundIn t (answers t.shop) round (length proposers) p.plan.order
+      → IsPlanFor s p × may b s.shop round (Some p.plan.order) → EachInRound t (proposals t.shop) round place
+      → IsPlanFor t p × IsFoundIn t (proposals t.shop) round (length proposers) p.plan.order
   found_in_round s t p b round place same within stands found before =
       let moved : IsPlanFor t p × may b t.shop round (Some p.plan.order) =
       subst (λ x. IsPlanFor x p × may b x.shop round (Some p.plan.order)) same found in (
@@ -83,22 +83,22 @@ module _ {B : Type 0} (proposers : List B) (may : B → JobShop → ℕ → Answ
       )
 
   -- a round was in vain, after those before it
-  pub one_more_round : (s t : PlanTask) (round : ℕ) → s ≡ t → EachInRound s (answers s.shop) round (length proposers)
-      → ((r : ℕ) → r < round → EachInRound t (answers t.shop) r (length proposers))
-      → (r : ℕ) → r < round + 1 → EachInRound t (answers t.shop) r (length proposers)
+  pub one_more_round : (s t : PlanTask) (round : ℕ) → s ≡ t → EachInRound s (proposals s.shop) round (length proposers)
+      → ((r : ℕ) → r < round → EachInRound t (proposals t.shop) r (length proposers))
+      → (r : ℕ) → r < round + 1 → EachInRound t (proposals t.shop) r (length proposers)
   one_more_round s t round same failed before =
-      below_more (λ r. EachInRound t (answers t.shop) r (length proposers)) round before
-      (subst (λ x. EachInRound x (answers x.shop) round (length proposers)) same failed)
+      below_more (λ r. EachInRound t (proposals t.shop) r (length proposers)) round before
+      (subst (λ x. EachInRound x (proposals x.shop) round (length proposers)) same failed)
 
   -- a round gave a plan, after those before it were in vain
   pub found_after : (s t : PlanTask) (p : PlannedShop) (round rounds : ℕ) → s ≡ t → round < rounds
-      → IsPlanFor s p × IsFoundIn s (answers s.shop) round (length proposers) p.plan.order
-      → ((r : ℕ) → r < round → EachInRound t (answers t.shop) r (length proposers))
-      → IsPlanFor t p × IsFirstFound t (answers t.shop) rounds (length proposers) p.plan.order
+      → IsPlanFor s p × IsFoundIn s (proposals s.shop) round (length proposers) p.plan.order
+      → ((r : ℕ) → r < round → EachInRound t (proposals t.shop) r (length proposers))
+      → IsPlanFor t p × IsFirstFound t (proposals t.shop) rounds (length proposers) p.plan.order
   found_after s t p round rounds same within found before =
-      let moved : IsPlanFor t p × IsFoundIn t (answers t.shop) round (length proposers) p.plan.order =
-      subst (λ x. IsPlanFor x p × IsFoundIn x (answers x.shop) round (length proposers) p.plan.order) same found in
-      let first : IsFoundIn t (answers t.shop) round (length proposers) p.plan.order = moved.1 in (
+      let moved : IsPlanFor t p × IsFoundIn t (proposals t.shop) round (length proposers) p.plan.order =
+      subst (λ x. IsPlanFor x p × IsFoundIn x (proposals x.shop) round (length proposers) p.plan.order) same found in
+      let first : IsFoundIn t (proposals t.shop) round (length proposers) p.plan.order = moved.1 in (
         moved.0,
         record {
           turn = turn_of round first.place;
@@ -106,12 +106,12 @@ module _ {B : Type 0} (proposers : List B) (may : B → JobShop → ℕ → Answ
           given = first.given;
           before = λ earlier inside comes_before. elim comes_before [
             | inl sooner ↦ before earlier.round sooner earlier.proposer inside.within_list
-            | inr later ↦ subst (λ r. MayFail t (answers t.shop (turn_of r earlier.proposer))) (sym later.0) (first.before earlier.proposer later.1)
+            | inr later ↦ subst (λ r. MayFail t (proposals t.shop (turn_of r earlier.proposer))) (sym later.0) (first.before earlier.proposer later.1)
           ];
         },
       )
 
   -- all rounds were in vain
-  pub all_in_vain : (t : PlanTask) (rounds : ℕ) → ((r : ℕ) → r < rounds → EachInRound t (answers t.shop) r (length proposers))
-      → EachMayFail t (answers t.shop) rounds (length proposers)
+  pub all_in_vain : (t : PlanTask) (rounds : ℕ) → ((r : ℕ) → r < rounds → EachInRound t (proposals t.shop) r (length proposers))
+      → EachMayFail t (proposals t.shop) rounds (length proposers)
   all_in_vain t rounds each turn inside = each turn.round inside.within_rounds turn.proposer inside.within_list

@@ -1,20 +1,15 @@
 -- The serial plan is refused only where it is late.
-use Rattle.std.proofs.Common.{◌≡◌, List, [], ◌∷◌, subst}
-use Rattle.shop_base.specs.declared.node.Node.{Node}
+use Rattle.std.proofs.Common.{◌≡◌, subst}
 use Rattle.shop_base.specs.Plan.{PlannedShop, IsWellShaped}
 use Rattle.shop_base.specs.Graph.{IsSimpleCycle}
 use Rattle.shop_base.proofs.SerialLaw.{serial_plan_has_no_cycle}
-use Rattle.alt_graph.specs.Evidence.{IsCycle}
+use Rattle.alt_graph.proofs.CycleParts.{cycle_simple}
 use Rattle.plan_verifier.specs.declared.verdict.Why.{Why}
 use Rattle.plan_verifier.specs.declared.verdict.Why.TheVariants.{Cycle, Late}
 use Rattle.plan_verifier.specs.Verdicts.{IsReason, IsFirstLate}
 use Rattle.plan_seek.specs.Tasks.{PlanTask, serial_plan}
 use Rattle.plan_seek.specs.Search.{IsSeriallyLate}
 use Rattle.plan_seek.proofs.SerialPlan.{serial-rises}
-
-cycle_simple : (p : PlannedShop) (nodes : List Node) → IsCycle p nodes → IsSimpleCycle p nodes
-cycle_simple p [] cycle = cycle
-cycle_simple p (u ∷ us) cycle = cycle.0
 
 pub serial_reason : (t : PlanTask) (p : PlannedShop) (why : Why) → IsWellShaped p → p ≡ serial_plan t → IsReason p why → IsSeriallyLate t
 serial_reason t p (Cycle nodes) shaped is cycle =

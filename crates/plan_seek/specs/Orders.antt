@@ -5,14 +5,14 @@ use Rattle.shop_base.specs.declared.shop.Step.{Step}
 use Rattle.shop_base.specs.Shop.{JobShop, route_at}
 use Rattle.shop_base.specs.Vectors.{lists_of}
 
--- what a proposer answers: an order for each machine, or nothing
-abbrev pub Answer : Type 0
-Answer = Option (List (List ℕ))
+-- what a proposer proposes: an order for each machine, or nothing
+abbrev pub Proposal : Type 0
+Proposal = Option (List (List ℕ))
 
--- the lists of an answer
-abbrev pub answer_of : Option (Vec (Vec ℕ Global) Global) → Answer
-answer_of None = None
-answer_of (Some orders) = Some (lists_of orders.items)
+-- the lists of a proposal
+abbrev pub proposal_of : Option (Vec (Vec ℕ Global) Global) → Proposal
+proposal_of None = None
+proposal_of (Some orders) = Some (lists_of orders.items)
 
 -- the route comes to machine m
 abbrev pub is_on_route : List Step → ℕ → Bool

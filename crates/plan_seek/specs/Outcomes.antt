@@ -7,7 +7,7 @@ use Rattle.plan_seek.specs.declared.not_found.NotFound.{NotFound}
 use Rattle.plan_seek.specs.declared.seek_fault.SeekFault.{SeekFault}
 use Rattle.plan_seek.specs.declared.seek_fault.SeekFault.TheVariants.{BadNumbers, Exhausted, TooManyRounds, Memory}
 use Rattle.plan_seek.specs.Tasks.{PlanTask, task_of, with_order, serial_plan, IsAccepted}
-use Rattle.plan_seek.specs.Turns.{Answers, EachInRound, turn_of}
+use Rattle.plan_seek.specs.Turns.{Proposals, EachInRound, turn_of}
 use Rattle.plan_seek.specs.Search.{IsSeriallyLate}
 
 -- an accepted plan for the task
@@ -21,8 +21,8 @@ IsOutcome t Found Failed (Accepted verified) = IsPlanFor t verified.planned × F
 IsOutcome t Found Failed (InVain back) = (back ≡ t) × Failed
 IsOutcome t Found Failed (WantsMemory back) = back ≡ t
 
--- within one round: these orders may be answered at some turn, and at each turn before it an answer may be given that isn't accepted
-pub record IsFoundIn (t : PlanTask) (may : Answers) (round proposers : ℕ) (order : List (List ℕ)) : Type 0 where
+-- within one round: these orders may be proposed at some turn, and at each turn before it a proposal may be made that isn't accepted
+pub record IsFoundIn (t : PlanTask) (may : Proposals) (round proposers : ℕ) (order : List (List ℕ)) : Type 0 where
   pub place : ℕ
   pub inside : place < proposers
   pub given : may (turn_of round place) (Some order)

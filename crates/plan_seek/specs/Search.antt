@@ -7,14 +7,14 @@ use Rattle.plan_seek.specs.declared.seek_fault.SeekFault.{SeekFault}
 use Rattle.plan_seek.specs.declared.seek_fault.SeekFault.TheVariants.{BadNumbers, Exhausted, TooManyRounds, Memory}
 use Rattle.plan_seek.specs.Orders.{serial_order}
 use Rattle.plan_seek.specs.Tasks.{PlanTask, serial_plan}
-use Rattle.plan_seek.specs.Turns.{Answers, IsFirstFound, EachMayFail}
+use Rattle.plan_seek.specs.Turns.{Proposals, IsFirstFound, EachMayFail}
 
 -- the numbers are as many as they should be and within the limits: the serial plan is well shaped
 abbrev pub AreSound : PlanTask → Type 0
 AreSound t = IsWellShaped (serial_plan t)
 
--- these orders are the search's: the first answer that is accepted, or else the serial plan's
-abbrev pub IsSought : PlanTask → Answers → ℕ → ℕ → List (List ℕ) → Type 0
+-- these orders are the search's: the first proposal that is accepted, or else the serial plan's
+abbrev pub IsSought : PlanTask → Proposals → ℕ → ℕ → List (List ℕ) → Type 0
 IsSought t may rounds proposers order =
     IsFirstFound t may rounds proposers order ⊎ (EachMayFail t may rounds proposers × (order ≡ serial_order t.shop))
 
@@ -30,8 +30,8 @@ pub record IsBegun (t : PlanTask) (rounds : ℕ) : Type 0 where
   pub sound : AreSound t
   pub few : rounds ≤ 1000
 
--- why there is no plan: the first fault of the numbers, which is that of the serial plan's shape; else too many rounds; else that all answers may fail and the serial plan is late, or want of memory
-abbrev pub IsSeekFault : PlanTask → Answers → ℕ → ℕ → SeekFault → Type 0
+-- why there is no plan: the first fault of the numbers, which is that of the serial plan's shape; else too many rounds; else that all proposals may fail and the serial plan is late, or want of memory
+abbrev pub IsSeekFault : PlanTask → Proposals → ℕ → ℕ → SeekFault → Type 0
 IsSeekFault t may rounds proposers (BadNumbers fault) = IsFirstShapeFault (serial_plan t) fault
 IsSeekFault t may rounds proposers TooManyRounds = AreSound t × (1000 < rounds)
 IsSeekFault t may rounds proposers Exhausted = IsBegun t rounds × EachMayFail t may rounds proposers × IsSeriallyLate t

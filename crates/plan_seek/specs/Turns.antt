@@ -1,5 +1,5 @@
 use Rattle.std.specs.Prelude.{◌≡◌, ℕ, ◌<◌, List, None, Some, ◌⊎◌, length, slice_index_or}
-use Rattle.plan_seek.specs.Orders.{Answer}
+use Rattle.plan_seek.specs.Orders.{Proposal}
 use Rattle.plan_seek.specs.Tasks.{PlanTask, with_order, IsAccepted}
 
 -- a round, and the place of a proposer in their list
@@ -20,39 +20,39 @@ IsBefore one other = (one.round < other.round) ⊎ ((one.round ≡ other.round) 
 abbrev pub turn_of : ℕ → ℕ → Turn
 turn_of round proposer = record { round = round; proposer = proposer }
 
--- what may be answered at each turn
-abbrev pub Answers : Type 1
-Answers = Turn → Answer → Type 0
+-- what may be proposed at each turn
+abbrev pub Proposals : Type 1
+Proposals = Turn → Proposal → Type 0
 
--- the proposer whose turn it is may give the answer in that round
-pub record MayAnswer {B : Type 0} (may : B → ℕ → Answer → Type 0) (proposers : List B) (turn : Turn) (answer : Answer) : Type 0 where
+-- the proposer whose turn it is may make the proposal in that round
+pub record MayPropose {B : Type 0} (may : B → ℕ → Proposal → Type 0) (proposers : List B) (turn : Turn) (proposal : Proposal) : Type 0 where
   pub who : B
   pub within : turn.proposer < length proposers
   pub stands : slice_index_or proposers turn.proposer who ≡ who
-  pub given : may who turn.round answer
+  pub given : may who turn.round proposal
 
--- the answer isn't accepted: there is none, or the plan with these orders isn't accepted
-abbrev pub IsInVain : PlanTask → Answer → Type 0
+-- the proposal isn't accepted: there is none, or the plan with these orders isn't accepted
+abbrev pub IsInVain : PlanTask → Proposal → Type 0
 IsInVain t None = Unit {0}
 IsInVain t (Some order) = IsAccepted (with_order t order) → ⊥
 
--- an answer that may be given and isn't accepted
-pub record MayFail (t : PlanTask) (may : Answer → Type 0) : Type 0 where
-  pub answer : Answer
-  pub given : may answer
-  pub in_vain : IsInVain t answer
+-- a proposal that may be made and isn't accepted
+pub record MayFail (t : PlanTask) (may : Proposal → Type 0) : Type 0 where
+  pub proposal : Proposal
+  pub given : may proposal
+  pub in_vain : IsInVain t proposal
 
--- these orders may be answered at some turn, and at each turn before it an answer may be given that isn't accepted
-pub record IsFirstFound (t : PlanTask) (may : Answers) (rounds proposers : ℕ) (order : List (List ℕ)) : Type 0 where
+-- these orders may be proposed at some turn, and at each turn before it a proposal may be made that isn't accepted
+pub record IsFirstFound (t : PlanTask) (may : Proposals) (rounds proposers : ℕ) (order : List (List ℕ)) : Type 0 where
   pub turn : Turn
   pub inside : IsTurn rounds proposers turn
   pub given : may turn (Some order)
   pub before : (earlier : Turn) → IsTurn rounds proposers earlier → IsBefore earlier turn → MayFail t (may earlier)
 
--- at each turn an answer may be given that isn't accepted
-abbrev pub EachMayFail : PlanTask → Answers → ℕ → ℕ → Type 0
+-- at each turn a proposal may be made that isn't accepted
+abbrev pub EachMayFail : PlanTask → Proposals → ℕ → ℕ → Type 0
 EachMayFail t may rounds proposers = (turn : Turn) → IsTurn rounds proposers turn → MayFail t (may turn)
 
--- within one round: at each turn before this many proposers an answer may be given that isn't accepted
-abbrev pub EachInRound : PlanTask → Answers → ℕ → ℕ → Type 0
+-- within one round: at each turn before this many proposers a proposal may be made that isn't accepted
+abbrev pub EachInRound : PlanTask → Proposals → ℕ → ℕ → Type 0
 EachInRound t may round n = (k : ℕ) → k < n → MayFail t (may (turn_of round k))

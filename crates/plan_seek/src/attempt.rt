@@ -1,10 +1,9 @@
-//! One answer put to the test.
+//! One proposal put to the test.
 
 ghost use Rattle.std.specs.Prelude.{◌≡◌, Some};
 ghost use Rattle.shop_base.specs.Vectors.{lists_of};
 ghost use Rattle.plan_verifier.specs.Accepted.{IsAcceptable};
-ghost use Rattle.plan_seek.specs.Orders.{Answer};
-ghost use Rattle.plan_seek.specs.Tasks.{PlanTask, with_order, IsAccepted};
+ghost use Rattle.plan_seek.specs.Tasks.{PlanTask, with_order};
 ghost use Rattle.plan_seek.specs.Turns.{IsInVain};
 ghost use Rattle.plan_seek.specs.Outcomes.{IsOutcome};
 
@@ -13,7 +12,7 @@ use plan_verifier::{Verdict, Verified, verify};
 use shop_base::{JobNo, Shaped, shape};
 use std::alloc::Global;
 
-/// What came of an answer, or of several.
+/// What came of a proposal, or of several.
 #[derive(Debug, Drop)]
 pub(crate) enum Attempt {
     /// The plan is accepted.

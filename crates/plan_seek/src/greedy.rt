@@ -23,7 +23,7 @@ impl GreedyProposer {
 }
 
 impl Proposer for GreedyProposer {
-    ghost may = { λ proposer shop round answer. Unit {0} };
+    ghost may = { λ proposer shop round proposal. Unit {0} };
 
     fn propose(
         &self,

@@ -1,4 +1,4 @@
-//! Untrusted planners, and the search for a plan that is accepted: what a planner answers is checked, so a
+//! Untrusted planners, and the search for a plan that is accepted: what a planner proposes is checked, so a
 //! planner can be wrong, and the plan that is found can't.
 #![tactic(auto)]
 

@@ -1,8 +1,8 @@
 //! The proposers asked in turn, round by round.
 
 ghost use Rattle.std.specs.Prelude.{length, Some, IfOk};
-ghost use Rattle.plan_seek.specs.Orders.{answer_of};
-ghost use Rattle.plan_seek.specs.Turns.{MayAnswer, MayFail, IsFirstFound, EachMayFail, EachInRound};
+ghost use Rattle.plan_seek.specs.Orders.{proposal_of};
+ghost use Rattle.plan_seek.specs.Turns.{MayPropose, MayFail, IsFirstFound, EachMayFail, EachInRound};
 ghost use Rattle.plan_seek.specs.Outcomes.{IsOutcome, IsFoundIn};
 
 use crate::attempt::{Attempt, try_orders};
@@ -18,7 +18,7 @@ pub(crate) fn try_rounds(
     proposers: &[Box<dyn Proposer>],
     rounds: u32,
 ) -> Attempt
-    ensures { let may = MayAnswer (λ b. may b task.shop) proposers.now in
+    ensures { let may = MayPropose (λ b. may b task.shop) proposers.now in
         IsOutcome task (IsFirstFound task may rounds (length proposers.now)) (EachMayFail task may rounds (length proposers.now)) result }
 {
     for round in 0..rounds {
@@ -33,7 +33,7 @@ pub(crate) fn try_rounds(
 
 /// Asks each proposer in order, and gives the first plan that is accepted.
 fn try_round(alloc: Global, mut task: Task, proposers: &[Box<dyn Proposer>], round: u32) -> Attempt
-    ensures { let may = MayAnswer (λ b. may b task.shop) proposers.now in
+    ensures { let may = MayPropose (λ b. may b task.shop) proposers.now in
         IsOutcome task (IsFoundIn task may round (length proposers.now)) (EachInRound task may round (length proposers.now)) result }
 {
     for proposer in proposers {
@@ -46,7 +46,7 @@ fn try_round(alloc: Global, mut task: Task, proposers: &[Box<dyn Proposer>], rou
     Attempt::InVain(task)
 }
 
-/// Asks one proposer, and puts its answer to the test.
+/// Asks one proposer, and puts its proposal to the test.
 fn try_proposer(alloc: Global, task: Task, proposer: &Box<dyn Proposer>, round: u32) -> Attempt
     ensures { IsOutcome task (λ order. may proposer.now task.shop round (Some order)) (MayFail task (may proposer.now task.shop round)) result }
 {
@@ -64,7 +64,7 @@ fn ask(
     shop: &Shop,
     round: u32,
 ) -> Result<Option<Vec<Vec<JobNo>>>, AllocError>
-    ensures { IfOk result (λ answer. may proposer.now shop.now round (answer_of answer)) }
+    ensures { IfOk result (λ proposal. may proposer.now shop.now round (proposal_of proposal)) }
 {
     proposer.propose(alloc, shop, round)
 }

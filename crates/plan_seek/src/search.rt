@@ -1,6 +1,6 @@
 ghost use Rattle.std.specs.Prelude.{◌≡◌, ◌≤◌, length, IfOk, IfErr, OnOk};
 ghost use Rattle.plan_seek.specs.Tasks.{task_of, with_order, IsAccepted};
-ghost use Rattle.plan_seek.specs.Turns.{MayAnswer};
+ghost use Rattle.plan_seek.specs.Turns.{MayPropose};
 ghost use Rattle.plan_seek.specs.Search.{IsSought, IsSeekFault, IsBegun};
 
 use crate::attempt::Attempt;
@@ -19,7 +19,7 @@ use std::alloc::Global;
 pub const MAX_ROUNDS: u32 = 1000;
 
 /// Looks for a plan with these numbers that is accepted. In each round from 0 on each proposer is asked in
-/// order, and the first answer that is accepted is given; last comes the serial plan, in which each machine
+/// order, and the first proposal that is accepted is given; last comes the serial plan, in which each machine
 /// takes its jobs in ascending order. A fault of the numbers, and then too many rounds, is answered before a
 /// proposer is asked and before memory is taken. Where there is no plan, everything is handed back.
 pub fn seek(
@@ -35,9 +35,9 @@ pub fn seek(
     ensures accepted { IfOk result (λ verified. IsAccepted verified.planned) }
     ensures few_rounds { OnOk result (rounds ≤ 1000) }
     ensures sought { IfOk result (λ verified.
-        IsSought (task_of shop release budget clean) (MayAnswer (λ b. may b shop) proposers.now) rounds (length proposers.now) verified.planned.plan.order) }
+        IsSought (task_of shop release budget clean) (MayPropose (λ b. may b shop) proposers.now) rounds (length proposers.now) verified.planned.plan.order) }
     ensures refused { IfErr result (λ refused.
-        IsSeekFault (task_of shop release budget clean) (MayAnswer (λ b. may b shop) proposers.now) rounds (length proposers.now) refused.fault) }
+        IsSeekFault (task_of shop release budget clean) (MayPropose (λ b. may b shop) proposers.now) rounds (length proposers.now) refused.fault) }
     ensures handed_back { IfErr result (λ refused.
         task_of refused.shop refused.release refused.budget refused.clean ≡ task_of shop release budget clean) }
 {
@@ -67,9 +67,9 @@ fn search(
     ensures same { IfOk result (λ verified. verified.planned ≡ with_order task verified.planned.plan.order) }
     ensures accepted { IfOk result (λ verified. IsAccepted verified.planned) }
     ensures sought { IfOk result (λ verified.
-        IsSought task (MayAnswer (λ b. may b task.shop) proposers.now) rounds (length proposers.now) verified.planned.plan.order) }
+        IsSought task (MayPropose (λ b. may b task.shop) proposers.now) rounds (length proposers.now) verified.planned.plan.order) }
     ensures refused { IfErr result (λ refused.
-        IsSeekFault task (MayAnswer (λ b. may b task.shop) proposers.now) rounds (length proposers.now) refused.fault) }
+        IsSeekFault task (MayPropose (λ b. may b task.shop) proposers.now) rounds (length proposers.now) refused.fault) }
     ensures handed_back { IfErr result (λ refused. task_of refused.shop refused.release refused.budget refused.clean ≡ task) }
 {
     match try_rounds(alloc, task, proposers, rounds) {

@@ -8,7 +8,7 @@ pub enum SeekFault {
     /// these that `shape` has.
     #[error("BadNumbers {0}")]
     BadNumbers(ShapeFault),
-    /// No answer of a proposer was accepted, and the serial plan is late.
+    /// No proposal was accepted, and the serial plan is late.
     #[error("Exhausted")]
     Exhausted,
     /// There are more than 1000 rounds.

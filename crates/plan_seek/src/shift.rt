@@ -1,5 +1,5 @@
-ghost use Rattle.std.specs.Prelude.{◌≡◌, IfOk, Some};
-ghost use Rattle.plan_seek.specs.Orders.{answer_of, shifted_order};
+ghost use Rattle.std.specs.Prelude.{◌≡◌, Some};
+ghost use Rattle.plan_seek.specs.Orders.{shifted_order};
 
 use crate::orders::orders_from;
 use crate::proposer::Proposer;
@@ -18,7 +18,7 @@ impl ShiftProposer {
 }
 
 impl Proposer for ShiftProposer {
-    ghost may = { λ proposer shop round answer. answer ≡ Some (shifted_order shop round) };
+    ghost may = { λ proposer shop round proposal. proposal ≡ Some (shifted_order shop round) };
 
     fn propose(
         &self,

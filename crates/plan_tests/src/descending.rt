@@ -7,7 +7,7 @@ use std::alloc::{AllocError, Global};
 pub struct DescendingProposer;
 
 impl Proposer for DescendingProposer {
-    ghost may = { λ proposer shop round answer. Unit {0} };
+    ghost may = { λ proposer shop round proposal. Unit {0} };
 
     fn propose(
         &self,

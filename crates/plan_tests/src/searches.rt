@@ -1,4 +1,4 @@
-//! What the search for a plan finds, and what its planners answer.
+//! What the search for a plan finds, and what its planners propose.
 
 use crate::descending::DescendingProposer;
 use crate::plans::{CLEANED, FT06, IN_SERIES, TWO, two_jobs};
@@ -25,7 +25,7 @@ fn text_of(alloc: Global, orders: Option<Vec<Vec<JobNo>>>) -> Result<String, All
     Ok(text)
 }
 
-/// Planners that always answer the same.
+/// Planners that always propose the same.
 #[derive(Clone, Copy)]
 enum Wrong {
     /// One list too few.
@@ -34,14 +34,14 @@ enum Wrong {
     Stranger,
     /// Orders with a cycle.
     Crossed,
-    /// No answer.
+    /// No proposal.
     Silent,
     /// Want of memory.
     Hungry,
 }
 
 impl Proposer for Wrong {
-    ghost may = { λ proposer shop round answer. Unit {0} };
+    ghost may = { λ proposer shop round proposal. Unit {0} };
 
     fn propose(
         &self,
@@ -205,7 +205,7 @@ fn bad_numbers_are_told_before_too_many_rounds(rt: HostRuntime) -> Result<(), Fa
 }
 
 #[test]
-fn wrong_answers_do_no_harm(rt: HostRuntime) -> Result<(), Fail> {
+fn wrong_proposals_do_no_harm(rt: HostRuntime) -> Result<(), Fail> {
     let wrong = [
         Planner::Wrong(Wrong::Short),
         Planner::Wrong(Wrong::Stranger),
