@@ -47,7 +47,7 @@ fn tells(answer: Result<Answer, CommandFault>, text: &[u8], status: u8) -> bool 
 }
 
 #[test]
-fn tells_what_logs_are(rt: HostRuntime) -> Result<(), Fail> {
+fn logs_are_kept_or_refused(rt: HostRuntime) -> Result<(), Fail> {
     let alloc = rt.alloc();
     let lines: [(&[u8], &[u8], &[u8], u8); 10] = [
         (
@@ -98,7 +98,7 @@ fn tells_what_logs_are(rt: HostRuntime) -> Result<(), Fail> {
 }
 
 #[test]
-fn draws_logs(rt: HostRuntime) -> Result<(), Fail> {
+fn kept_logs_are_drawn(rt: HostRuntime) -> Result<(), Fail> {
     let alloc = rt.alloc();
     let lines: [(&[u8], &[u8], &[u8], &[u8], u8); 5] = [
         (

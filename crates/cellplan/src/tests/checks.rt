@@ -19,7 +19,7 @@ const LOCKED_RING: &[u8] =
     b"release = [0, 0, 0]\nbudget = [100, 100, 100]\norder = [[0, 2], [1, 0], [2, 1]]\n";
 
 #[test]
-fn tells_the_verdicts_on_plans(rt: HostRuntime) -> Result<(), Fail> {
+fn a_plan_has_its_verdict(rt: HostRuntime) -> Result<(), Fail> {
     let lines: [(&[u8], &[u8], &[u8], u8); 9] = [
         (TWO, CROSSED, b"refused cycle 0.1 1.1\n", 1),
         (RING, LOCKED_RING, b"refused cycle 0.1 2.1 1.1\n", 1),
@@ -50,7 +50,7 @@ fn tells_the_verdicts_on_plans(rt: HostRuntime) -> Result<(), Fail> {
 }
 
 #[test]
-fn accepts_the_serial_plan_of_ft06(rt: HostRuntime) -> Result<(), Fail> {
+fn the_serial_plan_of_ft06_is_accepted(rt: HostRuntime) -> Result<(), Fail> {
     let plan = b"release = [0, 0, 0, 0, 0, 0]\nbudget = [26, 60, 89, 117, 125, 152]\norder = [\n  \
 [0, 1, 2, 3, 4, 5],\n  [0, 1, 2, 3, 4, 5],\n  [0, 1, 2, 3, 4, 5],\n  [0, 1, 2, 3, 4, 5],\n  \
 [0, 1, 2, 3, 4, 5],\n  [0, 1, 2, 3, 4, 5],\n]\n";
@@ -62,7 +62,7 @@ fn accepts_the_serial_plan_of_ft06(rt: HostRuntime) -> Result<(), Fail> {
 }
 
 #[test]
-fn tells_which_text_has_no_verdict(rt: HostRuntime) -> Result<(), Fail> {
+fn a_refused_text_has_no_verdict(rt: HostRuntime) -> Result<(), Fail> {
     let unknown = b"release = [0, 0]\nbudget = [5, 10]\norder = [[0, 1], [0, 1]]\nx = 1\n";
     let faults: [(&[u8], CommandFault); 2] = [
         (TWO, CommandFault::Plan(PlanFault::UnknownKey)),
@@ -76,7 +76,7 @@ fn tells_which_text_has_no_verdict(rt: HostRuntime) -> Result<(), Fail> {
 }
 
 #[test]
-fn loads_a_verdict(rt: HostRuntime) -> Result<(), Fail> {
+fn a_verdict_is_loaded(rt: HostRuntime) -> Result<(), Fail> {
     match load(rt.alloc(), TWO, None, IN_TIME)? {
         Loaded::Accepted(verified) => {
             assert_eq!(rt; verified.makespan(), 10);
@@ -91,7 +91,7 @@ fn loads_a_verdict(rt: HostRuntime) -> Result<(), Fail> {
 }
 
 #[test]
-fn tells_which_plans_are_not_shaped(rt: HostRuntime) -> Result<(), Fail> {
+fn the_first_fault_of_a_shape_is_loaded(rt: HostRuntime) -> Result<(), Fail> {
     let faults = [
         ShapeFault::JobMissing { machine: 1, job: 1 },
         ShapeFault::JobOutOfRange {
@@ -136,7 +136,7 @@ fn is_refused_justly(alloc: Global, instance: &[u8], plan: &[u8]) -> Result<bool
 }
 
 #[test]
-fn its_evidence_stands_the_checks(rt: HostRuntime) -> Result<(), Fail> {
+fn evidence_stands_the_checks(rt: HostRuntime) -> Result<(), Fail> {
     assert!(rt; is_refused_justly(rt.alloc(), TWO, CROSSED)?);
     assert!(rt; is_refused_justly(rt.alloc(), RING, LOCKED_RING)?);
     assert!(rt; is_refused_justly(rt.alloc(), TWO, LATE)?);

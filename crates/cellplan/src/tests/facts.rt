@@ -4,7 +4,7 @@ use orlib_read::OrFault;
 use std::test::Fail;
 
 #[test]
-fn tells_the_facts_of_instances(rt: HostRuntime) -> Result<(), Fail> {
+fn an_instance_has_its_facts(rt: HostRuntime) -> Result<(), Fail> {
     let lines: [(&[u8], Option<&[u8]>, &[u8]); 3] = [
         (
             TWO,
@@ -31,7 +31,7 @@ fn tells_the_facts_of_instances(rt: HostRuntime) -> Result<(), Fail> {
 }
 
 #[test]
-fn tells_why_there_are_no_facts(rt: HostRuntime) -> Result<(), Fail> {
+fn what_is_no_instance_has_no_facts(rt: HostRuntime) -> Result<(), Fail> {
     let faults: [(&[u8], Option<&[u8]>, OrFault); 3] = [
         (COLLECTION, Some(b"ft07"), OrFault::NoInstance),
         (COLLECTION, None, OrFault::BadSizes { line: 5 }),

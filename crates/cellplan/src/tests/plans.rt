@@ -14,7 +14,7 @@ const BOTH_LATE: &[u8] = b"release = [0, 0]\nbudget = [4, 4]\norder = [[0, 1], [
 const NO_ORDERS: &[u8] = b"release = [0, 0]\nbudget = [5, 10]\norder = []\n";
 
 #[test]
-fn finds_plans(rt: HostRuntime) -> Result<(), Fail> {
+fn a_plan_is_found_or_there_is_none(rt: HostRuntime) -> Result<(), Fail> {
     let mut proposers: Vec<Box<dyn Proposer>> = Vec::new(rt.alloc());
     proposers.push(Box::new(rt.alloc(), GreedyProposer::new())?)?;
     proposers.push(Box::new(rt.alloc(), ShiftProposer::new())?)?;
@@ -61,7 +61,7 @@ fn finds_plans(rt: HostRuntime) -> Result<(), Fail> {
 }
 
 #[test]
-fn tells_which_text_of_a_search_is_refused(rt: HostRuntime) -> Result<(), Fail> {
+fn a_search_refuses_the_instance_before_the_plan(rt: HostRuntime) -> Result<(), Fail> {
     let none: Vec<Box<dyn Proposer>> = Vec::new(rt.alloc());
     match plan_answer(
         rt.alloc(),

@@ -5,7 +5,7 @@ use plan_text::{PlanFault, PlanKey};
 use std::test::Fail;
 
 #[test]
-fn tells_the_shape_of_plans(rt: HostRuntime) -> Result<(), Fail> {
+fn a_plan_is_shaped_or_its_first_fault_is_told(rt: HostRuntime) -> Result<(), Fail> {
     let lines: [(&[u8], &[u8]); 2] = [
         (
             b"version = 2\nrelease = [0, 0]\nbudget = [5, 10]\norder = [[0, 1], [0, 1]]\nclean = [0]\n",
@@ -28,7 +28,7 @@ fn tells_the_shape_of_plans(rt: HostRuntime) -> Result<(), Fail> {
 }
 
 #[test]
-fn tells_the_shape_for_an_instance_of_a_collection(rt: HostRuntime) -> Result<(), Fail> {
+fn a_collection_has_the_instance_of_a_plan(rt: HostRuntime) -> Result<(), Fail> {
     let answer = shape_answer(rt.alloc(), COLLECTION, Some(b"two"), IN_TIME)?;
     assert_eq!(rt; answer.text.as_slice(), b"shaped\n".as_slice());
     let answer = shape_answer(rt.alloc(), COLLECTION, Some(b"ft06"), IN_TIME)?;
@@ -40,7 +40,7 @@ fn tells_the_shape_for_an_instance_of_a_collection(rt: HostRuntime) -> Result<()
 }
 
 #[test]
-fn tells_which_text_is_refused(rt: HostRuntime) -> Result<(), Fail> {
+fn a_refused_text_has_no_shape(rt: HostRuntime) -> Result<(), Fail> {
     let unknown = b"release = [0, 0]\nbudget = [5, 10]\norder = [[0, 1], [0, 1]]\nx = 1\n";
     let faults: [(&[u8], &[u8], CommandFault); 4] = [
         (TWO, unknown, CommandFault::Plan(PlanFault::UnknownKey)),
