@@ -6,7 +6,7 @@ use cell_drive::{DriveFault, FromRead, Source, drive, drive_hub};
 use command_answers::{GOOD, REFUSED};
 use plan_verifier::Verified;
 use run_log::{IntoSink, Sink};
-use std::alloc::{AllocError, Global};
+use std::alloc::Global;
 use std::io::{self, BufReader};
 
 /// The bytes that are read at a time.

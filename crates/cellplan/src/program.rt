@@ -4,9 +4,9 @@ use crate::driving::{Cells, drive_streams};
 use crate::failures::{Failure, fail};
 use crate::files::read_file;
 use command_answers::{
-    Answer, FileFault, GOOD, Loaded, check_of, drawn_answer, facts_answer, load_for, load_instance,
-    load_plan, loaded_answer, log_answer, not_shaped_answer, numbered_answer, plan_for, read_whole,
-    shape_of,
+    Answer, FileFault, GOOD, Loaded, check_for, drawn_answer, facts_answer, load_for,
+    load_instance, load_plan, loaded_answer, log_answer, not_shaped_answer, numbered_answer,
+    plan_for, read_whole, shape_for,
 };
 use command_words::{Chosen, CommandName, WordsFault, read_words};
 use plan_seek::{GreedyProposer, Proposer, ShiftProposer};
@@ -68,11 +68,11 @@ fn command_answer(rt: &HostRuntime, alloc: Global, chosen: &Chosen) -> Result<An
         CommandName::Facts => Ok(facts_answer(alloc, &file(rt, alloc, chosen, 0)?, name)?),
         CommandName::Shape => {
             let shop = instance(rt, alloc, chosen)?;
-            Ok(shape_of(alloc, shop, &file(rt, alloc, chosen, 1)?)?)
+            Ok(shape_for(alloc, shop, &file(rt, alloc, chosen, 1)?)?)
         }
         CommandName::Check => {
             let shop = instance(rt, alloc, chosen)?;
-            Ok(check_of(alloc, shop, &file(rt, alloc, chosen, 1)?)?)
+            Ok(check_for(alloc, shop, &file(rt, alloc, chosen, 1)?)?)
         }
         CommandName::Plan => {
             let shop = instance(rt, alloc, chosen)?;

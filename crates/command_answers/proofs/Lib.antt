@@ -1,5 +1,3 @@
-pub mod Telling
-pub mod PlanTelling
 pub mod CheckLines
 pub mod Passing
 pub mod SearchLines

@@ -5,16 +5,16 @@ use Rattle.shop_base.specs.Plan.{ShopPlan, PlannedShop}
 use Rattle.plan_text.specs.Documents.{IsPlanText}
 use Rattle.plan_seek.specs.declared.seek_fault.SeekFault.{SeekFault}
 use Rattle.plan_seek.specs.Tasks.{with_order, IsAccepted}
-use Rattle.plan_seek.specs.Turns.{Answers}
+use Rattle.plan_seek.specs.Turns.{Proposals}
 use Rattle.plan_seek.specs.Search.{IsSought, IsSeekFault}
 use Rattle.command_answers.specs.declared.answer.Answer.{Answer}
 use Rattle.command_answers.specs.declared.command_fault.CommandFault.{CommandFault}
 use Rattle.command_answers.specs.declared.command_fault.CommandFault.TheVariants.{Instance, Plan, Memory}
 use Rattle.command_answers.specs.Plans.{TellsAShop, IsOfPlan, IsOfBoth, IsRightPlanFault, IsRightOfBoth}
-use Rattle.command_answers.specs.Instances.{Tells, IsRightFault}
+use Rattle.command_answers.specs.Instances.{Tells, IsRightInstanceFault}
 use Rattle.command_answers.specs.Search.{task_in, IsFound, IsSearchLine, IsSearchAnswer, IsDocumentAnswer, IsNoPlanAnswer, IsSearchFault, IsSearchFaultOfBoth}
 
-module _ (may : Answers) (rounds proposers : ℕ) where
+module _ (may : Proposals) (rounds proposers : ℕ) where
   -- a plan that was found
   found_is : (p v : PlannedShop) → v ≡ with_order (task_in p) v.plan.order → IsAccepted v → IsSought (task_in p) may rounds proposers v.plan.order
       → IsFound may rounds proposers p v.plan
@@ -76,18 +76,18 @@ plan_fault_of_both instance name text Memory tells right = tt
 
 -- and so is the instance's
 instance_fault_of_both : (instance : List ℕ) (name : Option (List ℕ)) (text : List ℕ) (fault : CommandFault)
-    → IsRightFault instance name fault → IsRightOfBoth instance name text fault
+    → IsRightInstanceFault instance name fault → IsRightOfBoth instance name text fault
 instance_fault_of_both instance name text (Instance fault) right = right
 instance_fault_of_both instance name text (Plan fault) right = absurd right
 instance_fault_of_both instance name text Memory right = tt
 
-module _ (may : JobShop → Answers) (rounds proposers : ℕ) (instance : List ℕ) (name : Option (List ℕ)) (text : List ℕ) where
+module _ (may : JobShop → Proposals) (rounds proposers : ℕ) (instance : List ℕ) (name : Option (List ℕ)) (text : List ℕ) where
   -- the instance's fault is passed on
-  pub passed_instance_fault : (answer : Result Answer CommandFault) (fault : CommandFault) → IsRightFault instance name fault
+  pub passed_instance_fault : (answer : Result Answer CommandFault) (fault : CommandFault) → IsRightInstanceFault instance name fault
       → IsErrAnd answer (λ passed. passed ≡ fault) → IfErr answer (IsSearchFaultOfBoth instance name text (λ p. may p.shop) rounds proposers)
   passed_instance_fault (Ok answer) fault right passed = tt
   passed_instance_fault (Err answered) fault right passed =
-      inl (instance_fault_of_both instance name text answered (subst (IsRightFault instance name) (sym passed) right))
+      inl (instance_fault_of_both instance name text answered (subst (IsRightInstanceFault instance name) (sym passed) right))
 
   -- the answer for the shop that the instance tells is the answer for both texts
   pub both_found : (description : List ℕ) (shop : JobShop) (answer : Result Answer CommandFault) → Tells instance name description shop

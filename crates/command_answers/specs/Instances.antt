@@ -1,6 +1,5 @@
 use Rattle.std.specs.Prelude.{◌≡◌, ◌≢◌, ℕ, List, Option, None, Some, Result, Ok, Err}
 use Rattle.shop_base.specs.Shop.{JobShop}
-use Rattle.orlib_read.specs.declared.named.Named.{Named}
 use Rattle.orlib_read.specs.declared.or_fault.OrFault.{OrFault}
 use Rattle.orlib_read.specs.declared.or_fault.OrFault.TheVariants.{Memory as WantOfMemory}
 use Rattle.orlib_read.specs.Instance.{IsInstance, IsInstanceOf}
@@ -14,25 +13,20 @@ Tells text None description shop = IsInstance text description shop
 Tells text (Some name) description shop = IsInstanceOf text name description shop
 
 -- this is what is wrong first with the text: as one instance, or as a collection under a name
-abbrev pub HasFault : List ℕ → Option (List ℕ) → OrFault → Type 0
-HasFault text None fault = IsInstanceFault text fault
-HasFault text (Some name) fault = IsInstanceOfFault text name fault
+abbrev pub IsFirstInstanceFault : List ℕ → Option (List ℕ) → OrFault → Type 0
+IsFirstInstanceFault text None fault = IsInstanceFault text fault
+IsFirstInstanceFault text (Some name) fault = IsInstanceOfFault text name fault
 
--- a reader's fault as a command's
-abbrev pub command_fault_of : OrFault → CommandFault
-command_fault_of WantOfMemory = Memory
-command_fault_of fault = Instance fault
-
--- a reader's answer as a command's
-abbrev pub told_of : Result Named OrFault → Result Named CommandFault
-told_of (Ok named) = Ok named
-told_of (Err fault) = Err (command_fault_of fault)
+-- the fault of a reader of instances as a command's
+abbrev pub instance_command_fault : OrFault → CommandFault
+instance_command_fault WantOfMemory = Memory
+instance_command_fault fault = Instance fault
 
 -- the fault is the text's, or want of memory
-abbrev pub IsRightFault : List ℕ → Option (List ℕ) → CommandFault → Type 0
-IsRightFault text name (Instance fault) = (fault ≢ WantOfMemory) × HasFault text name fault
-IsRightFault text name (Plan fault) = ⊥
-IsRightFault text name Memory = Unit {0}
+abbrev pub IsRightInstanceFault : List ℕ → Option (List ℕ) → CommandFault → Type 0
+IsRightInstanceFault text name (Instance fault) = (fault ≢ WantOfMemory) × IsFirstInstanceFault text name fault
+IsRightInstanceFault text name (Plan fault) = ⊥
+IsRightInstanceFault text name Memory = Unit {0}
 
 -- the answer holds to the property, unless memory ran out
 abbrev pub Holds : {A : Type 0} → Result A CommandFault → (A → Type 0) → Type 0

@@ -3,24 +3,19 @@ use Rattle.shop_base.specs.Shop.{JobShop}
 use Rattle.shop_base.specs.Plan.{ShopPlan, PlannedShop}
 use Rattle.plan_text.specs.declared.plan_fault.PlanFault.{PlanFault}
 use Rattle.plan_text.specs.declared.plan_fault.PlanFault.TheVariants.{Memory as WantOfMemory}
-use Rattle.plan_text.specs.Documents.{IsPlanText, IsFirstFault}
+use Rattle.plan_text.specs.Documents.{IsPlanText, IsFirstPlanFault}
 use Rattle.command_answers.specs.declared.command_fault.CommandFault.{CommandFault}
 use Rattle.command_answers.specs.declared.command_fault.CommandFault.TheVariants.{Instance, Plan, Memory}
-use Rattle.command_answers.specs.Instances.{Tells, IsRightFault}
+use Rattle.command_answers.specs.Instances.{Tells, IsRightInstanceFault}
 
--- the fault of a plan's reader as a command's
+-- the fault of the reader of plans as a command's
 abbrev pub plan_command_fault : PlanFault → CommandFault
 plan_command_fault WantOfMemory = Memory
 plan_command_fault fault = Plan fault
 
--- the answer of a plan's reader as a command's
-abbrev pub read_of : Result ShopPlan PlanFault → Result ShopPlan CommandFault
-read_of (Ok plan) = Ok plan
-read_of (Err fault) = Err (plan_command_fault fault)
-
 -- the fault is the plan text's, or want of memory
 abbrev pub IsRightPlanFault : List ℕ → CommandFault → Type 0
-IsRightPlanFault text (Plan fault) = (fault ≢ WantOfMemory) × IsFirstFault text fault
+IsRightPlanFault text (Plan fault) = (fault ≢ WantOfMemory) × IsFirstPlanFault text fault
 IsRightPlanFault text (Instance fault) = ⊥
 IsRightPlanFault text Memory = Unit {0}
 
@@ -43,7 +38,7 @@ TellsAShop instance name = (description : List ℕ) × (shop : JobShop) × Tells
 
 -- the fault is the instance's, or, where that tells a shop, the plan text's, or want of memory
 abbrev pub IsRightOfBoth : List ℕ → Option (List ℕ) → List ℕ → CommandFault → Type 0
-IsRightOfBoth instance name text (Instance fault) = IsRightFault instance name (Instance fault)
+IsRightOfBoth instance name text (Instance fault) = IsRightInstanceFault instance name (Instance fault)
 IsRightOfBoth instance name text (Plan fault) = TellsAShop instance name × IsRightPlanFault text (Plan fault)
 IsRightOfBoth instance name text Memory = Unit {0}
 

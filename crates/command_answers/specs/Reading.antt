@@ -6,6 +6,6 @@ use Rattle.command_answers.specs.declared.reading.FileFault.{FileFault}
 use Rattle.command_answers.specs.declared.reading.FileFault.TheVariants.{Read, Memory}
 
 -- the fault that the system's error is: want of memory where the error is that, and else that nothing could be read
-pub record IsFaultOf (error : Error) (fault : FileFault) : Type 0 where
+pub record IsFileFaultOf (error : Error) (fault : FileFault) : Type 0 where
   pub memory : error_kind error ≡ OutOfMemory → fault ≡ Memory
   pub read : error_kind error ≢ OutOfMemory → fault ≡ Read

@@ -7,7 +7,7 @@ use Rattle.plan_text.specs.Documents.{IsPlanText}
 use Rattle.plan_seek.specs.declared.seek_fault.SeekFault.{SeekFault}
 use Rattle.plan_seek.specs.declared.seek_fault.SeekFault.TheVariants.{BadNumbers, Exhausted, TooManyRounds, Memory as WantOfMemory}
 use Rattle.plan_seek.specs.Tasks.{PlanTask, with_order, IsAccepted}
-use Rattle.plan_seek.specs.Turns.{Answers}
+use Rattle.plan_seek.specs.Turns.{Proposals}
 use Rattle.plan_seek.specs.Search.{IsSought, IsSeekFault}
 use Rattle.command_answers.specs.declared.answer.Answer.{Answer}
 use Rattle.command_answers.specs.declared.command_fault.CommandFault.{CommandFault}
@@ -18,8 +18,8 @@ use Rattle.command_answers.specs.Plans.{TellBoth, IsRightPlanFault, IsRightOfBot
 abbrev pub task_in : PlannedShop → PlanTask
 task_in p = record { shop = p.shop; release = p.plan.release; budget = p.plan.budget; clean = p.plan.clean }
 
--- a plan that the search allows: the first answer that is accepted, or else the serial plan
-pub record IsFound (may : Answers) (rounds proposers : ℕ) (p : PlannedShop) (found : ShopPlan) : Type 0 where
+-- a plan that the search allows: the first proposal that is accepted, or else the serial plan
+pub record IsFound (may : Proposals) (rounds proposers : ℕ) (p : PlannedShop) (found : ShopPlan) : Type 0 where
   pub same : record { shop = p.shop; plan = found } ≡ with_order (task_in p) found.order
   pub accepted : IsAccepted (record { shop = p.shop; plan = found })
   pub sought : IsSought (task_in p) may rounds proposers found.order
@@ -31,7 +31,7 @@ pub record IsDocumentOf (found : ShopPlan) (answer : Answer) : Type 0 where
   pub good : answer.status ≡ 0
 
 -- the text of a plan that the search allows
-pub record IsFoundText (may : Answers) (rounds proposers : ℕ) (p : PlannedShop) (answer : Answer) : Type 0 where
+pub record IsFoundText (may : Proposals) (rounds proposers : ℕ) (p : PlannedShop) (answer : Answer) : Type 0 where
   pub plan : ShopPlan
   pub found : IsFound may rounds proposers p plan
   pub text : IsDocumentOf plan answer
@@ -57,23 +57,23 @@ IsNoPlanAnswer fault (Err (Plan other)) = ⊥
 IsNoPlanAnswer fault (Err (Instance other)) = ⊥
 
 -- the line of a search that the search allows to end without a plan
-pub record IsNoPlanText (may : Answers) (rounds proposers : ℕ) (p : PlannedShop) (answer : Answer) : Type 0 where
+pub record IsNoPlanText (may : Proposals) (rounds proposers : ℕ) (p : PlannedShop) (answer : Answer) : Type 0 where
   pub fault : SeekFault
   pub is : IsSeekFault (task_in p) may rounds proposers fault
   pub line : IsNoPlanLine fault answer
 
 -- what is printed of the search
-abbrev pub IsSearchLine : Answers → ℕ → ℕ → PlannedShop → Answer → Type 0
+abbrev pub IsSearchLine : Proposals → ℕ → ℕ → PlannedShop → Answer → Type 0
 IsSearchLine may rounds proposers p answer = IsFoundText may rounds proposers p answer ⊎ IsNoPlanText may rounds proposers p answer
 
 -- a plan that the search allows has a text that isn't read as this plan
-pub record IsFoundUnreadable (may : Answers) (rounds proposers : ℕ) (p : PlannedShop) : Type 0 where
+pub record IsFoundUnreadable (may : Proposals) (rounds proposers : ℕ) (p : PlannedShop) : Type 0 where
   pub plan : ShopPlan
   pub found : IsFound may rounds proposers p plan
   pub unreadable : IsPlanText (plan_lines plan) plan → ⊥
 
 -- what is answered of the search: its line, or that the text of the plan that was found isn't read as that plan, or want of memory
-abbrev pub IsSearchAnswer : Answers → ℕ → ℕ → PlannedShop → Result Answer CommandFault → Type 0
+abbrev pub IsSearchAnswer : Proposals → ℕ → ℕ → PlannedShop → Result Answer CommandFault → Type 0
 IsSearchAnswer may rounds proposers p (Ok answer) = IsSearchLine may rounds proposers p answer
 IsSearchAnswer may rounds proposers p (Err Memory) = Unit {0}
 IsSearchAnswer may rounds proposers p (Err (Plan fault)) = (fault ≡ NotReadBack) × IsFoundUnreadable may rounds proposers p
@@ -87,23 +87,23 @@ IsDocumentAnswer found (Err (Plan fault)) = (fault ≡ NotReadBack) × (IsPlanTe
 IsDocumentAnswer found (Err (Instance fault)) = ⊥
 
 -- the text tells a plan for this shop, and one that was found for its numbers has a text that isn't read as it
-pub record IsUnreadableFor (shop : JobShop) (text : List ℕ) (may : Answers) (rounds proposers : ℕ) : Type 0 where
+pub record IsUnreadableFor (shop : JobShop) (text : List ℕ) (may : Proposals) (rounds proposers : ℕ) : Type 0 where
   pub plan : ShopPlan
   pub tells : IsPlanText text plan
   pub found : IsFoundUnreadable may rounds proposers (record { shop = shop; plan = plan })
 
 -- the fault is the plan text's, or that of the text of the plan that was found, or want of memory
-abbrev pub IsSearchFault : JobShop → List ℕ → Answers → ℕ → ℕ → CommandFault → Type 0
+abbrev pub IsSearchFault : JobShop → List ℕ → Proposals → ℕ → ℕ → CommandFault → Type 0
 IsSearchFault shop text may rounds proposers fault =
     IsRightPlanFault text fault ⊎ ((fault ≡ Plan NotReadBack) × IsUnreadableFor shop text may rounds proposers)
 
 -- the two texts tell a shop and a plan, and a plan that was found for its numbers has a text that isn't read as it
-pub record IsUnreadableForBoth (instance : List ℕ) (name : Option (List ℕ)) (text : List ℕ) (may : PlannedShop → Answers) (rounds proposers : ℕ) : Type 0 where
+pub record IsUnreadableForBoth (instance : List ℕ) (name : Option (List ℕ)) (text : List ℕ) (may : PlannedShop → Proposals) (rounds proposers : ℕ) : Type 0 where
   pub planned : PlannedShop
   pub tell : TellBoth instance name text planned
   pub found : IsFoundUnreadable (may planned) rounds proposers planned
 
 -- the fault is the instance's, or the plan text's, or that of the text of the plan that was found, or want of memory
-abbrev pub IsSearchFaultOfBoth : List ℕ → Option (List ℕ) → List ℕ → (PlannedShop → Answers) → ℕ → ℕ → CommandFault → Type 0
+abbrev pub IsSearchFaultOfBoth : List ℕ → Option (List ℕ) → List ℕ → (PlannedShop → Proposals) → ℕ → ℕ → CommandFault → Type 0
 IsSearchFaultOfBoth instance name text may rounds proposers fault =
     IsRightOfBoth instance name text fault ⊎ ((fault ≡ Plan NotReadBack) × IsUnreadableForBoth instance name text may rounds proposers)

@@ -5,8 +5,8 @@ ghost use Rattle.std.specs.Option.{option_copied};
 ghost use Rattle.shop_base.specs.Plan.{ShopPlan, PlannedShop};
 ghost use Rattle.orlib_read.specs.declared.or_fault.OrFault.{OrFault};
 ghost use Rattle.plan_text.specs.declared.plan_fault.PlanFault.{PlanFault};
-ghost use Rattle.plan_text.specs.Documents.{IsPlanText, IsFirstFault};
-ghost use Rattle.command_answers.specs.Instances.{HasFault, Holds, IsInstanceRefusal};
+ghost use Rattle.plan_text.specs.Documents.{IsPlanText, IsFirstPlanFault};
+ghost use Rattle.command_answers.specs.Instances.{IsFirstInstanceFault, Holds, IsInstanceRefusal};
 ghost use Rattle.command_answers.specs.Plans.{TellBoth, TellsAShop, IsRightOfBoth, IsRightPlanFault, IsPlanRefusal, IsOfPlan, IsOfBoth};
 ghost use Rattle.command_answers.specs.AuditLines.{IsAuditLine, IsLogLine, IsToldFault, IsFaultLine, kept_line, end_words};
 
@@ -32,19 +32,19 @@ pub fn audit_answer(
     ensures found { IfOk result (IsOfBoth instance.now (option_copied name.entry) plan.now (IsAuditLine log.now)) }
     ensures only { (p : PlannedShop) → TellBoth instance.now (option_copied name.entry) plan.now p → Holds result (IsAuditLine log.now p) }
     ensures fault { IfErr result (IsRightOfBoth instance.now (option_copied name.entry) plan.now) }
-    ensures first { (fault : OrFault) → HasFault instance.now (option_copied name.entry) fault → IsInstanceRefusal result fault }
-    ensures second { (fault : PlanFault) → TellsAShop instance.now (option_copied name.entry) → IsFirstFault plan.now fault → IsPlanRefusal result fault }
+    ensures first { (fault : OrFault) → IsFirstInstanceFault instance.now (option_copied name.entry) fault → IsInstanceRefusal result fault }
+    ensures second { (fault : PlanFault) → TellsAShop instance.now (option_copied name.entry) → IsFirstPlanFault plan.now fault → IsPlanRefusal result fault }
 {
     let named = load_instance(alloc, instance, name)?;
-    audit_of(alloc, named.shop, plan, log)
+    audit_for(alloc, named.shop, plan, log)
 }
 
 /// Whether a log tells a run of a plan for a shop.
-fn audit_of(alloc: Global, shop: Shop, plan: &[u8], log: &[u8]) -> Result<Answer, CommandFault>
+fn audit_for(alloc: Global, shop: Shop, plan: &[u8], log: &[u8]) -> Result<Answer, CommandFault>
     ensures found { IfOk result (IsOfPlan shop plan.now (IsAuditLine log.now)) }
     ensures only { (told : ShopPlan) → IsPlanText plan.now told → Holds result (IsAuditLine log.now (record { shop = shop; plan = told })) }
     ensures fault { IfErr result (IsRightPlanFault plan.now) }
-    ensures first { (fault : PlanFault) → IsFirstFault plan.now fault → IsPlanRefusal result fault }
+    ensures first { (fault : PlanFault) → IsFirstPlanFault plan.now fault → IsPlanRefusal result fault }
 {
     let plan = load_plan(alloc, plan)?;
     Ok(audit_line(alloc, shop, plan, log)?)

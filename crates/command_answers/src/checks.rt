@@ -6,9 +6,9 @@ ghost use Rattle.shop_base.specs.Plan.{ShopPlan, PlannedShop, jobs};
 ghost use Rattle.shop_base.specs.Graph.{leaving};
 ghost use Rattle.orlib_read.specs.declared.or_fault.OrFault.{OrFault};
 ghost use Rattle.plan_text.specs.declared.plan_fault.PlanFault.{PlanFault};
-ghost use Rattle.plan_text.specs.Documents.{IsPlanText, IsFirstFault};
+ghost use Rattle.plan_text.specs.Documents.{IsPlanText, IsFirstPlanFault};
 ghost use Rattle.plan_verifier.specs.Accepted.{kept_at};
-ghost use Rattle.command_answers.specs.Instances.{HasFault, Holds, IsInstanceRefusal};
+ghost use Rattle.command_answers.specs.Instances.{IsFirstInstanceFault, Holds, IsInstanceRefusal};
 ghost use Rattle.command_answers.specs.Plans.{TellBoth, TellsAShop, IsRightOfBoth, IsRightPlanFault, IsPlanRefusal, IsOfPlan, IsOfBoth};
 ghost use Rattle.command_answers.specs.Checks.{IsCheckLine, IsAcceptedLine, IsLineOf, node_words, moment_words, leavings_of, cycle_line, late_line};
 
@@ -34,19 +34,19 @@ pub fn check_answer(
     ensures found { IfOk result (IsOfBoth instance.now (option_copied name.entry) plan.now IsCheckLine) }
     ensures only { (p : PlannedShop) → TellBoth instance.now (option_copied name.entry) plan.now p → Holds result (IsCheckLine p) }
     ensures fault { IfErr result (IsRightOfBoth instance.now (option_copied name.entry) plan.now) }
-    ensures first { (fault : OrFault) → HasFault instance.now (option_copied name.entry) fault → IsInstanceRefusal result fault }
-    ensures second { (fault : PlanFault) → TellsAShop instance.now (option_copied name.entry) → IsFirstFault plan.now fault → IsPlanRefusal result fault }
+    ensures first { (fault : OrFault) → IsFirstInstanceFault instance.now (option_copied name.entry) fault → IsInstanceRefusal result fault }
+    ensures second { (fault : PlanFault) → TellsAShop instance.now (option_copied name.entry) → IsFirstPlanFault plan.now fault → IsPlanRefusal result fault }
 {
     let named = load_instance(alloc, instance, name)?;
-    check_of(alloc, named.shop, plan)
+    check_for(alloc, named.shop, plan)
 }
 
 /// The verdict on a plan for a shop.
-pub fn check_of(alloc: Global, shop: Shop, plan: &[u8]) -> Result<Answer, CommandFault>
+pub fn check_for(alloc: Global, shop: Shop, plan: &[u8]) -> Result<Answer, CommandFault>
     ensures found { IfOk result (IsOfPlan shop plan.now IsCheckLine) }
     ensures only { (told : ShopPlan) → IsPlanText plan.now told → Holds result (IsCheckLine (record { shop = shop; plan = told })) }
     ensures fault { IfErr result (IsRightPlanFault plan.now) }
-    ensures first { (fault : PlanFault) → IsFirstFault plan.now fault → IsPlanRefusal result fault }
+    ensures first { (fault : PlanFault) → IsFirstPlanFault plan.now fault → IsPlanRefusal result fault }
 {
     let loaded = load_for(alloc, shop, plan)?;
     Ok(loaded_answer(alloc, &loaded)?)

@@ -31,6 +31,34 @@ impl From<AllocError> for CommandFault {
     }
 }
 
+impl From<OrFault> for CommandFault {
+    ghost use Rattle.std.specs.Prelude.{◌≡◌};
+    ghost use Rattle.command_answers.specs.Instances.{instance_command_fault};
+
+    ghost from_gives = { λ told fault. fault ≡ instance_command_fault told };
+
+    fn from(told: OrFault) -> CommandFault {
+        match told {
+            OrFault::Memory => CommandFault::Memory,
+            _ => CommandFault::Instance(told),
+        }
+    }
+}
+
+impl From<PlanFault> for CommandFault {
+    ghost use Rattle.std.specs.Prelude.{◌≡◌};
+    ghost use Rattle.command_answers.specs.Plans.{plan_command_fault};
+
+    ghost from_gives = { λ told fault. fault ≡ plan_command_fault told };
+
+    fn from(told: PlanFault) -> CommandFault {
+        match told {
+            PlanFault::Memory => CommandFault::Memory,
+            _ => CommandFault::Plan(told),
+        }
+    }
+}
+
 impl CommandFault {
     /// The status that the program ends with at this fault.
     pub fn status(&self) -> u8

@@ -5,9 +5,9 @@ ghost use Rattle.std.specs.Option.{option_copied};
 ghost use Rattle.shop_base.specs.Plan.{ShopPlan, PlannedShop, machines};
 ghost use Rattle.orlib_read.specs.declared.or_fault.OrFault.{OrFault};
 ghost use Rattle.plan_text.specs.declared.plan_fault.PlanFault.{PlanFault};
-ghost use Rattle.plan_text.specs.Documents.{IsPlanText, IsFirstFault};
+ghost use Rattle.plan_text.specs.Documents.{IsPlanText, IsFirstPlanFault};
 ghost use Rattle.run_log.specs.GanttText.{gantt_text};
-ghost use Rattle.command_answers.specs.Instances.{HasFault, Holds, IsInstanceRefusal};
+ghost use Rattle.command_answers.specs.Instances.{IsFirstInstanceFault, Holds, IsInstanceRefusal};
 ghost use Rattle.command_answers.specs.Plans.{TellBoth, TellsAShop, IsRightOfBoth, IsRightPlanFault, IsPlanRefusal, IsOfPlan, IsOfBoth};
 ghost use Rattle.command_answers.specs.GanttLines.{IsGanttAnswer, IsDrawnLog};
 
@@ -33,19 +33,19 @@ pub fn gantt_answer(
     ensures found { IfOk result (IsOfBoth instance.now (option_copied name.entry) plan.now (IsGanttAnswer log.now)) }
     ensures only { (p : PlannedShop) → TellBoth instance.now (option_copied name.entry) plan.now p → Holds result (IsGanttAnswer log.now p) }
     ensures fault { IfErr result (IsRightOfBoth instance.now (option_copied name.entry) plan.now) }
-    ensures first { (fault : OrFault) → HasFault instance.now (option_copied name.entry) fault → IsInstanceRefusal result fault }
-    ensures second { (fault : PlanFault) → TellsAShop instance.now (option_copied name.entry) → IsFirstFault plan.now fault → IsPlanRefusal result fault }
+    ensures first { (fault : OrFault) → IsFirstInstanceFault instance.now (option_copied name.entry) fault → IsInstanceRefusal result fault }
+    ensures second { (fault : PlanFault) → TellsAShop instance.now (option_copied name.entry) → IsFirstPlanFault plan.now fault → IsPlanRefusal result fault }
 {
     let named = load_instance(alloc, instance, name)?;
-    gantt_of(alloc, named.shop, plan, log)
+    gantt_for(alloc, named.shop, plan, log)
 }
 
 /// The Gantt text of a log of a plan for a shop.
-fn gantt_of(alloc: Global, shop: Shop, plan: &[u8], log: &[u8]) -> Result<Answer, CommandFault>
+fn gantt_for(alloc: Global, shop: Shop, plan: &[u8], log: &[u8]) -> Result<Answer, CommandFault>
     ensures found { IfOk result (IsOfPlan shop plan.now (IsGanttAnswer log.now)) }
     ensures only { (told : ShopPlan) → IsPlanText plan.now told → Holds result (IsGanttAnswer log.now (record { shop = shop; plan = told })) }
     ensures fault { IfErr result (IsRightPlanFault plan.now) }
-    ensures first { (fault : PlanFault) → IsFirstFault plan.now fault → IsPlanRefusal result fault }
+    ensures first { (fault : PlanFault) → IsFirstPlanFault plan.now fault → IsPlanRefusal result fault }
 {
     let plan = load_plan(alloc, plan)?;
     Ok(gantt_line(alloc, shop, plan, log)?)

@@ -5,7 +5,7 @@ ghost use Rattle.std.specs.Option.{option_copied};
 ghost use Rattle.shop_base.specs.Shop.{JobShop};
 ghost use Rattle.orlib_read.specs.declared.or_fault.OrFault.{OrFault};
 ghost use Rattle.command_answers.specs.Facts.{facts_line, AreFacts, AreToldFacts};
-ghost use Rattle.command_answers.specs.Instances.{Tells, HasFault, Holds, IsRightFault, IsInstanceRefusal};
+ghost use Rattle.command_answers.specs.Instances.{Tells, IsFirstInstanceFault, Holds, IsRightInstanceFault, IsInstanceRefusal};
 
 use crate::answer::{Answer, GOOD};
 use crate::command_fault::CommandFault;
@@ -25,8 +25,8 @@ pub fn facts_answer(
     ensures found { IfOk result (AreToldFacts instance.now (option_copied name.entry)) }
     ensures only { (description : List ℕ) (shop : JobShop) → Tells instance.now (option_copied name.entry) description shop
         → Holds result (λ answer. AreFacts answer shop) }
-    ensures fault { IfErr result (IsRightFault instance.now (option_copied name.entry)) }
-    ensures first { (fault : OrFault) → HasFault instance.now (option_copied name.entry) fault → IsInstanceRefusal result fault }
+    ensures fault { IfErr result (IsRightInstanceFault instance.now (option_copied name.entry)) }
+    ensures first { (fault : OrFault) → IsFirstInstanceFault instance.now (option_copied name.entry) fault → IsInstanceRefusal result fault }
 {
     let named = load_instance(alloc, instance, name)?;
     let text = facts_text(alloc, &named.shop)?;

@@ -5,10 +5,10 @@ ghost use Rattle.std.specs.Option.{option_copied};
 ghost use Rattle.shop_base.specs.Shop.{JobShop};
 ghost use Rattle.orlib_read.specs.declared.or_fault.OrFault.{OrFault};
 ghost use Rattle.orlib_read.specs.declared.named.Named.{Named};
-ghost use Rattle.command_answers.specs.Instances.{Tells, HasFault, Holds, IsRightFault, IsInstanceRefusal, told_of};
+ghost use Rattle.command_answers.specs.Instances.{Tells, IsFirstInstanceFault, Holds, IsRightInstanceFault, IsInstanceRefusal};
 
 use crate::command_fault::CommandFault;
-use orlib_read::{Named, OrFault, read_from_collection, read_instance};
+use orlib_read::{Named, read_from_collection, read_instance};
 use std::alloc::Global;
 
 /// The instance that the text tells.
@@ -20,21 +20,11 @@ pub fn load_instance(
     ensures found { IfOk result (λ named. Tells instance.now (option_copied name.entry) named.description.items named.shop) }
     ensures only { (description : List ℕ) (shop : JobShop) → Tells instance.now (option_copied name.entry) description shop
         → Holds result (λ named. (named.description.items ≡ description) × (named.shop ≡ shop)) }
-    ensures fault { IfErr result (IsRightFault instance.now (option_copied name.entry)) }
-    ensures first { (fault : OrFault) → HasFault instance.now (option_copied name.entry) fault → IsInstanceRefusal result fault }
+    ensures fault { IfErr result (IsRightInstanceFault instance.now (option_copied name.entry)) }
+    ensures first { (fault : OrFault) → IsFirstInstanceFault instance.now (option_copied name.entry) fault → IsInstanceRefusal result fault }
 {
     match name {
-        Some(name) => told(read_from_collection(alloc, instance, name)),
-        None => told(read_instance(alloc, instance)),
-    }
-}
-
-fn told(read: Result<Named, OrFault>) -> Result<Named, CommandFault>
-    ensures { result ≡ told_of read }
-{
-    match read {
-        Ok(named) => Ok(named),
-        Err(OrFault::Memory) => Err(CommandFault::Memory),
-        Err(fault) => Err(CommandFault::Instance(fault)),
+        Some(name) => Ok(read_from_collection(alloc, instance, name)?),
+        None => Ok(read_instance(alloc, instance)?),
     }
 }

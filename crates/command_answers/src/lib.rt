@@ -18,7 +18,7 @@ mod shapes;
 
 pub use answer::{Answer, GOOD, REFUSED};
 pub use audits::{audit_answer, log_answer};
-pub use checks::{check_answer, check_of, loaded_answer};
+pub use checks::{check_answer, check_for, loaded_answer};
 pub use command_fault::CommandFault;
 pub use drawings::{drawn_answer, gantt_answer};
 pub use facts::facts_answer;
@@ -28,4 +28,4 @@ pub use numbered::numbered_answer;
 pub use plans::load_plan;
 pub use reading::{FileFault, read_whole};
 pub use search::{plan_answer, plan_for};
-pub use shapes::{not_shaped_answer, shape_answer, shape_of};
+pub use shapes::{not_shaped_answer, shape_answer, shape_for};

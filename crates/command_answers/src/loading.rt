@@ -5,8 +5,8 @@ ghost use Rattle.std.specs.Option.{option_copied};
 ghost use Rattle.shop_base.specs.Plan.{ShopPlan, PlannedShop, IsWellShaped};
 ghost use Rattle.orlib_read.specs.declared.or_fault.OrFault.{OrFault};
 ghost use Rattle.plan_text.specs.declared.plan_fault.PlanFault.{PlanFault};
-ghost use Rattle.plan_text.specs.Documents.{IsPlanText, IsFirstFault};
-ghost use Rattle.command_answers.specs.Instances.{HasFault, Holds, IsInstanceRefusal};
+ghost use Rattle.plan_text.specs.Documents.{IsPlanText, IsFirstPlanFault};
+ghost use Rattle.command_answers.specs.Instances.{IsFirstInstanceFault, Holds, IsInstanceRefusal};
 ghost use Rattle.command_answers.specs.Plans.{TellBoth, TellsAShop, IsRightOfBoth, IsRightPlanFault, IsPlanRefusal, IsOfPlan, IsOfBoth};
 ghost use Rattle.command_answers.specs.Checks.{IsLoaded};
 
@@ -39,8 +39,8 @@ pub fn load(
     ensures found { IfOk result (IsOfBoth instance.now (option_copied name.entry) plan.now IsLoaded) }
     ensures only { (p : PlannedShop) → TellBoth instance.now (option_copied name.entry) plan.now p → Holds result (IsLoaded p) }
     ensures fault { IfErr result (IsRightOfBoth instance.now (option_copied name.entry) plan.now) }
-    ensures first { (fault : OrFault) → HasFault instance.now (option_copied name.entry) fault → IsInstanceRefusal result fault }
-    ensures second { (fault : PlanFault) → TellsAShop instance.now (option_copied name.entry) → IsFirstFault plan.now fault → IsPlanRefusal result fault }
+    ensures first { (fault : OrFault) → IsFirstInstanceFault instance.now (option_copied name.entry) fault → IsInstanceRefusal result fault }
+    ensures second { (fault : PlanFault) → TellsAShop instance.now (option_copied name.entry) → IsFirstPlanFault plan.now fault → IsPlanRefusal result fault }
 {
     let named = load_instance(alloc, instance, name)?;
     load_for(alloc, named.shop, plan)
@@ -51,7 +51,7 @@ pub fn load_for(alloc: Global, shop: Shop, plan: &[u8]) -> Result<Loaded, Comman
     ensures found { IfOk result (IsOfPlan shop plan.now IsLoaded) }
     ensures only { (told : ShopPlan) → IsPlanText plan.now told → Holds result (IsLoaded (record { shop = shop; plan = told })) }
     ensures fault { IfErr result (IsRightPlanFault plan.now) }
-    ensures first { (fault : PlanFault) → IsFirstFault plan.now fault → IsPlanRefusal result fault }
+    ensures first { (fault : PlanFault) → IsFirstPlanFault plan.now fault → IsPlanRefusal result fault }
 {
     let plan = load_plan(alloc, plan)?;
     Ok(judged(alloc, shop, plan)?)

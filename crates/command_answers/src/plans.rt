@@ -3,12 +3,12 @@
 ghost use Rattle.std.specs.Prelude.{◌≡◌, IfOk, IfErr};
 ghost use Rattle.shop_base.specs.Plan.{ShopPlan};
 ghost use Rattle.plan_text.specs.declared.plan_fault.PlanFault.{PlanFault};
-ghost use Rattle.plan_text.specs.Documents.{IsPlanText, IsFirstFault};
+ghost use Rattle.plan_text.specs.Documents.{IsPlanText, IsFirstPlanFault};
 ghost use Rattle.command_answers.specs.Instances.{Holds};
-ghost use Rattle.command_answers.specs.Plans.{IsRightPlanFault, IsPlanRefusal, read_of};
+ghost use Rattle.command_answers.specs.Plans.{IsRightPlanFault, IsPlanRefusal};
 
 use crate::command_fault::CommandFault;
-use plan_text::{PlanFault, read_plan};
+use plan_text::read_plan;
 use shop_base::Plan;
 use std::alloc::Global;
 
@@ -17,17 +17,7 @@ pub fn load_plan(alloc: Global, text: &[u8]) -> Result<Plan, CommandFault>
     ensures found { IfOk result (IsPlanText text.now) }
     ensures only { (plan : ShopPlan) → IsPlanText text.now plan → Holds result (λ read. read ≡ plan) }
     ensures fault { IfErr result (IsRightPlanFault text.now) }
-    ensures first { (fault : PlanFault) → IsFirstFault text.now fault → IsPlanRefusal result fault }
+    ensures first { (fault : PlanFault) → IsFirstPlanFault text.now fault → IsPlanRefusal result fault }
 {
-    answered(read_plan(alloc, text))
-}
-
-fn answered(read: Result<Plan, PlanFault>) -> Result<Plan, CommandFault>
-    ensures { result ≡ read_of read }
-{
-    match read {
-        Ok(plan) => Ok(plan),
-        Err(PlanFault::Memory) => Err(CommandFault::Memory),
-        Err(fault) => Err(CommandFault::Plan(fault)),
-    }
+    Ok(read_plan(alloc, text)?)
 }

@@ -1,7 +1,7 @@
 //! Files and the standard input, read whole.
 
 ghost use Rattle.std.specs.Prelude.{◌≡◌, ◌<◌, ◌≤◌, IfOk, IfErr, IfSome, IsErrAnd, length, vec_len};
-ghost use Rattle.command_answers.specs.Reading.{IsFaultOf};
+ghost use Rattle.command_answers.specs.Reading.{IsFileFaultOf};
 
 use std::alloc::Global;
 use std::io::{self, ErrorKind, Read};
@@ -20,9 +20,9 @@ pub enum FileFault {
 
 impl From<io::Error> for FileFault {
     ghost use Rattle.std.specs.Prelude.{◌≡◌};
-    ghost use Rattle.command_answers.specs.Reading.{IsFaultOf};
+    ghost use Rattle.command_answers.specs.Reading.{IsFileFaultOf};
 
-    ghost from_gives = { λ error fault. IsFaultOf error fault };
+    ghost from_gives = { λ error fault. IsFileFaultOf error fault };
 
     fn from(error: io::Error) -> FileFault {
         match error.kind() {
@@ -48,7 +48,7 @@ pub fn read_whole<R: Read + Drop>(alloc: Global, reader: R) -> Result<Vec<u8>, F
 fn whole_of(read: io::Result<usize>, bytes: Vec<u8>) -> Result<Vec<u8>, FileFault>
     ensures within { IfOk read (λ _. vec_len bytes ≤ 67108864 → result ≡ Ok bytes) }
     ensures beyond { IfOk read (λ _. 67108864 < vec_len bytes → result ≡ Err FileFault.TooLong) }
-    ensures fault { IfErr read (λ error. IsErrAnd result (IsFaultOf error)) }
+    ensures fault { IfErr read (λ error. IsErrAnd result (IsFileFaultOf error)) }
 {
     match read {
         Ok(_) if bytes.len() > MAX_INPUT => Err(FileFault::TooLong),

@@ -5,11 +5,11 @@ ghost use Rattle.std.specs.Option.{option_copied};
 ghost use Rattle.shop_base.specs.Plan.{ShopPlan, PlannedShop};
 ghost use Rattle.orlib_read.specs.declared.or_fault.OrFault.{OrFault};
 ghost use Rattle.plan_text.specs.declared.plan_fault.PlanFault.{PlanFault};
-ghost use Rattle.plan_text.specs.Documents.{IsPlanText, IsFirstFault};
+ghost use Rattle.plan_text.specs.Documents.{IsPlanText, IsFirstPlanFault};
 ghost use Rattle.plan_seek.specs.Tasks.{with_order, IsAccepted};
-ghost use Rattle.plan_seek.specs.Turns.{MayAnswer};
+ghost use Rattle.plan_seek.specs.Turns.{MayPropose};
 ghost use Rattle.plan_seek.specs.Search.{IsSought, IsSeekFault};
-ghost use Rattle.command_answers.specs.Instances.{HasFault, IsInstanceRefusal};
+ghost use Rattle.command_answers.specs.Instances.{IsFirstInstanceFault, IsInstanceRefusal};
 ghost use Rattle.command_answers.specs.Plans.{TellBoth, TellsAShop, IsPlanRefusal, IsOfPlan, IsOfBoth};
 ghost use Rattle.command_answers.specs.Search.{task_in, IsSearchLine, IsSearchAnswer, IsSearchFault, IsSearchFaultOfBoth, IsDocumentAnswer, IsNoPlanAnswer, IsBadNumbersLine};
 
@@ -19,13 +19,13 @@ use crate::instances::load_instance;
 use crate::plans::load_plan;
 use crate::print::end_line;
 use plan_seek::{NotFound, Proposer, SeekFault, seek};
-use plan_text::{PlanFault, plan_document};
+use plan_text::plan_document;
 use plan_verifier::Verified;
 use shop_base::{Plan, ShapeFault, Shop};
 use std::alloc::{AllocError, Global};
 
 /// A plan with the releases, budgets and cleaning times of this one that is accepted, as its text: the first
-/// answer of a proposer that is accepted, or else the serial plan. The orders of the given plan are read and
+/// proposal that is accepted, or else the serial plan. The orders of the given plan are read and
 /// not used. Without a name the first text is one instance, else a collection with an instance of this name.
 pub fn plan_answer(
     alloc: Global,
@@ -36,13 +36,13 @@ pub fn plan_answer(
     rounds: u32,
 ) -> Result<Answer, CommandFault>
     ensures found { IfOk result (IsOfBoth instance.now (option_copied name.entry) plan.now
-        (λ p. IsSearchLine (MayAnswer (λ b. may b p.shop) proposers.now) rounds (length proposers.now) p)) }
+        (λ p. IsSearchLine (MayPropose (λ b. may b p.shop) proposers.now) rounds (length proposers.now) p)) }
     ensures only { (p : PlannedShop) → TellBoth instance.now (option_copied name.entry) plan.now p →
-        IsSearchAnswer (MayAnswer (λ b. may b p.shop) proposers.now) rounds (length proposers.now) p result }
+        IsSearchAnswer (MayPropose (λ b. may b p.shop) proposers.now) rounds (length proposers.now) p result }
     ensures fault { IfErr result (IsSearchFaultOfBoth instance.now (option_copied name.entry) plan.now
-        (λ p. MayAnswer (λ b. may b p.shop) proposers.now) rounds (length proposers.now)) }
-    ensures first { (fault : OrFault) → HasFault instance.now (option_copied name.entry) fault → IsInstanceRefusal result fault }
-    ensures second { (fault : PlanFault) → TellsAShop instance.now (option_copied name.entry) → IsFirstFault plan.now fault → IsPlanRefusal result fault }
+        (λ p. MayPropose (λ b. may b p.shop) proposers.now) rounds (length proposers.now)) }
+    ensures first { (fault : OrFault) → IsFirstInstanceFault instance.now (option_copied name.entry) fault → IsInstanceRefusal result fault }
+    ensures second { (fault : PlanFault) → TellsAShop instance.now (option_copied name.entry) → IsFirstPlanFault plan.now fault → IsPlanRefusal result fault }
 {
     let named = load_instance(alloc, instance, name)?;
     plan_for(alloc, named.shop, plan, proposers, rounds)
@@ -56,11 +56,11 @@ pub fn plan_for(
     proposers: &[Box<dyn Proposer>],
     rounds: u32,
 ) -> Result<Answer, CommandFault>
-    ensures found { IfOk result (IsOfPlan shop plan.now (IsSearchLine (MayAnswer (λ b. may b shop) proposers.now) rounds (length proposers.now))) }
+    ensures found { IfOk result (IsOfPlan shop plan.now (IsSearchLine (MayPropose (λ b. may b shop) proposers.now) rounds (length proposers.now))) }
     ensures only { (told : ShopPlan) → IsPlanText plan.now told →
-        IsSearchAnswer (MayAnswer (λ b. may b shop) proposers.now) rounds (length proposers.now) (record { shop = shop; plan = told }) result }
-    ensures fault { IfErr result (IsSearchFault shop plan.now (MayAnswer (λ b. may b shop) proposers.now) rounds (length proposers.now)) }
-    ensures first { (fault : PlanFault) → IsFirstFault plan.now fault → IsPlanRefusal result fault }
+        IsSearchAnswer (MayPropose (λ b. may b shop) proposers.now) rounds (length proposers.now) (record { shop = shop; plan = told }) result }
+    ensures fault { IfErr result (IsSearchFault shop plan.now (MayPropose (λ b. may b shop) proposers.now) rounds (length proposers.now)) }
+    ensures first { (fault : PlanFault) → IsFirstPlanFault plan.now fault → IsPlanRefusal result fault }
 {
     let plan = load_plan(alloc, plan)?;
     search_answer(alloc, shop, plan, proposers, rounds)
@@ -74,7 +74,7 @@ fn search_answer(
     proposers: &[Box<dyn Proposer>],
     rounds: u32,
 ) -> Result<Answer, CommandFault>
-    ensures { IsSearchAnswer (MayAnswer (λ b. may b shop) proposers.now) rounds (length proposers.now) (record { shop = shop; plan = plan }) result }
+    ensures { IsSearchAnswer (MayPropose (λ b. may b shop) proposers.now) rounds (length proposers.now) (record { shop = shop; plan = plan }) result }
 {
     match seek_for(alloc, shop, plan, proposers, rounds) {
         Ok(verified) => document_answer(alloc, &verified),
@@ -93,8 +93,8 @@ fn seek_for(
     ensures same { IfOk result (λ verified. verified.planned ≡ with_order (task_in (record { shop = shop; plan = plan })) verified.planned.plan.order) }
     ensures accepted { IfOk result (λ verified. IsAccepted verified.planned) }
     ensures sought { IfOk result (λ verified.
-        IsSought (task_in (record { shop = shop; plan = plan })) (MayAnswer (λ b. may b shop) proposers.now) rounds (length proposers.now) verified.planned.plan.order) }
-    ensures refused { IfErr result (IsSeekFault (task_in (record { shop = shop; plan = plan })) (MayAnswer (λ b. may b shop) proposers.now) rounds (length proposers.now)) }
+        IsSought (task_in (record { shop = shop; plan = plan })) (MayPropose (λ b. may b shop) proposers.now) rounds (length proposers.now) verified.planned.plan.order) }
+    ensures refused { IfErr result (IsSeekFault (task_in (record { shop = shop; plan = plan })) (MayPropose (λ b. may b shop) proposers.now) rounds (length proposers.now)) }
 {
     let Plan {
         release,
@@ -119,14 +119,11 @@ fn reason(refused: NotFound) -> SeekFault
 fn document_answer(alloc: Global, verified: &Verified) -> Result<Answer, CommandFault>
     ensures { IsDocumentAnswer verified.now.planned.plan result }
 {
-    match plan_document(alloc, verified.shaped().plan()) {
-        Ok(text) => Ok(Answer {
-            text: text.into_bytes(),
-            status: GOOD,
-        }),
-        Err(PlanFault::Memory) => Err(CommandFault::Memory),
-        Err(fault) => Err(CommandFault::Plan(fault)),
-    }
+    let text = plan_document(alloc, verified.shaped().plan())?;
+    Ok(Answer {
+        text: text.into_bytes(),
+        status: GOOD,
+    })
 }
 
 /// The line that says why there is no plan.

@@ -5,8 +5,8 @@ ghost use Rattle.std.specs.Option.{option_copied};
 ghost use Rattle.shop_base.specs.Plan.{ShopPlan, PlannedShop};
 ghost use Rattle.orlib_read.specs.declared.or_fault.OrFault.{OrFault};
 ghost use Rattle.plan_text.specs.declared.plan_fault.PlanFault.{PlanFault};
-ghost use Rattle.plan_text.specs.Documents.{IsPlanText, IsFirstFault};
-ghost use Rattle.command_answers.specs.Instances.{HasFault, Holds, IsInstanceRefusal};
+ghost use Rattle.plan_text.specs.Documents.{IsPlanText, IsFirstPlanFault};
+ghost use Rattle.command_answers.specs.Instances.{IsFirstInstanceFault, Holds, IsInstanceRefusal};
 ghost use Rattle.command_answers.specs.Plans.{TellBoth, TellsAShop, IsRightOfBoth, IsRightPlanFault, IsPlanRefusal, IsOfPlan, IsOfBoth};
 ghost use Rattle.command_answers.specs.Shapes.{IsShapeLine, IsRefusedLine};
 
@@ -29,19 +29,19 @@ pub fn shape_answer(
     ensures found { IfOk result (IsOfBoth instance.now (option_copied name.entry) plan.now IsShapeLine) }
     ensures only { (p : PlannedShop) → TellBoth instance.now (option_copied name.entry) plan.now p → Holds result (IsShapeLine p) }
     ensures fault { IfErr result (IsRightOfBoth instance.now (option_copied name.entry) plan.now) }
-    ensures first { (fault : OrFault) → HasFault instance.now (option_copied name.entry) fault → IsInstanceRefusal result fault }
-    ensures second { (fault : PlanFault) → TellsAShop instance.now (option_copied name.entry) → IsFirstFault plan.now fault → IsPlanRefusal result fault }
+    ensures first { (fault : OrFault) → IsFirstInstanceFault instance.now (option_copied name.entry) fault → IsInstanceRefusal result fault }
+    ensures second { (fault : PlanFault) → TellsAShop instance.now (option_copied name.entry) → IsFirstPlanFault plan.now fault → IsPlanRefusal result fault }
 {
     let named = load_instance(alloc, instance, name)?;
-    shape_of(alloc, named.shop, plan)
+    shape_for(alloc, named.shop, plan)
 }
 
 /// Whether a plan is well shaped for a shop, and if not, its first fault.
-pub fn shape_of(alloc: Global, shop: Shop, plan: &[u8]) -> Result<Answer, CommandFault>
+pub fn shape_for(alloc: Global, shop: Shop, plan: &[u8]) -> Result<Answer, CommandFault>
     ensures found { IfOk result (IsOfPlan shop plan.now IsShapeLine) }
     ensures only { (told : ShopPlan) → IsPlanText plan.now told → Holds result (IsShapeLine (record { shop = shop; plan = told })) }
     ensures fault { IfErr result (IsRightPlanFault plan.now) }
-    ensures first { (fault : PlanFault) → IsFirstFault plan.now fault → IsPlanRefusal result fault }
+    ensures first { (fault : PlanFault) → IsFirstPlanFault plan.now fault → IsPlanRefusal result fault }
 {
     let plan = load_plan(alloc, plan)?;
     Ok(shape_line(alloc, shop, plan)?)

@@ -5,8 +5,8 @@ use Rattle.shop_base.specs.Plan.{ShopPlan}
 use Rattle.toml.specs.Data.{Members}
 use Rattle.plan_text.specs.declared.plan_fault.PlanFault.{PlanFault}
 use Rattle.plan_text.specs.declared.plan_fault.PlanFault.TheVariants.{NotToml, BadVersion, UnknownKey, MissingKey, NotArray, NotWhole, OutOfRange, Memory, NotReadBack}
-use Rattle.plan_text.specs.Documents.{IsDocument, IsPlanText, IsFirstFault, IsNoDocument}
-use Rattle.plan_text.specs.Answers.{IsPlanAnswer, IsFaultAnswer, IsFirstOf, Passes}
+use Rattle.plan_text.specs.Documents.{IsDocument, IsPlanText, IsFirstPlanFault, IsNoDocument}
+use Rattle.plan_text.specs.Answers.{IsRead, IsRefused, IsFirstOf, Passes}
 use Rattle.plan_text.specs.Listing.{faults_of}
 use Rattle.plan_text.specs.Reading.{plan_in}
 use Rattle.plan_text.proofs.Tables.{table_found, table_only}
@@ -39,13 +39,13 @@ pub found : (text : List ℕ) (t : Members) (result : Result ShopPlan PlanFault)
 found text t (Ok plan) document none is = record { table = t; document = document; is = rw is (table_found t none) }
 found text t (Err fault) document first is = tt
 
-pub only_plan : (text : List ℕ) (t : Members) (result : Result ShopPlan PlanFault) → IsDocument text t
-    → Passes (faults_of t) result → IfOk result (λ plan. plan ≡ plan_in t) → (plan : ShopPlan) → IsPlanText text plan → IsPlanAnswer result plan
-only_plan text t (Ok answered) document none is plan h =
+pub only : (text : List ℕ) (t : Members) (result : Result ShopPlan PlanFault) → IsDocument text t
+    → Passes (faults_of t) result → IfOk result (λ plan. plan ≡ plan_in t) → (plan : ShopPlan) → IsPlanText text plan → IsRead result plan
+only text t (Ok answered) document none is plan h =
     let same = one_table text t h.table document h.document in
     let p = table_only h.table plan h.is in
     is ∙ ap plan_in same ∙ sym p.1
-only_plan text t (Err fault) document first is plan h =
+only text t (Err fault) document first is plan h =
     let same = one_table text t h.table document h.document in
     let p = table_only h.table plan h.is in
     let none : faults_of t ≡ [] = rw same p.0 in
@@ -54,21 +54,21 @@ only_plan text t (Err fault) document first is plan h =
       | inr other ↦ absurd (rw none at (first other))
     ]
 
-pub first_fault : (text : List ℕ) (t : Members) (result : Result ShopPlan PlanFault) → IsDocument text t
-    → Passes (faults_of t) result → IfErr result (λ fault. fault ≢ Memory → IsFirstFault text fault)
-first_fault text t (Ok plan) document none = tt
-first_fault text t (Err fault) document first = λ other. inr (record { table = t; document = document; is = listed_first t fault (first other) })
+pub fault_is_first : (text : List ℕ) (t : Members) (result : Result ShopPlan PlanFault) → IsDocument text t
+    → Passes (faults_of t) result → IfErr result (λ fault. fault ≢ Memory → IsFirstPlanFault text fault)
+fault_is_first text t (Ok plan) document none = tt
+fault_is_first text t (Err fault) document first = λ other. inr (record { table = t; document = document; is = listed_first t fault (first other) })
 
-pub only_fault : (text : List ℕ) (t : Members) (result : Result ShopPlan PlanFault) → IsDocument text t
-    → Passes (faults_of t) result → (fault : PlanFault) → IsFirstFault text fault → IsFaultAnswer result fault
-only_fault text t (Ok plan) document none fault h = elim h [
+pub first_is_fault : (text : List ℕ) (t : Members) (result : Result ShopPlan PlanFault) → IsDocument text t
+    → Passes (faults_of t) result → (fault : PlanFault) → IsFirstPlanFault text fault → IsRefused result fault
+first_is_fault text t (Ok plan) document none fault h = elim h [
   | inl without ↦ without.none t document
   | inr some ↦
       let same = one_table text t some.table document some.document in
       let listed = first_listed some.table fault some.is in
       rw (← same, none) at listed
 ]
-only_fault text t (Err answered) document first fault h = elim h [
+first_is_fault text t (Err answered) document first fault h = elim h [
   | inl without ↦ absurd (without.none t document)
   | inr some ↦ λ other.
       let same = one_table text t some.table document some.document in
@@ -84,7 +84,7 @@ refused_plan text answered refused plan h =
       | inr other ↦ absurd ((refused other).none h.table h.document)
     ]
 
-pub refused_fault : (text : List ℕ) (answered : PlanFault) → (answered ≢ Memory → IsNoDocument text answered) → (fault : PlanFault) → IsFirstFault text fault → answered ≢ Memory → answered ≡ fault
+pub refused_fault : (text : List ℕ) (answered : PlanFault) → (answered ≢ Memory → IsNoDocument text answered) → (fault : PlanFault) → IsFirstPlanFault text fault → answered ≢ Memory → answered ≡ fault
 refused_fault text answered refused fault h = λ other. elim h [
   | inl without ↦ (refused other).is ∙ sym without.is
   | inr some ↦ absurd ((refused other).none some.table some.document)

@@ -5,14 +5,14 @@ use Rattle.plan_text.specs.declared.plan_fault.PlanFault.{PlanFault}
 use Rattle.plan_text.specs.declared.plan_fault.PlanFault.TheVariants.{Memory}
 
 -- the answer is this plan, unless memory ran out
-abbrev pub IsPlanAnswer : Result ShopPlan PlanFault → ShopPlan → Type 0
-IsPlanAnswer (Ok answered) plan = answered ≡ plan
-IsPlanAnswer (Err fault) plan = fault ≡ Memory
+abbrev pub IsRead : Result ShopPlan PlanFault → ShopPlan → Type 0
+IsRead (Ok answered) plan = answered ≡ plan
+IsRead (Err fault) plan = fault ≡ Memory
 
 -- the answer is this fault, unless memory ran out
-abbrev pub IsFaultAnswer : Result ShopPlan PlanFault → PlanFault → Type 0
-IsFaultAnswer (Ok answered) fault = ⊥
-IsFaultAnswer (Err answered) fault = answered ≢ Memory → answered ≡ fault
+abbrev pub IsRefused : Result ShopPlan PlanFault → PlanFault → Type 0
+IsRefused (Ok answered) fault = ⊥
+IsRefused (Err answered) fault = answered ≢ Memory → answered ≡ fault
 
 -- the fault is the first of these
 abbrev pub IsFirstOf : List PlanFault → PlanFault → Type 0

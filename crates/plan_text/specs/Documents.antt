@@ -31,5 +31,5 @@ pub record IsDocumentFault (text : List ℕ) (fault : PlanFault) : Type 0 where
   pub is : IsFirstTableFault table fault
 
 -- what is wrong first with a text as a plan
-abbrev pub IsFirstFault : List ℕ → PlanFault → Type 0
-IsFirstFault text fault = IsNoDocument text fault ⊎ IsDocumentFault text fault
+abbrev pub IsFirstPlanFault : List ℕ → PlanFault → Type 0
+IsFirstPlanFault text fault = IsNoDocument text fault ⊎ IsDocumentFault text fault

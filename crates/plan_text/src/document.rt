@@ -92,7 +92,7 @@ fn push_three_lines(text: &mut String, plan: &Plan) -> Result<(), AllocError>
 }
 
 /// The lines of a plan.
-fn lines_of(alloc: Global, plan: &Plan) -> Result<String, AllocError>
+fn plan_lines(alloc: Global, plan: &Plan) -> Result<String, AllocError>
     ensures { IfOk result (λ text. string_bytes text ≡ plan_lines plan.now) }
 {
     let mut text = String::new(alloc);
@@ -119,7 +119,7 @@ pub fn plan_document(alloc: Global, plan: &Plan) -> Result<String, PlanFault>
     ensures not_read_back { result ≡ Err PlanFault.NotReadBack → IsPlanText (plan_lines plan.now) plan.now → ⊥ }
     ensures refusals { IfErr result (λ fault. (fault ≡ PlanFault.NotReadBack) ⊎ (fault ≡ PlanFault.Memory)) }
 {
-    let Ok(text) = lines_of(alloc, plan) else {
+    let Ok(text) = plan_lines(alloc, plan) else {
         return Err(PlanFault::Memory);
     };
     if is_read_back(alloc, text.as_bytes(), plan)? {

@@ -7,8 +7,8 @@ ghost use Rattle.toml.specs.View.{table_view};
 ghost use Rattle.toml.specs.Errors.{IsMemory};
 ghost use Rattle.plan_text.specs.declared.plan_fault.PlanFault.{PlanFault};
 ghost use Rattle.plan_text.specs.Keys.{value_at};
-ghost use Rattle.plan_text.specs.Documents.{IsDocument, IsNoDocument, IsPlanText, IsFirstFault};
-ghost use Rattle.plan_text.specs.Answers.{IsPlanAnswer, IsFaultAnswer, Passes};
+ghost use Rattle.plan_text.specs.Documents.{IsDocument, IsNoDocument, IsPlanText, IsFirstPlanFault};
+ghost use Rattle.plan_text.specs.Answers.{IsRead, IsRefused, Passes};
 ghost use Rattle.plan_text.specs.Reading.{numbers_in, rows_in, list_at, clean_in, plan_with, plan_in};
 ghost use Rattle.plan_text.specs.Listing.{list_faults, order_faults, faults_at, if_cleaning, list_values, faults_of};
 
@@ -113,12 +113,12 @@ fn told(read: Result<Table, toml::de::Error>) -> Result<Table, PlanFault>
 /// The counts aren't checked here: the shape of a plan is.
 pub fn read_plan(alloc: Global, text: &[u8]) -> Result<Plan, PlanFault>
     // What is read is the text's plan, and the text's plan is read.
-    ensures plan { IfOk result (λ plan. IsPlanText text.now plan) }
-    ensures only_plan { (plan : ShopPlan) → IsPlanText text.now plan → IsPlanAnswer result plan }
+    ensures found { IfOk result (λ plan. IsPlanText text.now plan) }
+    ensures only { (plan : ShopPlan) → IsPlanText text.now plan → IsRead result plan }
 
     // A fault is what is wrong first, and what is wrong first is the fault.
-    ensures first_fault { IfErr result (λ fault. fault ≢ PlanFault.Memory → IsFirstFault text.now fault) }
-    ensures only_fault { (fault : PlanFault) → IsFirstFault text.now fault → IsFaultAnswer result fault }
+    ensures fault { IfErr result (λ fault. fault ≢ PlanFault.Memory → IsFirstPlanFault text.now fault) }
+    ensures first { (fault : PlanFault) → IsFirstPlanFault text.now fault → IsRefused result fault }
 {
     match table_of(alloc, text) {
         Ok(table) => plan_of(alloc, &table),

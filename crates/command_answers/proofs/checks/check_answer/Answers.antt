@@ -2,7 +2,7 @@ use Rattle.std.proofs.Common.{rules}
 use Rattle.command_answers.proofs.checks.check_answer.Goals as goal
 
 pub returns-clause-only : goal.returns-clause-only
-returns-clause-only c = λ p both. (let same = (c.in_ok-named.ensures.only both.description p.shop both.shop).1 in rw same at (c.check_of.ensures.only p.plan both.plan))
+returns-clause-only c = λ p both. (let same = (c.in_ok-named.ensures.only both.description p.shop both.shop).1 in rw same at (c.check_for.ensures.only p.plan both.plan))
 
 pub returns-in_err-named-clause-only : goal.returns-in_err-named-clause-only
 returns-in_err-named-clause-only c = search rules

@@ -3,7 +3,7 @@ use Rattle.std.specs.Option.{option_map}
 use Rattle.std.specs.declared.io.Error.{Error}
 use Rattle.std.proofs.lemmas.List.{take_all, length-take-le}
 use Rattle.std.proofs.lemmas.Bool.{cases_lt}
-use Rattle.command_answers.specs.Reading.{IsFaultOf}
+use Rattle.command_answers.specs.Reading.{IsFileFaultOf}
 use Rattle.command_answers.specs.declared.reading.FileFault.{FileFault}
 use Rattle.command_answers.specs.declared.reading.FileFault.TheVariants.{TooLong}
 use Rattle.command_answers.proofs.reading.read_whole.Goals as goal
@@ -28,7 +28,7 @@ none_at_fault P Q (Err fault) failed = tt
 whole_told : (given : Option (List ℕ)) (start : List ℕ) (buf : Vec ℕ Global) (read : Result ℕ Error) (answer : Result (Vec ℕ Global) FileFault) → start ≡ []
     → OnOk read (IfSome (option_map (take 67108865) given) (λ xs. buf.items ≡ start ++ xs))
     → IfOk read (λ n. vec_len buf ≤ 67108864 → answer ≡ Ok buf) → IfOk read (λ n. 67108864 < vec_len buf → answer ≡ Err TooLong)
-    → IfErr read (λ error. IsErrAnd answer (IsFaultOf error)) → IfOk answer (λ bytes. IfSome given (λ all. bytes.items ≡ all))
+    → IfErr read (λ error. IsErrAnd answer (IsFileFaultOf error)) → IfOk answer (λ bytes. IfSome given (λ all. bytes.items ≡ all))
 whole_told given start buf (Ok n) answer empty bytes within beyond failed =
     elim (cases_lt 67108864 (vec_len buf)) [
       | inl over ↦ rw (beyond over) tt

@@ -1,5 +1,5 @@
 use Rattle.command_answers.proofs.Passing.{passed_memory}
-use Rattle.command_answers.proofs.drawings.gantt_of.Goals as goal
+use Rattle.command_answers.proofs.drawings.gantt_for.Goals as goal
 
 pub returns-in_err-plan-clause-only : goal.returns-in_err-plan-clause-only
 returns-in_err-plan-clause-only c = λ told is. passed_memory _ _ c.in_err-plan.field-0.0 (c.in_err-plan.ensures.only told is) c.from_residual.ensures.1

@@ -1,6 +1,6 @@
 use Rattle.command_answers.proofs.Passing.{passed_memory}
 use Rattle.command_answers.proofs.CheckLines.{line_of_loaded}
-use Rattle.command_answers.proofs.checks.check_of.Goals as goal
+use Rattle.command_answers.proofs.checks.check_for.Goals as goal
 
 pub returns-in_err-loaded-clause-only : goal.returns-in_err-loaded-clause-only
 returns-in_err-loaded-clause-only c = λ told is. passed_memory _ _ c.in_err-loaded.field-0.0 (c.in_err-loaded.ensures.only told is) c.from_residual.ensures.1
