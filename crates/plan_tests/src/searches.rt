@@ -236,7 +236,7 @@ fn a_planner_of_ones_own_is_taken(rt: HostRuntime) -> Result<(), Fail> {
     finds(&rt, SWAPPED, &[Planner::Descending], 1, "1 0 ,1 0 ,")
 }
 
-/// Asserts what a planner answers in some rounds for an instance.
+/// Asserts what a planner proposes in some rounds for an instance.
 fn proposes(
     rt: &(impl Abort + AllocGlobal),
     planner: &impl Proposer,
