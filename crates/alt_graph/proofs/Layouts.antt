@@ -4,7 +4,7 @@ use Rattle.std.proofs.lemmas.List.{get_or-take, get_or-drop, length-take, length
 use Rattle.shop_base.specs.declared.node.Node.{Node}
 use Rattle.alt_graph.specs.declared.times.NodeTime.{NodeTime}
 use Rattle.alt_graph.specs.Times.{no_time, job_times, time_at, IsTimed}
-use Rattle.alt_graph.specs.Layout.{number_of, by_job, AreLinked}
+use Rattle.alt_graph.specs.Layout.{number_of, by_job}
 
 -- there is one job less than there are firsts
 job_count : (first : ℕ) (firsts : List ℕ) (rows : List NodeTime) → length (by_job (first ∷ firsts) rows) ≡ length firsts

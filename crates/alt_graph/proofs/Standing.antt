@@ -1,7 +1,7 @@
 -- Where jobs stand in the orders, by the tables, and what follows for blocking arcs.
 use Rattle.std.proofs.Common.{◌≡◌, ℕ, ◌+◌, ◌<◌, length, get_or, arith, sym, ◌∙◌, ap, subst}
 use Rattle.shop_base.specs.declared.node.Node.{Node}
-use Rattle.shop_base.specs.Plan.{PlannedShop, machines, steps, order, job_at, Visits, Stands, IsWellShaped}
+use Rattle.shop_base.specs.Plan.{PlannedShop, machines, order, job_at, Visits, Stands, IsWellShaped}
 use Rattle.shop_base.proofs.Visits.{visits_job, visits_machine, visits-stands, stands_once}
 use Rattle.shop_base.proofs.Places.{stands_at}
 use Rattle.alt_graph.specs.declared.tables.Tables.{Tables}

@@ -2,7 +2,7 @@ use Rattle.std.specs.Prelude.{◌≡◌, ◌≢◌, ◌==◌, ℕ, ◌+◌, ◌*
 use Rattle.shop_base.specs.declared.node.Node.{Node}
 use Rattle.shop_base.specs.declared.limits.TheConstants.{MAX_RELEASE, MAX_NOMINAL}
 use Rattle.shop_base.specs.Plan.{PlannedShop, jobs, release}
-use Rattle.shop_base.specs.Graph.{Arc, IsNode, node}
+use Rattle.shop_base.specs.Graph.{Arc, IsNode}
 use Rattle.alt_graph.specs.declared.times.NodeTime.{NodeTime}
 use Rattle.alt_graph.specs.declared.times.TheConstants.{UNRANKED}
 use Rattle.alt_graph.specs.declared.tables.Tables.{Tables}
