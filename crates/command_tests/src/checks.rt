@@ -1,4 +1,4 @@
-use super::{CHAIN, CHAINED, CLEANED, COLLECTION, CROSSED, IN_TIME, LATE, NOT_SHAPED, TWO};
+use super::texts::{CHAIN, CHAINED, CLEANED, COLLECTION, CROSSED, IN_TIME, LATE, NOT_SHAPED, TWO};
 use alt_graph::{check_chain, check_cycle};
 use command_answers::{CommandFault, Loaded, check_answer, load};
 use orlib_read::{OrFault, read_instance};

@@ -2,7 +2,7 @@
 //! refuses each request for memory between an announcement and its answer in turn. Where none is refused, they show the
 //! answers of calls that have all memory.
 
-use super::{CLEANED, CROSSED, IN_TIME, LATE, TWO};
+use super::texts::{CLEANED, CROSSED, IN_TIME, LATE, TWO};
 use alt_graph::{check_chain, check_cycle};
 use cell_control::{Controller, Dues, ScanDues, TourneyDues};
 use cell_hub::{Hub, HubFault, Ticket};

@@ -1,4 +1,4 @@
-use super::{COLLECTION, IN_TIME, NOT_SHAPED, TWO};
+use super::texts::{COLLECTION, IN_TIME, NOT_SHAPED, TWO};
 use command_answers::{CommandFault, shape_answer};
 use orlib_read::OrFault;
 use plan_text::{PlanFault, PlanKey};

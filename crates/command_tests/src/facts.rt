@@ -1,4 +1,4 @@
-use super::{COLLECTION, TWO};
+use super::texts::{COLLECTION, TWO};
 use command_answers::{CommandFault, facts_answer};
 use orlib_read::OrFault;
 use std::test::Fail;

@@ -1,6 +1,5 @@
-use super::{CHAIN, CHAINED, CLEANED, CROSSED, IN_TIME, TWO};
+use super::texts::{CHAIN, CHAINED, CLEANED, CROSSED, IN_TIME, TWO};
 use command_answers::{Answer, CommandFault, audit_answer, gantt_answer};
-use std::process::Abort;
 use std::test::Fail;
 
 const SERIES: &[u8] =

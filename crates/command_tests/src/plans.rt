@@ -1,9 +1,8 @@
-use super::{CLEANED, COLLECTION, IN_TIME, TWO};
+use super::texts::{CLEANED, COLLECTION, IN_TIME, TWO};
 use command_answers::{CommandFault, plan_answer};
 use orlib_read::OrFault;
 use plan_seek::{GreedyProposer, Proposer, ShiftProposer};
 use plan_text::PlanFault;
-use std::process::Abort;
 use std::test::Fail;
 
 const CROSSING: &[u8] = b"release = [0, 0]\nbudget = [10, 5]\norder = [[0, 1], [0, 1]]\n";

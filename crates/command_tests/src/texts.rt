@@ -1,19 +1,11 @@
-//! The commands' answers to the worked examples.
-
-mod audits;
-mod checks;
-mod facts;
-mod plans;
-mod shapes;
-mod statuses;
-mod wants;
-mod words;
+//! The texts of the worked examples: instances and plans.
 
 /// Two jobs on two machines.
-const TWO: &[u8] = b"two\n2 2\n0 3 1 2\n1 4 0 1\n";
+pub(super) const TWO: &[u8] = b"two\n2 2\n0 3 1 2\n1 4 0 1\n";
 
 /// A collection of that instance and of Fisher and Thompson's with 6 jobs on 6 machines.
-const COLLECTION: &[u8] = b" intro text\n\n +++++++++++++++++++++++++++++\n\n instance two\n\n \
+pub(super) const COLLECTION: &[u8] =
+    b" intro text\n\n +++++++++++++++++++++++++++++\n\n instance two\n\n \
 +++++++++++++++++++++++++++++\n small\n 2 2\n 0 3 1 2\n 1 4 0 1\n +++++++++++++++++++++++++++++\n\n \
 instance ft06\n\n +++++++++++++++++++++++++++++\n Fisher and Thompson 6x6\n 6 6\n \
 2 1 0 3 1 6 3 7 5 3 4 6\n 1 8 2 5 4 10 5 10 0 10 3 4\n 2 5 3 4 5 8 0 9 1 1 4 7\n \
@@ -22,25 +14,26 @@ instance ft06\n\n +++++++++++++++++++++++++++++\n Fisher and Thompson 6x6\n 6 6\
 
 /// Plans for the two jobs, as `plan_document` writes them: job 0 first on each machine, with the budgets that it just
 /// keeps, and with one that it doesn't.
-const IN_TIME: &[u8] = b"release = [0, 0]\nbudget = [5, 10]\norder = [[0, 1], [0, 1]]\n";
+pub(super) const IN_TIME: &[u8] = b"release = [0, 0]\nbudget = [5, 10]\norder = [[0, 1], [0, 1]]\n";
 
-const LATE: &[u8] = b"release = [0, 0]\nbudget = [5, 9]\norder = [[0, 1], [0, 1]]\n";
+pub(super) const LATE: &[u8] = b"release = [0, 0]\nbudget = [5, 9]\norder = [[0, 1], [0, 1]]\n";
 
 /// The same, where machine 1 is cleaned.
-const CLEANED: &[u8] =
+pub(super) const CLEANED: &[u8] =
     b"version = 2\nrelease = [0, 0]\nbudget = [5, 12]\norder = [[0, 1], [0, 1]]\nclean = [0, 2]\n";
 
 /// Each of the two jobs waits for the machine that the other one is on.
-const CROSSED: &[u8] = b"release = [0, 0]\nbudget = [100, 100]\norder = [[0, 1], [1, 0]]\n";
+pub(super) const CROSSED: &[u8] =
+    b"release = [0, 0]\nbudget = [100, 100]\norder = [[0, 1], [1, 0]]\n";
 
 /// Three jobs that follow each other over three machines, and their plan.
-const CHAIN: &[u8] = b"chain\n3 3\n0 1 1 1 2 5\n0 1 1 1 2 1\n0 1 1 1 2 1\n";
+pub(super) const CHAIN: &[u8] = b"chain\n3 3\n0 1 1 1 2 5\n0 1 1 1 2 1\n0 1 1 1 2 1\n";
 
-const CHAINED: &[u8] =
+pub(super) const CHAINED: &[u8] =
     b"release = [0, 0, 0]\nbudget = [7, 8, 9]\norder = [[0, 1, 2], [0, 1, 2], [0, 1, 2]]\n";
 
 /// Plans that aren't well shaped for the two jobs, each with its line.
-const NOT_SHAPED: [(&[u8], &[u8]); 4] = [
+pub(super) const NOT_SHAPED: [(&[u8], &[u8]); 4] = [
     (
         b"release = [0, 0]\nbudget = [5, 10]\norder = [[0, 1], [0]]\n",
         b"not shaped JobMissing machine 1 job 1\n",
