@@ -1,7 +1,10 @@
-//! When a reader and a writer fail, and what comes of a call over them.
+//! A reader and a writer that fail, and what comes of a call over them.
 
-use super::one_byte_writer::{ROOM, is_text};
-use cell_drive::DriveFault;
+use super::one_byte_writer::{OneByteWriter, ROOM, is_text};
+use super::piece_reader::PieceReader;
+use cell_drive::{DriveFault, FromRead};
+use run_log::IntoSink;
+use std::cell::Cell;
 use std::fmt::Debug;
 use std::process::Abort;
 
@@ -23,6 +26,23 @@ pub(super) const GOOD: Limits = Limits {
     takes_nothing: false,
 };
 
+/// A reader of the input and a writer, which counts in `written` what it has taken.
+pub(super) fn devices<'a>(
+    input: &'a [u8],
+    limits: Limits,
+    written: &'a Cell<usize>,
+) -> (FromRead<PieceReader<'a>>, IntoSink<OneByteWriter<'a>>) {
+    let reader = PieceReader {
+        bytes: input,
+        most: limits.piece,
+        calls_left: limits.reads,
+        written,
+        written_at_last: 0,
+    };
+    let writer = OneByteWriter::new(written, limits.writes, limits.takes_nothing);
+    (FromRead::new(reader), IntoSink::new(writer))
+}
+
 /// What came of a call: its answer, what was written, and how much of that before the last read.
 #[derive(Drop)]
 pub(super) struct Outcome<E> {
@@ -33,6 +53,20 @@ pub(super) struct Outcome<E> {
 }
 
 impl<E: Debug + PartialEq> Outcome<E> {
+    pub(super) fn new(
+        end: Result<E, DriveFault>,
+        reader: FromRead<PieceReader<'_>>,
+        writer: IntoSink<OneByteWriter<'_>>,
+    ) -> Outcome<E> {
+        let device = writer.into_inner();
+        Outcome {
+            end,
+            bytes: device.bytes,
+            count: device.written.get(),
+            before_last_read: reader.into_inner().written_at_last,
+        }
+    }
+
     /// Whether just this text was written.
     pub(super) fn has(&self, text: &[u8]) -> bool {
         is_text(&self.bytes, self.count, text)

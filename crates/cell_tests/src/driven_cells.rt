@@ -1,12 +1,9 @@
 //! Several runs that are driven, byte for byte.
 
 use super::cells::crossing;
-use super::devices::{GOOD, Limits, Outcome};
-use super::one_byte_writer::{OneByteWriter, ROOM};
-use super::piece_reader::PieceReader;
-use cell_drive::{FromRead, HubEnd, drive_hub};
+use super::devices::{GOOD, Limits, Outcome, devices};
+use cell_drive::{HubEnd, drive_hub};
 use plan_verifier::Verified;
-use run_log::IntoSink;
 use std::cell::Cell;
 use std::process::Abort;
 use std::test::Fail;
@@ -30,27 +27,9 @@ fn driven(
     limits: Limits,
 ) -> Outcome<HubEnd> {
     let written = Cell::new(0);
-    let mut reader = FromRead::new(PieceReader {
-        bytes: input,
-        most: limits.piece,
-        calls_left: limits.reads,
-        written: &written,
-        written_at_last: 0,
-    });
-    let mut writer = IntoSink::new(OneByteWriter {
-        bytes: [0; ROOM],
-        written: &written,
-        calls_left: limits.writes,
-        takes_nothing: limits.takes_nothing,
-    });
+    let (mut reader, mut writer) = devices(input, limits, &written);
     let end = drive_hub(rt.alloc(), cells, &mut reader, &mut writer);
-    let before_last_read = reader.into_inner().written_at_last;
-    Outcome {
-        end,
-        bytes: writer.into_inner().bytes,
-        count: written.get(),
-        before_last_read,
-    }
+    Outcome::new(end, reader, writer)
 }
 
 #[test]

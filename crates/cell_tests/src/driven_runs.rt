@@ -1,9 +1,7 @@
 //! Runs that are driven, byte for byte.
 
 use super::cells::{crossing, following, instant};
-use super::devices::{GOOD, Limits, Outcome};
-use super::one_byte_writer::{OneByteWriter, ROOM};
-use super::piece_reader::PieceReader;
+use super::devices::{GOOD, Limits, Outcome, devices};
 use super::same_bytes::SameBytes;
 use super::worked_runs::{
     CLEANED_INPUT, CLEANED_LINES, FOLLOWING_INPUT, FOLLOWING_LINES, IN_TIME_INPUT, IN_TIME_LINES,
@@ -21,30 +19,12 @@ type End = (bool, Moment, u64);
 
 fn driven(rt: &impl AllocGlobal, verified: Verified, input: &[u8], limits: Limits) -> Outcome<End> {
     let written = Cell::new(0);
-    let mut reader = FromRead::new(PieceReader {
-        bytes: input,
-        most: limits.piece,
-        calls_left: limits.reads,
-        written: &written,
-        written_at_last: 0,
-    });
-    let mut writer = IntoSink::new(OneByteWriter {
-        bytes: [0; ROOM],
-        written: &written,
-        calls_left: limits.writes,
-        takes_nothing: limits.takes_nothing,
-    });
+    let (mut reader, mut writer) = devices(input, limits, &written);
     let end = match drive(rt.alloc(), verified, &mut reader, &mut writer) {
         Ok(end) => Ok((end.done, end.last, end.left)),
         Err(fault) => Err(fault),
     };
-    let before_last_read = reader.into_inner().written_at_last;
-    Outcome {
-        end,
-        bytes: writer.into_inner().bytes,
-        count: written.get(),
-        before_last_read,
-    }
+    Outcome::new(end, reader, writer)
 }
 
 fn is_answered(

@@ -2,10 +2,9 @@
 
 ghost use Rattle.std.specs.Prelude.{◌≡◌};
 
-use super::devices::{GOOD, Limits, Outcome};
+use super::devices::{GOOD, Limits, Outcome, devices};
 use super::events::{arrive, clean, finish};
-use super::one_byte_writer::{OneByteWriter, ROOM, is_text};
-use super::piece_reader::PieceReader;
+use super::one_byte_writer::{OneByteWriter, is_text};
 use super::same_bytes::SameBytes;
 use cell_drive::{
     DriveFault, FromRead, LineHandler, ReadFault, done_line, late_line, refused_line, report_of,
@@ -51,27 +50,9 @@ impl LineHandler for Echo {
 
 fn streamed(input: &[u8], limits: Limits) -> Outcome<()> {
     let written = Cell::new(0);
-    let mut reader = FromRead::new(PieceReader {
-        bytes: input,
-        most: limits.piece,
-        calls_left: limits.reads,
-        written: &written,
-        written_at_last: 0,
-    });
-    let mut writer = IntoSink::new(OneByteWriter {
-        bytes: [0; ROOM],
-        written: &written,
-        calls_left: limits.writes,
-        takes_nothing: limits.takes_nothing,
-    });
+    let (mut reader, mut writer) = devices(input, limits, &written);
     let end = stream(&mut Echo, &mut reader, &mut writer);
-    let before_last_read = reader.into_inner().written_at_last;
-    Outcome {
-        end,
-        bytes: writer.into_inner().bytes,
-        count: written.get(),
-        before_last_read,
-    }
+    Outcome::new(end, reader, writer)
 }
 
 const INPUT: &[u8] = b"ab\n\ncd\r\ne\r\r\nlast\r";
