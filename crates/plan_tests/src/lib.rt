@@ -1,4 +1,4 @@
-//! The tests of shops and plans, of their texts, of the alternative graph and of the search for a plan, by public
+//! The tests of texts, of shops and plans, of the alternative graph and of the search for a plan, by public
 //! items alone. They stand apart from what they test, since a crate with tests is proved once more for them.
 #![tactic(auto)]
 
@@ -18,3 +18,5 @@ mod searches;
 mod shapes;
 #[cfg(test)]
 mod solutions;
+#[cfg(test)]
+mod text_parts;

@@ -10,6 +10,3 @@ pub use cuts::{after_prefix, cut_line, cut_word};
 pub use limits::MAX_INPUT;
 pub use lines::{line_count, next_line, without_return};
 pub use numbers::{number_before_space, number_of, short_number_of};
-
-#[cfg(test)]
-mod tests;

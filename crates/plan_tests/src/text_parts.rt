@@ -1,5 +1,7 @@
-use super::*;
+//! Lines, words and numbers of texts.
+
 use std::test::Fail;
+use text_lines::{after_prefix, cut_word, line_count, next_line, number_of, short_number_of};
 
 /// The line behind so many others, none where there are no more.
 fn line_behind(text: &[u8], count: usize) -> Option<&[u8]> {
