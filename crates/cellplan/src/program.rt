@@ -66,24 +66,23 @@ fn command_answer(rt: &HostRuntime, alloc: Global, chosen: &Chosen) -> Result<An
     match chosen.name {
         CommandName::Input => Ok(facts_answer(alloc, &read_whole(alloc, rt.stdin())?, None)?),
         CommandName::Facts => Ok(facts_answer(alloc, &file(rt, alloc, chosen, 0)?, name)?),
-        CommandName::Shape => {
-            let shop = instance(rt, alloc, chosen)?;
-            Ok(shape_for(alloc, shop, &file(rt, alloc, chosen, 1)?)?)
-        }
-        CommandName::Check => {
-            let shop = instance(rt, alloc, chosen)?;
-            Ok(check_for(alloc, shop, &file(rt, alloc, chosen, 1)?)?)
-        }
-        CommandName::Plan => {
-            let shop = instance(rt, alloc, chosen)?;
-            searched(alloc, shop, &file(rt, alloc, chosen, 1)?, chosen.rounds)
-        }
-        CommandName::Drive => {
-            let shop = instance(rt, alloc, chosen)?;
-            driven(rt, alloc, shop, &file(rt, alloc, chosen, 1)?)
+        CommandName::Shape | CommandName::Check | CommandName::Plan | CommandName::Drive => {
+            planned(rt, alloc, chosen)
         }
         CommandName::Audit | CommandName::Gantt => logged(rt, alloc, chosen),
         CommandName::Hub => driven_together(rt, alloc, chosen),
+    }
+}
+
+/// The answer to a plan. Its file is opened once the instance is read.
+fn planned(rt: &HostRuntime, alloc: Global, chosen: &Chosen) -> Result<Answer, Failure> {
+    let shop = instance(rt, alloc, chosen)?;
+    let plan = file(rt, alloc, chosen, 1)?;
+    match chosen.name {
+        CommandName::Shape => Ok(shape_for(alloc, shop, &plan)?),
+        CommandName::Check => Ok(check_for(alloc, shop, &plan)?),
+        CommandName::Plan => searched(alloc, shop, &plan, chosen.rounds),
+        _ => driven(rt, alloc, shop, &plan),
     }
 }
 
