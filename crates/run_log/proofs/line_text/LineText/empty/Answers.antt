@@ -1,0 +1,5 @@
+use Rattle.std.proofs.Common.{rules}
+use Rattle.run_log.proofs.line_text.LineText.empty.Goals as goal
+
+pub returns : goal.returns
+returns c = search rules
