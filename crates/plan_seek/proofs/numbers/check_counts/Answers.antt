@@ -20,3 +20,6 @@ returns-in_default-2-clause-sound c = record {
   orders = serial_count c.args.task.now;
   cleanings = search rules;
 }
+
+pub returns-then-len-jobs-clause-first_fault : goal.returns-then-len-jobs-clause-first_fault
+returns-then-len-jobs-clause-first_fault c = search rules

@@ -1,4 +1,4 @@
-use Rattle.std.proofs.Common.{sym, subst, ap, ◌∙◌, arith}
+use Rattle.std.proofs.Common.{sym, subst, ap, ◌∙◌, arith, rules}
 use Rattle.shop_base.specs.Cell.{Cell}
 use Rattle.shop_base.specs.Run.{CanHappen, after}
 use Rattle.run_log.specs.Events.{event_of}
@@ -25,3 +25,6 @@ returns-clause-told c =
       run = run-more p told c.in-Some.entry c.requires.told.run can;
       cell = c.follow_entry.ensures.followed ∙ ap (λ (x : Cell). after p x (event_of c.in-Some.entry)) c.requires.told.cell ∙ sym (ends-more p told c.in-Some.entry);
     })
+
+pub returns-then-is_passed_over-clause-tells : goal.returns-then-is_passed_over-clause-tells
+returns-then-is_passed_over-clause-tells c = search rules

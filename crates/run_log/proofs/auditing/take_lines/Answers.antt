@@ -1,4 +1,4 @@
-use Rattle.std.proofs.Common.{ℕ, ◌<◌, List, [], ◌∷◌, ◌++◌, length, sym, subst, ap, ◌∙◌, arith, append_assoc, length-append}
+use Rattle.std.proofs.Common.{ℕ, ◌<◌, List, [], ◌∷◌, ◌++◌, length, sym, subst, ap, ◌∙◌, arith, append_assoc, length-append, rules}
 use Rattle.text_lines.specs.Lines.{lines_of}
 use Rattle.text_lines.proofs.NextLines.{lines_of-le}
 use Rattle.run_log.specs.declared.entry.Entry.{Entry}
@@ -42,3 +42,6 @@ loop-line-preserved c =
       );
       room = c.in_ok-take_line.ensures.capacity ∙ so_far.room;
     }
+
+pub loop-line-init : goal.loop-line-init
+loop-line-init c = search rules

@@ -1,4 +1,4 @@
-use Rattle.std.proofs.Common.{arith}
+use Rattle.std.proofs.Common.{arith, rules}
 use Rattle.std.proofs.lemmas.Grind.{common_steps}
 use Rattle.shop_base.proofs.shape_check.check_counts.Goals as goal
 
@@ -13,3 +13,6 @@ returns-in_default-clause-sound c = grind (arith, common_steps)
 
 pub returns-then-len-machines-clause-first_fault : goal.returns-then-len-machines-clause-first_fault
 returns-then-len-machines-clause-first_fault c = grind (arith, common_steps)
+
+pub returns-then-len-jobs-2-clause-first_fault : goal.returns-then-len-jobs-2-clause-first_fault
+returns-then-len-jobs-2-clause-first_fault c = search rules

@@ -1,4 +1,4 @@
-use Rattle.std.proofs.Common.{◌<◌, length, arith}
+use Rattle.std.proofs.Common.{◌<◌, length, arith, rules}
 use Rattle.shop_base.proofs.Marking.{places_none, places_more, right_true, right_false}
 use Rattle.shop_base.proofs.shape_check.check_places.Goals as goal
 
@@ -20,3 +20,6 @@ loop-place-preserved c =
 
 pub returns-clause-good : goal.returns-clause-good
 returns-clause-good c = λ a lt. (let within : a < length c.order_of-order.result.now = rw c.order_of-order.ensures lt in c.loop-place.invariant.good a (omega arith))
+
+pub returns-then-listed-job-clause-first_fault : goal.returns-then-listed-job-clause-first_fault
+returns-then-listed-job-clause-first_fault c = search rules

@@ -17,3 +17,6 @@ returns-clause-length c =
     let left = ap length c.self.view_is in
     let written = ap length c.write_digits-self-inside.ensures.written in
     omega (arith, digits, left, written, length-append (decimal c.from.result) (drop c.self.inside.start c.self.inside.bytes))
+
+pub returns-clause-written : goal.returns-clause-written
+returns-clause-written c = search rules
