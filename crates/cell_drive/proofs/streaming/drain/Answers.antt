@@ -32,3 +32,6 @@ reads-preserved g c = record {
   so_far = Draining-more _ _ _ _ _ _ _ _ _ _ c.reads.invariant.so_far _ _ c.in-Ok.ensures.given.0 _ _ _ _ _ (g.W.Sink.failed c.take_read.new.writer) c.in_ok-left.ensures;
   room = c.get.auto.room ∙ c.reads.invariant.room;
 }
+
+pub reads-init : goal.reads-init
+reads-init g c = search rules depth 2

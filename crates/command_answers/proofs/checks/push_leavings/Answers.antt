@@ -6,4 +6,4 @@ pub loop-job-preserved : goal.loop-job-preserved
 loop-job-preserved c = words_more _ _ _ (kept c.args.verified.now) c.loop-job.job c.loop-job.invariant c.in_ok-push_leaving.ensures
 
 pub loop-job-init : goal.loop-job-init
-loop-job-init c = search rules
+loop-job-init c = search rules depth 2

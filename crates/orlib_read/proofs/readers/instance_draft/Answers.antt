@@ -4,4 +4,4 @@ use Rattle.orlib_read.proofs.readers.instance_draft.Goals as goal
 
 pub returns : goal.returns
 unfolding instance_at
-returns c = search rules
+returns c = search rules depth 2

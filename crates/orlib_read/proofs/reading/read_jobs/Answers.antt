@@ -32,4 +32,4 @@ returns c = jobs_end (lists_of c.loop-job.routes.items) c.args.jobs c.loop-job.j
     c.loop-job-test.false c.loop-job.invariant
 
 pub loop-job-init : goal.loop-job-init
-loop-job-init c = search rules
+loop-job-init c = search rules depth 2

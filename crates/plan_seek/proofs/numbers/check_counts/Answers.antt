@@ -22,4 +22,4 @@ returns-in_default-2-clause-sound c = record {
 }
 
 pub returns-then-len-jobs-clause-first_fault : goal.returns-then-len-jobs-clause-first_fault
-returns-then-len-jobs-clause-first_fault c = search rules
+returns-then-len-jobs-clause-first_fault c = search rules depth 2

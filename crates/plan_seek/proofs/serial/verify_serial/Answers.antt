@@ -13,4 +13,4 @@ returns-in-Ok-Refused c = λ task is.
     ))
 
 pub returns-in-Ok-Accepted : goal.returns-in-Ok-Accepted
-returns-in-Ok-Accepted c = search rules
+returns-in-Ok-Accepted c = search rules depth 2

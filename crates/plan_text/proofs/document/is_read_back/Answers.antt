@@ -11,4 +11,4 @@ pub returns-in-Memory-clause-told : goal.returns-in-Memory-clause-told
 returns-in-Memory-clause-told c = tt
 
 pub returns-in-Ok-clause-told : goal.returns-in-Ok-clause-told
-returns-in-Ok-clause-told c = search rules
+returns-in-Ok-clause-told c = search rules depth 2

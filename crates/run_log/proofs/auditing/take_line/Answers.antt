@@ -27,4 +27,4 @@ returns-clause-told c =
     })
 
 pub returns-then-is_passed_over-clause-tells : goal.returns-then-is_passed_over-clause-tells
-returns-then-is_passed_over-clause-tells c = search rules
+returns-then-is_passed_over-clause-tells c = search rules depth 2

@@ -44,4 +44,4 @@ loop-line-preserved c =
     }
 
 pub loop-line-init : goal.loop-line-init
-loop-line-init c = search rules
+loop-line-init c = search rules depth 2

@@ -11,4 +11,4 @@ returns-clause-open c =
     c.cleaned_since.ensures (sym c.is_some-2.ensures ∙ c.if-is_some-2.false) c.next_on.ensures (not-false _ (sym c.ne.ensures ∙ c.if-ne.false))
 
 pub returns-then-ne-clause-open : goal.returns-then-ne-clause-open
-returns-then-ne-clause-open c = search rules
+returns-then-ne-clause-open c = search rules depth 2

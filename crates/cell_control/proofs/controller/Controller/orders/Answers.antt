@@ -2,4 +2,4 @@ use Rattle.std.proofs.Common.{rules}
 use Rattle.cell_control.proofs.controller.Controller.orders.Goals as goal
 
 pub returns : goal.returns
-returns g c = search rules
+returns g c = search rules depth 2

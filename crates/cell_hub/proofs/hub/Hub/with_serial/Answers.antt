@@ -2,4 +2,4 @@ use Rattle.std.proofs.Common.{rules}
 use Rattle.cell_hub.proofs.hub.Hub.with_serial.Goals as goal
 
 pub returns : goal.returns
-returns g c = search rules
+returns g c = search rules depth 2

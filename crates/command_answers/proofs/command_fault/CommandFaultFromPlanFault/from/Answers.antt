@@ -2,4 +2,4 @@ use Rattle.std.proofs.Common.{rules}
 use Rattle.command_answers.proofs.command_fault.CommandFaultFromPlanFault.from.Goals as goal
 
 pub returns-in_default : goal.returns-in_default
-returns-in_default c = search rules
+returns-in_default c = search rules depth 2

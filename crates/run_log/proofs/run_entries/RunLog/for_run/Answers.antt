@@ -8,4 +8,4 @@ overflow_mul-reserved c =
     omega (arith, c.report_count.ensures, ap stated_number c.shaped.ensures.same, stated_number-le c.args.verified.now.planned c.shaped.ensures.verified.schedule.shaped)
 
 pub returns : goal.returns
-returns c = search rules
+returns c = search rules depth 2
