@@ -2,4 +2,4 @@ use Rattle.std.proofs.Common.{rules}
 use Rattle.shop_base.proofs.readers.job_count.Goals as goal
 
 pub returns-clause-count : goal.returns-clause-count
-returns-clause-count c = search rules
+returns-clause-count c = search rules depth 2

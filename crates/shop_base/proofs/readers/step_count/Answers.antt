@@ -9,4 +9,4 @@ pub returns-clause-few : goal.returns-clause-few
 returns-clause-few c = omega (arith, ap length c.route_of.ensures.route, steps_few _ c.route_of.ensures.well_shaped _ c.requires)
 
 pub returns-clause-count : goal.returns-clause-count
-returns-clause-count c = search rules
+returns-clause-count c = search rules depth 2

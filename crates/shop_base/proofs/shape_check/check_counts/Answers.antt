@@ -15,4 +15,4 @@ pub returns-then-len-machines-clause-first_fault : goal.returns-then-len-machine
 returns-then-len-machines-clause-first_fault c = grind (arith, common_steps)
 
 pub returns-then-len-jobs-2-clause-first_fault : goal.returns-then-len-jobs-2-clause-first_fault
-returns-then-len-jobs-2-clause-first_fault c = search rules
+returns-then-len-jobs-2-clause-first_fault c = search rules depth 2

@@ -22,4 +22,4 @@ pub returns-clause-good : goal.returns-clause-good
 returns-clause-good c = λ a lt. (let within : a < length c.order_of-order.result.now = rw c.order_of-order.ensures lt in c.loop-place.invariant.good a (omega arith))
 
 pub returns-then-listed-job-clause-first_fault : goal.returns-then-listed-job-clause-first_fault
-returns-then-listed-job-clause-first_fault c = search rules
+returns-then-listed-job-clause-first_fault c = search rules depth 2

@@ -10,10 +10,10 @@ pub returns-in-Err-clause-only_fault : goal.returns-in-Err-clause-only_fault
 returns-in-Err-clause-only_fault c = λ other is. shape_fault_once _ other c.in-Err.fault is c.in-Err.ensures.first_fault
 
 pub returns-in-Ok-clause-exact : goal.returns-in-Ok-clause-exact
-returns-in-Ok-clause-exact c = search rules
+returns-in-Ok-clause-exact c = search rules depth 2
 
 pub returns-in-Ok-clause-first_fault : goal.returns-in-Ok-clause-first_fault
-returns-in-Ok-clause-first_fault c = search rules
+returns-in-Ok-clause-first_fault c = search rules depth 2
 
 pub returns-in-Ok-clause-only_fault : goal.returns-in-Ok-clause-only_fault
-returns-in-Ok-clause-only_fault c = search rules
+returns-in-Ok-clause-only_fault c = search rules depth 2

@@ -6,4 +6,4 @@ pub loop-step-init : goal.loop-step-init
 loop-step-init c = steps_none _ _
 
 pub loop-step-preserved : goal.loop-step-preserved
-loop-step-preserved c = search rules
+loop-step-preserved c = search rules depth 2

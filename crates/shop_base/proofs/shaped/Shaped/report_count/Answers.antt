@@ -12,4 +12,4 @@ overflow_add-result-2 c =
     omega (arith, operations_of-le _ c.jobs.ensures.sound, cleanings-le (record { shop = c.self.inside.shop; plan = c.self.inside.plan }) shop.machines c.self.invariant (omega arith))
 
 pub returns : goal.returns
-returns c = search rules
+returns c = search rules depth 2
