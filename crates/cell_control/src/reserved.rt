@@ -16,7 +16,7 @@ use smallvec::SmallVec;
 use std::alloc::{AllocError, Global};
 
 /// The tables and due moments of a cell at the start, and room for an order of each job.
-#[derive(Debug, Drop)]
+#[derive(Drop)]
 pub(crate) struct Reserved<D: Dues> {
     pub tables: Tables,
     pub dues: D,

@@ -13,7 +13,7 @@ use shop_base::{JobNo, Shaped, shape};
 use std::alloc::Global;
 
 /// What came of a proposal, or of several.
-#[derive(Debug, Drop)]
+#[derive(Drop)]
 pub(crate) enum Attempt {
     /// The plan is accepted.
     Accepted(Verified),

@@ -36,7 +36,7 @@ impl Proposer for GreedyProposer {
 }
 
 /// The state of the simulation.
-#[derive(Debug, Drop)]
+#[derive(Drop)]
 struct Simulation {
     cell: SimulatedCell,
     /// The jobs that have entered each machine, in order.

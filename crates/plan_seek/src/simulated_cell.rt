@@ -7,7 +7,7 @@ use shop_base::{JobNo, MachineNo, Moment, Shop, Step};
 use std::alloc::{AllocError, Global};
 
 /// A job in the simulated cell.
-#[derive(Clone, Copy, Debug)]
+#[derive(Clone, Copy)]
 pub(crate) struct Part {
     /// How many steps of its route it has entered.
     entered: usize,
@@ -20,7 +20,7 @@ pub(crate) struct Part {
 }
 
 /// Where each job is, and which job each machine holds.
-#[derive(Debug, Drop)]
+#[derive(Drop)]
 pub(crate) struct SimulatedCell {
     parts: Vec<Part>,
     holders: Vec<Option<JobNo>>,

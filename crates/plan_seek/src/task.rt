@@ -8,7 +8,7 @@ use shop_base::{JobNo, Moment, Plan, Shaped, Shop};
 use std::marker::Model;
 
 /// A shop, and the numbers of a plan for it, whose orders are sought.
-#[derive(Debug, Drop)]
+#[derive(Drop)]
 pub(crate) struct Task {
     pub shop: Shop,
     pub release: Vec<Moment>,

@@ -7,7 +7,7 @@ use shop_base::{JobNo, MachineNo, Shop};
 use std::alloc::{AllocError, Global};
 
 /// A move: the job, and the machine that it enters, none where it leaves the cell.
-#[derive(Clone, Copy, Debug)]
+#[derive(Clone, Copy)]
 pub(crate) struct Passage {
     pub job: JobNo,
     pub target: Option<MachineNo>,

@@ -13,7 +13,7 @@ use shop_base::{JobNo, MachineNo, Moment, MoveOrder, Spot};
 use std::alloc::{AllocError, Global};
 
 /// When the operation of a job on a machine ends and when the job leaves it, where they are told.
-#[derive(Clone, Copy, Debug)]
+#[derive(Clone, Copy)]
 pub(crate) struct Times {
     pub finish: Option<Moment>,
     pub leave: Option<Moment>,

@@ -12,14 +12,14 @@ use shop_base::{MachineNo, Shaped, Spot};
 use std::alloc::{AllocError, Global};
 
 /// A visit, with the place of the next one to the same machine.
-#[derive(Clone, Copy, Debug)]
+#[derive(Clone, Copy)]
 pub(crate) struct LinkedVisit {
     pub visit: Visit,
     pub next: Option<usize>,
 }
 
 /// The visits to all machines, and for each machine the place of its first one.
-#[derive(Debug, Drop)]
+#[derive(Drop)]
 pub(crate) struct Visits {
     pub table: Vec<LinkedVisit>,
     pub first: Vec<Option<usize>>,
