@@ -1,8 +1,5 @@
 use Rattle.std.proofs.Common.{rules}
 use Rattle.command_words.proofs.words.command_line.command_of.Goals as goal
 
-pub returns-in-Check : goal.returns-in-Check
-returns-in-Check c = search rules depth 2
-
 pub returns-in-Audit : goal.returns-in-Audit
 returns-in-Audit c = search rules depth 2
