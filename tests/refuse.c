@@ -1,6 +1,8 @@
-/* Preloaded under the program and the tests by tests/refused-memory: refuses the request for memory with the number in
+/* Preloaded under the program and the tests. By tests/refused-memory: refuses the request for memory with the number in
    REFUSE, counted from 1, and says on the descriptor in REFUSE_TELL that it has met it. Where REFUSE_ASKED is set, it
-   counts those requests alone that come between a line `asked` on the standard error and the next line there. */
+   counts those requests alone that come between a line `asked` on the standard error and the next line there.
+   By tests/driven-runs: refuses the write to the standard output with the number in REFUSE_WRITE, counted from 1, and
+   none after it. */
 #define _GNU_SOURCE
 #include <dlfcn.h>
 #include <errno.h>
@@ -18,7 +20,7 @@ typedef void *(*aligned_t)(size_t, size_t);
 typedef int (*posix_t)(void **, size_t, size_t);
 typedef ssize_t (*write_t)(int, const void *, size_t);
 
-static long left = -1;
+static long left = -1, writes_left;
 static int from_asked, counts;
 
 static void begin(void) {
@@ -27,12 +29,18 @@ static void begin(void) {
   left = n ? atol(n) : 0;
   from_asked = getenv("REFUSE_ASKED") != NULL;
   counts = !from_asked;
+  const char *w = getenv("REFUSE_WRITE");
+  writes_left = w ? atol(w) : 0;
 }
 
 ssize_t write(int to, const void *bytes, size_t size) {
   NEXT(write_t, "write");
   begin();
   if (from_asked && to == STDERR_FILENO) counts = size >= 5 && memcmp(bytes, "asked", 5) == 0;
+  if (to == STDOUT_FILENO && writes_left != 0 && --writes_left == 0) {
+    errno = ENOSPC;
+    return -1;
+  }
   return next(to, bytes, size);
 }
 

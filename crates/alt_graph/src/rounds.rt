@@ -61,6 +61,7 @@ fn follow(
     requires settled { AreSettled shaped.now (so_far tables.now ranking.now) UNRANKED }
     ensures { IfOk result (IsRound shaped.now) }
 {
+    // There is a row for each node, and none is followed twice.
     let mut seen = vec![in alloc; UNRANKED; ranking.rows.len()]?;
     let mut nodes = Vec::with_capacity(alloc, ranking.rows.len())?;
     let mut next = node;

@@ -1,5 +1,5 @@
 -- What holds of a controller holds at the start, and after each step.
-use Rattle.std.proofs.Common.{◌≡◌, ℕ, ◌+◌, ◌-◌, ◌^◌, ◌<◌, ◌≤◌, List, [], Option, Bool, true, false, not, ◌&&◌, refl, sym, ◌∙◌, ap, subst, arith}
+use Rattle.std.proofs.Common.{◌≡◌, ℕ, ◌+◌, ◌-◌, ◌^◌, ◌<◌, max, List, [], Option, Bool, true, false, not, ◌&&◌, refl, sym, ◌∙◌, ap, subst, arith}
 use Rattle.std.specs.Prelude.{IsTrue}
 use Rattle.smallvec.specs.SmallVec.{SmallVec}
 use Rattle.shop_base.specs.declared.move_order.MoveOrder.{MoveOrder}
@@ -47,7 +47,7 @@ start_is v tables orders is none =
 
 -- a controller at the start
 pub fields_at_start : (v : VerifiedPlan) (tables : Tables) (dues : List (Option ℕ)) (orders : SmallVec MoveOrder) (left : ℕ) → IsVerified v
-    → AreTables v.planned tables → cell_of v.planned tables ≡ start v.planned → AreTied v.planned (start v.planned) dues → orders.items ≡ [] → jobs v.planned ≤ orders.capacity
+    → AreTables v.planned tables → cell_of v.planned tables ≡ start v.planned → AreTied v.planned (start v.planned) dues → orders.items ≡ [] → orders.capacity ≡ max 4 (jobs v.planned)
     → left ≡ stated_number v.planned → left < 2 ^ 64 → AreFieldsOf v tables dues orders 0 left true
 fields_at_start v tables dues orders left verified rows is tied none room stated fits = record {
   control = subst IsControl (sym (start_is v tables orders is none)) (start_control v verified);
@@ -109,5 +109,5 @@ module _ (v : VerifiedPlan) (old : Tables) (dues : List (Option ℕ)) (orders : 
     tied = tied;
     counts = omega (arith, some_left, fields.counts);
     fits = fields.fits;
-    room = omega (arith, fields.room, capacity);
+    room = capacity ∙ fields.room;
   }

@@ -12,3 +12,4 @@ pub mod Steps
 pub mod Fields
 pub mod Promises
 pub mod Reasons
+pub mod OneReason

@@ -72,6 +72,10 @@ IsFirstReason p c r NotExpected = IsInTurn p c r × IsUnexpected p c r.ended
 IsFirstReason p c r WrongKind = IsInTurn p c r × IsOtherKind p c r.ended
 IsFirstReason p c r (WrongMachine actual) = IsInTurn p c r × IsElsewhere p c r.ended actual
 
+-- no fault but this one is a first reason against the report, its fields included
+abbrev pub IsOnlyReason : PlannedShop → Cell → base.Report → ReportFault → Type 0
+IsOnlyReason p c r fault = (other : ReportFault) → IsFirstReason p c r other → other ≡ fault
+
 -- this is the first reason against the moment of a report
 abbrev pub IsMomentReason : Cell → ℕ → ReportFault → Type 0
 IsMomentReason c t MomentTooLarge = MAX_MOMENT < t

@@ -7,7 +7,7 @@ ghost use Rattle.shop_base.specs.Run.{Event};
 ghost use Rattle.shop_base.specs.Ends.{stated_number, HasEnded};
 ghost use Rattle.shop_base.specs.ReportsLeft.{reports_left};
 ghost use Rattle.cell_control.specs.Control.{Control, at_start, IsAnswered, IsControl};
-ghost use Rattle.cell_control.specs.Reports.{said, IsFirstReason};
+ghost use Rattle.cell_control.specs.Reports.{said, IsFirstReason, IsOnlyReason};
 ghost use Rattle.cell_control.specs.Promises.{IsCalled};
 ghost use Rattle.cell_control.specs.Readings.{IsPhase, IsDueOf};
 
@@ -57,7 +57,8 @@ impl<D: Dues> Model for Controller<D> {
 
 impl<D: Dues> Controller<D> {
     /// The controller of an accepted plan before the first report: all jobs outside, no machine entered.
-    /// It reserves all memory that later calls need. Where memory is wanting the plan comes back.
+    /// It takes all memory that later calls need, so that none of them answers with a want of it. Where a request for
+    /// memory is refused, the plan comes back with that error; when one is, no clause says.
     pub fn new(alloc: Global, verified: Verified) -> Result<Controller<D>, (AllocError, Verified)>
         ensures start { IfOk result (λ controller. controller ≡ at_start verified) }
         ensures handed_back { IfErr result (λ refused. refused.1 ≡ verified) }
@@ -85,11 +86,12 @@ impl<D: Dues> Controller<D> {
 
     /// Takes a report. Where it is possible, its activity has ended, and the moves are made that then
     /// keep the plan, until no further one can be made: they stand in [`Controller::orders`]. Where it
-    /// isn't possible, the first reason is told, and nothing changes.
+    /// isn't possible, the first reason is told, of which there is just one, and nothing changes.
     pub fn report(&mut self, report: Report) -> Result<Ack, ReportFault>
         ensures possible { IsOk result ↔ CanReport self.old.plan.planned self.old.cell (said report) }
         ensures answered { IfOk result (λ ack. IsAnswered self.old (said report) ack self.new) }
         ensures first_reason { IfErr result (IsFirstReason self.old.plan.planned self.old.cell (said report)) }
+        ensures only_reason { IfErr result (IsOnlyReason self.old.plan.planned self.old.cell (said report)) }
         ensures unchanged { IfErr result (λ fault. self.new ≡ self.old) }
         ensures called { (es : List Event) × IsCalled self.old (said report) es self.new }
         ensures never_refused { (due : ℕ) → GoesOn self.old.plan.planned self.old.cell (said report).ended due → (said report).at ≡ self.old.cell.last → IsOk result }

@@ -1,6 +1,6 @@
 //! The memory of a controller, taken once.
 
-ghost use Rattle.std.specs.Prelude.{◌≡◌, ◌≤◌, [], IfOk};
+ghost use Rattle.std.specs.Prelude.{◌≡◌, [], max, IfOk};
 ghost use Rattle.shop_base.specs.Plan.{jobs};
 ghost use Rattle.shop_base.specs.Cell.{start};
 ghost use Rattle.cell_control.specs.Tables.{cell_of, AreTables};
@@ -29,12 +29,11 @@ pub(crate) fn reserve<D: Dues>(alloc: Global, shaped: &Shaped) -> Result<Reserve
     ensures start { IfOk result (λ new. cell_of shaped.now new.tables ≡ start shaped.now) }
     ensures tied { IfOk result (λ new. AreTied shaped.now (start shaped.now) (D.dues new.dues)) }
     ensures no_orders { IfOk result (λ new. new.orders.items ≡ []) }
-    ensures room { IfOk result (λ new. jobs shaped.now ≤ new.orders.capacity) }
+    ensures room { IfOk result (λ new. new.orders.capacity ≡ max 4 (jobs shaped.now)) }
 {
     let tables = start_tables(alloc, shaped)?;
     let dues = start_dues(alloc, shaped, &tables)?;
-    let mut orders = SmallVec::new(alloc);
-    orders.reserve(job_count(shaped) as usize)?;
+    let orders = SmallVec::with_capacity(alloc, job_count(shaped) as usize)?;
     Ok(Reserved {
         tables,
         dues,

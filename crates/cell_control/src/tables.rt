@@ -1,6 +1,6 @@
 //! The tables of a cell: a row for each job and for each machine.
 
-ghost use Rattle.std.specs.Prelude.{◌≡◌, ℕ, ◌<◌, ◌≤◌, length, replicate, false, Some, IfOk};
+ghost use Rattle.std.specs.Prelude.{◌≡◌, ℕ, ◌<◌, ◌≤◌, length, replicate, vec_capacity, false, Some, IfOk};
 ghost use Rattle.shop_base.specs.declared.limits.TheConstants.{MAX_MOMENT};
 ghost use Rattle.shop_base.specs.Plan.{jobs, machines, order};
 ghost use Rattle.shop_base.specs.Cell.{job_in, entries, cleaning, start, with_job, with_machine};
@@ -41,28 +41,30 @@ pub fn start_tables(alloc: Global, shaped: &Shaped) -> Result<Tables, AllocError
 }
 
 fn start_jobs(alloc: Global, count: usize) -> Result<Vec<JobState>, AllocError>
-    ensures { IfOk result (λ rows. rows.items ≡ replicate count (record { made = 0; ready = false; since = 0 })) }
+    ensures rows { IfOk result (λ rows. rows.items ≡ replicate count (record { made = 0; ready = false; since = 0 })) }
+    ensures room { IfOk result (λ rows. vec_capacity rows ≡ count) }
 {
     let mut rows = Vec::with_capacity(alloc, count)?;
     for _i in 0..count {
-        rows.push(JobState {
+        rows.push_reserved(JobState {
             made: 0,
             ready: false,
             since: 0,
-        })?;
+        });
     }
     Ok(rows)
 }
 
 fn start_machines(alloc: Global, count: usize) -> Result<Vec<MachineRow>, AllocError>
-    ensures { IfOk result (λ rows. rows.items ≡ replicate count no_row) }
+    ensures rows { IfOk result (λ rows. rows.items ≡ replicate count no_row) }
+    ensures room { IfOk result (λ rows. vec_capacity rows ≡ count) }
 {
     let mut rows = Vec::with_capacity(alloc, count)?;
     for _i in 0..count {
-        rows.push(MachineRow {
+        rows.push_reserved(MachineRow {
             entered: 0,
             cleaning: None,
-        })?;
+        });
     }
     Ok(rows)
 }

@@ -48,7 +48,7 @@ found_where p entries done last left text (Ok audit) is_log so_far kept only = f
 found_where p entries done last left text (Err fault) is_log so_far kept only = only
 
 pub an_audit_keeps_what_was_driven : AnAuditKeepsWhatWasDriven
-an_audit_keeps_what_was_driven p entries done last left left_before left_after before text outcome shaped through so_far kept only =
+an_audit_keeps_what_was_driven p entries done last left left_before left_after before text pending outcome shaped through so_far kept only =
     let same : through.text ≡ text = append_cancel_left before through.text text (sym through.written) in
     let is_log : IsLogOf p text (record { cell = cell_after p entries; entries = entries }) =
     subst (λ (t : List ℕ). IsLogOf p t (record { cell = cell_after p entries; entries = entries })) same

@@ -16,14 +16,10 @@ use Rattle.cell_drive.specs.ManyCells.{CellsAnswer, accepted_lines}
 use Rattle.cell_drive.specs.ManyCells as answer
 use Rattle.cell_drive.specs.NumberedCells.{IsReportedOn}
 
-same_end : {T E : Type 0} (outcome : Result T E) (cells : List Control) → OnOk outcome (cells ≡ cells)
-same_end (Ok x) cells = refl
-same_end (Err e) cells = tt
-
-pub cells_answered : {T E : Type 0} (start end : List Control) (number : ℕ) (line : Option (List ℕ)) (text : List ℕ) (outcome : Result T E) (failed : Bool) (before after : Option (List ℕ))
-    → CellsAnswer start number line text end → Wrote outcome failed before after text → WasAnswered CellsAnswer start number line end outcome failed before after
-cells_answered start end number line text outcome failed before after answer wrote =
-    record { text = text; state = end; is_answer = answer; reached = same_end outcome end; wrote = wrote }
+pub cells_answered : {T E : Type 0} (start end : List Control) (number : ℕ) (line : Option (List ℕ)) (text : List ℕ) (outcome : Result T E) (failed_before failed : Bool) (before after : Option (List ℕ))
+    → CellsAnswer start number line text end → Wrote outcome failed before after text → OnOk outcome (failed ≡ failed_before) → WasAnswered CellsAnswer start number line end outcome failed_before failed before after
+cells_answered start end number line text outcome failed_before failed before after answer wrote unfailed =
+    record { text = text; is_answer = answer; wrote = wrote; unfailed = unfailed }
 
 pub answer_empty : (cells : List Control) (number : ℕ) (line : List ℕ) → line ≡ [] → CellsAnswer cells number (Some line) [] cells
 answer_empty cells number line none = subst (λ (l : List ℕ). CellsAnswer cells number (Some l) [] cells) (sym none) answer.empty

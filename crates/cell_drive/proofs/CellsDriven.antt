@@ -1,24 +1,87 @@
--- An input of several cells that was broken off.
-use Rattle.std.proofs.Common.{◌≡◌, ℕ, List, Option, Bool, subst}
-use Rattle.std.specs.declared.result.Result.TheVariants.{Err}
-use Rattle.cell_control.specs.Control.{Control}
+-- What several driven cells come to.
+use Rattle.std.proofs.Common.{◌≡◌, ◌↔◌, ℕ, List, [], ◌∷◌, ◌++◌, Option, Bool, Ok, Err, map, refl, sym, subst}
+use Rattle.std.specs.Prelude.{IsTrue}
+use Rattle.std.specs.Io.KnownBytes.{Consumes}
+use Rattle.plan_verifier.specs.Accepted.{VerifiedPlan}
+use Rattle.cell_control.specs.Control.{Control, at_start}
+use Rattle.cell_hub.specs.declared.ticket.Ticket.{Ticket}
+use Rattle.cell_hub.specs.Hub.{HubState}
 use Rattle.cell_drive.specs.declared.drive_fault.DriveFault.{DriveFault}
 use Rattle.cell_drive.specs.declared.drive_fault.DriveFault.TheVariants.{Read, Write, InputTooLong, Memory}
+use Rattle.cell_drive.specs.Lines.{input_lines}
+use Rattle.cell_drive.specs.Answering.{AreAnswered}
 use Rattle.cell_drive.specs.Streams.{IsStreamed}
-use Rattle.cell_drive.specs.ManyCells.{CellsAnswer, CellsClose}
-use Rattle.cell_drive.specs.DrivingCells.{AreDriven}
+use Rattle.cell_drive.specs.ManyCells.{CellsAnswer, CellsClose, AreAllDone}
+use Rattle.cell_drive.specs.NumberedCells.{with_content, contents_of, AreNumbered, HaveVerified}
+use Rattle.cell_drive.specs.CellsTextLaw.{AreVerified}
+use Rattle.cell_drive.specs.DrivingCells.{AreDrivenThrough, WereCellsAnswersWritten, AreBrokenOff}
+use Rattle.cell_drive.proofs.CellsAlone.{as_alone}
 
-broken_from : (fault : DriveFault) (start end : List Control) (read_failed : Bool) (left_before left_after : Option (List ℕ)) (write_failed : Bool) (before after : Option (List ℕ))
-    → IsStreamed {T = Unit {0}} (Err fault) CellsAnswer (CellsClose 0) start end read_failed left_before left_after write_failed before after
-    → AreDriven (Err fault) start end read_failed left_before left_after write_failed before after
-broken_from Read start end read_failed left_before left_after write_failed before after is = record { input = is.input; was_read = is.was_read; comes_to = is.comes_to }
-broken_from Write start end read_failed left_before left_after write_failed before after is = record { input = is.input; was_read = is.was_read; comes_to = is.comes_to }
-broken_from InputTooLong start end read_failed left_before left_after write_failed before after is = record { input = is.input; was_read = is.was_read; comes_to = is.comes_to }
-broken_from Memory start end read_failed left_before left_after write_failed before after is = tt
+-- ---- before the first line
 
-pub cells_broken_off : (fault : DriveFault) (start first end : List Control) (read_failed : Bool) (left_before left_after : Option (List ℕ)) (write_failed : Bool) (before after : Option (List ℕ))
-    → first ≡ start → IsStreamed {T = Unit {0}} (Err fault) CellsAnswer (CellsClose 0) first end read_failed left_before left_after write_failed before after
-    → AreDriven (Err fault) start end read_failed left_before left_after write_failed before after
-cells_broken_off fault start first end read_failed left_before left_after write_failed before after same is =
-    subst (λ cells. AreDriven (Err fault) cells end read_failed left_before left_after write_failed before after) same
-    (broken_from fault first end read_failed left_before left_after write_failed before after is)
+-- numbered cells run by accepted plans
+pub contents_verified : (h : HubState) (tickets : List Ticket) → AreNumbered h tickets → HaveVerified (contents_of h tickets)
+contents_verified h [] numbered = tt
+contents_verified h (t ∷ tickets) (stands, apart, rest) =
+    subst (λ (o : Option Control). HaveVerified (with_content o (contents_of h tickets))) (sym stands.there) (stands.control.verified, contents_verified h tickets rest)
+
+plans_verified : (plans : List VerifiedPlan) → HaveVerified (map at_start plans) → AreVerified plans
+plans_verified [] all = tt
+plans_verified (v ∷ plans) all = (all.0, plans_verified plans all.1)
+
+-- so the plans at whose start they stand are accepted ones
+pub starts_verified : (plans : List VerifiedPlan) (cells : List Control) → cells ≡ map at_start plans → HaveVerified cells → AreVerified plans
+starts_verified plans cells at_first all = plans_verified plans (subst HaveVerified at_first all)
+
+-- ---- at the end
+
+-- the whole input was read and answered
+pub cells_through : {T : Type 0} (plans : List VerifiedPlan) (x : T) (start end : List Control) (all_done : Bool)
+    (read_failed_before read_failed write_failed_before write_failed : Bool) (left_before left_after before after : Option (List ℕ)) (pending : List ℕ) → start ≡ map at_start plans → AreVerified plans
+    → IsStreamed {T = T} (Ok x) CellsAnswer (CellsClose 0) start end read_failed_before read_failed left_before left_after write_failed_before write_failed before after pending
+    → IsTrue all_done ↔ AreAllDone end
+    → AreDrivenThrough plans all_done left_before left_after before after pending
+cells_through {T} plans x start end all_done read_failed_before read_failed write_failed_before write_failed left_before left_after before after pending at_first verified streamed_from done =
+    let streamed : IsStreamed {T = T} (Ok x) CellsAnswer (CellsClose 0) (map at_start plans) end read_failed_before read_failed left_before left_after write_failed_before write_failed before after pending =
+    subst (λ (cells : List Control). IsStreamed {T = T} (Ok x) CellsAnswer (CellsClose 0) cells end read_failed_before read_failed left_before left_after write_failed_before write_failed before after pending)
+    at_first streamed_from in
+    let all = streamed.comes_to in
+    record {
+      input = streamed.input;
+      was_read = streamed.was_read;
+      at_end = all.at_end;
+      within = all.within;
+      text = all.text ++ all.closing;
+      end = end;
+      is_answer_text = record { answers = all.text; are_answers = all.are_answers; closing = all.closing; is_closing = all.is_closing; whole = refl };
+      written = all.written;
+      shown = streamed.shown;
+      done = done;
+      promised = as_alone plans (input_lines streamed.input) all.text end verified all.are_answers;
+    }
+
+written_from : (plans : List VerifiedPlan) (lines : List (Option (List ℕ))) (end : List Control) (failed_before failed : Bool) (before after : Option (List ℕ))
+    → AreAnswered CellsAnswer (map at_start plans) 1 lines end failed_before failed before after → WereCellsAnswersWritten plans lines before after
+written_from plans lines end failed_before failed before after all = (all.text, end, all.are_answers, all.written)
+
+-- it was broken off
+off : {T : Type 0} (plans : List VerifiedPlan) (fault : DriveFault) (end : List Control)
+    (read_failed_before read_failed write_failed_before write_failed : Bool) (left_before left_after before after : Option (List ℕ)) (pending : List ℕ)
+    → IsStreamed {T = T} (Err fault) CellsAnswer (CellsClose 0) (map at_start plans) end read_failed_before read_failed left_before left_after write_failed_before write_failed before after pending
+    → (input : List ℕ) × Consumes left_before left_after input × AreBrokenOff fault plans input read_failed_before read_failed left_after write_failed_before write_failed before after pending
+off plans Read end read_failed_before read_failed write_failed_before write_failed left_before left_after before after pending streamed =
+    let told = streamed.comes_to in (streamed.input, streamed.was_read, (told.0, told.1, written_from plans _ end write_failed_before write_failed before after told.2, told.2.unfailed, streamed.shown))
+off plans Write end read_failed_before read_failed write_failed_before write_failed left_before left_after before after pending streamed =
+    let told = streamed.comes_to in (streamed.input, streamed.was_read, (told.0, (end, told.1), told.2))
+off plans InputTooLong end read_failed_before read_failed write_failed_before write_failed left_before left_after before after pending streamed =
+    let told = streamed.comes_to in (streamed.input, streamed.was_read, (told.0, written_from plans _ end write_failed_before write_failed before after told.1, told.2, told.1.unfailed, streamed.shown))
+off plans Memory end read_failed_before read_failed write_failed_before write_failed left_before left_after before after pending streamed = absurd streamed.comes_to
+
+pub cells_broken_off : {T : Type 0} (plans : List VerifiedPlan) (fault : DriveFault) (start end : List Control)
+    (read_failed_before read_failed write_failed_before write_failed : Bool) (left_before left_after before after : Option (List ℕ)) (pending : List ℕ) → start ≡ map at_start plans
+    → IsStreamed {T = T} (Err fault) CellsAnswer (CellsClose 0) start end read_failed_before read_failed left_before left_after write_failed_before write_failed before after pending
+    → (input : List ℕ) × Consumes left_before left_after input × AreBrokenOff fault plans input read_failed_before read_failed left_after write_failed_before write_failed before after pending
+cells_broken_off {T} plans fault start end read_failed_before read_failed write_failed_before write_failed left_before left_after before after pending at_first streamed =
+    off plans fault end read_failed_before read_failed write_failed_before write_failed left_before left_after before after pending
+    (subst (λ (cells : List Control). IsStreamed {T = T} (Err fault) CellsAnswer (CellsClose 0) cells end read_failed_before read_failed left_before left_after write_failed_before write_failed before after pending)
+    at_first streamed)

@@ -1,5 +1,5 @@
 -- What a driven cell answers to a line.
-use Rattle.std.proofs.Common.{◌≡◌, ◌==◌, ℕ, length, codes, Bool, true, false, cond, List, [], ◌∷◌, map, Option, Some, None, Result, Ok, Err, refl, sym, ap, ◌∙◌, subst, append-nil, inl, inr, OnOk, ◌↔◌, arith}
+use Rattle.std.proofs.Common.{◌≡◌, ◌==◌, ℕ, length, codes, Bool, true, false, cond, List, [], ◌∷◌, map, Option, Some, None, Result, refl, sym, ap, ◌∙◌, subst, append-nil, inl, inr, OnOk, ◌↔◌, arith}
 use Rattle.std.proofs.lemmas.Bool.{eqb-true, false≢true}
 use Rattle.run_log.specs.Sinks.{Wrote}
 use Rattle.shop_base.specs.declared.move_order.MoveOrder.{MoveOrder}
@@ -23,14 +23,10 @@ use Rattle.cell_drive.specs.DrivenLines.{LineAnswer, IsLateText, too_long, empty
 use Rattle.cell_drive.specs.ManyCells.{accepted_lines}
 use Rattle.cell_drive.specs.Driven.{DriveState, DriveAnswer}
 
-same_end : {T E : Type 0} (outcome : Result T E) (s : DriveState) → OnOk outcome (s ≡ s)
-same_end (Ok x) s = refl
-same_end (Err e) s = tt
-
-pub was_answered : {T E : Type 0} (start end : DriveState) (number : ℕ) (line : Option (List ℕ)) (text : List ℕ) (outcome : Result T E) (failed : Bool) (before after : Option (List ℕ))
-    → DriveAnswer start number line text end → Wrote outcome failed before after text → WasAnswered DriveAnswer start number line end outcome failed before after
-was_answered start end number line text outcome failed before after answer wrote =
-    record { text = text; state = end; is_answer = answer; reached = same_end outcome end; wrote = wrote }
+pub was_answered : {T E : Type 0} (start end : DriveState) (number : ℕ) (line : Option (List ℕ)) (text : List ℕ) (outcome : Result T E) (failed_before failed : Bool) (before after : Option (List ℕ))
+    → DriveAnswer start number line text end → Wrote outcome failed before after text → OnOk outcome (failed ≡ failed_before) → WasAnswered DriveAnswer start number line end outcome failed_before failed before after
+was_answered start end number line text outcome failed_before failed before after answer wrote unfailed =
+    record { text = text; is_answer = answer; wrote = wrote; unfailed = unfailed }
 
 -- an answer that changes nothing
 pub answer_unchanged : (start end : DriveState) (number : ℕ) (line : Option (List ℕ)) (text : List ℕ) → end.control ≡ start.control → end.log ≡ start.log

@@ -1,7 +1,7 @@
 -- What a driven cell comes to, in the words of its answer text.
-use Rattle.std.proofs.Common.{◌≡◌, ℕ, ◌+◌, List, [], ◌∷◌, ◌++◌, Option, Ok, Err, Bool, refl, sym, ap, ◌∙◌, arith, subst, inl, inr}
+use Rattle.std.proofs.Common.{◌≡◌, ℕ, ◌+◌, List, [], ◌∷◌, ◌++◌, length, Option, Ok, Err, Bool, refl, sym, ap, ◌∙◌, arith, subst, inl, inr}
 use Rattle.std.specs.Prelude.{IsTrue, ◌↔◌}
-use Rattle.std.specs.Io.KnownBytes.{Consumes}
+use Rattle.std.specs.Io.KnownBytes.{Appends, Consumes}
 use Rattle.shop_base.specs.Plan.{PlannedShop}
 use Rattle.shop_base.specs.Cell.{Cell}
 use Rattle.shop_base.specs.Ends.{HasEnded, stated_number}
@@ -13,23 +13,23 @@ use Rattle.run_log.specs.declared.entry.Entry.{Entry}
 use Rattle.run_log.specs.Events.{events_of}
 use Rattle.cell_drive.specs.declared.drive_fault.DriveFault.{DriveFault}
 use Rattle.cell_drive.specs.declared.drive_fault.DriveFault.TheVariants.{Read, Write, InputTooLong, Memory}
-use Rattle.cell_drive.specs.Answering.{AnswerAll}
-use Rattle.cell_drive.specs.Streams.{AreAnswered, IsPartAnswered, IsCutOff, IsStreamed}
+use Rattle.cell_drive.specs.Answering.{AnswerAll, AreAnswered, AreCutOff, AreCutShort, IsClosingCut}
+use Rattle.cell_drive.specs.Streams.{IsCutOff, IsStreamed}
 use Rattle.cell_drive.specs.DrivenLines.{LineAnswer, closing_line}
 use Rattle.cell_drive.specs.Driven.{DriveState, IsDriven, DriveAnswer, ControlCloses, drive_start}
-use Rattle.cell_drive.specs.AnswerText.{DrivenCell, undriven, CellAnswers, CellCloses, AreAnswersTo}
-use Rattle.cell_drive.specs.Driving.{cell_after, IsDrivenThrough, WereAnswersWritten, IsBrokenOff, IsRunOf, IsSoFar, IsNeverFull, NeverWentWrong}
+use Rattle.cell_drive.specs.AnswerText.{DrivenCell, CellAnswers, CellCloses, AreAnswersTo}
+use Rattle.cell_drive.specs.Driving.{cell_after, IsDrivenThrough, WereAnswersWritten, WasCutOff, IsBrokenOff, IsRunOf, IsSoFar, IsNeverFull, NeverWentWrong}
 use Rattle.run_log.specs.Log.{Noted}
 use Rattle.cell_drive.proofs.Closing.{closing_line_is}
 use Rattle.cell_drive.proofs.DrivenRuns.{driven-never_full}
-use Rattle.cell_drive.proofs.PromisesKept.{never_went_wrong}
+use Rattle.cell_drive.proofs.PromisesKept.{stays_as_promised}
 
 -- the cell and the log of a driven cell
-abbrev seen : DriveState → DrivenCell
+abbrev pub seen : DriveState → DrivenCell
 seen s = record { cell = s.control.cell; entries = s.log.entries }
 
 -- an answer is one of the cell's
-seen_answer : (p : PlannedShop) (s e : DriveState) (number : ℕ) (line : Option (List ℕ)) (text : List ℕ) → s.control.plan.planned ≡ p
+pub seen_answer : (p : PlannedShop) (s e : DriveState) (number : ℕ) (line : Option (List ℕ)) (text : List ℕ) → s.control.plan.planned ≡ p
     → DriveAnswer s number line text e → CellAnswers p (seen s) number line text (seen e)
 seen_answer p s e number line text of_plan answer = record {
   more = answer.entries;
@@ -38,7 +38,7 @@ seen_answer p s e number line text of_plan answer = record {
 }
 
 -- and so are all, and the plan stays
-seen_answers : (p : PlannedShop) (lines : List (Option (List ℕ))) (s e : DriveState) (number : ℕ) (text : List ℕ) → s.control.plan.planned ≡ p
+pub seen_answers : (p : PlannedShop) (lines : List (Option (List ℕ))) (s e : DriveState) (number : ℕ) (text : List ℕ) → s.control.plan.planned ≡ p
     → AnswerAll DriveAnswer s number lines text e → AnswerAll (CellAnswers p) (seen s) number lines text (seen e) × (e.control.plan ≡ s.control.plan)
 seen_answers p [] s e number text of_plan all = ((all.0, ap seen all.1), ap (λ (d : DriveState). d.control.plan) all.1)
 seen_answers p (line ∷ lines) s e number text of_plan all =
@@ -47,10 +47,10 @@ seen_answers p (line ∷ lines) s e number text of_plan all =
     let rest = seen_answers p lines next e (number + 1) all.1 (ap (λ (v : VerifiedPlan). v.planned) plan_is ∙ of_plan) all.4 in
     ((all.0, all.1, seen next, seen_answer p s next number line all.0 of_plan all.3, rest.0, all.5), rest.1 ∙ plan_is)
 
-seen_closes : (p : PlannedShop) (s : DriveState) (text : List ℕ) → s.control.plan.planned ≡ p → ControlCloses s.control text → CellCloses p (seen s) text
+pub seen_closes : (p : PlannedShop) (s : DriveState) (text : List ℕ) → s.control.plan.planned ≡ p → ControlCloses s.control text → CellCloses p (seen s) text
 seen_closes p s text of_plan closes = subst (λ q. CellCloses q (seen s) text) of_plan closes
 
-abbrev the_closing : DriveState → List ℕ → Type 0
+abbrev pub the_closing : DriveState → List ℕ → Type 0
 the_closing s = ControlCloses s.control
 
 -- the cell of a driven cell is that after its log
@@ -82,10 +82,10 @@ module _ (s : DriveState) (driven : IsDriven s) where
       }
 
 -- the whole input was read and answered
-through : {T : Type 0} (v : VerifiedPlan) (x : T) (e : DriveState) (read_failed write_failed : Bool) (left_before left_after before after : Option (List ℕ))
-    → IsStreamed {T = T} (Ok x) DriveAnswer the_closing (drive_start v) e read_failed left_before left_after write_failed before after → IsDriven e
-    → IsDrivenThrough v.planned e.log.entries left_before left_after before after × (e.control.plan ≡ v)
-through v x e read_failed write_failed left_before left_after before after streamed driven =
+through : {T : Type 0} (v : VerifiedPlan) (x : T) (e : DriveState) (read_failed_before read_failed write_failed_before write_failed : Bool) (left_before left_after before after : Option (List ℕ)) (pending : List ℕ)
+    → IsStreamed {T = T} (Ok x) DriveAnswer the_closing (drive_start v) e read_failed_before read_failed left_before left_after write_failed_before write_failed before after pending → IsDriven e
+    → IsDrivenThrough v.planned e.log.entries left_before left_after before after pending × (e.control.plan ≡ v)
+through v x e read_failed_before read_failed write_failed_before write_failed left_before left_after before after pending streamed driven =
     let all = streamed.comes_to in
     let answers = seen_answers v.planned _ (drive_start v) e 1 all.text refl all.are_answers in
     let plan_is = answers.1 in
@@ -106,75 +106,97 @@ through v x e read_failed write_failed left_before left_after before after strea
           whole = refl;
         };
         written = all.written;
+        shown = streamed.shown;
       },
       plan_is,
     )
 
-pub driven_through : {T : Type 0} (v : VerifiedPlan) (x : T) (s e : DriveState) (read_failed write_failed : Bool) (left_before left_after before after : Option (List ℕ)) → s ≡ drive_start v
-    → IsStreamed {T = T} (Ok x) DriveAnswer the_closing s e read_failed left_before left_after write_failed before after → IsDriven e
-    → IsDrivenThrough v.planned e.log.entries left_before left_after before after × (e.control.plan ≡ v)
-driven_through {T} v x s e read_failed write_failed left_before left_after before after at_first streamed driven =
-    through v x e read_failed write_failed left_before left_after before after
-    (subst (λ d. IsStreamed {T = T} (Ok x) DriveAnswer the_closing d e read_failed left_before left_after write_failed before after) at_first streamed) driven
+pub driven_through : {T : Type 0} (v : VerifiedPlan) (x : T) (s e : DriveState) (read_failed_before read_failed write_failed_before write_failed : Bool) (left_before left_after before after : Option (List ℕ)) (pending : List ℕ) → s ≡ drive_start v
+    → IsStreamed {T = T} (Ok x) DriveAnswer the_closing s e read_failed_before read_failed left_before left_after write_failed_before write_failed before after pending → IsDriven e
+    → IsDrivenThrough v.planned e.log.entries left_before left_after before after pending × (e.control.plan ≡ v)
+driven_through {T} v x s e read_failed_before read_failed write_failed_before write_failed left_before left_after before after pending at_first streamed driven =
+    through v x e read_failed_before read_failed write_failed_before write_failed left_before left_after before after pending
+    (subst (λ d. IsStreamed {T = T} (Ok x) DriveAnswer the_closing d e read_failed_before read_failed left_before left_after write_failed_before write_failed before after pending) at_first streamed) driven
 
-seen_part : (v : VerifiedPlan) (input : List ℕ) (before after : Option (List ℕ))
-    → IsPartAnswered DriveAnswer the_closing (drive_start v) input before after → IsPartAnswered (CellAnswers v.planned) (CellCloses v.planned) (undriven v.planned) input before after
-seen_part v input before after part =
-    let answers = seen_answers v.planned part.told (drive_start v) part.state 1 part.text refl part.are_answers in
-    let same_plan = ap (λ (w : VerifiedPlan). w.planned) answers.1 in
+-- an answer that was cut off is one of the cell's
+seen_cut_off : (p : PlannedShop) (lines : List (Option (List ℕ))) (s e : DriveState) (number : ℕ) (before after : Option (List ℕ)) → s.control.plan.planned ≡ p
+    → AreCutOff DriveAnswer s number lines e before after → AreCutOff (CellAnswers p) (seen s) number lines (seen e) before after
+seen_cut_off p lines s e number before after of_plan off =
+    let answers = seen_answers p off.told s off.state number off.text of_plan off.are_answers in
+    let same_plan = ap (λ (w : VerifiedPlan). w.planned) answers.1 ∙ of_plan in
     record {
-      told = part.told;
-      rest = part.rest;
-      whole = part.whole;
-      text = part.text;
-      state = seen part.state;
+      told = off.told;
+      line = off.line;
+      rest = off.rest;
+      whole = off.whole;
+      text = off.text;
+      state = seen off.state;
       are_answers = answers.0;
-      closing = part.closing;
-      is_closing = elim part.is_closing [
-        | inl none ↦ inl none
-        | inr closes ↦ inr (closes.0, seen_closes v.planned part.state part.closing same_plan closes.1)
-      ];
-      written = part.written;
+      cut = off.cut;
+      is_answer = seen_answer p off.state e (number + length off.told) off.line off.cut same_plan off.is_answer;
+      between = off.between;
+      written = off.written;
+      part = off.part;
     }
 
-seen_cut : (v : VerifiedPlan) (input : List ℕ) (left before after : Option (List ℕ))
-    → IsCutOff DriveAnswer the_closing (drive_start v) input left before after → IsCutOff (CellAnswers v.planned) (CellCloses v.planned) (undriven v.planned) input left before after
-seen_cut v input left before after (inl part) =
-    inl
-    (record {
-      told = part.told;
-      rest = part.rest;
-      whole = part.whole;
-      text = part.text;
-      state = seen part.state;
-      are_answers = (seen_answers v.planned part.told (drive_start v) part.state 1 part.text refl part.are_answers).0;
-      written = part.written;
-    })
-seen_cut v input left before after (inr all) = inr (all.0, all.1, seen_part v input before after all.2)
+seen_closing_cut : (p : PlannedShop) (lines : List (Option (List ℕ))) (s e : DriveState) (number : ℕ) (before after : Option (List ℕ)) → s.control.plan.planned ≡ p
+    → IsClosingCut DriveAnswer the_closing s number lines e before after → IsClosingCut (CellAnswers p) (CellCloses p) (seen s) number lines (seen e) before after
+seen_closing_cut p lines s e number before after of_plan off =
+    let answers = seen_answers p lines s e number off.text of_plan off.are_answers in
+    record {
+      text = off.text;
+      are_answers = answers.0;
+      closing = off.closing;
+      is_closing = seen_closes p e off.closing (ap (λ (w : VerifiedPlan). w.planned) answers.1 ∙ of_plan) off.is_closing;
+      between = off.between;
+      written = off.written;
+      part = off.part;
+    }
 
-seen_written : (v : VerifiedPlan) (lines : List (Option (List ℕ))) (e : DriveState) (before after : Option (List ℕ))
-    → AreAnswered DriveAnswer (drive_start v) lines e before after → WereAnswersWritten v.planned lines before after
-seen_written v lines e before after all =
-    (all.text, seen e, (seen_answers v.planned lines (drive_start v) e 1 all.text refl all.are_answers).0, all.written)
+-- nor shown
+seen_cut_short : (p : PlannedShop) (lines : List (Option (List ℕ))) (s e : DriveState) (number : ℕ) (before after : Option (List ℕ)) → s.control.plan.planned ≡ p
+    → AreCutShort DriveAnswer s number lines e before after → AreCutShort (CellAnswers p) (seen s) number lines (seen e) before after
+seen_cut_short p lines s e number before after of_plan (inl off) = inl (seen_cut_off p lines s e number before after of_plan off)
+seen_cut_short p lines s e number before after of_plan (inr off) = inr (record {
+  text = off.text;
+  are_answers = (seen_answers p lines s e number off.text of_plan off.are_answers).0;
+  written = off.written;
+})
+
+pub seen_cut : (p : PlannedShop) (input : List ℕ) (s e : DriveState) (left before after : Option (List ℕ)) → s.control.plan.planned ≡ p
+    → IsCutOff DriveAnswer the_closing s input e left before after → IsCutOff (CellAnswers p) (CellCloses p) (seen s) input (seen e) left before after
+seen_cut p input s e left before after of_plan (inl off) = inl (seen_cut_short p _ s e 1 before after of_plan off)
+seen_cut p input s e left before after of_plan (inr (at_end, within, inl off)) = inr (at_end, within, inl (seen_cut_off p _ s e 1 before after of_plan off))
+seen_cut p input s e left before after of_plan (inr (at_end, within, inr off)) = inr (at_end, within, inr (seen_closing_cut p _ s e 1 before after of_plan off))
+
+-- the answers to these lines were written
+pub seen_written : (p : PlannedShop) (lines : List (Option (List ℕ))) (s e : DriveState) (failed_before failed : Bool) (before after : Option (List ℕ)) → s.control.plan.planned ≡ p
+    → AreAnswered DriveAnswer s 1 lines e failed_before failed before after → (text : List ℕ) × AnswerAll (CellAnswers p) (seen s) 1 lines text (seen e) × Appends before after text
+seen_written p lines s e failed_before failed before after of_plan all = (all.text, (seen_answers p lines s e 1 all.text of_plan all.are_answers).0, all.written)
+
+written : (v : VerifiedPlan) (lines : List (Option (List ℕ))) (e : DriveState) (failed_before failed : Bool) (before after : Option (List ℕ))
+    → AreAnswered DriveAnswer (drive_start v) 1 lines e failed_before failed before after → WereAnswersWritten v.planned lines before after
+written v lines e failed_before failed before after all =
+    let (text, are_answers, appended) = seen_written v.planned lines (drive_start v) e failed_before failed before after refl all in (text, seen e, are_answers, appended)
 
 -- it was broken off
-off : {T : Type 0} (v : VerifiedPlan) (fault : DriveFault) (e : DriveState) (read_failed write_failed : Bool) (left_before left_after before after : Option (List ℕ))
-    → IsStreamed {T = T} (Err fault) DriveAnswer the_closing (drive_start v) e read_failed left_before left_after write_failed before after
-    → (input : List ℕ) × Consumes left_before left_after input × IsBrokenOff fault v.planned input left_after read_failed write_failed before after
-off v Read e read_failed write_failed left_before left_after before after streamed =
-    let told = streamed.comes_to in (streamed.input, streamed.was_read, (told.0, told.1, seen_written v _ e before after told.2))
-off v Write e read_failed write_failed left_before left_after before after streamed =
-    let told = streamed.comes_to in (streamed.input, streamed.was_read, (told.0, seen_cut v streamed.input left_after before after told.1))
-off v InputTooLong e read_failed write_failed left_before left_after before after streamed =
-    let told = streamed.comes_to in (streamed.input, streamed.was_read, (told.0, seen_written v _ e before after told.1))
-off v Memory e read_failed write_failed left_before left_after before after streamed = absurd streamed.comes_to
+off : {T : Type 0} (v : VerifiedPlan) (fault : DriveFault) (e : DriveState) (read_failed_before read_failed write_failed_before write_failed : Bool) (left_before left_after before after : Option (List ℕ)) (pending : List ℕ)
+    → IsStreamed {T = T} (Err fault) DriveAnswer the_closing (drive_start v) e read_failed_before read_failed left_before left_after write_failed_before write_failed before after pending
+    → (input : List ℕ) × Consumes left_before left_after input × IsBrokenOff fault v.planned input read_failed_before read_failed left_after write_failed_before write_failed before after pending
+off v Read e read_failed_before read_failed write_failed_before write_failed left_before left_after before after pending streamed =
+    let told = streamed.comes_to in (streamed.input, streamed.was_read, (told.0, told.1, written v _ e write_failed_before write_failed before after told.2, told.2.unfailed, streamed.shown))
+off v Write e read_failed_before read_failed write_failed_before write_failed left_before left_after before after pending streamed =
+    let told = streamed.comes_to in (streamed.input, streamed.was_read, (told.0, (seen e, seen_cut v.planned streamed.input (drive_start v) e left_after before after refl told.1), told.2))
+off v InputTooLong e read_failed_before read_failed write_failed_before write_failed left_before left_after before after pending streamed =
+    let told = streamed.comes_to in (streamed.input, streamed.was_read, (told.0, written v _ e write_failed_before write_failed before after told.1, told.2, told.1.unfailed, streamed.shown))
+off v Memory e read_failed_before read_failed write_failed_before write_failed left_before left_after before after pending streamed = absurd streamed.comes_to
 
-pub broken_off : {T : Type 0} (v : VerifiedPlan) (fault : DriveFault) (s e : DriveState) (read_failed write_failed : Bool) (left_before left_after before after : Option (List ℕ)) → s ≡ drive_start v
-    → IsStreamed {T = T} (Err fault) DriveAnswer the_closing s e read_failed left_before left_after write_failed before after
-    → (input : List ℕ) × Consumes left_before left_after input × IsBrokenOff fault v.planned input left_after read_failed write_failed before after
-broken_off {T} v fault s e read_failed write_failed left_before left_after before after at_first streamed =
-    off v fault e read_failed write_failed left_before left_after before after
-    (subst (λ d. IsStreamed {T = T} (Err fault) DriveAnswer the_closing d e read_failed left_before left_after write_failed before after) at_first streamed)
+pub broken_off : {T : Type 0} (v : VerifiedPlan) (fault : DriveFault) (s e : DriveState) (read_failed_before read_failed write_failed_before write_failed : Bool) (left_before left_after before after : Option (List ℕ)) (pending : List ℕ) → s ≡ drive_start v
+    → IsStreamed {T = T} (Err fault) DriveAnswer the_closing s e read_failed_before read_failed left_before left_after write_failed_before write_failed before after pending
+    → (input : List ℕ) × Consumes left_before left_after input × IsBrokenOff fault v.planned input read_failed_before read_failed left_after write_failed_before write_failed before after pending
+broken_off {T} v fault s e read_failed_before read_failed write_failed_before write_failed left_before left_after before after pending at_first streamed =
+    off v fault e read_failed_before read_failed write_failed_before write_failed left_before left_after before after pending
+    (subst (λ d. IsStreamed {T = T} (Err fault) DriveAnswer the_closing d e read_failed_before read_failed left_before left_after write_failed_before write_failed before after pending) at_first streamed)
 
 -- what is said of a driven cell is said of the plan that it was made of
 pub never_full_of : (v : VerifiedPlan) (e : DriveState) (log : Noted) → IsDriven e → e.control.plan ≡ v → log ≡ e.log → IsNeverFull v.planned log
@@ -184,7 +206,7 @@ never_full_of v e log driven plan_is log_is =
 pub of_plan : (v : VerifiedPlan) (e : DriveState) (entries : List Entry) (is_done : Bool) (last left : ℕ) → IsDriven e → e.control.plan ≡ v → entries ≡ e.log.entries → IsSoFar e.control.plan.planned e.log.entries is_done last left
     → IsRunOf v.planned entries × IsSoFar v.planned entries is_done last left × NeverWentWrong v entries
 of_plan v e entries is_done last left driven plan_is entries_are sofar =
-    let wrong : NeverWentWrong e.control.plan e.log.entries = never_went_wrong e.control.plan driven.reports e.log.entries e.control.cell driven.verified driven.run in
+    let wrong : NeverWentWrong e.control.plan e.log.entries = stays_as_promised e.control.plan driven.reports (events_of e.log.entries) e.control.cell driven.verified driven.run in
     let here : IsRunOf e.control.plan.planned e.log.entries × IsSoFar e.control.plan.planned e.log.entries is_done last left × NeverWentWrong e.control.plan e.log.entries = (run_of e driven, sofar, wrong) in
     subst (λ l. IsRunOf v.planned l × IsSoFar v.planned l is_done last left × NeverWentWrong v l) (sym entries_are)
     (subst (λ w. IsRunOf w.planned e.log.entries × IsSoFar w.planned e.log.entries is_done last left × NeverWentWrong w e.log.entries) plan_is here)

@@ -24,3 +24,4 @@ pub mod CellsAnswers
 pub mod Closing
 pub mod CellsDriven
 pub mod OneCellsText
+pub mod CellsAlone

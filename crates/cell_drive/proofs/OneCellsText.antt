@@ -31,22 +31,22 @@ use Rattle.cell_drive.proofs.OneReason.{one_name}
 use Rattle.cell_drive.proofs.OneText.{one_closing}
 
 -- a cell by a well-shaped plan, as it can be in a run, and at rest
-record Keeps (v : Control) : Type 0 where
-  shaped : IsWellShaped v.plan.planned
-  sound : IsSound v.plan.planned v.cell
-  rest : IsAtRest v.plan.planned v.cell
+pub record Keeps (v : Control) : Type 0 where
+  pub shaped : IsWellShaped v.plan.planned
+  pub sound : IsSound v.plan.planned v.cell
+  pub rest : IsAtRest v.plan.planned v.cell
 
-abbrev AllKeep : List Control → Type 0
+abbrev pub AllKeep : List Control → Type 0
 AllKeep [] = Unit {0}
 AllKeep (v ∷ cells) = Keeps v × AllKeep cells
 
-starts_keep : (plans : List VerifiedPlan) → AreVerified plans → AllKeep (map at_start plans)
+pub starts_keep : (plans : List VerifiedPlan) → AreVerified plans → AllKeep (map at_start plans)
 starts_keep [] verified = tt
 starts_keep (v ∷ plans) (first, others) =
     let shaped = first.schedule.shaped in
     (record { shaped = shaped; sound = start-sound v.planned shaped; rest = start_at_rest v.planned }, starts_keep plans others)
 
-one_keeps : (cells : List Control) (k : ℕ) (content : Control) → AllKeep cells → slice_get cells k ≡ Some content → Keeps content
+pub one_keeps : (cells : List Control) (k : ℕ) (content : Control) → AllKeep cells → slice_get cells k ≡ Some content → Keeps content
 one_keeps [] k content keep found = absurd (cc)
 one_keeps (v ∷ cells) zero content keep found = let same : v ≡ content = cc in subst Keeps same keep.0
 one_keeps (v ∷ cells) (suc k) content keep found = one_keeps cells k content keep.1 found
@@ -96,7 +96,7 @@ one_answered before after other r ack again keeps is also =
           (also.punctual ∙ ap (λ l. before.punctual && not l) late ∙ sym is.punctual),
     )
 
-some_bytes : (word rest : List ℕ) → [] ≡ word ++ 32 ∷ rest → ⊥
+pub some_bytes : (word rest : List ℕ) → [] ≡ word ++ 32 ∷ rest → ⊥
 some_bytes [] rest none = absurd (cc)
 some_bytes (b ∷ word) rest none = absurd (cc)
 
@@ -179,7 +179,7 @@ module _ (cells : List Control) (number : ℕ) where
       one_outcome (slice_get cells one.0) one.0 one.1 text other end last (λ content found. one_keeps cells one.0 content keep found) one.3
       (subst (λ (r : Report). ComesTo (slice_get cells one.0) one.0 r other last) same.1 (subst (λ (k : ℕ). ComesTo (slice_get cells k) k also.1 other last) same.0 also.3))
 
-  stay : (line : Option (List ℕ)) (text : List ℕ) (end : List Control) → AllKeep cells → CellsAnswer cells number line text end → AllKeep end
+  pub stay : (line : Option (List ℕ)) (text : List ℕ) (end : List Control) → AllKeep cells → CellsAnswer cells number line text end → AllKeep end
   stay _ _ _ keep too_long = keep
   stay _ _ _ keep empty = keep
   stay _ _ _ keep (no_report line some none) = keep

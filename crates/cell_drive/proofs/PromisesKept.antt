@@ -11,9 +11,7 @@ use Rattle.shop_base.proofs.ControlledRuns.{controlled_to_run}
 use Rattle.shop_base.proofs.NeverStuck.{ended-or-goes_on, rest-not_stuck}
 use Rattle.shop_base.proofs.InTime.{controlled-leavings_kept, leaving-in_time}
 use Rattle.plan_verifier.specs.Accepted.{VerifiedPlan, IsVerified, kept_at, rank_in}
-use Rattle.run_log.specs.declared.entry.Entry.{Entry}
-use Rattle.run_log.specs.Events.{events_of}
-use Rattle.cell_drive.specs.Driving.{IsBeforeReport, IsAsPromised, NeverWentWrong}
+use Rattle.cell_drive.specs.Driving.{IsBeforeReport, IsAsPromised, StaysAsPromised}
 
 -- moves and events after them, cut before a report: the cut comes after the moves
 cut_moves : (os : List MoveOrder) (es now later : List Event) → moved os ++ es ≡ now ++ later → IsBeforeReport later
@@ -62,7 +60,7 @@ as_promised v rs es end verified controlled =
           (kept, leaving-in_time p (kept_at v) (ends_in p es) j (verified.budgets j inside) kept);
     }
 
-pub never_went_wrong : (v : VerifiedPlan) (rs : List Report) (entries : List Entry) (end : Cell) → IsVerified v → IsControlledRun v.planned rs (events_of entries) end → NeverWentWrong v entries
-never_went_wrong v rs entries end verified controlled es later same before =
-    let run = cut_run v.planned (start v.planned) rs (events_of entries) end es later controlled same before in
+pub stays_as_promised : (v : VerifiedPlan) (rs : List Report) (events : List Event) (end : Cell) → IsVerified v → IsControlledRun v.planned rs events end → StaysAsPromised v events
+stays_as_promised v rs events end verified controlled es later same before =
+    let run = cut_run v.planned (start v.planned) rs events end es later controlled same before in
     as_promised v run.0 es run.1 verified run.2

@@ -1,75 +1,95 @@
 -- A whole input, from what was drained and what came last.
-use Rattle.std.proofs.Common.{◌≡◌, ℕ, ◌+◌, List, [], ◌∷◌, ◌++◌, Bool, Option, Some, Result, Ok, Err, take, refl, sym, ap, ◌∙◌, arith, append_assoc, append-nil, subst, inl, inr}
-use Rattle.std.specs.Io.KnownBytes.{Appends}
-use Rattle.std.proofs.KnownBytes.{Appends-trans}
-use Rattle.run_log.specs.Sinks.{TookPart, Wrote}
+use Rattle.std.proofs.Common.{◌≡◌, ℕ, ◌+◌, List, [], ◌++◌, length, Bool, true, Option, Some, Result, Ok, Err, take, sym, ap, ◌∙◌, arith, append_assoc, append-nil, subst, inl, inr, ◌⊎◌}
+use Rattle.std.specs.Prelude.{OnOk, OnErr}
+use Rattle.std.specs.Io.KnownBytes.{Appends, Keeps}
+use Rattle.std.proofs.KnownBytes.{Appends-kept, Appends-trans}
 use Rattle.cell_drive.specs.declared.drive_fault.DriveFault.{DriveFault}
 use Rattle.cell_drive.specs.declared.drive_fault.DriveFault.TheVariants.{Read, Write, InputTooLong, Memory}
 use Rattle.cell_drive.specs.Lines.{input_lines}
 use Rattle.cell_drive.specs.Holding.{held_line, ended}
-use Rattle.cell_drive.specs.Answering.{AnswerAll, WasAnswered, WasClosed, WereAnswered}
-use Rattle.cell_drive.specs.Streams.{IsAllAnswered, IsPartAnswered, IsStreamed}
-use Rattle.cell_drive.specs.Reading.{IsPieceAnswered, IsDrained, IsFinished, last_line}
-use Rattle.cell_drive.proofs.Told.{AnswerAll-append, AnswerAll-one}
-use Rattle.cell_drive.proofs.Taking.{TookPart-more}
+use Rattle.cell_drive.specs.Answering.{AnswerAll, WasAnswered, WasClosed, AreAnswered, AreCutOff, AreCutShort, IsClosingCut, WereAnswered}
+use Rattle.cell_drive.specs.Streams.{IsShownAt, IsStreamed}
+use Rattle.cell_drive.specs.Reading.{IsPieceAnswered, IsDrained, IsWhollyFinished, IsFinished, last_line}
+use Rattle.cell_drive.proofs.Told.{AnswerAll-append, AnswerAll-one, cut_behind, closing_cut_behind, cut_one}
 use Rattle.cell_drive.proofs.WholeLines.{input_lines-ended, complete_lines-ended, last_line-some}
 
 -- ---- the last line
 
-all_told : {T E : Type 0} (r : Result T E) (P : Type 0) → P → Rattle.std.specs.Result.OnOk r P
-all_told (Ok x) P h = h
-all_told (Err e) P h = tt
-
-pub last_some : {S T E : Type 0} (answers : S → ℕ → Option (List ℕ) → List ℕ → S → Type 0) (start : S) (lines : ℕ) (held : Option (List ℕ)) (end : S) (outcome : Result T E) (failed : Bool) (before after : Option (List ℕ))
-    → (held ≡ Some [] → ⊥) → WasAnswered answers start lines (held_line held) end outcome failed before after
-    → WereAnswered answers start lines (last_line held) end outcome failed before after
-last_some answers start lines held end outcome failed before after some_held was = record {
-  told = held_line held ∷ [];
-  rest = [];
-  whole = sym (last_line-some held some_held);
-  all = all_told outcome ([] ≡ []) refl;
+pub last_some : {S T E : Type 0} (answers : S → ℕ → Option (List ℕ) → List ℕ → S → Type 0) (start : S) (lines : ℕ) (held : Option (List ℕ)) (end : S) (outcome : Result T E) (failed_before failed : Bool) (before after : Option (List ℕ))
+    → (held ≡ Some [] → ⊥) → WasAnswered answers start lines (held_line held) end outcome failed_before failed before after
+    → WereAnswered answers start lines (last_line held) end outcome failed_before failed before after
+last_some answers start lines held end (Ok x) failed_before failed before after some_held was = record {
   text = was.text;
-  state = was.state;
-  are_answers = AnswerAll-one answers start was.state lines (held_line held) was.text was.is_answer;
-  reached = was.reached;
-  wrote = was.wrote;
+  are_answers = subst (λ l. AnswerAll answers start lines l was.text end) (sym (last_line-some held some_held)) (AnswerAll-one answers start end lines (held_line held) was.text was.is_answer);
+  written = was.wrote;
+  unfailed = was.unfailed;
 }
+last_some answers start lines held end (Err e) failed_before failed before after some_held was = (
+  was.wrote.0,
+  subst (λ l. AreCutOff answers start lines l end before after) (sym (last_line-some held some_held))
+      (cut_one answers start end lines (held_line held) [] was.text before after was.is_answer was.wrote.1),
+)
 
 -- ---- the closing text behind it
 
-finish_wrote : {T E : Type 0} (outcome : Result T E) (failed : Bool) (before middle after : Option (List ℕ)) (text closing : List ℕ)
-    → Appends before middle text → Wrote outcome failed middle after closing → Wrote outcome failed before after (text ++ closing)
-finish_wrote (Ok x) failed before middle after text closing first second = Appends-trans before middle after text closing first second
-finish_wrote (Err e) failed before middle after text closing first second = (second.0, TookPart-more before middle after text closing first second.1)
+-- the last line is answered, and the closing text behind it is cut off
+pub finish_cut : {S T E : Type 0} (e : E) (answers : S → ℕ → Option (List ℕ) → List ℕ → S → Type 0) (closes : S → List ℕ → Type 0) (start : S) (lines : ℕ) (held : Option (List ℕ)) (end : S)
+    (failed_before failed_now failed : Bool) (before middle after : Option (List ℕ))
+    → AreAnswered answers start (lines + 1) (last_line held) end failed_before failed_now before middle
+    → WasClosed {T = T} closes end (Err e) failed_now failed middle after
+    → (failed ≡ true) × (AreCutOff answers start (lines + 1) (last_line held) end before after ⊎ IsClosingCut answers closes start (lines + 1) (last_line held) end before after)
+finish_cut e answers closes start lines held end failed_before failed_now failed before middle after were was = (
+  was.wrote.0,
+  inr
+      (record {
+        text = were.text;
+        are_answers = were.are_answers;
+        closing = was.text;
+        is_closing = was.is_closing;
+        between = middle;
+        written = were.written;
+        part = was.wrote.1;
+      }),
+)
 
--- the last line is answered, and the closing text is written, all of it or part
-pub finish_closed : {S T U E F : Type 0} (answers : S → ℕ → Option (List ℕ) → List ℕ → S → Type 0) (closes : S → List ℕ → Type 0) (start : S) (lines : ℕ) (held : Option (List ℕ)) (end : S)
-    (x : T) (outcome : Result U E) (failed failed_before : Bool) (before middle after : Option (List ℕ))
-    → WereAnswered {T = T} {E = F} answers start (lines + 1) (last_line held) end (Ok x) failed_before before middle
-    → WasClosed closes end outcome failed middle after
-    → IsFinished outcome answers closes start lines held end failed before after
-finish_closed answers closes start lines held end x outcome failed failed_before before middle after were was = record {
-  told = were.told;
-  rest = were.rest;
-  whole = were.whole;
+-- or it is written too, and then they are shown, or that failed
+pub finish_shown : {S T U E F : Type 0} (x : T) (outcome : Result U F) (answers : S → ℕ → Option (List ℕ) → List ℕ → S → Type 0) (closes : S → List ℕ → Type 0) (start : S) (lines : ℕ) (held : Option (List ℕ)) (end : S)
+    (failed_before failed_now failed_then failed : Bool) (before middle now after : Option (List ℕ))
+    → AreAnswered answers start (lines + 1) (last_line held) end failed_before failed_now before middle
+    → WasClosed {E = E} closes end (Ok x) failed_now failed_then middle now
+    → Keeps now after → OnOk outcome (failed ≡ failed_then) → OnErr outcome (failed ≡ true)
+    → IsFinished outcome answers closes start lines held end failed_before failed before after
+finish_shown x (Ok y) answers closes start lines held end failed_before failed_now failed_then failed before middle now after were was kept unfailed has_failed = record {
   text = were.text;
-  state = end;
-  are_answers = subst (AnswerAll answers start (lines + 1) were.told were.text) (sym were.reached) were.are_answers;
+  are_answers = were.are_answers;
   closing = was.text;
-  is_closing = inr (were.all, was.is_closing);
-  all = all_told outcome _ (were.all, was.is_closing, refl);
-  wrote = finish_wrote outcome failed before middle after were.text was.text were.wrote was.wrote;
+  is_closing = was.is_closing;
+  written = Appends-kept before now after (were.text ++ was.text) (Appends-trans before middle now were.text was.text were.written was.wrote) kept;
+  unfailed = unfailed ∙ was.unfailed ∙ were.unfailed;
 }
+finish_shown x (Err e) answers closes start lines held end failed_before failed_now failed_then failed before middle now after were was kept unfailed has_failed = (
+  has_failed,
+  inr
+      (record {
+        text = were.text;
+        are_answers = were.are_answers;
+        closing = was.text;
+        is_closing = was.is_closing;
+        between = middle;
+        written = were.written;
+        part = ([], record { out = was.text; took = Appends-kept middle now after was.text was.wrote kept; whole = append-nil was.text });
+      }),
+)
 
 -- ---- all of the input
 
 -- reading came to a fault
 pub stream_drained : {S T U : Type 0} (e : DriveFault) (answers : S → ℕ → Option (List ℕ) → List ℕ → S → Type 0) (closes : S → List ℕ → Type 0) (start end : S) (lines : ℕ) (held : Option (List ℕ))
-    (read_failed : Bool) (left_before left_after : Option (List ℕ)) (write_failed : Bool) (before after : Option (List ℕ))
-    → IsDrained {T = T} (Err e) answers start end lines held read_failed left_before left_after write_failed before after
-    → IsStreamed {T = U} (Err e) answers closes start end read_failed left_before left_after write_failed before after
-stream_drained Memory answers closes start end lines held read_failed left_before left_after write_failed before after drained = absurd drained.comes_to
-stream_drained Read answers closes start end lines held read_failed left_before left_after write_failed before after drained =
+    (read_failed_before read_failed : Bool) (left_before left_after : Option (List ℕ)) (write_failed_before write_failed : Bool) (before after : Option (List ℕ)) (pending : List ℕ)
+    → IsDrained {T = T} (Err e) answers start end lines held read_failed_before read_failed left_before left_after write_failed_before write_failed before after → IsShownAt e pending
+    → IsStreamed {T = U} (Err e) answers closes start end read_failed_before read_failed left_before left_after write_failed_before write_failed before after pending
+stream_drained Memory answers closes start end lines held read_failed_before read_failed left_before left_after write_failed_before write_failed before after pending drained shown = absurd drained.comes_to
+stream_drained Read answers closes start end lines held read_failed_before read_failed left_before left_after write_failed_before write_failed before after pending drained shown =
     let told = drained.comes_to.2 in
     record {
       input = drained.bytes;
@@ -81,10 +101,12 @@ stream_drained Read answers closes start end lines held read_failed left_before 
           text = told.text;
           are_answers = subst (λ l. AnswerAll answers start 1 l told.text end) (complete_lines-ended drained.bytes) told.are_answers;
           written = told.written;
+          unfailed = told.unfailed;
         },
       );
+      shown = shown;
     }
-stream_drained InputTooLong answers closes start end lines held read_failed left_before left_after write_failed before after drained =
+stream_drained InputTooLong answers closes start end lines held read_failed_before read_failed left_before left_after write_failed_before write_failed before after pending drained shown =
     let told = drained.comes_to.1 in
     record {
       input = drained.bytes;
@@ -95,102 +117,78 @@ stream_drained InputTooLong answers closes start end lines held read_failed left
           text = told.text;
           are_answers = subst (λ l. AnswerAll answers start 1 l told.text end) (complete_lines-ended (take 67108864 drained.bytes)) told.are_answers;
           written = told.written;
+          unfailed = told.unfailed;
         },
+        drained.comes_to.2,
       );
+      shown = shown;
     }
-stream_drained Write answers closes start end lines held read_failed left_before left_after write_failed before after drained =
-    let part = drained.comes_to.1 in
+stream_drained Write answers closes start end lines held read_failed_before read_failed left_before left_after write_failed_before write_failed before after pending drained shown =
     record {
       input = drained.bytes;
       was_read = drained.was_read;
       comes_to = (
         drained.comes_to.0,
-        inl
-            (record {
-              told = part.told;
-              rest = part.rest;
-              whole = part.whole ∙ complete_lines-ended (take 67108864 drained.bytes);
-              text = part.text;
-              state = part.state;
-              are_answers = part.are_answers;
-              written = part.written;
-            }),
+        inl (subst (λ l. AreCutShort answers start 1 l end before after) (complete_lines-ended (take 67108864 drained.bytes)) drained.comes_to.1),
+        drained.comes_to.2,
       );
+      shown = shown;
     }
 
-module _ {S T U E : Type 0} (answers : S → ℕ → Option (List ℕ) → List ℕ → S → Type 0) (closes : S → List ℕ → Type 0) (start middle end : S) (lines : ℕ) (held : Option (List ℕ)) (x : T) (outcome : Result U E)
-    (read_failed : Bool) (left_before left_after : Option (List ℕ)) (write_failed failed : Bool) (before between after : Option (List ℕ))
-    (drained : IsDrained {T = T} (Ok x) answers start middle lines held read_failed left_before left_after write_failed before between)
-    (finished : IsFinished outcome answers closes middle lines held end failed between after) where
-  abbrev so_far : IsPieceAnswered answers start 0 (Some []) drained.bytes middle lines held before between
+-- the last line and the closing text behind what was drained
+module _ {S T : Type 0} (answers : S → ℕ → Option (List ℕ) → List ℕ → S → Type 0) (closes : S → List ℕ → Type 0) (start middle end : S) (lines : ℕ) (held : Option (List ℕ)) (x : T)
+    (read_failed_before read_failed : Bool) (left_before left_after : Option (List ℕ)) (write_failed_before write_failed_now failed : Bool) (before between after : Option (List ℕ))
+    (drained : IsDrained {T = T} (Ok x) answers start middle lines held read_failed_before read_failed left_before left_after write_failed_before write_failed_now before between) where
+  abbrev so_far : IsPieceAnswered answers start 0 (Some []) drained.bytes middle lines held write_failed_before write_failed_now before between
   so_far = drained.comes_to.2
 
-  told_all : ended (Some []) drained.bytes ++ (finished.told ++ finished.rest) ≡ input_lines drained.bytes
-  told_all = ap (λ l. ended (Some []) drained.bytes ++ l) (finished.whole ∙ ap last_line so_far.held_is) ∙ input_lines-ended drained.bytes
+  all_lines : ended (Some []) drained.bytes ++ last_line held ≡ input_lines drained.bytes
+  all_lines = ap (λ h. ended (Some []) drained.bytes ++ last_line h) so_far.held_is ∙ input_lines-ended drained.bytes
 
-  answers_all : AnswerAll answers start 1 (ended (Some []) drained.bytes ++ finished.told) (so_far.text ++ finished.text) finished.state
-  answers_all =
-      let lines_are = so_far.lines_are in
-      AnswerAll-append answers (ended (Some []) drained.bytes) finished.told start middle finished.state 1 (lines + 1) so_far.text finished.text so_far.are_answers (omega arith) finished.are_answers
+  next_number : lines + 1 ≡ 1 + length (ended (Some []) drained.bytes)
+  next_number = let lines_are = so_far.lines_are in omega arith
 
-  -- the closing text failed
-  stream_part : TookPart between after (finished.text ++ finished.closing) → IsPartAnswered answers closes start drained.bytes before after
-  stream_part part = record {
-    told = ended (Some []) drained.bytes ++ finished.told;
-    rest = finished.rest;
-    whole = append_assoc (ended (Some []) drained.bytes) finished.told finished.rest ∙ told_all;
-    text = so_far.text ++ finished.text;
-    state = finished.state;
-    are_answers = answers_all;
-    closing = finished.closing;
-    is_closing = finished.is_closing;
-    written = subst (TookPart before after) (sym (append_assoc so_far.text finished.text finished.closing))
-        (TookPart-more before between after so_far.text (finished.text ++ finished.closing) so_far.written part);
-  }
-
-  stream_whole : finished.rest ≡ [] → closes finished.state finished.closing → end ≡ finished.state → Appends between after (finished.text ++ finished.closing)
-      → IsAllAnswered answers closes start drained.bytes end left_after before after
-  stream_whole none_left is_closing reached wrote =
-      let told : ended (Some []) drained.bytes ++ finished.told ≡ input_lines drained.bytes =
-      ap (λ l. ended (Some []) drained.bytes ++ l) (sym (append-nil finished.told) ∙ ap (λ l. finished.told ++ l) (sym none_left)) ∙ told_all in
-      let to_end = subst (AnswerAll answers start 1 (ended (Some []) drained.bytes ++ finished.told) (so_far.text ++ finished.text)) (sym reached) answers_all in
+  pub stream_done : {V : Type 0} (v : V) (pending : List ℕ) → IsWhollyFinished answers closes middle lines held end write_failed_now failed between after → pending ≡ []
+      → IsStreamed {T = V} (Ok v) answers closes start end read_failed_before read_failed left_before left_after write_failed_before failed before after pending
+  stream_done v pending finished shown =
+      let all : AnswerAll answers start 1 (ended (Some []) drained.bytes ++ last_line held) (so_far.text ++ finished.text) end =
+      AnswerAll-append answers (ended (Some []) drained.bytes) (last_line held) start middle end 1 (lines + 1) so_far.text finished.text so_far.are_answers next_number finished.are_answers in
       record {
-        at_end = drained.comes_to.0;
-        within = drained.comes_to.1;
-        text = so_far.text ++ finished.text;
-        are_answers = subst (λ l. AnswerAll answers start 1 l (so_far.text ++ finished.text) end) told to_end;
-        closing = finished.closing;
-        is_closing = subst (λ s. closes s finished.closing) (sym reached) is_closing;
-        written = subst (Appends before after) (sym (append_assoc so_far.text finished.text finished.closing))
-            (Appends-trans before between after so_far.text (finished.text ++ finished.closing) so_far.written wrote);
+        input = drained.bytes;
+        was_read = drained.was_read;
+        comes_to = record {
+          at_end = drained.comes_to.0;
+          within = drained.comes_to.1;
+          text = so_far.text ++ finished.text;
+          are_answers = subst (λ l. AnswerAll answers start 1 l (so_far.text ++ finished.text) end) all_lines all;
+          closing = finished.closing;
+          is_closing = finished.is_closing;
+          written = subst (Appends before after) (sym (append_assoc so_far.text finished.text finished.closing))
+              (Appends-trans before between after so_far.text (finished.text ++ finished.closing) so_far.written finished.written);
+          read_unfailed = drained.comes_to.3;
+          write_unfailed = finished.unfailed ∙ so_far.unfailed;
+        };
+        shown = shown;
       }
 
-pub stream_done : {S T U E V : Type 0} (answers : S → ℕ → Option (List ℕ) → List ℕ → S → Type 0) (closes : S → List ℕ → Type 0) (start middle end : S) (lines : ℕ) (held : Option (List ℕ)) (x : T) (u : U) (v : V)
-    (read_failed : Bool) (left_before left_after : Option (List ℕ)) (write_failed failed : Bool) (before between after : Option (List ℕ))
-    → IsDrained {T = T} (Ok x) answers start middle lines held read_failed left_before left_after write_failed before between
-    → IsFinished {T = U} {E = E} (Ok u) answers closes middle lines held end failed between after
-    → IsStreamed {T = V} (Ok v) answers closes start end read_failed left_before left_after failed before after
-stream_done answers closes start middle end lines held x u v read_failed left_before left_after write_failed failed before between after drained finished = record {
-  input = drained.bytes;
-  was_read = drained.was_read;
-  comes_to = stream_whole answers closes start middle end lines held x (Ok u) read_failed left_before left_after write_failed failed before between after drained finished
-      finished.all.0 finished.all.1 finished.all.2 finished.wrote;
-}
+  -- the answer to the last line was cut off, or the closing text
+  cut_at : AreCutOff answers middle (lines + 1) (last_line held) end between after ⊎ IsClosingCut answers closes middle (lines + 1) (last_line held) end between after
+      → AreCutOff answers start 1 (input_lines drained.bytes) end before after ⊎ IsClosingCut answers closes start 1 (input_lines drained.bytes) end before after
+  cut_at (inl last) =
+      inl
+      (subst (λ l. AreCutOff answers start 1 l end before after) all_lines
+      (cut_behind answers (ended (Some []) drained.bytes) (last_line held) start middle end 1 (lines + 1) so_far.text before between after so_far.are_answers next_number so_far.written last))
+  cut_at (inr closing) =
+      inr
+      (subst (λ l. IsClosingCut answers closes start 1 l end before after) all_lines
+      (closing_cut_behind answers closes (ended (Some []) drained.bytes) (last_line held) start middle end 1 (lines + 1) so_far.text before between after so_far.are_answers next_number so_far.written closing))
 
-pub stream_failed : {S T U E V : Type 0} (answers : S → ℕ → Option (List ℕ) → List ℕ → S → Type 0) (closes : S → List ℕ → Type 0) (start middle end : S) (lines : ℕ) (held : Option (List ℕ)) (x : T) (e : E)
-    (read_failed : Bool) (left_before left_after : Option (List ℕ)) (write_failed failed : Bool) (before between after : Option (List ℕ))
-    → IsDrained {T = T} (Ok x) answers start middle lines held read_failed left_before left_after write_failed before between
-    → IsFinished {T = U} {E = E} (Err e) answers closes middle lines held end failed between after
-    → IsStreamed {T = V} (Err Write) answers closes start end read_failed left_before left_after failed before after
-stream_failed answers closes start middle end lines held x e read_failed left_before left_after write_failed failed before between after drained finished = record {
-  input = drained.bytes;
-  was_read = drained.was_read;
-  comes_to = (
-    finished.wrote.0,
-    inr (
-      drained.comes_to.0,
-      drained.comes_to.1,
-      stream_part answers closes start middle end lines held x (Err e) read_failed left_before left_after write_failed failed before between after drained finished finished.wrote.1,
-    ),
-  );
-}
+  pub stream_failed : {V : Type 0} (pending : List ℕ)
+      → (failed ≡ true) × (AreCutOff answers middle (lines + 1) (last_line held) end between after ⊎ IsClosingCut answers closes middle (lines + 1) (last_line held) end between after)
+      → IsStreamed {T = V} (Err Write) answers closes start end read_failed_before read_failed left_before left_after write_failed_before failed before after pending
+  stream_failed pending finished = record {
+    input = drained.bytes;
+    was_read = drained.was_read;
+    comes_to = (finished.0, inr (drained.comes_to.0, drained.comes_to.1, cut_at finished.1), drained.comes_to.3);
+    shown = tt;
+  }

@@ -35,9 +35,9 @@ pub record IsFoundAgain (p : PlannedShop) (entries : List Entry) (done : Bool) (
 -- an audit of what was written finds what driving came to, and its only fault is want of memory. The premises are what is promised of success in driving, into a taker that tells its bytes, and of an audit
 abbrev pub AnAuditKeepsWhatWasDriven : Type 0
 AnAuditKeepsWhatWasDriven =
-    (p : PlannedShop) (entries : List Entry) (done : Bool) (last left : ℕ) (left_before left_after : Option (List ℕ)) (before text : List ℕ) (outcome : Result Audit AuditFault)
+    (p : PlannedShop) (entries : List Entry) (done : Bool) (last left : ℕ) (left_before left_after : Option (List ℕ)) (before text pending : List ℕ) (outcome : Result Audit AuditFault)
     → IsWellShaped p
-    → IsDrivenThrough p entries left_before left_after (Some before) (Some (before ++ text))
+    → IsDrivenThrough p entries left_before left_after (Some before) (Some (before ++ text)) pending
     → IsSoFar p entries done last left
     → IfOk outcome (IsAudit p (lines_of text))
     → (TellRun p (lines_of text) → IfErr outcome (λ fault. fault ≡ Memory))

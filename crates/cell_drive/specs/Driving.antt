@@ -25,8 +25,8 @@ use Rattle.cell_drive.specs.AnswerText.{DrivenCell, undriven, CellAnswers, CellC
 abbrev pub cell_after : PlannedShop → List Entry → Cell
 cell_after p entries = ends_in p (events_of entries)
 
--- the whole input was read, and its answer text was written; these are the events in it
-pub record IsDrivenThrough (p : PlannedShop) (entries : List Entry) (left_before left_after before after : Option (List ℕ)) : Type 0 where
+-- the whole input was read, and its answer text was written and shown; these are the events in it
+pub record IsDrivenThrough (p : PlannedShop) (entries : List Entry) (left_before left_after before after : Option (List ℕ)) (pending : List ℕ) : Type 0 where
   pub input : List ℕ
   pub was_read : Consumes left_before left_after input
   pub at_end : IsAtEnd left_after
@@ -34,20 +34,26 @@ pub record IsDrivenThrough (p : PlannedShop) (entries : List Entry) (left_before
   pub text : List ℕ
   pub is_answer_text : IsAnswerText p input text (record { cell = cell_after p entries; entries = entries })
   pub written : Appends before after text
+  pub shown : pending ≡ []
 
 -- the answers to these lines were written, and nothing else
 abbrev pub WereAnswersWritten : PlannedShop → List (Option (List ℕ)) → Option (List ℕ) → Option (List ℕ) → Type 0
 WereAnswersWritten p lines before after = (text : List ℕ) × (end : DrivenCell) × AreAnswersTo p lines text end × Appends before after text
 
--- where driving was broken off: after a failed read, and where too much came, the answers to the complete lines within the limit were written; after a failed write the first bytes of these, or, once the input was read to its end, of all answers and the closing line; and without memory nothing
-abbrev pub IsBrokenOff : DriveFault → PlannedShop → List ℕ → Option (List ℕ) → Bool → Bool → Option (List ℕ) → Option (List ℕ) → Type 0
-IsBrokenOff Read p input left read_failed write_failed before after =
-    (read_failed ≡ true) × (length input ≤ 67108864) × WereAnswersWritten p (complete_lines input) before after
-IsBrokenOff Write p input left read_failed write_failed before after =
-    (write_failed ≡ true) × IsCutOff (CellAnswers p) (CellCloses p) (undriven p) input left before after
-IsBrokenOff InputTooLong p input left read_failed write_failed before after =
-    (67108864 < length input) × WereAnswersWritten p (complete_lines (take 67108864 input)) before after
-IsBrokenOff Memory p input left read_failed write_failed before after = (input ≡ []) × (after ≡ before)
+-- an answer or the closing line was cut off by a write that failed, or couldn't be shown, and no line behind it was taken
+abbrev pub WasCutOff : PlannedShop → List ℕ → Option (List ℕ) → Option (List ℕ) → Option (List ℕ) → Type 0
+WasCutOff p input left before after = (end : DrivenCell) × IsCutOff (CellAnswers p) (CellCloses p) (undriven p) input end left before after
+
+-- where driving was broken off: after a failed read, and where too much came, the answers to the complete lines within the limit were written and shown; after a failed write the answers up to that at which it failed, of which the first bytes were written; and without memory nothing. A device has failed only where it is the fault, or it had failed before
+abbrev pub IsBrokenOff : DriveFault → PlannedShop → List ℕ → Bool → Bool → Option (List ℕ) → Bool → Bool → Option (List ℕ) → Option (List ℕ) → List ℕ → Type 0
+IsBrokenOff Read p input read_failed_before read_failed left write_failed_before write_failed before after pending =
+    (read_failed ≡ true) × (length input ≤ 67108864) × WereAnswersWritten p (complete_lines input) before after × (write_failed ≡ write_failed_before) × (pending ≡ [])
+IsBrokenOff Write p input read_failed_before read_failed left write_failed_before write_failed before after pending =
+    (write_failed ≡ true) × WasCutOff p input left before after × (read_failed ≡ read_failed_before)
+IsBrokenOff InputTooLong p input read_failed_before read_failed left write_failed_before write_failed before after pending =
+    (67108864 < length input) × WereAnswersWritten p (complete_lines (take 67108864 input)) before after × (read_failed ≡ read_failed_before) × (write_failed ≡ write_failed_before) × (pending ≡ [])
+IsBrokenOff Memory p input read_failed_before read_failed left write_failed_before write_failed before after pending =
+    (input ≡ []) × (after ≡ before) × (read_failed ≡ read_failed_before) × (write_failed ≡ write_failed_before)
 
 -- the events are the controlled run of some reports by the plan, which leads to the cell after them
 abbrev pub IsRunOf : PlannedShop → List Entry → Type 0
@@ -81,6 +87,10 @@ pub record IsAsPromised (v : VerifiedPlan) (es : List Event) : Type 0 where
   pub in_time : ArePunctual v.planned (start v.planned) es → (j : ℕ) → j < jobs v.planned
       → KeepsLeaving v.planned (kept_at v) (ends_in v.planned es) j × IsInTime v.planned (ends_in v.planned es) j
 
--- so it is at the start of a log, and after each of its reports with the moves that it released
+-- so it is at the start of these events, and after each of their reports with the moves that it released
+abbrev pub StaysAsPromised : VerifiedPlan → List Event → Type 0
+StaysAsPromised v events = (es later : List Event) → events ≡ es ++ later → IsBeforeReport later → IsAsPromised v es
+
+-- so it is through a log
 abbrev pub NeverWentWrong : VerifiedPlan → List Entry → Type 0
-NeverWentWrong v entries = (es later : List Event) → events_of entries ≡ es ++ later → IsBeforeReport later → IsAsPromised v es
+NeverWentWrong v entries = StaysAsPromised v (events_of entries)

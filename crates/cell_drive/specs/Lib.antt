@@ -16,5 +16,6 @@ pub mod Statuses
 pub mod CellLines
 pub mod ManyCells
 pub mod NumberedCells
-pub mod DrivingCells
 pub mod CellsTextLaw
+pub mod CellsAlone
+pub mod DrivingCells

@@ -1,6 +1,7 @@
 -- How the cells of a hub are numbered by a row of tickets. No public clause cites this module.
 use Rattle.std.specs.Prelude.{◌≡◌, ◌≢◌, ℕ, suc, ◌≤◌, List, [], ◌∷◌, ◌++◌, length, Option, None, Some, Result, slice_get, slice_set}
 use Rattle.std.specs.declared.result.Result.TheVariants.{Ok, Err}
+use Rattle.plan_verifier.specs.Accepted.{IsVerified}
 use Rattle.cell_control.specs.declared.report.Report.{Report}
 use Rattle.cell_control.specs.declared.report.Ack.{Ack}
 use Rattle.cell_control.specs.Control.{Control, IsControl, IsAnswered}
@@ -36,6 +37,11 @@ pub record Stands (h : HubState) (t : Ticket) : Type 0 where
 abbrev pub AreNumbered : HubState → List Ticket → Type 0
 AreNumbered h [] = Unit {0}
 AreNumbered h (t ∷ tickets) = Stands h t × IsNoneOf t tickets × AreNumbered h tickets
+
+-- each of these cells runs by an accepted plan
+abbrev pub HaveVerified : List Control → Type 0
+HaveVerified [] = Unit {0}
+HaveVerified (c ∷ cells) = IsVerified c.plan × HaveVerified cells
 
 -- what a report on the cell of a number makes of the cells
 abbrev pub IsReportedOn : List Control → ℕ → Report → Result Ack HubFault → List Control → Type 0

@@ -1,22 +1,14 @@
 -- A whole input that is read and answered line by line.
 use Rattle.std.specs.Prelude.{◌≡◌, ℕ, ◌<◌, ◌≤◌, List, [], ◌++◌, length, take, Option, Bool, true, Result, Ok, Err, ◌⊎◌}
 use Rattle.std.specs.Io.KnownBytes.{Appends, Consumes, IsAtEnd}
-use Rattle.run_log.specs.Sinks.{TookPart}
 use Rattle.cell_drive.specs.declared.drive_fault.DriveFault.{DriveFault}
 use Rattle.cell_drive.specs.declared.drive_fault.DriveFault.TheVariants.{Read, Write, InputTooLong, Memory}
 use Rattle.cell_drive.specs.Lines.{input_lines, complete_lines}
-use Rattle.cell_drive.specs.Answering.{AnswerAll}
+use Rattle.cell_drive.specs.Answering.{AnswerAll, AreAnswered, AreCutOff, AreCutShort, IsClosingCut}
 
--- these lines were answered, the first of them as number 1, and all of the answers was written
-pub record AreAnswered {S : Type 0} (answers : S → ℕ → Option (List ℕ) → List ℕ → S → Type 0) (start : S) (lines : List (Option (List ℕ))) (end : S)
-    (before after : Option (List ℕ)) : Type 0 where
-  pub text : List ℕ
-  pub are_answers : AnswerAll answers start 1 lines text end
-  pub written : Appends before after text
-
--- all lines of an input were answered, the closing text was written behind them, and the input was read to its end
+-- all lines of an input were answered, the closing text was written behind them, the input was read to its end, and neither a read nor a write failed
 pub record IsAllAnswered {S : Type 0} (answers : S → ℕ → Option (List ℕ) → List ℕ → S → Type 0) (closes : S → List ℕ → Type 0) (start : S) (input : List ℕ) (end : S)
-    (left before after : Option (List ℕ)) : Type 0 where
+    (read_failed_before read_failed : Bool) (left : Option (List ℕ)) (write_failed_before write_failed : Bool) (before after : Option (List ℕ)) : Type 0 where
   pub at_end : IsAtEnd left
   pub within : length input ≤ 67108864
   pub text : List ℕ
@@ -24,52 +16,45 @@ pub record IsAllAnswered {S : Type 0} (answers : S → ℕ → Option (List ℕ)
   pub closing : List ℕ
   pub is_closing : closes end closing
   pub written : Appends before after (text ++ closing)
+  pub read_unfailed : read_failed ≡ read_failed_before
+  pub write_unfailed : write_failed ≡ write_failed_before
 
--- of the answers to these lines the first bytes were written
-pub record ArePartAnswered {S : Type 0} (answers : S → ℕ → Option (List ℕ) → List ℕ → S → Type 0) (start : S) (lines : List (Option (List ℕ)))
-    (before after : Option (List ℕ)) : Type 0 where
-  pub told : List (Option (List ℕ))
-  pub rest : List (Option (List ℕ))
-  pub whole : told ++ rest ≡ lines
-  pub text : List ℕ
-  pub state : S
-  pub are_answers : AnswerAll answers start 1 told text state
-  pub written : TookPart before after text
+-- a write failed: at the answer to one of the complete lines within the limit or at showing the answers to all of these, or, once the input was read to its end, at the answer to one of all lines or at the closing text. No line behind it was taken
+abbrev pub IsCutOff : {S : Type 0} → (S → ℕ → Option (List ℕ) → List ℕ → S → Type 0) → (S → List ℕ → Type 0) → S → List ℕ → S → Option (List ℕ) → Option (List ℕ) → Option (List ℕ) → Type 0
+IsCutOff answers closes start input end left before after =
+    AreCutShort answers start 1 (complete_lines (take 67108864 input)) end before after
+    ⊎ (IsAtEnd left × (length input ≤ 67108864)
+    × (AreCutOff answers start 1 (input_lines input) end before after ⊎ IsClosingCut answers closes start 1 (input_lines input) end before after))
 
--- of the answers to all lines of an input, and of the closing text behind them, the first bytes were written
-pub record IsPartAnswered {S : Type 0} (answers : S → ℕ → Option (List ℕ) → List ℕ → S → Type 0) (closes : S → List ℕ → Type 0) (start : S) (input : List ℕ)
-    (before after : Option (List ℕ)) : Type 0 where
-  pub told : List (Option (List ℕ))
-  pub rest : List (Option (List ℕ))
-  pub whole : told ++ rest ≡ input_lines input
-  pub text : List ℕ
-  pub state : S
-  pub are_answers : AnswerAll answers start 1 told text state
-  pub closing : List ℕ
-  pub is_closing : (closing ≡ []) ⊎ ((rest ≡ []) × closes state closing)
-  pub written : TookPart before after (text ++ closing)
-
--- a write failed: the first bytes were written of the answers to the complete lines within the limit, or, once the input was read to its end, to all lines, and of the closing text
-abbrev pub IsCutOff : {S : Type 0} → (S → ℕ → Option (List ℕ) → List ℕ → S → Type 0) → (S → List ℕ → Type 0) → S → List ℕ → Option (List ℕ) → Option (List ℕ) → Option (List ℕ) → Type 0
-IsCutOff answers closes start input left before after =
-    ArePartAnswered answers start (complete_lines (take 67108864 input)) before after
-    ⊎ (IsAtEnd left × (length input ≤ 67108864) × IsPartAnswered answers closes start input before after)
-
--- what a stream comes to once this input was read, on success and with each fault
+-- what a stream comes to once this input was read, on success and with each fault. A device has failed only where it is the fault, or it had failed before
 abbrev pub ComesTo : {S T : Type 0} → Result T DriveFault → (S → ℕ → Option (List ℕ) → List ℕ → S → Type 0) → (S → List ℕ → Type 0) → S → List ℕ → S
-    → Bool → Option (List ℕ) → Bool → Option (List ℕ) → Option (List ℕ) → Type 0
-ComesTo (Ok x) answers closes start input end read_failed left write_failed before after = IsAllAnswered answers closes start input end left before after
-ComesTo (Err Read) answers closes start input end read_failed left write_failed before after =
-    (read_failed ≡ true) × (length input ≤ 67108864) × AreAnswered answers start (complete_lines input) end before after
-ComesTo (Err Write) answers closes start input end read_failed left write_failed before after =
-    (write_failed ≡ true) × IsCutOff answers closes start input left before after
-ComesTo (Err InputTooLong) answers closes start input end read_failed left write_failed before after =
-    (67108864 < length input) × AreAnswered answers start (complete_lines (take 67108864 input)) end before after
-ComesTo (Err Memory) answers closes start input end read_failed left write_failed before after = ⊥
+    → Bool → Bool → Option (List ℕ) → Bool → Bool → Option (List ℕ) → Option (List ℕ) → Type 0
+ComesTo (Ok x) answers closes start input end read_failed_before read_failed left write_failed_before write_failed before after =
+    IsAllAnswered answers closes start input end read_failed_before read_failed left write_failed_before write_failed before after
+ComesTo (Err Read) answers closes start input end read_failed_before read_failed left write_failed_before write_failed before after =
+    (read_failed ≡ true) × (length input ≤ 67108864) × AreAnswered answers start 1 (complete_lines input) end write_failed_before write_failed before after
+ComesTo (Err Write) answers closes start input end read_failed_before read_failed left write_failed_before write_failed before after =
+    (write_failed ≡ true) × IsCutOff answers closes start input end left before after × (read_failed ≡ read_failed_before)
+ComesTo (Err InputTooLong) answers closes start input end read_failed_before read_failed left write_failed_before write_failed before after =
+    (67108864 < length input) × AreAnswered answers start 1 (complete_lines (take 67108864 input)) end write_failed_before write_failed before after × (read_failed ≡ read_failed_before)
+ComesTo (Err Memory) answers closes start input end read_failed_before read_failed left write_failed_before write_failed before after = ⊥
 
--- an input was read from what was left to read, and this is what the stream comes to
+-- nothing is held back at a fault, unless it is a failed write
+abbrev pub IsShownAt : DriveFault → List ℕ → Type 0
+IsShownAt Write pending = Unit {0}
+IsShownAt Read pending = pending ≡ []
+IsShownAt InputTooLong pending = pending ≡ []
+IsShownAt Memory pending = pending ≡ []
+
+-- nor without a fault
+abbrev pub IsShown : {T : Type 0} → Result T DriveFault → List ℕ → Type 0
+IsShown (Ok x) pending = pending ≡ []
+IsShown (Err fault) pending = IsShownAt fault pending
+
+-- an input was read from what was left to read, this is what the stream comes to, and nothing is held back of what was answered
 pub record IsStreamed {S T : Type 0} (outcome : Result T DriveFault) (answers : S → ℕ → Option (List ℕ) → List ℕ → S → Type 0) (closes : S → List ℕ → Type 0) (start end : S)
-    (read_failed : Bool) (left_before left_after : Option (List ℕ)) (write_failed : Bool) (before after : Option (List ℕ)) : Type 0 where
+    (read_failed_before read_failed : Bool) (left_before left_after : Option (List ℕ)) (write_failed_before write_failed : Bool) (before after : Option (List ℕ)) (pending : List ℕ) : Type 0 where
   pub input : List ℕ
   pub was_read : Consumes left_before left_after input
-  pub comes_to : ComesTo outcome answers closes start input end read_failed left_after write_failed before after
+  pub comes_to : ComesTo outcome answers closes start input end read_failed_before read_failed left_after write_failed_before write_failed before after
+  pub shown : IsShown outcome pending

@@ -1,6 +1,6 @@
 //! The lines that answer an accepted report, and the closing line, with the same bytes before each.
 
-ghost use Rattle.std.specs.Prelude.{[], ◌++◌, if◌then◌else◌};
+ghost use Rattle.std.specs.Prelude.{◌≡◌, [], ◌++◌, if◌then◌else◌, OnOk};
 ghost use Rattle.std.specs.List.{flat_map};
 ghost use Rattle.cell_control.specs.Reports.{said};
 ghost use Rattle.run_log.specs.Sinks.{Wrote};
@@ -21,7 +21,8 @@ pub(crate) fn put_behind<W: Sink>(
     line: &[u8],
     writer: &mut W,
 ) -> Result<(), WriteFault>
-    ensures { Wrote result (W.failed writer.new) (W.taken writer.old) (W.taken writer.new) (prefix.now ++ line.now) }
+    ensures wrote { Wrote result (W.failed writer.new) (W.taken writer.old) (W.taken writer.new) (prefix.now ++ line.now) }
+    ensures unfailed { OnOk result (W.failed writer.new ≡ W.failed writer.old) }
 {
     if prefix.is_empty() {
         return put_all(writer, line);
@@ -32,7 +33,8 @@ pub(crate) fn put_behind<W: Sink>(
 
 #[inline(always)]
 fn put_report_line<W: Sink>(prefix: &[u8], report: Report, writer: &mut W) -> Result<(), WriteFault>
-    ensures { Wrote result (W.failed writer.new) (W.taken writer.old) (W.taken writer.new) (prefix.now ++ report_line report) }
+    ensures wrote { Wrote result (W.failed writer.new) (W.taken writer.old) (W.taken writer.new) (prefix.now ++ report_line report) }
+    ensures unfailed { OnOk result (W.failed writer.new ≡ W.failed writer.old) }
 {
     let mut line = LineText::ended();
     put_report(&mut line, report);
@@ -46,7 +48,8 @@ fn put_late<W: Sink>(
     late: bool,
     writer: &mut W,
 ) -> Result<(), WriteFault>
-    ensures { Wrote result (W.failed writer.new) (W.taken writer.old) (W.taken writer.new) (if late then prefix.now ++ late_line (said report).at else []) }
+    ensures wrote { Wrote result (W.failed writer.new) (W.taken writer.old) (W.taken writer.new) (if late then prefix.now ++ late_line (said report).at else []) }
+    ensures unfailed { OnOk result (W.failed writer.new ≡ W.failed writer.old) }
 {
     if !late {
         return Ok(());
@@ -60,7 +63,8 @@ fn put_orders<W: Sink>(
     orders: &[MoveOrder],
     writer: &mut W,
 ) -> Result<(), WriteFault>
-    ensures { Wrote result (W.failed writer.new) (W.taken writer.old) (W.taken writer.new) (flat_map (λ o. prefix.now ++ order_line o) orders.now) }
+    ensures wrote { Wrote result (W.failed writer.new) (W.taken writer.old) (W.taken writer.new) (flat_map (λ o. prefix.now ++ order_line o) orders.now) }
+    ensures unfailed { OnOk result (W.failed writer.new ≡ W.failed writer.old) }
 {
     for order in orders {
         let mut line = LineText::ended();
@@ -79,7 +83,8 @@ pub(crate) fn put_accepted<W: Sink>(
     orders: &[MoveOrder],
     writer: &mut W,
 ) -> Result<(), WriteFault>
-    ensures { Wrote result (W.failed writer.new) (W.taken writer.old) (W.taken writer.new) (accepted_lines prefix.now report late orders.now) }
+    ensures wrote { Wrote result (W.failed writer.new) (W.taken writer.old) (W.taken writer.new) (accepted_lines prefix.now report late orders.now) }
+    ensures unfailed { OnOk result (W.failed writer.new ≡ W.failed writer.old) }
 {
     put_report_line(prefix, report, writer)?;
     put_late(prefix, report, late, writer)?;
@@ -92,7 +97,8 @@ pub(crate) fn put_closing<D: Dues, W: Sink>(
     controller: &Controller<D>,
     writer: &mut W,
 ) -> Result<(), WriteFault>
-    ensures { Wrote result (W.failed writer.new) (W.taken writer.old) (W.taken writer.new) (prefix.now ++ closing_line controller.now.plan.planned controller.now.cell) }
+    ensures wrote { Wrote result (W.failed writer.new) (W.taken writer.old) (W.taken writer.new) (prefix.now ++ closing_line controller.now.plan.planned controller.now.cell) }
+    ensures unfailed { OnOk result (W.failed writer.new ≡ W.failed writer.old) }
 {
     let left = controller.reports_left();
     if left == 0 {

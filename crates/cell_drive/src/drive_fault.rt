@@ -1,6 +1,7 @@
 ghost use Rattle.std.specs.Prelude.{◌≡◌};
 ghost use Rattle.cell_drive.specs.Statuses.{status_of};
 
+use std::alloc::AllocError;
 use thiserror::Error;
 
 /// Why lines were not all read and answered.
@@ -18,6 +19,17 @@ pub enum DriveFault {
     /// Memory was wanting, before the first byte was read.
     #[error("Memory")]
     Memory,
+}
+
+impl From<AllocError> for DriveFault {
+    ghost use Rattle.std.specs.Prelude.{◌≡◌};
+    ghost use Rattle.cell_drive.specs.declared.drive_fault.DriveFault.TheVariants.{Memory};
+
+    ghost from_gives = { λ _ fault. fault ≡ Memory };
+
+    fn from(_error: AllocError) -> DriveFault {
+        DriveFault::Memory
+    }
 }
 
 impl DriveFault {

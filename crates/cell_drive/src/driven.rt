@@ -1,6 +1,6 @@
 //! A cell that is driven by lines: its controller, and the log of what was accepted and ordered.
 
-ghost use Rattle.std.specs.Prelude.{◌≡◌, ◌≢◌, ◌+◌, ◌≤◌, [], ◌∷◌, Some, length, map, IfOk, IfErr};
+ghost use Rattle.std.specs.Prelude.{◌≡◌, ◌≢◌, ◌+◌, ◌≤◌, [], ◌∷◌, Some, length, map, IfOk, IfErr, OnOk};
 ghost use Rattle.cell_control.specs.Control.{IsAnswered};
 ghost use Rattle.cell_control.specs.Reports.{said, IsFirstReason};
 ghost use Rattle.run_log.specs.Log.{Notes};
@@ -71,7 +71,8 @@ pub(crate) fn put_refused<W: Sink>(
     writer: &mut W,
 ) -> Result<(), WriteFault>
     requires { length name.now ≤ 20 }
-    ensures { Wrote result (W.failed writer.new) (W.taken writer.old) (W.taken writer.new) (refused_line number name.now) }
+    ensures wrote { Wrote result (W.failed writer.new) (W.taken writer.old) (W.taken writer.new) (refused_line number name.now) }
+    ensures unfailed { OnOk result (W.failed writer.new ≡ W.failed writer.old) }
 {
     put_all(writer, refused_line(number, name).bytes())
 }
@@ -89,7 +90,7 @@ fn answer_told<D: Dues, W: Sink>(
     requires told { line.now ≢ [] }
     ensures driven { IsDriven (record { control = controller.new; log = log.new }) }
     ensures answered { WasAnswered DriveAnswer (record { control = controller.old; log = log.old }) number (Some line.now)
-        (record { control = controller.new; log = log.new }) result (W.failed writer.new) (W.taken writer.old) (W.taken writer.new) }
+        (record { control = controller.new; log = log.new }) result (W.failed writer.old) (W.failed writer.new) (W.taken writer.old) (W.taken writer.new) }
 {
     let Some(report) = report_of(line) else {
         return put_refused(number, b"BadLine", writer);
@@ -111,7 +112,7 @@ fn answer_line<D: Dues, W: Sink>(
     requires { IsDriven (record { control = controller.old; log = log.old }) }
     ensures driven { IsDriven (record { control = controller.new; log = log.new }) }
     ensures answered { WasAnswered DriveAnswer (record { control = controller.old; log = log.old }) number (Some line.now)
-        (record { control = controller.new; log = log.new }) result (W.failed writer.new) (W.taken writer.old) (W.taken writer.new) }
+        (record { control = controller.new; log = log.new }) result (W.failed writer.old) (W.failed writer.new) (W.taken writer.old) (W.taken writer.new) }
 {
     if line.is_empty() {
         return Ok(());

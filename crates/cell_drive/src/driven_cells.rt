@@ -2,7 +2,7 @@
 
 ghost use Rattle.std.specs.Prelude.{◌≡◌, ◌↔◌, ◌++◌, slice_get, [], ◌∷◌, Some, IsTrue, IfErr, OnOk};
 ghost use Rattle.shop_base.specs.Ends.{HasEnded};
-ghost use Rattle.cell_control.specs.Control.{Control, at_start};
+ghost use Rattle.cell_control.specs.Control.{Control};
 ghost use Rattle.run_log.specs.Sinks.{Wrote};
 ghost use Rattle.cell_drive.specs.Answering.{WasAnswered};
 ghost use Rattle.cell_drive.specs.CellLines.{cell_prefix};
@@ -12,16 +12,13 @@ ghost use Rattle.cell_drive.specs.NumberedCells.{contents_of, AreNumbered, closi
 
 use crate::cell_answers::{put_accepted, put_closing};
 use crate::cell_lines::cell_report_of;
-use crate::drive_fault::DriveFault;
 use crate::driven::put_refused;
 use crate::line_handler::LineHandler;
 use crate::numbered_cells::{numbered_cell, orders_of, report_on};
 use cell_control::{Dues, Report};
 use cell_hub::{Hub, Ticket};
-use plan_verifier::Verified;
 use run_log::{LineText, Sink, WriteFault};
 use shop_base::MoveOrder;
-use std::alloc::Global;
 use std::marker::Model;
 
 /// The cells of a hub in the order of their numbers.
@@ -43,30 +40,6 @@ impl<D: Dues> Model for DrivenCells<D> {
     ghost invariant = { λ d. AreNumbered d.hub d.tickets.items };
 }
 
-/// Adds the cell of the plan and its ticket.
-fn admit_cell<D: Dues>(
-    hub: &mut Hub<D>,
-    tickets: &mut Vec<Ticket>,
-    verified: Verified,
-) -> Result<(), DriveFault>
-    requires { AreNumbered hub.old tickets.old.items }
-    ensures numbered { AreNumbered hub.new tickets.new.items }
-    ensures added { OnOk result (contents_of hub.new tickets.new.items ≡ contents_of hub.old tickets.old.items ++ at_start verified ∷ []) }
-    ensures fault { IfErr result (λ fault. fault ≡ DriveFault.Memory) }
-{
-    if tickets.reserve(1).is_err() {
-        return Err(DriveFault::Memory);
-    }
-    let Ok(ticket) = hub.admit(verified) else {
-        return Err(DriveFault::Memory);
-    };
-    if let Some(cell) = hub.cell(ticket) {
-        let _plan = cell.verified();
-    }
-    tickets.push_reserved(ticket);
-    Ok(())
-}
-
 /// A cell's number and a space.
 fn prefix_of(cell: u64) -> LineText
     ensures { result ≡ cell_prefix cell }
@@ -84,7 +57,8 @@ fn put_cell_answer<W: Sink>(
     orders: &[MoveOrder],
     writer: &mut W,
 ) -> Result<(), WriteFault>
-    ensures { Wrote result (W.failed writer.new) (W.taken writer.old) (W.taken writer.new) (accepted_lines (cell_prefix cell) report late orders.now) }
+    ensures wrote { Wrote result (W.failed writer.new) (W.taken writer.old) (W.taken writer.new) (accepted_lines (cell_prefix cell) report late orders.now) }
+    ensures unfailed { OnOk result (W.failed writer.new ≡ W.failed writer.old) }
 {
     let prefix = prefix_of(u64::from(cell));
     put_accepted(prefix.bytes(), report, late, orders, writer)
@@ -100,7 +74,7 @@ fn answer_line<D: Dues, W: Sink>(
     requires { AreNumbered hub.old tickets.now }
     ensures numbered { AreNumbered hub.new tickets.now }
     ensures answered { WasAnswered CellsAnswer (contents_of hub.old tickets.now) number (Some line.now) (contents_of hub.new tickets.now)
-        result (W.failed writer.new) (W.taken writer.old) (W.taken writer.new) }
+        result (W.failed writer.old) (W.failed writer.new) (W.taken writer.old) (W.taken writer.new) }
 {
     if line.is_empty() {
         return Ok(());
@@ -124,8 +98,9 @@ fn put_numbered_closing<D: Dues, W: Sink>(
     writer: &mut W,
 ) -> Result<(), WriteFault>
     requires { AreNumbered hub.now tickets.now }
-    ensures { (content : Control) → slice_get (contents_of hub.now tickets.now) cell ≡ Some content
+    ensures wrote { (content : Control) → slice_get (contents_of hub.now tickets.now) cell ≡ Some content
         → Wrote result (W.failed writer.new) (W.taken writer.old) (W.taken writer.new) (cell_prefix cell ++ closing_line content.plan.planned content.cell) }
+    ensures unfailed { OnOk result (W.failed writer.new ≡ W.failed writer.old) }
 {
     match numbered_cell(hub, tickets, cell) {
         Some(controller) => put_closing(prefix_of(cell as u64).bytes(), controller, writer),
@@ -140,7 +115,8 @@ fn put_closings<D: Dues, W: Sink>(
     writer: &mut W,
 ) -> Result<(), WriteFault>
     requires { AreNumbered hub.now tickets.now }
-    ensures { Wrote result (W.failed writer.new) (W.taken writer.old) (W.taken writer.new) (closing_text 0 (contents_of hub.now tickets.now)) }
+    ensures wrote { Wrote result (W.failed writer.new) (W.taken writer.old) (W.taken writer.new) (closing_text 0 (contents_of hub.now tickets.now)) }
+    ensures unfailed { OnOk result (W.failed writer.new ≡ W.failed writer.old) }
 {
     for cell in 0..tickets.len() {
         put_numbered_closing(hub, tickets, cell, writer)?;
@@ -172,24 +148,6 @@ fn is_done<D: Dues>(hub: &Hub<D>, tickets: &[Ticket], cell: usize) -> bool
 }
 
 impl<D: Dues> DrivenCells<D> {
-    /// No cells.
-    pub(crate) fn none(alloc: Global) -> DrivenCells<D>
-        ensures { result ≡ [] }
-    {
-        DrivenCells {
-            hub: Hub::new(alloc),
-            tickets: Vec::new(alloc),
-        }
-    }
-
-    /// Adds the cell of the plan behind the others.
-    pub(crate) fn admit(&mut self, verified: Verified) -> Result<(), DriveFault>
-        ensures added { OnOk result (self.new ≡ self.old ++ at_start verified ∷ []) }
-        ensures fault { IfErr result (λ fault. fault ≡ DriveFault.Memory) }
-    {
-        admit_cell(&mut self.hub, &mut self.tickets, verified)
-    }
-
     /// Whether the run of each cell has ended.
     pub(crate) fn are_all_done(&self) -> bool
         ensures { IsTrue result ↔ AreAllDone self.now }

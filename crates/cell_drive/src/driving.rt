@@ -1,17 +1,19 @@
 //! A run that is driven from its start to the end of its input.
 
-ghost use Rattle.std.specs.Prelude.{◌≡◌, ℕ, List, IfOk, IfErr, Err};
+ghost use Rattle.std.specs.Prelude.{◌≡◌, ℕ, List, IfOk, IfErr, OnOk, Err};
 ghost use Rattle.std.specs.Io.KnownBytes.{Consumes};
 ghost use Rattle.cell_drive.specs.Driven.{IsDriven, drive_start};
 ghost use Rattle.cell_drive.specs.Driving.{IsDrivenThrough, IsBrokenOff, IsRunOf, IsSoFar, IsNeverFull, NeverWentWrong};
 
 use crate::drive_fault::DriveFault;
 use crate::driven::Driven;
+use crate::outlet::Outlet;
+use crate::rooms::reading_room;
 use crate::source::Source;
 use crate::streaming::stream;
 use cell_control::{Controller, TourneyDues};
 use plan_verifier::Verified;
-use run_log::{RunLog, Sink};
+use run_log::RunLog;
 use shop_base::Moment;
 use std::alloc::{AllocError, Global};
 
@@ -64,27 +66,28 @@ fn end_of(driven: Driven<TourneyDues>) -> DriveEnd
 /// The lines are `arrive JOB MOMENT`, `finish JOB MACHINE MOMENT` and `clean MACHINE MOMENT`. What isn't possible is
 /// refused by a line of its own, and changes nothing. A run that is done goes on to the end of its input.
 ///
-/// All memory is taken before the first byte is read. After a fault no closing line is written, and the plan is gone.
-pub fn drive<R: Source, W: Sink>(
+/// All memory is taken before the first byte is read. A closing line is written only where nothing has failed before it;
+/// of one whose own write fails the first bytes may be out. After a fault the plan is gone.
+pub fn drive<R: Source, W: Outlet>(
     alloc: Global,
     verified: Verified,
     reader: &mut R,
     writer: &mut W,
 ) -> Result<DriveEnd, DriveFault>
-    ensures through { IfOk result (λ end. IsDrivenThrough verified.planned end.log.entries (R.left reader.old) (R.left reader.new) (W.taken writer.old) (W.taken writer.new)) }
+    ensures through { IfOk result (λ end. IsDrivenThrough verified.planned end.log.entries (R.left reader.old) (R.left reader.new) (W.taken writer.old) (W.taken writer.new) (W.pending writer.new)) }
     ensures run { IfOk result (λ end. IsRunOf verified.planned end.log.entries) }
     ensures so_far { IfOk result (λ end. IsSoFar verified.planned end.log.entries end.done end.last end.left) }
     ensures never_full { IfOk result (λ end. IsNeverFull verified.planned end.log) }
     ensures promised { IfOk result (λ end. NeverWentWrong verified end.log.entries) }
     ensures plan { IfOk result (λ end. end.verified ≡ verified) }
+    ensures unfailed { OnOk result ((R.failed reader.new ≡ R.failed reader.old) × (W.failed writer.new ≡ W.failed writer.old)) }
     ensures broken_off { IfErr result (λ fault. (input : List ℕ) × Consumes (R.left reader.old) (R.left reader.new) input
-        × IsBrokenOff fault verified.planned input (R.left reader.new) (R.failed reader.new) (W.failed writer.new) (W.taken writer.old) (W.taken writer.new)) }
+        × IsBrokenOff fault verified.planned input (R.failed reader.old) (R.failed reader.new) (R.left reader.new) (W.failed writer.old) (W.failed writer.new) (W.taken writer.old) (W.taken writer.new) (W.pending writer.new)) }
     ensures untouched { result ≡ Err DriveFault.Memory → (reader.new ≡ reader.old) × (writer.new ≡ writer.old) }
 {
-    let Ok(mut driven) = start(alloc, verified) else {
-        return Err(DriveFault::Memory);
-    };
-    match stream(&mut driven, reader, writer) {
+    let mut room = reading_room(alloc)?;
+    let mut driven = start(alloc, verified)?;
+    match stream(&mut driven, reader, &mut room, writer) {
         Ok(()) => Ok(end_of(driven)),
         Err(fault) => Err(fault),
     }

@@ -6,7 +6,7 @@ use std::marker::Model;
 /// The most bytes of a line of input. Its line feed, and one carriage return before that, don't count.
 pub const MAX_LINE: usize = 63;
 
-pub(crate) const ROOM: usize = 64;
+const ROOM: usize = 64;
 
 /// The bytes of a line that have come so far, none once there are too many.
 #[derive(Drop)]

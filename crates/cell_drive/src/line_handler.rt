@@ -21,13 +21,13 @@ pub trait LineHandler {
         writer: &mut W,
     ) -> Result<(), WriteFault>
         requires { length line.now ≤ MAX_LINE }
-        ensures { WasAnswered answers self.old number (Some line.now) self.new result (W.failed writer.new) (W.taken writer.old) (W.taken writer.new) };
+        ensures { WasAnswered answers self.old number (Some line.now) self.new result (W.failed writer.old) (W.failed writer.new) (W.taken writer.old) (W.taken writer.new) };
 
     /// Answers the line of this number, which has too many bytes.
     fn answer_long<W: Sink>(&mut self, number: u64, writer: &mut W) -> Result<(), WriteFault>
-        ensures { WasAnswered answers self.old number None self.new result (W.failed writer.new) (W.taken writer.old) (W.taken writer.new) };
+        ensures { WasAnswered answers self.old number None self.new result (W.failed writer.old) (W.failed writer.new) (W.taken writer.old) (W.taken writer.new) };
 
     /// Writes the closing text, which stands behind the last answer.
     fn put_closing<W: Sink>(&self, writer: &mut W) -> Result<(), WriteFault>
-        ensures { WasClosed closes self.now result (W.failed writer.new) (W.taken writer.old) (W.taken writer.new) };
+        ensures { WasClosed closes self.now result (W.failed writer.old) (W.failed writer.new) (W.taken writer.old) (W.taken writer.new) };
 }

@@ -25,7 +25,7 @@ fn answer_bytes<H: LineHandler, W: Sink>(
     writer: &mut W,
 ) -> Result<(), WriteFault>
     ensures { WasAnswered H.answers handler.old number (within_limit (without_return bytes.now)) handler.new result
-        (W.failed writer.new) (W.taken writer.old) (W.taken writer.new) }
+        (W.failed writer.old) (W.failed writer.new) (W.taken writer.old) (W.taken writer.new) }
 {
     let line = without_return(bytes);
     if line.len() <= MAX_LINE {
@@ -43,7 +43,7 @@ pub(crate) fn answer_held<H: LineHandler, W: Sink>(
     writer: &mut W,
 ) -> Result<(), WriteFault>
     ensures { WasAnswered H.answers handler.old number (held_line held.now) handler.new result
-        (W.failed writer.new) (W.taken writer.old) (W.taken writer.new) }
+        (W.failed writer.old) (W.failed writer.new) (W.taken writer.old) (W.taken writer.new) }
 {
     match held.bytes() {
         Some(bytes) => answer_bytes(handler, number, bytes, writer),
@@ -60,7 +60,7 @@ fn answer_ended<H: LineHandler, W: Sink>(
     writer: &mut W,
 ) -> Result<(), WriteFault>
     ensures answered { WasAnswered H.answers handler.old number (held_line (joined held.old bytes.now)) handler.new result
-        (W.failed writer.new) (W.taken writer.old) (W.taken writer.new) }
+        (W.failed writer.old) (W.failed writer.new) (W.taken writer.old) (W.taken writer.new) }
     ensures cleared { held.new ≡ Some [] }
 {
     if held.is_empty() {
@@ -81,7 +81,7 @@ pub(crate) fn take_piece<H: LineHandler, W: Sink>(
 ) -> Result<(), WriteFault>
     requires { input.old.lines + length piece.now < 2 ^ 64 }
     ensures answered { WereAnswered H.answers handler.old (input.old.lines + 1) (ended input.old.held piece.now) handler.new result
-        (W.failed writer.new) (W.taken writer.old) (W.taken writer.new) }
+        (W.failed writer.old) (W.failed writer.new) (W.taken writer.old) (W.taken writer.new) }
     ensures held { OnOk result (input.new.held ≡ held_after input.old.held piece.now) }
     ensures lines { OnOk result (input.new.lines ≡ input.old.lines + length (ended input.old.held piece.now)) }
 {

@@ -1,6 +1,7 @@
-ghost use Rattle.std.specs.Prelude.{◌≡◌, ℕ, ◌<◌, ◌≤◌, List, length, Option, Bool, true, OnErr, IfOk, OnOk};
+ghost use Rattle.std.specs.Prelude.{◌≡◌, ℕ, ◌<◌, ◌≤◌, [], List, length, Option, Bool, true, OnErr, IfOk, OnOk};
 ghost use Rattle.std.specs.Io.KnownBytes.{ReadConsumes};
 
+use crate::outlet::Outlet;
 use thiserror::Error;
 
 /// A read failed.
@@ -17,9 +18,10 @@ pub trait Source {
     ghost failed: { Self → Bool };
 
     /// Puts the next bytes into the front of the room, and tells how many, none only at the end. A fault gives
-    /// none.
-    fn get(&mut self, room: &mut [u8]) -> Result<usize, ReadFault>
-        requires { 0 < length room.old }
+    /// none. It may wait, so it is asked only once all that was answered is shown.
+    fn get<W: Outlet>(&mut self, room: &mut [u8], outlet: &W) -> Result<usize, ReadFault>
+        requires room { 0 < length room.old }
+        requires shown { W.pending outlet.now ≡ [] }
         ensures count { IfOk result (λ count. count ≤ length room.new) }
         ensures given { ReadConsumes (left self.old) (left self.new) result room.new }
         ensures unfailed { OnOk result (failed self.new ≡ failed self.old) }

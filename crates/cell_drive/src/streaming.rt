@@ -1,56 +1,94 @@
 //! A whole input, read piece by piece and answered line by line.
 
-ghost use Rattle.std.specs.Prelude.{◌≡◌, ◌+◌, ◌^◌, ◌<◌, [], length, Some};
+ghost use Rattle.std.specs.Prelude.{◌≡◌, ◌+◌, ◌^◌, ◌<◌, ◌≤◌, [], length, Some, IfOk, IfErr, OnOk};
+ghost use Rattle.std.specs.Io.KnownBytes.{Keeps, ReadConsumes};
 ghost use Rattle.cell_drive.specs.Answering.{WereAnswered};
-ghost use Rattle.cell_drive.specs.Reading.{IsReadTaken, IsDrained, IsFinished, last_line};
-ghost use Rattle.cell_drive.specs.Streams.{IsStreamed};
+ghost use Rattle.cell_drive.specs.Reading.{IsReadOn, IsPastLimit, IsReadTaken, IsDrained, IsFinished, last_line};
+ghost use Rattle.cell_drive.specs.Streams.{IsShown, IsShownAt, IsStreamed};
 
 use crate::drive_fault::DriveFault;
-use crate::held_line::{HeldLine, ROOM};
+use crate::held_line::HeldLine;
 use crate::line_handler::LineHandler;
+use crate::outlet::Outlet;
 use crate::pieces::{Input, answer_held, take_piece};
 use crate::source::Source;
 use run_log::{Sink, WriteFault};
 use text_lines::MAX_INPUT;
 
+/// Shows what was answered within the limit. Then the fault is that more came.
+fn past_limit<W: Outlet>(writer: &mut W) -> DriveFault
+    ensures taken { Keeps (W.taken writer.old) (W.taken writer.new) }
+    ensures fault { IsPastLimit result (W.failed writer.old) (W.failed writer.new) (W.pending writer.new) }
+{
+    match writer.show() {
+        Ok(()) => DriveFault::InputTooLong,
+        Err(_) => DriveFault::Write,
+    }
+}
+
 /// Takes what was read, as far as so many bytes are left of the limit, and tells how many then are.
-fn take_read<H: LineHandler, W: Sink>(
+fn take_read<H: LineHandler, W: Outlet>(
     handler: &mut H,
     input: &mut Input,
     piece: &[u8],
     left: usize,
     writer: &mut W,
 ) -> Result<usize, DriveFault>
-    requires { input.old.lines + length piece.now < 2 ^ 64 }
-    ensures { IsReadTaken result H.answers handler.old input.old.lines input.old.held piece.now left handler.new input.new.lines input.new.held
-        (W.failed writer.new) (W.taken writer.old) (W.taken writer.new) }
+    requires { input.old.lines + left < 2 ^ 64 }
+    ensures taken { IsReadTaken result H.answers handler.old input.old.lines input.old.held piece.now left handler.new input.new.lines input.new.held
+        (W.failed writer.old) (W.failed writer.new) (W.taken writer.old) (W.taken writer.new) }
+    ensures shown { IfErr result (λ fault. IsShownAt fault (W.pending writer.new)) }
 {
     let within = piece.len().min(left);
-    match take_piece(handler, input, &piece[..within], writer) {
-        Ok(()) if within < piece.len() => Err(DriveFault::InputTooLong),
-        Ok(()) => Ok(left - within),
-        Err(_) => Err(DriveFault::Write),
+    if take_piece(handler, input, &piece[..within], writer).is_err() {
+        return Err(DriveFault::Write);
+    }
+    if within < piece.len() {
+        return Err(past_limit(writer));
+    }
+    Ok(left - within)
+}
+
+/// Shows what was answered, and then reads on.
+fn read_on<R: Source, W: Outlet>(
+    reader: &mut R,
+    room: &mut [u8],
+    writer: &mut W,
+) -> Result<usize, DriveFault>
+    requires { 0 < length room.old }
+    ensures count { IfOk result (λ count. count ≤ length room.new) }
+    ensures given { ReadConsumes (R.left reader.old) (R.left reader.new) result room.new }
+    ensures taken { Keeps (W.taken writer.old) (W.taken writer.new) }
+    ensures failed { IsReadOn result (R.failed reader.old) (R.failed reader.new) (W.failed writer.old) (W.failed writer.new) }
+    ensures shown { IsShown result (W.pending writer.new) }
+{
+    if writer.show().is_err() {
+        return Err(DriveFault::Write);
+    }
+    match reader.get(room, writer) {
+        Ok(count) => Ok(count),
+        Err(_) => Err(DriveFault::Read),
     }
 }
 
-/// Reads all bytes and answers the lines that end in them.
-fn drain<H: LineHandler, R: Source, W: Sink>(
+/// Reads all bytes and answers the lines that end in them. All answers are shown before each read.
+fn drain<H: LineHandler, R: Source, W: Outlet>(
     handler: &mut H,
     input: &mut Input,
     reader: &mut R,
+    room: &mut [u8],
     writer: &mut W,
 ) -> Result<(), DriveFault>
     requires none_held { input.old.held ≡ Some [] }
     requires no_lines { input.old.lines ≡ 0 }
-    ensures { IsDrained result H.answers handler.old handler.new input.new.lines input.new.held
-        (R.failed reader.new) (R.left reader.old) (R.left reader.new) (W.failed writer.new) (W.taken writer.old) (W.taken writer.new) }
+    requires room { 0 < length room.old }
+    ensures drained { IsDrained result H.answers handler.old handler.new input.new.lines input.new.held
+        (R.failed reader.old) (R.failed reader.new) (R.left reader.old) (R.left reader.new) (W.failed writer.old) (W.failed writer.new) (W.taken writer.old) (W.taken writer.new) }
+    ensures shown { IsShown result (W.pending writer.new) }
 {
-    let mut room = [0; ROOM];
     let mut left = MAX_INPUT;
     'reads: loop {
-        let Ok(count) = reader.get(&mut room) else {
-            return Err(DriveFault::Read);
-        };
+        let count = read_on(reader, room, writer)?;
         if count == 0 {
             return Ok(());
         }
@@ -66,7 +104,7 @@ fn answer_last<H: LineHandler, W: Sink>(
 ) -> Result<(), WriteFault>
     requires { input.now.lines + 1 < 2 ^ 64 }
     ensures { WereAnswered H.answers handler.old (input.now.lines + 1) (last_line input.now.held) handler.new result
-        (W.failed writer.new) (W.taken writer.old) (W.taken writer.new) }
+        (W.failed writer.old) (W.failed writer.new) (W.taken writer.old) (W.taken writer.new) }
 {
     if input.held.is_empty() {
         return Ok(());
@@ -74,38 +112,44 @@ fn answer_last<H: LineHandler, W: Sink>(
     answer_held(handler, input.lines + 1, &input.held, writer)
 }
 
-/// Answers the last line, where bytes of it are held, and writes the closing text.
-fn finish<H: LineHandler, W: Sink>(
+/// Answers the last line, where bytes of it are held, writes the closing text, and shows all.
+fn finish<H: LineHandler, W: Outlet>(
     handler: &mut H,
     input: &Input,
     writer: &mut W,
 ) -> Result<(), WriteFault>
     requires { input.now.lines + 1 < 2 ^ 64 }
-    ensures { IsFinished result H.answers H.closes handler.old input.now.lines input.now.held handler.new
-        (W.failed writer.new) (W.taken writer.old) (W.taken writer.new) }
+    ensures finished { IsFinished result H.answers H.closes handler.old input.now.lines input.now.held handler.new
+        (W.failed writer.old) (W.failed writer.new) (W.taken writer.old) (W.taken writer.new) }
+    ensures shown { OnOk result (W.pending writer.new ≡ []) }
 {
     answer_last(handler, input, writer)?;
-    handler.put_closing(writer)
+    handler.put_closing(writer)?;
+    writer.show()
 }
 
-/// Answers each line that the reader gives, and writes the closing text behind the last answer.
+/// Answers each line that the reader gives, and writes the closing text behind the last answer. What is read at a time
+/// lies in the room.
 ///
 /// A line is answered once its line feed is read, or at the end of the input if bytes are left. One carriage
-/// return before the line feed, or at the end, isn't part of the line. No memory is taken: one line is held at
-/// a time.
-pub fn stream<H: LineHandler, R: Source, W: Sink>(
+/// return before the line feed, or at the end, isn't part of the line. All that was answered is shown before the reader
+/// is asked for more, and at the end. Behind a failed write no line is taken. No memory is taken: one line is held at a
+/// time.
+pub fn stream<H: LineHandler, R: Source, W: Outlet>(
     handler: &mut H,
     reader: &mut R,
+    room: &mut [u8],
     writer: &mut W,
 ) -> Result<(), DriveFault>
+    requires { 0 < length room.old }
     ensures { IsStreamed result H.answers H.closes handler.old handler.new
-        (R.failed reader.new) (R.left reader.old) (R.left reader.new) (W.failed writer.new) (W.taken writer.old) (W.taken writer.new) }
+        (R.failed reader.old) (R.failed reader.new) (R.left reader.old) (R.left reader.new) (W.failed writer.old) (W.failed writer.new) (W.taken writer.old) (W.taken writer.new) (W.pending writer.new) }
 {
     let mut input = Input {
         held: HeldLine::new(),
         lines: 0,
     };
-    drain(handler, &mut input, reader, writer)?;
+    drain(handler, &mut input, reader, room, writer)?;
     match finish(handler, &input, writer) {
         Ok(()) => Ok(()),
         Err(_) => Err(DriveFault::Write),

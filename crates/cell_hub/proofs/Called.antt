@@ -5,6 +5,8 @@ use Rattle.std.specs.declared.result.Result.TheVariants.{Ok, Err}
 use Rattle.slab.specs.Slab.{Slab, get, Updates}
 use Rattle.plan_verifier.specs.Accepted.{VerifiedPlan}
 use Rattle.cell_control.specs.Control.{Control, at_start}
+use Rattle.cell_control.specs.Reports.{said, IsFirstReason}
+use Rattle.cell_control.proofs.OneReason.{only_reason}
 use Rattle.cell_control.specs.declared.report.Report.{Report}
 use Rattle.cell_control.specs.declared.report.Ack.{Ack}
 use Rattle.cell_hub.specs.declared.ticket.Ticket.{Ticket}
@@ -13,7 +15,7 @@ use Rattle.cell_hub.specs.declared.hub_fault.HubFault.{HubFault}
 use Rattle.cell_hub.specs.declared.hub_fault.HubFault.TheVariants.{NoSuchCell, SerialsSpent, Memory, Cell}
 use Rattle.cell_hub.specs.Hub.{HubState, cell_at, Puts}
 use Rattle.cell_hub.specs.Slots.{hub_of}
-use Rattle.cell_hub.specs.Calls.{Reported, Dismissed, last_number, IsAdmitted, IsReported, IsNotReported, IsDismissed, IsCall}
+use Rattle.cell_hub.specs.Calls.{Reported, Dismissed, last_number, IsAdmitted, IsReported, IsNotReported, IsOnlyRefusal, IsDismissed, IsCall}
 use Rattle.cell_hub.proofs.Puts.{HasSerial}
 use Rattle.cell_hub.proofs.Hubs.{none_there, puts_there}
 
@@ -55,6 +57,27 @@ report_finds old new t r (Err NoSuchCell) is = ((λ same. is.0), λ none. refl)
 report_finds old new t r (Err SerialsSpent) is = absurd is.0
 report_finds old new t r (Err Memory) is = absurd is.0
 report_finds old new t r (Err (Cell reason)) is = ((λ same. absurd (cc)), λ none. let e = is.0.1 in absurd (cc))
+
+-- why a report isn't taken has no second reason
+only_refusal : (h : HubState) (t : Ticket) (r : Report) (fault : HubFault) → IsNotReported h t r fault → IsOnlyRefusal h t r fault
+only_refusal h t r NoSuchCell none NoSuchCell other = refl
+only_refusal h t r NoSuchCell none SerialsSpent other = absurd other
+only_refusal h t r NoSuchCell none Memory other = absurd other
+only_refusal h t r NoSuchCell none (Cell reason) other = let e = other.1 in absurd (cc)
+only_refusal h t r SerialsSpent first fault other = absurd first
+only_refusal h t r Memory first fault other = absurd first
+only_refusal h t r (Cell reason) first NoSuchCell other = let e = first.1 in absurd (cc)
+only_refusal h t r (Cell reason) first SerialsSpent other = absurd other
+only_refusal h t r (Cell reason) first Memory other = absurd other
+only_refusal h t r (Cell reason) first (Cell another) other =
+    let e = first.1 in
+    let f = other.1 in
+    let same : other.0 ≡ first.0 = cc in
+    ap Cell (only_reason first.0.plan.planned first.0.cell (said r) reason first.2 another (subst (λ (c : Control). IsFirstReason c.plan.planned c.cell (said r) another) same other.2))
+
+pub report_only : (old new : HubState) (t : Ticket) (r : Report) (result : Result Ack HubFault) → IsCall old (Reported t r result) new → IfErr result (IsOnlyRefusal old t r)
+report_only old new t r (Ok ack) is = tt
+report_only old new t r (Err fault) is = only_refusal old t r fault is.0
 
 -- a dismissal finds no cell just where the ticket has none
 pub dismissal_finds : (old new : HubState) (t : Ticket) (result : Result Control HubFault) → IsCall old (Dismissed t result) new → (result ≡ Err NoSuchCell) ↔ (cell_at old t ≡ None)

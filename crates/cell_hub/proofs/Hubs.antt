@@ -1,5 +1,5 @@
 -- What a look into a slot, and a change of it, say of a hub.
-use Rattle.std.proofs.Common.{◌≡◌, ℕ, Option, Some, None, IsSome, is_some, option_copied, Bor, true, false, inl, inr, refl, sym, ap, ◌∙◌, subst}
+use Rattle.std.proofs.Common.{◌≡◌, ℕ, Option, Some, None, IsSome, is_some, IfSome, option_copied, Bor, true, false, inl, inr, refl, sym, ap, ◌∙◌, subst}
 use Rattle.std.proofs.lemmas.Bool.{cases_eq, eq-eqb, ne_eqb}
 use Rattle.slab.specs.Slab.{Slab, get, with_value, Updates}
 use Rattle.slab.proofs.SlabLemmas.{Updates-with_value}
@@ -24,6 +24,14 @@ module _ {D : Type 0} (s : Slab (Placed D)) (t : Ticket) where
 
   pub none_there : None ≡ get s t.slot → (next : ℕ) → cell_at (hub_of s next) t ≡ None
   none_there none next = cell_at-slot s next t ∙ ap (λ o. in_slot o t.serial) (sym none)
+
+  -- what holds of the cell in the ticket's slot, under the ticket's serial, holds of the ticket's cell
+  pub holds_there : (P : Control → Type 0) (placed : Placed D) → Some placed ≡ get s t.slot → placed.serial ≡ t.serial → P placed.controller → (next : ℕ) → IfSome (cell_at (hub_of s next) t) P
+  holds_there P placed found same holds next = subst (λ o. IfSome o P) (sym (stands_there placed found same next)) holds
+
+  -- anything holds of a cell that isn't there
+  pub holds_nowhere : (P : Control → Type 0) (next : ℕ) → cell_at (hub_of s next) t ≡ None → IfSome (cell_at (hub_of s next) t) P
+  holds_nowhere P next none = subst (λ o. IfSome o P) (sym none) tt
 
   -- where a slot has no cell, or the ticket's, a cell of the ticket in it is the ticket's
   pub puts_there : (new : Slab (Placed D)) (before after : ℕ) (placed : Placed D) → Updates s new t.slot (Some placed) → HasSerial (get s t.slot) t.serial → placed.serial ≡ t.serial → Puts (hub_of s before) (hub_of new after) t (Some placed.controller)

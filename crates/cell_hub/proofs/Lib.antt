@@ -3,3 +3,4 @@ pub mod Puts
 pub mod Lives
 pub mod Hubs
 pub mod Called
+pub mod TicketRuns

@@ -1,6 +1,7 @@
 -- The calls on a hub.
 use Rattle.std.specs.Prelude.{◌≡◌, ℕ, ◌+◌, ◌-◌, ◌^◌, ◌<◌, List, [], ◌∷◌, Option, None, Some, Result}
 use Rattle.std.specs.declared.result.Result.TheVariants.{Ok, Err}
+use Rattle.shop_base.specs.Activity.{GoesOn}
 use Rattle.plan_verifier.specs.Accepted.{VerifiedPlan}
 use Rattle.cell_control.specs.declared.report.Report.{Report}
 use Rattle.cell_control.specs.declared.report.Ack.{Ack}
@@ -45,6 +46,16 @@ IsNotReported h t r NoSuchCell = cell_at h t ≡ None
 IsNotReported h t r SerialsSpent = ⊥
 IsNotReported h t r Memory = ⊥
 IsNotReported h t r (Cell reason) = (c : Control) × (cell_at h t ≡ Some c) × IsFirstReason c.plan.planned c.cell (said r) reason
+
+-- no fault but this one is a reason why the report isn't taken, the fields of a first reason included
+abbrev pub IsOnlyRefusal : HubState → Ticket → Report → HubFault → Type 0
+IsOnlyRefusal h t r fault = (other : HubFault) → IsNotReported h t r other → other ≡ fault
+
+-- what the report says to have ended goes on in the cell, and the report's moment is the last one
+pub record EndsNow (c : Control) (r : Report) : Type 0 where
+  pub due : ℕ
+  pub going : GoesOn c.plan.planned c.cell (said r).ended due
+  pub now : (said r).at ≡ c.cell.last
 
 -- the ticket's cell is taken out with this content
 pub record IsDismissed (old : HubState) (t : Ticket) (content : Control) (new : HubState) : Type 0 where

@@ -1,15 +1,18 @@
 -- What holds of every list of calls on a hub.
-use Rattle.std.specs.Prelude.{◌≡◌, ◌≢◌, ℕ, List, [], ◌∷◌, ◌++◌, Option, None, Some, All}
+use Rattle.std.specs.Prelude.{◌≡◌, ◌≢◌, ℕ, List, [], ◌∷◌, ◌++◌, Option, None, Some, All, if◌then◌else◌}
 use Rattle.std.specs.declared.result.Result.TheVariants.{Ok, Err}
-use Rattle.plan_verifier.specs.Accepted.{VerifiedPlan}
+use Rattle.shop_base.specs.Report as base
+use Rattle.shop_base.specs.Run.{Event}
+use Rattle.plan_verifier.specs.Accepted.{VerifiedPlan, IsVerified}
 use Rattle.cell_control.specs.declared.report.Report.{Report}
 use Rattle.cell_control.specs.declared.report.Ack.{Ack}
 use Rattle.cell_control.specs.declared.report_fault.ReportFault.{ReportFault}
 use Rattle.cell_control.specs.Control.{Control, at_start, IsAnswered}
 use Rattle.cell_control.specs.Reports.{said, IsFirstReason}
+use Rattle.cell_control.specs.Promises.{IsControllerAfter}
 use Rattle.cell_hub.specs.declared.ticket.Ticket.{Ticket}
 use Rattle.cell_hub.specs.declared.hub_fault.HubFault.TheVariants.{NoSuchCell, Cell}
-use Rattle.cell_hub.specs.Hub.{HubState, hub_from, cell_at}
+use Rattle.cell_hub.specs.Hub.{HubState, hub_from, is_ticket, cell_at}
 use Rattle.cell_hub.specs.Calls.{HubCall, Admitted, Reported, Shown, Dismissed, AreCalls}
 
 -- the call gives this ticket to no plan, and finds no cell under it
@@ -63,3 +66,17 @@ pub data AreLived (t : Ticket) : Life → List HubCall → Life → Type 0 where
 abbrev pub CellsAreApart : Type 0
 CellsAreApart = (first : ℕ) (calls : List HubCall) (end : HubState) (t : Ticket) → AreCalls (hub_from first) calls end
     → (life : Life) × AreLived t not_given calls life × (cell_at end t ≡ content_in life)
+
+-- the reports that these calls make on the ticket, in order
+abbrev pub reports_on : Ticket → List HubCall → List base.Report
+reports_on t [] = []
+reports_on t (Admitted plan answer ∷ calls) = reports_on t calls
+reports_on t (Reported other r answer ∷ calls) = if is_ticket t other then said r ∷ reports_on t calls else reports_on t calls
+reports_on t (Shown other content ∷ calls) = reports_on t calls
+reports_on t (Dismissed other answer ∷ calls) = reports_on t calls
+
+-- whatever is called on a hub, after a plan was admitted the cell of its ticket is, as long as it stands, that at the end of the controlled run of this plan by the reports made on the ticket since then
+abbrev pub CallsMakeTheControlledRuns : Type 0
+CallsMakeTheControlledRuns = (first : ℕ) (before after : List HubCall) (end : HubState) (t : Ticket) (plan : VerifiedPlan) (content : Control) → IsVerified plan
+    → AreCalls (hub_from first) (before ++ Admitted plan (Ok t) ∷ after) end → cell_at end t ≡ Some content
+    → (es : List Event) × IsControllerAfter plan (reports_on t after) es content

@@ -1,9 +1,11 @@
-ghost use Rattle.std.specs.Prelude.{◌≡◌, ◌↔◌, None, option_copied, IfOk, IfErr, OnErr};
+ghost use Rattle.std.specs.Prelude.{◌≡◌, ◌↔◌, None, option_copied, IfOk, IfErr, IfSome, IsOk, OnErr};
+ghost use Rattle.shop_base.specs.Report.{CanReport};
+ghost use Rattle.cell_control.specs.Reports.{said};
 ghost use Rattle.cell_hub.specs.Hub.{hub_from, cell_at, AreSerialsBelow};
-ghost use Rattle.cell_hub.specs.Calls.{IsAdmitted, IsNotAdmitted, IsReported, IsNotReported, IsDismissed, IsCall, Admitted, Reported, Shown, Dismissed};
+ghost use Rattle.cell_hub.specs.Calls.{IsAdmitted, IsNotAdmitted, IsReported, IsNotReported, IsOnlyRefusal, EndsNow, IsDismissed, IsCall, Admitted, Reported, Shown, Dismissed};
 
 use crate::hub_fault::HubFault;
-use crate::slots::{Placed, cell_in, report_in, take_from};
+use crate::slots::{Placed, cell_in, report_in, reserve_slot, take_from};
 use crate::ticket::Ticket;
 use cell_control::{Ack, Controller, Dues, Report};
 use plan_verifier::Verified;
@@ -54,8 +56,9 @@ impl<D: Dues> Hub<D> {
         }
     }
 
-    /// Makes a cell that is run by the plan, and gives its ticket. Where the serials are spent, or memory is
-    /// wanting, the plan comes back; a serial that wasn't given is the next one's.
+    /// Makes a cell that is run by the plan, and gives its ticket. On an error the plan comes back and nothing
+    /// changes, so a serial that wasn't given is the next one's. It is `SerialsSpent` just where no serial is left,
+    /// else `Memory`, of a request for memory that was refused; when one is, no clause says.
     pub fn admit(&mut self, verified: Verified) -> Result<Ticket, (HubFault, Verified)>
         ensures admitted { IfOk result (λ ticket. IsAdmitted self.old verified ticket self.new) }
         ensures refused { IfErr result (λ refused. IsNotAdmitted self.old refused.0) }
@@ -66,8 +69,8 @@ impl<D: Dues> Hub<D> {
         if self.next_serial == u64::MAX {
             return Err((HubFault::SerialsSpent, verified));
         }
-        if self.cells.reserve(1).is_err() {
-            return Err((HubFault::Memory, verified));
+        if let Err(error) = reserve_slot(&mut self.cells) {
+            return Err((HubFault::from(error), verified));
         }
         match Controller::new(self.alloc, verified) {
             Ok(controller) => {
@@ -76,14 +79,18 @@ impl<D: Dues> Hub<D> {
                 self.next_serial = serial + 1;
                 Ok(Ticket { slot, serial })
             }
-            Err((_, verified)) => Err((HubFault::Memory, verified)),
+            Err((error, verified)) => Err((HubFault::from(error), verified)),
         }
     }
 
-    /// Takes a report on the ticket's cell, which answers it as a controller alone does.
+    /// Takes a report on the ticket's cell, which answers it as a controller alone does: it is accepted just where it is
+    /// possible in that cell.
     pub fn report(&mut self, ticket: Ticket, report: Report) -> Result<Ack, HubFault>
         ensures reported { IfOk result (λ ack. IsReported self.old ticket report ack self.new) }
+        ensures possible { IfSome (cell_at self.old ticket) (λ c. IsOk result ↔ CanReport c.plan.planned c.cell (said report)) }
+        ensures never_refused { IfSome (cell_at self.old ticket) (λ c. EndsNow c report → IsOk result) }
         ensures refused { IfErr result (IsNotReported self.old ticket report) }
+        ensures only_reason { IfErr result (IsOnlyRefusal self.old ticket report) }
         ensures unchanged { OnErr result (self.new ≡ self.old) }
         ensures no_such_cell { (result ≡ Err HubFault.NoSuchCell) ↔ (cell_at self.old ticket ≡ None) }
         ensures called { IsCall self.old (Reported ticket report result) self.new }

@@ -2,6 +2,7 @@ ghost use Rattle.std.specs.Prelude.{◌≡◌};
 ghost use Rattle.cell_hub.specs.RefusalNames.{refusal_name};
 
 use cell_control::ReportFault;
+use std::alloc::AllocError;
 use thiserror::Error;
 
 /// Why a hub refuses a call.
@@ -19,6 +20,17 @@ pub enum HubFault {
     /// The cell refuses the report.
     #[error("Cell {0}")]
     Cell(ReportFault),
+}
+
+impl From<AllocError> for HubFault {
+    ghost use Rattle.std.specs.Prelude.{◌≡◌};
+    ghost use Rattle.cell_hub.specs.declared.hub_fault.HubFault.TheVariants.{Memory};
+
+    ghost from_gives = { λ _ fault. fault ≡ Memory };
+
+    fn from(_error: AllocError) -> HubFault {
+        HubFault::Memory
+    }
 }
 
 impl HubFault {

@@ -1,20 +1,33 @@
 //! The cells in their slots, each with the serial of its ticket.
 
-ghost use Rattle.std.specs.Prelude.{◌≡◌, ℕ, None, option_copied, IfOk, IfErr, OnErr};
+ghost use Rattle.std.specs.Prelude.{◌≡◌, ◌↔◌, ℕ, None, option_copied, IfOk, IfErr, IfSome, IsOk, OnOk, OnErr};
+ghost use Rattle.slab.specs.Slab.{HasRoomFor};
+ghost use Rattle.shop_base.specs.Report.{CanReport};
+ghost use Rattle.cell_control.specs.Reports.{said};
 ghost use Rattle.cell_hub.specs.Hub.{cell_at};
 ghost use Rattle.cell_hub.specs.Slots.{hub_of};
-ghost use Rattle.cell_hub.specs.Calls.{IsReported, IsNotReported, IsDismissed};
+ghost use Rattle.cell_hub.specs.Calls.{IsReported, IsNotReported, EndsNow, IsDismissed};
 
 use crate::hub_fault::HubFault;
 use crate::ticket::Ticket;
 use cell_control::{Ack, Controller, Dues, Report};
 use slab::Slab;
+use std::alloc::AllocError;
 
 /// A cell, with the serial of its ticket.
 #[derive(Debug, Drop)]
 pub(crate) struct Placed<D: Dues> {
     pub serial: u64,
     pub controller: Controller<D>,
+}
+
+/// Makes sure that a slot is vacant for one more cell. Where one is, it asks for no memory.
+pub(crate) fn reserve_slot<D: Dues>(cells: &mut Slab<Placed<D>>) -> Result<(), AllocError>
+    ensures room { OnOk result (HasRoomFor cells.new 1) }
+    ensures no_more { HasRoomFor cells.old 1 → IsOk result × (cells.new ≡ cells.old) }
+    ensures kept { cells.new ≡ record cells.old { capacity = cells.new.capacity } }
+{
+    cells.reserve(1)
 }
 
 /// The ticket's cell, if it has one.
@@ -35,6 +48,8 @@ pub(crate) fn report_in<D: Dues>(
 ) -> Result<Ack, HubFault>
     ensures reported { IfOk result (λ ack. (next : ℕ) → IsReported (hub_of cells.old next) ticket report ack (hub_of cells.new next)) }
     ensures refused { IfErr result (λ fault. (next : ℕ) → IsNotReported (hub_of cells.old next) ticket report fault) }
+    ensures possible { (next : ℕ) → IfSome (cell_at (hub_of cells.old next) ticket) (λ c. IsOk result ↔ CanReport c.plan.planned c.cell (said report)) }
+    ensures never_refused { (next : ℕ) → IfSome (cell_at (hub_of cells.old next) ticket) (λ c. EndsNow c report → IsOk result) }
     ensures unchanged { OnErr result (cells.new ≡ cells.old) }
 {
     if let Some(placed) = cells.get_mut(ticket.slot) {

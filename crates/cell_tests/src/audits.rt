@@ -107,6 +107,13 @@ fn events_that_cannot_happen_are_told(rt: HostRuntime) -> Result<(), Fail> {
 }
 
 #[test]
+fn want_of_memory_is_told_as_such(rt: HostRuntime) -> Result<(), Fail> {
+    let text = shown(rt.alloc(), Err(AuditFault::Memory))?;
+    assert_eq!(rt; text.as_str(), "Memory");
+    Ok(())
+}
+
+#[test]
 fn parts_are_not_exchanged(rt: HostRuntime) -> Result<(), Fail> {
     shows(
         &rt,

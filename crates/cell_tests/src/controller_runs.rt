@@ -258,3 +258,53 @@ fn the_readers_tell_of_a_cleaning(rt: HostRuntime) -> Result<(), Fail> {
     assert_eq!(rt; cell.into_verified().makespan(), 12);
     Ok(())
 }
+
+/// The phases of the three jobs that follow each other, after each of the last reports: each of the first two jobs ends
+/// its last operation late.
+fn late_leavings() -> [(Report, &'static str, (Phase, Phase, Phase)); 4] {
+    let last = Phase::OnMachine {
+        machine: 2,
+        ready: false,
+    };
+    let begun = Phase::OnMachine {
+        machine: 1,
+        ready: false,
+    };
+    let waiting = Phase::OnMachine {
+        machine: 1,
+        ready: true,
+    };
+    let first = Phase::Gone { at: 11 };
+    let second = Phase::Gone { at: 14 };
+    [
+        (
+            finish(0, 2, 11),
+            "late 0:2>out@11 1:1>2@11 2:0>1@11",
+            (first, last, begun),
+        ),
+        (finish(2, 1, 13), "late", (first, last, waiting)),
+        (
+            finish(1, 2, 14),
+            "late 1:2>out@14 2:1>2@14",
+            (first, second, last),
+        ),
+        (
+            finish(2, 2, 15),
+            "ok 2:2>out@15",
+            (first, second, Phase::Gone { at: 15 }),
+        ),
+    ]
+}
+
+#[test]
+fn the_readers_tell_when_each_job_left(rt: HostRuntime) -> Result<(), Fail> {
+    let mut cell = controller::<TourneyDues>(&rt, following(&rt)?)?;
+    gives(&rt, &mut cell, &followed()[..8])?;
+    for (report, answer, phases) in late_leavings() {
+        gives(&rt, &mut cell, &[(report, answer)])?;
+        assert!(rt; cell.phase(0) == Some(phases.0), "job 0 after {answer}");
+        assert!(rt; cell.phase(1) == Some(phases.1), "job 1 after {answer}");
+        assert!(rt; cell.phase(2) == Some(phases.2), "job 2 after {answer}");
+    }
+    Ok(())
+}

@@ -25,17 +25,17 @@ fn driven(
     cells: Vec<Verified>,
     input: &[u8],
     limits: Limits,
-) -> Outcome<HubEnd> {
+) -> Result<Outcome<HubEnd>, Fail> {
     let written = Cell::new(0);
-    let (mut reader, mut writer) = devices(input, limits, &written);
+    let (mut reader, mut writer) = devices(rt, input, limits, &written)?;
     let end = drive_hub(rt.alloc(), cells, &mut reader, &mut writer);
-    Outcome::new(end, reader, writer)
+    Ok(Outcome::new(end, reader, writer))
 }
 
 #[test]
 fn mixed_runs_are_answered(rt: HostRuntime) -> Result<(), Fail> {
     for piece in [1, 2, 3, 7, 185] {
-        let outcome = driven(&rt, two_cells(&rt)?, MIXED, Limits { piece, ..GOOD });
+        let outcome = driven(&rt, two_cells(&rt)?, MIXED, Limits { piece, ..GOOD })?;
         assert_eq!(rt;
             outcome.end,
             Ok(HubEnd { all_done: true }),
@@ -52,10 +52,10 @@ fn lines_on_cells_are_refused(rt: HostRuntime) -> Result<(), Fail> {
         b"\narrive 0 0\n0\n0 \n2 hello\n2 arrive 0 0\n01 arrive 0 9\n1 arrive 0 9\n".as_slice();
     let text =
         b"refused 2 BadLine\nrefused 3 BadLine\nrefused 4 BadLine\nrefused 5 BadLine\nrefused 6 NoSuchCell\n1 report 9 arrive 0\n1 late 9\n1 order 9 0 out 0\nrefused 8 WrongKind\n0 unfinished 6\n1 unfinished 5\n".as_slice();
-    let outcome = driven(&rt, two_cells(&rt)?, input, GOOD);
+    let outcome = driven(&rt, two_cells(&rt)?, input, GOOD)?;
     assert_eq!(rt; outcome.end, Ok(HubEnd { all_done: false }));
     assert!(rt; outcome.has(text));
-    let outcome = driven(&rt, Vec::new(rt.alloc()), b"", GOOD);
+    let outcome = driven(&rt, Vec::new(rt.alloc()), b"", GOOD)?;
     assert_eq!(rt; outcome.end, Ok(HubEnd { all_done: true }));
     assert_eq!(rt; outcome.count, 0);
     Ok(())
@@ -70,7 +70,7 @@ fn failed_writes_leave_the_first_bytes_of_cells(rt: HostRuntime) -> Result<(), F
                 takes_nothing,
                 ..GOOD
             };
-            driven(&rt, two_cells(&rt)?, MIXED, limits).is_of_failed_write(
+            driven(&rt, two_cells(&rt)?, MIXED, limits)?.is_of_failed_write(
                 &rt,
                 &MIXED_ANSWERED[..writes],
             );
@@ -104,7 +104,7 @@ fn answers_of_cells_come_before_the_next_read(rt: HostRuntime) -> Result<(), Fai
             reads,
             ..GOOD
         };
-        driven(&rt, two_cells(&rt)?, MIXED, limits).is_of_failed_read(
+        driven(&rt, two_cells(&rt)?, MIXED, limits)?.is_of_failed_read(
             &rt,
             MIXED_ANSWERED,
             &ANSWERED,

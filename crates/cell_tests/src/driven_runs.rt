@@ -6,9 +6,8 @@ use super::same_bytes::SameBytes;
 use super::worked_runs::{
     CLEANED_INPUT, CLEANED_LINES, FOLLOWING_INPUT, FOLLOWING_LINES, IN_TIME_INPUT, IN_TIME_LINES,
 };
-use cell_drive::{DriveFault, FromRead, drive};
+use cell_drive::{DriveFault, FromRead, Gathered, drive};
 use plan_verifier::Verified;
-use run_log::IntoSink;
 use shop_base::Moment;
 use std::cell::Cell;
 use std::process::Abort;
@@ -17,14 +16,19 @@ use std::test::Fail;
 /// Whether the run is done, its last moment, and how many reports are left.
 type End = (bool, Moment, u64);
 
-fn driven(rt: &impl AllocGlobal, verified: Verified, input: &[u8], limits: Limits) -> Outcome<End> {
+fn driven(
+    rt: &impl AllocGlobal,
+    verified: Verified,
+    input: &[u8],
+    limits: Limits,
+) -> Result<Outcome<End>, Fail> {
     let written = Cell::new(0);
-    let (mut reader, mut writer) = devices(input, limits, &written);
+    let (mut reader, mut writer) = devices(rt, input, limits, &written)?;
     let end = match drive(rt.alloc(), verified, &mut reader, &mut writer) {
         Ok(end) => Ok((end.done, end.last, end.left)),
         Err(fault) => Err(fault),
     };
-    Outcome::new(end, reader, writer)
+    Ok(Outcome::new(end, reader, writer))
 }
 
 fn is_answered(
@@ -33,10 +37,11 @@ fn is_answered(
     input: &[u8],
     text: &[u8],
     end: End,
-) {
-    let outcome = driven(rt, verified, input, GOOD);
+) -> Result<(), Fail> {
+    let outcome = driven(rt, verified, input, GOOD)?;
     assert_eq!(rt; outcome.end, Ok(end));
     assert!(rt; outcome.has(text));
+    Ok(())
 }
 
 #[test]
@@ -55,7 +60,7 @@ fn runs_are_answered(rt: HostRuntime) -> Result<(), Fail> {
             (true, 11, 0),
         ),
     ] {
-        is_answered(&rt, crossing(&rt, None)?, input, text, end);
+        is_answered(&rt, crossing(&rt, None)?, input, text, end)?;
     }
     Ok(())
 }
@@ -89,7 +94,7 @@ fn what_is_not_possible_is_refused(rt: HostRuntime) -> Result<(), Fail> {
             (false, 0, 6),
         ),
     ] {
-        is_answered(&rt, crossing(&rt, None)?, input, text, end);
+        is_answered(&rt, crossing(&rt, None)?, input, text, end)?;
     }
     Ok(())
 }
@@ -109,7 +114,7 @@ fn cleanings_are_answered(rt: HostRuntime) -> Result<(), Fail> {
             (false, 8, 3),
         ),
     ] {
-        is_answered(&rt, crossing(&rt, Some(2))?, input, text, end);
+        is_answered(&rt, crossing(&rt, Some(2))?, input, text, end)?;
     }
     Ok(())
 }
@@ -122,30 +127,29 @@ fn chains_of_moves_are_answered(rt: HostRuntime) -> Result<(), Fail> {
         FOLLOWING_INPUT,
         FOLLOWING_LINES,
         (true, 9, 0),
-    );
+    )?;
     is_answered(
         &rt,
         instant(&rt)?,
         b"arrive 0 0\nfinish 0 0 0\n",
         b"report 0 arrive 0\norder 0 0 out 0\nreport 0 finish 0 0\norder 0 0 0 out\ndone 0\n",
         (true, 0, 0),
-    );
-    Ok(())
+    )
 }
 
 #[test]
 fn the_answers_do_not_depend_on_the_pieces(rt: HostRuntime) -> Result<(), Fail> {
     for piece in [1, 2, 3, 7, 74] {
         let limits = Limits { piece, ..GOOD };
-        let outcome = driven(&rt, crossing(&rt, None)?, IN_TIME_INPUT, limits);
+        let outcome = driven(&rt, crossing(&rt, None)?, IN_TIME_INPUT, limits)?;
         assert_eq!(rt; outcome.end, Ok((true, 9, 0)), "pieces of {piece}");
         assert!(rt; outcome.has(IN_TIME_LINES), "pieces of {piece}");
     }
     Ok(())
 }
 
-/// A failed write leaves the first bytes of the answers, and a failed read those of the lines that are complete: they
-/// were out before that read was tried, so each answer is out before more is read.
+/// A failed write leaves the first bytes of the answers, and a failed read or flush those of the lines that are complete:
+/// they were out before that read was tried, so each answer is out before more is read.
 fn fails_leave_the_first_bytes(
     rt: &(impl Abort + AllocGlobal),
     cleaning: Option<Moment>,
@@ -153,28 +157,39 @@ fn fails_leave_the_first_bytes(
     text: &[u8],
     answered: &[(usize, usize)],
 ) -> Result<(), Fail> {
-    for takes_nothing in [false, true] {
+    for (gathered, takes_nothing) in [(0, false), (0, true), (1000, false)] {
         for writes in 0..text.len() {
             let limits = Limits {
+                gathered,
                 writes,
                 takes_nothing,
                 ..GOOD
             };
-            driven(rt, crossing(rt, cleaning)?, input, limits).is_of_failed_write(
+            driven(rt, crossing(rt, cleaning)?, input, limits)?.is_of_failed_write(
                 rt,
                 &text[..writes],
             );
         }
     }
-    for reads in 0..input.len() + 1 {
+    let all_reads = input.len() + 1;
+    for place in 0..all_reads + 1 {
+        let pieces = Limits { piece: 1, ..GOOD };
         let limits = Limits {
-            piece: 1,
-            reads,
-            ..GOOD
+            shows: place,
+            ..pieces
         };
-        driven(rt, crossing(rt, cleaning)?, input, limits).is_of_failed_read(
-            rt, text, answered, reads,
+        driven(rt, crossing(rt, cleaning)?, input, limits)?.is_of_failed_show(
+            rt, text, answered, place, all_reads,
         );
+        if place < all_reads {
+            let limits = Limits {
+                reads: place,
+                ..pieces
+            };
+            driven(rt, crossing(rt, cleaning)?, input, limits)?.is_of_failed_read(
+                rt, text, answered, place,
+            );
+        }
     }
     Ok(())
 }
@@ -214,7 +229,7 @@ fn blank_lines_have_no_answers(rt: HostRuntime) -> Result<(), Fail> {
         (67_108_865, Err(DriveFault::InputTooLong), b"".as_slice()),
     ] {
         let mut reader = FromRead::new(SameBytes { byte: b'\n', left });
-        let mut writer = IntoSink::new(Vec::new(rt.alloc()));
+        let mut writer = Gathered::new(rt.alloc(), 100, Vec::new(rt.alloc()))?;
         let reports = match drive(rt.alloc(), crossing(&rt, None)?, &mut reader, &mut writer) {
             Ok(end) => Ok(end.left),
             Err(fault) => Err(fault),

@@ -1,6 +1,7 @@
 //! Cells under tickets.
 
-use super::cells::{controller, crossing};
+use super::cells::{controller, crossing, instant};
+use super::events::arrive;
 use super::worked_runs::in_time;
 use cell_control::{Ack, Controller, Dues, Report, ReportFault, ScanDues, TourneyDues};
 use cell_hub::{Hub, HubFault, Ticket};
@@ -63,6 +64,33 @@ fn spent_serials_hand_the_plan_back(rt: HostRuntime) -> Result<(), Fail> {
             assert_eq!(rt; fault, HubFault::SerialsSpent);
             assert_eq!(rt; verified.makespan(), 10);
         }
+    }
+    Ok(())
+}
+
+#[test]
+fn slots_are_taken_again_and_again(rt: HostRuntime) -> Result<(), Fail> {
+    let mut hub: Hub<ScanDues> = Hub::new(rt.alloc());
+    let mut tickets: Vec<Ticket> = Vec::new(rt.alloc());
+    for serial in 0..1_101 {
+        let ticket = hub.admit(instant(&rt)?).map_err(|refused| refused.0)?;
+        assert_eq!(rt; ticket.serial, serial);
+        if serial % 3 == 2 {
+            let left = tickets.last().copied().ok_or("no ticket before")?;
+            assert!(rt; hub.dismiss(left).is_ok(), "the cell before {serial}");
+        }
+        tickets.push(ticket)?;
+    }
+    for ticket in &tickets {
+        let serial = ticket.serial;
+        let stays = serial % 3 != 1;
+        assert_eq!(rt; hub.cell(*ticket).is_some(), stays, "{serial}");
+        assert_eq!(rt;
+            hub.report(*ticket, arrive(0, 0)).is_ok(),
+            stays,
+            "{serial}"
+        );
+        assert_eq!(rt; hub.dismiss(*ticket).is_ok(), stays, "{serial}");
     }
     Ok(())
 }

@@ -1,15 +1,17 @@
-//! A reader that gives its bytes in pieces, and fails.
+//! A reader that gives its bytes in pieces, and fails once.
 
 use std::cell::Cell;
 use std::io::{self, ErrorKind, Read};
 
-/// Gives some bytes in pieces of a size at most, and fails once so many calls were made. It tells how many bytes were
-/// written when a call was made.
+/// Gives some bytes in pieces of a size at most, but fails at the call that comes after so many. The calls after that one
+/// succeed again, so that it is seen if more is read nevertheless. It tells how many calls were made, and how many bytes
+/// were written when the last one was.
 #[derive(Drop)]
 pub(super) struct PieceReader<'a> {
     pub(super) bytes: &'a [u8],
     pub(super) most: usize,
     pub(super) calls_left: usize,
+    pub(super) calls: usize,
     pub(super) written: &'a Cell<usize>,
     pub(super) written_at_last: usize,
 }
@@ -17,7 +19,9 @@ pub(super) struct PieceReader<'a> {
 impl Read for PieceReader<'_> {
     fn read(&mut self, buf: &mut [u8]) -> io::Result<usize> {
         self.written_at_last = self.written.get();
+        self.calls = self.calls.saturating_add(1);
         if self.calls_left == 0 {
+            self.calls_left = usize::MAX;
             return Err(io::Error::from(ErrorKind::Other));
         }
         self.calls_left -= 1;

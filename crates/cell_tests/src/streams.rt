@@ -7,10 +7,10 @@ use super::events::{arrive, clean, finish};
 use super::one_byte_writer::{OneByteWriter, is_text};
 use super::same_bytes::SameBytes;
 use cell_drive::{
-    DriveFault, FromRead, LineHandler, ReadFault, done_line, late_line, refused_line, report_of,
-    stream, unfinished_line,
+    DriveFault, FromRead, Gathered, LineHandler, ReadFault, done_line, late_line, refused_line,
+    report_of, stream, unfinished_line,
 };
-use run_log::{IntoSink, Sink, WriteFault, put_all};
+use run_log::{Sink, WriteFault, put_all};
 use std::cell::Cell;
 use std::process::Abort;
 use std::test::Fail;
@@ -48,11 +48,12 @@ impl LineHandler for Echo {
     }
 }
 
-fn streamed(input: &[u8], limits: Limits) -> Outcome<()> {
+fn streamed(rt: &impl AllocGlobal, input: &[u8], limits: Limits) -> Result<Outcome<()>, Fail> {
     let written = Cell::new(0);
-    let (mut reader, mut writer) = devices(input, limits, &written);
-    let end = stream(&mut Echo, &mut reader, &mut writer);
-    Outcome::new(end, reader, writer)
+    let (mut reader, mut writer) = devices(rt, input, limits, &written)?;
+    let mut room = [0; 80];
+    let end = stream(&mut Echo, &mut reader, &mut room, &mut writer);
+    Ok(Outcome::new(end, reader, writer))
 }
 
 const INPUT: &[u8] = b"ab\n\ncd\r\ne\r\r\nlast\r";
@@ -62,7 +63,7 @@ const OUTPUT: &[u8] = b"1ab|3cd|4e\r|5last|.";
 #[test]
 fn the_text_does_not_depend_on_the_pieces(rt: HostRuntime) -> Result<(), Fail> {
     for piece in [1, 2, 3, 7, 74] {
-        let outcome = streamed(INPUT, Limits { piece, ..GOOD });
+        let outcome = streamed(&rt, INPUT, Limits { piece, ..GOOD })?;
         assert_eq!(rt; outcome.end, Ok(()), "pieces of {piece}");
         assert!(rt; outcome.has(OUTPUT), "pieces of {piece}");
     }
@@ -71,61 +72,82 @@ fn the_text_does_not_depend_on_the_pieces(rt: HostRuntime) -> Result<(), Fail> {
 
 #[test]
 fn a_failed_write_leaves_the_first_bytes(rt: HostRuntime) -> Result<(), Fail> {
-    for takes_nothing in [false, true] {
+    for (gathered, takes_nothing) in [(0, false), (0, true), (3, false), (1000, true)] {
         for writes in 0..OUTPUT.len() {
             let limits = Limits {
                 piece: 1,
+                gathered,
                 writes,
                 takes_nothing,
                 ..GOOD
             };
-            streamed(INPUT, limits).is_of_failed_write(&rt, &OUTPUT[..writes]);
+            streamed(&rt, INPUT, limits)?.is_of_failed_write(&rt, &OUTPUT[..writes]);
         }
     }
     Ok(())
 }
 
+/// How many bytes of the input end each line, and how many are written once it is answered.
+const ANSWERED: [(usize, usize); 3] = [(3, 4), (8, 8), (12, 12)];
+
 #[test]
 fn a_failed_read_leaves_the_answers_of_the_complete_lines(rt: HostRuntime) -> Result<(), Fail> {
-    let answered = [(3, 4), (8, 8), (12, 12)];
     for reads in 0..INPUT.len() + 1 {
         let limits = Limits {
             piece: 1,
             reads,
             ..GOOD
         };
-        streamed(INPUT, limits).is_of_failed_read(&rt, OUTPUT, &answered, reads);
+        streamed(&rt, INPUT, limits)?.is_of_failed_read(&rt, OUTPUT, &ANSWERED, reads);
     }
     Ok(())
 }
 
-fn is_long(rt: &impl Abort, line: &[u8], long: bool) {
+#[test]
+fn a_failed_show_leaves_what_was_answered(rt: HostRuntime) -> Result<(), Fail> {
+    let reads = INPUT.len() + 1;
+    for gathered in [0, 3, 1000] {
+        for shows in 0..reads + 1 {
+            let limits = Limits {
+                piece: 1,
+                gathered,
+                shows,
+                ..GOOD
+            };
+            streamed(&rt, INPUT, limits)?.is_of_failed_show(&rt, OUTPUT, &ANSWERED, shows, reads);
+        }
+    }
+    Ok(())
+}
+
+fn is_long(rt: &(impl Abort + AllocGlobal), line: &[u8], long: bool) -> Result<(), Fail> {
     for piece in [1, 74] {
-        let outcome = streamed(line, Limits { piece, ..GOOD });
+        let outcome = streamed(rt, line, Limits { piece, ..GOOD })?;
         assert_eq!(rt; outcome.end, Ok(()));
         assert_eq!(rt; outcome.has(b"long|."), long, "in pieces of {piece}");
         assert_eq!(rt; outcome.count == 66, !long, "in pieces of {piece}");
     }
+    Ok(())
 }
 
 #[test]
 fn a_line_has_63_bytes_at_most(rt: HostRuntime) -> Result<(), Fail> {
     let digits = [b'7'; 63];
     let mut line = [b'7'; 66];
-    is_long(&rt, &digits, false);
-    is_long(&rt, &line[..64], true);
+    is_long(&rt, &digits, false)?;
+    is_long(&rt, &line[..64], true)?;
     line[63] = b'\n';
-    is_long(&rt, &line[..64], false);
+    is_long(&rt, &line[..64], false)?;
     line[63] = b'\r';
-    is_long(&rt, &line[..64], false);
+    is_long(&rt, &line[..64], false)?;
     line[64] = b'\n';
-    is_long(&rt, &line[..65], false);
+    is_long(&rt, &line[..65], false)?;
     line[64] = b'\r';
     line[65] = b'\n';
-    is_long(&rt, &line, true);
+    is_long(&rt, &line, true)?;
     line[63] = b'7';
     line[64] = b'\n';
-    is_long(&rt, &line[..65], true);
+    is_long(&rt, &line[..65], true)?;
     Ok(())
 }
 
@@ -137,8 +159,12 @@ fn an_input_has_so_many_bytes_at_most(rt: HostRuntime) -> Result<(), Fail> {
     ] {
         let mut reader = FromRead::new(SameBytes { byte: b'7', left });
         let written = Cell::new(0);
-        let mut writer = IntoSink::new(OneByteWriter::new(&written, 100, false));
-        assert_eq!(rt; stream(&mut Echo, &mut reader, &mut writer), result);
+        let mut writer = Gathered::new(rt.alloc(), 100, OneByteWriter::new(&written, 100, false))?;
+        let mut room = [0; 1000];
+        assert_eq!(rt;
+            stream(&mut Echo, &mut reader, &mut room, &mut writer),
+            result
+        );
         assert!(rt; is_text(&writer.into_inner().bytes, written.get(), text));
     }
     Ok(())

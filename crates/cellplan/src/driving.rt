@@ -1,16 +1,14 @@
 //! Cells that are driven by the standard streams.
 
 use crate::failures::Failure;
-use crate::streams::{Awaiter, Gatherer, Outlet};
-use cell_drive::{DriveFault, FromRead, Source, drive, drive_hub};
-use command_answers::{GOOD, REFUSED};
+use cell_drive::{DriveFault, FromRead, Gathered, Outlet, Source, drive, drive_hub};
+use command_answers::{FileFault, GOOD, REFUSED};
 use plan_verifier::Verified;
-use run_log::{IntoSink, Sink};
 use std::alloc::Global;
-use std::io::{self, BufReader};
+use std::io;
 
-/// The bytes that are read at a time.
-const PIECE: usize = 65_536;
+/// The bytes that are gathered before they are written out.
+const GATHERED: usize = 65_536;
 
 /// What is driven, by accepted plans.
 #[derive(Drop)]
@@ -21,7 +19,7 @@ pub enum Cells {
 }
 
 /// Whether the run of each cell has ended, once all lines are answered.
-fn are_done<R: Source, W: Sink>(
+fn are_done<R: Source, W: Outlet>(
     alloc: Global,
     cells: Cells,
     reader: &mut R,
@@ -34,23 +32,12 @@ fn are_done<R: Source, W: Sink>(
 }
 
 /// Drives the cells, and gives the status: whether each run has ended.
-///
-/// What was answered is written out before more input is awaited, and once more at the end, after a fault too. A
-/// write that fails is told as such wherever it was met.
 pub fn drive_streams(rt: &HostRuntime, alloc: Global, cells: Cells) -> Result<u8, Failure> {
-    let outlet = Outlet::new(alloc, io::writer(rt))?;
-    let awaiter = Awaiter {
-        device: rt.stdin(),
-        outlet: &outlet,
-    };
-    let Ok(input) = BufReader::with_capacity(alloc, PIECE, awaiter) else {
-        return Err(Failure::Memory);
-    };
-    let mut reader = FromRead::new(input);
-    let mut writer = IntoSink::new(Gatherer { outlet: &outlet });
-    let done = are_done(alloc, cells, &mut reader, &mut writer);
-    if outlet.write_out().is_err() || outlet.has_failed() {
-        return Err(Failure::Drive(DriveFault::Write));
+    let mut reader = FromRead::new(rt.stdin());
+    let mut writer = Gathered::new(alloc, GATHERED, io::writer(rt)).map_err(FileFault::from)?;
+    if are_done(alloc, cells, &mut reader, &mut writer)? {
+        Ok(GOOD)
+    } else {
+        Ok(REFUSED)
     }
-    if done? { Ok(GOOD) } else { Ok(REFUSED) }
 }

@@ -1,7 +1,7 @@
 //! The program: its words, what it reads, what it writes, and the status that it ends with.
 
 use crate::driving::{Cells, drive_streams};
-use crate::failures::{Failure, fail};
+use crate::failures::{ArgsFault, Failure, fail};
 use crate::files::read_file;
 use command_answers::{
     Answer, FileFault, GOOD, Loaded, check_for, drawn_answer, facts_answer, load_for,
@@ -13,7 +13,7 @@ use plan_seek::{GreedyProposer, Proposer, ShiftProposer};
 use shop_base::{Shop, shape};
 use std::alloc::{AllocError, Global};
 use std::env;
-use std::io::{self, ErrorKind, Write};
+use std::io::{self, Write};
 
 /// Runs the program, and gives the status that it ends with.
 pub fn run(rt: &HostRuntime, alloc: Global) -> u8 {
@@ -40,25 +40,17 @@ fn answer(rt: &HostRuntime, alloc: Global) -> Result<Answer, Failure> {
             text: text.into_bytes(),
             status: GOOD,
         }),
-        Err(WordsFault::Usage { help: false, text }) => Err(Failure::Usage(text)),
-        Err(WordsFault::Memory) => Err(Failure::Memory),
+        Err(fault) => Err(Failure::from(fault)),
     }
 }
 
 /// The words of the command line, the program's name first.
 fn program_words(rt: &HostRuntime, alloc: Global) -> Result<Vec<String>, Failure> {
     let mut words = Vec::new(alloc);
-    for word in env::args(rt).map_err(words_failure)? {
+    for word in env::args(rt).map_err(ArgsFault::from)? {
         words.push(word).map_err(AllocError::from)?;
     }
     Ok(words)
-}
-
-fn words_failure(error: io::Error) -> Failure {
-    match error.kind() {
-        ErrorKind::OutOfMemory => Failure::Memory,
-        _ => Failure::NotText,
-    }
 }
 
 fn command_answer(rt: &HostRuntime, alloc: Global, chosen: &Chosen) -> Result<Answer, Failure> {

@@ -1,5 +1,5 @@
 -- A fault that is passed on.
-use Rattle.std.proofs.Common.{◌≡◌, ◌≢◌, ◌∙◌, Result, Ok, Err, IsErrAnd}
+use Rattle.std.proofs.Common.{◌≡◌, ◌≢◌, ◌∙◌, Result, Ok, Err, IsErrAnd, IfOk, IfErr}
 use Rattle.orlib_read.specs.declared.or_fault.OrFault.{OrFault}
 use Rattle.orlib_read.specs.declared.or_fault.OrFault.TheVariants.{Memory as WantOfReader}
 use Rattle.plan_text.specs.declared.plan_fault.PlanFault.{PlanFault}
@@ -8,6 +8,11 @@ use Rattle.command_answers.specs.declared.command_fault.CommandFault.{CommandFau
 use Rattle.command_answers.specs.declared.command_fault.CommandFault.TheVariants.{Memory}
 use Rattle.command_answers.specs.Instances.{Holds, IsInstanceRefusal, instance_command_fault}
 use Rattle.command_answers.specs.Plans.{IsPlanRefusal, plan_command_fault}
+
+-- an answer of this property, unless it is want of memory
+pub kept_property : {A : Type 0} (P : A → Type 0) (answer : Result A CommandFault) → IfOk answer P → IfErr answer (λ fault. fault ≡ Memory) → Holds answer P
+kept_property P (Ok a) holds memory = holds
+kept_property P (Err fault) holds memory = memory
 
 -- an answer that passes want of memory on holds to every property
 pub passed_memory : {A : Type 0} (P : A → Type 0) (answer : Result A CommandFault) (fault : CommandFault) → fault ≡ Memory → IsErrAnd answer (λ passed. passed ≡ fault) → Holds answer P

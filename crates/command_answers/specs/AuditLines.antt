@@ -1,4 +1,4 @@
-use Rattle.std.specs.Prelude.{◌≡◌, ℕ, Bool, true, false, List, ◌++◌, ◌⊎◌, codes, decimal}
+use Rattle.std.specs.Prelude.{◌≡◌, ℕ, Bool, true, false, List, ◌++◌, ◌⊎◌, Option, Some, None, codes, decimal}
 use Rattle.shop_base.specs.Plan.{PlannedShop, IsWellShaped}
 use Rattle.text_lines.specs.Lines.{lines_of}
 use Rattle.run_log.specs.declared.audited.Audit.{Audit}
@@ -7,6 +7,8 @@ use Rattle.run_log.specs.declared.audit_fault.AuditFault.TheVariants.{Memory}
 use Rattle.run_log.specs.Audits.{IsAudit, IsFirstBad, fault_line}
 use Rattle.run_log.specs.AuditNames.{fault_name}
 use Rattle.command_answers.specs.declared.answer.Answer.{Answer}
+use Rattle.command_answers.specs.declared.command_fault.CommandFault.{CommandFault}
+use Rattle.command_answers.specs.declared.command_fault.CommandFault.TheVariants.{Memory as WantOfMemory}
 use Rattle.command_answers.specs.Shapes.{IsNotShapedLine}
 
 -- whether the run has ended, in words
@@ -43,6 +45,11 @@ IsLogLine p log answer = IsKeptLine p log answer ⊎ IsLogRefusedLine p log answ
 -- the line of the audit of a log against a plan
 abbrev pub IsAuditLine : List ℕ → PlannedShop → Answer → Type 0
 IsAuditLine log p answer = IsNotShapedLine p answer ⊎ (IsWellShaped p × IsLogLine p log answer)
+
+-- the fault of a command that the audit's is, if it is want of memory
+abbrev pub audit_command_fault : AuditFault → Option CommandFault
+audit_command_fault Memory = Some WantOfMemory
+audit_command_fault fault = None
 
 -- nothing is said of a fault that is want of memory
 abbrev pub IsToldFault : AuditFault → Answer → Type 0

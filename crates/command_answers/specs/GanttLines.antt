@@ -3,7 +3,7 @@ use Rattle.shop_base.specs.Plan.{PlannedShop, machines, IsWellShaped}
 use Rattle.text_lines.specs.Lines.{lines_of}
 use Rattle.run_log.specs.declared.audited.Audit.{Audit}
 use Rattle.run_log.specs.Audits.{IsAudit}
-use Rattle.run_log.specs.GanttText.{gantt_text}
+use Rattle.run_gantt.specs.GanttText.{gantt_text}
 use Rattle.command_answers.specs.declared.answer.Answer.{Answer}
 use Rattle.command_answers.specs.Shapes.{IsNotShapedLine}
 use Rattle.command_answers.specs.AuditLines.{IsLogRefusedLine}

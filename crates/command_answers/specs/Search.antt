@@ -1,4 +1,4 @@
-use Rattle.std.specs.Prelude.{◌≡◌, ℕ, List, Option, ◌++◌, ◌⊎◌, codes, Result, Ok, Err}
+use Rattle.std.specs.Prelude.{◌≡◌, ℕ, List, Option, Some, None, ◌++◌, ◌⊎◌, codes, Result, Ok, Err}
 use Rattle.shop_base.specs.Shop.{JobShop}
 use Rattle.shop_base.specs.Plan.{ShopPlan, PlannedShop}
 use Rattle.plan_text.specs.declared.plan_fault.PlanFault.TheVariants.{NotReadBack}
@@ -35,6 +35,11 @@ pub record IsFoundText (may : Proposals) (rounds proposers : ℕ) (p : PlannedSh
   pub plan : ShopPlan
   pub found : IsFound may rounds proposers p plan
   pub text : IsDocumentOf plan answer
+
+-- the fault of a command that the search's is, if it is want of memory
+abbrev pub search_command_fault : SeekFault → Option CommandFault
+search_command_fault WantOfMemory = Some Memory
+search_command_fault fault = None
 
 -- the line of bad numbers, with the words of a fault
 pub record IsBadNumbersLine (answer : Answer) : Type 0 where

@@ -11,7 +11,7 @@ ghost use Rattle.command_answers.specs.Plans.{TellBoth, TellsAShop, IsRightOfBot
 ghost use Rattle.command_answers.specs.AuditLines.{IsAuditLine, IsLogLine, IsToldFault, IsFaultLine, kept_line, end_words};
 
 use crate::answer::{Answer, GOOD, REFUSED};
-use crate::command_fault::CommandFault;
+use crate::command_fault::{CommandFault, Unanswered};
 use crate::instances::load_instance;
 use crate::plans::load_plan;
 use crate::print::{end_line, push_fact, push_words};
@@ -47,30 +47,32 @@ fn audit_for(alloc: Global, shop: Shop, plan: &[u8], log: &[u8]) -> Result<Answe
     ensures first { (fault : PlanFault) → IsFirstPlanFault plan.now fault → IsPlanRefusal result fault }
 {
     let plan = load_plan(alloc, plan)?;
-    Ok(audit_line(alloc, shop, plan, log)?)
+    audit_line(alloc, shop, plan, log)
 }
 
-fn audit_line(alloc: Global, shop: Shop, plan: Plan, log: &[u8]) -> Result<Answer, AllocError>
-    ensures { IfOk result (IsAuditLine log.now (record { shop = shop; plan = plan })) }
+fn audit_line(alloc: Global, shop: Shop, plan: Plan, log: &[u8]) -> Result<Answer, CommandFault>
+    ensures line { IfOk result (IsAuditLine log.now (record { shop = shop; plan = plan })) }
+    ensures memory { IfErr result (λ fault. fault ≡ CommandFault.Memory) }
 {
     match shape(shop, plan) {
         Ok(shaped) => log_answer(alloc, &shaped, log),
-        Err(refused) => not_shaped_answer(alloc, refused.fault),
+        Err(refused) => Ok(not_shaped_answer(alloc, refused.fault)?),
     }
 }
 
 /// The line of a log that is audited against a plan.
-pub fn log_answer(alloc: Global, shaped: &Shaped, log: &[u8]) -> Result<Answer, AllocError>
-    ensures { IfOk result (IsLogLine shaped.now log.now) }
+pub fn log_answer(alloc: Global, shaped: &Shaped, log: &[u8]) -> Result<Answer, CommandFault>
+    ensures line { IfOk result (IsLogLine shaped.now log.now) }
+    ensures memory { IfErr result (λ fault. fault ≡ CommandFault.Memory) }
 {
     match audit(alloc, shaped, log) {
-        Ok(found) => kept_answer(
+        Ok(found) => Ok(kept_answer(
             alloc,
             found.reports,
             found.orders,
             found.last,
             found.complete,
-        ),
+        )?),
         Err(fault) => fault_answer(alloc, fault),
     }
 }
@@ -103,13 +105,14 @@ fn end_words(complete: bool) -> &'static str
     }
 }
 
-pub(crate) fn fault_answer(alloc: Global, fault: AuditFault) -> Result<Answer, AllocError>
-    ensures { IfOk result (IsToldFault fault) }
+pub(crate) fn fault_answer(alloc: Global, fault: AuditFault) -> Result<Answer, CommandFault>
+    ensures told { IfOk result (IsToldFault fault) }
+    ensures memory { IfErr result (λ fault. fault ≡ CommandFault.Memory) }
 {
-    if let AuditFault::Memory = fault {
-        return Err(AllocError);
+    if let Some(fault) = Unanswered::from(fault).0 {
+        return Err(fault);
     }
-    refusal_answer(alloc, fault)
+    Ok(refusal_answer(alloc, fault)?)
 }
 
 fn refusal_answer(alloc: Global, fault: AuditFault) -> Result<Answer, AllocError>

@@ -2,7 +2,9 @@ ghost use Rattle.std.specs.Prelude.{◌≡◌};
 ghost use Rattle.command_answers.specs.Statuses.{status_of};
 
 use orlib_read::OrFault;
+use plan_seek::SeekFault;
 use plan_text::PlanFault;
+use run_log::AuditFault;
 use std::alloc::AllocError;
 use thiserror::Error;
 
@@ -55,6 +57,38 @@ impl From<PlanFault> for CommandFault {
         match told {
             PlanFault::Memory => CommandFault::Memory,
             _ => CommandFault::Plan(told),
+        }
+    }
+}
+
+/// The fault of a command that a fault of the search or of the audit is: want of memory. Each other one has an answer.
+#[derive(Drop)]
+pub(crate) struct Unanswered(pub Option<CommandFault>);
+
+impl From<SeekFault> for Unanswered {
+    ghost use Rattle.std.specs.Prelude.{◌≡◌};
+    ghost use Rattle.command_answers.specs.Search.{search_command_fault};
+
+    ghost from_gives = { λ told unanswered. unanswered.0 ≡ search_command_fault told };
+
+    fn from(told: SeekFault) -> Unanswered {
+        match told {
+            SeekFault::Memory => Unanswered(Some(CommandFault::Memory)),
+            _ => Unanswered(None),
+        }
+    }
+}
+
+impl From<AuditFault> for Unanswered {
+    ghost use Rattle.std.specs.Prelude.{◌≡◌};
+    ghost use Rattle.command_answers.specs.AuditLines.{audit_command_fault};
+
+    ghost from_gives = { λ told unanswered. unanswered.0 ≡ audit_command_fault told };
+
+    fn from(told: AuditFault) -> Unanswered {
+        match told {
+            AuditFault::Memory => Unanswered(Some(CommandFault::Memory)),
+            _ => Unanswered(None),
         }
     }
 }

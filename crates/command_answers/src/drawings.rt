@@ -6,7 +6,7 @@ ghost use Rattle.shop_base.specs.Plan.{ShopPlan, PlannedShop, machines};
 ghost use Rattle.orlib_read.specs.declared.or_fault.OrFault.{OrFault};
 ghost use Rattle.plan_text.specs.declared.plan_fault.PlanFault.{PlanFault};
 ghost use Rattle.plan_text.specs.Documents.{IsPlanText, IsFirstPlanFault};
-ghost use Rattle.run_log.specs.GanttText.{gantt_text};
+ghost use Rattle.run_gantt.specs.GanttText.{gantt_text};
 ghost use Rattle.command_answers.specs.Instances.{IsFirstInstanceFault, Holds, IsInstanceRefusal};
 ghost use Rattle.command_answers.specs.Plans.{TellBoth, TellsAShop, IsRightOfBoth, IsRightPlanFault, IsPlanRefusal, IsOfPlan, IsOfBoth};
 ghost use Rattle.command_answers.specs.GanttLines.{IsGanttAnswer, IsDrawnLog};
@@ -17,7 +17,8 @@ use crate::command_fault::CommandFault;
 use crate::instances::load_instance;
 use crate::plans::load_plan;
 use crate::shapes::not_shaped_answer;
-use run_log::{Entry, audit, gantt};
+use run_gantt::gantt;
+use run_log::{Entry, audit};
 use shop_base::{Plan, Shaped, Shop, shape};
 use std::alloc::{AllocError, Global};
 
@@ -48,24 +49,26 @@ fn gantt_for(alloc: Global, shop: Shop, plan: &[u8], log: &[u8]) -> Result<Answe
     ensures first { (fault : PlanFault) → IsFirstPlanFault plan.now fault → IsPlanRefusal result fault }
 {
     let plan = load_plan(alloc, plan)?;
-    Ok(gantt_line(alloc, shop, plan, log)?)
+    gantt_line(alloc, shop, plan, log)
 }
 
-fn gantt_line(alloc: Global, shop: Shop, plan: Plan, log: &[u8]) -> Result<Answer, AllocError>
-    ensures { IfOk result (IsGanttAnswer log.now (record { shop = shop; plan = plan })) }
+fn gantt_line(alloc: Global, shop: Shop, plan: Plan, log: &[u8]) -> Result<Answer, CommandFault>
+    ensures text { IfOk result (IsGanttAnswer log.now (record { shop = shop; plan = plan })) }
+    ensures memory { IfErr result (λ fault. fault ≡ CommandFault.Memory) }
 {
     match shape(shop, plan) {
         Ok(shaped) => drawn_answer(alloc, &shaped, log),
-        Err(refused) => not_shaped_answer(alloc, refused.fault),
+        Err(refused) => Ok(not_shaped_answer(alloc, refused.fault)?),
     }
 }
 
 /// The Gantt text of a log that is audited against a plan.
-pub fn drawn_answer(alloc: Global, shaped: &Shaped, log: &[u8]) -> Result<Answer, AllocError>
-    ensures { IfOk result (IsDrawnLog shaped.now log.now) }
+pub fn drawn_answer(alloc: Global, shaped: &Shaped, log: &[u8]) -> Result<Answer, CommandFault>
+    ensures text { IfOk result (IsDrawnLog shaped.now log.now) }
+    ensures memory { IfErr result (λ fault. fault ≡ CommandFault.Memory) }
 {
     match audit(alloc, shaped, log) {
-        Ok(found) => drawing_answer(alloc, shaped, found.entries.as_slice()),
+        Ok(found) => Ok(drawing_answer(alloc, shaped, found.entries.as_slice())?),
         Err(fault) => fault_answer(alloc, fault),
     }
 }

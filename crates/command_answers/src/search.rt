@@ -14,7 +14,7 @@ ghost use Rattle.command_answers.specs.Plans.{TellBoth, TellsAShop, IsPlanRefusa
 ghost use Rattle.command_answers.specs.Search.{task_in, IsSearchLine, IsSearchAnswer, IsSearchFault, IsSearchFaultOfBoth, IsDocumentAnswer, IsNoPlanAnswer, IsBadNumbersLine};
 
 use crate::answer::{Answer, GOOD, REFUSED};
-use crate::command_fault::CommandFault;
+use crate::command_fault::{CommandFault, Unanswered};
 use crate::instances::load_instance;
 use crate::plans::load_plan;
 use crate::print::end_line;
@@ -130,11 +130,14 @@ fn document_answer(alloc: Global, verified: &Verified) -> Result<Answer, Command
 fn no_plan_answer(alloc: Global, fault: SeekFault) -> Result<Answer, CommandFault>
     ensures { IsNoPlanAnswer fault result }
 {
+    if let Some(fault) = Unanswered::from(fault).0 {
+        return Err(fault);
+    }
     match fault {
         SeekFault::BadNumbers(fault) => Ok(bad_numbers_answer(alloc, fault)?),
         SeekFault::Exhausted => Ok(line_answer(alloc, b"exhausted\n")?),
         SeekFault::TooManyRounds => Ok(line_answer(alloc, b"too many rounds\n")?),
-        SeekFault::Memory => Err(CommandFault::Memory),
+        SeekFault::Memory => unreachable!(),
     }
 }
 

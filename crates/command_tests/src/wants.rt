@@ -3,7 +3,7 @@
 //! answers of calls that have all memory.
 
 use super::texts::{CLEANED, CROSSED, IN_TIME, LATE, TWO};
-use alt_graph::{check_chain, check_cycle};
+use alt_graph::{Solved, Times, check_chain, check_cycle, solve};
 use cell_control::{Controller, Dues, ScanDues, TourneyDues};
 use cell_hub::{Hub, HubFault, Ticket};
 use command_answers::{Loaded, load};
@@ -11,7 +11,7 @@ use orlib_read::read_instance;
 use plan_seek::{GreedyProposer, NotFound, Proposer, SeekFault, ShiftProposer, seek};
 use plan_text::{PlanFault, plan_document, read_plan};
 use plan_verifier::{Verdict, Verified, Why, verify};
-use shop_base::{Moment, Shaped, Shop, shape};
+use shop_base::{Moment, Node, Shaped, Shop, shape};
 use std::alloc::Global;
 use std::process::Abort;
 use std::test::Fail;
@@ -76,6 +76,60 @@ fn a_plan_comes_back_unjudged(rt: HostRuntime) -> Result<(), Fail> {
             }
         };
         assert_eq!(rt; said(&verdict), text);
+    }
+    Ok(())
+}
+
+/// The graph of the plan, solved once more where memory was wanting.
+fn solved(rt: &(impl Abort + AllocGlobal + Eprint), plan: &[u8]) -> Result<Solved, Fail> {
+    let shaped = shaped(rt.alloc(), plan)?;
+    asks(rt);
+    let answer = solve(rt.alloc(), &shaped);
+    answers(rt, answer.is_err());
+    match answer {
+        Ok(solved) => Ok(solved),
+        Err(_) => Ok(solve(rt.alloc(), &shaped)?),
+    }
+}
+
+/// The times of the plan, whose graph has no cycle.
+fn times(rt: &(impl Abort + AllocGlobal + Eprint), plan: &[u8]) -> Result<Times, Fail> {
+    match solved(rt, plan)? {
+        Solved::Ordered(times) => Ok(times),
+        Solved::Cyclic(_) => panic!(rt; "the graph has a cycle"),
+    }
+}
+
+fn node(job: u32, place: u32) -> Node {
+    Node { job, place }
+}
+
+#[test]
+fn a_graph_is_solved(rt: HostRuntime) -> Result<(), Fail> {
+    let times = times(&rt, IN_TIME)?;
+    assert!(rt; times.earliest(node(0, 2)) == Some(5) && times.earliest(node(1, 2)) == Some(10));
+    match solved(&rt, CROSSED)? {
+        Solved::Ordered(_) => panic!(rt; "the graph has no cycle"),
+        Solved::Cyclic(nodes) => {
+            assert_eq!(rt; nodes.as_slice(), [node(0, 1), node(1, 1)].as_slice());
+        }
+    }
+    Ok(())
+}
+
+#[test]
+fn a_longest_chain_is_told(rt: HostRuntime) -> Result<(), Fail> {
+    let times = times(&rt, IN_TIME)?;
+    asks(&rt);
+    let answer = times.chain(rt.alloc(), node(1, 2));
+    answers(&rt, answer.is_err());
+    let chain = match answer {
+        Ok(chain) => chain,
+        Err(_) => times.chain(rt.alloc(), node(1, 2))?,
+    };
+    match chain {
+        Some(nodes) => assert!(rt; check_chain(&shaped(rt.alloc(), IN_TIME)?, &nodes) == Some(10)),
+        None => panic!(rt; "the node has no chain"),
     }
     Ok(())
 }
@@ -161,6 +215,21 @@ fn a_serial_that_was_not_given_is_the_next(rt: HostRuntime) -> Result<(), Fail> 
         assert_eq!(rt; ticket, Ticket { slot, serial });
         assert!(rt; has_cells(&hub, slot + 1));
     }
+    Ok(())
+}
+
+#[test]
+fn a_slot_is_used_again(rt: HostRuntime) -> Result<(), Fail> {
+    let mut hub: Hub<TourneyDues> = Hub::new(rt.alloc());
+    let first = admitted(&rt, &mut hub, 0)?;
+    asks(&rt);
+    let dismissed = hub.dismiss(first);
+    // a dismissal asks for no memory, so no request can be refused to it
+    answers(&rt, false);
+    assert!(rt; dismissed.is_ok_and(|cell| cell.reports_left() == 6));
+    let second = admitted(&rt, &mut hub, 0)?;
+    assert_eq!(rt; second, Ticket { slot: 0, serial: 1 });
+    assert!(rt; hub.cell(second).is_some_and(|cell| cell.reports_left() == 6));
     Ok(())
 }
 

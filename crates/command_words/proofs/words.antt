@@ -1,4 +1,5 @@
 pub mod Described
 pub mod Fits
 pub mod Getters
+pub mod Reasons
 pub mod Taken

@@ -94,6 +94,11 @@ asks_for_help DisplayHelp = true
 asks_for_help DisplayVersion = true
 asks_for_help _ = false
 
+-- the fault is the reason's: want of memory where the reason is that, and else a text, which is help where that was asked for
+abbrev pub IsFaultOf : ErrorKind → WordsFault → Type 0
+IsFaultOf kind Memory = kind ≡ OutOfMemory
+IsFaultOf kind (Usage help text) = (kind ≢ OutOfMemory) × (help ≡ asks_for_help kind)
+
 -- the fault is want of memory, or tells of this reason
 abbrev pub TellsReason : ErrorKind → WordsFault → Type 0
 TellsReason kind Memory = Unit {0}

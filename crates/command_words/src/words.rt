@@ -76,6 +76,30 @@ impl From<AllocError> for WordsFault {
     }
 }
 
+/// Why `clap` refuses the words, and what it says then.
+#[derive(Drop)]
+struct Refusal {
+    kind: ErrorKind,
+    text: String,
+}
+
+impl From<Refusal> for WordsFault {
+    ghost use Rattle.command_words.specs.Choice.{IsFaultOf};
+
+    ghost from_gives = { λ refusal fault. IsFaultOf refusal.kind fault };
+
+    fn from(refusal: Refusal) -> WordsFault {
+        let Refusal { kind, text } = refusal;
+        match kind {
+            ErrorKind::OutOfMemory => WordsFault::Memory,
+            ErrorKind::DisplayHelp | ErrorKind::DisplayVersion => {
+                WordsFault::Usage { help: true, text }
+            }
+            _ => WordsFault::Usage { help: false, text },
+        }
+    }
+}
+
 /// Reads the command line, of which the first word is the program's name. `WordsFault::Memory` may
 /// come in place of any other answer.
 pub fn read_words(alloc: Global, words: &[&str]) -> Result<Chosen, WordsFault>
@@ -96,13 +120,9 @@ fn fault_of(alloc: Global, error: &clap::Error) -> WordsFault
     ensures { TellsReason (kind_of error.now) result }
 {
     let kind = error.kind();
-    if kind == ErrorKind::OutOfMemory {
-        return WordsFault::Memory;
-    }
-    let help = matches!(kind, ErrorKind::DisplayHelp | ErrorKind::DisplayVersion);
     match error.to_string(alloc) {
-        Ok(text) => WordsFault::Usage { help, text },
-        Err(_) => WordsFault::Memory,
+        Ok(text) => WordsFault::from(Refusal { kind, text }),
+        Err(error) => WordsFault::from(error),
     }
 }
 

@@ -1,4 +1,5 @@
 use shop_base::{JobNo, ShopFault};
+use std::alloc::AllocError;
 use thiserror::Error;
 
 /// Why a text is no instance: what is wrong first in reading order. Lines and the words of a line are
@@ -32,4 +33,15 @@ pub enum OrFault {
     /// Memory was wanting.
     #[error("Memory")]
     Memory,
+}
+
+impl From<AllocError> for OrFault {
+    ghost use Rattle.std.specs.Prelude.{◌≡◌};
+    ghost use Rattle.orlib_read.specs.declared.or_fault.OrFault.TheVariants.{Memory};
+
+    ghost from_gives = { λ _ fault. fault ≡ Memory };
+
+    fn from(_error: AllocError) -> OrFault {
+        OrFault::Memory
+    }
 }

@@ -76,7 +76,7 @@ fn named(alloc: Global, draft: Result<Draft, OrFault>) -> Result<Named, OrFault>
 {
     let draft = draft?;
     let shop = shop_with(draft.machines, draft.routes)?;
-    let description = Vec::from_slice(alloc, draft.description).map_err(|_| OrFault::Memory)?;
+    let description = Vec::from_slice(alloc, draft.description)?;
     Ok(Named { description, shop })
 }
 

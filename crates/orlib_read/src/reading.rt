@@ -13,7 +13,7 @@ use crate::lines::{Line, Lines};
 use crate::or_fault::OrFault;
 use crate::words::{next_word, number_of, word_count};
 use shop_base::Step;
-use std::alloc::Global;
+use std::alloc::{AllocError, Global};
 
 /// The next line that isn't an instance line, and the lines after it.
 fn first_line<'a>(lines: Lines<'a>) -> Option<(Line<'a>, Lines<'a>)>
@@ -106,7 +106,7 @@ fn steps_of(alloc: Global, line: Line) -> Result<Vec<Step>, OrFault>
             return Err(OrFault::OddWords { line: line.number });
         };
         let step = step_of(line.number, before, machine, nominal)?;
-        route.push(step).map_err(|_| OrFault::Memory)?;
+        route.push(step).map_err(AllocError::from)?;
         before += 2;
         rest = after;
     }
@@ -127,7 +127,7 @@ fn read_jobs<'a>(
             return Err(OrFault::MissingJob { job });
         };
         let route = route_of(alloc, line)?;
-        routes.push(route).map_err(|_| OrFault::Memory)?;
+        routes.push(route).map_err(AllocError::from)?;
         left = rest;
     }
     Ok((routes, left))

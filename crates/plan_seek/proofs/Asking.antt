@@ -33,7 +33,7 @@ shaped_outcome t orders p (InVain back) is outcome =
     let order_is : p.plan.order ≡ orders = ap (λ (x : PlannedShop). x.plan.order) is in
     let given = outcome t (is ∙ ap (with_order t) (sym order_is)) in
     (given.0, λ accepted. given.1 (subst IsAcceptable (sym is) accepted.acceptable))
-shaped_outcome t orders p (WantsMemory back) is outcome =
+shaped_outcome t orders p (WantsMemory error back) is outcome =
     let order_is : p.plan.order ≡ orders = ap (λ (x : PlannedShop). x.plan.order) is in
     outcome t (is ∙ ap (with_order t) (sym order_is))
 

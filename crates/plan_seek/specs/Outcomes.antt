@@ -19,7 +19,7 @@ pub record IsPlanFor (t : PlanTask) (p : PlannedShop) : Type 0 where
 abbrev pub IsOutcome : PlanTask → (List (List ℕ) → Type 0) → Type 0 → Attempt → Type 0
 IsOutcome t Found Failed (Accepted verified) = IsPlanFor t verified.planned × Found verified.planned.plan.order
 IsOutcome t Found Failed (InVain back) = (back ≡ t) × Failed
-IsOutcome t Found Failed (WantsMemory back) = back ≡ t
+IsOutcome t Found Failed (WantsMemory error back) = back ≡ t
 
 -- within one round: these orders may be proposed at some turn, and at each turn before it a proposal may be made that isn't accepted
 pub record IsFoundIn (t : PlanTask) (may : Proposals) (round proposers : ℕ) (order : List (List ℕ)) : Type 0 where

@@ -10,7 +10,7 @@ ghost use Rattle.plan_seek.specs.Outcomes.{IsOutcome};
 use crate::task::Task;
 use plan_verifier::{Verdict, Verified, verify};
 use shop_base::{JobNo, Shaped, shape};
-use std::alloc::Global;
+use std::alloc::{AllocError, Global};
 
 /// What came of a proposal, or of several.
 #[derive(Drop)]
@@ -19,8 +19,8 @@ pub(crate) enum Attempt {
     Accepted(Verified),
     /// There is no plan, or it isn't accepted.
     InVain(Task),
-    /// Memory was wanting.
-    WantsMemory(Task),
+    /// Memory was wanting: what the request was refused with, and the task.
+    WantsMemory(AllocError, Task),
 }
 
 /// Shapes and verifies the plan with these orders.
@@ -42,6 +42,6 @@ fn try_shaped(alloc: Global, shaped: Shaped) -> Attempt
     match verify(alloc, shaped) {
         Ok(Verdict::Accepted(verified)) => Attempt::Accepted(verified),
         Ok(Verdict::Refused(shaped, _)) => Attempt::InVain(Task::of_shaped(shaped)),
-        Err((_, shaped)) => Attempt::WantsMemory(Task::of_shaped(shaped)),
+        Err((error, shaped)) => Attempt::WantsMemory(error, Task::of_shaped(shaped)),
     }
 }

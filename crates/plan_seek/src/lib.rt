@@ -22,4 +22,5 @@ pub use not_found::NotFound;
 pub use proposer::Proposer;
 pub use search::{MAX_ROUNDS, seek};
 pub use seek_fault::SeekFault;
+pub use serial::serial_orders;
 pub use shift::ShiftProposer;

@@ -75,6 +75,6 @@ fn search(
     match try_rounds(alloc, task, proposers, rounds) {
         Attempt::Accepted(verified) => Ok(verified),
         Attempt::InVain(task) => try_serial(alloc, task),
-        Attempt::WantsMemory(task) => Err(task.not_found(SeekFault::Memory)),
+        Attempt::WantsMemory(error, task) => Err(task.not_found(SeekFault::from(error))),
     }
 }

@@ -1,4 +1,5 @@
 use shop_base::ShapeFault;
+use std::alloc::AllocError;
 use thiserror::Error;
 
 /// Why no plan was found: the first reason, the numbers before the rounds and both before the search.
@@ -17,4 +18,15 @@ pub enum SeekFault {
     /// Memory was wanting, here or to a proposer.
     #[error("Memory")]
     Memory,
+}
+
+impl From<AllocError> for SeekFault {
+    ghost use Rattle.std.specs.Prelude.{◌≡◌};
+    ghost use Rattle.plan_seek.specs.declared.seek_fault.SeekFault.TheVariants.{Memory};
+
+    ghost from_gives = { λ _ fault. fault ≡ Memory };
+
+    fn from(_error: AllocError) -> SeekFault {
+        SeekFault::Memory
+    }
 }

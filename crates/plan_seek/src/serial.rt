@@ -23,12 +23,12 @@ pub(crate) fn try_serial(alloc: Global, task: Task) -> Result<Verified, NotFound
 {
     match serial_orders(alloc, &task.shop) {
         Ok(order) => shape_serial(alloc, task, order),
-        Err(_) => Err(task.not_found(SeekFault::Memory)),
+        Err(error) => Err(task.not_found(SeekFault::from(error))),
     }
 }
 
-/// The orders of the serial plan.
-fn serial_orders(alloc: Global, shop: &Shop) -> Result<Vec<Vec<JobNo>>, AllocError>
+/// The orders of the serial plan: each machine takes its jobs in ascending order.
+pub fn serial_orders(alloc: Global, shop: &Shop) -> Result<Vec<Vec<JobNo>>, AllocError>
     ensures { IfOk result (λ orders. lists_of orders.items ≡ serial_order shop.now) }
 {
     // Called for its clause alone: there is a job.
@@ -59,6 +59,6 @@ fn verify_serial(alloc: Global, shaped: Shaped) -> Result<Verified, NotFound>
         Ok(Verdict::Refused(shaped, _)) => {
             Err(Task::of_shaped(shaped).not_found(SeekFault::Exhausted))
         }
-        Err((_, shaped)) => Err(Task::of_shaped(shaped).not_found(SeekFault::Memory)),
+        Err((error, shaped)) => Err(Task::of_shaped(shaped).not_found(SeekFault::from(error))),
     }
 }

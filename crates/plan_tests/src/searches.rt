@@ -1,5 +1,6 @@
 //! What the search for a plan finds, and what its planners propose.
 
+use crate::counting::{CountingProposer, PLANNERS};
 use crate::descending::DescendingProposer;
 use crate::plans::{CLEANED, FT06, IN_SERIES, TWO, two_jobs};
 use orlib_read::read_instance;
@@ -7,7 +8,9 @@ use plan_seek::{GreedyProposer, NotFound, Proposer, ShiftProposer, seek};
 use plan_text::{plan_document, read_plan};
 use shop_base::{JobNo, Plan, Shop};
 use std::alloc::{AllocError, Global};
+use std::cell::Cell;
 use std::process::Abort;
+use std::rc::Rc;
 use std::test::Fail;
 
 /// The order of each machine, its jobs parted by a blank, each order ended by a comma; `none` for no order.
@@ -109,8 +112,12 @@ fn refusal(alloc: Global, refused: NotFound, given: &[u8]) -> Result<String, Fai
 }
 
 /// What the search for the two jobs with the numbers of a plan answers: the orders, or why there are none.
-fn found(alloc: Global, given: &[u8], planners: &[Planner], rounds: u32) -> Result<String, Fail> {
-    let proposers = boxed(alloc, planners)?;
+fn found(
+    alloc: Global,
+    given: &[u8],
+    proposers: &[Box<dyn Proposer>],
+    rounds: u32,
+) -> Result<String, Fail> {
     let numbers = read_plan(alloc, given)?;
     match seek(
         alloc,
@@ -118,7 +125,7 @@ fn found(alloc: Global, given: &[u8], planners: &[Planner], rounds: u32) -> Resu
         numbers.release,
         numbers.budget,
         numbers.clean,
-        &proposers,
+        proposers,
         rounds,
     ) {
         Ok(verified) => {
@@ -137,7 +144,8 @@ fn finds(
     rounds: u32,
     wanted: &str,
 ) -> Result<(), Fail> {
-    let answer = found(rt.alloc(), given, planners, rounds)?;
+    let proposers = boxed(rt.alloc(), planners)?;
+    let answer = found(rt.alloc(), given, &proposers, rounds)?;
     assert_eq!(rt; answer.as_str(), wanted);
     Ok(())
 }
@@ -236,6 +244,53 @@ fn a_planner_of_ones_own_is_taken(rt: HostRuntime) -> Result<(), Fail> {
     finds(&rt, SWAPPED, &[Planner::Descending], 1, "1 0 ,1 0 ,")
 }
 
+/// Asserts what a search among counting planners finds, and how often they are asked for it, each in its turn. One of
+/// them makes a proposal, in one round.
+fn asks(
+    rt: &(impl Abort + AllocGlobal),
+    given: &[u8],
+    proposal: (u32, u32),
+    rounds: u32,
+    wanted: (&str, u32),
+) -> Result<(), Fail> {
+    let questions = Rc::new(rt.alloc(), Cell::new(0))?;
+    let mut proposers: Vec<Box<dyn Proposer>> = Vec::new(rt.alloc());
+    for place in 0..PLANNERS {
+        let proposer = CountingProposer {
+            questions: questions.clone()?,
+            place,
+            round: if place == proposal.0 {
+                proposal.1
+            } else {
+                u32::MAX
+            },
+        };
+        proposers.push(Box::new(rt.alloc(), proposer)?)?;
+    }
+    let answer = found(rt.alloc(), given, &proposers, rounds)?;
+    assert_eq!(rt; answer.as_str(), wanted.0);
+    assert_eq!(rt; questions.get(), wanted.1);
+    Ok(())
+}
+
+#[test]
+fn each_planner_is_asked_once_a_round_in_its_turn(rt: HostRuntime) -> Result<(), Fail> {
+    asks(&rt, SWAPPED, (0, 0), 20, ("1 0 ,1 0 ,", 1))?;
+    asks(&rt, SWAPPED, (2, 0), 20, ("1 0 ,1 0 ,", 3))?;
+    asks(&rt, SWAPPED, (1, 24), 25, ("1 0 ,1 0 ,", 74))?;
+    asks(&rt, SWAPPED, (1, 24), 24, ("Exhausted", 72))?;
+    asks(&rt, SWAPPED, (0, 1000), 1000, ("Exhausted", 3000))?;
+    asks(&rt, IN_SERIES, (0, 2), 2, ("0 1 ,0 1 ,", 6))?;
+    asks(&rt, IN_SERIES, (0, 0), 0, ("0 1 ,0 1 ,", 0))
+}
+
+#[test]
+fn no_planner_is_asked_for_what_is_refused(rt: HostRuntime) -> Result<(), Fail> {
+    let short = b"release = [0]\nbudget = [5, 10]\norder = []\n";
+    asks(&rt, short, (0, 0), 20, ("BadNumbers ReleaseCount", 0))?;
+    asks(&rt, IN_SERIES, (0, 0), 1001, ("TooManyRounds", 0))
+}
+
 /// Asserts what a planner proposes in some rounds for an instance.
 fn proposes(
     rt: &(impl Abort + AllocGlobal),
@@ -280,6 +335,22 @@ fn the_greedy_proposer_orders_each_round_anew(rt: HostRuntime) -> Result<(), Fai
         (
             2,
             "3 2 5 0 4 1 ,3 5 4 2 0 1 ,2 4 3 0 5 1 ,2 5 3 4 0 1 ,4 2 5 3 0 1 ,2 5 4 3 0 1 ,",
+        ),
+        (
+            3,
+            "3 5 4 0 2 1 ,3 5 4 1 0 2 ,4 2 3 5 0 1 ,5 2 3 4 0 1 ,4 5 3 1 2 0 ,5 4 2 3 1 0 ,",
+        ),
+        (
+            4,
+            "3 5 4 0 2 1 ,5 3 4 1 0 2 ,4 2 3 5 0 1 ,5 2 3 4 0 1 ,4 5 3 1 2 0 ,5 4 2 3 1 0 ,",
+        ),
+        (
+            5,
+            "0 5 1 2 4 3 ,5 1 0 4 2 3 ,0 2 1 5 4 3 ,5 2 1 0 4 3 ,1 5 4 2 0 3 ,5 1 2 4 0 3 ,",
+        ),
+        (
+            1000,
+            "3 5 4 0 2 1 ,5 3 4 1 0 2 ,4 2 3 5 0 1 ,5 2 3 4 0 1 ,4 5 3 1 2 0 ,5 4 2 3 1 0 ,",
         ),
     ];
     proposes(&rt, &greedy, FT06, &rounds)

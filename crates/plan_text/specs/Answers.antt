@@ -1,8 +1,10 @@
 -- What the reader of plan texts answers.
 use Rattle.std.specs.Prelude.{◌≡◌, ◌≢◌, List, [], ◌∷◌, Result, Ok, Err}
 use Rattle.shop_base.specs.Plan.{ShopPlan}
+use Rattle.toml.specs.declared.de.error.Error.{Error}
+use Rattle.toml.specs.Errors.{IsMemory}
 use Rattle.plan_text.specs.declared.plan_fault.PlanFault.{PlanFault}
-use Rattle.plan_text.specs.declared.plan_fault.PlanFault.TheVariants.{Memory}
+use Rattle.plan_text.specs.declared.plan_fault.PlanFault.TheVariants.{NotToml, Memory}
 
 -- the answer is this plan, unless memory ran out
 abbrev pub IsRead : Result ShopPlan PlanFault → ShopPlan → Type 0
@@ -28,3 +30,8 @@ PassesExactly faults (Err fault) = IsFirstOf faults fault
 abbrev pub Passes : {A : Type 0} → List PlanFault → Result A PlanFault → Type 0
 Passes faults (Ok x) = faults ≡ []
 Passes faults (Err fault) = fault ≢ Memory → IsFirstOf faults fault
+
+-- the fault that an error of the reader of TOML is: want of memory where it says so, and else that the text is no document
+pub record IsFaultOf (error : Error) (fault : PlanFault) : Type 0 where
+  pub memory : IsMemory error → fault ≡ Memory
+  pub no_document : ¬ (IsMemory error) → fault ≡ NotToml

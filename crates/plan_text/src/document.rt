@@ -119,9 +119,7 @@ pub fn plan_document(alloc: Global, plan: &Plan) -> Result<String, PlanFault>
     ensures not_read_back { result ≡ Err PlanFault.NotReadBack → IsPlanText (plan_lines plan.now) plan.now → ⊥ }
     ensures refusals { IfErr result (λ fault. (fault ≡ PlanFault.NotReadBack) ⊎ (fault ≡ PlanFault.Memory)) }
 {
-    let Ok(text) = plan_lines(alloc, plan) else {
-        return Err(PlanFault::Memory);
-    };
+    let text = plan_lines(alloc, plan)?;
     if is_read_back(alloc, text.as_bytes(), plan)? {
         Ok(text)
     } else {

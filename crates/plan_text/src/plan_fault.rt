@@ -2,6 +2,7 @@ ghost use Rattle.std.specs.Prelude.{Some};
 ghost use Rattle.plan_text.specs.RowText.{row_text};
 
 use crate::plan_key::PlanKey;
+use std::alloc::AllocError;
 use std::fmt;
 use thiserror::Error;
 
@@ -50,6 +51,30 @@ pub enum PlanFault {
     /// The plan's text isn't read as this plan.
     #[error("NotReadBack")]
     NotReadBack,
+}
+
+impl From<AllocError> for PlanFault {
+    ghost use Rattle.std.specs.Prelude.{◌≡◌};
+    ghost use Rattle.plan_text.specs.declared.plan_fault.PlanFault.TheVariants.{Memory};
+
+    ghost from_gives = { λ _ fault. fault ≡ Memory };
+
+    fn from(_error: AllocError) -> PlanFault {
+        PlanFault::Memory
+    }
+}
+
+impl From<toml::de::Error> for PlanFault {
+    ghost use Rattle.plan_text.specs.Answers.{IsFaultOf};
+
+    ghost from_gives = { λ error fault. IsFaultOf error fault };
+
+    fn from(error: toml::de::Error) -> PlanFault {
+        match error {
+            error if error.is_memory() => PlanFault::Memory,
+            _ => PlanFault::NotToml,
+        }
+    }
 }
 
 /// The row in a fault's text, where there is one.

@@ -1,10 +1,9 @@
 //! The reader of plan texts.
 
-ghost use Rattle.std.specs.Prelude.{◌≡◌, ◌≢◌, IfOk, IfErr, Ok, Err, None, Some};
+ghost use Rattle.std.specs.Prelude.{◌≡◌, ◌≢◌, IfOk, IfErr, None, Some};
 ghost use Rattle.shop_base.specs.Vectors.{lists_of, list_of};
 ghost use Rattle.shop_base.specs.Plan.{ShopPlan};
 ghost use Rattle.toml.specs.View.{table_view};
-ghost use Rattle.toml.specs.Errors.{IsMemory};
 ghost use Rattle.plan_text.specs.declared.plan_fault.PlanFault.{PlanFault};
 ghost use Rattle.plan_text.specs.Keys.{value_at};
 ghost use Rattle.plan_text.specs.Documents.{IsDocument, IsNoDocument, IsPlanText, IsFirstPlanFault};
@@ -93,19 +92,7 @@ fn table_of(alloc: Global, text: &[u8]) -> Result<Table, PlanFault>
     let Ok(text) = std::str::from_utf8(text) else {
         return Err(PlanFault::NotToml);
     };
-    told(toml::table_from_str(alloc, text))
-}
-
-fn told(read: Result<Table, toml::de::Error>) -> Result<Table, PlanFault>
-    ensures table { IfOk read (λ table. result ≡ Ok table) }
-    ensures memory { IfErr read (λ error. IsMemory error → result ≡ Err PlanFault.Memory) }
-    ensures refused { IfErr read (λ error. ¬ (IsMemory error) → result ≡ Err PlanFault.NotToml) }
-{
-    match read {
-        Ok(table) => Ok(table),
-        Err(error) if error.is_memory() => Err(PlanFault::Memory),
-        Err(_) => Err(PlanFault::NotToml),
-    }
+    Ok(toml::table_from_str(alloc, text)?)
 }
 
 /// Reads a plan from the text of a TOML document.

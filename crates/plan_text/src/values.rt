@@ -10,7 +10,7 @@ ghost use Rattle.plan_text.specs.Listing.{number_faults, list_faults, row_faults
 use crate::plan_fault::PlanFault;
 use crate::plan_key::PlanKey;
 use shop_base::{JobNo, Moment};
-use std::alloc::Global;
+use std::alloc::{AllocError, Global};
 use toml::Value;
 
 fn moment_of(key: PlanKey, place: usize, value: &Value) -> Result<Moment, PlanFault>
@@ -64,7 +64,7 @@ fn moments_of(alloc: Global, key: PlanKey, items: &[Value]) -> Result<Vec<Moment
     let mut moments = Vec::new(alloc);
     for (place, item) in items.iter().enumerate() {
         let moment = moment_of(key, place, item)?;
-        moments.push(moment).map_err(|_| PlanFault::Memory)?;
+        moments.push(moment).map_err(AllocError::from)?;
     }
     Ok(moments)
 }
@@ -76,7 +76,7 @@ fn jobs_of(alloc: Global, row: usize, items: &[Value]) -> Result<Vec<JobNo>, Pla
     let mut jobs = Vec::new(alloc);
     for (place, item) in items.iter().enumerate() {
         let job = job_of(row, place, item)?;
-        jobs.push(job).map_err(|_| PlanFault::Memory)?;
+        jobs.push(job).map_err(AllocError::from)?;
     }
     Ok(jobs)
 }
@@ -117,7 +117,7 @@ fn rows_of(alloc: Global, items: &[Value]) -> Result<Vec<Vec<JobNo>>, PlanFault>
     let mut rows = Vec::new(alloc);
     for (row, item) in items.iter().enumerate() {
         let jobs = row_in(alloc, row, item)?;
-        rows.push(jobs).map_err(|_| PlanFault::Memory)?;
+        rows.push(jobs).map_err(AllocError::from)?;
     }
     Ok(rows)
 }

@@ -23,8 +23,8 @@ pub(crate) fn first_late(shaped: &Shaped, times: &Times) -> Option<JobNo>
     None
 }
 
-/// The greatest length of a path to the job's leaving.
-pub(crate) fn leave_time(shaped: &Shaped, times: &Times, job: JobNo) -> Moment
+/// The earliest moment at which the job can have left, in whole time units: the greatest length of a path to its leaving.
+pub fn leave_time(shaped: &Shaped, times: &Times, job: JobNo) -> Moment
     requires ordered { AreOrdered shaped.now times.now }
     requires job { job < jobs shaped.now }
     ensures { result ≡ earliest_of times.now (leaving shaped.now job) }
@@ -36,7 +36,7 @@ pub(crate) fn leave_time(shaped: &Shaped, times: &Times, job: JobNo) -> Moment
 }
 
 /// The job's leaving.
-pub(crate) fn leaving_of(shaped: &Shaped, job: JobNo) -> Node
+pub fn leaving_of(shaped: &Shaped, job: JobNo) -> Node
     requires { job < jobs shaped.now }
     ensures { result ≡ leaving shaped.now job }
 {

@@ -3,10 +3,12 @@
 #![tactic(auto)]
 
 mod leavings;
+mod planned;
 mod verdict;
 mod verified;
 mod verifying;
 
+pub use leavings::{leave_time, leaving_of};
 pub use verdict::{Verdict, Why};
-pub use verified::Verified;
+pub use verified::{Verified, later};
 pub use verifying::verify;

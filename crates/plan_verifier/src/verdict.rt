@@ -4,8 +4,8 @@ use shop_base::{JobNo, Moment, Node, Shaped};
 /// What is to be said of a plan.
 #[derive(Debug, Drop)]
 pub enum Verdict {
-    /// It can't lock in a run in which each report is followed by the moves that it makes possible; and in such
-    /// a run each job is out by its budget as long as no activity outlasts its nominal time.
+    /// No arcs lead in a circle, and no path to a job's leaving is longer than its budget. So a controlled run never
+    /// gets stuck, and while no report of it is late, each job is out by its budget, or its budget isn't past yet.
     Accepted(Verified),
     /// It locks in every run, or a job can't be out by its budget where each activity takes its nominal time.
     /// The plan comes back with the evidence.

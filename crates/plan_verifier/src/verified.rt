@@ -81,7 +81,7 @@ impl Verified {
 }
 
 /// The later of two moments.
-fn later(one: Moment, other: Moment) -> Moment
+pub fn later(one: Moment, other: Moment) -> Moment
     ensures { result ≡ max one other }
 {
     if one < other { other } else { one }

@@ -1,8 +1,7 @@
 -- How far a log has been audited.
-use Rattle.std.specs.Prelude.{◌≡◌, ℕ, ◌*◌, ◌<◌, List, ◌++◌}
+use Rattle.std.specs.Prelude.{◌≡◌, ℕ, List, ◌++◌}
 use Rattle.shop_base.specs.Plan.{PlannedShop}
 use Rattle.shop_base.specs.Run.{IsRun, ends_in}
-use Rattle.shop_base.specs.Ends.{stated_number}
 use Rattle.cell_control.specs.declared.tables.Tables.{Tables}
 use Rattle.cell_control.specs.Tables.{cell_of, AreSound}
 use Rattle.run_log.specs.declared.entry.Entry.{Entry}
@@ -18,7 +17,3 @@ pub record IsTold (p : PlannedShop) (t : Tables) (told : List Entry) : Type 0 wh
 -- the entries that a line tells were put behind those before
 abbrev pub IsLineTaken : PlannedShop → List ℕ → List Entry → List Entry → Type 0
 IsLineTaken p line before after = (own : List Entry) × LineTells p line own × (after ≡ before ++ own)
-
--- there is room for an entry of each of so many lines, as far as a run can have so many
-abbrev pub HasRoom : PlannedShop → ℕ → ℕ → Type 0
-HasRoom p lines room = (n : ℕ) → n < lines → n < 2 * stated_number p → n < room

@@ -1,5 +1,5 @@
 -- Which logs an audit accepts, and what it finds first in the others.
-use Rattle.std.specs.Prelude.{◌≡◌, ℕ, ◌+◌, ◌<◌, ◌≤◌, ◌↔◌, true, false, None, Some, List, [], ◌∷◌, ◌++◌, length}
+use Rattle.std.specs.Prelude.{◌≡◌, ℕ, ◌+◌, ◌*◌, ◌<◌, ◌≤◌, ◌↔◌, true, false, None, Some, List, [], ◌∷◌, ◌++◌, length, min}
 use Rattle.shop_base.specs.declared.move_order.Spot.{Spot}
 use Rattle.shop_base.specs.declared.move_order.Spot.TheVariants.{Out, At}
 use Rattle.shop_base.specs.declared.move_order.MoveOrder.{MoveOrder}
@@ -8,7 +8,7 @@ use Rattle.shop_base.specs.Cell.{Cell, ready, entries, cleaning, IsFree}
 use Rattle.shop_base.specs.Activity.{Activity, GoesOn}
 use Rattle.shop_base.specs.Move.{IsPrefix, source, target}
 use Rattle.shop_base.specs.Run.{IsRun, ends_in}
-use Rattle.shop_base.specs.Ends.{HasEnded, reports_in, moves_in}
+use Rattle.shop_base.specs.Ends.{HasEnded, stated_number, reports_in, moves_in}
 use Rattle.cell_control.specs.Reports.{said}
 use Rattle.run_log.specs.declared.entry.Entry.{Entry}
 use Rattle.run_log.specs.declared.entry.Entry.TheVariants.{Report as ReportEntry, Order as OrderEntry}
@@ -127,3 +127,7 @@ IsAuditFault p lines fault = IsFirstBad p lines fault
 -- the lines tell a run
 abbrev pub TellRun : PlannedShop → List (List ℕ) → Type 0
 TellRun p lines = (told : List Entry) × LinesTell p lines told × IsRun p (events_of told)
+
+-- for how many entries an audit of these lines has room: one for each line, but no more than a run can have, which are two for each report of the stated number
+abbrev pub room_for : PlannedShop → List (List ℕ) → ℕ
+room_for p lines = min (length lines) (2 * stated_number p)

@@ -2,9 +2,6 @@ pub mod Sinks
 pub mod Devices
 pub mod EventLines
 pub mod Log
-pub mod GanttVisits
-pub mod GanttText
-pub mod GanttTables
 pub mod Events
 pub mod LogLines
 pub mod LogWords

@@ -1,13 +1,13 @@
 //! The audit of a log: whether its lines tell a run of the plan.
 
-ghost use Rattle.std.specs.Prelude.{◌≡◌, ◌+◌, ◌*◌, ◌<◌, ◌≤◌, [], ◌∷◌, length, vec_capacity, IfOk, OnOk, IfErr};
+ghost use Rattle.std.specs.Prelude.{◌≡◌, ◌+◌, ◌*◌, ◌<◌, ◌≤◌, [], ◌∷◌, length, min, vec_capacity, IfOk, OnOk, IfErr};
 ghost use Rattle.shop_base.specs.Ends.{stated_number, reports_in};
 ghost use Rattle.text_lines.specs.Lines.{lines_of};
 ghost use Rattle.cell_control.specs.Tables.{cell_of};
 ghost use Rattle.run_log.specs.Events.{event_of, events_of};
 ghost use Rattle.run_log.specs.LogLines.{LinesTell};
-ghost use Rattle.run_log.specs.Audits.{IsAudit, IsAuditFault, IsLineFault, IsFirstBad, TellRun, fault_line};
-ghost use Rattle.run_log.specs.Auditing.{IsTold, IsLineTaken, HasRoom};
+ghost use Rattle.run_log.specs.Audits.{IsAudit, IsAuditFault, IsLineFault, IsFirstBad, TellRun, fault_line, room_for};
+ghost use Rattle.run_log.specs.Auditing.{IsTold, IsLineTaken};
 
 use crate::audit_fault::AuditFault;
 use crate::audited::Audit;
@@ -21,10 +21,11 @@ use std::alloc::{AllocError, Global};
 use text_lines::{line_count, next_line};
 
 /// Audits a log against a plan, which needn't be an accepted one. Empty lines and the other answers of a driven
-/// cell (`late`, `refused`, `done`, `unfinished`) are passed over. Memory is taken for no more entries than the text
-/// has lines, nor than a run of the plan can have.
+/// cell (`late`, `refused`, `done`, `unfinished`) are passed over. Memory is taken for as many entries as the text
+/// has lines, or as a run of the plan can have, whichever is less.
 pub fn audit(alloc: Global, shaped: &Shaped, text: &[u8]) -> Result<Audit, AuditFault>
     ensures kept { IfOk result (IsAudit shaped.now (lines_of text.now)) }
+    ensures room { IfOk result (λ audit. vec_capacity audit.entries ≡ room_for shaped.now (lines_of text.now)) }
     ensures fault { IfErr result (IsAuditFault shaped.now (lines_of text.now)) }
     ensures only { TellRun shaped.now (lines_of text.now) → IfErr result (λ fault. fault ≡ AuditFault.Memory) }
 {
@@ -46,30 +47,27 @@ pub fn audit(alloc: Global, shaped: &Shaped, text: &[u8]) -> Result<Audit, Audit
 /// The cell and the entries of the log, if its lines tell a run.
 fn read_log(alloc: Global, shaped: &Shaped, text: &[u8]) -> Result<(Tables, Vec<Entry>), AuditFault>
     ensures told { IfOk result (λ log. IsTold shaped.now log.0 log.1.items × LinesTell shaped.now (lines_of text.now) log.1.items) }
+    ensures room { IfOk result (λ log. vec_capacity log.1 ≡ room_for shaped.now (lines_of text.now)) }
     ensures fault { IfErr result (IsAuditFault shaped.now (lines_of text.now)) }
 {
-    let Ok(mut log) = start_log(alloc, shaped, line_count(text)) else {
-        return Err(AuditFault::Memory);
-    };
-    match take_lines(shaped, &mut log.0, &mut log.1, text) {
-        Ok(()) => Ok(log),
-        Err(fault) => Err(fault),
-    }
+    let mut log = start_log(alloc, shaped, text)?;
+    take_lines(shaped, &mut log.0, &mut log.1, text)?;
+    Ok(log)
 }
 
-/// A cell at the start of a run, and room for the entries of so many lines, of which a run can be told.
+/// A cell at the start of a run, and room for the entries that the lines of the text can tell of one.
 fn start_log(
     alloc: Global,
     shaped: &Shaped,
-    lines: usize,
+    text: &[u8],
 ) -> Result<(Tables, Vec<Entry>), AllocError>
     ensures told { IfOk result (λ log. IsTold shaped.now log.0 []) }
     ensures empty { IfOk result (λ log. log.1.items ≡ []) }
-    ensures room { IfOk result (λ log. HasRoom shaped.now lines (vec_capacity log.1)) }
+    ensures room { IfOk result (λ log. vec_capacity log.1 ≡ room_for shaped.now (lines_of text.now)) }
 {
     let tables = start_tables(alloc, shaped)?;
     let most = 2 * shaped.report_count() as usize;
-    let entries = Vec::with_capacity(alloc, lines.min(most))?;
+    let entries = Vec::with_capacity(alloc, line_count(text).min(most))?;
     Ok((tables, entries))
 }
 
@@ -82,9 +80,10 @@ fn take_lines(
 ) -> Result<(), AuditFault>
     requires told { IsTold shaped.now tables.old [] }
     requires empty { entries.old.items ≡ [] }
-    requires room { HasRoom shaped.now (length (lines_of text.now)) (vec_capacity entries.old) }
+    requires room { vec_capacity entries.old ≡ room_for shaped.now (lines_of text.now) }
     ensures told { OnOk result (IsTold shaped.now tables.new entries.new.items) }
     ensures tells { OnOk result (LinesTell shaped.now (lines_of text.now) entries.new.items) }
+    ensures capacity { OnOk result (vec_capacity entries.new ≡ vec_capacity entries.old) }
     ensures fault { IfErr result (IsFirstBad shaped.now (lines_of text.now)) }
 {
     let mut number = 0;

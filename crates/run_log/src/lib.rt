@@ -1,5 +1,4 @@
-//! The log of a cell's run, the lines in which it is written to any taker of bytes, the audit of such lines,
-//! and the drawing of a run in text.
+//! The log of a cell's run, the lines in which it is written to any taker of bytes, and the audit of such lines.
 #![tactic(auto)]
 
 mod audit_fault;
@@ -8,11 +7,6 @@ mod auditing;
 mod ended;
 mod entry;
 mod event_lines;
-mod gantt_bar;
-mod gantt_text;
-mod gantt_times;
-mod gantt_visit;
-mod gantt_visits;
 mod happening;
 mod into_sink;
 mod line_text;
@@ -27,7 +21,6 @@ pub use audited::Audit;
 pub use auditing::audit;
 pub use entry::Entry;
 pub use event_lines::{put_order, put_report, write_lines};
-pub use gantt_text::gantt;
 pub use into_sink::IntoSink;
 pub use line_text::LineText;
 pub use log_fault::LogFault;

@@ -13,18 +13,15 @@ use std::marker::Model;
 #[derive(Debug, Drop)]
 pub struct RunLog {
     entries: Vec<Entry>,
-    reserved: usize,
 }
 
 impl Model for RunLog {
-    ghost use Rattle.std.specs.Prelude.{◌≤◌, vec_len, vec_capacity};
+    ghost use Rattle.std.specs.Prelude.{vec_capacity};
     ghost use Rattle.run_log.specs.Log.{Noted};
 
     ghost Value = { Noted };
 
-    ghost view = { λ l. record { entries = l.entries.items; reserved = l.reserved } };
-
-    ghost invariant = { λ l. (vec_len l.entries ≤ l.reserved) × (l.reserved ≤ vec_capacity l.entries) };
+    ghost view = { λ l. record { entries = l.entries.items; reserved = vec_capacity l.entries } };
 }
 
 impl RunLog {
@@ -36,7 +33,7 @@ impl RunLog {
     {
         let reserved = 2 * verified.shaped().report_count() as usize;
         let entries = Vec::with_capacity(alloc, reserved)?;
-        Ok(RunLog { entries, reserved })
+        Ok(RunLog { entries })
     }
 
     /// Notes an accepted report.
@@ -45,7 +42,7 @@ impl RunLog {
         ensures full { IsErr result ↔ (self.old.reserved < length self.old.entries + 1) }
         ensures unchanged { OnErr result (self.new ≡ self.old) }
     {
-        if self.entries.len() == self.reserved {
+        if self.entries.len() == self.entries.capacity() {
             return Err(LogFault::Full);
         }
         self.entries.push_reserved(Entry::Report(report));
@@ -58,7 +55,7 @@ impl RunLog {
         ensures full { IsErr result ↔ (self.old.reserved < length self.old.entries + length orders.now) }
         ensures unchanged { OnErr result (self.new ≡ self.old) }
     {
-        if orders.len() > self.reserved - self.entries.len() {
+        if orders.len() > self.entries.capacity() - self.entries.len() {
             return Err(LogFault::Full);
         }
         push_orders(&mut self.entries, orders);

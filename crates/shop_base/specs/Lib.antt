@@ -4,6 +4,7 @@ pub mod Work
 pub mod ShopFault
 pub mod Plan
 pub mod ShapeFault
+pub mod TimeLimits
 pub mod Marks
 pub mod Cell
 pub mod Activity

@@ -1,9 +1,8 @@
-use Rattle.std.specs.Prelude.{◌≡◌, ℕ, ◌<◌, List, [], Bool, false, length, slice_index, slice_index_or, MatchBool, MatchOption, Option}
+use Rattle.std.specs.Prelude.{◌≡◌, ℕ, ◌<◌, List, [], Bool, false, length, slice_index_or, MatchBool, MatchOption, Option}
 use Rattle.shop_base.specs.declared.shop.Step.{Step}
 use Rattle.shop_base.specs.declared.limits.TheConstants.{MAX_MACHINES}
-use Rattle.shop_base.specs.Shop.{JobShop, route_at, step_at}
-use Rattle.shop_base.specs.Plan.{PlannedShop}
-use Rattle.shop_base.specs.ShapeFault.{AreWithin}
+use Rattle.shop_base.specs.Shop.{route_at, step_at}
+use Rattle.shop_base.specs.TimeLimits.{AreAllWithin, IsFirstOver}
 
 -- one mark per job, set for just those of which the fact holds
 abbrev pub AreMarks : List Bool → (ℕ → Type 0) → Type 0
@@ -25,11 +24,4 @@ AreVisits visits routes =
 
 -- the first number over the limit, none where each is within it
 abbrev pub IsFirstAbove : List ℕ → ℕ → Option ℕ → Type 0
-IsFirstAbove numbers limit found =
-    MatchOption found
-    (AreWithin (slice_index numbers) (length numbers) limit)
-    (λ i. (i < length numbers) × AreWithin (slice_index numbers) i limit × (limit < slice_index numbers i))
-
--- a shop, and a plan with these times and orders
-abbrev pub planned : JobShop → List ℕ → List ℕ → Option (List ℕ) → List (List ℕ) → PlannedShop
-planned shop release budget clean order = record { shop = shop; plan = record { release = release; budget = budget; order = order; clean = clean } }
+IsFirstAbove numbers limit found = MatchOption found (AreAllWithin numbers limit) (IsFirstOver numbers limit)

@@ -8,11 +8,11 @@ use Rattle.shop_base.specs.Run.{Event, IsRun, ends_in, IsAtRest}
 use Rattle.shop_base.specs.Controlled.{IsStep, IsControlledRun}
 use Rattle.shop_base.specs.Sound.{IsSound}
 
--- in every run, by any controller, exactly one list of moves fits each report that is possible at rest
+-- from each sound cell at rest, exactly one list of moves fits each report that is possible there
 abbrev pub OneListOfMovesFitsAReport : Type 0
-OneListOfMovesFitsAReport = (p : PlannedShop) (es : List Event) (r : Report)
-    → IsWellShaped p → IsRun p es → IsAtRest p (ends_in p es) → CanReport p (ends_in p es) r
-    → (js : List ℕ) × IsStep p (ends_in p es) r js × ((others : List ℕ) → IsStep p (ends_in p es) r others → others ≡ js)
+OneListOfMovesFitsAReport = (p : PlannedShop) (c : Cell) (r : Report)
+    → IsWellShaped p → IsSound p c → IsAtRest p c → CanReport p c r
+    → (js : List ℕ) × IsStep p c r js × ((others : List ℕ) → IsStep p c r others → others ≡ js)
 
 -- the controlled run of every list of reports exists, and there is only one
 abbrev pub EveryListHasOneControlledRun : Type 0

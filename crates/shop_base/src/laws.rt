@@ -10,8 +10,9 @@ ghost use Rattle.shop_base.specs.CycleLaw.{ACycleStopsEveryRun};
 ghost use Rattle.shop_base.specs.ExactLaw.{NoExactRunIsFaster, NoExactMoveIsEarlier, ExactRunsAreJustInTime};
 ghost use Rattle.shop_base.specs.SerialLaw.{TheSerialPlanHasNoCycle};
 
-/// One list of moves: after each report that is possible at rest, in every run, exactly one list of moves keeps
-/// the plan and ends at rest. What a controller orders is no matter of choice.
+/// One list of moves: from each sound cell at rest, each possible report is followed by exactly one list of moves
+/// that keep the plan and end at rest. The end of every run is sound, and so is the cell of every controller. What
+/// a controller orders is no matter of choice.
 pub fn one_list_of_moves_fits_a_report()
     ensures { OneListOfMovesFitsAReport }
 {}

@@ -1,19 +1,18 @@
 //! The limits of a plan's times.
 
-ghost use Rattle.std.specs.Prelude.{List, ℕ, ◌≤◌, length, OnOk, IfErr, IfSome};
+ghost use Rattle.std.specs.Prelude.{◌≤◌, length, OnOk, IfErr, IfSome};
 ghost use Rattle.shop_base.specs.Vectors.{list_of};
-ghost use Rattle.shop_base.specs.Shop.{JobShop};
-ghost use Rattle.shop_base.specs.Plan.{HasCounts, IsWithinLimits};
 ghost use Rattle.shop_base.specs.declared.limits.TheConstants.{MAX_JOBS, MAX_MACHINES};
-ghost use Rattle.shop_base.specs.ShapeFault.{IsFirstShapeFault};
-ghost use Rattle.shop_base.specs.Marks.{planned, IsFirstAbove};
+ghost use Rattle.shop_base.specs.TimeLimits.{AreTimesWithin, IsFirstTimeFault};
+ghost use Rattle.shop_base.specs.Marks.{IsFirstAbove};
 
 use crate::limits::{MAX_CLEAN, MAX_MOMENT, MAX_RELEASE};
 use crate::shape_fault::ShapeFault;
 use crate::shop::Moment;
 
-/// The first of a plan's times that is over its limit, as the fault of any plan with these times that has as
-/// many of each as its shop asks for: first the releases, then the budgets, then the cleaning times.
+/// The first of a plan's times that is over its limit: first the releases, then the budgets, then the cleaning times.
+/// It asks neither for orders, nor how many of each there are. In a plan with as many of each as its shop asks
+/// for, it is the first fault of the shape.
 pub fn check_limits(
     release: &[Moment],
     budget: &[Moment],
@@ -22,12 +21,8 @@ pub fn check_limits(
     requires few_releases { length release.now ≤ MAX_JOBS }
     requires few_budgets { length budget.now ≤ MAX_JOBS }
     requires few_cleanings { IfSome (list_of clean.now) (λ times. length times ≤ MAX_MACHINES) }
-    ensures sound { OnOk result ((shop : JobShop) (order : List (List ℕ))
-        → HasCounts (planned shop release.now budget.now (list_of clean.now) order)
-        → IsWithinLimits (planned shop release.now budget.now (list_of clean.now) order)) }
-    ensures first_fault { IfErr result (λ fault. (shop : JobShop) (order : List (List ℕ))
-        → HasCounts (planned shop release.now budget.now (list_of clean.now) order)
-        → IsFirstShapeFault (planned shop release.now budget.now (list_of clean.now) order) fault) }
+    ensures sound { OnOk result (AreTimesWithin release.now budget.now (list_of clean.now)) }
+    ensures first_fault { IfErr result (IsFirstTimeFault release.now budget.now (list_of clean.now)) }
 {
     if let Some(job) = first_above(release, MAX_RELEASE) {
         return Err(ShapeFault::ReleaseTooLarge { job: job as u32 });

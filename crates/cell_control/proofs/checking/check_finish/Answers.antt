@@ -1,4 +1,4 @@
-use Rattle.std.proofs.Common.{◌+◌, ◌-◌, refl, subst}
+use Rattle.std.proofs.Common.{◌+◌, ◌-◌, refl, subst, rules}
 use Rattle.shop_base.specs.Plan.{nominal}
 use Rattle.shop_base.specs.Cell.{made, since, IsOn}
 use Rattle.cell_control.specs.Tables.{cell_of}
@@ -23,3 +23,6 @@ returns-clause-possible c =
       );
       moment = c.in_ok-check_job.ensures.in_turn.moment;
     }
+
+pub returns-then-actual-machine-clause-first : goal.returns-then-actual-machine-clause-first
+returns-then-actual-machine-clause-first c = search rules depth 2

@@ -7,11 +7,11 @@ use Rattle.cell_control.proofs.tables.start_tables.Goals as goal
 pub returns-clause-tables : goal.returns-clause-tables
 returns-clause-tables c =
     start_are_tables c.args.shaped.now _ c.job_count.ensures.well_shaped
-    (c.in_ok-jobs.ensures ∙ ap (λ n. replicate {A = JobState} n (record { made = 0; ready = false; since = 0 })) c.job_count.ensures.count)
-    (c.in_ok-machines.ensures ∙ ap (λ n. replicate n no_row) c.machine_count.ensures.count) refl
+    (c.in_ok-jobs.ensures.rows ∙ ap (λ n. replicate {A = JobState} n (record { made = 0; ready = false; since = 0 })) c.job_count.ensures.count)
+    (c.in_ok-machines.ensures.rows ∙ ap (λ n. replicate n no_row) c.machine_count.ensures.count) refl
 
 pub returns-clause-start : goal.returns-clause-start
 returns-clause-start c =
     start_cell c.args.shaped.now _
-    (c.in_ok-jobs.ensures ∙ ap (λ n. replicate {A = JobState} n (record { made = 0; ready = false; since = 0 })) c.job_count.ensures.count)
-    (c.in_ok-machines.ensures ∙ ap (λ n. replicate n no_row) c.machine_count.ensures.count) refl
+    (c.in_ok-jobs.ensures.rows ∙ ap (λ n. replicate {A = JobState} n (record { made = 0; ready = false; since = 0 })) c.job_count.ensures.count)
+    (c.in_ok-machines.ensures.rows ∙ ap (λ n. replicate n no_row) c.machine_count.ensures.count) refl

@@ -5,15 +5,15 @@ use Rattle.cell_drive.proofs.CellTexts.{wrote_next, took_first}
 use Rattle.cell_drive.proofs.DrivenAnswers.{no_bytes}
 use Rattle.cell_drive.proofs.cell_answers.put_behind.Goals as goal
 
-pub returns-then-is_empty : goal.returns-then-is_empty
-returns-then-is_empty g c =
+pub returns-then-is_empty-clause-wrote : goal.returns-then-is_empty-clause-wrote
+returns-then-is_empty-clause-wrote g c =
     subst (λ p. Wrote c.put_all.result (g.W.Sink.failed c.put_all.new.writer) (g.W.Sink.taken c.args.writer.now) (g.W.Sink.taken c.put_all.new.writer) (p ++ c.args.line.now))
     (sym (no_bytes _ _ c.is_empty.ensures c.if-is_empty.true)) c.put_all.ensures.wrote
 
-pub returns-in_err-put_all : goal.returns-in_err-put_all
-returns-in_err-put_all g c =
+pub returns-in_err-put_all-clause-wrote : goal.returns-in_err-put_all-clause-wrote
+returns-in_err-put_all-clause-wrote g c =
     let p = err_from_is_err_and c.from_residual.result c.from_residual.ensures.1 in
     rw p.1 (c.in_err-put_all.ensures.wrote.0, took_first _ _ c.args.prefix.now c.args.line.now c.in_err-put_all.ensures.wrote.1)
 
-pub returns : goal.returns
-returns g c = wrote_next c.put_all-3.result _ _ _ _ c.args.prefix.now c.args.line.now c.in_ok-put_all.ensures.wrote c.put_all-3.ensures.wrote
+pub returns-clause-wrote : goal.returns-clause-wrote
+returns-clause-wrote g c = wrote_next c.put_all-3.result _ _ _ _ c.args.prefix.now c.args.line.now c.in_ok-put_all.ensures.wrote c.put_all-3.ensures.wrote

@@ -7,14 +7,14 @@ use Rattle.run_log.proofs.Written.{AllBut-more, TookPart-rest}
 use Rattle.cell_drive.proofs.CellTexts.{next_line}
 use Rattle.cell_drive.proofs.cell_answers.put_orders.Goals as goal
 
-pub returns-in_err-put_behind : goal.returns-in_err-put_behind
-returns-in_err-put_behind g c =
+pub returns-in_err-put_behind-clause-wrote : goal.returns-in_err-put_behind-clause-wrote
+returns-in_err-put_behind-clause-wrote g c =
     let i = c.loop-order.order-index in
     let line = λ (o : MoveOrder). c.args.prefix.now ++ order_line o in
     let p = err_from_is_err_and c.from_residual.result c.from_residual.ensures.1 in
     rw p.1 (
-      c.in_err-put_behind.ensures.0,
-      TookPart-rest _ _ _ _ _ _ (flat_map line (drop (i + 1) c.args.orders.now)) c.loop-order.invariant c.in_err-put_behind.ensures.1
+      c.in_err-put_behind.ensures.wrote.0,
+      TookPart-rest _ _ _ _ _ _ (flat_map line (drop (i + 1) c.args.orders.now)) c.loop-order.invariant.so_far c.in_err-put_behind.ensures.wrote.1
           (ap (λ l. (c.args.prefix.now ++ l) ++ flat_map line (drop (i + 1) c.args.orders.now)) (c.bytes.ensures ∙ c.put_order.ensures) ∙ next_line line c.args.orders.now i _ (omega arith)),
     )
 
@@ -22,5 +22,8 @@ pub loop-order-preserved : goal.loop-order-preserved
 loop-order-preserved g c =
     let i = c.loop-order.order-index in
     let line = λ (o : MoveOrder). c.args.prefix.now ++ order_line o in
-    AllBut-more _ _ _ _ _ _ _ c.loop-order.invariant c.in_ok-put_behind.ensures
-    (ap (λ l. (c.args.prefix.now ++ l) ++ flat_map line (drop (i + 1) c.args.orders.now)) (c.bytes.ensures ∙ c.put_order.ensures) ∙ next_line line c.args.orders.now i _ (omega arith))
+    record {
+      so_far = AllBut-more _ _ _ _ _ _ _ c.loop-order.invariant.so_far c.in_ok-put_behind.ensures.wrote
+          (ap (λ l. (c.args.prefix.now ++ l) ++ flat_map line (drop (i + 1) c.args.orders.now)) (c.bytes.ensures ∙ c.put_order.ensures) ∙ next_line line c.args.orders.now i _ (omega arith));
+      unfailed = c.in_ok-put_behind.ensures.unfailed ∙ c.loop-order.invariant.unfailed;
+    }

@@ -1,10 +1,11 @@
+use Rattle.std.proofs.Common.{refl}
 use Rattle.std.proofs.KnownBytes.{Appends-nil}
 use Rattle.cell_drive.proofs.DrivenAnswers.{no_bytes, some_bytes, was_answered, answer_empty}
 use Rattle.cell_drive.proofs.driven.answer_line.Goals as goal
 
 pub returns-then-is_empty-clause-answered : goal.returns-then-is_empty-clause-answered
 returns-then-is_empty-clause-answered g c =
-    was_answered _ _ _ _ _ _ _ _ _ (answer_empty _ _ _ (no_bytes _ _ c.is_empty.ensures c.if-is_empty.true)) (Appends-nil _)
+    was_answered _ _ _ _ _ _ _ _ _ _ (answer_empty _ _ _ (no_bytes _ _ c.is_empty.ensures c.if-is_empty.true)) (Appends-nil _) refl
 
 pub answer_told-requires-clause-told : goal.answer_told-requires-clause-told
 answer_told-requires-clause-told g c = some_bytes _ _ c.is_empty.ensures c.if-is_empty.false

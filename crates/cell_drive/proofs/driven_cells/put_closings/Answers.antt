@@ -1,4 +1,4 @@
-use Rattle.std.proofs.Common.{◌+◌, drop, arith}
+use Rattle.std.proofs.Common.{◌+◌, ◌∙◌, drop, arith}
 use Rattle.std.proofs.lemmas.Result.{err_from_is_err_and}
 use Rattle.run_log.proofs.Written.{AllBut-more, AllBut-all, TookPart-rest}
 use Rattle.cell_drive.specs.NumberedCells.{contents_of, closing_text}
@@ -6,23 +6,26 @@ use Rattle.cell_drive.proofs.Numbering.{length_contents}
 use Rattle.cell_drive.proofs.Closing.{content_below, next_closing, no_more_closing}
 use Rattle.cell_drive.proofs.driven_cells.put_closings.Goals as goal
 
-pub returns-in_err-put_numbered_closing : goal.returns-in_err-put_numbered_closing
-returns-in_err-put_numbered_closing g c =
+pub returns-in_err-put_numbered_closing-clause-wrote : goal.returns-in_err-put_numbered_closing-clause-wrote
+returns-in_err-put_numbered_closing-clause-wrote g c =
     let k = c.loop-cell.cell in
     let cells = contents_of c.args.hub.now c.args.tickets.now in
     let there = content_below c.args.hub.now c.args.tickets.now k c.requires (omega (arith, c.loop-cell-test.true)) in
-    let wrote = c.in_err-put_numbered_closing.ensures there.0 there.1 in
+    let wrote = c.in_err-put_numbered_closing.ensures.wrote there.0 there.1 in
     let p = err_from_is_err_and c.from_residual.result c.from_residual.ensures.1 in
-    rw p.1 (wrote.0, TookPart-rest _ _ _ _ _ _ (closing_text (k + 1) (drop (k + 1) cells)) c.loop-cell.invariant wrote.1 (next_closing cells k there.0 there.1))
+    rw p.1 (wrote.0, TookPart-rest _ _ _ _ _ _ (closing_text (k + 1) (drop (k + 1) cells)) c.loop-cell.invariant.so_far wrote.1 (next_closing cells k there.0 there.1))
 
 pub loop-cell-preserved : goal.loop-cell-preserved
 loop-cell-preserved g c =
     let k = c.loop-cell.cell in
     let cells = contents_of c.args.hub.now c.args.tickets.now in
     let there = content_below c.args.hub.now c.args.tickets.now k c.requires (omega (arith, c.loop-cell-test.true)) in
-    AllBut-more _ _ _ _ _ _ _ c.loop-cell.invariant (c.in_ok-put_numbered_closing.ensures there.0 there.1) (next_closing cells k there.0 there.1)
+    record {
+      so_far = AllBut-more _ _ _ _ _ _ _ c.loop-cell.invariant.so_far (c.in_ok-put_numbered_closing.ensures.wrote there.0 there.1) (next_closing cells k there.0 there.1);
+      unfailed = c.in_ok-put_numbered_closing.ensures.unfailed ∙ c.loop-cell.invariant.unfailed;
+    }
 
-pub returns : goal.returns
-returns g c =
+pub returns-clause-wrote : goal.returns-clause-wrote
+returns-clause-wrote g c =
     let cells = contents_of c.args.hub.now c.args.tickets.now in
-    AllBut-all _ _ _ _ c.loop-cell.invariant (no_more_closing cells c.loop-cell.cell (omega (arith, length_contents c.args.hub.now c.args.tickets.now c.requires, c.loop-cell-test.false)))
+    AllBut-all _ _ _ _ c.loop-cell.invariant.so_far (no_more_closing cells c.loop-cell.cell (omega (arith, length_contents c.args.hub.now c.args.tickets.now c.requires, c.loop-cell-test.false)))

@@ -5,10 +5,10 @@ use Rattle.cell_drive.specs.CellLines.{cell_prefix}
 use Rattle.cell_drive.specs.DrivenLines.{closing_line}
 use Rattle.cell_drive.proofs.driven_cells.put_numbered_closing.Goals as goal
 
-pub returns-in-Some : goal.returns-in-Some
-returns-in-Some g c content found =
+pub returns-in-Some-clause-wrote : goal.returns-in-Some-clause-wrote
+returns-in-Some-clause-wrote g c content found =
     let e = c.in-Some.ensures.content in
     let same : c.in-Some.controller.now ≡ content = cc in
     subst (λ (x : Control). Wrote c.put_closing.result (g.W.Sink.failed c.put_closing.new.writer) (g.W.Sink.taken c.args.writer.now) (g.W.Sink.taken c.put_closing.new.writer) (cell_prefix c.args.cell ++ closing_line x.plan.planned x.cell)) same
     (subst (λ (prefix : List ℕ). Wrote c.put_closing.result (g.W.Sink.failed c.put_closing.new.writer) (g.W.Sink.taken c.args.writer.now) (g.W.Sink.taken c.put_closing.new.writer) (prefix ++ closing_line c.in-Some.controller.now.plan.planned c.in-Some.controller.now.cell))
-    (c.bytes.ensures ∙ c.prefix_of.ensures) c.put_closing.ensures)
+    (c.bytes.ensures ∙ c.prefix_of.ensures) c.put_closing.ensures.wrote)

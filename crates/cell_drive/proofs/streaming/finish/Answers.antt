@@ -1,5 +1,17 @@
-use Rattle.cell_drive.proofs.Streamed.{finish_closed}
+use Rattle.std.proofs.Common.{inl}
+use Rattle.std.proofs.lemmas.Result.{err_from_is_err_and}
+use Rattle.cell_drive.proofs.Streamed.{finish_cut, finish_shown}
 use Rattle.cell_drive.proofs.streaming.finish.Goals as goal
 
-pub returns : goal.returns
-returns g c = finish_closed _ _ _ _ _ _ _ _ _ _ _ _ _ c.in_ok-answer_last.ensures c.put_closing.ensures
+pub returns-in_err-answer_last-clause-finished : goal.returns-in_err-answer_last-clause-finished
+returns-in_err-answer_last-clause-finished g c =
+    let p = err_from_is_err_and c.from_residual.result c.from_residual.ensures.1 in
+    rw p.1 (c.in_err-answer_last.ensures.0, inl c.in_err-answer_last.ensures.1)
+
+pub returns-in_err-put_closing-clause-finished : goal.returns-in_err-put_closing-clause-finished
+returns-in_err-put_closing-clause-finished g c =
+    let p = err_from_is_err_and c.from_residual-in_err-put_closing.result c.from_residual-in_err-put_closing.ensures.1 in
+    rw p.1 (finish_cut _ _ _ _ _ _ _ _ _ _ _ _ _ c.in_ok-answer_last.ensures c.in_err-put_closing.ensures)
+
+pub returns-clause-finished : goal.returns-clause-finished
+returns-clause-finished g c = finish_shown _ _ _ _ _ _ _ _ _ _ _ _ _ _ _ _ c.in_ok-answer_last.ensures c.in_ok-put_closing.ensures c.show.ensures.taken c.show.ensures.unfailed c.show.ensures.failed

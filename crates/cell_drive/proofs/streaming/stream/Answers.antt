@@ -7,17 +7,17 @@ use Rattle.cell_drive.proofs.streaming.stream.Goals as goal
 pub returns-in_err-drain : goal.returns-in_err-drain
 returns-in_err-drain g c =
     let p = err_from_is_err_and c.from_residual.result c.from_residual.ensures.1 in
-    rw (p.1, p.2) (stream_drained _ _ _ _ _ _ _ _ _ _ _ _ _ c.in_err-drain.ensures)
+    rw (p.1, p.2) (stream_drained _ _ _ _ _ _ _ _ _ _ _ _ _ _ _ _ c.in_err-drain.ensures.drained c.in_err-drain.ensures.shown)
 
 pub finish-requires : goal.finish-requires
 finish-requires g c =
-    let drained = c.in_ok-drain.ensures in
+    let drained = c.in_ok-drain.ensures.drained in
     let within = drained.comes_to.1 in
     let lines_are = drained.comes_to.2.lines_are in
     omega (arith, within, lines_are, length-ended drained.bytes (Some []))
 
 pub returns-in-Ok : goal.returns-in-Ok
-returns-in-Ok g c = stream_done _ _ _ _ _ _ _ _ _ _ _ _ _ _ _ _ _ _ c.in_ok-drain.ensures c.in-Ok.ensures
+returns-in-Ok g c = stream_done _ _ _ _ _ _ _ _ _ _ _ _ _ _ _ _ _ _ c.in_ok-drain.ensures.drained _ _ c.in-Ok.ensures.finished c.in-Ok.ensures.shown
 
 pub returns-in-Err : goal.returns-in-Err
-returns-in-Err g c = stream_failed _ _ _ _ _ _ _ _ _ _ _ _ _ _ _ _ _ c.in_ok-drain.ensures c.in-Err.ensures
+returns-in-Err g c = stream_failed _ _ _ _ _ _ _ _ _ _ _ _ _ _ _ _ _ _ c.in_ok-drain.ensures.drained _ c.in-Err.ensures.finished

@@ -17,7 +17,7 @@ take_line-requires-clause-room c few =
     let so_far = c.loop-line.invariant in
     let below : length c.loop-line.entries.items < length (lines_of c.args.text.now) =
     omega (arith, so_far.few, ap length so_far.split, length-append so_far.seen (lines_of c.loop-line.rest.now), ap length c.in-Some.ensures.line) in
-    omega (arith, c.requires.room (length c.loop-line.entries.items) below few, so_far.room)
+    omega (arith, below, few, c.requires.room, so_far.room)
 
 pub loop-line-preserved : goal.loop-line-preserved
 loop-line-preserved c =

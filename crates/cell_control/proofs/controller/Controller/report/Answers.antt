@@ -4,12 +4,13 @@ use Rattle.shop_base.specs.Report.{CanReport}
 use Rattle.shop_base.specs.Run.{IsAtRest}
 use Rattle.cell_control.specs.Control.{Control, IsAnswered}
 use Rattle.cell_control.specs.Fields.{control_of, AreFieldsOf}
-use Rattle.cell_control.specs.Reports.{said, IsFirstReason}
+use Rattle.cell_control.specs.Reports.{said, IsFirstReason, IsOnlyReason}
 use Rattle.cell_control.specs.Promises.{answered as called_answered, refused}
 use Rattle.cell_control.specs.Steps.{IsMade}
 use Rattle.cell_control.specs.Tables.{cell_of, AreSound}
 use Rattle.cell_control.specs.Ties.{AreTied}
 use Rattle.cell_control.proofs.Reasons.{reason-cannot}
+use Rattle.cell_control.proofs.OneReason.{only_reason}
 use Rattle.cell_control.proofs.Fields.{answered, some_left, counts_fit, fields_after}
 use Rattle.cell_control.proofs.controller.Controller.report.Goals as goal
 
@@ -71,6 +72,15 @@ returns-in_err-check_report-clause-called g c =
           (reason-cannot s.verified.planned (cell_of s.verified.planned s.tables) (said c.args.report) c.in_err-check_report.field-0.0 c.self.invariant.control.sound
           (subst (λ p. IsFirstReason p (cell_of p s.tables) (said c.args.report) c.in_err-check_report.field-0.0) c.shaped-shaped.ensures.same c.in_err-check_report.ensures.first))),
     )
+
+pub returns-in_err-check_report-clause-only_reason : goal.returns-in_err-check_report-clause-only_reason
+returns-in_err-check_report-clause-only_reason g c =
+    let s = c.self.inside in
+    let only =
+    subst (λ (v : Control). IsOnlyReason v.plan.planned v.cell (said c.args.report) c.in_err-check_report.field-0.0) c.self.view_is
+    (only_reason s.verified.planned (cell_of s.verified.planned s.tables) (said c.args.report) c.in_err-check_report.field-0.0
+    (subst (λ p. IsFirstReason p (cell_of p s.tables) (said c.args.report) c.in_err-check_report.field-0.0) c.shaped-shaped.ensures.same c.in_err-check_report.ensures.first)) in
+    grind (arith, common_steps, only)
 
 pub returns-in_err-check_report-clause-never_refused : goal.returns-in_err-check_report-clause-never_refused
 returns-in_err-check_report-clause-never_refused g c = grind (arith, common_steps)

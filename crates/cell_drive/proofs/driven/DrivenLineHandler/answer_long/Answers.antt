@@ -3,4 +3,4 @@ use Rattle.cell_drive.proofs.DrivenAnswers.{was_answered, answer_long}
 use Rattle.cell_drive.proofs.driven.DrivenLineHandler.answer_long.Goals as goal
 
 pub returns : goal.returns
-returns g c = was_answered _ _ _ _ _ _ _ _ _ (answer_long _ _ _ refl) c.put_refused.ensures
+returns g c = was_answered _ _ _ _ _ _ _ _ _ _ (answer_long _ _ _ refl) c.put_refused.ensures.wrote c.put_refused.ensures.unfailed

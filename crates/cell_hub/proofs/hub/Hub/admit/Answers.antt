@@ -8,8 +8,8 @@ use Rattle.cell_hub.proofs.hub.Hub.admit.Goals as goal
 
 pub returns-in-Ok-clause-admitted : goal.returns-in-Ok-clause-admitted
 returns-in-Ok-clause-admitted g c =
-    is_admitted c.self.inside.cells c.reserve.new.self c.insert_reserved-slot.new.self c.self.inside.next_serial c.args.self.now c.self.view_is c.insert_reserved-slot.result c.args.verified c.in-Ok.controller
-    c.reserve.ensures.rest_kept c.insert_reserved-slot.ensures.was_vacant c.insert_reserved-slot.ensures.updates c.in-Ok.ensures.start (omega arith)
+    is_admitted c.self.inside.cells c.reserve_slot.new.cells c.insert_reserved-slot.new.self c.self.inside.next_serial c.args.self.now c.self.view_is c.insert_reserved-slot.result c.args.verified c.in-Ok.controller
+    c.reserve_slot.ensures.kept c.insert_reserved-slot.ensures.was_vacant c.insert_reserved-slot.ensures.updates c.in-Ok.ensures.start (omega arith)
 
 pub returns-in-Ok-clause-called : goal.returns-in-Ok-clause-called
 returns-in-Ok-clause-called g c = returns-in-Ok-clause-admitted g c

@@ -1,9 +1,12 @@
-use Rattle.std.proofs.Common.{subst}
-use Rattle.cell_hub.specs.Hub.{AreSerialsBelow}
+use Rattle.std.proofs.Common.{◌↔◌, IfSome, subst}
+use Rattle.std.specs.Prelude.{IsOk}
+use Rattle.shop_base.specs.Report.{CanReport}
+use Rattle.cell_control.specs.Reports.{said}
+use Rattle.cell_hub.specs.Hub.{HubState, cell_at, AreSerialsBelow}
 use Rattle.cell_hub.specs.Slots.{hub_of}
-use Rattle.cell_hub.specs.Calls.{Reported, IsCall}
+use Rattle.cell_hub.specs.Calls.{Reported, EndsNow, IsCall}
 use Rattle.cell_hub.proofs.Lives.{call_serials}
-use Rattle.cell_hub.proofs.Called.{report_called, report_finds}
+use Rattle.cell_hub.proofs.Called.{report_called, report_finds, report_only}
 use Rattle.cell_hub.proofs.hub.Hub.report.Goals as goal
 
 called : (g : _) (c : goal.After-report_in g) → IsCall c.args.self.now (Reported c.args.ticket c.args.report c.report_in.result) (hub_of c.report_in.new.cells c.self.inside.next_serial)
@@ -16,3 +19,12 @@ invariant_of-self g c = call_serials c.args.self.now _ (Reported c.args.ticket c
 
 pub returns-clause-no_such_cell : goal.returns-clause-no_such_cell
 returns-clause-no_such_cell g c = report_finds c.args.self.now _ c.args.ticket c.args.report c.report_in.result (called g c)
+
+pub returns-clause-only_reason : goal.returns-clause-only_reason
+returns-clause-only_reason g c = report_only c.args.self.now _ c.args.ticket c.args.report c.report_in.result (called g c)
+
+pub returns-clause-possible : goal.returns-clause-possible
+returns-clause-possible g c = subst (λ (h : HubState). IfSome (cell_at h c.args.ticket) (λ x. IsOk c.report_in.result ↔ CanReport x.plan.planned x.cell (said c.args.report))) c.self.view_is (c.report_in.ensures.possible c.self.inside.next_serial)
+
+pub returns-clause-never_refused : goal.returns-clause-never_refused
+returns-clause-never_refused g c = subst (λ (h : HubState). IfSome (cell_at h c.args.ticket) (λ x. EndsNow x c.args.report → IsOk c.report_in.result)) c.self.view_is (c.report_in.ensures.never_refused c.self.inside.next_serial)

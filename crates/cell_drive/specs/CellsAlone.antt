@@ -1,0 +1,37 @@
+-- A cell among several that are driven, seen as by a controller alone.
+use Rattle.std.specs.Prelude.{◌≡◌, ◌↔◌, ℕ, List, [], ◌∷◌, Option, Some, slice_get}
+use Rattle.shop_base.specs.Report.{Report}
+use Rattle.shop_base.specs.Run.{Event}
+use Rattle.shop_base.specs.Ends.{stated_number, reports_in, HasEnded}
+use Rattle.plan_verifier.specs.Accepted.{VerifiedPlan}
+use Rattle.cell_control.specs.declared.report.Report as told
+use Rattle.cell_control.specs.Control.{Control}
+use Rattle.cell_control.specs.Reports.{said}
+use Rattle.cell_control.specs.Promises.{IsControllerAfter}
+use Rattle.cell_drive.specs.CellLines.{IsCellReport}
+use Rattle.cell_drive.specs.Driving.{StaysAsPromised}
+
+-- the line is no report on the cell of this number
+abbrev pub IsNotOn : ℕ → Option (List ℕ) → Type 0
+IsNotOn cell line = (words : List ℕ) (report : told.Report) → line ≡ Some words → IsCellReport words cell report → ⊥
+
+-- these lines have just these reports on the cell of this number, in order
+pub data HaveReports (cell : ℕ) : List (Option (List ℕ)) → List Report → Type 0 where
+  none_left : HaveReports cell [] []
+  on_it : (words : List ℕ) (report : told.Report) (lines : List (Option (List ℕ))) (reports : List Report) → IsCellReport words cell report
+      → HaveReports cell lines reports → HaveReports cell (Some words ∷ lines) (said report ∷ reports)
+  passed_over : (line : Option (List ℕ)) (lines : List (Option (List ℕ))) (reports : List Report) → IsNotOn cell line
+      → HaveReports cell lines reports → HaveReports cell (line ∷ lines) reports
+
+-- the cell of this number, by this plan, is as with a controller alone that was given the reports on it that these lines have: these events are their controlled run, which has ended just with the stated number of accepted reports, and in which all stayed as the plan promises
+pub record IsAsAlone (v : VerifiedPlan) (cell : ℕ) (lines : List (Option (List ℕ))) (end : Control) : Type 0 where
+  pub reports : List Report
+  pub have : HaveReports cell lines reports
+  pub events : List Event
+  pub after : IsControllerAfter v reports events end
+  pub counted : HasEnded v.planned end.cell ↔ (reports_in events ≡ stated_number v.planned)
+  pub promised : StaysAsPromised v events
+
+-- so is the cell of each of these plans
+abbrev pub AreAsAlone : List VerifiedPlan → List (Option (List ℕ)) → List Control → Type 0
+AreAsAlone plans lines end = (cell : ℕ) (v : VerifiedPlan) → slice_get plans cell ≡ Some v → (content : Control) × (slice_get end cell ≡ Some content) × IsAsAlone v cell lines content

@@ -1,0 +1,5 @@
+pub mod Events
+pub mod Moving
+pub mod PlannedCell
+pub mod Reports
+pub mod Tables

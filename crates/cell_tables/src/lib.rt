@@ -1,0 +1,17 @@
+//! The cell of a run of a plan, as a value: a [`WorkCell`] tells where the jobs are and which can move, and is changed by
+//! the end of an activity and by a move. Its [`Report`]s and orders are the [`Entry`]s of a log.
+//!
+//! Moments are whole time units, counted from moment 0. Only [`WorkCell::start`] takes memory.
+#![tactic(auto)]
+
+mod entry;
+mod moves;
+mod places;
+mod plan_readers;
+mod report;
+mod tables;
+mod work_cell;
+
+pub use entry::Entry;
+pub use report::Report;
+pub use work_cell::WorkCell;

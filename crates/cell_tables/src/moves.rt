@@ -1,0 +1,112 @@
+//! The end of an activity, and a move in its parts: the job leaves its source, comes to its target, and has made one more
+//! move.
+
+ghost use Rattle.std.specs.Prelude.{◌≡◌, ◌<◌, ◌≤◌};
+ghost use Rattle.shop_base.specs.declared.limits.TheConstants.{MAX_MOMENT};
+ghost use Rattle.shop_base.specs.Plan.{jobs, steps};
+ghost use Rattle.shop_base.specs.Cell.{made};
+ghost use Rattle.shop_base.specs.Report.{CanReport, after_report};
+ghost use Rattle.shop_base.specs.Move.{CanMove, KeepsPlan, source, target, after_leaving, after_move, order_for};
+ghost use Rattle.cell_tables.specs.Tables.{cell_of, AreTables};
+ghost use Rattle.cell_tables.specs.Moving.{IsSpotOf};
+ghost use Rattle.cell_tables.specs.Reports.{said};
+
+use crate::report::Report;
+use crate::tables::Tables;
+use crate::work_cell::WorkCell;
+use shop_base::readers::clean_of;
+use shop_base::{JobNo, JobState, Moment, MoveOrder, Planned, Shaped, Spot};
+
+impl<P: Planned> WorkCell<P> {
+    /// Ends the activity of a possible report.
+    pub fn end(&mut self, report: Report)
+        requires possible { CanReport self.old.plan self.old.cell (said report) }
+        ensures { self.new ≡ record self.old { cell = after_report self.old.cell (said report) } }
+    {
+        match report {
+            Report::Arrive { job, at } => self.tables.note_ready(job, at),
+            Report::Finish {
+                job,
+                machine: _,
+                at,
+            } => self.tables.note_ready(job, at),
+            Report::Clean { machine, at } => self.tables.put_cleaning(machine, None, at),
+        }
+    }
+
+    /// Moves a job that can move at this moment, and tells the order.
+    pub fn make_move(&mut self, job: JobNo, at: Moment) -> MoveOrder
+        requires can { CanMove self.old.plan self.old.cell job at }
+        requires keeps { KeepsPlan self.old.plan self.old.cell job }
+        ensures order { result ≡ order_for self.old.plan self.old.cell job at }
+        ensures moved { self.new ≡ record self.old { cell = after_move self.old.plan self.old.cell job at } }
+    {
+        let order = self.next_order(job, at);
+        let made = self.job_state(job).made + 1;
+        leave(self.basis.shaped(), &mut self.tables, order.source, at);
+        self.tables.enter(order.target);
+        self.tables.put_job(
+            job,
+            JobState {
+                made,
+                ready: false,
+                since: at,
+            },
+            at,
+        );
+        order
+    }
+
+    /// The order to make the next move of the job at this moment, whether it can be made or not.
+    pub fn next_order(&self, job: JobNo, at: Moment) -> MoveOrder
+        requires job { job < jobs self.now.plan }
+        requires not_gone { made self.now.cell job ≤ steps self.now.plan job }
+        ensures { result ≡ order_for self.now.plan self.now.cell job at }
+    {
+        MoveOrder {
+            job,
+            source: self.source_of(job),
+            target: self.target_of(job),
+            at,
+        }
+    }
+
+    /// Where the job is, as it isn't gone.
+    fn source_of(&self, job: JobNo) -> Spot
+        requires job { job < jobs self.now.plan }
+        requires not_gone { made self.now.cell job ≤ steps self.now.plan job }
+        ensures { result ≡ source self.now.plan self.now.cell job }
+    {
+        match self.machine_of(job) {
+            Some(machine) => Spot::At(machine),
+            None => Spot::Out,
+        }
+    }
+
+    /// Where its next move takes the job.
+    fn target_of(&self, job: JobNo) -> Spot
+        requires { job < jobs self.now.plan }
+        ensures { result ≡ target self.now.plan self.now.cell job }
+    {
+        match self.machine_at(job, self.job_state(job).made) {
+            Some(machine) => Spot::At(machine),
+            None => Spot::Out,
+        }
+    }
+}
+
+/// A job leaves its source: where that is a machine with a cleaning time, its cleaning begins.
+fn leave(shaped: &Shaped, tables: &mut Tables, source: Spot, at: Moment)
+    requires tables { AreTables shaped.now tables.old }
+    requires source { IsSpotOf shaped.now source }
+    requires at { at ≤ MAX_MOMENT }
+    ensures left { cell_of shaped.now tables.new ≡ after_leaving shaped.now (cell_of shaped.now tables.old) source at }
+    ensures tables { AreTables shaped.now tables.new }
+{
+    if let Spot::At(machine) = source {
+        if clean_of(shaped, machine) > 0 {
+            let last = tables.last;
+            tables.put_cleaning(machine, Some(at), last);
+        }
+    }
+}

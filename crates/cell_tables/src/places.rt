@@ -1,0 +1,110 @@
+//! Where the jobs of the cell are, and which can move.
+
+ghost use Rattle.std.specs.Prelude.{◌≡◌, ◌-◌, ◌<◌, ◌≤◌, ◌↔◌, ◌⊎◌, length, MatchOption, IsTrue, None};
+ghost use Rattle.shop_base.specs.Plan.{jobs, machines, order, job_at, Visits, Stands};
+ghost use Rattle.shop_base.specs.Cell.{made, entries, cleaning, IsOutside, IsOn, IsGone, IsFree};
+ghost use Rattle.shop_base.specs.Move.{CanEnter, CanMove, KeepsPlan};
+
+use crate::work_cell::WorkCell;
+use shop_base::{JobNo, MachineNo, Planned};
+
+impl<P: Planned> WorkCell<P> {
+    /// The machine that the job is on; none where it is outside or gone.
+    pub fn machine_of(&self, job: JobNo) -> Option<MachineNo>
+        requires { job < jobs self.now.plan }
+        ensures { let c = self.now.cell in
+            MatchOption result (IsOutside c job ⊎ IsGone self.now.plan c job) (IsOn self.now.plan c job (made c job - 1)) }
+    {
+        let made = self.job_state(job).made;
+        if made == 0 {
+            return None;
+        }
+        self.machine_at(job, made - 1)
+    }
+
+    /// The job that is on the machine.
+    pub fn holder(&self, machine: MachineNo) -> Option<JobNo>
+        requires { machine < machines self.now.plan }
+        ensures { let c = self.now.cell in
+            MatchOption result (IsFree self.now.plan c machine) (λ job. IsOn self.now.plan c job (made c job - 1) machine) }
+    {
+        let _plan = self.shaped();
+        let entered = self.entered(machine);
+        if entered == 0 {
+            return None;
+        }
+        let newest = self.order_of(machine)[entered as usize - 1];
+        if self.is_on(newest, machine) {
+            Some(newest)
+        } else {
+            None
+        }
+    }
+
+    /// Whether the job is on the machine.
+    fn is_on(&self, job: JobNo, machine: MachineNo) -> bool
+        requires { job < jobs self.now.plan }
+        ensures { let c = self.now.cell in IsTrue result ↔ IsOn self.now.plan c job (made c job - 1) machine }
+    {
+        match self.machine_of(job) {
+            Some(actual) => actual == machine,
+            None => false,
+        }
+    }
+
+    /// How many jobs have entered the machine.
+    fn entered(&self, machine: MachineNo) -> u32
+        requires machine { machine < machines self.now.plan }
+        ensures count { result ≡ length (entries self.now.cell machine) }
+        ensures few { result ≤ length (order self.now.plan machine) }
+    {
+        self.tables.machines[machine as usize].entered
+    }
+
+    /// The job that is to enter the machine next, none where all jobs of its order have entered it.
+    pub fn next_on(&self, machine: MachineNo) -> Option<JobNo>
+        requires { machine < machines self.now.plan }
+        ensures { let n = length (entries self.now.cell machine) in let o = order self.now.plan machine in
+            MatchOption result (length o ≤ n) (λ job. (n < length o) × (job_at self.now.plan machine n ≡ job)) }
+    {
+        let entered = self.entered(machine);
+        self.order_of(machine).get(entered as usize).copied()
+    }
+
+    /// Whether the job, which visits the machine next, can enter it and keep the plan.
+    fn admits(&self, job: JobNo, machine: MachineNo) -> bool
+        requires { Visits self.now.plan job (made self.now.cell job) machine }
+        ensures { let c = self.now.cell in
+            IsTrue result ↔ (CanEnter self.now.plan c job machine × Stands self.now.plan machine (length (entries c machine)) job (made c job)) }
+    {
+        let _plan = self.shaped();
+        self.is_clear(machine) && self.next_on(machine) == Some(job)
+    }
+
+    /// Whether no job is on the machine and it isn't being cleaned.
+    fn is_clear(&self, machine: MachineNo) -> bool
+        requires { machine < machines self.now.plan }
+        ensures { IsTrue result ↔ (IsFree self.now.plan self.now.cell machine × (cleaning self.now.cell machine ≡ None)) }
+    {
+        match self.cleaned_since(machine) {
+            Some(_) => false,
+            None => self.holder(machine).is_none(),
+        }
+    }
+
+    /// Whether the job can move at the last moment and keep the plan.
+    pub fn can_move(&self, job: JobNo) -> bool
+        requires { job < jobs self.now.plan }
+        ensures { let c = self.now.cell in IsTrue result ↔ (CanMove self.now.plan c job c.last × KeepsPlan self.now.plan c job) }
+    {
+        let _plan = self.shaped();
+        let state = self.job_state(job);
+        if !state.ready {
+            return false;
+        }
+        match self.machine_at(job, state.made) {
+            Some(machine) => self.admits(job, machine),
+            None => true,
+        }
+    }
+}

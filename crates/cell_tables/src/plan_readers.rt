@@ -1,0 +1,49 @@
+//! What is read of the plan of a cell, one entry at a time.
+
+ghost use Rattle.std.specs.Prelude.{◌≡◌, ◌<◌, ◌≤◌, MatchOption};
+ghost use Rattle.shop_base.specs.Plan.{jobs, machines, steps, order, Visits};
+
+use crate::work_cell::WorkCell;
+use shop_base::limits::{MAX_JOBS, MAX_MACHINES};
+use shop_base::{JobNo, MachineNo, Planned, readers};
+
+impl<P: Planned> WorkCell<P> {
+    /// How many jobs there are.
+    pub fn job_count(&self) -> u32
+        ensures count { result ≡ jobs self.now.plan }
+        ensures few { result ≤ MAX_JOBS }
+    {
+        readers::job_count(self.shaped())
+    }
+
+    /// How many machines there are.
+    pub fn machine_count(&self) -> u32
+        ensures count { result ≡ machines self.now.plan }
+        ensures few { result ≤ MAX_MACHINES }
+    {
+        readers::machine_count(self.shaped())
+    }
+
+    /// How many steps the job has.
+    pub fn step_count(&self, job: JobNo) -> u32
+        requires { job < jobs self.now.plan }
+        ensures { result ≡ steps self.now.plan job }
+    {
+        readers::step_count(self.shaped(), job)
+    }
+
+    /// The machine of the step of a job at a place of its route, none past the end of the route.
+    pub fn machine_at(&self, job: JobNo, place: u32) -> Option<MachineNo>
+        ensures { MatchOption result (steps self.now.plan job ≤ place) (Visits self.now.plan job place) }
+    {
+        readers::machine_at(self.shaped(), job, place)
+    }
+
+    /// The machine's order.
+    pub fn order_of(&self, machine: MachineNo) -> &[JobNo]
+        requires { machine < machines self.now.plan }
+        ensures { result.now ≡ order self.now.plan machine }
+    {
+        readers::order_of(self.shaped(), machine)
+    }
+}

@@ -1,0 +1,55 @@
+-- The laws of plans that are no worse than others.
+use Rattle.std.proofs.Common.{◌≡◌, ℕ, ◌+◌, ◌<◌, ◌≤◌, ◌⊎◌, inl, inr, arith, refl}
+use Rattle.shop_base.specs.Plan.{PlannedShop, budget}
+use Rattle.plan_verifier.specs.Accepted.{IsAcceptable}
+use Rattle.plan_improve.specs.declared.cost.Cost.{Cost}
+use Rattle.plan_improve.specs.Costs.{IsCost, IsAtMost, IsMakespanOf, IsNoWorse}
+use Rattle.plan_improve.specs.Laws.{AcceptedPlansStayAccepted, TheirMakespansNeverGrow, ASecondSearchIsNoWorse, NoWorseIsPassedOn}
+use Rattle.plan_improve.proofs.Keeping.{most_of_most, makespan_le, same_late, same_makespan}
+
+-- a plan to be accepted is never late
+never_late : (p : PlannedShop) (c : Cost) → IsAcceptable p → IsCost p c → c.late ≡ 0
+never_late p c acceptable is = elim is.late.reached [
+  | inl zero ↦ zero
+  | inr found ↦ (let within : budget p found.0 + c.late ≤ budget p found.0 = acceptable.budgets found.0 found.1 found.2 (budget p found.0 + c.late) found.3 in omega arith)
+]
+
+on_time : (q : PlannedShop) (c : Cost) → IsCost q c → c.late ≡ 0 → IsAcceptable q
+on_time q c is zero = record { acyclic = is.acyclic; budgets = λ j inside nodes n path. omega (arith, is.late.bound j nodes n inside path, zero) }
+
+zero_most : (c d : Cost) → IsAtMost c d → d.late ≡ 0 → c.late ≡ 0
+zero_most c d (inl less) zero = absurd (omega arith)
+zero_most c d (inr (same, most)) zero = omega arith
+
+least_most : (c d : Cost) → IsAtMost c d → d.late ≡ 0 → c.makespan ≤ d.makespan
+least_most c d (inl less) zero = absurd (omega arith)
+least_most c d (inr (same, most)) zero = most
+
+same_most : (c d e : Cost) → d.late ≡ e.late → d.makespan ≡ e.makespan → IsAtMost c d → IsAtMost c e
+same_most c d e late makespan (inl less) = inl (omega arith)
+same_most c d e late makespan (inr (same, most)) = inr (omega arith, omega arith)
+
+pub accepted : AcceptedPlansStayAccepted
+accepted p q no_worse acceptable = on_time q no_worse.cost no_worse.is (zero_most no_worse.cost no_worse.other no_worse.most (never_late p no_worse.other acceptable no_worse.than))
+
+pub never_grow : TheirMakespansNeverGrow
+never_grow p q m n no_worse acceptable one other =
+    omega (
+      arith,
+      least_most no_worse.cost no_worse.other no_worse.most (never_late p no_worse.other acceptable no_worse.than),
+      makespan_le p no_worse.other.makespan m no_worse.than.makespan one,
+      makespan_le q n no_worse.cost.makespan other no_worse.is.makespan,
+    )
+
+pub second : ASecondSearchIsNoWorse
+second p q acyclic never_worse = never_worse p (inl (acyclic, refl))
+
+pub passed_on : NoWorseIsPassedOn
+passed_on p q r one next = record {
+  cost = next.cost;
+  other = one.other;
+  is = next.is;
+  than = one.than;
+  most = most_of_most next.cost one.cost one.other
+      (same_most next.cost next.other one.cost (same_late q next.other one.cost next.than one.is) (same_makespan q next.other one.cost next.than one.is) next.most) one.most;
+}

@@ -1,0 +1,55 @@
+use Rattle.std.specs.Prelude.{◌≡◌, ℕ, ◌+◌, ◌<◌, ◌≤◌, ◌⊎◌, List}
+use Rattle.shop_base.specs.declared.node.Node.{Node}
+use Rattle.shop_base.specs.Plan.{PlannedShop, jobs, budget, IsWellShaped}
+use Rattle.shop_base.specs.Graph.{leaving, Path}
+use Rattle.plan_verifier.specs.Accepted.{HasNoCycle}
+use Rattle.plan_improve.specs.declared.cost.Cost.{Cost}
+
+-- a path to the leaving of some job is as long as that job's moment
+abbrev pub IsReached : PlannedShop → (ℕ → ℕ) → Type 0
+IsReached p moment = (j : ℕ) × (j < jobs p) × (nodes : List Node) × Path p nodes (leaving p j) (moment j)
+
+-- no path to the leaving of any job is longer than that job's moment
+abbrev pub AreBounded : PlannedShop → (ℕ → ℕ) → Type 0
+AreBounded p moment = (j : ℕ) (nodes : List Node) (k : ℕ) → j < jobs p → Path p nodes (leaving p j) k → k ≤ moment j
+
+-- the worst lateness (Pinedo, Scheduling: T_max): no path to a leaving is longer than the budget and n, and one is as long, unless n is 0
+pub record IsLateness (p : PlannedShop) (n : ℕ) : Type 0 where
+  pub bound : AreBounded p (λ j. budget p j + n)
+  pub reached : (n ≡ 0) ⊎ IsReached p (λ j. budget p j + n)
+
+-- the makespan (Pinedo, Scheduling: C_max): no path to a leaving is longer than n, and one is as long
+pub record IsMakespanOf (p : PlannedShop) (n : ℕ) : Type 0 where
+  pub bound : AreBounded p (λ j. n)
+  pub reached : IsReached p (λ j. n)
+
+-- the plan has no cycle, and these are its worst lateness and its makespan
+pub record IsCost (p : PlannedShop) (c : Cost) : Type 0 where
+  pub acyclic : HasNoCycle p
+  pub late : IsLateness p c.late
+  pub makespan : IsMakespanOf p c.makespan
+
+-- a cost is less: less late, or as late with a lesser makespan
+abbrev pub IsLess : Cost → Cost → Type 0
+IsLess c d = (c.late < d.late) ⊎ ((c.late ≡ d.late) × (c.makespan < d.makespan))
+
+-- a cost is at most the other: less late, or as late with no greater makespan
+abbrev pub IsAtMost : Cost → Cost → Type 0
+IsAtMost c d = (c.late < d.late) ⊎ ((c.late ≡ d.late) × (c.makespan ≤ d.makespan))
+
+-- p is better than q: it is well shaped, neither has a cycle, and its cost is less
+pub record IsBetter (p q : PlannedShop) : Type 0 where
+  pub shaped : IsWellShaped p
+  pub cost : Cost
+  pub other : Cost
+  pub is : IsCost p cost
+  pub than : IsCost q other
+  pub less : IsLess cost other
+
+-- p is no worse than q: neither has a cycle, and its cost is at most the other's
+pub record IsNoWorse (p q : PlannedShop) : Type 0 where
+  pub cost : Cost
+  pub other : Cost
+  pub is : IsCost p cost
+  pub than : IsCost q other
+  pub most : IsAtMost cost other

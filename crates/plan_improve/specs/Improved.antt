@@ -1,0 +1,36 @@
+use Rattle.std.specs.Prelude.{◌≡◌, ℕ, ◌<◌, ◌≤◌, ◌⊎◌}
+use Rattle.shop_base.specs.Plan.{PlannedShop}
+use Rattle.plan_verifier.specs.Accepted.{HasNoCycle}
+use Rattle.plan_verifier.specs.declared.verdict.Verdict.{Verdict}
+use Rattle.plan_verifier.specs.declared.verdict.Verdict.TheVariants.{Accepted, Refused}
+use Rattle.alt_graph.specs.Solved.{HasCycle}
+use Rattle.plan_seek.specs.Orders.{serial_order}
+use Rattle.plan_improve.specs.declared.improve_fault.ImproveFault.{ImproveFault}
+use Rattle.plan_improve.specs.declared.improve_fault.ImproveFault.TheVariants.{TooManyRounds, Memory}
+use Rattle.plan_improve.specs.Costs.{IsNoWorse}
+use Rattle.plan_improve.specs.Reordered.{reordered}
+use Rattle.plan_improve.specs.Runs.{Asked}
+
+-- where the search begins: at the plan itself, or where that has a cycle, at the serial plan
+abbrev pub IsBegin : PlannedShop → PlannedShop → Type 0
+IsBegin start p = (HasNoCycle start × (p ≡ start)) ⊎ (HasCycle start × (p ≡ reordered start (serial_order start.shop)))
+
+-- the plan that is judged
+abbrev pub judged : Verdict → PlannedShop
+judged (Accepted verified) = verified.planned
+judged (Refused back why) = back
+
+-- the plan is what the questions make of the one with which the search begins
+pub record IsFound (made : Asked) (start p : PlannedShop) : Type 0 where
+  pub begin : PlannedShop
+  pub begins_at : IsBegin start begin
+  pub run : made begin p
+
+-- the plan is no worse than the one with which the search begins
+abbrev pub IsNeverWorse : PlannedShop → PlannedShop → Type 0
+IsNeverWorse start p = (begin : PlannedShop) → IsBegin start begin → IsNoWorse p begin
+
+-- why no plan is given: more than 1000 rounds, or else want of memory
+abbrev pub IsImproveFault : ℕ → ImproveFault → Type 0
+IsImproveFault rounds TooManyRounds = 1000 < rounds
+IsImproveFault rounds Memory = rounds ≤ 1000

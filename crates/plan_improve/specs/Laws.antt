@@ -1,0 +1,21 @@
+use Rattle.std.specs.Prelude.{ℕ, ◌≤◌}
+use Rattle.shop_base.specs.Plan.{PlannedShop}
+use Rattle.plan_verifier.specs.Accepted.{HasNoCycle, IsAcceptable}
+use Rattle.plan_improve.specs.Costs.{IsMakespanOf, IsNoWorse}
+use Rattle.plan_improve.specs.Improved.{IsNeverWorse}
+
+-- a plan that is no worse than one to be accepted is to be accepted itself
+abbrev pub AcceptedPlansStayAccepted : Type 0
+AcceptedPlansStayAccepted = (p q : PlannedShop) → IsNoWorse q p → IsAcceptable p → IsAcceptable q
+
+-- and its makespan is no greater
+abbrev pub TheirMakespansNeverGrow : Type 0
+TheirMakespansNeverGrow = (p q : PlannedShop) (m n : ℕ) → IsNoWorse q p → IsAcceptable p → IsMakespanOf p m → IsMakespanOf q n → n ≤ m
+
+-- what a search gives of a plan without a cycle is no worse than that plan: so a second search gives nothing worse than the first one gave
+abbrev pub ASecondSearchIsNoWorse : Type 0
+ASecondSearchIsNoWorse = (p q : PlannedShop) → HasNoCycle p → IsNeverWorse p q → IsNoWorse q p
+
+-- what is no worse than a plan that is no worse than a first one is no worse than the first one
+abbrev pub NoWorseIsPassedOn : Type 0
+NoWorseIsPassedOn = (p q r : PlannedShop) → IsNoWorse q p → IsNoWorse r q → IsNoWorse r p

@@ -1,0 +1,24 @@
+use std::alloc::AllocError;
+use thiserror::Error;
+
+/// Why no plan is given.
+#[derive(Clone, Copy, Debug, PartialEq, Eq, Error)]
+pub enum ImproveFault {
+    /// There are more than 1000 rounds.
+    #[error("TooManyRounds")]
+    TooManyRounds,
+    /// Memory was wanting, here or to an improver. The best plan so far is lost.
+    #[error("Memory")]
+    Memory,
+}
+
+impl From<AllocError> for ImproveFault {
+    ghost use Rattle.std.specs.Prelude.{◌≡◌};
+    ghost use Rattle.plan_improve.specs.declared.improve_fault.ImproveFault.TheVariants.{Memory};
+
+    ghost from_gives = { λ _ fault. fault ≡ Memory };
+
+    fn from(_error: AllocError) -> ImproveFault {
+        ImproveFault::Memory
+    }
+}

@@ -1,0 +1,84 @@
+ghost use Rattle.std.specs.Prelude.{◌≡◌, ◌≤◌, ◌↔◌, OnOk, IfOk, IfErr};
+ghost use Rattle.plan_verifier.specs.Accepted.{HasNoCycle, IsAcceptable};
+ghost use Rattle.plan_verifier.specs.Verdicts.{SaysAccepted, OnRefused, IsReason};
+ghost use Rattle.plan_improve.specs.Reordered.{IsReordered};
+ghost use Rattle.plan_improve.specs.Runs.{AfterRounds};
+ghost use Rattle.plan_improve.specs.Improved.{IsNeverWorse, IsFound, IsImproveFault, judged};
+ghost use Rattle.plan_improve.specs.Keeping.{IsImproved};
+
+use crate::beginning::begin;
+use crate::best::Best;
+use crate::improve_fault::ImproveFault;
+use crate::improver::Improver;
+use crate::not_improved::NotImproved;
+use crate::reordering::{copy_orders, put_back};
+use crate::rounds::ask_in_rounds;
+use crate::watch::Watch;
+use plan_verifier::{Verdict, verify};
+use shop_base::Shaped;
+use std::alloc::{AllocError, Global};
+
+/// The most rounds in which the improvers are asked.
+pub const MAX_ROUNDS: u32 = 1000;
+
+/// Improves a plan. The search begins at the plan itself or, where that has a cycle, at the serial plan. In each round
+/// from 0 on each improver is asked in order with the best plan so far, and its answer is kept just where the plan
+/// with these orders fits the shop, has no cycle and is less late, or as late with a shorter makespan. The best plan
+/// is judged at the end. Too many rounds are answered before an improver is asked and before memory is taken. On a
+/// fault the plan comes back as it was.
+pub fn improve<W: Watch>(
+    alloc: Global,
+    start: Shaped,
+    improvers: &[Box<dyn Improver>],
+    rounds: u32,
+    watch: &mut W,
+) -> Result<Verdict, NotImproved>
+    ensures same { IfOk result (λ verdict. IsReordered start (judged verdict)) }
+    ensures acyclic { IfOk result (λ verdict. HasNoCycle (judged verdict)) }
+    ensures never_worse { IfOk result (λ verdict. IsNeverWorse start (judged verdict)) }
+    ensures found { IfOk result (λ verdict.
+        IsFound (λ p. AfterRounds (λ b. may b) improvers.now p rounds) start (judged verdict)) }
+    ensures stays_accepted { IfOk result (λ verdict. IsAcceptable start → SaysAccepted verdict) }
+    ensures exact { IfOk result (λ verdict. SaysAccepted verdict ↔ IsAcceptable (judged verdict)) }
+    ensures reason { IfOk result (OnRefused IsReason) }
+    ensures few_rounds { OnOk result (rounds ≤ 1000) }
+    ensures refused { IfErr result (λ refused. IsImproveFault rounds refused.fault) }
+    ensures handed_back { IfErr result (λ refused. refused.start ≡ start) }
+{
+    if rounds > MAX_ROUNDS {
+        return Err(NotImproved {
+            fault: ImproveFault::TooManyRounds,
+            start,
+        });
+    }
+    match copy_orders(alloc, &start.plan().order) {
+        Ok(order) => match improve_on(alloc, start, improvers, rounds, watch) {
+            Ok(verdict) => Ok(verdict),
+            Err((error, back)) => Err(NotImproved {
+                fault: ImproveFault::from(error),
+                start: put_back(back, order),
+            }),
+        },
+        Err(error) => Err(NotImproved {
+            fault: ImproveFault::from(error),
+            start,
+        }),
+    }
+}
+
+/// Improves a plan; on a fault some plan that differs in its orders alone comes back.
+fn improve_on<W: Watch>(
+    alloc: Global,
+    start: Shaped,
+    improvers: &[Box<dyn Improver>],
+    rounds: u32,
+    watch: &mut W,
+) -> Result<Verdict, (AllocError, Shaped)>
+    ensures improved { IfOk result (IsImproved (λ p. AfterRounds (λ b. may b) improvers.now p rounds) start) }
+    ensures handed_back { IfErr result (λ refused. IsReordered start refused.1) }
+{
+    let best = begin(alloc, start)?;
+    let best = ask_in_rounds(alloc, best, improvers, rounds, watch)?;
+    let Best { shaped, cost: _ } = best;
+    verify(alloc, shaped)
+}

@@ -1,0 +1,16 @@
+//! What follows for whoever uses a plan that was improved. Each law is the contract of a function that does nothing, so
+//! a check of this crate proves it.
+
+ghost use Rattle.plan_improve.specs.Laws.{AcceptedPlansStayAccepted, TheirMakespansNeverGrow, ASecondSearchIsNoWorse, NoWorseIsPassedOn};
+
+/// An accepted plan stays accepted, and its makespan never grows.
+pub fn accepted_plans_stay_accepted()
+    ensures accepted { AcceptedPlansStayAccepted }
+    ensures makespan { TheirMakespansNeverGrow }
+{}
+
+/// What a second search gives is no worse than what the first one gave, nor than what that one began with.
+pub fn second_searches_are_no_worse()
+    ensures second { ASecondSearchIsNoWorse }
+    ensures passed_on { NoWorseIsPassedOn }
+{}

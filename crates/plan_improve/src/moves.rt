@@ -1,0 +1,121 @@
+//! What a move keeps in mind: its swaps, and the nodes that are still to be looked at.
+
+use crate::net::{NONE, Net, swap};
+use crate::passing::Row;
+use std::alloc::{AllocError, Global};
+
+/// How often a move looks at a node, on average, before it is cut off. The plan may have a cycle then, and where it has,
+/// the move is taken back.
+const LOOKS_A_NODE: u64 = 8;
+
+/// Whether a node was met in this move, and with which bound: to the left the last node of the moving job from which a
+/// path leads to it, to the right the first one to which a path leads from it.
+#[derive(Clone, Copy)]
+struct Mark {
+    stamp: u32,
+    bound: u32,
+}
+
+/// The swaps of a move, and its search through the graph.
+#[derive(Drop)]
+pub(crate) struct Moves {
+    swaps: Vec<u32>,
+    made: u32,
+    /// The first place, in the order of the nodes, of those whose arcs have changed.
+    pub first: u32,
+    marks: Vec<Mark>,
+    stamp: u32,
+    stack: Vec<u32>,
+    height: u32,
+    /// How many nodes all moves have looked at.
+    pub looks: u64,
+}
+
+impl Moves {
+    pub fn new(alloc: Global, nodes: usize) -> Result<Moves, AllocError> {
+        let mut marks = Vec::with_capacity(alloc, nodes)?;
+        for _i in 0..nodes {
+            marks.push(Mark { stamp: 0, bound: 0 })?;
+        }
+        Ok(Moves {
+            swaps: vec![in alloc; NONE; nodes]?,
+            made: 0,
+            first: 0,
+            marks,
+            stamp: 0,
+            stack: vec![in alloc; NONE; nodes]?,
+            height: 0,
+            looks: 0,
+        })
+    }
+
+    /// Begins a move. Gives how many nodes it may look at.
+    pub fn begin(&mut self) -> u64 {
+        self.made = 0;
+        self.first = NONE;
+        self.height = 0;
+        self.stamp = self.stamp.wrapping_add(1);
+        (self.marks.len() as u64).wrapping_mul(LOOKS_A_NODE)
+    }
+
+    /// Takes the swaps of the last move back.
+    pub fn undo(&mut self, net: &mut Net) {
+        for turn in 0..self.made {
+            let last = self.made.wrapping_sub(turn).wrapping_sub(1);
+            if let Some(place) = self.swaps.get(last as usize) {
+                swap(&mut net.spots, *place);
+            }
+        }
+        self.made = 0;
+    }
+
+    /// Lets the job that enters here come before the one before it. Gives the entry of that one, if there is one.
+    pub fn turn(&mut self, net: &mut Net, rows: &[Row], entry: u32) -> u32 {
+        let Some(place) = self.swaps.get_mut(self.made as usize) else {
+            return NONE;
+        };
+        let other = swap(&mut net.spots, entry);
+        if let Some(row) = rows.get(other as usize) {
+            *place = other;
+            self.made = self.made.wrapping_add(1);
+            self.first = self.first.min(row.place);
+        }
+        other
+    }
+
+    /// The bound with which a node was met in this move.
+    #[inline]
+    pub fn met(&self, at: u32) -> Option<u32> {
+        match self.marks.get(at as usize) {
+            Some(mark) if mark.stamp == self.stamp => Some(mark.bound),
+            _ => None,
+        }
+    }
+
+    /// Notes that the node is met with this bound, and that it is to be looked at. Where there is no room it isn't
+    /// looked at, and the plan may have a cycle.
+    #[inline]
+    pub fn meet(&mut self, at: u32, bound: u32) {
+        if let Some(mark) = self.marks.get_mut(at as usize) {
+            *mark = Mark {
+                stamp: self.stamp,
+                bound,
+            };
+            if let Some(place) = self.stack.get_mut(self.height as usize) {
+                *place = at;
+                self.height = self.height.wrapping_add(1);
+            }
+        }
+    }
+
+    /// The next node that is to be looked at, none where all were.
+    #[inline]
+    pub fn next(&mut self) -> Option<u32> {
+        self.looks = self.looks.wrapping_add(1);
+        if self.height == 0 {
+            return None;
+        }
+        self.height = self.height.wrapping_sub(1);
+        self.stack.get(self.height as usize).copied()
+    }
+}

@@ -1,0 +1,81 @@
+use crate::net::{NONE, Span};
+use crate::passing::{Row, head_in};
+use shop_base::Moment;
+use shop_base::limits::MAX_MOMENT;
+
+/// What the annealing lessens.
+#[derive(Clone, Copy, PartialEq, Eq)]
+pub(crate) enum Aim {
+    /// The most by which a job leaves past its budget or, where none does, the least by which it leaves before it.
+    Budgets,
+    /// The makespan and the greatest lateness together.
+    Makespan,
+}
+
+/// How late a plan is, how long it takes, and the leavings that say so.
+#[derive(Clone, Copy)]
+pub(crate) struct Price {
+    /// The greatest leaving less its job's budget, and `MAX_MOMENT`, so that it isn't below 0.
+    pub urgency: Moment,
+    pub urgent: u32,
+    pub makespan: Moment,
+    pub longest: u32,
+}
+
+impl Price {
+    /// What nothing is known of.
+    pub fn none() -> Price {
+        Price {
+            urgency: 0,
+            urgent: NONE,
+            makespan: 0,
+            longest: NONE,
+        }
+    }
+
+    /// The price of a plan with these moments.
+    pub fn of(spans: &[Span], rows: &[Row]) -> Price {
+        let mut price = Price::none();
+        for span in spans {
+            let leaves = head_in(rows, span.last);
+            let urgency = leaves.wrapping_add(MAX_MOMENT).wrapping_sub(span.budget);
+            if urgency > price.urgency {
+                price.urgency = urgency;
+                price.urgent = span.last;
+            }
+            if leaves > price.makespan {
+                price.makespan = leaves;
+                price.longest = span.last;
+            }
+        }
+        price
+    }
+
+    /// The most by which a job leaves past its budget.
+    pub fn late(&self) -> Moment {
+        self.urgency.saturating_sub(MAX_MOMENT)
+    }
+
+    /// Whether it is less.
+    pub fn is_less(&self, other: &Price) -> bool {
+        let late = self.late();
+        let other_late = other.late();
+        late < other_late || late == other_late && self.makespan < other.makespan
+    }
+
+    /// What is to be lessened.
+    pub fn weight(&self, aim: Aim) -> u64 {
+        match aim {
+            Aim::Budgets => self.urgency,
+            Aim::Makespan => self.makespan.wrapping_add(self.late()),
+        }
+    }
+
+    /// The leaving that has to come sooner.
+    pub fn leaving(&self, aim: Aim) -> u32 {
+        match aim {
+            Aim::Makespan if self.late() == 0 => self.longest,
+            _ => self.urgent,
+        }
+    }
+}

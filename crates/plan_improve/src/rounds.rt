@@ -1,0 +1,86 @@
+//! The improvers asked in turn, round by round.
+
+ghost use Rattle.std.specs.Prelude.{length, IfOk, IfErr};
+ghost use Rattle.plan_seek.specs.Orders.{Proposal, proposal_of};
+ghost use Rattle.plan_improve.specs.Costs.{IsCost};
+ghost use Rattle.plan_improve.specs.Reordered.{IsReordered};
+ghost use Rattle.plan_improve.specs.Runs.{AfterSome, AfterRounds};
+ghost use Rattle.plan_improve.specs.Keeping.{IsNext, IsLast};
+
+use crate::best::Best;
+use crate::improver::Improver;
+use crate::judging::judge_orders;
+use crate::watch::Watch;
+use shop_base::{JobNo, Shaped};
+use std::alloc::{AllocError, Global};
+
+/// Asks in each round from 0 on, and tells the watch before each.
+pub(crate) fn ask_in_rounds<W: Watch>(
+    alloc: Global,
+    mut best: Best,
+    improvers: &[Box<dyn Improver>],
+    rounds: u32,
+    watch: &mut W,
+) -> Result<Best, (AllocError, Shaped)>
+    requires { IsCost best.shaped best.cost }
+    ensures last { IfOk result (IsLast (λ p. AfterRounds (λ b. may b) improvers.now p rounds) best.shaped best.cost) }
+    ensures handed_back { IfErr result (λ refused. IsReordered best.shaped refused.1) }
+{
+    for round in 0..rounds {
+        watch.round(round, best.cost.late, best.cost.makespan);
+        best = ask_each(alloc, best, improvers, round)?;
+    }
+    Ok(best)
+}
+
+/// Asks each improver in order.
+fn ask_each(
+    alloc: Global,
+    mut best: Best,
+    improvers: &[Box<dyn Improver>],
+    round: u32,
+) -> Result<Best, (AllocError, Shaped)>
+    requires { IsCost best.shaped best.cost }
+    ensures last { IfOk result (IsLast (λ p.
+        AfterSome (λ b. may b) improvers.now round p (length improvers.now)) best.shaped best.cost) }
+    ensures handed_back { IfErr result (λ refused. IsReordered best.shaped refused.1) }
+{
+    for improver in improvers {
+        best = ask_one(alloc, best, improver, round)?;
+    }
+    Ok(best)
+}
+
+/// Asks one improver, and puts its answer to the test.
+fn ask_one(
+    alloc: Global,
+    best: Best,
+    improver: &Box<dyn Improver>,
+    round: u32,
+) -> Result<Best, (AllocError, Shaped)>
+    requires { IsCost best.shaped best.cost }
+    ensures asked { IfOk result (λ kept. (answer : Proposal)
+        × may improver.now best.shaped round answer × IsNext best.shaped best.cost answer kept) }
+    ensures handed_back { IfErr result (λ refused. IsReordered best.shaped refused.1) }
+{
+    match ask(alloc, improver, &best.shaped, round) {
+        Ok(Some(order)) => judge_orders(alloc, best, order),
+        Ok(None) => Ok(best),
+        Err(error) => {
+            let Best { shaped, cost: _ } = best;
+            Err((error, shaped))
+        }
+    }
+}
+
+/// Asks one improver.
+fn ask(
+    alloc: Global,
+    improver: &Box<dyn Improver>,
+    shaped: &Shaped,
+    round: u32,
+) -> Result<Option<Vec<Vec<JobNo>>>, AllocError>
+    ensures { IfOk result (λ answer. may improver.now shaped.now round (proposal_of answer)) }
+{
+    improver.improve(alloc, shaped, round)
+}

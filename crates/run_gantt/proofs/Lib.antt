@@ -1,0 +1,4 @@
+pub mod EndsTold
+pub mod Linked
+pub mod Bars
+pub mod Showing

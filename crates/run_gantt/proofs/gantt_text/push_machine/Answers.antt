@@ -1,0 +1,28 @@
+use Rattle.std.proofs.Common.{◌++◌, ℕ, List, string_bytes, decimal, codes, refl, ap, ◌∙◌}
+use Rattle.std.specs.Prelude.{flat_map}
+use Rattle.run_gantt.specs.Visits.{visits_to}
+use Rattle.run_gantt.specs.GanttText.{visit_word, bar_of}
+use Rattle.run_gantt.proofs.Bars.{bar-shown, bar-text, columns-ascii, six_parts}
+use Rattle.run_gantt.proofs.gantt_text.push_machine.Goals as goal
+
+pub push_columns-requires : goal.push_columns-requires
+push_columns-requires c =
+    let visits = visits_to c.args.machine c.args._entries.now in
+    let shown = bar-shown _ c.push_visits.new.bar c.args.scale visits refl c.in_ok-push_visits.ensures.bar in
+    columns-ascii c.push_visits.new.bar c.args.scale c.args.columns visits c.push_visits.array_long c.requires.columns shown
+
+pub returns : goal.returns
+returns c =
+    let visits = visits_to c.args.machine c.args._entries.now in
+    let shown = bar-shown _ c.push_visits.new.bar c.args.scale visits refl c.in_ok-push_visits.ensures.bar in
+    let columns = bar-text c.push_visits.new.bar c.args.scale c.args.columns visits c.push_visits.array_long c.requires.columns shown in
+    six_parts (string_bytes c.args.text.now)
+    (codes "machine ") (decimal c.args.machine) (flat_map visit_word visits) (codes "\nbar ") (bar_of c.args.scale c.args.columns visits) (codes "\n")
+    (string_bytes c.push_str.new.self) (string_bytes c.push_number.new.text) (string_bytes c.push_visits.new.text)
+    (string_bytes c.push_str-2.new.self) (string_bytes c.push_columns.new.text) (string_bytes c.push_str-3.new.self)
+    c.in_ok-push_str.ensures.bytes
+    (c.in_ok-push_number.ensures ∙ ap (λ (x : ℕ). string_bytes c.push_str.new.self ++ decimal x) c.from.ensures)
+    c.in_ok-push_visits.ensures.text
+    c.in_ok-push_str-2.ensures.bytes
+    (c.in_ok-push_columns.ensures ∙ ap (λ (l : List ℕ). string_bytes c.push_str-2.new.self ++ l) columns)
+    c.in_ok-push_str-3.ensures.bytes

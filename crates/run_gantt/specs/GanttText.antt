@@ -1,0 +1,61 @@
+-- The Gantt text of a list of entries.
+use Rattle.std.specs.Prelude.{ℕ, ◌+◌, ◌*◌, ◌/◌, ◌%◌, nat_lt, nat_le, Bool, true, ◌&&◌, if◌then◌else◌, List, ◌++◌, map, flat_map, codes, decimal, Option, None, Some}
+use Rattle.std.specs.List.{range_with_len}
+use Rattle.run_log.specs.declared.entry.Entry.{Entry}
+use Rattle.run_gantt.specs.declared.visit.Visit.{Visit}
+use Rattle.run_gantt.specs.Visits.{first_of, last_of, visits_to}
+
+-- how long a column of a bar is, so that at most 60 columns reach to the last moment
+abbrev pub scale_for : ℕ → ℕ
+scale_for last = last / 60 + 1
+
+-- how many columns of this length reach to the last moment
+abbrev pub columns_for : ℕ → ℕ → ℕ
+columns_for last scale = last / scale + 1
+
+-- whether moment t is before a moment that may never come
+abbrev pub is_before : ℕ → Option ℕ → Bool
+is_before t None = true
+is_before t (Some moment) = nat_lt t moment
+
+-- the last digit of a job's number
+abbrev pub digit_of : ℕ → ℕ
+digit_of j = 48 + j % 10
+
+-- what a visit shows at moment t, if the job is there: its digit, and `=` once its operation has ended
+abbrev pub sign_of : ℕ → Visit → Option ℕ
+sign_of t visit =
+    if nat_le visit.enter t && is_before t visit.leave
+    then Some (if is_before t visit.finish then digit_of visit.job else 61)
+    else None
+
+-- a column: what is shown in it, else `.`
+abbrev pub column_sign : Option ℕ → ℕ
+column_sign None = 46
+column_sign (Some sign) = sign
+
+-- a bar: each column shows the first visit that shows something at the column's first moment
+abbrev pub bar_of : ℕ → ℕ → List Visit → List ℕ
+bar_of scale columns visits = map (λ c. column_sign (first_of (sign_of (c * scale)) visits)) (range_with_len 0 columns)
+
+-- a moment, or `?` for one that isn't told
+abbrev pub moment_word : Option ℕ → List ℕ
+moment_word None = codes "?"
+moment_word (Some moment) = decimal moment
+
+-- ` JOB:ENTER-FINISH-LEAVE`
+abbrev pub visit_word : Visit → List ℕ
+visit_word visit = codes " " ++ decimal visit.job ++ codes ":" ++ decimal visit.enter ++ codes "-" ++ moment_word visit.finish ++ codes "-" ++ moment_word visit.leave
+
+-- the two lines of machine m: its visits, and its bar
+abbrev pub machine_lines : ℕ → ℕ → List Entry → ℕ → List ℕ
+machine_lines scale columns entries m =
+    codes "machine " ++ decimal m ++ flat_map visit_word (visits_to m entries)
+    ++ codes "\nbar " ++ bar_of scale columns (visits_to m entries) ++ codes "\n"
+
+-- the Gantt text of entries, for so many machines
+abbrev pub gantt_text : ℕ → List Entry → List ℕ
+gantt_text machines entries =
+    let last = last_of entries in
+    let scale = scale_for last in
+    codes "scale " ++ decimal scale ++ codes "\n" ++ flat_map (machine_lines scale (columns_for last scale) entries) (range_with_len 0 machines)

@@ -1,0 +1,4 @@
+pub mod Visits
+pub mod GanttText
+pub mod VisitEnds
+pub mod LinkedVisits

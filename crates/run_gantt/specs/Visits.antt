@@ -1,0 +1,67 @@
+-- The visits of jobs to machines, as a list of entries tells them.
+use Rattle.std.specs.Prelude.{ℕ, Bool, false, ◌==◌, ◌&&◌, if◌then◌else◌, max, List, [], ◌∷◌, Option, None, Some}
+use Rattle.shop_base.specs.declared.move_order.Spot.{Spot}
+use Rattle.shop_base.specs.declared.move_order.Spot.TheVariants.{Out, At}
+use Rattle.shop_base.specs.declared.move_order.MoveOrder.{MoveOrder}
+use Rattle.cell_control.specs.declared.report.Report.TheVariants.{Arrive, Finish, Clean}
+use Rattle.cell_control.specs.Reports.{said}
+use Rattle.run_log.specs.declared.entry.Entry.{Entry}
+use Rattle.run_log.specs.declared.entry.Entry.TheVariants.{Report as ReportEntry, Order as OrderEntry}
+use Rattle.run_gantt.specs.declared.visit.Visit.{Visit}
+use Rattle.run_gantt.specs.declared.visit_ends.VisitEnd.{VisitEnd}
+
+-- the first of two, else the second
+abbrev pub or_else : {T : Type 0} → Option T → Option T → Option T
+or_else (Some x) other = Some x
+or_else None other = other
+
+-- what is given for the first item for which something is given
+abbrev pub first_of : {S T : Type 0} → (S → Option T) → List S → Option T
+first_of f [] = None
+first_of f (x ∷ xs) = or_else (f x) (first_of f xs)
+
+-- the moment of an entry
+abbrev pub entry_moment : Entry → ℕ
+entry_moment (ReportEntry report) = (said report).at
+entry_moment (OrderEntry order) = order.at
+
+-- the greatest moment of an entry, 0 where there is none
+abbrev pub last_of : List Entry → ℕ
+last_of [] = 0
+last_of (entry ∷ entries) = max (entry_moment entry) (last_of entries)
+
+-- whether the spot is machine m
+abbrev pub is_at : ℕ → Spot → Bool
+is_at m Out = false
+is_at m (At machine) = machine == m
+
+-- the moment of the entry, if it ends the operation of job j on machine m
+abbrev pub finish_told : ℕ → ℕ → Entry → Option ℕ
+finish_told j m (ReportEntry (Arrive job at)) = None
+finish_told j m (ReportEntry (Finish job machine at)) = if (job == j) && (machine == m) then Some at else None
+finish_told j m (ReportEntry (Clean machine at)) = None
+finish_told j m (OrderEntry order) = None
+
+-- the moment of the entry, if it moves job j away from machine m
+abbrev pub leave_told : ℕ → ℕ → Entry → Option ℕ
+leave_told j m (ReportEntry report) = None
+leave_told j m (OrderEntry order) = if (order.job == j) && is_at m order.source then Some order.at else None
+
+-- when the operation of job j on machine m first ends, and when j first leaves m
+abbrev pub visit_end : ℕ → ℕ → List Entry → VisitEnd
+visit_end j m entries = record { finish = first_of (finish_told j m) entries; leave = first_of (leave_told j m) entries }
+
+-- a visit to machine m that an order begins; what becomes of it is told by the later entries
+abbrev pub visit_of : MoveOrder → ℕ → List Entry → Visit
+visit_of order m later = record {
+  job = order.job;
+  enter = order.at;
+  finish = first_of (finish_told order.job m) later;
+  leave = first_of (leave_told order.job m) later;
+}
+
+-- the visits to machine m, in the order of the entries that begin them
+abbrev pub visits_to : ℕ → List Entry → List Visit
+visits_to m [] = []
+visits_to m (ReportEntry report ∷ later) = visits_to m later
+visits_to m (OrderEntry order ∷ later) = if is_at m order.target then visit_of order m later ∷ visits_to m later else visits_to m later

@@ -1,5 +1,0 @@
-use Rattle.std.proofs.Common.{rules}
-use Rattle.run_log.proofs.gantt_bar.sign_at.Goals as goal
-
-pub returns-else-is_before : goal.returns-else-is_before
-returns-else-is_before c = search rules depth 2

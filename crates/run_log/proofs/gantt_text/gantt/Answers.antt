@@ -1,5 +1,0 @@
-use Rattle.std.proofs.Common.{rules}
-use Rattle.run_log.proofs.gantt_text.gantt.Goals as goal
-
-pub returns : goal.returns
-returns c = search rules

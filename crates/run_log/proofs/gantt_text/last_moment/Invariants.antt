@@ -1,7 +1,0 @@
-use Rattle.std.proofs.Common.{◌≡◌, max, drop}
-use Rattle.run_log.specs.GanttVisits.{last_of}
-use Rattle.run_log.proofs.gantt_text.last_moment.Given as goal
-
--- the greatest moment so far, and of the rest, is that of all
-abbrev pub invariant-loop-entry : goal.invariant-loop-entry
-invariant-loop-entry l = max l.last (last_of (drop l.entry-index l.entries)) ≡ last_of l.entries
