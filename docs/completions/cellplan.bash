@@ -1,0 +1,22 @@
+# Completions of cellplan for bash: source this file, or lay it into the folder of bash-completion as `cellplan`.
+_cellplan() {
+  local word=${COMP_WORDS[COMP_CWORD]} before=${COMP_WORDS[COMP_CWORD - 1]} command=${COMP_WORDS[1]} options
+  COMPREPLY=()
+  if [ "$COMP_CWORD" -eq 1 ]; then
+    mapfile -t COMPREPLY < <(compgen -W 'facts shape check plan drive hub audit gantt --help' -- "$word")
+    return
+  fi
+  case $before in
+    --instance | --rounds) return ;;
+  esac
+  case $command in
+    plan) options='--instance --rounds --help' ;;
+    facts | shape | check | drive | hub | audit | gantt) options='--instance --help' ;;
+    *) return ;;
+  esac
+  case $word in
+    -*) mapfile -t COMPREPLY < <(compgen -W "$options" -- "$word") ;;
+    *) mapfile -t COMPREPLY < <(compgen -f -- "$word") ;;
+  esac
+}
+complete -o filenames -F _cellplan cellplan
