@@ -7,6 +7,8 @@
 #[cfg(test)]
 mod audits;
 #[cfg(test)]
+mod calling;
+#[cfg(test)]
 mod cells;
 #[cfg(test)]
 mod controller_runs;
