@@ -3,7 +3,8 @@
 #
 #   awk -v bounds=TABLE -f places.awk FILE..
 #
-# TABLE has a line 'FILE | CALL | WHAT BOUNDS IT' for each request for a capacity. One that no source makes is told too.
+# TABLE has a line 'FILE | CALL | WHAT BOUNDS IT' for each request for a capacity, and for each call of a function that passes
+# a number of its caller's on to one. One that no source makes is told too.
 
 function trim(text) {
   gsub(/^[ \t]+|[ \t]+$/, "", text)
@@ -15,14 +16,26 @@ function without_blanks(text) {
   return text
 }
 
+# a function by its crate, or by its type where it is one of those that are all called `new`
+function of_crate(path, name) {
+  sub(/\/src\/.*/, "", path)
+  return name ~ /::/ ? name : path " " name
+}
+
 BEGIN {
-  asks = "^(with_capacity|reserve|reserve_exact|try_reserve|try_reserve_exact|resize|resize_with|from_elem|repeat|collect|from_iter|extend)$"
+  asks = "^((with|within)_capacity|(try_)?reserve(_exact)?|(try_)?grow|resize(_with)?|from_elem|from_fn|repeat(_n)?|cycle|(try_)?collect|from_iter|extend(_from_within)?|allocate)$"
+  drops = "^(ok|err|or|ok_or|ok_or_else|unwrap_or_else|unwrap_or_default|map_or|map_or_else|is_ok_and|is_err_and|flatten|flat_map|filter_map|last_os_error)$"
+  gives_option = "^(get|get_mut|get_one|copied|checked_[a-z]+|strip_prefix|strip_suffix|met)$"
+  numbers = "^(u8|u16|u32|u64|u128|usize|JobNo|MachineNo|Moment)$"
   while (bounds != "" && (getline text < bounds) > 0) {
     rows++
     if (split(text, part, " [|] ") != 3) continue
     key = trim(part[1]) " " without_blanks(part[2])
     row_of[key] = rows
     text_of[key] = text
+    name = without_blanks(part[2])
+    sub(/\(.*/, "", name)
+    if (name !~ asks) is_asked[of_crate(trim(part[1]), name)] = 1
   }
 }
 
@@ -83,11 +96,30 @@ function closing(i, open) {
   return tokens
 }
 
+# the place of the bracket that opens what closes at this place
+function opening(i, closed) {
+  for (closed = 0; i > 0; i--) {
+    if (token[i] ~ /^[])}]$/) closed++
+    else if (token[i] ~ /^[([{]$/ && --closed == 0) return i
+    else if (closed == 0) return i + 1
+  }
+  return 1
+}
+
+# the name of the function whose call ends at this place
+function caller(i) {
+  i = opening(i) - 1
+  if (token[i] == ">") while (i > 1 && token[i + 1] != "::") i--
+  return token[i]
+}
+
 # drops attributes, ghost items and clauses, of which nothing runs
 function drop_ghosts(i, j, kept) {
   kept = 0
   for (i = 1; i <= tokens; i++) {
     if (token[i] == "#" && token[i + 1] ~ /^[[!]$/) {
+      if (token[i + 2] == "path") tell(i, "a source that may stand elsewhere")
+      if (token[i + 2] == "default" && token[i + 4] == "Memory") tell(i, "Memory by default")
       i = closing(token[i + 1] == "[" ? i + 1 : i + 2)
     } else if (token[i] == "ghost" && token[i + 1] == "use") {
       while (i < tokens && token[i] != ";") i++
@@ -95,7 +127,7 @@ function drop_ghosts(i, j, kept) {
       for (i++; token[i + 1] ~ /^[:=]$/ && token[i + 2] == "{"; i = closing(i + 2)) continue
     } else {
       j = i
-      if (token[i] ~ /^(requires|ensures|decreases|invariant)$/) {
+      if (token[i] ~ /^(requires|ensures)$/) {
         j = i + 1
         if (token[j] == "*") j++
         if (token[j] ~ /^[A-Za-z_]/) j++
@@ -136,6 +168,7 @@ function note(word, m) {
 function new_arm(m) {
   state[m] = "pattern"
   pattern[m] = guard[m] = ""
+  angles[m] = 0
 }
 
 function enter(i, inside, m, block) {
@@ -148,6 +181,8 @@ function enter(i, inside, m, block) {
   kind[open] = token[i] == "{" ? awaited[open - 1] : ""
   if (token[i] == "{") awaited[open - 1] = ""
   if (token[i] == "(" && token[i - 1] == "!" && token[i - 2] == "matches") kind[open] = "matches"
+  begin[open] = kind[open] == "fn" ? header[open - 1] : begin[open - 1]
+  type[open] = kind[open] ~ /^(impl|trait)$/ ? type_of(header[open - 1] + 1, i) : type[open - 1]
   awaited[open] = ""
   within[open] = inside
   letting[open] = begins[open] = 0
@@ -170,14 +205,27 @@ function leave(block) {
 # of an impl of From: from which type, and into which
 function read_header(i, end, depth) {
   from[open] = into[open] = ""
-  while (i < end && token[i] != "From") i++
-  if (i >= end) return
+  for (; i < end && !(token[i] == "From" && depth == 0); i++) {
+    if (token[i] == "<") depth++
+    if (token[i] == ">") depth--
+  }
   for (i += 2; i < end && !(token[i] == ">" && depth == 0); i++) {
     if (token[i] == "<") depth++
     if (token[i] == ">") depth--
     from[open] = token[i] == "::" ? "" : from[open] token[i]
   }
   into[open] = token[i + 2]
+  if (token[i + 1] != "for") from[open] = ""
+}
+
+# the type whose functions follow, by the header of an impl or of a trait
+function type_of(i, end, depth, name) {
+  for (; i < end && token[i] != "where"; i++) {
+    if (token[i] == "<") depth++
+    if (token[i] == ">") depth--
+    if (depth == 0 && token[i] ~ /^[A-Z]/) name = token[i]
+  }
+  return name
 }
 
 # whether want of memory may be made here: from an AllocError, or from a fault of ours or of a library that says so
@@ -193,6 +241,8 @@ function may_want(i, m) {
 function look_at_alloc_error(i) {
   if (using) {
     if (token[i + 1] == "as") tell(i, "AllocError under another name")
+  } else if (token[i - 1] == "for" && token[i + 1] ~ /^({|where)$/) {
+    tell(i, "an impl for AllocError, where Self is one")
   } else if (item == "type") {
     if (token[i + 1] == ";") tell(i, "AllocError under another name")
   } else if (!in_pattern() && (item == "value" || in_function[open])) {
@@ -207,37 +257,76 @@ function look_at_memory(i) {
   } else if (!in_pattern() && !may_want(i)) tell(i, token[i - 2] "::Memory as a value")
 }
 
-# a closure that takes an error and drops it
-function look_at_closure(i, j) {
+# what is done with an error: it is passed on by `from`, by a variant that holds it, or by a closure that uses all of it
+function look_at_mapping(i, j, end) {
+  end = closing(i + 1)
   j = i + 2
   if (token[j] == "move") j++
-  if (token[j] != "|") return
-  while (token[++j] != "|" && j <= tokens) if (token[j] ~ /^_/) {
+  if (token[j] != "|") {
+    if (token[end - 1] != "from" && token[end - 1] !~ /^[A-Z]/) tell(i, "an error that isn't passed on by from")
+    return
+  }
+  while (token[++j] != "|" && j < end) if (token[j] ~ /^[a-z_]/ && token[j] != "mut" && !is_used(token[j], j + 1, end)) {
     tell(i, "a closure that drops an error")
     return
   }
 }
 
-# where the name at place i is given a value: by a `let` of the same function before this place, or as a constant of the file
-function given_at(i, before, j) {
-  if (token[i - 1] == "." || token[i] !~ /^[A-Za-z_]/) return 0
-  if (token[i] ~ /[a-z]/) {
-    for (j = before; j > 0 && token[j] != "fn"; j--) if (token[j] == "let" && (token[j + 1] == token[i] || token[j + 2] == token[i])) return j
-    return 0
-  }
-  for (j = before; j > 0; j--) if (token[j] == "const" && token[j + 1] == token[i]) return j
+function is_used(name, i, end) {
+  while (i < end && token[i] != "|") i++
+  for (; i < end; i++) if (token[i] == name) return 1
   return 0
 }
 
-# the words and signs from one place to another, and what the names among them stand for
-function meaning(i, end, closes, first, text, given, j) {
-  first = i
-  for (text = given = ""; i <= end; i++) {
-    text = text (text ~ /[A-Za-z_0-9]$/ && token[i] ~ /^[A-Za-z_0-9]/ ? " " : "") token[i]
-    j = given_at(i, first - 1)
-    if (j) given = given ", " token[i] " = " meaning(after_equals(j), statement_end(j))
+# the function whose name stands here
+function function_at(i, of_type) {
+  return of_crate(file, token[i] == "new" ? of_type "::new" : token[i])
+}
+
+# notes where a name is given a value or may be: in a pattern, for a closure or a loop, by `=` and the like, or as `mut`
+function note_binding(i, word) {
+  if (word == "|" && !in_pattern()) bars = !bars && token[i - 1] ~ /^([(,={;[]|=>|move|return|else)$/
+  if (word == "for") looping = 1
+  if (word ~ /^(in|\{)$/) looping = 0
+  if (word !~ /^[a-z_]/ || token[i - 1] == ".") return
+  if (in_pattern() || bars || looping || token[i - 1] == "mut" || token[i + 1] == "=" || token[i + 1] ~ /^[-+*\/%&|^<>]$/ && token[i + 2] ~ /^[<>]?=$/)
+    bound[word] = bound[word] " " i
+}
+
+# what the name at place i stands for: by all that the function says of it before, or as a constant of the file
+function given(i, before, text, place, count, j) {
+  if (token[i - 1] == "." || token[i] !~ /^[A-Za-z_]/ || token[i] == "mut") return ""
+  if (token[i] !~ /[a-z]/) {
+    for (j = 1; j <= tokens; j++) if (token[j] ~ /^(const|static)$/ && token[j + 1] == token[i]) text = text value_of(j + 1)
+    return text
   }
-  return text closes given
+  if (token[i - 1] == "::") return ""
+  passes_on = passes_on || is_parameter(token[i])
+  count = split(bound[token[i]], place, " ")
+  for (j = 1; j <= count; j++) if (place[j] > begin[open] && place[j] < before) {
+    if (token[place[j] - 1] == "let" || token[place[j] - 2] == "let" && token[place[j] - 1] == "mut") text = text value_of(place[j])
+    else if (token[i + 1] != ".") text = text ", " token[i] " = ?"
+  }
+  return text
+}
+
+function value_of(i) {
+  return ", " token[i] " = " meaning(after_equals(i), statement_end(i), "", i)
+}
+
+# whether the name is that of a number that the function is called with
+function is_parameter(name, i) {
+  for (i = begin[open]; i < tokens && token[i] != "{"; i++) if (token[i] == name && token[i + 1] == ":" && token[i + 2] ~ numbers) return 1
+  return 0
+}
+
+# the words and signs from one place to another, and what the names among them stand for before the second place
+function meaning(i, end, closes, before, text, more) {
+  for (text = more = ""; i <= end; i++) {
+    text = text (text ~ /[A-Za-z_0-9]$/ && token[i] ~ /^[A-Za-z_0-9]/ ? " " : "") token[i]
+    more = more given(i, before)
+  }
+  return text closes more
 }
 
 function after_equals(i) {
@@ -264,11 +353,15 @@ function second_comma(i, end, depth, commas) {
   return end - 1
 }
 
-# a request for a capacity: the call with its arguments has to stand in the table
-function look_at_request(i, name, call) {
-  call = meaning(i, name == "with_capacity" ? second_comma(i + 1) : closing(i + (name == "vec!" ? 2 : 1)) - 1, name == "vec!" ? "]" : ")")
+# a request for a capacity: the call with its arguments has to stand in the table, and where it asks for what its function
+# is called with, so have the calls of that function
+function look_at_request(i, name, call, start) {
+  passes_on = 0
+  start = token[i] == "new" ? i - 2 : i
+  call = meaning(start, name == "with_capacity" ? second_comma(i + 1) : closing(i + (name == "vec!" ? 2 : 1)) - 1, name == "vec!" ? "]" : ")", i)
   asked[file " " without_blanks(call)] = 1
   if (!(file " " without_blanks(call) in row_of)) tell(i, "a capacity that isn't among the stated bounds, " call)
+  if (passes_on && !(function_at(begin[open] + 1, type[open]) in is_asked)) tell(i, "a capacity that is passed on by a function, and none of its calls is among the stated bounds")
 }
 
 function is_filled(i, end, depth, count) {
@@ -287,12 +380,19 @@ function look_at(i, word) {
   else if (word == "OutOfMemory" && !in_pattern()) tell(i, "OutOfMemory as a value")
   else if (word ~ /^(AllocFailed|SpawnError|from_raw_os_error)$/) tell(i, "what an AllocError could be made of")
   else if (word == "Error" && token[i - 1] == "::" && token[i - 2] == "fmt") tell(i, "what an AllocError could be made of")
+  else if (word == "default" && token[i - 1] == "::") tell(i, "a default value, which may be a fmt::Error")
+  else if (word ~ /^(unsafe|macro_rules|include|transmute)$/) tell(i, "code whose words don't tell what it makes")
   else if (word == "is_memory" && token[i - 1] == "fn") tell(i, "an error of ours that says that it is want of memory")
   else if (word == "Error" && using && from_fmt) tell(i, "what an AllocError could be made of")
-  else if (word ~ /^(map_err|or_else)$/ && token[i + 1] == "(") look_at_closure(i)
+  else if (word ~ /^(map_err|or_else)$/ && token[i + 1] == "(") look_at_mapping(i)
+  else if (word ~ drops && token[i - 1] == "." && token[i + 1] == "(") tell(i, "a call that may drop an error")
+  else if (word == "unwrap_or" && caller(i - 2) !~ gives_option) tell(i, "a call that may drop an error")
+  else if (word ~ asks && (using ? word ~ /^(from|repeat)/ : token[i - 1] == "::" && token[i + 1] != "(" || token[i - 1] == "." && token[i + 1] == "::")) tell(i, "a request for a capacity that isn't written as a call")
   else if (word ~ asks && token[i + 1] == "(" && token[i - 1] ~ /^(\.|::)$/) look_at_request(i, word)
-  else if (word == "vec" && token[i + 1] == "!" && is_filled(i + 2)) look_at_request(i, "vec!")
-  else if (word == "*" && using && of_a_type) tell(i, "all variants brought in")
+  else if (token[i + 1] == "(" && token[i - 1] != "fn" && function_at(i, token[i - 2]) in is_asked) look_at_request(i, word)
+  else if (word ~ /^(small)?vec$/ && token[i + 1] == "!" && is_filled(i + 2)) look_at_request(i, "vec!")
+  else if (word == "*" && using && (of_a_type || from_fmt)) tell(i, "all variants brought in")
+  else if (word == "as" && using && from_fmt && token[i - 1] ~ /^(fmt|self)$/) tell(i, "fmt under another name")
 }
 
 # what an item, a let, a match or an arm begins or ends with
@@ -302,8 +402,8 @@ function follow(i, word) {
   else if (word ~ /^(const|static)$/ && token[i + 1] != "fn" && token[i - 1] !~ /^['*]$/) item = "const"
   else if (word == "=" && item == "const") item = "value"
   else if (word == ";" && bracket[open] != "[") { using = of_a_type = from_fmt = 0; item = ""; awaited[open] = ""; letting[open] = 0 }
-  else if (word == "fn") { awaited[open] = "fn"; item = "" }
-  else if (word == "impl" && awaited[open] != "fn") { awaited[open] = "impl"; header[open] = i }
+  else if (word == "fn") { awaited[open] = "fn"; item = ""; header[open] = i }
+  else if (word ~ /^(impl|trait)$/ && awaited[open] != "fn") { awaited[open] = word; header[open] = i }
   else if (word ~ /^(match|enum)$/) awaited[open] = word
   else if (word == "let") letting[open] = 1
   if (word == "=") letting[open] = 0
@@ -312,10 +412,15 @@ function follow(i, word) {
 }
 
 # at the level of the arms of a match, or of the words within matches!
-function turn(word) {
+function turn(word, last_word) {
   if (word == "=>" && state[open] != "body") { state[open] = "body"; begins[open] = 1; return 1 }
   if (word == "if" && state[open] == "pattern") { state[open] = "guard"; return 1 }
   if (word == "," && kind[open] == "matches" && state[open] == "value") { state[open] = "pattern"; return 1 }
+  if (state[open] == "body") {
+    if (word == "<" && last_word ~ /^(::|[A-Z].*)$/) angles[open]++
+    if (word == ">" && angles[open] > 0) angles[open]--
+    if (word == "," && angles[open] > 0) return 0
+  }
   if (word == "," && kind[open] == "match" && state[open] == "body") { new_arm(open); return 1 }
   return word == "," && kind[open] == "match" && pattern[open] == ""
 }
@@ -323,11 +428,13 @@ function turn(word) {
 function tell_places(i, word) {
   drop_ghosts()
   open = 0
-  kind[0] = bracket[0] = awaited[0] = item = from[0] = into[0] = ""
-  using = of_a_type = from_fmt = letting[0] = within[0] = arm[0] = in_function[0] = begins[0] = 0
+  kind[0] = bracket[0] = awaited[0] = item = from[0] = into[0] = type[0] = ""
+  using = of_a_type = from_fmt = letting[0] = within[0] = arm[0] = in_function[0] = begins[0] = begin[0] = bars = looping = 0
+  split("", bound)
   for (i = 1; i <= tokens; i++) {
     word = token[i]
     look_at(i, word)
+    note_binding(i, word)
     if (word ~ /^[([{]$/) {
       note(word)
       enter(i)
@@ -336,7 +443,7 @@ function tell_places(i, word) {
       note(word)
     } else {
       follow(i, word)
-      if (kind[open] ~ /^match/ && turn(word)) continue
+      if (kind[open] ~ /^match/ && turn(word, token[i - 1])) continue
       begins[open] = 0
       note(word)
     }
