@@ -4,15 +4,16 @@ use crate::way_out::{Passage, place_in, way_out};
 use shop_base::{JobNo, Moment, Shop};
 use std::alloc::{AllocError, Global};
 
-/// How many choices the planner makes before it gives up, and how many more in looking ahead.
+/// How many choices looking ahead makes at most. So many moves and waits no shop takes: there are 20,200 moves at most, and
+/// 20,000 ends of operations to wait for.
 const MAX_CHOICES: u32 = 100_000;
 
 /// A planner that simulates the cell at nominal times, as if all releases were 0 and no machine had to be
 /// cleaned. At each choice the least job that can move does so, and where none can, it waits for the next
 /// operation to end. A move after which it finds no way out for all jobs in the cell is taken back. In round
 /// `r` the choice begins at job `r`, counted round, and in the odd rounds no more jobs are let in once more
-/// than half of the machines hold one. It gives up after 100,000 choices. Looking ahead has as many of its own;
-/// once they are spent, only moves on the way out that is known are made.
+/// than half of the machines hold one. Looking ahead makes 100,000 choices at most; once they are spent, only
+/// moves on the way out that is known are made: no more jobs are let in, and nothing is proposed unless all are in.
 #[derive(Clone, Copy, Debug, Default)]
 pub struct GreedyProposer;
 
