@@ -1,7 +1,9 @@
-//! The status at which each fault of a command ends the program.
+//! The status at which each fault of a command ends the program, and what a fault says of memory.
 
 use command_answers::CommandFault;
+use command_words::WordsFault;
 use orlib_read::OrFault;
+use plan_seek::SeekFault;
 use plan_text::PlanFault;
 use shop_base::ShopFault;
 use std::test::Fail;
@@ -16,6 +18,19 @@ fn faults_of_commands_have_a_status(rt: HostRuntime) -> Result<(), Fail> {
         (CommandFault::Memory, 4),
     ] {
         assert_eq!(rt; fault.status(), status);
+    }
+    Ok(())
+}
+
+#[test]
+fn want_of_memory_is_told_as_memory(rt: HostRuntime) -> Result<(), Fail> {
+    let alloc = rt.alloc();
+    for text in [
+        CommandFault::Memory.to_string(alloc)?,
+        WordsFault::Memory.to_string(alloc)?,
+        SeekFault::Memory.to_string(alloc)?,
+    ] {
+        assert_eq!(rt; text.as_str(), "Memory");
     }
     Ok(())
 }

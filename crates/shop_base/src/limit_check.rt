@@ -11,8 +11,8 @@ use crate::shape_fault::ShapeFault;
 use crate::shop::Moment;
 
 /// The first of a plan's times that is over its limit: first the releases, then the budgets, then the cleaning times.
-/// It asks neither for orders, nor how many of each there are. In a plan with as many of each as its shop asks
-/// for, it is the first fault of the shape.
+/// It asks neither for orders, nor how many of anything there are. In a plan with as many releases, budgets, orders and
+/// cleaning times as its shop asks for, it is the first fault of the shape.
 pub fn check_limits(
     release: &[Moment],
     budget: &[Moment],
