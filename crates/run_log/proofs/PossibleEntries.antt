@@ -1,5 +1,5 @@
 -- Which entries can happen in a cell, and why others can't.
-use Rattle.std.proofs.Common.{◌≡◌, ℕ, ◌+◌, ◌-◌, ◌<◌, ◌≤◌, ◌↔◌, List, [], ◌∷◌, ◌++◌, length, drop, Option, None, Some, is_some, true, false, nat_eq, eqb, eqb-true, eq-eqb, refl, sym, ◌∙◌, ap, subst, arith, inl, inr, take-append-drop}
+use Rattle.std.proofs.Common.{◌≡◌, ℕ, ◌+◌, ◌-◌, ◌<◌, ◌≤◌, ◌↔◌, [], ◌∷◌, ◌++◌, length, Option, None, Some, is_some, true, false, nat_eq, eqb, eqb-true, eq-eqb, refl, sym, ◌∙◌, ap, subst, arith, inl, inr}
 use Rattle.std.specs.Prelude.{MatchOption, IsTrue, Result, Ok, Err, OnOk, IfErr}
 use Rattle.std.specs.Option.{option_eq}
 use Rattle.std.proofs.lemmas.Bool.{cases_lt}
@@ -7,7 +7,7 @@ use Rattle.shop_base.specs.declared.limits.TheConstants.{MAX_MOMENT}
 use Rattle.shop_base.specs.declared.move_order.Spot.{Spot}
 use Rattle.shop_base.specs.declared.move_order.Spot.TheVariants.{Out, At}
 use Rattle.shop_base.specs.declared.move_order.MoveOrder.{MoveOrder}
-use Rattle.shop_base.specs.Plan.{PlannedShop, machines, steps, order, job_at, machine_of, nominal, clean, Visits}
+use Rattle.shop_base.specs.Plan.{PlannedShop, steps, order, job_at, machine_of, nominal, clean, Visits}
 use Rattle.shop_base.specs.Cell.{Cell, made, ready, since, entries, cleaning, IsOn, IsFree}
 use Rattle.shop_base.specs.Activity.{Operation, Cleaning}
 use Rattle.shop_base.specs.Move.{IsPrefix, CanMove, KeepsPlan, CanObey, source, target}

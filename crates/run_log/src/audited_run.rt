@@ -69,7 +69,8 @@ impl<P: Planned> AuditedRun<P> {
             → length self.old.entries.items < vec_capacity self.old.entries }
         ensures same_plan { OnOk result (self.new.cell.plan ≡ self.old.cell.plan) }
         ensures told { OnOk result (IsTold self.old.cell.plan self.new.cell.cell self.new.entries.items) }
-        ensures tells { OnOk result (IsLineTaken self.old.cell.plan line.now self.old.entries.items self.new.entries.items) }
+        ensures tells { OnOk result
+            (IsLineTaken self.old.cell.plan line.now self.old.entries.items self.new.entries.items) }
         ensures capacity { OnOk result (vec_capacity self.new.entries ≡ vec_capacity self.old.entries) }
         ensures number { IfErr result (λ fault. fault_line fault ≡ number) }
         ensures fault { IfErr result (IsLineFault self.old.cell.plan self.old.cell.cell line.now) }

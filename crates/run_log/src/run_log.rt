@@ -28,7 +28,8 @@ impl RunLog {
 
     /// An empty log with room for a whole run of the plan: twice as many entries as it has reports.
     pub fn for_run<P: Planned>(alloc: Global, basis: &P) -> Result<RunLog, AllocError>
-        ensures { IfOk result (λ log. log ≡ record { entries = []; reserved = 2 * stated_number (P.planned basis.now) }) }
+        ensures { IfOk result (λ log.
+            log ≡ record { entries = []; reserved = 2 * stated_number (P.planned basis.now) }) }
     {
         let reserved = most_entries(basis.shaped());
         let entries = Vec::with_capacity(alloc, reserved)?;

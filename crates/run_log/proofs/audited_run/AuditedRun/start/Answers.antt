@@ -1,2 +1,0 @@
-use Rattle.std.proofs.Common.{sym, subst, arith}
-use Rattle.run_log.proofs.audited_run.AuditedRun.start.Goals as goal
