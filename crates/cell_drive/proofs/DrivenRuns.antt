@@ -14,10 +14,10 @@ use Rattle.cell_tables.specs.declared.report.Report as told
 use Rattle.plan_verifier.specs.Accepted.{VerifiedPlan, IsVerified}
 use Rattle.cell_control.specs.Control.{Control, at_start, IsAnswered}
 use Rattle.cell_tables.specs.Reports.{said}
-use Rattle.run_log.specs.declared.entry.Entry.{Entry}
-use Rattle.run_log.specs.declared.entry.Entry.TheVariants.{Report as ReportEntry, Order as OrderEntry}
+use Rattle.cell_tables.specs.declared.entry.Entry.{Entry}
+use Rattle.cell_tables.specs.declared.entry.Entry.TheVariants.{Report as ReportEntry, Order as OrderEntry}
 use Rattle.run_log.specs.Log.{Noted, Notes}
-use Rattle.run_log.specs.Events.{events_of}
+use Rattle.cell_tables.specs.Events.{events_of}
 use Rattle.run_log.proofs.Audits.{events-join}
 use Rattle.cell_drive.specs.Driving.{IsNeverFull}
 use Rattle.cell_drive.specs.Driven.{DriveState, drive_start, IsDriven}

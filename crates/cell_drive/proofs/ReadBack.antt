@@ -24,9 +24,9 @@ use Rattle.cell_control.specs.declared.report_fault.ReportFault.TheVariants.{Job
 use Rattle.cell_tables.specs.Moving.{IsSpotOf}
 use Rattle.cell_control.specs.ReasonNames.{reason_name}
 use Rattle.cell_tables.specs.Reports.{said}
-use Rattle.run_log.specs.declared.entry.Entry.{Entry}
-use Rattle.run_log.specs.declared.entry.Entry.TheVariants.{Report as ReportEntry, Order as OrderEntry}
-use Rattle.run_log.specs.Events.{events_of}
+use Rattle.cell_tables.specs.declared.entry.Entry.{Entry}
+use Rattle.cell_tables.specs.declared.entry.Entry.TheVariants.{Report as ReportEntry, Order as OrderEntry}
+use Rattle.cell_tables.specs.Events.{events_of}
 use Rattle.run_log.specs.EventLines.{spaced_line, spot_word, report_line, order_line}
 use Rattle.run_log.specs.LogLines.{IsSpotWord, IsEntryOf, LineTells, LinesTell}
 use Rattle.run_log.proofs.Audits.{events-join}

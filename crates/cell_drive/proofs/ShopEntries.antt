@@ -14,7 +14,7 @@ use Rattle.cell_tables.specs.declared.report.Report.TheVariants.{Arrive, Finish,
 use Rattle.cell_tables.specs.Moving.{IsSpotOf}
 use Rattle.cell_tables.specs.Reports.{said}
 use Rattle.cell_tables.proofs.MoveParts.{source_or_out}
-use Rattle.run_log.specs.declared.entry.Entry.TheVariants.{Report as ReportEntry, Order as OrderEntry}
+use Rattle.cell_tables.specs.declared.entry.Entry.TheVariants.{Report as ReportEntry, Order as OrderEntry}
 use Rattle.run_log.specs.LogLines.{IsEntryOf}
 
 pub report_of_shop : (p : PlannedShop) (c : Cell) (report : Report) → IsWellShaped p → IsSound p c → CanReport p c (said report) → IsEntryOf p (ReportEntry report)

@@ -15,7 +15,8 @@ use crate::cell_answers::{put_accepted, put_closing};
 use crate::input_lines::report_of;
 use crate::line_handler::LineHandler;
 use cell_control::{Ack, Controller, Dues, Report, ReportFault};
-use run_log::{Entry, RunLog, Sink, WriteFault, put_all};
+use cell_tables::Entry;
+use run_log::{RunLog, Sink, WriteFault, put_all};
 use shop_base::MoveOrder;
 use std::marker::Model;
 
