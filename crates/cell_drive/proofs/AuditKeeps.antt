@@ -6,11 +6,11 @@ use Rattle.std.proofs.lemmas.List.{append_cancel_left}
 use Rattle.shop_base.specs.Plan.{PlannedShop}
 use Rattle.shop_base.specs.Ends.{HasEnded, moves_in, reports_in}
 use Rattle.text_lines.specs.Lines.{lines_of}
-use Rattle.run_log.specs.declared.entry.Entry.{Entry}
-use Rattle.run_log.specs.declared.audited.Audit.{Audit}
+use Rattle.cell_tables.specs.declared.entry.Entry.{Entry}
+use Rattle.run_log.specs.declared.audit_result.Audit.{Audit}
 use Rattle.run_log.specs.declared.audit_fault.AuditFault.{AuditFault}
 use Rattle.run_log.specs.declared.audit_fault.AuditFault.TheVariants.{Memory}
-use Rattle.run_log.specs.Events.{events_of}
+use Rattle.cell_tables.specs.Events.{events_of}
 use Rattle.run_log.specs.Audits.{IsAudit}
 use Rattle.run_log.proofs.OneReading.{one_reading}
 use Rattle.cell_drive.specs.Driving.{cell_after, IsSoFar}

@@ -4,11 +4,11 @@ use Rattle.shop_base.specs.Plan.{PlannedShop, IsWellShaped}
 use Rattle.shop_base.specs.Run.{IsRun}
 use Rattle.shop_base.specs.Ends.{stated_number, moves_in}
 use Rattle.text_lines.specs.Lines.{lines_of}
-use Rattle.run_log.specs.declared.entry.Entry.{Entry}
-use Rattle.run_log.specs.declared.audited.Audit.{Audit}
+use Rattle.cell_tables.specs.declared.entry.Entry.{Entry}
+use Rattle.run_log.specs.declared.audit_result.Audit.{Audit}
 use Rattle.run_log.specs.declared.audit_fault.AuditFault.{AuditFault}
 use Rattle.run_log.specs.declared.audit_fault.AuditFault.TheVariants.{Memory}
-use Rattle.run_log.specs.Events.{events_of}
+use Rattle.cell_tables.specs.Events.{events_of}
 use Rattle.run_log.specs.LogLines.{LinesTell}
 use Rattle.run_log.specs.Audits.{IsAudit, TellRun}
 use Rattle.cell_drive.specs.AnswerText.{DrivenCell, IsAnswerText}

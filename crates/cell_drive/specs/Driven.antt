@@ -5,9 +5,9 @@ use Rattle.shop_base.specs.Controlled.{IsControlledRun}
 use Rattle.shop_base.specs.Ends.{stated_number, reports_in}
 use Rattle.plan_verifier.specs.Accepted.{VerifiedPlan, IsVerified}
 use Rattle.cell_control.specs.Control.{Control, at_start}
-use Rattle.run_log.specs.declared.entry.Entry.{Entry}
+use Rattle.cell_tables.specs.declared.entry.Entry.{Entry}
 use Rattle.run_log.specs.Log.{Noted, Notes}
-use Rattle.run_log.specs.Events.{events_of}
+use Rattle.cell_tables.specs.Events.{events_of}
 use Rattle.cell_drive.specs.DrivenLines.{LineAnswer, IsClosingLine}
 
 -- its controller, and the log of what was accepted and ordered

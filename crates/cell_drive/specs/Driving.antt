@@ -12,9 +12,9 @@ use Rattle.shop_base.specs.NeverStuckLaw.{CanGoOn}
 use Rattle.shop_base.specs.Ends.{stated_number, reports_in, HasEnded, IsInTime}
 use Rattle.shop_base.specs.KeptMoments.{KeepsLeaving}
 use Rattle.plan_verifier.specs.Accepted.{VerifiedPlan, kept_at}
-use Rattle.run_log.specs.declared.entry.Entry.{Entry}
+use Rattle.cell_tables.specs.declared.entry.Entry.{Entry}
 use Rattle.run_log.specs.Log.{Noted}
-use Rattle.run_log.specs.Events.{events_of}
+use Rattle.cell_tables.specs.Events.{events_of}
 use Rattle.cell_drive.specs.declared.drive_fault.DriveFault.{DriveFault}
 use Rattle.cell_drive.specs.declared.drive_fault.DriveFault.TheVariants.{Read, Write, InputTooLong, Memory}
 use Rattle.cell_drive.specs.Lines.{complete_lines}

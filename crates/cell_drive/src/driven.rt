@@ -2,7 +2,8 @@
 
 ghost use Rattle.std.specs.Prelude.{◌≡◌, ◌≢◌, ◌+◌, ◌≤◌, [], ◌∷◌, Some, length, map, IfOk, IfErr, OnOk};
 ghost use Rattle.cell_control.specs.Control.{IsAnswered};
-ghost use Rattle.cell_control.specs.Reports.{said, IsFirstReason};
+ghost use Rattle.cell_tables.specs.Reports.{said};
+ghost use Rattle.cell_control.specs.Reports.{IsFirstReason};
 ghost use Rattle.run_log.specs.Log.{Notes};
 ghost use Rattle.run_log.specs.Sinks.{Wrote};
 ghost use Rattle.cell_drive.specs.AnswerLines.{refused_line};
@@ -14,7 +15,8 @@ use crate::cell_answers::{put_accepted, put_closing};
 use crate::input_lines::report_of;
 use crate::line_handler::LineHandler;
 use cell_control::{Ack, Controller, Dues, Report, ReportFault};
-use run_log::{Entry, RunLog, Sink, WriteFault, put_all};
+use cell_tables::Entry;
+use run_log::{RunLog, Sink, WriteFault, put_all};
 use shop_base::MoveOrder;
 use std::marker::Model;
 

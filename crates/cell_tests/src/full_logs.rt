@@ -2,7 +2,8 @@
 
 use super::cells::instant;
 use super::events::{arrive, enter};
-use run_log::{Entry, LogFault, RunLog};
+use cell_tables::Entry;
+use run_log::{LogFault, RunLog};
 use std::test::Fail;
 
 #[test]

@@ -3,9 +3,10 @@
 use super::cells::{crossing, following, instant};
 use super::events::{enter, finish, go_on, leave};
 use super::worked_runs::{CLEANED_LINES, FOLLOWING_LINES, IN_TIME_LINES};
+use cell_tables::Entry;
 use plan_verifier::Verified;
 use run_gantt::gantt;
-use run_log::{Entry, audit};
+use run_log::audit;
 use std::process::Abort;
 use std::test::Fail;
 

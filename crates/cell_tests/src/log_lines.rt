@@ -2,7 +2,8 @@
 
 use super::events::{arrive, clean, enter, finish, go_on, leave};
 use super::one_byte_writer::{OneByteWriter, is_text};
-use run_log::{Entry, IntoSink, WriteFault, put_all, write_lines};
+use cell_tables::Entry;
+use run_log::{IntoSink, WriteFault, put_all, write_lines};
 use std::cell::Cell;
 use std::test::Fail;
 

@@ -1,14 +1,13 @@
 //! The lines of events, each written into 64 bytes of its own.
 
-ghost use Rattle.std.specs.Prelude.{◌≡◌, ◌+◌, ◌≤◌, [], ◌∷◌, ◌++◌, length, OnOk};
+ghost use Rattle.std.specs.Prelude.{◌≡◌, ◌+◌, ◌≤◌, [], ◌∷◌, ◌++◌, length, codes, decimal, OnOk};
 ghost use Rattle.run_log.specs.Sinks.{Wrote};
 ghost use Rattle.run_log.specs.EventLines.{spot_word, report_line, order_line, entry_line, entry_lines};
 
-use crate::entry::Entry;
 use crate::line_text::LineText;
 use crate::sink::{Sink, WriteFault};
 use crate::writing::put_all;
-use cell_control::Report;
+use cell_tables::{Entry, Report};
 use shop_base::{JobNo, MachineNo, Moment, MoveOrder, Spot};
 
 #[inline(always)]
@@ -23,13 +22,15 @@ fn put_spot(line: &mut LineText, spot: Spot)
     }
 }
 
+/// Writes `report T`, the word of what has ended, with a space on each side, and the number of its job or machine.
 #[inline(always)]
-fn put_arrival(line: &mut LineText, job: JobNo, at: Moment)
-    requires { line.old ≡ 10 ∷ [] }
-    ensures { line.new ≡ report_line (Report.Arrive job at) }
+fn put_ended(line: &mut LineText, ended: &[u8], number: u32, at: Moment)
+    requires line { line.old ≡ 10 ∷ [] }
+    requires ended { length ended.now ≤ 8 }
+    ensures { line.new ≡ codes "report " ++ (decimal at ++ (ended.now ++ (decimal number ++ 10 ∷ []))) }
 {
-    line.put_short_number(job);
-    line.put_text(b" arrive ");
+    line.put_short_number(number);
+    line.put_text(ended);
     line.put_number(at);
     line.put_text(b"report ");
 }
@@ -47,17 +48,6 @@ fn put_finish(line: &mut LineText, job: JobNo, machine: MachineNo, at: Moment)
     line.put_text(b"report ");
 }
 
-#[inline(always)]
-fn put_clean(line: &mut LineText, machine: MachineNo, at: Moment)
-    requires { line.old ≡ 10 ∷ [] }
-    ensures { line.new ≡ report_line (Report.Clean machine at) }
-{
-    line.put_short_number(machine);
-    line.put_text(b" clean ");
-    line.put_number(at);
-    line.put_text(b"report ");
-}
-
 /// Writes the line of an accepted report: `report T arrive J`, `report T finish J M` or `report T clean M`.
 #[inline(always)]
 pub fn put_report(line: &mut LineText, report: Report)
@@ -65,9 +55,9 @@ pub fn put_report(line: &mut LineText, report: Report)
     ensures { line.new ≡ report_line report }
 {
     match report {
-        Report::Arrive { job, at } => put_arrival(line, job, at),
+        Report::Arrive { job, at } => put_ended(line, b" arrive ", job, at),
         Report::Finish { job, machine, at } => put_finish(line, job, machine, at),
-        Report::Clean { machine, at } => put_clean(line, machine, at),
+        Report::Clean { machine, at } => put_ended(line, b" clean ", machine, at),
     }
 }
 
@@ -99,7 +89,8 @@ fn put_entry(line: &mut LineText, entry: Entry)
 
 /// Writes the lines of the entries. A fault leaves the first bytes of them written.
 pub fn write_lines<W: Sink>(entries: &[Entry], writer: &mut W) -> Result<(), WriteFault>
-    ensures wrote { Wrote result (W.failed writer.new) (W.taken writer.old) (W.taken writer.new) (entry_lines entries.now) }
+    ensures wrote { Wrote result (W.failed writer.new)
+        (W.taken writer.old) (W.taken writer.new) (entry_lines entries.now) }
     ensures unfailed { OnOk result (W.failed writer.new ≡ W.failed writer.old) }
 {
     for entry in entries {

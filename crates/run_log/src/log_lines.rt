@@ -1,12 +1,12 @@
 //! The entries that the lines of a log tell.
 
 ghost use Rattle.std.specs.Prelude.{◌≡◌, ◌^◌, ◌<◌, ◌≤◌, ◌↔◌, [], ◌∷◌, codes, MatchOption, IfSome, IsTrue};
-ghost use Rattle.cell_control.specs.Moving.{IsSpotOf};
-ghost use Rattle.run_log.specs.LogLines.{spaced_words, is_passed_over, IsSpotWord, AreSpotWords, AreReportWords, AreOrderWords, IsEntryLine, AreEndsOf, IsEntryOf, LineTells};
+ghost use Rattle.cell_tables.specs.Moving.{IsSpotOf};
+ghost use Rattle.run_log.specs.LogLines.{spaced_words, is_passed_over, IsSpotWord, AreSpotWords, AreReportWords, AreOrderWords};
+ghost use Rattle.run_log.specs.LogLines.{IsEntryLine, AreEndsOf, IsEntryOf, LineTells};
 ghost use Rattle.run_log.specs.LogWords.{IsNumberFirst, HasNoNumberFirst, AreEndWordsAt, AreNoEndWords};
 
-use crate::entry::Entry;
-use cell_control::Report;
+use cell_tables::{Entry, Report};
 use shop_base::limits::MAX_MOMENT;
 use shop_base::readers::{job_count, machine_count};
 use shop_base::{JobNo, Moment, MoveOrder, Shaped, Spot};
@@ -49,7 +49,8 @@ fn number_first(words: &[u8], most: usize) -> Option<(u64, &[u8])>
 
 /// The arrival that the word behind `arrive` tells.
 fn arrival_of(words: &[u8], at: Moment) -> Option<Report>
-    ensures { MatchOption result (AreNoEndWords (codes "arrive" ∷ spaced_words words.now) at) (AreEndWordsAt (codes "arrive" ∷ spaced_words words.now) at) }
+    ensures { MatchOption result (AreNoEndWords (codes "arrive" ∷ spaced_words words.now) at)
+        (AreEndWordsAt (codes "arrive" ∷ spaced_words words.now) at) }
 {
     match short_number_of(words) {
         Some(job) => Some(Report::Arrive { job, at }),
@@ -59,7 +60,8 @@ fn arrival_of(words: &[u8], at: Moment) -> Option<Report>
 
 /// The end of an operation that the words behind `finish` tell.
 fn finish_of(words: &[u8], at: Moment) -> Option<Report>
-    ensures { MatchOption result (AreNoEndWords (codes "finish" ∷ spaced_words words.now) at) (AreEndWordsAt (codes "finish" ∷ spaced_words words.now) at) }
+    ensures { MatchOption result (AreNoEndWords (codes "finish" ∷ spaced_words words.now) at)
+        (AreEndWordsAt (codes "finish" ∷ spaced_words words.now) at) }
 {
     let (job, rest) = number_first(words, 9)?;
     let machine = short_number_of(rest)?;
@@ -71,8 +73,9 @@ fn finish_of(words: &[u8], at: Moment) -> Option<Report>
 }
 
 /// The end of a cleaning that the word behind `clean` tells.
-fn clean_of(words: &[u8], at: Moment) -> Option<Report>
-    ensures { MatchOption result (AreNoEndWords (codes "clean" ∷ spaced_words words.now) at) (AreEndWordsAt (codes "clean" ∷ spaced_words words.now) at) }
+fn cleaning_end_of(words: &[u8], at: Moment) -> Option<Report>
+    ensures { MatchOption result (AreNoEndWords (codes "clean" ∷ spaced_words words.now) at)
+        (AreEndWordsAt (codes "clean" ∷ spaced_words words.now) at) }
 {
     match short_number_of(words) {
         Some(machine) => Some(Report::Clean { machine, at }),
@@ -82,7 +85,8 @@ fn clean_of(words: &[u8], at: Moment) -> Option<Report>
 
 /// What has ended at this moment, as the words tell.
 fn ended_of(words: &[u8], at: Moment) -> Option<Report>
-    ensures { MatchOption result (AreNoEndWords (spaced_words words.now) at) (AreEndWordsAt (spaced_words words.now) at) }
+    ensures { MatchOption result (AreNoEndWords (spaced_words words.now) at)
+        (AreEndWordsAt (spaced_words words.now) at) }
 {
     if let Some(rest) = after_prefix(words, b"arrive ") {
         return arrival_of(rest, at);
@@ -91,14 +95,15 @@ fn ended_of(words: &[u8], at: Moment) -> Option<Report>
         return finish_of(rest, at);
     }
     match after_prefix(words, b"clean ") {
-        Some(rest) => clean_of(rest, at),
+        Some(rest) => cleaning_end_of(rest, at),
         None => None,
     }
 }
 
 /// The report that the words behind `report` tell.
 fn report_of(words: &[u8]) -> Option<Report>
-    ensures { MatchOption result ((report : Report) → AreReportWords (spaced_words words.now) report → ⊥) (AreReportWords (spaced_words words.now)) }
+    ensures { MatchOption result ((report : Report) → AreReportWords (spaced_words words.now) report → ⊥)
+        (AreReportWords (spaced_words words.now)) }
 {
     let (at, rest) = number_first(words, 13)?;
     ended_of(rest, at)
@@ -116,8 +121,9 @@ fn spots_of(words: &[u8]) -> Option<(Spot, Spot)>
 }
 
 /// The order that the words behind `order` tell.
-fn order_of(words: &[u8]) -> Option<MoveOrder>
-    ensures { MatchOption result ((order : MoveOrder) → AreOrderWords (spaced_words words.now) order → ⊥) (AreOrderWords (spaced_words words.now)) }
+fn move_order_of(words: &[u8]) -> Option<MoveOrder>
+    ensures { MatchOption result ((order : MoveOrder) → AreOrderWords (spaced_words words.now) order → ⊥)
+        (AreOrderWords (spaced_words words.now)) }
 {
     let (at, rest) = number_first(words, 13)?;
     let (job, spots) = number_first(rest, 9)?;
@@ -135,7 +141,7 @@ fn entry_of(line: &[u8]) -> Option<Entry>
     ensures { MatchOption result ((entry : Entry) → IsEntryLine line.now entry → ⊥) (IsEntryLine line.now) }
 {
     if line.starts_with(b"o") {
-        let order = order_of(after_prefix(line, b"order ")?)?;
+        let order = move_order_of(after_prefix(line, b"order ")?)?;
         return Some(Entry::Order(order));
     }
     let report = report_of(after_prefix(line, b"report ")?)?;

@@ -1,5 +1,5 @@
 use Rattle.std.proofs.Common.{◌+◌, ◌≤◌, ◌∷◌, length, map, sym, subst}
-use Rattle.run_log.specs.declared.entry.Entry.TheVariants.{Report as ReportEntry, Order as OrderEntry}
+use Rattle.cell_tables.specs.declared.entry.Entry.TheVariants.{Report as ReportEntry, Order as OrderEntry}
 use Rattle.run_log.specs.Log.{Notes}
 use Rattle.cell_drive.proofs.DrivenRuns.{room_for, driven_more}
 use Rattle.cell_drive.proofs.driven.take_report.Goals as goal
