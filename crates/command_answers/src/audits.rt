@@ -2,66 +2,77 @@
 
 ghost use Rattle.std.specs.Prelude.{◌≡◌, IfOk, IfErr};
 ghost use Rattle.std.specs.Option.{option_copied};
-ghost use Rattle.shop_base.specs.Plan.{ShopPlan, PlannedShop};
-ghost use Rattle.orlib_read.specs.declared.or_fault.OrFault.{OrFault};
-ghost use Rattle.plan_text.specs.declared.plan_fault.PlanFault.{PlanFault};
-ghost use Rattle.plan_text.specs.Documents.{IsPlanText, IsFirstPlanFault};
-ghost use Rattle.command_answers.specs.Instances.{IsFirstInstanceFault, Holds, IsInstanceRefusal};
-ghost use Rattle.command_answers.specs.Plans.{TellBoth, TellsAShop, IsRightOfBoth, IsRightPlanFault, IsPlanRefusal, IsOfPlan, IsOfBoth};
-ghost use Rattle.command_answers.specs.AuditLines.{IsAuditLine, IsLogLine, IsToldFault, IsFaultLine, kept_line, end_words};
+ghost use Rattle.shop_base.specs.Plan.{PlannedShop};
+ghost use Rattle.command_answers.specs.AuditLines.{IsLogLine, IsToldFault, IsFaultLine, kept_line, end_words};
+ghost use Rattle.command_answers.specs.Steps.{Then, Told, IsOrMemory};
+ghost use Rattle.command_answers.specs.Shapes.{IsNotShapedLine};
+ghost use Rattle.command_answers.specs.Texts.{Asks};
+ghost use Rattle.command_answers.specs.Commands.{WithLog, RunsLog};
 
 use crate::answer::{Answer, GOOD, REFUSED};
 use crate::command_fault::{CommandFault, Unanswered};
-use crate::instances::load_instance;
-use crate::plans::load_plan;
+use crate::instances::instance;
+use crate::plans::plan;
 use crate::print::{end_line, push_fact, push_words};
-use crate::shapes::not_shaped_answer;
+use crate::shapes::not_shaped_told;
+use crate::texts::{Texts, ask};
 use run_log::{AuditFault, audit};
 use shop_base::{Moment, Plan, Shaped, Shop, shape};
 use std::alloc::{AllocError, Global};
 
-/// Whether a log tells a run of a plan for an instance, by any controller. Without a name the first text is one
-/// instance, else a collection with an instance of this name.
-pub fn audit_answer(
+/// Whether the log of a file tells a run of the plan of another for the instance of a third, by any controller. Without
+/// a name the first file tells one instance, else a collection with an instance of this name.
+pub fn audit_answer<T: Texts>(
     alloc: Global,
-    instance: &[u8],
+    texts: &mut T,
+    path: &str,
     name: Option<&[u8]>,
-    plan: &[u8],
-    log: &[u8],
+    plan_path: &str,
+    log: &str,
 ) -> Result<Answer, CommandFault>
-    ensures found { IfOk result (IsOfBoth instance.now (option_copied name.entry) plan.now (IsAuditLine log.now)) }
-    ensures only { (p : PlannedShop) → TellBoth instance.now (option_copied name.entry) plan.now p → Holds result (IsAuditLine log.now p) }
-    ensures fault { IfErr result (IsRightOfBoth instance.now (option_copied name.entry) plan.now) }
-    ensures first { (fault : OrFault) → IsFirstInstanceFault instance.now (option_copied name.entry) fault → IsInstanceRefusal result fault }
-    ensures second { (fault : PlanFault) → TellsAShop instance.now (option_copied name.entry) → IsFirstPlanFault plan.now fault → IsPlanRefusal result fault }
+    ensures { RunsLog T.gives IsLogLine path.now (option_copied name.entry) plan_path.now log.now texts.old result texts.new }
 {
-    let named = load_instance(alloc, instance, name)?;
-    audit_for(alloc, named.shop, plan, log)
+    let named = instance(alloc, texts, path, name)?;
+    let told = plan(alloc, texts, plan_path)?;
+    log_with(alloc, texts, named.shop, told, log)
 }
 
-/// Whether a log tells a run of a plan for a shop.
-fn audit_for(alloc: Global, shop: Shop, plan: &[u8], log: &[u8]) -> Result<Answer, CommandFault>
-    ensures found { IfOk result (IsOfPlan shop plan.now (IsAuditLine log.now)) }
-    ensures only { (told : ShopPlan) → IsPlanText plan.now told → Holds result (IsAuditLine log.now (record { shop = shop; plan = told })) }
-    ensures fault { IfErr result (IsRightPlanFault plan.now) }
-    ensures first { (fault : PlanFault) → IsFirstPlanFault plan.now fault → IsPlanRefusal result fault }
-{
-    let plan = load_plan(alloc, plan)?;
-    audit_line(alloc, shop, plan, log)
-}
-
-fn audit_line(alloc: Global, shop: Shop, plan: Plan, log: &[u8]) -> Result<Answer, CommandFault>
-    ensures line { IfOk result (IsAuditLine log.now (record { shop = shop; plan = plan })) }
-    ensures memory { IfErr result (λ fault. fault ≡ CommandFault.Memory) }
+fn log_with<T: Texts>(
+    alloc: Global,
+    texts: &mut T,
+    shop: Shop,
+    plan: Plan,
+    log: &str,
+) -> Result<Answer, CommandFault>
+    ensures { WithLog T.gives log.now IsLogLine (record { shop = shop; plan = plan }) texts.old result texts.new }
 {
     match shape(shop, plan) {
-        Ok(shaped) => log_answer(alloc, &shaped, log),
-        Err(refused) => Ok(not_shaped_answer(alloc, refused.fault)?),
+        Ok(shaped) => log_for(alloc, texts, &shaped, log),
+        Err(refused) => not_shaped_told(alloc, refused.fault),
     }
 }
 
+fn log_for<T: Texts>(
+    alloc: Global,
+    texts: &mut T,
+    shaped: &Shaped,
+    log: &str,
+) -> Result<Answer, CommandFault>
+    ensures { Then (Asks T.gives log.now) (λ text. Told (IsOrMemory (IsLogLine shaped.now text))) texts.old result texts.new }
+{
+    let text = ask(alloc, texts, log)?;
+    log_told(alloc, shaped, &text)
+}
+
+/// The line of the log that the text tells.
+fn log_told(alloc: Global, shaped: &Shaped, text: &[u8]) -> Result<Answer, CommandFault>
+    ensures { IsOrMemory (IsLogLine shaped.now text.now) result }
+{
+    log_answer(alloc, shaped, text)
+}
+
 /// The line of a log that is audited against a plan.
-pub fn log_answer(alloc: Global, shaped: &Shaped, log: &[u8]) -> Result<Answer, CommandFault>
+fn log_answer(alloc: Global, shaped: &Shaped, log: &[u8]) -> Result<Answer, CommandFault>
     ensures line { IfOk result (IsLogLine shaped.now log.now) }
     ensures memory { IfErr result (λ fault. fault ≡ CommandFault.Memory) }
 {

@@ -1,0 +1,13 @@
+use Rattle.std.proofs.Common.{◌++◌, ◌∙◌, take, arith, length-append}
+use Rattle.std.proofs.lemmas.List.{length-take-le}
+use Rattle.std.proofs.KnownBytes.{Consumes-trans}
+use Rattle.command_run.proofs.input.read_pieces.Goals as goal
+
+pub returns-then-count-left : goal.returns-then-count-left
+returns-then-count-left g c =
+    let piece = take c.in-Ok.count c.get.new.room in
+    let longer = length-append c.reads.text.items piece in
+    let taken = length-take-le c.in-Ok.count c.get.new.room c.in-Ok.ensures.count in
+    let so_far = c.reads.invariant.count in
+    let past = c.if-count-left.true in
+    (c.reads.text.items ++ piece, Consumes-trans _ _ _ _ _ c.reads.invariant.was_read c.in-Ok.ensures.given.0, omega (arith, longer, taken, so_far, past), c.in-Ok.ensures.unfailed ∙ c.reads.invariant.unfailed)
