@@ -261,6 +261,7 @@ function look_at_memory(i) {
 function look_at_mapping(i, j, end) {
   end = closing(i + 1)
   j = i + 2
+  if (token[i - 1] == "::") tell(i, "an error whose way isn't followed")
   if (token[j] == "move") j++
   if (token[j] != "|") {
     if (token[end - 1] != "from" && token[end - 1] !~ /^[A-Z]/) tell(i, "an error that isn't passed on by from")
@@ -283,19 +284,21 @@ function function_at(i, of_type) {
   return of_crate(file, token[i] == "new" ? of_type "::new" : token[i])
 }
 
-# notes where a name is given a value or may be: in a pattern, for a closure or a loop, by `=` and the like, or as `mut`
+# notes where a name is given a value or may be: in a pattern, for a closure or a loop, by `=` and the like, as `mut`, or as a
+# function within a function
 function note_binding(i, word) {
   if (word == "|" && !in_pattern()) bars = !bars && token[i - 1] ~ /^([(,={;[]|=>|move|return|else)$/
   if (word == "for") looping = 1
   if (word ~ /^(in|\{)$/) looping = 0
   if (word !~ /^[a-z_]/ || token[i - 1] == ".") return
-  if (in_pattern() || bars || looping || token[i - 1] == "mut" || token[i + 1] == "=" || token[i + 1] ~ /^[-+*\/%&|^<>]$/ && token[i + 2] ~ /^[<>]?=$/)
+  if (in_pattern() || bars || looping || token[i - 1] == "mut" || token[i - 1] == "fn" && in_function[open] || token[i + 1] == "=" || token[i + 1] ~ /^[-+*\/%&|^<>]$/ && token[i + 2] ~ /^[<>]?=$/)
     bound[word] = bound[word] " " i
 }
 
 # what the name at place i stands for: by all that the function says of it before, or as a constant of the file
 function given(i, before, text, place, count, j) {
-  if (token[i - 1] == "." || token[i] !~ /^[A-Za-z_]/ || token[i] == "mut") return ""
+  if (token[i - 1] ~ /^(\.|as)$/ || token[i] !~ /^[A-Za-z_]/ || token[i] == "mut") return ""
+  for (j = 1; j <= tokens; j++) if (token[j] == "as" && token[j + 1] == token[i]) text = ", " token[i] " = ?"
   if (token[i] !~ /[a-z]/) {
     for (j = 1; j <= tokens; j++) if (token[j] ~ /^(const|static)$/ && token[j + 1] == token[i]) text = text value_of(j + 1)
     return text
@@ -385,7 +388,7 @@ function look_at(i, word) {
   else if (word == "is_memory" && token[i - 1] == "fn") tell(i, "an error of ours that says that it is want of memory")
   else if (word == "Error" && using && from_fmt) tell(i, "what an AllocError could be made of")
   else if (word ~ /^(map_err|or_else)$/ && token[i + 1] == "(") look_at_mapping(i)
-  else if (word ~ drops && token[i - 1] == "." && token[i + 1] == "(") tell(i, "a call that may drop an error")
+  else if (word ~ drops && (token[i - 1] == "." && token[i + 1] == "(" || token[i - 1] == "::")) tell(i, "a call that may drop an error")
   else if (word == "unwrap_or" && caller(i - 2) !~ gives_option) tell(i, "a call that may drop an error")
   else if (word ~ asks && (using ? word ~ /^(from|repeat)/ : token[i - 1] == "::" && token[i + 1] != "(" || token[i - 1] == "." && token[i + 1] == "::")) tell(i, "a request for a capacity that isn't written as a call")
   else if (word ~ asks && token[i + 1] == "(" && token[i - 1] ~ /^(\.|::)$/) look_at_request(i, word)
