@@ -27,6 +27,12 @@ pub record IsGreatest (p : PlannedShop) (v : Node) (n : ℕ) : Type 0 where
   pub reached : (nodes : List Node) × Path p nodes v n
   pub longest : (nodes : List Node) (k : ℕ) → Path p nodes v k → k ≤ n
 
+-- a path of the greatest length to the node
+pub record IsLongestTo (p : PlannedShop) (v : Node) (nodes : List Node) : Type 0 where
+  pub size : ℕ
+  pub path : Path p nodes v size
+  pub greatest : IsGreatest p v size
+
 -- in every controlled run whose reports are punctual, job j, once it is gone, is gone since at most moment n
 abbrev pub IsNeverGoneAfter : PlannedShop → ℕ → ℕ → Type 0
 IsNeverGoneAfter p j n = (rs : List Report) (es : List Event) (end : Cell) → IsControlledRun p rs es end → ArePunctual p (start p) es → IsGone p end j → since end j ≤ n

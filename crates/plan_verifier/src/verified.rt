@@ -1,12 +1,13 @@
-ghost use Rattle.std.specs.Prelude.{◌≡◌, ◌<◌, ◌≤◌, max, MatchOption, IfSome};
+ghost use Rattle.std.specs.Prelude.{◌≡◌, ◌<◌, ◌≤◌, max, Ok, None, IfOk, IsSome, MatchOption, IfSome};
 ghost use Rattle.shop_base.specs.Plan.{jobs};
-ghost use Rattle.shop_base.specs.Graph.{leaving};
+ghost use Rattle.shop_base.specs.Graph.{leaving, Path};
 ghost use Rattle.shop_base.specs.ExactLaw.{IsNeverGoneBefore};
-ghost use Rattle.plan_verifier.specs.Accepted.{IsVerified, IsGreatest, IsMakespan, IsNeverGoneAfter, IsGoneJustAt, kept_at};
+ghost use Rattle.plan_verifier.specs.Accepted.{IsVerified, IsGreatest, IsLongestTo, IsMakespan, IsNeverGoneAfter, IsGoneJustAt, kept_at};
 
-use crate::leavings::leave_time;
+use crate::leavings::{leave_time, leaving_of};
 use alt_graph::Times;
-use shop_base::{JobNo, Moment, Shaped};
+use shop_base::{JobNo, Moment, Node, Shaped};
+use std::alloc::{AllocError, Global};
 use std::marker::Model;
 
 /// An accepted plan, with the ranks and the greatest lengths that show it. Made by [`crate::verify`] alone.
@@ -61,6 +62,24 @@ impl Verified {
             makespan = later(makespan, leave_time(&self.shaped, &self.times, job));
         }
         makespan
+    }
+
+    /// A path of the greatest length to the job's leaving, from some job's first place on: each move of it
+    /// waits for the one before it. None for a number that is no job's, which takes no memory.
+    pub fn chain(&self, alloc: Global, job: JobNo) -> Result<Option<Vec<Node>>, AllocError>
+        ensures outside { jobs self.now.planned ≤ job → result ≡ Ok None }
+        ensures inside { job < jobs self.now.planned → IfOk result IsSome }
+        ensures path { let v = self.now in
+            let last = leaving v.planned job in
+            IfOk result (λ found. IfSome found (λ nodes. Path v.planned nodes.items last (kept_at v last))) }
+        ensures longest { let p = self.now.planned in
+            IfOk result (λ found. IfSome found (λ nodes. IsLongestTo p (leaving p job) nodes.items)) }
+    {
+        if job < self.shaped.shop().jobs() {
+            self.times.chain(alloc, leaving_of(&self.shaped, job))
+        } else {
+            Ok(None)
+        }
     }
 
     /// The plan.

@@ -1,12 +1,14 @@
-//! The lines of a text, and the decimal numbers among their words.
+//! The lines of a text, the decimal numbers among their words, and a line that is written.
 #![tactic(auto)]
 
 mod cuts;
 mod limits;
+mod line_text;
 mod lines;
 mod numbers;
 
 pub use cuts::{after_prefix, cut_line, cut_word};
 pub use limits::MAX_INPUT;
+pub use line_text::LineText;
 pub use lines::{line_count, next_line, without_return};
 pub use numbers::{number_before_space, number_of, short_number_of};

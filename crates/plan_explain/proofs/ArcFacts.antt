@@ -1,0 +1,94 @@
+-- What arcs are told as, and how long paths are.
+use Rattle.std.proofs.Common.{◌≡◌, ◌≢◌, ◌==◌, ℕ, ◌+◌, ◌<◌, ◌≤◌, List, [], ◌∷◌, ◌++◌, if◌then◌else◌, arith, refl, sym, ap, subst, ◌∙◌}
+use Rattle.std.proofs.lemmas.Bool.{eq-eqb, eqb-true, false_from_ne_true}
+use Rattle.shop_base.specs.declared.node.Node.{Node}
+use Rattle.shop_base.specs.Plan.{PlannedShop, jobs, release, steps, clean, Stands, IsWellShaped}
+use Rattle.shop_base.specs.Graph.{node, Arc, job_arc, blocking_arc, HasArc, Path, begins, follows}
+use Rattle.shop_base.proofs.Visits.{visits-order}
+use Rattle.plan_explain.specs.Arcs.{time_of, told_arc, told_job_arc, told_blocking_arc}
+use Rattle.plan_explain.specs.Chains.{AreAlong, reached_at, length_from}
+
+pub told_job : (p : PlannedShop) (u v : Node) → u.job ≡ v.job → told_arc p u v ≡ told_job_arc p u
+told_job p u v same = ap (λ yes. if yes then told_job_arc p u else told_blocking_arc p u.job v) (eq-eqb u.job v.job same)
+
+pub told_blocking : (p : PlannedShop) (u v : Node) → u.job ≢ v.job → told_arc p u v ≡ told_blocking_arc p u.job v
+told_blocking p u v differ =
+    ap (λ yes. if yes then told_job_arc p u else told_blocking_arc p u.job v) (false_from_ne_true (u.job == v.job) (λ yes. differ (eqb-true u.job v.job yes)))
+
+-- no length is less than where it begins
+pub length_grows : (p : PlannedShop) (t : ℕ) (u : Node) (vs : List Node) → t ≤ length_from p t u vs
+length_grows p t u [] = omega arith
+length_grows p t u (v ∷ vs) = omega (arith, length_grows p (reached_at p t u v) v vs)
+
+-- the last of the nodes from u on
+abbrev pub last_from : Node → List Node → Node
+last_from u [] = u
+last_from u (v ∷ vs) = last_from v vs
+
+last_more : (u : Node) (us : List Node) (v : Node) → last_from u (us ++ v ∷ []) ≡ v
+last_more u [] v = refl
+last_more u (w ∷ ws) v = last_more w ws v
+
+module _ (p : PlannedShop) where
+  along_more : (u : Node) (us : List Node) (v : Node) → AreAlong p u us → HasArc p (last_from u us) v → AreAlong p u (us ++ v ∷ [])
+  along_more u [] v along arc = (arc, tt)
+  along_more u (w ∷ ws) v along arc = (along.0, along_more w ws v along.1 arc)
+
+  length_more : (t : ℕ) (u : Node) (us : List Node) (v : Node) → length_from p t u (us ++ v ∷ []) ≡ length_from p t u us + time_of (told_arc p (last_from u us) v)
+  length_more t u [] v = refl
+  length_more t u (w ∷ ws) v = length_more (reached_at p t u w) w ws v
+
+module _ (p : PlannedShop) (shaped : IsWellShaped p) where
+  -- a job doesn't stand behind itself
+  pub apart : (m a i k j l : ℕ) → Stands p m a i k → Stands p m (a + 1) j l → i ≢ j
+  apart m a i k j l one other same =
+      let twice : a ≡ a + 1 = (visits-order p j l m shaped other.visits).once a (a + 1) one.within other.within (one.job ∙ same ∙ sym other.job) in
+      omega arith
+
+  job_within : (u v : Node) (d : ℕ) → Arc p u v d → u.job ≡ v.job → u.place < steps p u.job
+  job_within _ _ _ (job_arc j k within) same = within
+  job_within _ _ _ (blocking_arc m a i k j l one other) same = absurd (apart m a i k j l one other same)
+
+  -- the arc from a place of a job to another of it is from one of its steps
+  pub job_step : (u v : Node) → u.job ≡ v.job → HasArc p u v → u.place < steps p u.job
+  job_step u v same arc = job_within u v arc.0 arc.1 same
+
+  -- an arc is as long as is told
+  pub arc_time : (u v : Node) (d : ℕ) → Arc p u v d → time_of (told_arc p u v) ≡ d
+  arc_time _ _ _ (job_arc j k within) = ap time_of (told_job p (node j k) (node j (k + 1)) refl)
+  arc_time _ _ _ (blocking_arc m a i k j l one other) =
+      ap time_of (told_blocking p (node i (k + 1)) (node j l) (apart m a i k j l one other)) ∙ ap (clean p) other.visits.here
+
+blocking_within : (p : PlannedShop) (u v : Node) (d : ℕ) → Arc p u v d → u.job ≢ v.job → v.place < steps p v.job
+blocking_within p _ _ _ (job_arc j k within) differ = absurd (differ refl)
+blocking_within p _ _ _ (blocking_arc m a i k j l one other) differ = other.visits.within
+
+-- the arc from one job to another leads to one of its steps
+pub blocking_step : (p : PlannedShop) (u v : Node) → u.job ≢ v.job → HasArc p u v → v.place < steps p v.job
+blocking_step p u v differ arc = blocking_within p u v arc.0 arc.1 differ
+
+-- what a path to v of length n is, from its first node on
+pub record IsLed (p : PlannedShop) (u : Node) (us : List Node) (v : Node) (n : ℕ) : Type 0 where
+  pub inside : u.job < jobs p
+  pub along : AreAlong p u us
+  pub ends : last_from u us ≡ v
+  pub size : length_from p (release p u.job) u us ≡ n
+
+abbrev pub IsLedPath : PlannedShop → List Node → Node → ℕ → Type 0
+IsLedPath p [] v n = ⊥
+IsLedPath p (u ∷ us) v n = IsLed p u us v n
+
+module _ (p : PlannedShop) (shaped : IsWellShaped p) where
+  led_more : (nodes : List Node) (u v : Node) (n d : ℕ) → Arc p u v d → IsLedPath p nodes u n → IsLedPath p (nodes ++ v ∷ []) v (n + d)
+  led_more [] u v n d arc led = absurd led
+  led_more (w ∷ ws) u v n d arc led = record {
+    inside = led.inside;
+    along = along_more p w ws v led.along (subst (λ (x : Node). HasArc p x v) (sym led.ends) (d, arc));
+    ends = last_more w ws v;
+    size = omega (arith, length_more p (release p w.job) w ws v, led.size, ap (λ (x : Node). time_of (told_arc p x v)) led.ends, arc_time p shaped u v d arc);
+  }
+
+  -- a path, from its first node on
+  pub path_led : (nodes : List Node) (v : Node) (n : ℕ) → Path p nodes v n → IsLedPath p nodes v n
+  path_led _ _ _ (begins j inside) = record { inside = inside; along = tt; ends = refl; size = refl }
+  path_led _ _ _ (follows nodes u v n d path arc) = led_more nodes u v n d arc (path_led nodes u n path)

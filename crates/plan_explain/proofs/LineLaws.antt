@@ -1,0 +1,70 @@
+-- What the lines of explanations say.
+use Rattle.std.proofs.Common.{◌≡◌, ℕ, ◌+◌, List, [], ◌∷◌, ◌++◌, refl, sym, ap, ◌∙◌}
+use Rattle.std.proofs.lemmas.List.{append-nil, append_assoc}
+use Rattle.shop_base.specs.declared.node.Node.{Node}
+use Rattle.shop_base.specs.Plan.{PlannedShop, release, clean, IsWellShaped}
+use Rattle.shop_base.specs.Graph.{node, Arc, HasArc, ArcsLead, Path, begins, follows, IsSimpleCycle}
+use Rattle.alt_graph.specs.Evidence.{EndsIn}
+use Rattle.plan_explain.specs.declared.arcs.ToldArc.TheVariants.{Blocking}
+use Rattle.plan_explain.specs.Arcs.{told_arc}
+use Rattle.plan_explain.specs.Cycles.{arc_line, arc_lines, cycle_lines}
+use Rattle.plan_explain.specs.Chains.{reached_at, length_from, release_line, reached_line, reached_lines, chain_lines}
+use Rattle.plan_explain.specs.LineLaws.{AreArcsTold, IsLineOf}
+use Rattle.plan_explain.proofs.ArcFacts.{told_job, told_blocking, apart, arc_time, last_from, IsLedPath, path_led}
+
+pub arcs_told : (p : PlannedShop) → IsWellShaped p → AreArcsTold p
+arcs_told p shaped = record {
+  job = λ j k within. told_job p (node j k) (node j (k + 1)) refl;
+  blocking = λ m a i k j l one other.
+      (told_blocking p (node i (k + 1)) (node j l) (apart p shaped m a i k j l one other) ∙ ap (λ n. Blocking n i j (clean p n)) other.visits.here);
+  time = λ u v d arc. arc_time p shaped u v d arc;
+}
+
+module _ (p : PlannedShop) where
+  -- the lines of nodes, and those of the nodes behind them
+  lines_behind : (t : ℕ) (u : Node) (us : List Node) (v : Node) (vs : List Node) →
+      reached_lines p t u (us ++ v ∷ vs) ≡ reached_lines p t u us ++ reached_lines p (length_from p t u us) (last_from u us) (v ∷ vs)
+  lines_behind t u [] v vs = refl
+  lines_behind t u (w ∷ ws) v vs =
+      let line = reached_line (reached_at p t u w) w (told_arc p u w) in
+      ap (λ l. line ++ l) (lines_behind (reached_at p t u w) w ws v vs) ∙ sym (append_assoc line _ _)
+
+  line_told : (shaped : IsWellShaped p) (path nodes : List Node) (u v : Node) (n d : ℕ) → IsLedPath p path u n → Arc p u v d
+      → chain_lines p (path ++ v ∷ nodes) ≡ chain_lines p path ++ (reached_line (n + d) v (told_arc p u v) ++ reached_lines p (n + d) v nodes)
+  line_told shaped [] nodes u v n d led arc = absurd led
+  line_told shaped (w ∷ ws) nodes u v n d led arc =
+      let first = release_line (release p w.job) w in
+      ap (λ l. first ++ l) (lines_behind (release p w.job) w ws v nodes)
+      ∙ sym (append_assoc first (reached_lines p (release p w.job) w ws) _)
+      ∙ ap (λ k. chain_lines p (w ∷ ws) ++ reached_lines p k (last_from w ws) (v ∷ nodes)) led.size
+      ∙ ap (λ (x : Node). chain_lines p (w ∷ ws) ++ reached_lines p n x (v ∷ nodes)) led.ends
+      ∙ ap (λ k. chain_lines p (w ∷ ws) ++ (reached_line (n + k) v (told_arc p u v) ++ reached_lines p (n + k) v nodes)) (arc_time p shaped u v d arc)
+
+  pub each_line : (path nodes : List Node) (u v : Node) (n d : ℕ) → IsWellShaped p → Path p path u n → Arc p u v d
+      → chain_lines p (path ++ v ∷ nodes) ≡ chain_lines p path ++ (reached_line (n + d) v (told_arc p u v) ++ reached_lines p (n + d) v nodes)
+  each_line path nodes u v n d shaped is arc = line_told shaped path nodes u v n d (path_led p shaped path u n is) arc
+
+  pub last_line : (nodes : List Node) (v : Node) (n : ℕ) → IsWellShaped p → Path p nodes v n → (lines last : List ℕ) × (chain_lines p nodes ≡ lines ++ last) × IsLineOf n v last
+  last_line _ _ _ shaped (begins j inside) = ([], release_line (release p j) (node j 0), append-nil _, (_, refl))
+  last_line _ _ _ shaped (follows nodes u v n d path arc) = (
+    chain_lines p nodes,
+    reached_line (n + d) v (told_arc p u v),
+    each_line nodes [] u v n d shaped path arc ∙ ap (λ l. chain_lines p nodes ++ l) (append-nil _),
+    (_, refl),
+  )
+
+  lines_close : (u : Node) (us : List Node) (v : Node) → ArcsLead p u us v
+      → (lines : List ℕ) × (last : Node) × (arc_lines p u us v ≡ lines ++ arc_line p last v) × EndsIn (u ∷ us) last × HasArc p last v
+  lines_close u [] v arc = ([], u, refl, ([], refl), arc)
+  lines_close u (w ∷ ws) v arcs =
+      let (lines, last, are, ends, arc) = lines_close w ws v arcs.1 in (
+        arc_line p u w ++ lines,
+        last,
+        ap (λ l. arc_line p u w ++ l) are ∙ sym (append_assoc (arc_line p u w) lines (arc_line p last v)),
+        (u ∷ ends.0, ap (λ (nodes : List Node). u ∷ nodes) ends.1),
+        arc,
+      )
+
+  pub cycle_closes : (first : Node) (rest : List Node) → IsSimpleCycle p (first ∷ rest)
+      → (lines : List ℕ) × (last : Node) × (cycle_lines p (first ∷ rest) ≡ lines ++ arc_line p last first) × EndsIn (first ∷ rest) last × HasArc p last first
+  cycle_closes first rest cycle = lines_close first rest first cycle.1

@@ -1,0 +1,37 @@
+-- The arcs of the graph in words.
+use Rattle.std.specs.Prelude.{ℕ, ◌==◌, if◌then◌else◌, List, [], ◌∷◌, ◌++◌, codes, decimal}
+use Rattle.shop_base.specs.declared.node.Node.{Node}
+use Rattle.shop_base.specs.Plan.{PlannedShop, machine_of, nominal, clean}
+use Rattle.plan_explain.specs.declared.arcs.ToldArc.{ToldArc}
+use Rattle.plan_explain.specs.declared.arcs.ToldArc.TheVariants.{Job, Blocking}
+
+-- the words one after another, and what is behind them
+abbrev pub before : List (List ℕ) → List ℕ → List ℕ
+before [] rest = rest
+before (word ∷ words) rest = word ++ before words rest
+
+-- how long the arc is
+abbrev pub time_of : ToldArc → ℕ
+time_of (Job job machine nominal) = nominal
+time_of (Blocking machine from to clean) = clean
+
+-- the cleaning time, where there is one
+abbrev pub clean_words : ℕ → List ℕ
+clean_words clean = if clean == 0 then [] else codes " cleaned for " ++ decimal clean
+
+-- `job J on machine M for P`, or `machine M from job I to job J`, with ` cleaned for C` where the machine has a cleaning time
+abbrev pub arc_words : ToldArc → List (List ℕ)
+arc_words (Job job machine nominal) = codes "job " ∷ decimal job ∷ codes " on machine " ∷ decimal machine ∷ codes " for " ∷ decimal nominal ∷ []
+arc_words (Blocking machine from to clean) = codes "machine " ∷ decimal machine ∷ codes " from job " ∷ decimal from ∷ codes " to job " ∷ decimal to ∷ clean_words clean ∷ []
+
+-- the arc from a place of a job to its next one
+abbrev pub told_job_arc : PlannedShop → Node → ToldArc
+told_job_arc p u = Job u.job (machine_of p u.job u.place) (nominal p u.job u.place)
+
+-- the arc by which v's job enters a machine after the job i
+abbrev pub told_blocking_arc : PlannedShop → ℕ → Node → ToldArc
+told_blocking_arc p i v = Blocking (machine_of p v.job v.place) i v.job (clean p (machine_of p v.job v.place))
+
+-- the arc from u to v
+abbrev pub told_arc : PlannedShop → Node → Node → ToldArc
+told_arc p u v = if u.job == v.job then told_job_arc p u else told_blocking_arc p u.job v

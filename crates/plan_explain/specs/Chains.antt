@@ -1,0 +1,52 @@
+-- The lines of a chain.
+use Rattle.std.specs.Prelude.{ℕ, ◌+◌, ◌^◌, ◌<◌, List, [], ◌∷◌, ◌++◌, codes, decimal}
+use Rattle.shop_base.specs.declared.node.Node.{Node}
+use Rattle.shop_base.specs.NodeText.{node_text}
+use Rattle.shop_base.specs.Plan.{PlannedShop, release}
+use Rattle.shop_base.specs.Graph.{HasArc, Path}
+use Rattle.plan_explain.specs.declared.arcs.ToldArc.{ToldArc}
+use Rattle.plan_explain.specs.Arcs.{before, time_of, arc_words, told_arc}
+
+-- when v is reached over the arc from u, which is reached at moment t
+abbrev pub reached_at : PlannedShop → ℕ → Node → Node → ℕ
+reached_at p t u v = t + time_of (told_arc p u v)
+
+-- when the last of the nodes is reached along arcs from u, which is reached at moment t
+abbrev pub length_from : PlannedShop → ℕ → Node → List Node → ℕ
+length_from p t u [] = t
+length_from p t u (v ∷ vs) = length_from p (reached_at p t u v) v vs
+
+-- the length of a path
+abbrev pub length_of : PlannedShop → List Node → ℕ
+length_of p [] = 0
+length_of p (u ∷ us) = length_from p (release p u.job) u us
+
+-- arcs lead from u along the nodes
+abbrev pub AreAlong : PlannedShop → Node → List Node → Type 0
+AreAlong p u [] = Unit {0}
+AreAlong p u (v ∷ vs) = HasArc p u v × AreAlong p v vs
+
+-- a path to some node, whose length is a moment
+pub record IsPath (p : PlannedShop) (nodes : List Node) : Type 0 where
+  pub last : Node
+  pub size : ℕ
+  pub path : Path p nodes last size
+  pub small : size < 2 ^ 64
+
+-- `R j.0 release of job J`
+abbrev pub release_line : ℕ → Node → List ℕ
+release_line release u = before (decimal release ∷ codes " " ∷ node_text u ∷ codes " release of job " ∷ decimal u.job ∷ []) (codes "\n")
+
+-- `T B WORDS`, of a node that is reached at moment t over the arc
+abbrev pub reached_line : ℕ → Node → ToldArc → List ℕ
+reached_line t v arc = before (decimal t ∷ codes " " ∷ node_text v ∷ codes " " ∷ []) (before (arc_words arc) (codes "\n"))
+
+-- the lines of the nodes along arcs from u, which is reached at moment t
+abbrev pub reached_lines : PlannedShop → ℕ → Node → List Node → List ℕ
+reached_lines p t u [] = []
+reached_lines p t u (v ∷ vs) = reached_line (reached_at p t u v) v (told_arc p u v) ++ reached_lines p (reached_at p t u v) v vs
+
+-- the lines of a chain: the release of the first job, and each further node, with the length of the path up to it
+abbrev pub chain_lines : PlannedShop → List Node → List ℕ
+chain_lines p [] = []
+chain_lines p (u ∷ us) = release_line (release p u.job) u ++ reached_lines p (release p u.job) u us

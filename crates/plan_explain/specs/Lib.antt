@@ -1,0 +1,7 @@
+pub mod Arcs
+pub mod FirstLines
+pub mod Cycles
+pub mod Chains
+pub mod Leavings
+pub mod Explained
+pub mod LineLaws

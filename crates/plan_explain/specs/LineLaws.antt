@@ -1,0 +1,40 @@
+-- What the lines of explanations say.
+use Rattle.std.specs.Prelude.{◌≡◌, ℕ, ◌+◌, ◌<◌, List, [], ◌∷◌, ◌++◌, codes, decimal}
+use Rattle.shop_base.specs.declared.node.Node.{Node}
+use Rattle.shop_base.specs.NodeText.{node_text}
+use Rattle.shop_base.specs.Plan.{PlannedShop, steps, machine_of, nominal, clean, Stands, IsWellShaped}
+use Rattle.shop_base.specs.Graph.{node, Arc, HasArc, Path, IsSimpleCycle}
+use Rattle.alt_graph.specs.Evidence.{EndsIn}
+use Rattle.plan_explain.specs.declared.arcs.ToldArc.TheVariants.{Job, Blocking}
+use Rattle.plan_explain.specs.Arcs.{before, time_of, told_arc}
+use Rattle.plan_explain.specs.Cycles.{arc_line, cycle_lines}
+use Rattle.plan_explain.specs.Chains.{reached_line, reached_lines, chain_lines}
+
+-- each arc of the plan is told as it is, and takes the time that is told
+pub record AreArcsTold (p : PlannedShop) : Type 0 where
+  pub job : (j k : ℕ) → k < steps p j → told_arc p (node j k) (node j (k + 1)) ≡ Job j (machine_of p j k) (nominal p j k)
+  pub blocking : (m a i k j l : ℕ) → Stands p m a i k → Stands p m (a + 1) j l → told_arc p (node i (k + 1)) (node j l) ≡ Blocking m i j (clean p m)
+  pub time : (u v : Node) (d : ℕ) → Arc p u v d → time_of (told_arc p u v) ≡ d
+
+-- of every well-shaped plan
+abbrev pub ArcsAreToldAsTheyAre : Type 0
+ArcsAreToldAsTheyAre = (p : PlannedShop) → IsWellShaped p → AreArcsTold p
+
+-- the line of a node behind a path tells the length of the path up to it, which is that of the path before and the arc between
+abbrev pub EachLineTellsThePathUpToIt : Type 0
+EachLineTellsThePathUpToIt = (p : PlannedShop) (path nodes : List Node) (u v : Node) (n d : ℕ) → IsWellShaped p → Path p path u n → Arc p u v d
+    → chain_lines p (path ++ v ∷ nodes) ≡ chain_lines p path ++ (reached_line (n + d) v (told_arc p u v) ++ reached_lines p (n + d) v nodes)
+
+-- the line begins with this moment and this node
+abbrev pub IsLineOf : ℕ → Node → List ℕ → Type 0
+IsLineOf n v line = (words : List ℕ) × (line ≡ before (decimal n ∷ codes " " ∷ node_text v ∷ []) words)
+
+-- the last line of a path's lines is of its last node, and tells its length
+abbrev pub TheLastLineTellsTheLength : Type 0
+TheLastLineTellsTheLength = (p : PlannedShop) (nodes : List Node) (v : Node) (n : ℕ) → IsWellShaped p → Path p nodes v n
+    → (lines last : List ℕ) × (chain_lines p nodes ≡ lines ++ last) × IsLineOf n v last
+
+-- the last line of a cycle's lines is of the arc from its last node to its first
+abbrev pub TheLinesOfACycleClose : Type 0
+TheLinesOfACycleClose = (p : PlannedShop) (first : Node) (rest : List Node) → IsSimpleCycle p (first ∷ rest)
+    → (lines : List ℕ) × (last : Node) × (cycle_lines p (first ∷ rest) ≡ lines ++ arc_line p last first) × EndsIn (first ∷ rest) last × HasArc p last first
