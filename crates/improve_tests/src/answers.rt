@@ -4,7 +4,7 @@ use crate::watched::Watched;
 use orlib_read::read_instance;
 use plan_improve::{Improver, NotImproved, improve};
 use plan_text::{plan_document, read_plan};
-use plan_verifier::{Verdict, Why};
+use plan_verifier::{Verdict, Verified, Why};
 use shop_base::{Plan, Shaped, shape};
 use std::alloc::Global;
 use std::test::Fail;
@@ -45,30 +45,34 @@ pub(crate) fn answer(
 ) -> Result<String, Fail> {
     match improve(alloc, start.shaped(alloc)?, improvers, rounds, watch) {
         Ok(verdict) => told(alloc, start, verdict),
-        Err(
-            NotImproved {
-                fault,
-                start: given,
-            },
-        ) => {
-            let mark = start.mark(alloc, &given)?;
-            Ok(format!(in alloc; "{fault}{mark}")?)
-        }
+        Err(refused) => handed_back(alloc, start, &refused),
     }
+}
+
+fn handed_back(alloc: Global, start: Start, refused: &NotImproved) -> Result<String, Fail> {
+    let fault = refused.fault;
+    let mark = start.mark(alloc, &refused.start)?;
+    Ok(format!(in alloc; "{fault}{mark}")?)
 }
 
 fn told(alloc: Global, start: Start, verdict: Verdict) -> Result<String, Fail> {
     match verdict {
-        Verdict::Accepted(verified) => {
-            let makespan = verified.makespan();
-            let mark = start.mark(alloc, verified.shaped())?;
-            Ok(format!(in alloc; "accepted {makespan}{mark}")?)
-        }
-        Verdict::Refused(shaped, Why::Late { job, leaves, .. }) => {
-            let mark = start.mark(alloc, &shaped)?;
-            Ok(format!(in alloc; "late {job} {leaves}{mark}")?)
-        }
-        Verdict::Refused(_, Why::Cycle(_)) => Ok(String::from_str(alloc, "cycle")?),
+        Verdict::Accepted(verified) => accepted(alloc, start, &verified),
+        Verdict::Refused(shaped, why) => refused(alloc, start, &shaped, &why),
+    }
+}
+
+fn accepted(alloc: Global, start: Start, verified: &Verified) -> Result<String, Fail> {
+    let makespan = verified.makespan();
+    let mark = start.mark(alloc, verified.shaped())?;
+    Ok(format!(in alloc; "accepted {makespan}{mark}")?)
+}
+
+fn refused(alloc: Global, start: Start, shaped: &Shaped, why: &Why) -> Result<String, Fail> {
+    let mark = start.mark(alloc, shaped)?;
+    match why {
+        Why::Late { job, leaves, .. } => Ok(format!(in alloc; "late {job} {leaves}{mark}")?),
+        Why::Cycle(_) => Ok(String::from_str(alloc, "cycle")?),
     }
 }
 
