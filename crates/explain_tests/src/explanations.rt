@@ -4,6 +4,7 @@ use plan_text::read_plan;
 use plan_verifier::{Verdict, Verified, verify};
 use shop_base::{JobNo, Shaped, shape};
 use std::alloc::Global;
+use std::process::Abort;
 use std::test::Fail;
 
 /// Two jobs on two machines, crossing: job 0 on machine 0 and then 1, job 1 the other way round.
@@ -179,7 +180,11 @@ fn a_late_job_of_ft06_is_told(rt: HostRuntime) -> Result<(), Fail> {
     Ok(())
 }
 
-fn accepted(rt: HostRuntime, instance: &[u8], plan: &[u8]) -> Result<Verified, Fail> {
+fn accepted(
+    rt: &(impl Abort + AllocGlobal),
+    instance: &[u8],
+    plan: &[u8],
+) -> Result<Verified, Fail> {
     match verify(rt.alloc(), planned(rt.alloc(), instance, plan)?) {
         Ok(Verdict::Accepted(verified)) => Ok(verified),
         _ => panic!(rt; "the plan isn't accepted"),
@@ -197,7 +202,7 @@ fn chain_length(alloc: Global, verified: &Verified, job: JobNo) -> Result<usize,
 #[test]
 fn chains_lead_to_the_leavings_of_jobs(rt: HostRuntime) -> Result<(), Fail> {
     let plan = b"release = [0, 0]\nbudget = [5, 10]\norder = [[0, 1], [0, 1]]\n";
-    let verified = accepted(rt, TWO, plan)?;
+    let verified = accepted(&rt, TWO, plan)?;
     assert_eq!(rt; chain_length(rt.alloc(), &verified, 0)?, 3);
     assert_eq!(rt; chain_length(rt.alloc(), &verified, 1)?, 6);
     assert_eq!(rt; chain_length(rt.alloc(), &verified, 2)?, 0);
