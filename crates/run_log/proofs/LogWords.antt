@@ -8,11 +8,11 @@ use Rattle.shop_base.specs.declared.move_order.MoveOrder.{MoveOrder}
 use Rattle.text_lines.specs.Numbers.{IsNumeral, IsNumberBefore, value_of}
 use Rattle.text_lines.specs.Cuts.{HasNone, IsCutAt}
 use Rattle.text_lines.proofs.FirstWords.{no_space}
-use Rattle.cell_control.specs.declared.report.Report.{Report}
-use Rattle.cell_control.specs.declared.report.Report.TheVariants.{Arrive, Finish, Clean}
-use Rattle.cell_control.specs.Reports.{said}
-use Rattle.run_log.specs.declared.entry.Entry.{Entry}
-use Rattle.run_log.specs.declared.entry.Entry.TheVariants.{Report as ReportEntry, Order as OrderEntry}
+use Rattle.cell_tables.specs.declared.report.Report.{Report}
+use Rattle.cell_tables.specs.declared.report.Report.TheVariants.{Arrive, Finish, Clean}
+use Rattle.cell_tables.specs.Reports.{said}
+use Rattle.cell_tables.specs.declared.entry.Entry.{Entry}
+use Rattle.cell_tables.specs.declared.entry.Entry.TheVariants.{Report as ReportEntry, Order as OrderEntry}
 use Rattle.run_log.specs.LogLines.{spaced_words, is_passed_over, IsSpotWord, AreSpotWords, AreEndWords, AreReportWords, AreOrderWords, IsEntryLine}
 use Rattle.run_log.specs.LogWords.{IsNumberFirst, HasNoNumberFirst, AreEndWordsAt, AreNoEndWords}
 use Rattle.run_log.proofs.SpacedWords.{words_first, words_one, words_back, numeral_one, spot_one}

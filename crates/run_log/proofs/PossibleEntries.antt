@@ -16,14 +16,13 @@ use Rattle.shop_base.proofs.Visits.{past_leaves}
 use Rattle.shop_base.proofs.Keeping.{target_free}
 use Rattle.shop_base.proofs.CellFacts.{target_visited, visits_target}
 use Rattle.shop_base.proofs.Decisions.{leaving-keeps}
-use Rattle.cell_control.specs.declared.tables.Tables.{Tables}
-use Rattle.cell_control.specs.Tables.{cell_of, AreTables}
-use Rattle.cell_control.proofs.Moves.{entries-more}
-use Rattle.run_log.specs.declared.entry.Entry.{Entry}
-use Rattle.run_log.specs.declared.entry.Entry.TheVariants.{Report as ReportEntry, Order as OrderEntry}
+use Rattle.shop_base.specs.Sound.{IsSound}
+use Rattle.shop_base.proofs.Places.{prefix_grows}
+use Rattle.cell_tables.specs.declared.entry.Entry.{Entry}
+use Rattle.cell_tables.specs.declared.entry.Entry.TheVariants.{Report as ReportEntry, Order as OrderEntry}
 use Rattle.run_log.specs.declared.audit_fault.AuditFault.{AuditFault}
 use Rattle.run_log.specs.declared.audit_fault.AuditFault.TheVariants.{BadLine, NotExpected, Backwards, NotReady, Occupied, OutOfOrder, WrongPlace, NotClean, Memory}
-use Rattle.run_log.specs.Events.{event_of}
+use Rattle.cell_tables.specs.Events.{event_of}
 use Rattle.run_log.specs.Audits.{IsGoingOn, IsOpen, IsItsWay, IsTimely, IsTargetFault, IsWayFault, IsFaultOf}
 
 -- the operation of a job that is on a machine goes on there alone
@@ -60,25 +59,20 @@ uncleaned : (c : Cell) (m : ℕ) (from : Option ℕ) → from ≡ cleaning c m �
 uncleaned c m None is none = sym is
 uncleaned c m (Some s) is none = absurd (cc)
 
-next_begins : (p : PlannedShop) (t : Tables) (m j : ℕ) (next : Option ℕ) → AreTables p t → m < machines p
-    → MatchOption next (length (order p m) ≤ length (entries (cell_of p t) m)) (λ i. (length (entries (cell_of p t) m) < length (order p m)) × (job_at p m (length (entries (cell_of p t) m)) ≡ i))
-    → option_eq eqb next (Some j) ≡ true → IsPrefix (entries (cell_of p t) m ++ j ∷ []) (order p m)
-next_begins p t m j None tables inside past same = absurd (cc)
-next_begins p t m j (Some i) tables inside is same =
-    let n = length (entries (cell_of p t) m) in
-    let job : job_at p m n ≡ j = is.1 ∙ eqb-true i j same in (
-      drop (n + 1) (order p m),
-      sym (take-append-drop (n + 1) (order p m)) ∙ ap (λ (front : List ℕ). front ++ drop (n + 1) (order p m)) (entries-more p t m n j tables inside refl is.0 job),
-    )
+next_begins : (p : PlannedShop) (c : Cell) (m j : ℕ) (next : Option ℕ) → IsSound p c
+    → MatchOption next (length (order p m) ≤ length (entries c m)) (λ i. (length (entries c m) < length (order p m)) × (job_at p m (length (entries c m)) ≡ i))
+    → option_eq eqb next (Some j) ≡ true → IsPrefix (entries c m ++ j ∷ []) (order p m)
+next_begins p c m j None sound past same = absurd (cc)
+next_begins p c m j (Some i) sound is same = prefix_grows (entries c m) (order p m) j (sound.in_order m) is.0 (is.1 ∙ eqb-true i j same)
 
-pub open_there : (p : PlannedShop) (t : Tables) (spot : Spot) (m j : ℕ) (holder from next : Option ℕ) → AreTables p t → m < machines p → spot ≡ At m
-    → MatchOption holder (IsFree p (cell_of p t) m) (λ i. IsOn p (cell_of p t) i (made (cell_of p t) i - 1) m) → is_some holder ≡ false
-    → from ≡ cleaning (cell_of p t) m → is_some from ≡ false
-    → MatchOption next (length (order p m) ≤ length (entries (cell_of p t) m)) (λ i. (length (entries (cell_of p t) m) < length (order p m)) × (job_at p m (length (entries (cell_of p t) m)) ≡ i))
-    → option_eq eqb next (Some j) ≡ true → IsOpen p (cell_of p t) spot j
-open_there p t spot m j holder from next tables inside at held unheld is clean found same =
-    subst (λ (s : Spot). IsOpen p (cell_of p t) s j) (sym at)
-    (free_unheld p (cell_of p t) m holder held unheld, uncleaned (cell_of p t) m from is clean, next_begins p t m j next tables inside found same)
+pub open_there : (p : PlannedShop) (c : Cell) (spot : Spot) (m j : ℕ) (holder from next : Option ℕ) → IsSound p c → spot ≡ At m
+    → MatchOption holder (IsFree p c m) (λ i. IsOn p c i (made c i - 1) m) → is_some holder ≡ false
+    → from ≡ cleaning c m → is_some from ≡ false
+    → MatchOption next (length (order p m) ≤ length (entries c m)) (λ i. (length (entries c m) < length (order p m)) × (job_at p m (length (entries c m)) ≡ i))
+    → option_eq eqb next (Some j) ≡ true → IsOpen p c spot j
+open_there p c spot m j holder from next sound at held unheld is clean found same =
+    subst (λ (s : Spot). IsOpen p c s j) (sym at)
+    (free_unheld p c m holder held unheld, uncleaned c m from is clean, next_begins p c m j next sound found same)
 
 -- ---- orders
 

@@ -9,13 +9,13 @@ use Rattle.shop_base.specs.Activity.{Activity, GoesOn}
 use Rattle.shop_base.specs.Move.{IsPrefix, source, target}
 use Rattle.shop_base.specs.Run.{IsRun, ends_in}
 use Rattle.shop_base.specs.Ends.{HasEnded, stated_number, reports_in, moves_in}
-use Rattle.cell_control.specs.Reports.{said}
-use Rattle.run_log.specs.declared.entry.Entry.{Entry}
-use Rattle.run_log.specs.declared.entry.Entry.TheVariants.{Report as ReportEntry, Order as OrderEntry}
+use Rattle.cell_tables.specs.Reports.{said}
+use Rattle.cell_tables.specs.declared.entry.Entry.{Entry}
+use Rattle.cell_tables.specs.declared.entry.Entry.TheVariants.{Report as ReportEntry, Order as OrderEntry}
 use Rattle.run_log.specs.declared.audit_fault.AuditFault.{AuditFault}
 use Rattle.run_log.specs.declared.audit_fault.AuditFault.TheVariants.{BadLine, NotExpected, Backwards, NotReady, Occupied, OutOfOrder, WrongPlace, NotClean, Memory}
-use Rattle.run_log.specs.declared.audited.Audit.{Audit}
-use Rattle.run_log.specs.Events.{events_of}
+use Rattle.run_log.specs.declared.audit_result.Audit.{Audit}
+use Rattle.cell_tables.specs.Events.{events_of}
 use Rattle.run_log.specs.LogLines.{is_passed_over, IsEntryLine, IsEntryOf, LineTells, LinesTell}
 
 -- the activity is going on

@@ -4,10 +4,10 @@ use Rattle.std.specs.List.{flat_map}
 use Rattle.shop_base.specs.declared.move_order.Spot.{Spot}
 use Rattle.shop_base.specs.declared.move_order.Spot.TheVariants.{Out, At}
 use Rattle.shop_base.specs.declared.move_order.MoveOrder.{MoveOrder}
-use Rattle.cell_control.specs.declared.report.Report.{Report}
-use Rattle.cell_control.specs.declared.report.Report.TheVariants.{Arrive, Finish, Clean}
-use Rattle.run_log.specs.declared.entry.Entry.{Entry}
-use Rattle.run_log.specs.declared.entry.Entry.TheVariants.{Report as ReportEntry, Order as OrderEntry}
+use Rattle.cell_tables.specs.declared.report.Report.{Report}
+use Rattle.cell_tables.specs.declared.report.Report.TheVariants.{Arrive, Finish, Clean}
+use Rattle.cell_tables.specs.declared.entry.Entry.{Entry}
+use Rattle.cell_tables.specs.declared.entry.Entry.TheVariants.{Report as ReportEntry, Order as OrderEntry}
 
 -- words with one space between them, and a line feed at the end
 abbrev pub spaced_line : List (List ℕ) → List ℕ

@@ -2,7 +2,6 @@ pub mod Sinks
 pub mod Devices
 pub mod EventLines
 pub mod Log
-pub mod Events
 pub mod LogLines
 pub mod LogWords
 pub mod Audits

@@ -4,11 +4,10 @@ ghost use Rattle.std.specs.Prelude.{◌≡◌, ◌+◌, ◌≤◌, [], ◌∷◌
 ghost use Rattle.run_log.specs.Sinks.{Wrote};
 ghost use Rattle.run_log.specs.EventLines.{spot_word, report_line, order_line, entry_line, entry_lines};
 
-use crate::entry::Entry;
 use crate::line_text::LineText;
 use crate::sink::{Sink, WriteFault};
 use crate::writing::put_all;
-use cell_control::Report;
+use cell_tables::{Entry, Report};
 use shop_base::{JobNo, MachineNo, Moment, MoveOrder, Spot};
 
 #[inline(always)]

@@ -2,28 +2,28 @@
 #![tactic(auto)]
 
 mod audit_fault;
-mod audited;
+mod audit_result;
+mod audited_run;
 mod auditing;
 mod ended;
-mod entry;
+mod entry_check;
+mod entry_room;
 mod event_lines;
-mod happening;
 mod into_sink;
 mod line_text;
 mod log_fault;
 mod log_lines;
-mod run_entries;
+mod run_log;
 mod sink;
 mod writing;
 
 pub use audit_fault::AuditFault;
-pub use audited::Audit;
+pub use audit_result::Audit;
 pub use auditing::audit;
-pub use entry::Entry;
 pub use event_lines::{put_order, put_report, write_lines};
 pub use into_sink::IntoSink;
 pub use line_text::LineText;
 pub use log_fault::LogFault;
-pub use run_entries::RunLog;
+pub use run_log::RunLog;
 pub use sink::{Sink, WriteFault};
 pub use writing::put_all;

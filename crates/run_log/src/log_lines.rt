@@ -1,12 +1,11 @@
 //! The entries that the lines of a log tell.
 
 ghost use Rattle.std.specs.Prelude.{◌≡◌, ◌^◌, ◌<◌, ◌≤◌, ◌↔◌, [], ◌∷◌, codes, MatchOption, IfSome, IsTrue};
-ghost use Rattle.cell_control.specs.Moving.{IsSpotOf};
+ghost use Rattle.cell_tables.specs.Moving.{IsSpotOf};
 ghost use Rattle.run_log.specs.LogLines.{spaced_words, is_passed_over, IsSpotWord, AreSpotWords, AreReportWords, AreOrderWords, IsEntryLine, AreEndsOf, IsEntryOf, LineTells};
 ghost use Rattle.run_log.specs.LogWords.{IsNumberFirst, HasNoNumberFirst, AreEndWordsAt, AreNoEndWords};
 
-use crate::entry::Entry;
-use cell_control::Report;
+use cell_tables::{Entry, Report};
 use shop_base::limits::MAX_MOMENT;
 use shop_base::readers::{job_count, machine_count};
 use shop_base::{JobNo, Moment, MoveOrder, Shaped, Spot};

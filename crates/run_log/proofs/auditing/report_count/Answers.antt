@@ -1,6 +1,6 @@
 use Rattle.std.proofs.Common.{◌≡◌, ℕ, ◌+◌, take, sym, ap, ◌∙◌, arith}
 use Rattle.shop_base.specs.Ends.{reports_in}
-use Rattle.run_log.specs.Events.{events_of}
+use Rattle.cell_tables.specs.Events.{events_of}
 use Rattle.run_log.proofs.Audits.{reports-more}
 use Rattle.run_log.proofs.auditing.report_count.Goals as goal
 

@@ -1,6 +1,6 @@
 use Rattle.std.proofs.Common.{◌≡◌, ◌≤◌, take}
 use Rattle.shop_base.specs.Ends.{reports_in}
-use Rattle.run_log.specs.Events.{events_of}
+use Rattle.cell_tables.specs.Events.{events_of}
 use Rattle.run_log.proofs.auditing.report_count.Given as goal
 
 abbrev pub invariant-loop-entry : goal.invariant-loop-entry

@@ -1,9 +1,0 @@
-use cell_control::Report;
-use shop_base::MoveOrder;
-
-/// An event of a run: a report that was accepted, or a move that was ordered.
-#[derive(Clone, Copy, Debug, PartialEq, Eq)]
-pub enum Entry {
-    Report(Report),
-    Order(MoveOrder),
-}
