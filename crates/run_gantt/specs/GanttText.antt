@@ -1,7 +1,7 @@
 -- The Gantt text of a list of entries.
 use Rattle.std.specs.Prelude.{ℕ, ◌+◌, ◌*◌, ◌/◌, ◌%◌, nat_lt, nat_le, Bool, true, ◌&&◌, if◌then◌else◌, List, ◌++◌, map, flat_map, codes, decimal, Option, None, Some}
 use Rattle.std.specs.List.{range_with_len}
-use Rattle.run_log.specs.declared.entry.Entry.{Entry}
+use Rattle.cell_tables.specs.declared.entry.Entry.{Entry}
 use Rattle.run_gantt.specs.declared.visit.Visit.{Visit}
 use Rattle.run_gantt.specs.Visits.{first_of, last_of, visits_to}
 

@@ -1,7 +1,7 @@
 -- What the later entries tell of each job on each machine, kept in a table while the entries are gone through from the last to the first.
 use Rattle.std.specs.Prelude.{◌≡◌, ℕ, ◌+◌, ◌*◌, ◌<◌, List, length, slice_index_or, None}
 use Rattle.shop_base.specs.declared.limits.TheConstants.{MAX_MACHINES}
-use Rattle.run_log.specs.declared.entry.Entry.{Entry}
+use Rattle.cell_tables.specs.declared.entry.Entry.{Entry}
 use Rattle.run_gantt.specs.declared.visit_ends.VisitEnd.{VisitEnd}
 use Rattle.run_gantt.specs.Visits.{visit_end}
 

@@ -2,12 +2,11 @@
 
 ghost use Rattle.std.specs.Prelude.{◌≡◌, ◌<◌, ◌≤◌, ◌+◌, ◌*◌, List, [], ◌∷◌, length, IfOk, MatchOption};
 ghost use Rattle.shop_base.specs.declared.limits.TheConstants.{MAX_JOBS, MAX_MACHINES};
-ghost use Rattle.run_log.specs.declared.entry.Entry.{Entry};
+ghost use Rattle.cell_tables.specs.declared.entry.Entry.{Entry};
 ghost use Rattle.run_gantt.specs.Visits.{or_else, finish_told, leave_told, visit_end};
 ghost use Rattle.run_gantt.specs.VisitEnds.{IsPlace, AreVisitEnds};
 
-use cell_control::Report;
-use run_log::Entry;
+use cell_tables::{Entry, Report};
 use shop_base::limits::MAX_MACHINES;
 use shop_base::{JobNo, MachineNo, Moment, MoveOrder, Spot};
 use std::alloc::{AllocError, Global};

@@ -7,7 +7,7 @@ ghost use Rattle.run_gantt.specs.LinkedVisits.{HasVisits};
 
 use crate::visit::Visit;
 use crate::visit_ends::{VisitEnd, no_visit_ends, note_visit_end, visit_end_at};
-use run_log::Entry;
+use cell_tables::Entry;
 use shop_base::readers::{job_count, machine_count};
 use shop_base::{MachineNo, Shaped, Spot};
 use std::alloc::{AllocError, Global};
