@@ -7,17 +7,18 @@ use Rattle.shop_base.specs.Plan.{jobs}
 use Rattle.shop_base.specs.Cell.{Cell, start}
 use Rattle.shop_base.specs.Report.{Report}
 use Rattle.shop_base.specs.Run.{IsAtRest}
+use Rattle.shop_base.specs.Sound.{IsSound}
 use Rattle.shop_base.specs.Ends.{stated_number}
 use Rattle.shop_base.specs.ReportsLeft.{reports_left}
 use Rattle.shop_base.specs.KeptMoments.{KeepsMoments}
 use Rattle.shop_base.proofs.Keeping.{start-sound}
-use Rattle.shop_base.proofs.ControlledRuns.{start_at_rest}
+use Rattle.shop_base.proofs.ControlledRuns.{start_at_rest, after_step-sound}
 use Rattle.shop_base.proofs.ReportsLeft.{start-reports_left, after_step-reports_left}
 use Rattle.shop_base.proofs.InTime.{start-keeps_moments, step-keeps_moments}
 use Rattle.plan_verifier.specs.Accepted.{VerifiedPlan, IsVerified, kept_at, rank_in}
 use Rattle.cell_control.specs.declared.report.Ack.{Ack}
-use Rattle.cell_control.specs.declared.tables.Tables.{Tables}
-use Rattle.cell_control.specs.Tables.{cell_of, AreTables, AreSound}
+use Rattle.cell_tables.specs.PlannedCell as planned
+use Rattle.cell_tables.specs.PlannedCell.{PlannedCell}
 use Rattle.cell_control.specs.Ties.{AreTied}
 use Rattle.cell_control.specs.Steps.{IsMade}
 use Rattle.cell_control.specs.Control.{Control, at_start, IsAnswered, IsControl}
@@ -39,46 +40,53 @@ start_control v verified = record {
 }
 
 -- it stands for the start
-pub start_is : (v : VerifiedPlan) (tables : Tables) (orders : SmallVec MoveOrder) → cell_of v.planned tables ≡ start v.planned → orders.items ≡ []
-    → control_of v tables orders.items 0 true ≡ at_start v
-start_is v tables orders is none =
-    ap (λ (os : List MoveOrder). control_of v tables os 0 true) none
-    ∙ ap (λ (c : Cell). let w : Control = record { plan = v; cell = c; orders = []; accepted = 0; punctual = true } in w) is
+pub start_is : (v : VerifiedPlan) (c : PlannedCell VerifiedPlan) (orders : SmallVec MoveOrder) → c ≡ planned.at_start v v.planned → orders.items ≡ []
+    → control_of c orders.items 0 true ≡ at_start v
+start_is v c orders is none =
+    ap (λ (os : List MoveOrder). control_of c os 0 true) none ∙ ap (λ (x : PlannedCell VerifiedPlan). control_of x [] 0 true) is
 
 -- a controller at the start
-pub fields_at_start : (v : VerifiedPlan) (tables : Tables) (dues : List (Option ℕ)) (orders : SmallVec MoveOrder) (left : ℕ) → IsVerified v
-    → AreTables v.planned tables → cell_of v.planned tables ≡ start v.planned → AreTied v.planned (start v.planned) dues → orders.items ≡ [] → orders.capacity ≡ max 4 (jobs v.planned)
-    → left ≡ stated_number v.planned → left < 2 ^ 64 → AreFieldsOf v tables dues orders 0 left true
-fields_at_start v tables dues orders left verified rows is tied none room stated fits = record {
-  control = subst IsControl (sym (start_is v tables orders is none)) (start_control v verified);
-  rows = rows;
-  tied = subst (λ c. AreTied v.planned c dues) (sym is) tied;
+pub fields_at_start : (v : VerifiedPlan) (c : PlannedCell VerifiedPlan) (dues : List (Option ℕ)) (orders : SmallVec MoveOrder) (left : ℕ) → IsVerified v
+    → c ≡ planned.at_start v v.planned → AreTied v.planned (start v.planned) dues → orders.items ≡ [] → orders.capacity ≡ max 4 (jobs v.planned)
+    → left ≡ stated_number v.planned → left < 2 ^ 64 → AreFieldsOf c dues orders 0 left true
+fields_at_start v c dues orders left verified is tied none room stated fits = rw is (record {
+  plan = refl;
+  control = subst IsControl (sym (start_is v (planned.at_start v v.planned) orders refl none)) (start_control v verified);
+  tied = tied;
   counts = omega arith;
   fits = omega arith;
   room = room;
-}
+})
 
 -- a step makes of a controller what its answer says
-pub answered : (v : VerifiedPlan) (old new : Tables) (before more : List MoveOrder) (accepted : ℕ) (punctual : Bool) (r : Report) (ack : Ack)
-    → IsMade v.planned (cell_of v.planned old) r ack more (cell_of v.planned new)
-    → IsAnswered (control_of v old before accepted punctual) r ack (control_of v new more (accepted + 1) (punctual && not ack.late))
-answered v old new before more accepted punctual r ack made = record {
-  movers = made.movers;
-  step = made.step;
-  plan = refl;
-  cell = made.leads;
-  orders = made.orders_are;
-  accepted = refl;
-  late = made.late;
-  punctual = refl;
-}
+pub answered : (old new : PlannedCell VerifiedPlan) (before more : List MoveOrder) (accepted : ℕ) (punctual : Bool) (r : Report) (ack : Ack)
+    → old.plan ≡ old.basis.planned → new ≡ record old { cell = new.cell } → IsMade old.plan old.cell r ack more new.cell
+    → IsAnswered (control_of old before accepted punctual) r ack (control_of new more (accepted + 1) (punctual && not ack.late))
+answered old new before more accepted punctual r ack is same step =
+    let made : IsMade old.basis.planned old.cell r ack more new.cell = subst (λ p. IsMade p old.cell r ack more new.cell) is step in
+    record {
+      movers = made.movers;
+      step = made.step;
+      plan = ap (λ (x : PlannedCell VerifiedPlan). x.basis) same;
+      cell = made.leads;
+      orders = made.orders_are;
+      accepted = refl;
+      late = made.late;
+      punctual = refl;
+    }
 
-module _ (v : VerifiedPlan) (old : Tables) (dues : List (Option ℕ)) (orders : SmallVec MoveOrder) (accepted left : ℕ) (punctual : Bool) (fields : AreFieldsOf v old dues orders accepted left punctual)
-    (new : Tables) (r : Report) (ack : Ack) (items : List MoveOrder) (made : IsMade v.planned (cell_of v.planned old) r ack items (cell_of v.planned new)) where
+module _ (old : PlannedCell VerifiedPlan) (dues : List (Option ℕ)) (orders : SmallVec MoveOrder) (accepted left : ℕ) (punctual : Bool) (fields : AreFieldsOf old dues orders accepted left punctual)
+    (new : PlannedCell VerifiedPlan) (r : Report) (ack : Ack) (items : List MoveOrder) (step : IsMade old.plan old.cell r ack items new.cell) where
+  abbrev v : VerifiedPlan
+  v = old.basis
+
+  made : IsMade v.planned old.cell r ack items new.cell
+  made = subst (λ p. IsMade p old.cell r ack items new.cell) fields.plan step
+
   -- one report less is to come
-  fewer : reports_left v.planned (cell_of v.planned new) + 1 ≡ reports_left v.planned (cell_of v.planned old)
+  fewer : reports_left v.planned new.cell + 1 ≡ reports_left v.planned old.cell
   fewer = ap (λ c. reports_left v.planned c + 1) made.leads
-      ∙ after_step-reports_left v.planned (cell_of v.planned old) r made.movers fields.rows.shaped fields.control.sound made.step
+      ∙ after_step-reports_left v.planned old.cell r made.movers fields.control.verified.schedule.shaped fields.control.sound made.step
 
   -- so there was one, and the counts stay within their type
   pub some_left : 0 < left
@@ -87,27 +95,27 @@ module _ (v : VerifiedPlan) (old : Tables) (dues : List (Option ℕ)) (orders : 
   pub counts_fit : accepted + 1 < 2 ^ 64
   counts_fit = omega (arith, some_left, fields.counts, fields.fits)
 
-  keeps : AreSound v.planned new → IsTrue (punctual && not ack.late) → KeepsMoments v.planned (kept_at v) (cell_of v.planned new)
-  keeps sound still =
+  keeps : IsTrue (punctual && not ack.late) → KeepsMoments v.planned (kept_at v) new.cell
+  keeps still =
       let (so_far, now) = both punctual ack.late still in
       subst (KeepsMoments v.planned (kept_at v)) (sym made.leads)
-      (step-keeps_moments v.planned (rank_in v) (kept_at v) (cell_of v.planned old) r made.movers fields.rows.shaped fields.control.verified.schedule.ranks
+      (step-keeps_moments v.planned (rank_in v) (kept_at v) old.cell r made.movers fields.control.verified.schedule.shaped fields.control.verified.schedule.ranks
       fields.control.verified.schedule.moments fields.control.sound fields.control.at_rest (fields.control.moments_kept so_far) made.step (made.late.0 now))
 
   -- what holds of a controller holds after a step
-  pub fields_after : (dues' : List (Option ℕ)) (orders' : SmallVec MoveOrder) → orders'.items ≡ items → orders'.capacity ≡ orders.capacity → AreSound v.planned new
-      → AreTied v.planned (cell_of v.planned new) dues' → AreFieldsOf v new dues' orders' (accepted + 1) (left - 1) (punctual && not ack.late)
-  fields_after dues' orders' same capacity sound tied = record {
+  pub fields_after : (dues' : List (Option ℕ)) (orders' : SmallVec MoveOrder) → orders'.items ≡ items → orders'.capacity ≡ orders.capacity → new ≡ record old { cell = new.cell }
+      → AreTied old.plan new.cell dues' → AreFieldsOf new dues' orders' (accepted + 1) (left - 1) (punctual && not ack.late)
+  fields_after dues' orders' item_same capacity same tied = subst (λ (x : PlannedCell VerifiedPlan). AreFieldsOf x dues' orders' (accepted + 1) (left - 1) (punctual && not ack.late)) (sym same) (record {
+    plan = fields.plan;
     control = record {
       verified = fields.control.verified;
-      sound = sound.sound;
+      sound = subst (IsSound v.planned) (sym made.leads) (after_step-sound v.planned old.cell r made.movers fields.control.verified.schedule.shaped fields.control.sound made.step);
       at_rest = subst (IsAtRest v.planned) (sym made.leads) made.step.rest;
       counted = omega (arith, fewer, fields.control.counted);
-      moments_kept = keeps sound;
+      moments_kept = keeps;
     };
-    rows = sound.tables;
     tied = tied;
     counts = omega (arith, some_left, fields.counts);
     fits = fields.fits;
     room = capacity ∙ fields.room;
-  }
+  })

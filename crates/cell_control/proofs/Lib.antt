@@ -1,10 +1,7 @@
 pub mod Earliest
 pub mod Trees
-pub mod Cells
-pub mod Writes
-pub mod Moves
-pub mod Tied
 pub mod Seats
+pub mod Tied
 pub mod Sequences
 pub mod Endings
 pub mod Reading

@@ -1,44 +1,42 @@
--- Who is where, as it is read: a job on a machine or on none, a machine that is held or free, and who can move.
-use Rattle.std.proofs.Common.{◌≡◌, ℕ, ◌-◌, ◌≤◌, ◌↔◌, length, Option, None, Some, Bool, true, false, not, refl, sym, subst, arith, inr}
-use Rattle.std.specs.Prelude.{MatchOption, IsTrue}
-use Rattle.std.proofs.lemmas.List.{nil_from_length}
-use Rattle.shop_base.specs.Plan.{PlannedShop, machines, job_at, Visits, Stands, IsWellShaped}
-use Rattle.shop_base.specs.Cell.{Cell, made, ready, entries, IsOn, IsFree}
-use Rattle.shop_base.specs.Move.{CanEnter, CanMove, KeepsPlan}
-use Rattle.shop_base.specs.Sound.{IsSound}
+-- Where a job is, as it is read: on a machine, outside, or on no machine that there is.
+use Rattle.std.proofs.Common.{◌≡◌, ℕ, ◌-◌, ◌≤◌, Option, None, Some, refl, sym, ◌∙◌, arith, ◌⊎◌, inl, inr}
+use Rattle.std.specs.Prelude.{MatchOption}
+use Rattle.std.proofs.lemmas.Bool.{cases_eq}
+use Rattle.shop_base.specs.declared.move_order.Spot.{Spot}
+use Rattle.shop_base.specs.declared.move_order.Spot.TheVariants.{Out, At}
+use Rattle.shop_base.specs.Plan.{PlannedShop, machines, steps, machine_of, IsWellShaped}
+use Rattle.shop_base.specs.Cell.{Cell, made, IsOutside, IsOn, IsFree}
+use Rattle.shop_base.specs.Move.{source}
 use Rattle.shop_base.proofs.Visits.{visits_machine}
-use Rattle.shop_base.proofs.Keeping.{target_place, target_free}
-use Rattle.shop_base.proofs.Decisions.{stands-keeps, moment_now}
-use Rattle.shop_base.proofs.CellFacts.{unentered_free, left_free}
+use Rattle.shop_base.proofs.CellFacts.{source_on, source_outside}
 
--- a machine that nobody has entered is free
-pub free_at_first : (p : PlannedShop) (c : Cell) (m n : ℕ) → IsWellShaped p → IsSound p c → n ≡ length (entries c m) → n ≡ 0 → IsFree p c m
-free_at_first p c m n shaped sound is none = unentered_free p c m shaped sound (nil_from_length (entries c m) (omega arith))
+-- a job has its source on a machine just where it is on it
+pub on_source : (p : PlannedShop) (c : Cell) (j m : ℕ) → made c j ≤ steps p j → source p c j ≡ At m → IsOn p c j (made c j - 1) m
+on_source p c j m within is = go (cases_eq (made c j) 0)
+  where
+    go : (made c j ≡ 0) ⊎ (made c j ≡ 0 → ⊥) → IsOn p c j (made c j - 1) m
+    go (inl outside) = absurd (differ (source_outside p c j outside))
+      where
+        differ : source p c j ≡ Out → ⊥
+        differ out = cc
+    go (inr inside) =
+        let k : ℕ = made c j - 1 in
+        let on : IsOn p c j k (machine_of p j k) = record { entered = omega (arith, inside); visits = record { within = omega (arith, inside); here = refl } } in
+        let same : At (machine_of p j k) ≡ At m = sym (source_on p c j k (machine_of p j k) on) ∙ is in
+        record { entered = on.entered; visits = record { within = on.visits.within; here = cc } }
 
--- a machine is free where its newest entrant isn't on it
-pub free_where_left : (p : PlannedShop) (c : Cell) (m n j : ℕ) → IsWellShaped p → IsSound p c → n ≡ length (entries c m) → (n ≡ 0 → ⊥)
-    → j ≡ job_at p m (n - 1) → (IsOn p c j (made c j - 1) m → ⊥) → IsFree p c m
-free_where_left p c m n j shaped sound is some newest off =
-    left_free p c m (n - 1) shaped sound (omega (arith, some)) λ k on.
-    let here : IsOn p c j k m = subst (λ i. IsOn p c i k m) (sym newest) on in
-    let last : k ≡ made c j - 1 = omega (arith, here.entered) in
-    off (subst (λ l. IsOn p c j l m) last here)
-
-pub so_true : (b : Bool) → not b ≡ false → b ≡ true
-so_true true is = refl
-so_true false is = cc
-
--- a ready job with a machine before it can move and keep the plan just where the machine takes it as the next
-pub moves-entering : (p : PlannedShop) (c : Cell) (j m : ℕ) (takes : Bool) → IsSound p c → ready c j ≡ true → Visits p j (made c j) m
-    → (IsTrue takes ↔ (CanEnter p c j m × Stands p m (length (entries c m)) j (made c j))) → (IsTrue takes ↔ (CanMove p c j c.last × KeepsPlan p c j))
-moves-entering p c j m takes sound is_ready visits entering = (
-  (λ yes_it. let (enters, stands) = entering.0 yes_it in
-      (record { is_ready = is_ready; way = inr (m, enters); moment = moment_now p c sound }, stands-keeps p c j m sound stands)),
-  λ both. entering.1 (
-    (let (free, is_clean) = target_free p c j c.last m both.0 visits in record { next = visits; free = free; is_clean = is_clean }),
-    target_place p c j m both.1 visits,
-  ),
-)
+pub outside_source : (p : PlannedShop) (c : Cell) (j : ℕ) → made c j ≤ steps p j → source p c j ≡ Out → IsOutside c j
+outside_source p c j within is = go (cases_eq (made c j) 0)
+  where
+    go : (made c j ≡ 0) ⊎ (made c j ≡ 0 → ⊥) → IsOutside c j
+    go (inl outside) = outside
+    go (inr inside) =
+        let k : ℕ = made c j - 1 in
+        let on : IsOn p c j k (machine_of p j k) = record { entered = omega (arith, inside); visits = record { within = omega (arith, inside); here = refl } } in
+        absurd (differ k (source_on p c j k (machine_of p j k) on))
+      where
+        differ : (k : ℕ) → source p c j ≡ At (machine_of p j k) → ⊥
+        differ k at = cc
 
 -- of the machine that a job is on, whichever its step
 pub held_at : (p : PlannedShop) (c : Cell) (m : ℕ) (holder : Option ℕ) → MatchOption holder (IsFree p c m) (λ j. IsOn p c j (made c j - 1) m)

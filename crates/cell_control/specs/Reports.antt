@@ -5,16 +5,8 @@ use Rattle.shop_base.specs.Cell.{Cell, ready, cleaning, IsOutside, IsOn, IsGone}
 use Rattle.shop_base.specs.Activity.{Activity, Arrival, Operation, Cleaning}
 use Rattle.shop_base.specs.Report as base
 use Rattle.shop_base.specs.Report.{IsNextMoment}
-use Rattle.cell_control.specs.declared.report.Report.{Report}
-use Rattle.cell_control.specs.declared.report.Report.TheVariants.{Arrive, Finish, Clean}
 use Rattle.cell_control.specs.declared.report_fault.ReportFault.{ReportFault}
 use Rattle.cell_control.specs.declared.report_fault.ReportFault.TheVariants.{JobOutOfRange, MachineOutOfRange, MomentTooLarge, Backwards, NotExpected, WrongKind, WrongMachine}
-
--- what a report says: which activity has ended, and when
-abbrev pub said : Report → base.Report
-said (Arrive job at) = record { ended = Arrival job; at = at }
-said (Finish job machine at) = record { ended = Operation job machine; at = at }
-said (Clean machine at) = record { ended = Cleaning machine; at = at }
 
 -- an activity of a job, or the cleaning of a machine, of the shop
 abbrev pub IsOfShop : PlannedShop → Activity → Type 0

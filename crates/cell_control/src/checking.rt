@@ -3,64 +3,55 @@
 ghost use Rattle.std.specs.Prelude.{OnOk, IfErr};
 ghost use Rattle.shop_base.specs.Activity.{Arrival, Operation, Cleaning};
 ghost use Rattle.shop_base.specs.Report.{CanReport, IsNextMoment};
-ghost use Rattle.cell_control.specs.Tables.{cell_of, AreTables};
-ghost use Rattle.cell_control.specs.Reports.{said, IsFirstReason, IsMomentReason, IsJobReason, IsBusyInTurn};
+ghost use Rattle.cell_tables.specs.Reports.{said};
+ghost use Rattle.cell_control.specs.Reports.{IsFirstReason, IsMomentReason, IsJobReason, IsBusyInTurn};
 
-use crate::places::machine_of;
-use crate::report::Report;
+use cell_tables::{Report, WorkCell};
 use crate::report_fault::ReportFault;
-use crate::tables::{Tables, cleaned_since, job_state};
 use shop_base::limits::MAX_MOMENT;
-use shop_base::readers::{job_count, machine_count, step_count};
-use shop_base::{JobNo, MachineNo, Moment, Shaped};
+use shop_base::{JobNo, MachineNo, Moment, Planned};
 
 /// Checks that the report is possible.
-pub(crate) fn check_report(
-    shaped: &Shaped,
-    tables: &Tables,
+pub(crate) fn check_report<P: Planned>(
+    cell: &WorkCell<P>,
     report: Report,
 ) -> Result<(), ReportFault>
-    requires { AreTables shaped.now tables.now }
-    ensures possible { OnOk result (CanReport shaped.now (cell_of shaped.now tables.now) (said report)) }
-    ensures first { IfErr result (IsFirstReason shaped.now (cell_of shaped.now tables.now) (said report)) }
+    ensures possible { OnOk result (CanReport cell.now.plan cell.now.cell (said report)) }
+    ensures first { IfErr result (IsFirstReason cell.now.plan cell.now.cell (said report)) }
 {
     match report {
-        Report::Arrive { job, at } => check_arrival(shaped, tables, job, at),
-        Report::Finish { job, machine, at } => check_finish(shaped, tables, job, machine, at),
-        Report::Clean { machine, at } => check_cleaning(shaped, tables, machine, at),
+        Report::Arrive { job, at } => check_arrival(cell, job, at),
+        Report::Finish { job, machine, at } => check_finish(cell, job, machine, at),
+        Report::Clean { machine, at } => check_cleaning(cell, machine, at),
     }
 }
 
-fn check_arrival(
-    shaped: &Shaped,
-    tables: &Tables,
+fn check_arrival<P: Planned>(
+    cell: &WorkCell<P>,
     job: JobNo,
     at: Moment,
 ) -> Result<(), ReportFault>
-    requires { AreTables shaped.now tables.now }
-    ensures possible { OnOk result (CanReport shaped.now (cell_of shaped.now tables.now) (record { ended = Arrival job; at = at })) }
-    ensures first { IfErr result (IsFirstReason shaped.now (cell_of shaped.now tables.now) (record { ended = Arrival job; at = at })) }
+    ensures possible { OnOk result (CanReport cell.now.plan cell.now.cell (record { ended = Arrival job; at = at })) }
+    ensures first { IfErr result (IsFirstReason cell.now.plan cell.now.cell (record { ended = Arrival job; at = at })) }
 {
-    check_job(shaped, tables, job, at)?;
-    match machine_of(shaped, tables, job) {
+    check_job(cell, job, at)?;
+    match cell.machine_of(job) {
         None => Ok(()),
         Some(_) => Err(ReportFault::WrongKind),
     }
 }
 
-fn check_finish(
-    shaped: &Shaped,
-    tables: &Tables,
+fn check_finish<P: Planned>(
+    cell: &WorkCell<P>,
     job: JobNo,
     machine: MachineNo,
     at: Moment,
 ) -> Result<(), ReportFault>
-    requires { AreTables shaped.now tables.now }
-    ensures possible { OnOk result (CanReport shaped.now (cell_of shaped.now tables.now) (record { ended = Operation job machine; at = at })) }
-    ensures first { IfErr result (IsFirstReason shaped.now (cell_of shaped.now tables.now) (record { ended = Operation job machine; at = at })) }
+    ensures possible { OnOk result (CanReport cell.now.plan cell.now.cell (record { ended = Operation job machine; at = at })) }
+    ensures first { IfErr result (IsFirstReason cell.now.plan cell.now.cell (record { ended = Operation job machine; at = at })) }
 {
-    check_job(shaped, tables, job, at)?;
-    let Some(actual) = machine_of(shaped, tables, job) else {
+    check_job(cell, job, at)?;
+    let Some(actual) = cell.machine_of(job) else {
         return Err(ReportFault::WrongKind);
     };
     if actual != machine {
@@ -69,54 +60,50 @@ fn check_finish(
     Ok(())
 }
 
-fn check_cleaning(
-    shaped: &Shaped,
-    tables: &Tables,
+fn check_cleaning<P: Planned>(
+    cell: &WorkCell<P>,
     machine: MachineNo,
     at: Moment,
 ) -> Result<(), ReportFault>
-    requires { AreTables shaped.now tables.now }
-    ensures possible { OnOk result (CanReport shaped.now (cell_of shaped.now tables.now) (record { ended = Cleaning machine; at = at })) }
-    ensures first { IfErr result (IsFirstReason shaped.now (cell_of shaped.now tables.now) (record { ended = Cleaning machine; at = at })) }
+    ensures possible { OnOk result (CanReport cell.now.plan cell.now.cell (record { ended = Cleaning machine; at = at })) }
+    ensures first { IfErr result (IsFirstReason cell.now.plan cell.now.cell (record { ended = Cleaning machine; at = at })) }
 {
-    if machine >= machine_count(shaped) {
+    if machine >= cell.machine_count() {
         return Err(ReportFault::MachineOutOfRange);
     }
-    check_moment(shaped, tables, at)?;
-    match cleaned_since(shaped, tables, machine) {
+    check_moment(cell, at)?;
+    match cell.cleaned_since(machine) {
         Some(_) => Ok(()),
         None => Err(ReportFault::NotExpected),
     }
 }
 
 /// Checks what any report of a job asks for: that it is one of the shop's, and has an activity.
-fn check_job(shaped: &Shaped, tables: &Tables, job: JobNo, at: Moment) -> Result<(), ReportFault>
-    requires { AreTables shaped.now tables.now }
-    ensures in_turn { OnOk result (IsBusyInTurn shaped.now (cell_of shaped.now tables.now) job at) }
-    ensures first { IfErr result (IsJobReason shaped.now (cell_of shaped.now tables.now) job at) }
+fn check_job<P: Planned>(cell: &WorkCell<P>, job: JobNo, at: Moment) -> Result<(), ReportFault>
+    ensures in_turn { OnOk result (IsBusyInTurn cell.now.plan cell.now.cell job at) }
+    ensures first { IfErr result (IsJobReason cell.now.plan cell.now.cell job at) }
 {
-    if job >= job_count(shaped) {
+    if job >= cell.job_count() {
         return Err(ReportFault::JobOutOfRange);
     }
-    check_moment(shaped, tables, at)?;
-    let state = job_state(shaped, tables, job);
-    if state.ready || state.made > step_count(shaped, job) {
+    check_moment(cell, at)?;
+    let state = cell.job_state(job);
+    if state.ready || state.made > cell.step_count(job) {
         return Err(ReportFault::NotExpected);
     }
     Ok(())
 }
 
 /// Checks that the moment isn't past the latest, nor before the last one.
-#[tactic(auto, unfolding(crate::specs::Tables::cell_of))]
-fn check_moment(shaped: &Shaped, tables: &Tables, at: Moment) -> Result<(), ReportFault>
-    ensures moment { OnOk result (IsNextMoment (cell_of shaped.now tables.now) at) }
-    ensures first { IfErr result (IsMomentReason (cell_of shaped.now tables.now) at) }
+fn check_moment<P: Planned>(cell: &WorkCell<P>, at: Moment) -> Result<(), ReportFault>
+    ensures moment { OnOk result (IsNextMoment cell.now.cell at) }
+    ensures first { IfErr result (IsMomentReason cell.now.cell at) }
 {
     if at > MAX_MOMENT {
         return Err(ReportFault::MomentTooLarge);
     }
-    if at < tables.last {
-        return Err(ReportFault::Backwards { last: tables.last });
+    if at < cell.last() {
+        return Err(ReportFault::Backwards { last: cell.last() });
     }
     Ok(())
 }

@@ -7,23 +7,22 @@ ghost use Rattle.shop_base.specs.Run.{Event};
 ghost use Rattle.shop_base.specs.Ends.{stated_number, HasEnded};
 ghost use Rattle.shop_base.specs.ReportsLeft.{reports_left};
 ghost use Rattle.cell_control.specs.Control.{Control, at_start, IsAnswered, IsControl};
-ghost use Rattle.cell_control.specs.Reports.{said, IsFirstReason, IsOnlyReason};
+ghost use Rattle.cell_control.specs.Reports.{IsFirstReason, IsOnlyReason};
+ghost use Rattle.cell_tables.specs.Reports.{said};
 ghost use Rattle.cell_control.specs.Promises.{IsCalled};
 ghost use Rattle.cell_control.specs.Readings.{IsPhase, IsDueOf};
 
+use cell_tables::{Report, WorkCell};
 use crate::checking::check_report;
 use crate::dues::Dues;
-use crate::places::holder_of;
 use crate::readings::phase_of;
 use crate::releasing::Orders;
-use crate::report::{Ack, Phase, Report};
+use crate::report::{Ack, Phase};
 use crate::report_fault::ReportFault;
-use crate::reserved::{Reserved, reserve};
+use crate::reserved::reserve;
 use crate::step::{make_step, still_punctual};
-use crate::tables::Tables;
 use crate::ties::cleaning_key;
 use plan_verifier::Verified;
-use shop_base::readers::{job_count, machine_count};
 use shop_base::{JobNo, MachineNo, Moment, MoveOrder};
 use std::alloc::{AllocError, Global};
 use std::marker::Model;
@@ -35,8 +34,7 @@ use std::marker::Model;
 /// [`Controller::new`] takes memory.
 #[derive(Debug, Drop)]
 pub struct Controller<D: Dues> {
-    verified: Verified,
-    tables: Tables,
+    cell: WorkCell<Verified>,
     dues: D,
     orders: Orders,
     accepted: u64,
@@ -50,9 +48,9 @@ impl<D: Dues> Model for Controller<D> {
 
     ghost Value = { Control };
 
-    ghost view = { λ c. control_of c.verified c.tables c.orders.items c.accepted c.punctual };
+    ghost view = { λ c. control_of c.cell c.orders.items c.accepted c.punctual };
 
-    ghost invariant = { λ c. AreFieldsOf c.verified c.tables (D.dues c.dues) c.orders c.accepted c.left c.punctual };
+    ghost invariant = { λ c. AreFieldsOf c.cell (D.dues c.dues) c.orders c.accepted c.left c.punctual };
 }
 
 impl<D: Dues> Controller<D> {
@@ -64,24 +62,15 @@ impl<D: Dues> Controller<D> {
         ensures handed_back { IfErr result (λ refused. refused.1 ≡ verified) }
     {
         let left = verified.shaped().report_count();
-        match reserve(alloc, verified.shaped()) {
-            Ok(
-                Reserved {
-                    tables,
-                    dues,
-                    orders,
-                },
-            ) => Ok(Controller {
-                verified,
-                tables,
-                dues,
-                orders,
-                accepted: 0,
-                left,
-                punctual: true,
-            }),
-            Err(error) => Err((error, verified)),
-        }
+        let reserved = reserve(alloc, verified)?;
+        Ok(Controller {
+            cell: reserved.cell,
+            dues: reserved.dues,
+            orders: reserved.orders,
+            accepted: 0,
+            left,
+            punctual: true,
+        })
     }
 
     /// Takes a report. Where it is possible, its activity has ended, and the moves are made that then
@@ -96,15 +85,8 @@ impl<D: Dues> Controller<D> {
         ensures called { (es : List Event) × IsCalled self.old (said report) es self.new }
         ensures never_refused { (due : ℕ) → GoesOn self.old.plan.planned self.old.cell (said report).ended due → (said report).at ≡ self.old.cell.last → IsOk result }
     {
-        let shaped = self.verified.shaped();
-        check_report(shaped, &self.tables, report)?;
-        let ack = make_step(
-            shaped,
-            &mut self.tables,
-            &mut self.dues,
-            &mut self.orders,
-            report,
-        );
+        check_report(&self.cell, report)?;
+        let ack = make_step(&mut self.cell, &mut self.dues, &mut self.orders, report);
         self.accepted += 1;
         self.left -= 1;
         self.punctual = still_punctual(self.punctual, ack);
@@ -124,9 +106,8 @@ impl<D: Dues> Controller<D> {
         ensures { let p = self.now.plan.planned in
             MatchOption result (jobs p ≤ job) (λ phase. (job < jobs p) × IsPhase p self.now.cell job phase) }
     {
-        let shaped = self.verified.shaped();
-        if job < job_count(shaped) {
-            Some(phase_of(shaped, &self.tables, job))
+        if job < self.cell.job_count() {
+            Some(phase_of(&self.cell, job))
         } else {
             None
         }
@@ -137,9 +118,8 @@ impl<D: Dues> Controller<D> {
         ensures { let p = self.now.plan.planned in
             MatchOption result (IsFree p self.now.cell machine) (λ job. (k : ℕ) × IsOn p self.now.cell job k machine) }
     {
-        let shaped = self.verified.shaped();
-        if machine < machine_count(shaped) {
-            holder_of(shaped, &self.tables, machine)
+        if machine < self.cell.machine_count() {
+            self.cell.holder(machine)
         } else {
             None
         }
@@ -149,7 +129,7 @@ impl<D: Dues> Controller<D> {
     pub fn due(&self, job: JobNo) -> Option<Moment>
         ensures { IsDueOf self.now.plan.planned self.now.cell job result }
     {
-        if job < job_count(self.verified.shaped()) {
+        if job < self.cell.job_count() {
             self.dues.get(job)
         } else {
             None
@@ -160,20 +140,18 @@ impl<D: Dues> Controller<D> {
     pub fn clean_due(&self, machine: MachineNo) -> Option<Moment>
         ensures { MatchOption result (cleaning self.now.cell machine ≡ None) (λ due. GoesOn self.now.plan.planned self.now.cell (Cleaning machine) due) }
     {
-        let shaped = self.verified.shaped();
-        if machine < machine_count(shaped) {
-            self.dues.get(cleaning_key(shaped, machine))
+        if machine < self.cell.machine_count() {
+            self.dues.get(cleaning_key(&self.cell, machine))
         } else {
             None
         }
     }
 
     /// The moment of the last accepted report, 0 before the first.
-    #[tactic(auto, unfolding(crate::specs::Tables::cell_of))]
     pub fn now(&self) -> Moment
         ensures { result ≡ self.now.cell.last }
     {
-        self.tables.last
+        self.cell.last()
     }
 
     /// Whether no accepted report was late.
@@ -205,7 +183,7 @@ impl<D: Dues> Controller<D> {
         ensures plan { result.now ≡ self.now.plan }
         ensures control { IsControl self.now }
     {
-        &self.verified
+        self.cell.basis()
     }
 
     /// The plan, taken out.
@@ -213,14 +191,13 @@ impl<D: Dues> Controller<D> {
         ensures { result ≡ self.plan }
     {
         let Controller {
-            verified,
-            tables: _,
+            cell,
             dues: _,
             orders: _,
             accepted: _,
             left: _,
             punctual: _,
         } = self;
-        verified
+        cell.into_basis()
     }
 }

@@ -4,42 +4,40 @@ ghost use Rattle.std.specs.Prelude.{◌≡◌, ◌≤◌, ◌↔◌, ◌&&◌, n
 ghost use Rattle.shop_base.specs.Plan.{jobs};
 ghost use Rattle.shop_base.specs.Report.{CanReport};
 ghost use Rattle.shop_base.specs.Run.{IsAtRest};
-ghost use Rattle.cell_control.specs.Tables.{cell_of, AreSound};
 ghost use Rattle.cell_control.specs.Ties.{AreTied};
-ghost use Rattle.cell_control.specs.Reports.{said};
+ghost use Rattle.cell_tables.specs.Reports.{said};
 ghost use Rattle.cell_control.specs.Steps.{IsMade, AreDueFrom};
 
+use cell_tables::{Report, WorkCell};
 use crate::dues::Dues;
 use crate::ending::end_activity;
 use crate::releasing::{Orders, release_moves};
-use crate::report::{Ack, Report};
-use crate::tables::Tables;
-use shop_base::Shaped;
+use crate::report::Ack;
+use shop_base::Planned;
 
 /// Makes the step of a possible report. The orders of the last one are dropped.
-pub(crate) fn make_step<D: Dues>(
-    shaped: &Shaped,
-    tables: &mut Tables,
+pub(crate) fn make_step<P: Planned, D: Dues>(
+    cell: &mut WorkCell<P>,
     dues: &mut D,
     orders: &mut Orders,
     report: Report,
 ) -> Ack
-    requires sound { AreSound shaped.now tables.old }
-    requires tied { AreTied shaped.now (cell_of shaped.now tables.old) (D.dues dues.old) }
-    requires rest { IsAtRest shaped.now (cell_of shaped.now tables.old) }
-    requires possible { CanReport shaped.now (cell_of shaped.now tables.old) (said report) }
-    requires room { jobs shaped.now ≤ orders.old.capacity }
-    ensures made { IsMade shaped.now (cell_of shaped.now tables.old) (said report) result orders.new.items (cell_of shaped.now tables.new) }
-    ensures sound { AreSound shaped.now tables.new }
-    ensures tied { AreTied shaped.now (cell_of shaped.now tables.new) (D.dues dues.new) }
+    requires tied { AreTied cell.old.plan cell.old.cell (D.dues dues.old) }
+    requires rest { IsAtRest cell.old.plan cell.old.cell }
+    requires possible { CanReport cell.old.plan cell.old.cell (said report) }
+    requires room { jobs cell.old.plan ≤ orders.old.capacity }
+    ensures made { IsMade cell.old.plan cell.old.cell (said report) result orders.new.items cell.new.cell }
+    ensures tied { AreTied cell.old.plan cell.new.cell (D.dues dues.new) }
+    ensures same_plan { cell.new ≡ record cell.old { cell = cell.new.cell } }
     ensures capacity { orders.new.capacity ≡ orders.old.capacity }
 {
+    let _plan = cell.shaped();
     let ack = Ack {
         late: is_late(dues, report),
     };
     drop_orders(orders);
-    let candidate = end_activity(shaped, tables, dues, report);
-    release_moves(shaped, tables, dues, orders, candidate);
+    let candidate = end_activity(cell, dues, report);
+    release_moves(cell, dues, orders, candidate);
     ack
 }
 

@@ -1,13 +1,12 @@
 use Rattle.std.proofs.Common.{◌+◌, ◌-◌, refl, subst, rules}
 use Rattle.shop_base.specs.Plan.{nominal}
 use Rattle.shop_base.specs.Cell.{made, since, IsOn}
-use Rattle.cell_control.specs.Tables.{cell_of}
 use Rattle.cell_control.proofs.checking.check_finish.Goals as goal
 
 pub returns-clause-possible : goal.returns-clause-possible
-returns-clause-possible c =
-    let p = c.args.shaped.now in
-    let cell = cell_of p c.args.tables.now in
+returns-clause-possible g c =
+    let p = c.args.cell.now.plan in
+    let cell = c.args.cell.now.cell in
     let k = made cell c.args.job - 1 in
     record {
       going = (

@@ -2,63 +2,48 @@ use Rattle.std.proofs.Common.{◌+◌, ◌-◌, arith, sym, subst, refl, []}
 use Rattle.std.proofs.lemmas.Grind.{common_steps}
 use Rattle.shop_base.specs.Report.{CanReport}
 use Rattle.shop_base.specs.Run.{IsAtRest}
+use Rattle.cell_tables.specs.Reports.{said}
 use Rattle.cell_control.specs.Control.{Control, IsAnswered}
 use Rattle.cell_control.specs.Fields.{control_of, AreFieldsOf}
-use Rattle.cell_control.specs.Reports.{said, IsFirstReason, IsOnlyReason}
+use Rattle.cell_control.specs.Reports.{IsFirstReason, IsOnlyReason}
 use Rattle.cell_control.specs.Promises.{answered as called_answered, refused}
-use Rattle.cell_control.specs.Steps.{IsMade}
-use Rattle.cell_control.specs.Tables.{cell_of, AreSound}
-use Rattle.cell_control.specs.Ties.{AreTied}
 use Rattle.cell_control.proofs.Reasons.{reason-cannot}
 use Rattle.cell_control.proofs.OneReason.{only_reason}
 use Rattle.cell_control.proofs.Fields.{answered, some_left, counts_fit, fields_after}
 use Rattle.cell_control.proofs.controller.Controller.report.Goals as goal
 
 pub make_step-ack-requires-clause-rest : goal.make_step-ack-requires-clause-rest
-make_step-ack-requires-clause-rest g c =
-    subst (λ p. IsAtRest p (cell_of p c.self.inside.tables)) (sym c.shaped-shaped.ensures.same) c.self.invariant.control.at_rest
+make_step-ack-requires-clause-rest g c = subst (λ p. IsAtRest p c.self.inside.cell.cell) (sym c.self.invariant.plan) c.self.invariant.control.at_rest
 
 pub overflow_add-self : goal.overflow_add-self
 overflow_add-self g c =
     let s = c.self.inside in
-    let made : IsMade s.verified.planned (cell_of s.verified.planned s.tables) (said c.args.report) c.make_step-ack.result c.make_step-ack.new.orders.items
-    (cell_of s.verified.planned c.make_step-ack.new.tables) =
-    subst (λ p. IsMade p (cell_of p s.tables) (said c.args.report) c.make_step-ack.result c.make_step-ack.new.orders.items (cell_of p c.make_step-ack.new.tables))
-    c.shaped-shaped.ensures.same c.make_step-ack.ensures.made in
-    omega (arith, counts_fit s.verified s.tables (g.D.Dues.dues s.dues) s.orders s.accepted s.left s.punctual c.self.invariant c.make_step-ack.new.tables (said c.args.report) c.make_step-ack.result c.make_step-ack.new.orders.items made)
+    let new = c.make_step-ack.new in
+    omega (arith, counts_fit s.cell (g.D.Dues.dues s.dues) s.orders s.accepted s.left s.punctual c.self.invariant new.cell (said c.args.report) c.make_step-ack.result new.orders.items c.make_step-ack.ensures.made)
 
 pub overflow_sub-self : goal.overflow_sub-self
 overflow_sub-self g c =
     let s = c.self.inside in
-    let made : IsMade s.verified.planned (cell_of s.verified.planned s.tables) (said c.args.report) c.make_step-ack.result c.make_step-ack.new.orders.items
-    (cell_of s.verified.planned c.make_step-ack.new.tables) =
-    subst (λ p. IsMade p (cell_of p s.tables) (said c.args.report) c.make_step-ack.result c.make_step-ack.new.orders.items (cell_of p c.make_step-ack.new.tables))
-    c.shaped-shaped.ensures.same c.make_step-ack.ensures.made in
-    omega (arith, some_left s.verified s.tables (g.D.Dues.dues s.dues) s.orders s.accepted s.left s.punctual c.self.invariant c.make_step-ack.new.tables (said c.args.report) c.make_step-ack.result c.make_step-ack.new.orders.items made)
+    let new = c.make_step-ack.new in
+    omega (arith, some_left s.cell (g.D.Dues.dues s.dues) s.orders s.accepted s.left s.punctual c.self.invariant new.cell (said c.args.report) c.make_step-ack.result new.orders.items c.make_step-ack.ensures.made)
 
 pub invariant_of-self : goal.invariant_of-self
 invariant_of-self g c =
     let s = c.self.inside in
     let new = c.make_step-ack.new in
-    let made : IsMade s.verified.planned (cell_of s.verified.planned s.tables) (said c.args.report) c.make_step-ack.result new.orders.items (cell_of s.verified.planned new.tables) =
-    subst (λ p. IsMade p (cell_of p s.tables) (said c.args.report) c.make_step-ack.result new.orders.items (cell_of p new.tables)) c.shaped-shaped.ensures.same c.make_step-ack.ensures.made in
-    let sound : AreSound s.verified.planned new.tables = subst (λ p. AreSound p new.tables) c.shaped-shaped.ensures.same c.make_step-ack.ensures.sound in
-    let tied : AreTied s.verified.planned (cell_of s.verified.planned new.tables) (g.D.Dues.dues new.dues) =
-    subst (λ p. AreTied p (cell_of p new.tables) (g.D.Dues.dues new.dues)) c.shaped-shaped.ensures.same c.make_step-ack.ensures.tied in
-    subst (λ still. AreFieldsOf s.verified new.tables (g.D.Dues.dues new.dues) new.orders (s.accepted + 1) (s.left - 1) still) (sym c.still_punctual-self-inside.ensures)
-    (fields_after s.verified s.tables (g.D.Dues.dues s.dues) s.orders s.accepted s.left s.punctual c.self.invariant new.tables (said c.args.report) c.make_step-ack.result new.orders.items made
-    (g.D.Dues.dues new.dues) new.orders refl c.make_step-ack.ensures.capacity sound tied)
+    subst (λ still. AreFieldsOf new.cell (g.D.Dues.dues new.dues) new.orders (s.accepted + 1) (s.left - 1) still) (sym c.still_punctual-self-inside.ensures)
+    (fields_after s.cell (g.D.Dues.dues s.dues) s.orders s.accepted s.left s.punctual c.self.invariant new.cell (said c.args.report) c.make_step-ack.result new.orders.items
+    c.make_step-ack.ensures.made (g.D.Dues.dues new.dues) new.orders refl c.make_step-ack.ensures.capacity c.make_step-ack.ensures.same_plan c.make_step-ack.ensures.tied)
 
 pub returns-clause-answered : goal.returns-clause-answered
 returns-clause-answered g c =
     let s = c.self.inside in
     let new = c.make_step-ack.new in
-    let made : IsMade s.verified.planned (cell_of s.verified.planned s.tables) (said c.args.report) c.make_step-ack.result new.orders.items (cell_of s.verified.planned new.tables) =
-    subst (λ p. IsMade p (cell_of p s.tables) (said c.args.report) c.make_step-ack.result new.orders.items (cell_of p new.tables)) c.shaped-shaped.ensures.same c.make_step-ack.ensures.made in
-    subst (λ (before : Control). IsAnswered before (said c.args.report) c.make_step-ack.result (control_of s.verified new.tables new.orders.items (s.accepted + 1) c.still_punctual-self-inside.result)) c.self.view_is
-    (subst (λ still. IsAnswered (control_of s.verified s.tables s.orders.items s.accepted s.punctual) (said c.args.report) c.make_step-ack.result (control_of s.verified new.tables new.orders.items (s.accepted + 1) still))
+    subst (λ (before : Control). IsAnswered before (said c.args.report) c.make_step-ack.result (control_of new.cell new.orders.items (s.accepted + 1) c.still_punctual-self-inside.result)) c.self.view_is
+    (subst (λ still. IsAnswered (control_of s.cell s.orders.items s.accepted s.punctual) (said c.args.report) c.make_step-ack.result (control_of new.cell new.orders.items (s.accepted + 1) still))
     (sym c.still_punctual-self-inside.ensures)
-    (answered s.verified s.tables new.tables s.orders.items new.orders.items s.accepted s.punctual (said c.args.report) c.make_step-ack.result made))
+    (answered s.cell new.cell s.orders.items new.orders.items s.accepted s.punctual (said c.args.report) c.make_step-ack.result c.self.invariant.plan c.make_step-ack.ensures.same_plan
+    c.make_step-ack.ensures.made))
 
 pub returns-clause-called : goal.returns-clause-called
 returns-clause-called g c = (_, called_answered c.args.self.now (said c.args.report) c.make_step-ack.result _ (returns-clause-answered g c))
@@ -69,8 +54,8 @@ returns-in_err-check_report-clause-called g c =
       [],
       refused c.args.self.now (said c.args.report)
           (subst (λ (v : Control). CanReport v.plan.planned v.cell (said c.args.report) → ⊥) c.self.view_is
-          (reason-cannot s.verified.planned (cell_of s.verified.planned s.tables) (said c.args.report) c.in_err-check_report.field-0.0 c.self.invariant.control.sound
-          (subst (λ p. IsFirstReason p (cell_of p s.tables) (said c.args.report) c.in_err-check_report.field-0.0) c.shaped-shaped.ensures.same c.in_err-check_report.ensures.first))),
+          (reason-cannot s.cell.basis.planned s.cell.cell (said c.args.report) c.in_err-check_report.field-0.0 c.self.invariant.control.sound
+          (subst (λ p. IsFirstReason p s.cell.cell (said c.args.report) c.in_err-check_report.field-0.0) c.self.invariant.plan c.in_err-check_report.ensures.first))),
     )
 
 pub returns-in_err-check_report-clause-only_reason : goal.returns-in_err-check_report-clause-only_reason
@@ -78,8 +63,8 @@ returns-in_err-check_report-clause-only_reason g c =
     let s = c.self.inside in
     let only =
     subst (λ (v : Control). IsOnlyReason v.plan.planned v.cell (said c.args.report) c.in_err-check_report.field-0.0) c.self.view_is
-    (only_reason s.verified.planned (cell_of s.verified.planned s.tables) (said c.args.report) c.in_err-check_report.field-0.0
-    (subst (λ p. IsFirstReason p (cell_of p s.tables) (said c.args.report) c.in_err-check_report.field-0.0) c.shaped-shaped.ensures.same c.in_err-check_report.ensures.first)) in
+    (only_reason s.cell.basis.planned s.cell.cell (said c.args.report) c.in_err-check_report.field-0.0
+    (subst (λ p. IsFirstReason p s.cell.cell (said c.args.report) c.in_err-check_report.field-0.0) c.self.invariant.plan c.in_err-check_report.ensures.first)) in
     grind (arith, common_steps, only)
 
 pub returns-in_err-check_report-clause-never_refused : goal.returns-in_err-check_report-clause-never_refused

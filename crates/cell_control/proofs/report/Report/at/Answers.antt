@@ -1,5 +1,0 @@
-use Rattle.std.proofs.Common.{rules}
-use Rattle.cell_control.proofs.report.Report.at.Goals as goal
-
-pub returns-in-Arrive : goal.returns-in-Arrive
-returns-in-Arrive c = search rules depth 2
