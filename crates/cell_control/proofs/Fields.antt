@@ -4,7 +4,7 @@ use Rattle.std.specs.Prelude.{IsTrue}
 use Rattle.smallvec.specs.SmallVec.{SmallVec}
 use Rattle.shop_base.specs.declared.move_order.MoveOrder.{MoveOrder}
 use Rattle.shop_base.specs.Plan.{jobs}
-use Rattle.shop_base.specs.Cell.{Cell, start}
+use Rattle.shop_base.specs.Cell.{start}
 use Rattle.shop_base.specs.Report.{Report}
 use Rattle.shop_base.specs.Run.{IsAtRest}
 use Rattle.shop_base.specs.Sound.{IsSound}
@@ -21,7 +21,7 @@ use Rattle.cell_tables.specs.PlannedCell as planned
 use Rattle.cell_tables.specs.PlannedCell.{PlannedCell}
 use Rattle.cell_control.specs.Ties.{AreTied}
 use Rattle.cell_control.specs.Steps.{IsMade}
-use Rattle.cell_control.specs.Control.{Control, at_start, IsAnswered, IsControl}
+use Rattle.cell_control.specs.Control.{at_start, IsAnswered, IsControl}
 use Rattle.cell_control.specs.Fields.{control_of, AreFieldsOf}
 
 -- both hold where both are told at once

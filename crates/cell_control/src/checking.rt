@@ -6,8 +6,8 @@ ghost use Rattle.shop_base.specs.Report.{CanReport, IsNextMoment};
 ghost use Rattle.cell_tables.specs.Reports.{said};
 ghost use Rattle.cell_control.specs.Reports.{IsFirstReason, IsMomentReason, IsJobReason, IsBusyInTurn};
 
-use cell_tables::{Report, WorkCell};
 use crate::report_fault::ReportFault;
+use cell_tables::{Report, WorkCell};
 use shop_base::limits::MAX_MOMENT;
 use shop_base::{JobNo, MachineNo, Moment, Planned};
 
@@ -26,11 +26,7 @@ pub(crate) fn check_report<P: Planned>(
     }
 }
 
-fn check_arrival<P: Planned>(
-    cell: &WorkCell<P>,
-    job: JobNo,
-    at: Moment,
-) -> Result<(), ReportFault>
+fn check_arrival<P: Planned>(cell: &WorkCell<P>, job: JobNo, at: Moment) -> Result<(), ReportFault>
     ensures possible { OnOk result (CanReport cell.now.plan cell.now.cell (record { ended = Arrival job; at = at })) }
     ensures first { IfErr result (IsFirstReason cell.now.plan cell.now.cell (record { ended = Arrival job; at = at })) }
 {

@@ -12,7 +12,6 @@ ghost use Rattle.cell_tables.specs.Reports.{said};
 ghost use Rattle.cell_control.specs.Promises.{IsCalled};
 ghost use Rattle.cell_control.specs.Readings.{IsPhase, IsDueOf};
 
-use cell_tables::{Report, WorkCell};
 use crate::checking::check_report;
 use crate::dues::Dues;
 use crate::readings::phase_of;
@@ -22,6 +21,7 @@ use crate::report_fault::ReportFault;
 use crate::reserved::reserve;
 use crate::step::{make_step, still_punctual};
 use crate::ties::cleaning_key;
+use cell_tables::{Report, WorkCell};
 use plan_verifier::Verified;
 use shop_base::{JobNo, MachineNo, Moment, MoveOrder};
 use std::alloc::{AllocError, Global};

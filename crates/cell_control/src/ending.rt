@@ -8,9 +8,9 @@ ghost use Rattle.cell_control.specs.Ties.{AreTied};
 ghost use Rattle.cell_control.specs.Sequences.{OnlyMay};
 ghost use Rattle.cell_tables.specs.Reports.{said};
 
-use cell_tables::{Report, WorkCell};
 use crate::dues::Dues;
 use crate::ties::cleaning_key;
+use cell_tables::{Report, WorkCell};
 use shop_base::{JobNo, Planned};
 
 /// Ends the activity of a possible report, and tells the job that may be able to move then.

@@ -4,8 +4,8 @@ ghost use Rattle.std.specs.Prelude.{◌<◌};
 ghost use Rattle.shop_base.specs.Plan.{jobs};
 ghost use Rattle.cell_control.specs.Readings.{IsPhase};
 
-use cell_tables::WorkCell;
 use crate::report::Phase;
+use cell_tables::WorkCell;
 use shop_base::{JobNo, Planned};
 
 /// Where the job is.

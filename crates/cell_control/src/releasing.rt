@@ -10,9 +10,9 @@ ghost use Rattle.shop_base.specs.Movers.{ready_count};
 ghost use Rattle.cell_control.specs.Ties.{AreTied};
 ghost use Rattle.cell_control.specs.Sequences.{OnlyMay, IsMover, IsSequence};
 
-use cell_tables::WorkCell;
 use crate::dues::Dues;
 use crate::ties::{renew_job, renew_machine};
+use cell_tables::WorkCell;
 use shop_base::{JobNo, MoveOrder, Planned, Spot};
 use smallvec::SmallVec;
 
@@ -54,11 +54,7 @@ fn mover<P: Planned>(cell: &WorkCell<P>, candidate: Option<JobNo>) -> Option<Job
 {
     let _plan = cell.shaped();
     let job = candidate?;
-    if cell.can_move(job) {
-        Some(job)
-    } else {
-        None
-    }
+    if cell.can_move(job) { Some(job) } else { None }
 }
 
 /// The job that may follow the one that is about to move: the next at the machine that it leaves.

@@ -6,10 +6,10 @@ ghost use Rattle.shop_base.specs.Cell.{start};
 ghost use Rattle.cell_tables.specs.PlannedCell.{at_start};
 ghost use Rattle.cell_control.specs.Ties.{AreTied};
 
-use cell_tables::WorkCell;
 use crate::dues::Dues;
 use crate::releasing::Orders;
 use crate::ties::renew_job;
+use cell_tables::WorkCell;
 use shop_base::Planned;
 use smallvec::SmallVec;
 use std::alloc::{AllocError, Global};
@@ -23,7 +23,10 @@ pub(crate) struct Reserved<P: Planned, D: Dues> {
 }
 
 /// Takes all memory that a controller needs. Where a request for it is refused, what leads to the plan comes back.
-pub(crate) fn reserve<P: Planned, D: Dues>(alloc: Global, basis: P) -> Result<Reserved<P, D>, (AllocError, P)>
+pub(crate) fn reserve<P: Planned, D: Dues>(
+    alloc: Global,
+    basis: P,
+) -> Result<Reserved<P, D>, (AllocError, P)>
     ensures start { IfOk result (λ new. new.cell ≡ at_start basis (P.planned basis)) }
     ensures tied { IfOk result (λ new. AreTied (P.planned basis) (start (P.planned basis)) (D.dues new.dues)) }
     ensures no_orders { IfOk result (λ new. new.orders.items ≡ []) }
@@ -38,7 +41,10 @@ pub(crate) fn reserve<P: Planned, D: Dues>(alloc: Global, basis: P) -> Result<Re
 }
 
 /// Takes the memory for the due moments and the orders of a cell at the start.
-fn reserve_for<P: Planned, D: Dues>(alloc: Global, cell: &WorkCell<P>) -> Result<(D, Orders), AllocError>
+fn reserve_for<P: Planned, D: Dues>(
+    alloc: Global,
+    cell: &WorkCell<P>,
+) -> Result<(D, Orders), AllocError>
     requires start { cell.now.cell ≡ start cell.now.plan }
     ensures tied { IfOk result (λ new. AreTied cell.now.plan (start cell.now.plan) (D.dues new.0)) }
     ensures no_orders { IfOk result (λ new. new.1.items ≡ []) }

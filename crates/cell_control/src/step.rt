@@ -8,11 +8,11 @@ ghost use Rattle.cell_control.specs.Ties.{AreTied};
 ghost use Rattle.cell_tables.specs.Reports.{said};
 ghost use Rattle.cell_control.specs.Steps.{IsMade, AreDueFrom};
 
-use cell_tables::{Report, WorkCell};
 use crate::dues::Dues;
 use crate::ending::end_activity;
 use crate::releasing::{Orders, release_moves};
 use crate::report::Ack;
+use cell_tables::{Report, WorkCell};
 use shop_base::Planned;
 
 /// Makes the step of a possible report. The orders of the last one are dropped.

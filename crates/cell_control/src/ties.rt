@@ -6,8 +6,8 @@ ghost use Rattle.shop_base.specs.Plan.{jobs, machines};
 ghost use Rattle.shop_base.specs.Cell.{job_in, cleaning};
 ghost use Rattle.shop_base.specs.Movers.{due_of_job, due_of_cleaning};
 
-use cell_tables::WorkCell;
 use crate::dues::Dues;
+use cell_tables::WorkCell;
 use shop_base::readers::{clean_of, job_count, release_of, step_of};
 use shop_base::{JobNo, MachineNo, Moment, Planned};
 

@@ -24,4 +24,4 @@ returns-clause-possible g c =
     }
 
 pub returns-then-actual-machine-clause-first : goal.returns-then-actual-machine-clause-first
-returns-then-actual-machine-clause-first c = search rules depth 2
+returns-then-actual-machine-clause-first g c = search rules depth 2

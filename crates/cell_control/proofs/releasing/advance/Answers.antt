@@ -1,4 +1,4 @@
-use Rattle.std.proofs.Common.{◌≡◌, ◌+◌, ◌-◌, ap, sym, subst, ◌∙◌, set, arith}
+use Rattle.std.proofs.Common.{◌≡◌, ◌+◌, ◌-◌, ap, sym, subst, ◌∙◌, set}
 use Rattle.shop_base.specs.declared.move_order.MoveOrder.{MoveOrder}
 use Rattle.shop_base.specs.declared.move_order.Spot.TheVariants.{Out, At}
 use Rattle.shop_base.specs.Plan.{jobs}
