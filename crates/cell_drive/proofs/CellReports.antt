@@ -2,7 +2,7 @@
 use Rattle.std.proofs.Common.{◌≡◌, ℕ, List, sym, ap, ◌∙◌, subst}
 use Rattle.text_lines.specs.Numbers.{IsNumberBefore, value_of}
 use Rattle.text_lines.proofs.FirstWords.{no_space, same_cut}
-use Rattle.cell_control.specs.declared.report.Report.{Report}
+use Rattle.cell_tables.specs.declared.report.Report.{Report}
 use Rattle.cell_drive.specs.InputLines.{IsReportLine, IsNoReport}
 use Rattle.cell_drive.specs.CellLines.{IsCellReport, IsNoCellReport}
 use Rattle.cell_drive.proofs.OneReport.{one_report}

@@ -3,7 +3,7 @@ use Rattle.std.proofs.Common.{◌≡◌, ℕ, zero, suc, List, [], ◌∷◌, se
 use Rattle.std.specs.Prelude.{slice_get}
 use Rattle.run_log.specs.Sinks.{Wrote}
 use Rattle.shop_base.specs.declared.move_order.MoveOrder.{MoveOrder}
-use Rattle.cell_control.specs.declared.report.Report.{Report}
+use Rattle.cell_tables.specs.declared.report.Report.{Report}
 use Rattle.cell_control.specs.declared.report.Ack.{Ack}
 use Rattle.cell_control.specs.Control.{Control}
 use Rattle.cell_hub.specs.declared.hub_fault.HubFault.{HubFault}

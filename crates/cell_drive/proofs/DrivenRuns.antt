@@ -10,10 +10,10 @@ use Rattle.shop_base.specs.Ends.{reports_in, moves_in, stated_number}
 use Rattle.shop_base.proofs.Appending.{leads_more}
 use Rattle.shop_base.proofs.StatedNumber.{ends_on_the_stated_number-holds, orders_never_outnumber_reports-holds}
 use Rattle.cell_control.specs.declared.report.Ack.{Ack}
-use Rattle.cell_control.specs.declared.report.Report as told
+use Rattle.cell_tables.specs.declared.report.Report as told
 use Rattle.plan_verifier.specs.Accepted.{VerifiedPlan, IsVerified}
 use Rattle.cell_control.specs.Control.{Control, at_start, IsAnswered}
-use Rattle.cell_control.specs.Reports.{said}
+use Rattle.cell_tables.specs.Reports.{said}
 use Rattle.run_log.specs.declared.entry.Entry.{Entry}
 use Rattle.run_log.specs.declared.entry.Entry.TheVariants.{Report as ReportEntry, Order as OrderEntry}
 use Rattle.run_log.specs.Log.{Noted, Notes}

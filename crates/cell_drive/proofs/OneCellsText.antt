@@ -12,12 +12,13 @@ use Rattle.shop_base.proofs.ControlledRuns.{after_step-sound, start_at_rest}
 use Rattle.shop_base.proofs.OneStep.{one_step}
 use Rattle.shop_base.specs.declared.move_order.MoveOrder.{MoveOrder}
 use Rattle.plan_verifier.specs.Accepted.{VerifiedPlan}
-use Rattle.cell_control.specs.declared.report.Report.{Report}
+use Rattle.cell_tables.specs.declared.report.Report.{Report}
 use Rattle.cell_control.specs.declared.report.Ack.{Ack}
 use Rattle.cell_control.specs.declared.report_fault.ReportFault.{ReportFault}
 use Rattle.cell_control.specs.Control.{Control, at_start, IsAnswered}
 use Rattle.cell_control.specs.ReasonNames.{reason_name}
-use Rattle.cell_control.specs.Reports.{said, IsFirstReason}
+use Rattle.cell_tables.specs.Reports.{said}
+use Rattle.cell_control.specs.Reports.{IsFirstReason}
 use Rattle.cell_control.proofs.Reasons.{reason-cannot}
 use Rattle.cell_drive.specs.Lines.{input_lines}
 use Rattle.cell_drive.specs.Answering.{AnswerAll}

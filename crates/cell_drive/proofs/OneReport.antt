@@ -3,8 +3,8 @@ use Rattle.std.proofs.Common.{◌≡◌, ℕ, false, List, [], ◌∷◌, ◌++�
 use Rattle.std.proofs.lemmas.Bool.{eq-eqb}
 use Rattle.text_lines.specs.Numbers.{value_of}
 use Rattle.text_lines.proofs.FirstWords.{no_space, same_cut}
-use Rattle.cell_control.specs.declared.report.Report.{Report}
-use Rattle.cell_control.specs.declared.report.Report.TheVariants.{Arrive, Finish, Clean}
+use Rattle.cell_tables.specs.declared.report.Report.{Report}
+use Rattle.cell_tables.specs.declared.report.Report.TheVariants.{Arrive, Finish, Clean}
 use Rattle.cell_drive.specs.InputLines.{IsNumberAndMoment, IsReportLine}
 
 one_number_and_moment : (words : List ℕ) (n at m other_at : ℕ) → IsNumberAndMoment words n at → IsNumberAndMoment words m other_at → (m ≡ n) × (other_at ≡ at)

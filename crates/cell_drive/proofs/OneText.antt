@@ -9,10 +9,11 @@ use Rattle.shop_base.specs.Sound.{IsSound}
 use Rattle.shop_base.proofs.Keeping.{start-sound}
 use Rattle.shop_base.proofs.ControlledRuns.{after_step-sound, start_at_rest}
 use Rattle.shop_base.proofs.OneStep.{one_step}
-use Rattle.cell_control.specs.declared.report.Report.{Report}
+use Rattle.cell_tables.specs.declared.report.Report.{Report}
 use Rattle.cell_control.specs.declared.report_fault.ReportFault.{ReportFault}
 use Rattle.cell_control.specs.ReasonNames.{reason_name}
-use Rattle.cell_control.specs.Reports.{said, IsFirstReason}
+use Rattle.cell_tables.specs.Reports.{said}
+use Rattle.cell_control.specs.Reports.{IsFirstReason}
 use Rattle.cell_control.proofs.Reasons.{reason-cannot}
 use Rattle.run_log.specs.declared.entry.Entry.{Entry}
 use Rattle.run_log.specs.declared.entry.Entry.TheVariants.{Report as ReportEntry, Order as OrderEntry}

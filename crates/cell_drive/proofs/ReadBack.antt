@@ -17,13 +17,13 @@ use Rattle.shop_base.proofs.Keeping.{start-sound, after_report-sound, after_move
 use Rattle.shop_base.proofs.ControlledRuns.{events_join, after_all_join, moves-events, after_all-moves, start_at_rest}
 use Rattle.text_lines.specs.Numbers.{IsNumeral}
 use Rattle.text_lines.specs.Lines.{lines_of}
-use Rattle.cell_control.specs.declared.report.Report.{Report}
-use Rattle.cell_control.specs.declared.report.Report.TheVariants.{Arrive, Finish, Clean}
+use Rattle.cell_tables.specs.declared.report.Report.{Report}
+use Rattle.cell_tables.specs.declared.report.Report.TheVariants.{Arrive, Finish, Clean}
 use Rattle.cell_control.specs.declared.report_fault.ReportFault.{ReportFault}
 use Rattle.cell_control.specs.declared.report_fault.ReportFault.TheVariants.{JobOutOfRange, MachineOutOfRange, MomentTooLarge, Backwards, NotExpected, WrongKind, WrongMachine}
-use Rattle.cell_control.specs.Moving.{IsSpotOf}
+use Rattle.cell_tables.specs.Moving.{IsSpotOf}
 use Rattle.cell_control.specs.ReasonNames.{reason_name}
-use Rattle.cell_control.specs.Reports.{said}
+use Rattle.cell_tables.specs.Reports.{said}
 use Rattle.run_log.specs.declared.entry.Entry.{Entry}
 use Rattle.run_log.specs.declared.entry.Entry.TheVariants.{Report as ReportEntry, Order as OrderEntry}
 use Rattle.run_log.specs.Events.{events_of}

@@ -9,11 +9,11 @@ use Rattle.shop_base.specs.Sound.{IsSound}
 use Rattle.shop_base.proofs.Visits.{visits_job, visits_machine, leaves_past}
 use Rattle.shop_base.proofs.InShop.{outside_in_shop, ready_in_shop, cleaned_in_shop}
 use Rattle.shop_base.proofs.CellFacts.{target_visited, target_out}
-use Rattle.cell_control.specs.declared.report.Report.{Report}
-use Rattle.cell_control.specs.declared.report.Report.TheVariants.{Arrive, Finish, Clean}
-use Rattle.cell_control.specs.Moving.{IsSpotOf}
-use Rattle.cell_control.specs.Reports.{said}
-use Rattle.cell_control.proofs.Moves.{source_or_out}
+use Rattle.cell_tables.specs.declared.report.Report.{Report}
+use Rattle.cell_tables.specs.declared.report.Report.TheVariants.{Arrive, Finish, Clean}
+use Rattle.cell_tables.specs.Moving.{IsSpotOf}
+use Rattle.cell_tables.specs.Reports.{said}
+use Rattle.cell_tables.proofs.MoveParts.{source_or_out}
 use Rattle.run_log.specs.declared.entry.Entry.TheVariants.{Report as ReportEntry, Order as OrderEntry}
 use Rattle.run_log.specs.LogLines.{IsEntryOf}
 

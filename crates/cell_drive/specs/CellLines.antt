@@ -1,7 +1,7 @@
 -- Lines where there are several cells: each is on the cell of a number.
 use Rattle.std.specs.Prelude.{ℕ, List, [], ◌∷◌, ◌++◌, decimal}
 use Rattle.text_lines.specs.Numbers.{IsNumberBefore}
-use Rattle.cell_control.specs.declared.report.Report.{Report}
+use Rattle.cell_tables.specs.declared.report.Report.{Report}
 use Rattle.cell_drive.specs.InputLines.{IsReportLine}
 
 -- the line is this report on this cell: the cell's number, with at most 9 digits, and a space stand before it

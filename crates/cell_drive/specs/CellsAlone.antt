@@ -4,9 +4,9 @@ use Rattle.shop_base.specs.Report.{Report}
 use Rattle.shop_base.specs.Run.{Event}
 use Rattle.shop_base.specs.Ends.{stated_number, reports_in, HasEnded}
 use Rattle.plan_verifier.specs.Accepted.{VerifiedPlan}
-use Rattle.cell_control.specs.declared.report.Report as told
+use Rattle.cell_tables.specs.declared.report.Report as told
 use Rattle.cell_control.specs.Control.{Control}
-use Rattle.cell_control.specs.Reports.{said}
+use Rattle.cell_tables.specs.Reports.{said}
 use Rattle.cell_control.specs.Promises.{IsControllerAfter}
 use Rattle.cell_drive.specs.CellLines.{IsCellReport}
 use Rattle.cell_drive.specs.Driving.{StaysAsPromised}

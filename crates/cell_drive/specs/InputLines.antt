@@ -1,8 +1,8 @@
 -- Lines of input, as reports.
 use Rattle.std.specs.Prelude.{◌≡◌, ℕ, List, ◌∷◌, ◌++◌, codes}
 use Rattle.text_lines.specs.Numbers.{IsNumeral}
-use Rattle.cell_control.specs.declared.report.Report.{Report}
-use Rattle.cell_control.specs.declared.report.Report.TheVariants.{Arrive, Finish, Clean}
+use Rattle.cell_tables.specs.declared.report.Report.{Report}
+use Rattle.cell_tables.specs.declared.report.Report.TheVariants.{Arrive, Finish, Clean}
 
 -- the number of a job or a machine, with at most 9 digits, then a space and a moment, with at most 13
 abbrev pub IsNumberAndMoment : List ℕ → ℕ → ℕ → Type 0

@@ -2,11 +2,12 @@
 use Rattle.std.specs.Prelude.{◌≡◌, ℕ, suc, ◌≤◌, List, [], ◌∷◌, ◌++◌, length, codes, Option, None, Some, if◌then◌else◌, Bool, slice_get, slice_set}
 use Rattle.std.specs.List.{flat_map}
 use Rattle.shop_base.specs.declared.move_order.MoveOrder.{MoveOrder}
-use Rattle.cell_control.specs.declared.report.Report.{Report}
+use Rattle.cell_tables.specs.declared.report.Report.{Report}
 use Rattle.cell_control.specs.declared.report.Ack.{Ack}
 use Rattle.cell_control.specs.declared.report_fault.ReportFault.{ReportFault}
 use Rattle.cell_control.specs.Control.{Control, IsAnswered}
-use Rattle.cell_control.specs.Reports.{said, IsFirstReason}
+use Rattle.cell_tables.specs.Reports.{said}
+use Rattle.cell_control.specs.Reports.{IsFirstReason}
 use Rattle.cell_control.specs.ReasonNames.{reason_name}
 use Rattle.run_log.specs.EventLines.{report_line, order_line}
 use Rattle.cell_drive.specs.AnswerLines.{late_line, refused_line}

@@ -2,10 +2,11 @@
 use Rattle.std.specs.Prelude.{◌≡◌, ◌≢◌, ℕ, suc, ◌≤◌, List, [], ◌∷◌, ◌++◌, length, Option, None, Some, Result, slice_get, slice_set}
 use Rattle.std.specs.declared.result.Result.TheVariants.{Ok, Err}
 use Rattle.plan_verifier.specs.Accepted.{IsVerified}
-use Rattle.cell_control.specs.declared.report.Report.{Report}
+use Rattle.cell_tables.specs.declared.report.Report.{Report}
 use Rattle.cell_control.specs.declared.report.Ack.{Ack}
 use Rattle.cell_control.specs.Control.{Control, IsControl, IsAnswered}
-use Rattle.cell_control.specs.Reports.{said, IsFirstReason}
+use Rattle.cell_tables.specs.Reports.{said}
+use Rattle.cell_control.specs.Reports.{IsFirstReason}
 use Rattle.cell_drive.specs.DrivenLines.{closing_line}
 use Rattle.cell_drive.specs.CellLines.{cell_prefix}
 use Rattle.cell_hub.specs.declared.ticket.Ticket.{Ticket}

@@ -2,7 +2,7 @@
 
 ghost use Rattle.std.specs.Prelude.{◌≡◌, [], ◌++◌, if◌then◌else◌, OnOk};
 ghost use Rattle.std.specs.List.{flat_map};
-ghost use Rattle.cell_control.specs.Reports.{said};
+ghost use Rattle.cell_tables.specs.Reports.{said};
 ghost use Rattle.run_log.specs.Sinks.{Wrote};
 ghost use Rattle.run_log.specs.EventLines.{report_line, order_line};
 ghost use Rattle.cell_drive.specs.AnswerLines.{late_line};

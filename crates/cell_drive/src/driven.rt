@@ -2,7 +2,8 @@
 
 ghost use Rattle.std.specs.Prelude.{◌≡◌, ◌≢◌, ◌+◌, ◌≤◌, [], ◌∷◌, Some, length, map, IfOk, IfErr, OnOk};
 ghost use Rattle.cell_control.specs.Control.{IsAnswered};
-ghost use Rattle.cell_control.specs.Reports.{said, IsFirstReason};
+ghost use Rattle.cell_tables.specs.Reports.{said};
+ghost use Rattle.cell_control.specs.Reports.{IsFirstReason};
 ghost use Rattle.run_log.specs.Log.{Notes};
 ghost use Rattle.run_log.specs.Sinks.{Wrote};
 ghost use Rattle.cell_drive.specs.AnswerLines.{refused_line};

@@ -5,9 +5,10 @@ use Rattle.std.specs.declared.result.Result.TheVariants.{Ok, Err}
 use Rattle.slab.specs.Slab.{Slab, get, Updates}
 use Rattle.plan_verifier.specs.Accepted.{VerifiedPlan}
 use Rattle.cell_control.specs.Control.{Control, at_start}
-use Rattle.cell_control.specs.Reports.{said, IsFirstReason}
+use Rattle.cell_tables.specs.Reports.{said}
+use Rattle.cell_control.specs.Reports.{IsFirstReason}
 use Rattle.cell_control.proofs.OneReason.{only_reason}
-use Rattle.cell_control.specs.declared.report.Report.{Report}
+use Rattle.cell_tables.specs.declared.report.Report.{Report}
 use Rattle.cell_control.specs.declared.report.Ack.{Ack}
 use Rattle.cell_hub.specs.declared.ticket.Ticket.{Ticket}
 use Rattle.cell_hub.specs.declared.slots.Placed.{Placed}

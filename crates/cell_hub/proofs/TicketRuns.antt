@@ -11,7 +11,7 @@ use Rattle.shop_base.proofs.ControlledRuns.{after_step-sound}
 use Rattle.plan_verifier.specs.Accepted.{VerifiedPlan}
 use Rattle.cell_control.specs.declared.report.Ack.{Ack}
 use Rattle.cell_control.specs.Control.{Control, at_start, IsAnswered}
-use Rattle.cell_control.specs.Reports.{said}
+use Rattle.cell_tables.specs.Reports.{said}
 use Rattle.cell_control.specs.Promises as promise
 use Rattle.cell_control.specs.Promises.{AreCalled}
 use Rattle.cell_control.proofs.Promises.{calls_make_the_controlled_run}

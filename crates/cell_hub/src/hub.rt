@@ -1,6 +1,6 @@
 ghost use Rattle.std.specs.Prelude.{◌≡◌, ◌↔◌, None, option_copied, IfOk, IfErr, IfSome, IsOk, OnErr};
 ghost use Rattle.shop_base.specs.Report.{CanReport};
-ghost use Rattle.cell_control.specs.Reports.{said};
+ghost use Rattle.cell_tables.specs.Reports.{said};
 ghost use Rattle.cell_hub.specs.Hub.{hub_from, cell_at, AreSerialsBelow};
 ghost use Rattle.cell_hub.specs.Calls.{IsAdmitted, IsNotAdmitted, IsReported, IsNotReported, IsOnlyRefusal, EndsNow, IsDismissed, IsCall, Admitted, Reported, Shown, Dismissed};
 

@@ -3,7 +3,7 @@
 ghost use Rattle.std.specs.Prelude.{◌≡◌, ◌↔◌, ℕ, None, option_copied, IfOk, IfErr, IfSome, IsOk, OnOk, OnErr};
 ghost use Rattle.slab.specs.Slab.{HasRoomFor};
 ghost use Rattle.shop_base.specs.Report.{CanReport};
-ghost use Rattle.cell_control.specs.Reports.{said};
+ghost use Rattle.cell_tables.specs.Reports.{said};
 ghost use Rattle.cell_hub.specs.Hub.{cell_at};
 ghost use Rattle.cell_hub.specs.Slots.{hub_of};
 ghost use Rattle.cell_hub.specs.Calls.{IsReported, IsNotReported, EndsNow, IsDismissed};

@@ -1,7 +1,7 @@
 use Rattle.std.proofs.Common.{◌↔◌, IfSome, subst}
 use Rattle.std.specs.Prelude.{IsOk}
 use Rattle.shop_base.specs.Report.{CanReport}
-use Rattle.cell_control.specs.Reports.{said}
+use Rattle.cell_tables.specs.Reports.{said}
 use Rattle.cell_hub.specs.Hub.{HubState, cell_at, AreSerialsBelow}
 use Rattle.cell_hub.specs.Slots.{hub_of}
 use Rattle.cell_hub.specs.Calls.{Reported, EndsNow, IsCall}
