@@ -3,10 +3,10 @@ use Rattle.std.proofs.Common.{◌≡◌, ℕ, List, Result, Ok, Err, ap, ◌∙�
 use Rattle.std.specs.Prelude.{IfOk}
 use Rattle.shop_base.specs.Plan.{PlannedShop, machines}
 use Rattle.text_lines.specs.Lines.{lines_of}
-use Rattle.run_log.specs.declared.audited.Audit.{Audit}
+use Rattle.run_log.specs.declared.audit_result.Audit.{Audit}
 use Rattle.run_log.specs.declared.audit_fault.AuditFault.{AuditFault}
 use Rattle.run_log.specs.declared.audit_fault.AuditFault.TheVariants.{BadLine, NotExpected, Backwards, NotReady, Occupied, OutOfOrder, WrongPlace, NotClean, Memory}
-use Rattle.run_log.specs.declared.entry.Entry.{Entry}
+use Rattle.cell_tables.specs.declared.entry.Entry.{Entry}
 use Rattle.run_log.specs.Audits.{IsAudit, IsAuditFault}
 use Rattle.run_gantt.specs.GanttText.{gantt_text}
 use Rattle.command_answers.specs.declared.answer.Answer.{Answer}

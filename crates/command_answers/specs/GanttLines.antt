@@ -1,7 +1,7 @@
 use Rattle.std.specs.Prelude.{◌≡◌, ℕ, List, ◌⊎◌}
 use Rattle.shop_base.specs.Plan.{PlannedShop, machines, IsWellShaped}
 use Rattle.text_lines.specs.Lines.{lines_of}
-use Rattle.run_log.specs.declared.audited.Audit.{Audit}
+use Rattle.run_log.specs.declared.audit_result.Audit.{Audit}
 use Rattle.run_log.specs.Audits.{IsAudit}
 use Rattle.run_gantt.specs.GanttText.{gantt_text}
 use Rattle.command_answers.specs.declared.answer.Answer.{Answer}

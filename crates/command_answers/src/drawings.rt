@@ -17,8 +17,9 @@ use crate::command_fault::CommandFault;
 use crate::instances::load_instance;
 use crate::plans::load_plan;
 use crate::shapes::not_shaped_answer;
+use cell_tables::Entry;
 use run_gantt::gantt;
-use run_log::{Entry, audit};
+use run_log::audit;
 use shop_base::{Plan, Shaped, Shop, shape};
 use std::alloc::{AllocError, Global};
 
