@@ -1,3 +1,4 @@
+mod CheckStatus
 mod Found
 mod Slots
 mod Values

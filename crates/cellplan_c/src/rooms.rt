@@ -25,7 +25,9 @@ pub fn put_orders(orders: &[MoveOrder], first: usize, room: &mut [Order])
 /// no room.
 pub fn put_text(text: &[u8], status: u32, room: &mut [u8], needed: &mut usize) -> u32
     ensures needed { needed.new ≡ length text.now }
-    ensures laid { length text.now ≤ length room.old → (result ≡ status) × IsLaid text.now room.old room.new needed.new }
+    ensures put { ((result ≡ status) × IsLaid text.now room.old room.new needed.new)
+        ⊎ ((result ≡ 6) × IsTooLong text.now room.old room.new needed.new) }
+    ensures fits { length text.now ≤ length room.old → (result ≡ status) × IsLaid text.now room.old room.new needed.new }
     ensures too_long { length room.old < length text.now → (result ≡ 6) × IsTooLong text.now room.old room.new needed.new }
 {
     *needed = text.len();
