@@ -1,6 +1,5 @@
 //! Runs of a controller, report by report.
 
-use super::calling::moves_of;
 use super::cells::{controller, crossing, following, instant};
 use super::events::{arrive, clean, finish};
 use super::worked_runs::{cleaned, followed, in_time};
@@ -307,28 +306,5 @@ fn the_readers_tell_when_each_job_left(rt: HostRuntime) -> Result<(), Fail> {
         assert!(rt; cell.phase(1) == Some(phases.1), "job 1 after {answer}");
         assert!(rt; cell.phase(2) == Some(phases.2), "job 2 after {answer}");
     }
-    Ok(())
-}
-
-#[test]
-fn a_caller_is_given_the_moves(rt: HostRuntime) -> Result<(), Fail> {
-    let entered = MoveOrder {
-        job: 0,
-        source: Spot::Out,
-        target: Spot::At(0),
-        at: 0,
-    };
-    let passed_on = MoveOrder {
-        job: 0,
-        source: Spot::At(0),
-        target: Spot::At(1),
-        at: 3,
-    };
-    let reports = [arrive(0, 0), arrive(1, 0), finish(0, 0, 3)];
-    match moves_of(rt.alloc(), crossing(&rt, None)?, &reports)? {
-        Some(moves) => assert_eq!(rt; moves.as_slice(), [entered, passed_on].as_slice()),
-        None => panic!(rt; "a report isn't possible"),
-    }
-    assert!(rt; moves_of(rt.alloc(), crossing(&rt, None)?, &[finish(0, 0, 3)])?.is_none());
     Ok(())
 }

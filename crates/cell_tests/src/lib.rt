@@ -7,8 +7,6 @@
 #[cfg(test)]
 mod audits;
 #[cfg(test)]
-mod calling;
-#[cfg(test)]
 mod cells;
 #[cfg(test)]
 mod controller_runs;

@@ -1,4 +1,5 @@
 pub mod CheckLines
 pub mod Passing
 pub mod SearchLines
-pub mod LogAnswers
+pub mod LogLines
+pub mod CellPlans

@@ -1,5 +1,5 @@
 use Rattle.std.specs.Prelude.{◌≡◌, ℕ, Bool, true, false, List, ◌++◌, ◌⊎◌, Option, Some, None, codes, decimal}
-use Rattle.shop_base.specs.Plan.{PlannedShop, IsWellShaped}
+use Rattle.shop_base.specs.Plan.{PlannedShop}
 use Rattle.text_lines.specs.Lines.{lines_of}
 use Rattle.run_log.specs.declared.audited.Audit.{Audit}
 use Rattle.run_log.specs.declared.audit_fault.AuditFault.{AuditFault}
@@ -9,7 +9,6 @@ use Rattle.run_log.specs.AuditNames.{fault_name}
 use Rattle.command_answers.specs.declared.answer.Answer.{Answer}
 use Rattle.command_answers.specs.declared.command_fault.CommandFault.{CommandFault}
 use Rattle.command_answers.specs.declared.command_fault.CommandFault.TheVariants.{Memory as WantOfMemory}
-use Rattle.command_answers.specs.Shapes.{IsNotShapedLine}
 
 -- whether the run has ended, in words
 abbrev pub end_words : Bool → List ℕ
@@ -41,10 +40,6 @@ pub record IsLogRefusedLine (p : PlannedShop) (log : List ℕ) (answer : Answer)
 -- the line of a log
 abbrev pub IsLogLine : PlannedShop → List ℕ → Answer → Type 0
 IsLogLine p log answer = IsKeptLine p log answer ⊎ IsLogRefusedLine p log answer
-
--- the line of the audit of a log against a plan
-abbrev pub IsAuditLine : List ℕ → PlannedShop → Answer → Type 0
-IsAuditLine log p answer = IsNotShapedLine p answer ⊎ (IsWellShaped p × IsLogLine p log answer)
 
 -- the fault of a command that the audit's is, if it is want of memory
 abbrev pub audit_command_fault : AuditFault → Option CommandFault

@@ -5,7 +5,7 @@ use Rattle.orlib_read.specs.declared.or_fault.OrFault.TheVariants.{Memory as Wan
 use Rattle.orlib_read.specs.Instance.{IsInstance, IsInstanceOf}
 use Rattle.orlib_read.specs.Faults.{IsInstanceFault, IsInstanceOfFault}
 use Rattle.command_answers.specs.declared.command_fault.CommandFault.{CommandFault}
-use Rattle.command_answers.specs.declared.command_fault.CommandFault.TheVariants.{Instance, Plan, Memory}
+use Rattle.command_answers.specs.declared.command_fault.CommandFault.TheVariants.{Instance, Memory}
 
 -- the text tells this description and this shop: as one instance, or as a collection under a name
 abbrev pub Tells : List ℕ → Option (List ℕ) → List ℕ → JobShop → Type 0
@@ -25,8 +25,8 @@ instance_command_fault fault = Instance fault
 -- the fault is the text's, or want of memory
 abbrev pub IsRightInstanceFault : List ℕ → Option (List ℕ) → CommandFault → Type 0
 IsRightInstanceFault text name (Instance fault) = (fault ≢ WantOfMemory) × IsFirstInstanceFault text name fault
-IsRightInstanceFault text name (Plan fault) = ⊥
 IsRightInstanceFault text name Memory = Unit {0}
+IsRightInstanceFault text name other = ⊥
 
 -- the answer holds to the property, unless memory ran out
 abbrev pub Holds : {A : Type 0} → Result A CommandFault → (A → Type 0) → Type 0
@@ -37,5 +37,5 @@ Holds (Err fault) P = fault ≡ Memory
 abbrev pub IsInstanceRefusal : {A : Type 0} → Result A CommandFault → OrFault → Type 0
 IsInstanceRefusal (Ok a) fault = ⊥
 IsInstanceRefusal (Err (Instance answered)) fault = answered ≡ fault
-IsInstanceRefusal (Err (Plan answered)) fault = ⊥
 IsInstanceRefusal (Err Memory) fault = Unit {0}
+IsInstanceRefusal (Err other) fault = ⊥

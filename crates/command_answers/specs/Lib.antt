@@ -1,10 +1,15 @@
 pub mod Reading
 pub mod Statuses
+pub mod Texts
+pub mod Steps
 pub mod Instances
 pub mod Facts
 pub mod Plans
+pub mod Readings
 pub mod Shapes
 pub mod Checks
 pub mod Search
 pub mod AuditLines
 pub mod GanttLines
+pub mod Commands
+pub mod Cells

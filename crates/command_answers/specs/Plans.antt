@@ -16,15 +16,15 @@ plan_command_fault fault = Plan fault
 -- the fault is the plan text's, or want of memory
 abbrev pub IsRightPlanFault : List ℕ → CommandFault → Type 0
 IsRightPlanFault text (Plan fault) = (fault ≢ WantOfMemory) × IsFirstPlanFault text fault
-IsRightPlanFault text (Instance fault) = ⊥
 IsRightPlanFault text Memory = Unit {0}
+IsRightPlanFault text other = ⊥
 
 -- the answer is this fault of the plan, unless memory ran out
 abbrev pub IsPlanRefusal : {A : Type 0} → Result A CommandFault → PlanFault → Type 0
 IsPlanRefusal (Ok a) fault = ⊥
 IsPlanRefusal (Err (Plan answered)) fault = answered ≡ fault
-IsPlanRefusal (Err (Instance answered)) fault = ⊥
 IsPlanRefusal (Err Memory) fault = Unit {0}
+IsPlanRefusal (Err other) fault = ⊥
 
 -- the shop and the plan that the two texts tell
 pub record TellBoth (instance : List ℕ) (name : Option (List ℕ)) (text : List ℕ) (p : PlannedShop) : Type 0 where
@@ -41,6 +41,7 @@ abbrev pub IsRightOfBoth : List ℕ → Option (List ℕ) → List ℕ → Comma
 IsRightOfBoth instance name text (Instance fault) = IsRightInstanceFault instance name (Instance fault)
 IsRightOfBoth instance name text (Plan fault) = TellsAShop instance name × IsRightPlanFault text (Plan fault)
 IsRightOfBoth instance name text Memory = Unit {0}
+IsRightOfBoth instance name text other = ⊥
 
 -- the answer is one that belongs to the plan that the text tells for this shop
 pub record IsOfPlan {A : Type 0} (shop : JobShop) (text : List ℕ) (Is : PlannedShop → A → Type 0) (answer : A) : Type 0 where

@@ -1,5 +1,4 @@
 use Rattle.std.specs.Prelude.{◌≡◌, ℕ, List, Option, Some, None, ◌++◌, ◌⊎◌, codes, Result, Ok, Err}
-use Rattle.shop_base.specs.Shop.{JobShop}
 use Rattle.shop_base.specs.Plan.{ShopPlan, PlannedShop}
 use Rattle.plan_text.specs.declared.plan_fault.PlanFault.TheVariants.{NotReadBack}
 use Rattle.plan_text.specs.Lines.{plan_lines}
@@ -11,8 +10,7 @@ use Rattle.plan_seek.specs.Turns.{Proposals}
 use Rattle.plan_seek.specs.Search.{IsSought, IsSeekFault}
 use Rattle.command_answers.specs.declared.answer.Answer.{Answer}
 use Rattle.command_answers.specs.declared.command_fault.CommandFault.{CommandFault}
-use Rattle.command_answers.specs.declared.command_fault.CommandFault.TheVariants.{Instance, Plan, Memory}
-use Rattle.command_answers.specs.Plans.{TellBoth, IsRightPlanFault, IsRightOfBoth}
+use Rattle.command_answers.specs.declared.command_fault.CommandFault.TheVariants.{Plan, Memory}
 
 -- the search for a plan with the numbers of this one
 abbrev pub task_in : PlannedShop → PlanTask
@@ -58,8 +56,7 @@ IsNoPlanLine WantOfMemory answer = ⊥
 abbrev pub IsNoPlanAnswer : SeekFault → Result Answer CommandFault → Type 0
 IsNoPlanAnswer fault (Ok answer) = IsNoPlanLine fault answer
 IsNoPlanAnswer fault (Err Memory) = Unit {0}
-IsNoPlanAnswer fault (Err (Plan other)) = ⊥
-IsNoPlanAnswer fault (Err (Instance other)) = ⊥
+IsNoPlanAnswer fault (Err other) = ⊥
 
 -- the line of a search that the search allows to end without a plan
 pub record IsNoPlanText (may : Proposals) (rounds proposers : ℕ) (p : PlannedShop) (answer : Answer) : Type 0 where
@@ -82,33 +79,11 @@ abbrev pub IsSearchAnswer : Proposals → ℕ → ℕ → PlannedShop → Result
 IsSearchAnswer may rounds proposers p (Ok answer) = IsSearchLine may rounds proposers p answer
 IsSearchAnswer may rounds proposers p (Err Memory) = Unit {0}
 IsSearchAnswer may rounds proposers p (Err (Plan fault)) = (fault ≡ NotReadBack) × IsFoundUnreadable may rounds proposers p
-IsSearchAnswer may rounds proposers p (Err (Instance fault)) = ⊥
+IsSearchAnswer may rounds proposers p (Err other) = ⊥
 
 -- what is answered of a plan's text: the text, or that it isn't read as the plan, or want of memory
 abbrev pub IsDocumentAnswer : ShopPlan → Result Answer CommandFault → Type 0
 IsDocumentAnswer found (Ok answer) = IsDocumentOf found answer
 IsDocumentAnswer found (Err Memory) = Unit {0}
 IsDocumentAnswer found (Err (Plan fault)) = (fault ≡ NotReadBack) × (IsPlanText (plan_lines found) found → ⊥)
-IsDocumentAnswer found (Err (Instance fault)) = ⊥
-
--- the text tells a plan for this shop, and one that was found for its numbers has a text that isn't read as it
-pub record IsUnreadableFor (shop : JobShop) (text : List ℕ) (may : Proposals) (rounds proposers : ℕ) : Type 0 where
-  pub plan : ShopPlan
-  pub tells : IsPlanText text plan
-  pub found : IsFoundUnreadable may rounds proposers (record { shop = shop; plan = plan })
-
--- the fault is the plan text's, or that of the text of the plan that was found, or want of memory
-abbrev pub IsSearchFault : JobShop → List ℕ → Proposals → ℕ → ℕ → CommandFault → Type 0
-IsSearchFault shop text may rounds proposers fault =
-    IsRightPlanFault text fault ⊎ ((fault ≡ Plan NotReadBack) × IsUnreadableFor shop text may rounds proposers)
-
--- the two texts tell a shop and a plan, and a plan that was found for its numbers has a text that isn't read as it
-pub record IsUnreadableForBoth (instance : List ℕ) (name : Option (List ℕ)) (text : List ℕ) (may : PlannedShop → Proposals) (rounds proposers : ℕ) : Type 0 where
-  pub planned : PlannedShop
-  pub tell : TellBoth instance name text planned
-  pub found : IsFoundUnreadable (may planned) rounds proposers planned
-
--- the fault is the instance's, or the plan text's, or that of the text of the plan that was found, or want of memory
-abbrev pub IsSearchFaultOfBoth : List ℕ → Option (List ℕ) → List ℕ → (PlannedShop → Proposals) → ℕ → ℕ → CommandFault → Type 0
-IsSearchFaultOfBoth instance name text may rounds proposers fault =
-    IsRightOfBoth instance name text fault ⊎ ((fault ≡ Plan NotReadBack) × IsUnreadableForBoth instance name text may rounds proposers)
+IsDocumentAnswer found (Err other) = ⊥

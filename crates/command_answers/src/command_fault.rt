@@ -1,6 +1,7 @@
 ghost use Rattle.std.specs.Prelude.{◌≡◌};
 ghost use Rattle.command_answers.specs.Statuses.{status_of};
 
+use crate::reading::FileFault;
 use orlib_read::OrFault;
 use plan_seek::SeekFault;
 use plan_text::PlanFault;
@@ -17,6 +18,15 @@ pub enum CommandFault {
     /// The plan's text is refused, for another cause than memory.
     #[error("Plan {0}")]
     Plan(PlanFault),
+    /// A file or the input can't be opened or read.
+    #[error("Read")]
+    Read,
+    /// The output can't be written.
+    #[error("Write")]
+    Write,
+    /// A file or the input has more bytes than the limit.
+    #[error("InputTooLong")]
+    InputTooLong,
     /// Memory was wanting.
     #[error("Memory")]
     Memory,
@@ -30,6 +40,21 @@ impl From<AllocError> for CommandFault {
 
     fn from(_error: AllocError) -> CommandFault {
         CommandFault::Memory
+    }
+}
+
+impl From<FileFault> for CommandFault {
+    ghost use Rattle.std.specs.Prelude.{◌≡◌};
+    ghost use Rattle.command_answers.specs.Texts.{file_command_fault};
+
+    ghost from_gives = { λ told fault. fault ≡ file_command_fault told };
+
+    fn from(told: FileFault) -> CommandFault {
+        match told {
+            FileFault::Read => CommandFault::Read,
+            FileFault::TooLong => CommandFault::InputTooLong,
+            FileFault::Memory => CommandFault::Memory,
+        }
     }
 }
 
@@ -101,6 +126,7 @@ impl CommandFault {
         match self {
             CommandFault::Instance(_) | CommandFault::Plan(_) => 3,
             CommandFault::Memory => 4,
+            CommandFault::Read | CommandFault::Write | CommandFault::InputTooLong => 5,
         }
     }
 }

@@ -1,31 +1,29 @@
-//! The answers of the commands of `cellplan`, as functions over the bytes of an instance and a plan.
+//! The answers of the commands of `cellplan`, as functions over the files that are asked for.
 #![tactic(auto)]
 
 mod answer;
-mod audits;
+mod cells;
 mod checks;
 mod command_fault;
-mod drawings;
 mod facts;
 mod instances;
 mod loading;
-mod numbered;
+mod logs;
 mod plans;
 mod print;
 mod reading;
 mod search;
 mod shapes;
+mod texts;
 
 pub use answer::{Answer, GOOD, REFUSED};
-pub use audits::{audit_answer, log_answer};
-pub use checks::{check_answer, check_for, loaded_answer};
+pub use cells::{Cells, load_cells};
+pub use checks::{check, check_answer, loaded_answer};
 pub use command_fault::CommandFault;
-pub use drawings::{drawn_answer, gantt_answer};
-pub use facts::facts_answer;
-pub use instances::load_instance;
-pub use loading::{Loaded, load, load_for};
-pub use numbered::numbered_answer;
-pub use plans::load_plan;
+pub use facts::{facts_answer, facts_of};
+pub use loading::{Loaded, load, load_files};
+pub use logs::{LogAnswer, log_answer};
 pub use reading::{FileFault, read_whole};
-pub use search::{plan_answer, plan_for};
-pub use shapes::{not_shaped_answer, shape_answer, shape_for};
+pub use search::plan_answer;
+pub use shapes::shape_answer;
+pub use texts::Texts;

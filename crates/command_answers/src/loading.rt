@@ -9,13 +9,17 @@ ghost use Rattle.plan_text.specs.Documents.{IsPlanText, IsFirstPlanFault};
 ghost use Rattle.command_answers.specs.Instances.{IsFirstInstanceFault, Holds, IsInstanceRefusal};
 ghost use Rattle.command_answers.specs.Plans.{TellBoth, TellsAShop, IsRightOfBoth, IsRightPlanFault, IsPlanRefusal, IsOfPlan, IsOfBoth};
 ghost use Rattle.command_answers.specs.Checks.{IsLoaded};
+ghost use Rattle.command_answers.specs.Steps.{Then, Told, IsOrMemory};
+ghost use Rattle.command_answers.specs.Readings.{IsInstanceRead};
+ghost use Rattle.command_answers.specs.Commands.{Loads, WithPlan};
 
 use crate::command_fault::CommandFault;
-use crate::instances::load_instance;
-use crate::plans::load_plan;
+use crate::instances::{instance, load_instance};
+use crate::plans::{load_plan, plan};
+use crate::texts::Texts;
 use plan_verifier::{Verdict, Verified, Why, verify};
 use shop_base::{Plan, ShapeFault, Shaped, Shop, shape};
-use std::alloc::{AllocError, Global};
+use std::alloc::Global;
 
 /// What is to be said of a plan for an instance.
 #[derive(Debug, Drop)]
@@ -28,8 +32,8 @@ pub enum Loaded {
     Accepted(Verified),
 }
 
-/// The verdict on a plan for an instance. Without a name the first text is one instance, else a collection
-/// with an instance of this name.
+/// The verdict on a plan for an instance, both given as texts. Without a name the first text is one instance, else a
+/// collection with an instance of this name.
 pub fn load(
     alloc: Global,
     instance: &[u8],
@@ -47,19 +51,19 @@ pub fn load(
 }
 
 /// The verdict on a plan for a shop.
-pub fn load_for(alloc: Global, shop: Shop, plan: &[u8]) -> Result<Loaded, CommandFault>
+fn load_for(alloc: Global, shop: Shop, plan: &[u8]) -> Result<Loaded, CommandFault>
     ensures found { IfOk result (IsOfPlan shop plan.now IsLoaded) }
     ensures only { (told : ShopPlan) → IsPlanText plan.now told → Holds result (IsLoaded (record { shop = shop; plan = told })) }
     ensures fault { IfErr result (IsRightPlanFault plan.now) }
     ensures first { (fault : PlanFault) → IsFirstPlanFault plan.now fault → IsPlanRefusal result fault }
 {
     let plan = load_plan(alloc, plan)?;
-    Ok(judged(alloc, shop, plan)?)
+    judged(alloc, shop, plan)
 }
 
 /// The verdict on a plan for a shop.
-fn judged(alloc: Global, shop: Shop, plan: Plan) -> Result<Loaded, AllocError>
-    ensures loaded { IfOk result (IsLoaded (record { shop = shop; plan = plan })) }
+pub(crate) fn judged(alloc: Global, shop: Shop, plan: Plan) -> Result<Loaded, CommandFault>
+    ensures loaded { IsOrMemory (IsLoaded (record { shop = shop; plan = plan })) result }
     ensures not_shaped { ¬ (IsWellShaped (record { shop = shop; plan = plan })) → IsOk result }
 {
     match shape(shop, plan) {
@@ -68,13 +72,40 @@ fn judged(alloc: Global, shop: Shop, plan: Plan) -> Result<Loaded, AllocError>
     }
 }
 
-fn verdict(alloc: Global, shaped: Shaped) -> Result<Loaded, AllocError>
+fn verdict(alloc: Global, shaped: Shaped) -> Result<Loaded, CommandFault>
     requires { IsWellShaped shaped }
-    ensures { IfOk result (IsLoaded shaped) }
+    ensures { IsOrMemory (IsLoaded shaped) result }
 {
     match verify(alloc, shaped) {
         Ok(Verdict::Accepted(verified)) => Ok(Loaded::Accepted(verified)),
         Ok(Verdict::Refused(_, why)) => Ok(Loaded::Refused(why)),
-        Err((error, _)) => Err(error),
+        Err((error, _)) => Err(CommandFault::from(error)),
     }
+}
+
+/// The verdict on the plan of a file for the instance of another.
+pub fn load_files<T: Texts>(
+    alloc: Global,
+    texts: &mut T,
+    path: &str,
+    name: Option<&[u8]>,
+    plan_path: &str,
+) -> Result<Loaded, CommandFault>
+    ensures { Loads T.gives path.now (option_copied name.entry) plan_path.now texts.old result texts.new }
+{
+    let named = instance(alloc, texts, path, name)?;
+    load_with(alloc, texts, named.shop, plan_path)
+}
+
+/// The verdict on the plan of a file for a shop.
+pub(crate) fn load_with<T: Texts>(
+    alloc: Global,
+    texts: &mut T,
+    shop: Shop,
+    plan_path: &str,
+) -> Result<Loaded, CommandFault>
+    ensures { WithPlan T.gives plan_path.now shop (λ p. Told (IsOrMemory (IsLoaded p))) texts.old result texts.new }
+{
+    let told = plan(alloc, texts, plan_path)?;
+    judged(alloc, shop, told)
 }

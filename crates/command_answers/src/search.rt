@@ -2,68 +2,44 @@
 
 ghost use Rattle.std.specs.Prelude.{◌≡◌, length, IfOk, IfErr};
 ghost use Rattle.std.specs.Option.{option_copied};
-ghost use Rattle.shop_base.specs.Plan.{ShopPlan, PlannedShop};
-ghost use Rattle.orlib_read.specs.declared.or_fault.OrFault.{OrFault};
-ghost use Rattle.plan_text.specs.declared.plan_fault.PlanFault.{PlanFault};
-ghost use Rattle.plan_text.specs.Documents.{IsPlanText, IsFirstPlanFault};
+ghost use Rattle.shop_base.specs.Plan.{PlannedShop};
 ghost use Rattle.plan_seek.specs.Tasks.{with_order, IsAccepted};
 ghost use Rattle.plan_seek.specs.Turns.{MayPropose};
 ghost use Rattle.plan_seek.specs.Search.{IsSought, IsSeekFault};
-ghost use Rattle.command_answers.specs.Instances.{IsFirstInstanceFault, IsInstanceRefusal};
-ghost use Rattle.command_answers.specs.Plans.{TellBoth, TellsAShop, IsPlanRefusal, IsOfPlan, IsOfBoth};
-ghost use Rattle.command_answers.specs.Search.{task_in, IsSearchLine, IsSearchAnswer, IsSearchFault, IsSearchFaultOfBoth, IsDocumentAnswer, IsNoPlanAnswer, IsBadNumbersLine};
+ghost use Rattle.command_answers.specs.Search.{task_in, IsSearchAnswer, IsDocumentAnswer, IsNoPlanAnswer, IsBadNumbersLine};
+ghost use Rattle.command_answers.specs.Commands.{RunsPlan};
 
 use crate::answer::{Answer, GOOD, REFUSED};
 use crate::command_fault::{CommandFault, Unanswered};
-use crate::instances::load_instance;
-use crate::plans::load_plan;
+use crate::instances::instance;
+use crate::plans::plan;
 use crate::print::end_line;
+use crate::texts::Texts;
 use plan_seek::{NotFound, Proposer, SeekFault, seek};
 use plan_text::plan_document;
 use plan_verifier::Verified;
 use shop_base::{Plan, ShapeFault, Shop};
 use std::alloc::{AllocError, Global};
 
-/// A plan with the releases, budgets and cleaning times of this one that is accepted, as its text: the first
-/// proposal that is accepted, or else the serial plan. The orders of the given plan are read and
-/// not used. Without a name the first text is one instance, else a collection with an instance of this name.
-pub fn plan_answer(
+/// A plan with the releases, budgets and cleaning times of the one that a file tells, that is accepted for the instance
+/// of another file, as its text: the first proposal that is accepted, or else the serial plan. The orders of the given
+/// plan are read and not used. Without a name the first file tells one instance, else a collection with an instance of
+/// this name.
+pub fn plan_answer<T: Texts>(
     alloc: Global,
-    instance: &[u8],
+    texts: &mut T,
+    path: &str,
     name: Option<&[u8]>,
-    plan: &[u8],
+    plan_path: &str,
     proposers: &[Box<dyn Proposer>],
     rounds: u32,
 ) -> Result<Answer, CommandFault>
-    ensures found { IfOk result (IsOfBoth instance.now (option_copied name.entry) plan.now
-        (λ p. IsSearchLine (MayPropose (λ b. may b p.shop) proposers.now) rounds (length proposers.now) p)) }
-    ensures only { (p : PlannedShop) → TellBoth instance.now (option_copied name.entry) plan.now p →
-        IsSearchAnswer (MayPropose (λ b. may b p.shop) proposers.now) rounds (length proposers.now) p result }
-    ensures fault { IfErr result (IsSearchFaultOfBoth instance.now (option_copied name.entry) plan.now
-        (λ p. MayPropose (λ b. may b p.shop) proposers.now) rounds (length proposers.now)) }
-    ensures first { (fault : OrFault) → IsFirstInstanceFault instance.now (option_copied name.entry) fault → IsInstanceRefusal result fault }
-    ensures second { (fault : PlanFault) → TellsAShop instance.now (option_copied name.entry) → IsFirstPlanFault plan.now fault → IsPlanRefusal result fault }
+    ensures { RunsPlan T.gives (λ shop. MayPropose (λ b. may b shop) proposers.now) rounds (length proposers.now)
+        path.now (option_copied name.entry) plan_path.now texts.old result texts.new }
 {
-    let named = load_instance(alloc, instance, name)?;
-    plan_for(alloc, named.shop, plan, proposers, rounds)
-}
-
-/// A plan for the shop with the numbers of this one, as its text.
-pub fn plan_for(
-    alloc: Global,
-    shop: Shop,
-    plan: &[u8],
-    proposers: &[Box<dyn Proposer>],
-    rounds: u32,
-) -> Result<Answer, CommandFault>
-    ensures found { IfOk result (IsOfPlan shop plan.now (IsSearchLine (MayPropose (λ b. may b shop) proposers.now) rounds (length proposers.now))) }
-    ensures only { (told : ShopPlan) → IsPlanText plan.now told →
-        IsSearchAnswer (MayPropose (λ b. may b shop) proposers.now) rounds (length proposers.now) (record { shop = shop; plan = told }) result }
-    ensures fault { IfErr result (IsSearchFault shop plan.now (MayPropose (λ b. may b shop) proposers.now) rounds (length proposers.now)) }
-    ensures first { (fault : PlanFault) → IsFirstPlanFault plan.now fault → IsPlanRefusal result fault }
-{
-    let plan = load_plan(alloc, plan)?;
-    search_answer(alloc, shop, plan, proposers, rounds)
+    let named = instance(alloc, texts, path, name)?;
+    let told = plan(alloc, texts, plan_path)?;
+    search_answer(alloc, named.shop, told, proposers, rounds)
 }
 
 /// The answer of the search for a plan with these numbers.

@@ -1,54 +1,39 @@
 //! The command `shape`.
 
-ghost use Rattle.std.specs.Prelude.{◌≡◌, IfOk, IfErr, codes};
+ghost use Rattle.std.specs.Prelude.{◌≡◌, codes};
 ghost use Rattle.std.specs.Option.{option_copied};
-ghost use Rattle.shop_base.specs.Plan.{ShopPlan, PlannedShop};
-ghost use Rattle.orlib_read.specs.declared.or_fault.OrFault.{OrFault};
-ghost use Rattle.plan_text.specs.declared.plan_fault.PlanFault.{PlanFault};
-ghost use Rattle.plan_text.specs.Documents.{IsPlanText, IsFirstPlanFault};
-ghost use Rattle.command_answers.specs.Instances.{IsFirstInstanceFault, Holds, IsInstanceRefusal};
-ghost use Rattle.command_answers.specs.Plans.{TellBoth, TellsAShop, IsRightOfBoth, IsRightPlanFault, IsPlanRefusal, IsOfPlan, IsOfBoth};
+ghost use Rattle.shop_base.specs.Plan.{PlannedShop};
+ghost use Rattle.command_answers.specs.Steps.{IsOrMemory};
 ghost use Rattle.command_answers.specs.Shapes.{IsShapeLine, IsRefusedLine};
+ghost use Rattle.command_answers.specs.Commands.{RunsShape};
 
 use crate::answer::{Answer, GOOD, REFUSED};
 use crate::command_fault::CommandFault;
-use crate::instances::load_instance;
-use crate::plans::load_plan;
-use crate::print::end_line;
+use crate::instances::instance;
+use crate::plans::plan;
+use crate::print::{end_line, push_words};
+use crate::texts::Texts;
 use shop_base::{Plan, ShapeFault, Shop, shape};
-use std::alloc::{AllocError, Global};
+use std::alloc::Global;
 
-/// Whether a plan is well shaped for an instance, and if not, its first fault. Without a name the first text
-/// is one instance, else a collection with an instance of this name.
-pub fn shape_answer(
+/// Whether the plan of a file is well shaped for the instance of another, and if not, its first fault. Without a name
+/// the first file tells one instance, else a collection with an instance of this name.
+pub fn shape_answer<T: Texts>(
     alloc: Global,
-    instance: &[u8],
+    texts: &mut T,
+    path: &str,
     name: Option<&[u8]>,
-    plan: &[u8],
+    plan_path: &str,
 ) -> Result<Answer, CommandFault>
-    ensures found { IfOk result (IsOfBoth instance.now (option_copied name.entry) plan.now IsShapeLine) }
-    ensures only { (p : PlannedShop) → TellBoth instance.now (option_copied name.entry) plan.now p → Holds result (IsShapeLine p) }
-    ensures fault { IfErr result (IsRightOfBoth instance.now (option_copied name.entry) plan.now) }
-    ensures first { (fault : OrFault) → IsFirstInstanceFault instance.now (option_copied name.entry) fault → IsInstanceRefusal result fault }
-    ensures second { (fault : PlanFault) → TellsAShop instance.now (option_copied name.entry) → IsFirstPlanFault plan.now fault → IsPlanRefusal result fault }
+    ensures { RunsShape T.gives path.now (option_copied name.entry) plan_path.now texts.old result texts.new }
 {
-    let named = load_instance(alloc, instance, name)?;
-    shape_for(alloc, named.shop, plan)
+    let named = instance(alloc, texts, path, name)?;
+    let told = plan(alloc, texts, plan_path)?;
+    shape_line(alloc, named.shop, told)
 }
 
-/// Whether a plan is well shaped for a shop, and if not, its first fault.
-pub fn shape_for(alloc: Global, shop: Shop, plan: &[u8]) -> Result<Answer, CommandFault>
-    ensures found { IfOk result (IsOfPlan shop plan.now IsShapeLine) }
-    ensures only { (told : ShopPlan) → IsPlanText plan.now told → Holds result (IsShapeLine (record { shop = shop; plan = told })) }
-    ensures fault { IfErr result (IsRightPlanFault plan.now) }
-    ensures first { (fault : PlanFault) → IsFirstPlanFault plan.now fault → IsPlanRefusal result fault }
-{
-    let plan = load_plan(alloc, plan)?;
-    Ok(shape_line(alloc, shop, plan)?)
-}
-
-fn shape_line(alloc: Global, shop: Shop, plan: Plan) -> Result<Answer, AllocError>
-    ensures { IfOk result (IsShapeLine (record { shop = shop; plan = plan })) }
+fn shape_line(alloc: Global, shop: Shop, plan: Plan) -> Result<Answer, CommandFault>
+    ensures { IsOrMemory (IsShapeLine (record { shop = shop; plan = plan })) result }
 {
     match shape(shop, plan) {
         Ok(_) => shaped_answer(alloc),
@@ -56,22 +41,22 @@ fn shape_line(alloc: Global, shop: Shop, plan: Plan) -> Result<Answer, AllocErro
     }
 }
 
-fn shaped_answer(alloc: Global) -> Result<Answer, AllocError>
-    ensures { IfOk result (λ answer. (answer.text.items ≡ codes "shaped\n") × (answer.status ≡ 0)) }
+fn shaped_answer(alloc: Global) -> Result<Answer, CommandFault>
+    ensures { IsOrMemory (λ answer. (answer.text.items ≡ codes "shaped\n") × (answer.status ≡ 0)) result }
 {
     let mut text = Vec::new(alloc);
-    text.extend_from_slice(b"shaped\n")?;
+    push_words(&mut text, b"shaped\n")?;
     Ok(Answer { text, status: GOOD })
 }
 
 /// The line of a plan that isn't well shaped, with its first fault.
-pub fn not_shaped_answer(alloc: Global, fault: ShapeFault) -> Result<Answer, AllocError>
-    ensures { IfOk result IsRefusedLine }
+pub(crate) fn not_shaped_answer(alloc: Global, fault: ShapeFault) -> Result<Answer, CommandFault>
+    ensures { IsOrMemory IsRefusedLine result }
 {
     let words = fault.to_string(alloc)?;
     let mut text = Vec::new(alloc);
-    text.extend_from_slice(b"not shaped ")?;
-    text.extend_from_slice(words.as_bytes())?;
+    push_words(&mut text, b"not shaped ")?;
+    push_words(&mut text, words.as_bytes())?;
     end_line(&mut text)?;
     Ok(Answer {
         text,

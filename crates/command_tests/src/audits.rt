@@ -1,3 +1,4 @@
+use super::shelf::Shelf;
 use super::texts::{CHAIN, CHAINED, CLEANED, CROSSED, IN_TIME, TWO};
 use command_answers::{Answer, CommandFault, audit_answer, gantt_answer};
 use std::test::Fail;
@@ -48,7 +49,7 @@ fn tells(answer: Result<Answer, CommandFault>, text: &[u8], status: u8) -> bool 
 #[test]
 fn logs_are_kept_or_refused(rt: HostRuntime) -> Result<(), Fail> {
     let alloc = rt.alloc();
-    let lines: [(&[u8], &[u8], &[u8], u8); 10] = [
+    let lines: [(&'static [u8], &'static [u8], &[u8], u8); 10] = [
         (
             IN_TIME,
             SERIES,
@@ -91,7 +92,13 @@ fn logs_are_kept_or_refused(rt: HostRuntime) -> Result<(), Fail> {
         (IN_TIME, CLEANED_LOG, b"log refused 8 NotExpected\n", 1),
     ];
     for (plan, log, line, status) in lines {
-        assert!(rt; tells(audit_answer(alloc, TWO, None, plan, log), line, status));
+        let mut shelf = Shelf {
+            instance: TWO,
+            plan,
+            log,
+        };
+        let answer = audit_answer(alloc, &mut shelf, "instance", None, "plan", "log");
+        assert!(rt; tells(answer, line, status));
     }
     Ok(())
 }
@@ -99,7 +106,7 @@ fn logs_are_kept_or_refused(rt: HostRuntime) -> Result<(), Fail> {
 #[test]
 fn kept_logs_are_drawn(rt: HostRuntime) -> Result<(), Fail> {
     let alloc = rt.alloc();
-    let lines: [(&[u8], &[u8], &[u8], &[u8], u8); 5] = [
+    let lines: [(&'static [u8], &'static [u8], &'static [u8], &[u8], u8); 5] = [
         (
             TWO,
             IN_TIME,
@@ -131,7 +138,13 @@ fn kept_logs_are_drawn(rt: HostRuntime) -> Result<(), Fail> {
         (TWO, CROSSED, EXCHANGED, b"log refused 7 Occupied\n", 1),
     ];
     for (instance, plan, log, text, status) in lines {
-        assert!(rt; tells(gantt_answer(alloc, instance, None, plan, log), text, status));
+        let mut shelf = Shelf {
+            instance,
+            plan,
+            log,
+        };
+        let answer = gantt_answer(alloc, &mut shelf, "instance", None, "plan", "log");
+        assert!(rt; tells(answer, text, status));
     }
     Ok(())
 }

@@ -1,6 +1,6 @@
 use super::texts::{CHAIN, CHAINED, CLEANED, COLLECTION, CROSSED, IN_TIME, LATE, NOT_SHAPED, TWO};
 use alt_graph::{check_chain, check_cycle};
-use command_answers::{CommandFault, Loaded, check_answer, load};
+use command_answers::{CommandFault, Loaded, check, load};
 use orlib_read::{OrFault, read_instance};
 use plan_text::{PlanFault, read_plan};
 use plan_verifier::Why;
@@ -42,7 +42,7 @@ fn a_plan_has_its_verdict(rt: HostRuntime) -> Result<(), Fail> {
         (TWO, CLEANED, b"accepted makespan 12 leaves 5 12\n", 0),
     ];
     for (instance, plan, line, status) in lines {
-        let answer = check_answer(rt.alloc(), instance, None, plan)?;
+        let answer = check(rt.alloc(), instance, None, plan)?;
         assert_eq!(rt; answer.text.as_slice(), line);
         assert_eq!(rt; answer.status, status);
     }
@@ -54,7 +54,7 @@ fn the_serial_plan_of_ft06_is_accepted(rt: HostRuntime) -> Result<(), Fail> {
     let plan = b"release = [0, 0, 0, 0, 0, 0]\nbudget = [26, 60, 89, 117, 125, 152]\norder = [\n  \
 [0, 1, 2, 3, 4, 5],\n  [0, 1, 2, 3, 4, 5],\n  [0, 1, 2, 3, 4, 5],\n  [0, 1, 2, 3, 4, 5],\n  \
 [0, 1, 2, 3, 4, 5],\n  [0, 1, 2, 3, 4, 5],\n]\n";
-    let answer = check_answer(rt.alloc(), COLLECTION, Some(b"ft06"), plan)?;
+    let answer = check(rt.alloc(), COLLECTION, Some(b"ft06"), plan)?;
     let line = b"accepted makespan 152 leaves 26 60 89 117 125 152\n";
     assert_eq!(rt; answer.text.as_slice(), line.as_slice());
     assert_eq!(rt; answer.status, 0);
@@ -69,7 +69,7 @@ fn a_refused_text_has_no_verdict(rt: HostRuntime) -> Result<(), Fail> {
         (b"", CommandFault::Instance(OrFault::NoSizes)),
     ];
     for (instance, fault) in faults {
-        let answer = check_answer(rt.alloc(), instance, None, unknown).map(|answer| answer.status);
+        let answer = check(rt.alloc(), instance, None, unknown).map(|answer| answer.status);
         assert_eq!(rt; answer, Err(fault));
     }
     Ok(())
@@ -105,7 +105,7 @@ fn the_first_fault_of_a_shape_is_loaded(rt: HostRuntime) -> Result<(), Fail> {
         ShapeFault::BudgetTooLarge { job: 1 },
     ];
     for ((plan, line), first) in NOT_SHAPED.into_iter().zip(faults) {
-        let answer = check_answer(rt.alloc(), TWO, None, plan)?;
+        let answer = check(rt.alloc(), TWO, None, plan)?;
         assert_eq!(rt; answer.text.as_slice(), line);
         assert_eq!(rt; answer.status, 1);
         let loaded = load(rt.alloc(), TWO, None, plan)?;

@@ -1,5 +1,5 @@
 use super::texts::{COLLECTION, TWO};
-use command_answers::{CommandFault, facts_answer};
+use command_answers::{CommandFault, facts_of};
 use orlib_read::OrFault;
 use std::test::Fail;
 
@@ -23,7 +23,7 @@ fn an_instance_has_its_facts(rt: HostRuntime) -> Result<(), Fail> {
         ),
     ];
     for (text, name, line) in lines {
-        let answer = facts_answer(rt.alloc(), text, name)?;
+        let answer = facts_of(rt.alloc(), text, name)?;
         assert_eq!(rt; answer.text.as_slice(), line);
         assert_eq!(rt; answer.status, 0);
     }
@@ -38,7 +38,7 @@ fn what_is_no_instance_has_no_facts(rt: HostRuntime) -> Result<(), Fail> {
         (b"", None, OrFault::NoSizes),
     ];
     for (text, name, fault) in faults {
-        let answer = facts_answer(rt.alloc(), text, name).map(|answer| answer.status);
+        let answer = facts_of(rt.alloc(), text, name).map(|answer| answer.status);
         assert_eq!(rt; answer, Err(CommandFault::Instance(fault)));
     }
     let text = CommandFault::Instance(OrFault::BadSizes { line: 5 }).to_string(rt.alloc())?;

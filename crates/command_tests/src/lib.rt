@@ -14,6 +14,8 @@ mod plans;
 #[cfg(test)]
 mod shapes;
 #[cfg(test)]
+mod shelf;
+#[cfg(test)]
 mod statuses;
 #[cfg(test)]
 mod texts;

@@ -1,3 +1,4 @@
+use super::shelf::Shelf;
 use super::texts::{CLEANED, COLLECTION, IN_TIME, TWO};
 use command_answers::{CommandFault, plan_answer};
 use orlib_read::OrFault;
@@ -17,7 +18,7 @@ fn a_plan_is_found_or_there_is_none(rt: HostRuntime) -> Result<(), Fail> {
     let mut proposers: Vec<Box<dyn Proposer>> = Vec::new(rt.alloc());
     proposers.push(Box::new(rt.alloc(), GreedyProposer::new())?)?;
     proposers.push(Box::new(rt.alloc(), ShiftProposer::new())?)?;
-    let lines: [(&[u8], u32, &[u8], u8); 8] = [
+    let lines: [(&'static [u8], u32, &[u8], u8); 8] = [
         (
             CROSSING,
             20,
@@ -43,15 +44,24 @@ fn a_plan_is_found_or_there_is_none(rt: HostRuntime) -> Result<(), Fail> {
         ),
     ];
     for (plan, rounds, want, status) in &lines {
-        let answer = plan_answer(rt.alloc(), TWO, None, plan, &proposers, *rounds)?;
+        let answer = plan_answer(
+            rt.alloc(),
+            &mut Shelf::of(TWO, plan),
+            "instance",
+            None,
+            "plan",
+            &proposers,
+            *rounds,
+        )?;
         assert_eq!(rt; answer.text.as_slice(), *want);
         assert_eq!(rt; answer.status, *status);
     }
     let named = plan_answer(
         rt.alloc(),
-        COLLECTION,
+        &mut Shelf::of(COLLECTION, CROSSING),
+        "instance",
         Some(b"two"),
-        CROSSING,
+        "plan",
         &proposers,
         2,
     )?;
@@ -62,18 +72,14 @@ fn a_plan_is_found_or_there_is_none(rt: HostRuntime) -> Result<(), Fail> {
 #[test]
 fn a_search_refuses_the_instance_before_the_plan(rt: HostRuntime) -> Result<(), Fail> {
     let none: Vec<Box<dyn Proposer>> = Vec::new(rt.alloc());
-    match plan_answer(
-        rt.alloc(),
-        COLLECTION,
-        Some(b"ft07"),
-        b"release = [",
-        &none,
-        1,
-    ) {
+    let mut shelf = Shelf::of(COLLECTION, b"release = [");
+    let name: Option<&[u8]> = Some(b"ft07");
+    match plan_answer(rt.alloc(), &mut shelf, "instance", name, "plan", &none, 1) {
         Err(CommandFault::Instance(OrFault::NoInstance)) => {}
         _ => panic!(rt; "the instance isn't looked for first"),
     }
-    match plan_answer(rt.alloc(), TWO, None, b"release = [", &none, 1) {
+    let mut shelf = Shelf::of(TWO, b"release = [");
+    match plan_answer(rt.alloc(), &mut shelf, "instance", None, "plan", &none, 1) {
         Err(CommandFault::Plan(PlanFault::NotToml)) => {}
         _ => panic!(rt; "the plan's text is taken"),
     }

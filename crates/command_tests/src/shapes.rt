@@ -1,3 +1,4 @@
+use super::shelf::Shelf;
 use super::texts::{COLLECTION, IN_TIME, NOT_SHAPED, TWO};
 use command_answers::{CommandFault, shape_answer};
 use orlib_read::OrFault;
@@ -6,7 +7,7 @@ use std::test::Fail;
 
 #[test]
 fn a_plan_is_shaped_or_its_first_fault_is_told(rt: HostRuntime) -> Result<(), Fail> {
-    let lines: [(&[u8], &[u8]); 2] = [
+    let lines: [(&'static [u8], &[u8]); 2] = [
         (
             b"version = 2\nrelease = [0, 0]\nbudget = [5, 10]\norder = [[0, 1], [0, 1]]\nclean = [0]\n",
             b"not shaped CleanCount\n",
@@ -17,11 +18,11 @@ fn a_plan_is_shaped_or_its_first_fault_is_told(rt: HostRuntime) -> Result<(), Fa
         ),
     ];
     for (plan, line) in lines.into_iter().chain(NOT_SHAPED) {
-        let answer = shape_answer(rt.alloc(), TWO, None, plan)?;
+        let answer = shape_answer(rt.alloc(), &mut Shelf::of(TWO, plan), "instance", None, "plan")?;
         assert_eq!(rt; answer.text.as_slice(), line);
         assert_eq!(rt; answer.status, 1);
     }
-    let answer = shape_answer(rt.alloc(), TWO, None, IN_TIME)?;
+    let answer = shape_answer(rt.alloc(), &mut Shelf::of(TWO, IN_TIME), "instance", None, "plan")?;
     assert_eq!(rt; answer.text.as_slice(), b"shaped\n".as_slice());
     assert_eq!(rt; answer.status, 0);
     Ok(())
@@ -29,9 +30,10 @@ fn a_plan_is_shaped_or_its_first_fault_is_told(rt: HostRuntime) -> Result<(), Fa
 
 #[test]
 fn a_collection_has_the_instance_of_a_plan(rt: HostRuntime) -> Result<(), Fail> {
-    let answer = shape_answer(rt.alloc(), COLLECTION, Some(b"two"), IN_TIME)?;
+    let mut shelf = Shelf::of(COLLECTION, IN_TIME);
+    let answer = shape_answer(rt.alloc(), &mut shelf, "instance", Some(b"two"), "plan")?;
     assert_eq!(rt; answer.text.as_slice(), b"shaped\n".as_slice());
-    let answer = shape_answer(rt.alloc(), COLLECTION, Some(b"ft06"), IN_TIME)?;
+    let answer = shape_answer(rt.alloc(), &mut shelf, "instance", Some(b"ft06"), "plan")?;
     assert_eq!(rt;
         answer.text.as_slice(),
         b"not shaped ReleaseCount\n".as_slice()
@@ -42,7 +44,7 @@ fn a_collection_has_the_instance_of_a_plan(rt: HostRuntime) -> Result<(), Fail> 
 #[test]
 fn a_refused_text_has_no_shape(rt: HostRuntime) -> Result<(), Fail> {
     let unknown = b"release = [0, 0]\nbudget = [5, 10]\norder = [[0, 1], [0, 1]]\nx = 1\n";
-    let faults: [(&[u8], &[u8], CommandFault); 4] = [
+    let faults: [(&'static [u8], &'static [u8], CommandFault); 4] = [
         (TWO, unknown, CommandFault::Plan(PlanFault::UnknownKey)),
         (
             TWO,
@@ -55,7 +57,9 @@ fn a_refused_text_has_no_shape(rt: HostRuntime) -> Result<(), Fail> {
         (b"", unknown, CommandFault::Instance(OrFault::NoSizes)),
     ];
     for (instance, plan, fault) in faults {
-        let answer = shape_answer(rt.alloc(), instance, None, plan).map(|answer| answer.status);
+        let mut shelf = Shelf::of(instance, plan);
+        let answer = shape_answer(rt.alloc(), &mut shelf, "instance", None, "plan");
+        let answer = answer.map(|answer| answer.status);
         assert_eq!(rt; answer, Err(fault));
     }
     let text = CommandFault::Plan(PlanFault::UnknownKey).to_string(rt.alloc())?;

@@ -14,6 +14,9 @@ fn faults_of_commands_have_a_status(rt: HostRuntime) -> Result<(), Fail> {
         (CommandFault::Plan(PlanFault::NotToml), 3),
         (CommandFault::Plan(PlanFault::NotReadBack), 3),
         (CommandFault::Memory, 4),
+        (CommandFault::Read, 5),
+        (CommandFault::Write, 5),
+        (CommandFault::InputTooLong, 5),
     ] {
         assert_eq!(rt; fault.status(), status);
     }

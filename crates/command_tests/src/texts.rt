@@ -33,7 +33,7 @@ pub(super) const CHAINED: &[u8] =
     b"release = [0, 0, 0]\nbudget = [7, 8, 9]\norder = [[0, 1, 2], [0, 1, 2], [0, 1, 2]]\n";
 
 /// Plans that aren't well shaped for the two jobs, each with its line.
-pub(super) const NOT_SHAPED: [(&[u8], &[u8]); 4] = [
+pub(super) const NOT_SHAPED: [(&'static [u8], &[u8]); 4] = [
     (
         b"release = [0, 0]\nbudget = [5, 10]\norder = [[0, 1], [0]]\n",
         b"not shaped JobMissing machine 1 job 1\n",

@@ -229,10 +229,7 @@ fn a_slot_is_used_again(rt: HostRuntime) -> Result<(), Fail> {
     assert!(rt; dismissed.is_ok_and(|cell| cell.reports_left() == 6));
     let second = admitted(&rt, &mut hub, 0)?;
     assert_eq!(rt; second, Ticket { slot: 0, serial: 1 });
-    assert!(rt;
-        hub.cell(second)
-            .is_some_and(|cell| cell.reports_left() == 6)
-    );
+    assert!(rt; hub.cell(second).is_some_and(|cell| cell.reports_left() == 6));
     Ok(())
 }
 

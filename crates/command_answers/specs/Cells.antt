@@ -1,0 +1,50 @@
+-- What loading the plans of several cells comes to.
+use Rattle.std.specs.Prelude.{◌≡◌, ◌⊎◌, ◌++◌, ◌∷◌, [], ℕ, List, Option, Result, Ok, Err, length, codes, decimal}
+use Rattle.plan_verifier.specs.Accepted.{VerifiedPlan}
+use Rattle.command_answers.specs.declared.reading.FileFault.{FileFault}
+use Rattle.command_answers.specs.declared.answer.Answer.{Answer}
+use Rattle.command_answers.specs.declared.cells.Cells.{Cells}
+use Rattle.command_answers.specs.declared.cells.Cells.TheVariants.{Accepted as AllAccepted, Line}
+use Rattle.command_answers.specs.declared.command_fault.CommandFault.{CommandFault}
+use Rattle.command_answers.specs.declared.command_fault.CommandFault.TheVariants.{Memory}
+use Rattle.command_answers.specs.declared.loading.Loaded.{Loaded}
+use Rattle.command_answers.specs.declared.loading.Loaded.TheVariants.{NotShaped, Refused, Accepted}
+use Rattle.command_answers.specs.Steps.{Then, Told, IsOrMemory}
+use Rattle.command_answers.specs.Texts.{Asks}
+use Rattle.command_answers.specs.Readings.{IsInstanceRead}
+use Rattle.command_answers.specs.Checks.{IsLineOf, IsLoaded}
+use Rattle.command_answers.specs.Commands.{WithPlan}
+
+-- the line of the plan of this number, which isn't accepted, unless memory ran out
+abbrev pub IsCellLine : ℕ → Loaded → Result Cells CommandFault → Type 0
+IsCellLine number loaded (Ok (Line answer)) = (line : Answer) × IsLineOf loaded line
+    × (answer.text.items ≡ decimal number ++ codes " " ++ line.text.items) × (answer.status ≡ line.status)
+IsCellLine number loaded (Ok (AllAccepted cells)) = ⊥
+IsCellLine number loaded (Err fault) = fault ≡ Memory
+
+-- all plans are accepted
+abbrev pub AreAccepted : List VerifiedPlan → Result Cells CommandFault → Type 0
+AreAccepted cells (Ok (AllAccepted all)) = all.items ≡ cells
+AreAccepted cells (Ok (Line answer)) = ⊥
+AreAccepted cells (Err fault) = ⊥
+
+-- after an accepted plan the next ones follow, unless memory ran out; any other ends it by its line
+abbrev pub AfterPlan : {W : Type 0} → List VerifiedPlan → (List VerifiedPlan → W → Result Cells CommandFault → W → Type 0) → Loaded → W → Result Cells CommandFault → W → Type 0
+AfterPlan cells rest (Accepted v) before outcome after = rest (cells ++ v ∷ []) before outcome after ⊎ ((outcome ≡ Err Memory) × (after ≡ before))
+AfterPlan cells rest (NotShaped fault) before outcome after = IsCellLine (length cells) (NotShaped fault) outcome × (after ≡ before)
+AfterPlan cells rest (Refused why) before outcome after = IsCellLine (length cells) (Refused why) outcome × (after ≡ before)
+
+module _ {W : Type 0} (gives : W → List ℕ → Result (List ℕ) FileFault → W → Type 0) where
+  -- the instance is read from its text, and then the plan's file is asked for
+  abbrev pub LoadsOne : List ℕ → Option (List ℕ) → List ℕ → W → Result Loaded CommandFault → W → Type 0
+  LoadsOne text name path = Then (Told (IsInstanceRead text name)) (λ named. WithPlan gives path named.shop (λ p. Told (IsOrMemory (IsLoaded p))))
+
+  -- the plans are loaded one after another, after these
+  abbrev pub LoadsEach : List ℕ → Option (List ℕ) → List VerifiedPlan → List (List ℕ) → W → Result Cells CommandFault → W → Type 0
+  LoadsEach text name cells [] before outcome after = AreAccepted cells outcome × (after ≡ before)
+  LoadsEach text name cells (path ∷ paths) before outcome after =
+      Then (LoadsOne text name path) (AfterPlan cells (λ more. LoadsEach text name more paths)) before outcome after
+
+  -- the instance's file is asked for, then each plan's once the plan before it is accepted
+  abbrev pub LoadsCells : List ℕ → Option (List ℕ) → List (List ℕ) → W → Result Cells CommandFault → W → Type 0
+  LoadsCells path name plans = Then (Asks gives path) (λ text. LoadsEach text name [] plans)

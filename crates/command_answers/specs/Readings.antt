@@ -1,0 +1,34 @@
+-- What texts are read as.
+use Rattle.std.specs.Prelude.{◌≡◌, ℕ, List, Option, Result, IfOk, IfErr}
+use Rattle.shop_base.specs.Shop.{JobShop}
+use Rattle.shop_base.specs.Plan.{ShopPlan}
+use Rattle.orlib_read.specs.declared.or_fault.OrFault.{OrFault}
+use Rattle.orlib_read.specs.declared.named.Named.{Named}
+use Rattle.plan_text.specs.declared.plan_fault.PlanFault.{PlanFault}
+use Rattle.plan_text.specs.Documents.{IsPlanText, IsFirstPlanFault}
+use Rattle.command_answers.specs.declared.answer.Answer.{Answer}
+use Rattle.command_answers.specs.declared.command_fault.CommandFault.{CommandFault}
+use Rattle.command_answers.specs.Facts.{AreFacts, AreToldFacts}
+use Rattle.command_answers.specs.Instances.{Tells, IsFirstInstanceFault, Holds, IsRightInstanceFault, IsInstanceRefusal}
+use Rattle.command_answers.specs.Plans.{IsRightPlanFault, IsPlanRefusal}
+
+-- the text is read as the instance that it tells, or refused by its first fault, unless memory ran out
+pub record IsInstanceRead (text : List ℕ) (name : Option (List ℕ)) (read : Result Named CommandFault) : Type 0 where
+  pub found : IfOk read (λ named. Tells text name named.description.items named.shop)
+  pub only : (description : List ℕ) (shop : JobShop) → Tells text name description shop → Holds read (λ named. (named.description.items ≡ description) × (named.shop ≡ shop))
+  pub fault : IfErr read (IsRightInstanceFault text name)
+  pub first : (fault : OrFault) → IsFirstInstanceFault text name fault → IsInstanceRefusal read fault
+
+-- the text is read as the plan that it tells, or refused by its first fault, unless memory ran out
+pub record IsPlanRead (text : List ℕ) (read : Result ShopPlan CommandFault) : Type 0 where
+  pub found : IfOk read (IsPlanText text)
+  pub only : (plan : ShopPlan) → IsPlanText text plan → Holds read (λ found. found ≡ plan)
+  pub fault : IfErr read (IsRightPlanFault text)
+  pub first : (fault : PlanFault) → IsFirstPlanFault text fault → IsPlanRefusal read fault
+
+-- the facts of the instance that the text tells are answered, or it is refused by its first fault, unless memory ran out
+pub record AreFactsAnswered (text : List ℕ) (name : Option (List ℕ)) (read : Result Answer CommandFault) : Type 0 where
+  pub found : IfOk read (AreToldFacts text name)
+  pub only : (description : List ℕ) (shop : JobShop) → Tells text name description shop → Holds read (λ answer. AreFacts answer shop)
+  pub fault : IfErr read (IsRightInstanceFault text name)
+  pub first : (fault : OrFault) → IsFirstInstanceFault text name fault → IsInstanceRefusal read fault

@@ -1,0 +1,89 @@
+//! The plans of the command `hub`.
+
+ghost use Rattle.std.specs.Prelude.{[], map};
+ghost use Rattle.std.specs.Option.{option_copied};
+ghost use Rattle.std.specs.String.{string_bytes};
+ghost use Rattle.command_answers.specs.Cells.{IsCellLine, LoadsOne, LoadsEach, LoadsCells};
+
+use crate::answer::Answer;
+use crate::checks::loaded_answer;
+use crate::command_fault::CommandFault;
+use crate::instances::instance_told;
+use crate::loading::{Loaded, load_with};
+use crate::print::{push_fact, push_words};
+use crate::texts::{Texts, ask};
+use plan_verifier::Verified;
+use std::alloc::{AllocError, Global};
+
+/// What is to be said of several plans.
+#[derive(Drop)]
+pub enum Cells {
+    /// All are accepted.
+    Accepted(Vec<Verified>),
+    /// The line of the first that isn't.
+    Line(Answer),
+}
+
+/// The verdicts on the plans of these files, for the instance that the file of a path tells. A plan's file is asked for
+/// once the plan before it is accepted.
+pub fn load_cells<T: Texts>(
+    alloc: Global,
+    texts: &mut T,
+    path: &str,
+    name: Option<&[u8]>,
+    plans: &[String],
+) -> Result<Cells, CommandFault>
+    ensures { LoadsCells T.gives path.now (option_copied name.entry) (map string_bytes plans.now) texts.old result texts.new }
+{
+    let text = ask(alloc, texts, path)?;
+    load_each(alloc, texts, &text, name, plans)
+}
+
+/// The verdicts on the plans of these files, for the instance that the text tells.
+fn load_each<T: Texts>(
+    alloc: Global,
+    texts: &mut T,
+    text: &[u8],
+    name: Option<&[u8]>,
+    plans: &[String],
+) -> Result<Cells, CommandFault>
+    ensures { LoadsEach T.gives text.now (option_copied name.entry) [] (map string_bytes plans.now) texts.old result texts.new }
+{
+    let mut cells = Vec::new(alloc);
+    for path in plans {
+        match load_one(alloc, texts, text, name, path.as_str())? {
+            Loaded::Accepted(verified) => cells.push(verified).map_err(AllocError::from)?,
+            other => return cell_line(alloc, cells.len() as u64, &other),
+        }
+    }
+    Ok(Cells::Accepted(cells))
+}
+
+/// The verdict on the plan of a file, for the instance that the text tells.
+fn load_one<T: Texts>(
+    alloc: Global,
+    texts: &mut T,
+    text: &[u8],
+    name: Option<&[u8]>,
+    path: &str,
+) -> Result<Loaded, CommandFault>
+    ensures { LoadsOne T.gives text.now (option_copied name.entry) path.now texts.old result texts.new }
+{
+    let named = instance_told(alloc, text, name)?;
+    load_with(alloc, texts, named.shop, path)
+}
+
+/// The line of the plan of this number, which isn't accepted, with the number and a space before it.
+fn cell_line(alloc: Global, number: u64, loaded: &Loaded) -> Result<Cells, CommandFault>
+    ensures { IsCellLine number loaded.now result }
+{
+    let line = loaded_answer(alloc, loaded)?;
+    let mut text = Vec::new(alloc);
+    push_fact(&mut text, b"", number)?;
+    push_words(&mut text, b" ")?;
+    push_words(&mut text, &line.text)?;
+    Ok(Cells::Line(Answer {
+        text,
+        status: line.status,
+    }))
+}

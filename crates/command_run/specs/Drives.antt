@@ -1,0 +1,65 @@
+-- What driving the cell of an accepted plan comes to.
+use Rattle.std.specs.Prelude.{◌≡◌, ℕ, List, [], Bool, true, false, Result, Ok, Err, IfOk, IfErr, OnOk}
+use Rattle.std.specs.Io.KnownBytes.{Consumes}
+use Rattle.plan_verifier.specs.Accepted.{VerifiedPlan}
+use Rattle.cell_drive.specs.declared.driving.DriveEnd.{DriveEnd}
+use Rattle.cell_drive.specs.declared.drive_fault.DriveFault.{DriveFault}
+use Rattle.cell_drive.specs.declared.drive_fault.DriveFault.TheVariants.{Read as NotRead, Write as NotWritten, InputTooLong as TooLong, Memory as WantOfMemory}
+use Rattle.cell_drive.specs.Driving.{IsDrivenThrough, IsBrokenOff, IsRunOf, IsSoFar, NeverWentWrong}
+use Rattle.command_answers.specs.declared.answer.Answer.{Answer}
+use Rattle.command_answers.specs.declared.command_fault.CommandFault.{CommandFault}
+use Rattle.command_answers.specs.declared.command_fault.CommandFault.TheVariants.{Read, Write, InputTooLong, Memory}
+use Rattle.command_answers.specs.declared.loading.Loaded.{Loaded}
+use Rattle.command_answers.specs.declared.loading.Loaded.TheVariants.{NotShaped, Refused, Accepted}
+use Rattle.command_answers.specs.Checks.{IsLineOf}
+use Rattle.command_answers.specs.Steps.{IsOrMemory}
+use Rattle.command_run.specs.Streams.{Streams}
+
+-- the fault of a driven run as a command's
+abbrev pub drive_command_fault : DriveFault → CommandFault
+drive_command_fault NotRead = Read
+drive_command_fault NotWritten = Write
+drive_command_fault TooLong = InputTooLong
+drive_command_fault WantOfMemory = Memory
+
+-- the cell of the plan was driven to this end, and all that was answered is shown; or it was broken off by this fault
+pub record IsDrive (v : VerifiedPlan) (before after : Streams) (end : Result DriveEnd DriveFault) : Type 0 where
+  pub through : IfOk end (λ e. IsDrivenThrough v.planned e.log.entries before.input.left after.input.left before.output.taken after.output.taken after.output.pending)
+  pub run : IfOk end (λ e. IsRunOf v.planned e.log.entries)
+  pub so_far : IfOk end (λ e. IsSoFar v.planned e.log.entries e.done e.last e.left)
+  pub promised : IfOk end (λ e. NeverWentWrong v e.log.entries)
+  pub unfailed : OnOk end ((after.input.failed ≡ before.input.failed) × (after.output.failed ≡ before.output.failed))
+  pub broken_off : IfErr end (λ fault. (input : List ℕ) × Consumes before.input.left after.input.left input
+      × IsBrokenOff fault v.planned input before.input.failed after.input.failed after.input.left before.output.failed after.output.failed before.output.taken after.output.taken after.output.pending)
+  pub untouched : end ≡ Err WantOfMemory → after ≡ before
+
+-- the status of a run: whether it has ended
+abbrev pub status_at : Bool → ℕ
+status_at true = 0
+status_at false = 1
+
+-- no more is answered at the end, since all lines are written
+abbrev pub IsEnded : Bool → Result Answer CommandFault → Type 0
+IsEnded done (Ok answer) = (answer.text.items ≡ []) × (answer.status ≡ status_at done)
+IsEnded done (Err fault) = ⊥
+
+abbrev pub IsEndAnswer : Result DriveEnd DriveFault → Result Answer CommandFault → Type 0
+IsEndAnswer (Ok end) outcome = IsEnded end.done outcome
+IsEndAnswer (Err fault) outcome = outcome ≡ Err (drive_command_fault fault)
+
+-- the cell was driven, and the status says whether its run has ended
+pub record DrivesCell (v : VerifiedPlan) (before after : Streams) (outcome : Result Answer CommandFault) : Type 0 where
+  pub end : Result DriveEnd DriveFault
+  pub is : IsDrive v before after end
+  pub answer : IsEndAnswer end outcome
+
+-- the line of a plan that isn't accepted, unless memory ran out
+abbrev pub IsLineTold : Loaded → Result Answer CommandFault → Type 0
+IsLineTold loaded = IsOrMemory (IsLineOf loaded)
+
+-- what follows what is to be said of the plan: an accepted one drives the cell; any other is answered by its line, with no byte read or written
+abbrev pub Drives : Result Loaded CommandFault → Streams → Streams → Result Answer CommandFault → Type 0
+Drives (Err fault) before after outcome = (outcome ≡ Err fault) × (after ≡ before)
+Drives (Ok (NotShaped fault)) before after outcome = IsLineTold (NotShaped fault) outcome × (after ≡ before)
+Drives (Ok (Refused why)) before after outcome = IsLineTold (Refused why) outcome × (after ≡ before)
+Drives (Ok (Accepted v)) before after outcome = DrivesCell v before after outcome

@@ -1,0 +1,38 @@
+-- What driving the cells of several plans comes to.
+use Rattle.std.specs.Prelude.{◌≡◌, ℕ, List, Result, Ok, Err, IfOk, IfErr, OnOk}
+use Rattle.std.specs.Io.KnownBytes.{Consumes}
+use Rattle.plan_verifier.specs.Accepted.{VerifiedPlan}
+use Rattle.cell_drive.specs.declared.driving_cells.HubEnd.{HubEnd}
+use Rattle.cell_drive.specs.declared.drive_fault.DriveFault.{DriveFault}
+use Rattle.cell_drive.specs.declared.drive_fault.DriveFault.TheVariants.{Memory as WantOfMemory}
+use Rattle.cell_drive.specs.DrivingCells.{AreDrivenThrough, AreBrokenOff}
+use Rattle.command_answers.specs.declared.answer.Answer.{Answer}
+use Rattle.command_answers.specs.declared.cells.Cells.{Cells}
+use Rattle.command_answers.specs.declared.cells.Cells.TheVariants.{Accepted, Line}
+use Rattle.command_answers.specs.declared.command_fault.CommandFault.{CommandFault}
+use Rattle.command_run.specs.Streams.{Streams}
+use Rattle.command_run.specs.Drives.{drive_command_fault, IsEnded}
+
+-- the cells of the plans were driven to this end, and all that was answered is shown; or they were broken off by this fault
+pub record AreDrives (cells : List VerifiedPlan) (before after : Streams) (end : Result HubEnd DriveFault) : Type 0 where
+  pub through : IfOk end (λ e. AreDrivenThrough cells e.all_done before.input.left after.input.left before.output.taken after.output.taken after.output.pending)
+  pub unfailed : OnOk end ((after.input.failed ≡ before.input.failed) × (after.output.failed ≡ before.output.failed))
+  pub broken_off : IfErr end (λ fault. (input : List ℕ) × Consumes before.input.left after.input.left input
+      × AreBrokenOff fault cells input before.input.failed after.input.failed after.input.left before.output.failed after.output.failed before.output.taken after.output.taken after.output.pending)
+  pub untouched : end ≡ Err WantOfMemory → after ≡ before
+
+abbrev pub IsHubAnswer : Result HubEnd DriveFault → Result Answer CommandFault → Type 0
+IsHubAnswer (Ok end) outcome = IsEnded end.all_done outcome
+IsHubAnswer (Err fault) outcome = outcome ≡ Err (drive_command_fault fault)
+
+-- the cells were driven, and the status says whether all their runs have ended
+pub record DrivesCells (cells : List VerifiedPlan) (before after : Streams) (outcome : Result Answer CommandFault) : Type 0 where
+  pub end : Result HubEnd DriveFault
+  pub are : AreDrives cells before after end
+  pub answer : IsHubAnswer end outcome
+
+-- what follows the loading of the plans: accepted ones drive their cells; else the line of the first that isn't is answered, with no byte read or written
+abbrev pub DrivesAll : Result Cells CommandFault → Streams → Streams → Result Answer CommandFault → Type 0
+DrivesAll (Err fault) before after outcome = (outcome ≡ Err fault) × (after ≡ before)
+DrivesAll (Ok (Line answer)) before after outcome = (outcome ≡ Ok answer) × (after ≡ before)
+DrivesAll (Ok (Accepted cells)) before after outcome = DrivesCells cells.items before after outcome

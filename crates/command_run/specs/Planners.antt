@@ -1,0 +1,24 @@
+-- The planners that are asked for a plan.
+use Rattle.std.specs.Prelude.{◌≡◌, ◌⊎◌, ℕ, zero, suc, List, Option, Some, Result, Err}
+use Rattle.shop_base.specs.Shop.{JobShop}
+use Rattle.plan_seek.specs.Orders.{Proposal, shifted_order}
+use Rattle.plan_seek.specs.Turns.{Turn, Proposals}
+use Rattle.command_answers.specs.declared.reading.FileFault.{FileFault}
+use Rattle.command_answers.specs.declared.answer.Answer.{Answer}
+use Rattle.command_answers.specs.declared.command_fault.CommandFault.{CommandFault}
+use Rattle.command_answers.specs.declared.command_fault.CommandFault.TheVariants.{Memory}
+use Rattle.command_answers.specs.Commands.{RunsPlan}
+
+-- what the planner of a place may propose: the first one anything, and the second one the jobs in one row, shifted by the round
+abbrev pub MayPlanAt : ℕ → JobShop → ℕ → Proposal → Type 0
+MayPlanAt zero shop round proposal = Unit {0}
+MayPlanAt (suc zero) shop round proposal = proposal ≡ Some (shifted_order shop round)
+MayPlanAt (suc (suc place)) shop round proposal = ⊥
+
+abbrev pub MayPlan : JobShop → Proposals
+MayPlan shop turn proposal = MayPlanAt turn.proposer shop turn.round proposal
+
+-- a plan is sought by the two planners, unless memory runs out before any file is asked for
+abbrev pub SeeksPlan : {W : Type 0} → (W → List ℕ → Result (List ℕ) FileFault → W → Type 0) → ℕ → List ℕ → Option (List ℕ) → List ℕ → W → Result Answer CommandFault → W → Type 0
+SeeksPlan gives rounds path name plan before outcome after =
+    RunsPlan gives MayPlan rounds 2 path name plan before outcome after ⊎ ((outcome ≡ Err Memory) × (after ≡ before))

@@ -1,0 +1,113 @@
+-- What the whole program does: what it answers to the words of its command line, and how it ends.
+use Rattle.std.specs.Prelude.{◌≡◌, ℕ, List, [], Option, true, false, Result, Ok, Err, IfOk, IfErr, get_or, map, option_map, drop}
+use Rattle.std.specs.String.{string_bytes}
+use Rattle.run_log.specs.Sinks.{TookPart}
+use Rattle.command_words.specs.declared.words.Chosen.{Chosen}
+use Rattle.command_words.specs.declared.words.CommandName.{CommandName}
+use Rattle.command_words.specs.declared.words.CommandName.TheVariants.{Input as NoWords, Facts, Shape, Check, Plan, Drive, Hub, Audit, Gantt}
+use Rattle.command_words.specs.declared.words.WordsFault.{WordsFault}
+use Rattle.command_words.specs.declared.words.WordsFault.TheVariants.{Usage, Memory}
+use Rattle.command_words.specs.Choice.{IsChoiceOf, IsWithin, TellsOneOf, reasons_in, found_in}
+use Rattle.command_answers.specs.declared.reading.FileFault.{FileFault}
+use Rattle.command_answers.specs.declared.answer.Answer.{Answer}
+use Rattle.command_answers.specs.declared.cells.Cells.{Cells}
+use Rattle.command_answers.specs.declared.command_fault.CommandFault.{CommandFault}
+use Rattle.command_answers.specs.declared.loading.Loaded.{Loaded}
+use Rattle.command_answers.specs.AuditLines.{IsLogLine}
+use Rattle.command_answers.specs.GanttLines.{IsDrawnLog}
+use Rattle.command_answers.specs.Commands.{RunsFacts, RunsShape, RunsCheck, RunsLog, Loads}
+use Rattle.command_answers.specs.Cells.{LoadsCells}
+use Rattle.command_run.specs.Streams.{Streams}
+use Rattle.command_run.specs.Inputs.{RunsInput}
+use Rattle.command_run.specs.Planners.{SeeksPlan}
+use Rattle.command_run.specs.Drives.{Drives}
+use Rattle.command_run.specs.Hubs.{DrivesAll}
+use Rattle.command_run.specs.Ending.{Ends, IsMemoryLine, IsAnswerEnd}
+
+-- what the words of the command line are read as
+pub record AreWordsRead (words : List (List ℕ)) (read : Result Chosen WordsFault) : Type 0 where
+  pub chosen : IfOk read (IsChoiceOf (found_in words))
+  pub within : IfOk read IsWithin
+  pub taken : IfOk read (λ _. reasons_in words ≡ [])
+  pub refused : IfErr read (TellsOneOf (reasons_in words))
+
+-- the file at a place of the command line
+abbrev pub file_at : Chosen → ℕ → List ℕ
+file_at chosen place = get_or (map string_bytes chosen.files.items) place []
+
+-- the files of the plans of a hub
+abbrev pub plans_in : Chosen → List (List ℕ)
+plans_in chosen = map string_bytes (drop 1 chosen.files.items)
+
+-- the name of the instance in its collection
+abbrev pub name_in : Chosen → Option (List ℕ)
+name_in chosen = option_map string_bytes chosen.instance
+
+module _ {W : Type 0} (gives : W → List ℕ → Result (List ℕ) FileFault → W → Type 0) where
+  -- the plan is loaded, and then the input is read
+  pub record RunsDrive (path : List ℕ) (name : Option (List ℕ)) (plan : List ℕ) (texts : W) (before : Streams) (outcome : Result Answer CommandFault) (texts_after : W) (after : Streams) : Type 0 where
+    pub loaded : Result Loaded CommandFault
+    pub loads : Loads gives path name plan texts loaded texts_after
+    pub drives : Drives loaded before after outcome
+
+  -- all plans are loaded, and then the input is read
+  pub record RunsHub (path : List ℕ) (name : Option (List ℕ)) (plans : List (List ℕ)) (texts : W) (before : Streams) (outcome : Result Answer CommandFault) (texts_after : W) (after : Streams) : Type 0 where
+    pub loaded : Result Cells CommandFault
+    pub loads : LoadsCells gives path name plans texts loaded texts_after
+    pub drives : DrivesAll loaded before after outcome
+
+  -- what each command does
+  abbrev pub RunsCommand : CommandName → Chosen → W → Streams → Result Answer CommandFault → W → Streams → Type 0
+  RunsCommand NoWords chosen texts before outcome texts_after after =
+      RunsInput before.input outcome after.input × (after.output ≡ before.output) × (texts_after ≡ texts)
+  RunsCommand Facts chosen texts before outcome texts_after after =
+      RunsFacts gives (file_at chosen 0) (name_in chosen) texts outcome texts_after × (after ≡ before)
+  RunsCommand Shape chosen texts before outcome texts_after after =
+      RunsShape gives (file_at chosen 0) (name_in chosen) (file_at chosen 1) texts outcome texts_after × (after ≡ before)
+  RunsCommand Check chosen texts before outcome texts_after after =
+      RunsCheck gives (file_at chosen 0) (name_in chosen) (file_at chosen 1) texts outcome texts_after × (after ≡ before)
+  RunsCommand Plan chosen texts before outcome texts_after after =
+      SeeksPlan gives chosen.rounds (file_at chosen 0) (name_in chosen) (file_at chosen 1) texts outcome texts_after × (after ≡ before)
+  RunsCommand Drive chosen texts before outcome texts_after after =
+      RunsDrive (file_at chosen 0) (name_in chosen) (file_at chosen 1) texts before outcome texts_after after
+  RunsCommand Hub chosen texts before outcome texts_after after =
+      RunsHub (file_at chosen 0) (name_in chosen) (plans_in chosen) texts before outcome texts_after after
+  RunsCommand Audit chosen texts before outcome texts_after after =
+      RunsLog gives IsLogLine (file_at chosen 0) (name_in chosen) (file_at chosen 1) (file_at chosen 2) texts outcome texts_after × (after ≡ before)
+  RunsCommand Gantt chosen texts before outcome texts_after after =
+      RunsLog gives IsDrawnLog (file_at chosen 0) (name_in chosen) (file_at chosen 1) (file_at chosen 2) texts outcome texts_after × (after ≡ before)
+
+  -- the command is run, and then its answer printed, or its fault told
+  pub record Commands (chosen : Chosen) (texts : W) (before : Streams) (told_before : Option (List ℕ)) (status : ℕ)
+      (texts_after : W) (after : Streams) (told_after : Option (List ℕ)) : Type 0 where
+    pub outcome : Result Answer CommandFault
+    pub mid : Streams
+    pub runs : RunsCommand chosen.name chosen texts before outcome texts_after mid
+    pub input : after.input ≡ mid.input
+    pub ends : Ends outcome mid.output after.output told_before told_after status
+
+  -- help that was asked for is a good answer
+  pub record Helps (text : List ℕ) (texts : W) (before : Streams) (told_before : Option (List ℕ)) (status : ℕ)
+      (texts_after : W) (after : Streams) (told_after : Option (List ℕ)) : Type 0 where
+    pub help : Answer
+    pub text_is : (help.text.items ≡ text) × (help.status ≡ 0)
+    pub ends : IsAnswerEnd help before.output after.output told_before told_after status
+    pub same : (texts_after ≡ texts) × (after.input ≡ before.input)
+
+  -- what follows the reading of the words: the command that was chosen, help, or a line on the standard error
+  abbrev pub Follows : Result Chosen WordsFault → W → Streams → Option (List ℕ) → ℕ → W → Streams → Option (List ℕ) → Type 0
+  Follows (Ok chosen) texts before told_before status texts_after after told_after =
+      Commands chosen texts before told_before status texts_after after told_after
+  Follows (Err (Usage true text)) texts before told_before status texts_after after told_after =
+      Helps (string_bytes text) texts before told_before status texts_after after told_after
+  Follows (Err (Usage false text)) texts before told_before status texts_after after told_after =
+      TookPart told_before told_after (string_bytes text) × (status ≡ 2) × (texts_after ≡ texts) × (after ≡ before)
+  Follows (Err Memory) texts before told_before status texts_after after told_after =
+      ((line : List ℕ) × IsMemoryLine line status × TookPart told_before told_after line) × (texts_after ≡ texts) × (after ≡ before)
+
+  -- the program: the words are read, and what they ask for is done
+  pub record RunsProgram (words : List (List ℕ)) (texts : W) (before : Streams) (told_before : Option (List ℕ)) (status : ℕ)
+      (texts_after : W) (after : Streams) (told_after : Option (List ℕ)) : Type 0 where
+    pub read : Result Chosen WordsFault
+    pub is : AreWordsRead words read
+    pub follows : Follows read texts before told_before status texts_after after told_after

@@ -1,0 +1,24 @@
+-- The standard input and output, as they are seen before and after a step.
+use Rattle.std.specs.Prelude.{ℕ, List, Option, Bool}
+
+-- what an input still has to give, and whether a read has failed
+pub record Input : Type 0 where
+  pub left : Option (List ℕ)
+  pub failed : Bool
+
+-- what an output has taken, whether a write has failed, and what isn't shown yet
+pub record Output : Type 0 where
+  pub taken : Option (List ℕ)
+  pub failed : Bool
+  pub pending : List ℕ
+
+pub record Streams : Type 0 where
+  pub input : Input
+  pub output : Output
+
+-- a device as it is seen
+abbrev pub input_of : {R : Type 0} → (R → Option (List ℕ)) → (R → Bool) → R → Input
+input_of left failed device = record { left = left device; failed = failed device }
+
+abbrev pub output_of : {W : Type 0} → (W → Option (List ℕ)) → (W → Bool) → (W → List ℕ) → W → Output
+output_of taken failed pending device = record { taken = taken device; failed = failed device; pending = pending device }

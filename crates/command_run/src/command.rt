@@ -1,0 +1,107 @@
+//! The command that was chosen.
+
+ghost use Rattle.std.specs.Prelude.{◌≡◌, ◌<◌, [], length, map};
+ghost use Rattle.std.specs.Option.{option_copied};
+ghost use Rattle.std.specs.String.{string_bytes};
+ghost use Rattle.command_words.specs.Choice.{IsWithin};
+ghost use Rattle.command_run.specs.Streams.{input_of, output_of};
+ghost use Rattle.command_run.specs.Program.{RunsCommand, RunsDrive, RunsHub, file_at, name_in, plans_in};
+
+use crate::drives::drive_cell;
+use crate::hubs::drive_cells;
+use crate::input::input_answer;
+use crate::planners::seek_answer;
+use cell_drive::{Outlet, Source};
+use command_answers::{
+    Answer, CommandFault, Texts, audit_answer, check_answer, facts_answer, gantt_answer, load_cells,
+    load_files, shape_answer,
+};
+use command_words::{Chosen, CommandName};
+use std::alloc::Global;
+
+/// The file at a place of the command line.
+fn file(chosen: &Chosen, place: usize) -> &str
+    requires { place < length chosen.now.files.items }
+    ensures { result.now ≡ file_at chosen.now place }
+{
+    chosen.files[place].as_str()
+}
+
+/// The name of the instance.
+fn name(chosen: &Chosen) -> Option<&[u8]>
+    ensures { option_copied result ≡ name_in chosen.now }
+{
+    match &chosen.instance {
+        Some(name) => Some(name.as_bytes()),
+        None => None,
+    }
+}
+
+/// Runs the command that was chosen.
+pub(crate) fn command<T: Texts, R: Source, W: Outlet>(
+    alloc: Global,
+    chosen: &Chosen,
+    texts: &mut T,
+    input: &mut R,
+    output: &mut W,
+) -> Result<Answer, CommandFault>
+    requires within { IsWithin chosen.now }
+    requires shown { W.pending output.old ≡ [] }
+    ensures { RunsCommand T.gives chosen.now.name chosen.now texts.old
+        (record { input = input_of R.left R.failed input.old; output = output_of W.taken W.failed W.pending output.old }) result texts.new
+        (record { input = input_of R.left R.failed input.new; output = output_of W.taken W.failed W.pending output.new }) }
+{
+    let name = name(chosen);
+    match chosen.name {
+        CommandName::Input => input_answer(alloc, input, output),
+        CommandName::Facts => facts_answer(alloc, texts, file(chosen, 0), name),
+        CommandName::Shape => shape_answer(alloc, texts, file(chosen, 0), name, file(chosen, 1)),
+        CommandName::Check => check_answer(alloc, texts, file(chosen, 0), name, file(chosen, 1)),
+        CommandName::Plan => {
+            seek_answer(alloc, texts, file(chosen, 0), name, file(chosen, 1), chosen.rounds)
+        }
+        CommandName::Drive => drive(alloc, chosen, texts, input, output),
+        CommandName::Hub => hub(alloc, chosen, texts, input, output),
+        CommandName::Audit => {
+            audit_answer(alloc, texts, file(chosen, 0), name, file(chosen, 1), file(chosen, 2))
+        }
+        CommandName::Gantt => {
+            gantt_answer(alloc, texts, file(chosen, 0), name, file(chosen, 1), file(chosen, 2))
+        }
+    }
+}
+
+/// Loads a plan, and drives its cell.
+fn drive<T: Texts, R: Source, W: Outlet>(
+    alloc: Global,
+    chosen: &Chosen,
+    texts: &mut T,
+    input: &mut R,
+    output: &mut W,
+) -> Result<Answer, CommandFault>
+    requires { 1 < length chosen.now.files.items }
+    ensures { RunsDrive T.gives (file_at chosen.now 0) (name_in chosen.now) (file_at chosen.now 1) texts.old
+        (record { input = input_of R.left R.failed input.old; output = output_of W.taken W.failed W.pending output.old }) result texts.new
+        (record { input = input_of R.left R.failed input.new; output = output_of W.taken W.failed W.pending output.new }) }
+{
+    let loaded = load_files(alloc, texts, file(chosen, 0), name(chosen), file(chosen, 1));
+    drive_cell(alloc, loaded, input, output)
+}
+
+/// Loads several plans, and drives their cells.
+fn hub<T: Texts, R: Source, W: Outlet>(
+    alloc: Global,
+    chosen: &Chosen,
+    texts: &mut T,
+    input: &mut R,
+    output: &mut W,
+) -> Result<Answer, CommandFault>
+    requires { 0 < length chosen.now.files.items }
+    ensures { RunsHub T.gives (file_at chosen.now 0) (name_in chosen.now) (plans_in chosen.now) texts.old
+        (record { input = input_of R.left R.failed input.old; output = output_of W.taken W.failed W.pending output.old }) result texts.new
+        (record { input = input_of R.left R.failed input.new; output = output_of W.taken W.failed W.pending output.new }) }
+{
+    let plans = &chosen.files.as_slice()[1..];
+    let loaded = load_cells(alloc, texts, file(chosen, 0), name(chosen), plans);
+    drive_cells(alloc, loaded, input, output)
+}

@@ -1,0 +1,51 @@
+//! The command without words.
+
+ghost use Rattle.std.specs.Prelude.{◌≡◌, ◌<◌, [], None};
+ghost use Rattle.command_answers.specs.Texts.{text_of};
+ghost use Rattle.command_run.specs.Streams.{input_of};
+ghost use Rattle.command_run.specs.Inputs.{IsInputRead, RunsInput};
+
+use cell_drive::{Outlet, Source, reading_room};
+use command_answers::{Answer, CommandFault, facts_of};
+use std::alloc::Global;
+use text_lines::MAX_INPUT;
+
+/// The facts of the instance that the input tells.
+pub(crate) fn input_answer<R: Source, W: Outlet>(
+    alloc: Global,
+    input: &mut R,
+    output: &W,
+) -> Result<Answer, CommandFault>
+    requires { W.pending output.now ≡ [] }
+    ensures { RunsInput (input_of R.left R.failed input.old) result (input_of R.left R.failed input.new) }
+{
+    let text = read_input(alloc, input, output)?;
+    facts_of(alloc, &text, None)
+}
+
+/// All bytes that the input gives until its end.
+fn read_input<R: Source, W: Outlet>(
+    alloc: Global,
+    input: &mut R,
+    output: &W,
+) -> Result<Vec<u8>, CommandFault>
+    requires { W.pending output.now ≡ [] }
+    ensures { IsInputRead (input_of R.left R.failed input.old) (text_of result) (input_of R.left R.failed input.new) }
+{
+    let mut room = reading_room(alloc)?;
+    let mut text = Vec::new(alloc);
+    let mut left = MAX_INPUT;
+    'reads: loop {
+        let Ok(count) = input.get(&mut room, output) else {
+            return Err(CommandFault::Read);
+        };
+        if count == 0 {
+            return Ok(text);
+        }
+        if count > left {
+            return Err(CommandFault::InputTooLong);
+        }
+        text.extend_from_slice(&room[..count])?;
+        left -= count;
+    }
+}

@@ -1,0 +1,75 @@
+//! The whole program.
+
+ghost use Rattle.std.specs.Prelude.{◌≡◌, [], map, IfOk};
+ghost use Rattle.command_words.specs.Choice.{IsWithin};
+ghost use Rattle.command_run.specs.Streams.{input_of, output_of};
+ghost use Rattle.command_run.specs.Program.{AreWordsRead, Follows, RunsProgram};
+
+use crate::command::command;
+use crate::devices::Devices;
+use crate::ending::{MEMORY, end, tell_line};
+use cell_drive::{Outlet, Source};
+use command_answers::{Answer, GOOD, Texts};
+use command_words::{Chosen, WordsFault, read_words};
+use run_log::Sink;
+use std::alloc::Global;
+
+/// Runs the program on the words of a command line, the program's name first, and gives the status that it ends with.
+pub fn run<T: Texts, R: Source, W: Outlet, E: Sink>(
+    alloc: Global,
+    words: &[&str],
+    devices: &mut Devices<T, R, W, E>,
+) -> u8
+    requires shown { W.pending devices.old.output ≡ [] }
+    ensures { RunsProgram T.gives (map (λ word. word.now) words.now) devices.old.texts
+        (record { input = input_of R.left R.failed devices.old.input; output = output_of W.taken W.failed W.pending devices.old.output })
+        (E.taken devices.old.errors) result devices.new.texts
+        (record { input = input_of R.left R.failed devices.new.input; output = output_of W.taken W.failed W.pending devices.new.output })
+        (E.taken devices.new.errors) }
+{
+    let read = words_read(alloc, words);
+    follow(alloc, read, devices)
+}
+
+fn words_read(alloc: Global, words: &[&str]) -> Result<Chosen, WordsFault>
+    ensures { AreWordsRead (map (λ word. word.now) words.now) result }
+{
+    read_words(alloc, words)
+}
+
+/// What follows the reading of the words. Help that was asked for is a good answer.
+fn follow<T: Texts, R: Source, W: Outlet, E: Sink>(
+    alloc: Global,
+    read: Result<Chosen, WordsFault>,
+    devices: &mut Devices<T, R, W, E>,
+) -> u8
+    requires within { IfOk read IsWithin }
+    requires shown { W.pending devices.old.output ≡ [] }
+    ensures { Follows T.gives read devices.old.texts
+        (record { input = input_of R.left R.failed devices.old.input; output = output_of W.taken W.failed W.pending devices.old.output })
+        (E.taken devices.old.errors) result devices.new.texts
+        (record { input = input_of R.left R.failed devices.new.input; output = output_of W.taken W.failed W.pending devices.new.output })
+        (E.taken devices.new.errors) }
+{
+    let Devices {
+        texts,
+        input,
+        output,
+        errors,
+    } = devices;
+    match read {
+        Ok(chosen) => {
+            let outcome = command(alloc, &chosen, texts, input, output);
+            end(alloc, outcome, output, errors)
+        }
+        Err(WordsFault::Usage { help: true, text }) => {
+            let help = Answer {
+                text: text.into_bytes(),
+                status: GOOD,
+            };
+            end(alloc, Ok(help), output, errors)
+        }
+        Err(WordsFault::Usage { help: false, text }) => tell_line(errors, text.as_bytes(), 2),
+        Err(WordsFault::Memory) => tell_line(errors, MEMORY, 4),
+    }
+}
