@@ -61,7 +61,7 @@ step_more : {W A B : Type 0} (next more : A → W → Result B CommandFault → 
 step_more next more (Ok a) mid outcome after less on = less a on
 step_more next more (Err fault) mid outcome after less on = on
 
-then_more : {W A B : Type 0} (first : W → Result A CommandFault → W → Type 0) (next more : A → W → Result B CommandFault → W → Type 0) (before : W) (outcome : Result B CommandFault) (after : W)
+pub then_more : {W A B : Type 0} (first : W → Result A CommandFault → W → Type 0) (next more : A → W → Result B CommandFault → W → Type 0) (before : W) (outcome : Result B CommandFault) (after : W)
     → ((a : A) (mid : W) → next a mid outcome after → more a mid outcome after) → Then first next before outcome after → Then first more before outcome after
 then_more first next more before outcome after less run =
     record { came = run.came; mid = run.mid; is = run.is; goes_on = step_more next more run.came run.mid outcome after (λ a. less a run.mid) run.goes_on }
