@@ -1,12 +1,12 @@
 -- A search by planners that may propose more.
-use Rattle.std.proofs.Common.{◌≡◌, ℕ, zero, suc, ◌<◌, ◌⊎◌, List, [], ◌∷◌, Option, Some, Result, Ok, Err, inl, inr, length, slice_index_or, subst, sym, arith}
+use Rattle.std.proofs.Common.{◌≡◌, ℕ, zero, suc, ◌<◌, List, [], ◌∷◌, Option, Some, Result, Ok, Err, inl, inr, length, slice_index_or, subst, sym, arith}
 use Rattle.shop_base.specs.Shop.{JobShop}
 use Rattle.shop_base.specs.Plan.{PlannedShop, ShopPlan}
 use Rattle.plan_seek.specs.declared.seek_fault.SeekFault.{SeekFault}
 use Rattle.plan_seek.specs.declared.seek_fault.SeekFault.TheVariants.{BadNumbers, Exhausted, TooManyRounds, Memory as WantOfMemory}
 use Rattle.plan_seek.specs.Orders.{Proposal, shifted_order}
 use Rattle.plan_seek.specs.Tasks.{PlanTask}
-use Rattle.plan_seek.specs.Turns.{Turn, Proposals, MayPropose, MayFail, EachMayFail, IsFirstFound}
+use Rattle.plan_seek.specs.Turns.{Turn, Proposals, MayPropose, MayFail, EachMayFail}
 use Rattle.plan_seek.specs.Search.{IsSought, IsSeekFault}
 use Rattle.command_answers.specs.declared.answer.Answer.{Answer}
 use Rattle.command_answers.specs.declared.reading.FileFault.{FileFault}

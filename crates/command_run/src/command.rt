@@ -4,7 +4,7 @@ ghost use Rattle.std.specs.Prelude.{◌≡◌, ◌<◌, [], length, map};
 ghost use Rattle.std.specs.Option.{option_copied};
 ghost use Rattle.std.specs.String.{string_bytes};
 ghost use Rattle.command_words.specs.Choice.{IsWithin};
-ghost use Rattle.command_run.specs.Streams.{input_of, output_of};
+ghost use Rattle.command_run.specs.Streams.{streams_of};
 ghost use Rattle.command_run.specs.Program.{RunsCommand, RunsDrive, RunsHub, file_at, name_in, plans_in};
 
 use crate::drives::drive_cell;
@@ -48,8 +48,8 @@ pub(crate) fn command<T: Texts, R: Source, W: Outlet>(
     requires within { IsWithin chosen.now }
     requires shown { W.pending output.old ≡ [] }
     ensures { RunsCommand T.gives chosen.now.name chosen.now texts.old
-        (record { input = input_of R.left R.failed input.old; output = output_of W.taken W.failed W.pending output.old }) result texts.new
-        (record { input = input_of R.left R.failed input.new; output = output_of W.taken W.failed W.pending output.new }) }
+        (streams_of R.left R.failed W.taken W.failed W.pending input.old output.old) result texts.new
+        (streams_of R.left R.failed W.taken W.failed W.pending input.new output.new) }
 {
     let name = name(chosen);
     match chosen.name {
@@ -102,8 +102,8 @@ fn drive<T: Texts, R: Source, W: Outlet>(
 ) -> Result<Answer, CommandFault>
     requires { 1 < length chosen.now.files.items }
     ensures { RunsDrive T.gives (file_at chosen.now 0) (name_in chosen.now) (file_at chosen.now 1) texts.old
-        (record { input = input_of R.left R.failed input.old; output = output_of W.taken W.failed W.pending output.old }) result texts.new
-        (record { input = input_of R.left R.failed input.new; output = output_of W.taken W.failed W.pending output.new }) }
+        (streams_of R.left R.failed W.taken W.failed W.pending input.old output.old) result texts.new
+        (streams_of R.left R.failed W.taken W.failed W.pending input.new output.new) }
 {
     let loaded = load_files(alloc, texts, file(chosen, 0), name(chosen), file(chosen, 1));
     drive_cell(alloc, loaded, input, output)
@@ -119,8 +119,8 @@ fn hub<T: Texts, R: Source, W: Outlet>(
 ) -> Result<Answer, CommandFault>
     requires { 0 < length chosen.now.files.items }
     ensures { RunsHub T.gives (file_at chosen.now 0) (name_in chosen.now) (plans_in chosen.now) texts.old
-        (record { input = input_of R.left R.failed input.old; output = output_of W.taken W.failed W.pending output.old }) result texts.new
-        (record { input = input_of R.left R.failed input.new; output = output_of W.taken W.failed W.pending output.new }) }
+        (streams_of R.left R.failed W.taken W.failed W.pending input.old output.old) result texts.new
+        (streams_of R.left R.failed W.taken W.failed W.pending input.new output.new) }
 {
     let plans = &chosen.files.as_slice()[1..];
     let loaded = load_cells(alloc, texts, file(chosen, 0), name(chosen), plans);

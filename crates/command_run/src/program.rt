@@ -2,7 +2,7 @@
 
 ghost use Rattle.std.specs.Prelude.{◌≡◌, [], map, IfOk};
 ghost use Rattle.command_words.specs.Choice.{IsWithin};
-ghost use Rattle.command_run.specs.Streams.{input_of, output_of};
+ghost use Rattle.command_run.specs.Streams.{streams_of};
 ghost use Rattle.command_run.specs.Program.{AreWordsRead, Follows, RunsProgram};
 
 use crate::command::command;
@@ -22,9 +22,9 @@ pub fn run<T: Texts, R: Source, W: Outlet, E: Sink>(
 ) -> u8
     requires shown { W.pending devices.old.output ≡ [] }
     ensures { RunsProgram T.gives (map (λ word. word.now) words.now) devices.old.texts
-        (record { input = input_of R.left R.failed devices.old.input; output = output_of W.taken W.failed W.pending devices.old.output })
+        (streams_of R.left R.failed W.taken W.failed W.pending devices.old.input devices.old.output)
         (E.taken devices.old.errors) result devices.new.texts
-        (record { input = input_of R.left R.failed devices.new.input; output = output_of W.taken W.failed W.pending devices.new.output })
+        (streams_of R.left R.failed W.taken W.failed W.pending devices.new.input devices.new.output)
         (E.taken devices.new.errors) }
 {
     let read = words_read(alloc, words);
@@ -46,9 +46,9 @@ fn follow<T: Texts, R: Source, W: Outlet, E: Sink>(
     requires within { IfOk read IsWithin }
     requires shown { W.pending devices.old.output ≡ [] }
     ensures { Follows T.gives read devices.old.texts
-        (record { input = input_of R.left R.failed devices.old.input; output = output_of W.taken W.failed W.pending devices.old.output })
+        (streams_of R.left R.failed W.taken W.failed W.pending devices.old.input devices.old.output)
         (E.taken devices.old.errors) result devices.new.texts
-        (record { input = input_of R.left R.failed devices.new.input; output = output_of W.taken W.failed W.pending devices.new.output })
+        (streams_of R.left R.failed W.taken W.failed W.pending devices.new.input devices.new.output)
         (E.taken devices.new.errors) }
 {
     let Devices {
