@@ -9,8 +9,10 @@ ghost use Rattle.command_run.specs.Program.{RunsCommand, RunsDrive, RunsHub, fil
 
 use crate::drives::drive_cell;
 use crate::hubs::drive_cells;
+use crate::improvers::better_answer;
 use crate::input::input_answer;
 use crate::planners::seek_answer;
+use crate::screen::Screen;
 use cell_drive::{Outlet, Source};
 use command_answers::{
     Answer, CommandFault, Texts, audit_answer, check_answer, facts_answer, gantt_answer,
@@ -38,12 +40,13 @@ fn name(chosen: &Chosen) -> Option<&[u8]>
 }
 
 /// Runs the command that was chosen.
-pub(crate) fn command<T: Texts, R: Source, W: Outlet>(
+pub(crate) fn command<T: Texts, R: Source, W: Outlet, S: Screen>(
     alloc: Global,
     chosen: &Chosen,
     texts: &mut T,
     input: &mut R,
     output: &mut W,
+    screen: &mut S,
 ) -> Result<Answer, CommandFault>
     requires within { IsWithin chosen.now }
     requires shown { W.pending output.old ≡ [] }
@@ -66,6 +69,11 @@ pub(crate) fn command<T: Texts, R: Source, W: Outlet>(
                 file(chosen, 1),
                 chosen.rounds,
             )
+        }
+        CommandName::Improve => {
+            let (path, plan) = (file(chosen, 0), file(chosen, 1));
+            let (rounds, seed) = (chosen.rounds, chosen.seed);
+            better_answer(alloc, texts, path, name, plan, rounds, seed, screen)
         }
         CommandName::Drive => drive(alloc, chosen, texts, input, output),
         CommandName::Hub => hub(alloc, chosen, texts, input, output),
