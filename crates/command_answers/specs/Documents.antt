@@ -1,5 +1,5 @@
 -- The text of a plan as an answer.
-use Rattle.std.specs.Prelude.{◌≡◌, ℕ, List, Result, Ok, Err}
+use Rattle.std.specs.Prelude.{◌≡◌, ℕ, Result, Ok, Err}
 use Rattle.shop_base.specs.Plan.{ShopPlan}
 use Rattle.plan_text.specs.declared.plan_fault.PlanFault.TheVariants.{NotReadBack}
 use Rattle.plan_text.specs.Lines.{plan_lines}
