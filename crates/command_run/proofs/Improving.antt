@@ -53,16 +53,16 @@ runs_more gives made more less rounds path name plan before outcome after =
     mid outcome after
     (λ told last is. (answer_more made more rounds less (record { shop = named.shop; plan = told }) outcome is.0, is.1)))
 
-stands_alone : (n : ℕ) → slice_index_or (tt ∷ []) n tt ≡ tt
-stands_alone zero = refl
-stands_alone (suc n) = refl
+stands_alone : (who : Unit {0}) (n : ℕ) → slice_index_or (who ∷ []) n who ≡ who
+stands_alone who zero = refl
+stands_alone who (suc n) = refl
 
 module _ {B : Type 0} (may : B → PlannedShop → ℕ → Proposal → Type 0) (improvers : List B) (alone : length improvers ≡ 1) where
   -- what one improver makes of a plan is what one that may answer anything makes of it
   some_more : (round : ℕ) (p : PlannedShop) (n : ℕ) (r : PlannedShop) → AfterSome may improvers round p n r → AfterSome MayImprove (tt ∷ []) round p n r
   some_more round p n r nobody = nobody
   some_more round p n r (one_more m who q s answer run inside stands given becomes) =
-      one_more m tt q s answer (some_more round p m q run) (omega (arith, alone, inside)) (stands_alone m) tt becomes
+      one_more m tt q s answer (some_more round p m q run) (omega (arith, alone, inside)) (stands_alone tt m) tt becomes
 
   rounds_more : (p : PlannedShop) (n : ℕ) (r : PlannedShop) → AfterRounds may improvers p n r → AfterRounds MayImprove (tt ∷ []) p n r
   rounds_more p n r no_round = no_round
