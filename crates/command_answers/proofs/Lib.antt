@@ -1,5 +1,6 @@
 pub mod CheckLines
 pub mod Passing
 pub mod SearchLines
+pub mod ImproveLines
 pub mod LogAnswers
 pub mod CellPlans

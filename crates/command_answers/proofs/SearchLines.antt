@@ -9,7 +9,8 @@ use Rattle.plan_seek.specs.Search.{IsSought, IsSeekFault}
 use Rattle.command_answers.specs.declared.answer.Answer.{Answer}
 use Rattle.command_answers.specs.declared.command_fault.CommandFault.{CommandFault}
 use Rattle.command_answers.specs.declared.command_fault.CommandFault.TheVariants.{Instance, Plan, Read, Write, InputTooLong, Memory}
-use Rattle.command_answers.specs.Search.{task_in, IsFound, IsSearchAnswer, IsDocumentAnswer, IsNoPlanAnswer}
+use Rattle.command_answers.specs.Documents.{IsDocumentAnswer}
+use Rattle.command_answers.specs.Search.{task_in, IsFound, IsSearchAnswer, IsNoPlanAnswer}
 
 module _ (may : Proposals) (rounds proposers : ℕ) where
   -- a plan that was found
@@ -22,7 +23,7 @@ module _ (may : Proposals) (rounds proposers : ℕ) where
 
   -- its text is the answer
   pub found_answer : (p v : PlannedShop) (answer : Result Answer CommandFault) → v ≡ with_order (task_in p) v.plan.order → IsAccepted v
-      → IsSought (task_in p) may rounds proposers v.plan.order → IsDocumentAnswer v.plan answer → IsSearchAnswer may rounds proposers p answer
+      → IsSought (task_in p) may rounds proposers v.plan.order → IsDocumentAnswer v.plan 0 answer → IsSearchAnswer may rounds proposers p answer
   found_answer p v (Ok answer) same accepted sought text = inl (record { plan = v.plan; found = found_is p v same accepted sought; text = text })
   found_answer p v (Err (Instance fault)) same accepted sought text = text
   found_answer p v (Err Read) same accepted sought text = text

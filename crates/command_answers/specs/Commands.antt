@@ -4,6 +4,7 @@ use Rattle.shop_base.specs.Shop.{JobShop}
 use Rattle.shop_base.specs.Plan.{ShopPlan, PlannedShop, IsWellShaped}
 use Rattle.orlib_read.specs.declared.named.Named.{Named}
 use Rattle.plan_seek.specs.Turns.{Proposals}
+use Rattle.plan_improve.specs.Runs.{Asked}
 use Rattle.command_answers.specs.declared.reading.FileFault.{FileFault}
 use Rattle.command_answers.specs.declared.answer.Answer.{Answer}
 use Rattle.command_answers.specs.declared.command_fault.CommandFault.{CommandFault}
@@ -14,6 +15,7 @@ use Rattle.command_answers.specs.Readings.{IsInstanceRead, IsPlanRead, AreFactsA
 use Rattle.command_answers.specs.Checks.{IsCheckLine, IsLoaded}
 use Rattle.command_answers.specs.Shapes.{IsShapeLine, IsNotShapedLine}
 use Rattle.command_answers.specs.Search.{IsSearchAnswer}
+use Rattle.command_answers.specs.Improving.{IsImproveAnswer}
 use Rattle.command_answers.specs.AuditLines.{IsLogLine}
 use Rattle.command_answers.specs.GanttLines.{IsDrawnLog}
 
@@ -53,6 +55,10 @@ module _ {W : Type 0} (gives : W → List ℕ → Result (List ℕ) FileFault �
   -- `plan`: both are read, and the search for a plan with these numbers is answered
   abbrev pub RunsPlan : (JobShop → Proposals) → ℕ → ℕ → List ℕ → Option (List ℕ) → List ℕ → W → Result Answer CommandFault → W → Type 0
   RunsPlan may rounds proposers path name plan = WithBoth path name plan (λ p. Told (IsSearchAnswer (may p.shop) rounds proposers p))
+
+  -- `improve`: both are read, and what the search from this plan comes to is answered
+  abbrev pub RunsImprove : Asked → ℕ → List ℕ → Option (List ℕ) → List ℕ → W → Result Answer CommandFault → W → Type 0
+  RunsImprove made rounds path name plan = WithBoth path name plan (λ p. Told (IsImproveAnswer made rounds p))
 
   -- the log of a well-shaped plan is asked for, and then answered; any other plan is answered by its first fault
   abbrev pub WithLog : List ℕ → (PlannedShop → List ℕ → Answer → Type 0) → PlannedShop → W → Result Answer CommandFault → W → Type 0

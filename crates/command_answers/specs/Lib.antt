@@ -8,7 +8,9 @@ pub mod Plans
 pub mod Readings
 pub mod Shapes
 pub mod Checks
+pub mod Documents
 pub mod Search
+pub mod Improving
 pub mod AuditLines
 pub mod GanttLines
 pub mod Commands

@@ -11,6 +11,7 @@ use Rattle.plan_seek.specs.Search.{IsSought, IsSeekFault}
 use Rattle.command_answers.specs.declared.answer.Answer.{Answer}
 use Rattle.command_answers.specs.declared.command_fault.CommandFault.{CommandFault}
 use Rattle.command_answers.specs.declared.command_fault.CommandFault.TheVariants.{Plan, Memory}
+use Rattle.command_answers.specs.Documents.{IsDocumentOf}
 
 -- the search for a plan with the numbers of this one
 abbrev pub task_in : PlannedShop → PlanTask
@@ -22,17 +23,11 @@ pub record IsFound (may : Proposals) (rounds proposers : ℕ) (p : PlannedShop) 
   pub accepted : IsAccepted (record { shop = p.shop; plan = found })
   pub sought : IsSought (task_in p) may rounds proposers found.order
 
--- the text of a plan, which is read as this plan
-pub record IsDocumentOf (found : ShopPlan) (answer : Answer) : Type 0 where
-  pub line : answer.text.items ≡ plan_lines found
-  pub read_back : IsPlanText (plan_lines found) found
-  pub good : answer.status ≡ 0
-
 -- the text of a plan that the search allows
 pub record IsFoundText (may : Proposals) (rounds proposers : ℕ) (p : PlannedShop) (answer : Answer) : Type 0 where
   pub plan : ShopPlan
   pub found : IsFound may rounds proposers p plan
-  pub text : IsDocumentOf plan answer
+  pub text : IsDocumentOf plan 0 answer
 
 -- the fault of a command that the search's is, if it is want of memory
 abbrev pub search_command_fault : SeekFault → Option CommandFault
@@ -80,10 +75,3 @@ IsSearchAnswer may rounds proposers p (Ok answer) = IsSearchLine may rounds prop
 IsSearchAnswer may rounds proposers p (Err Memory) = Unit {0}
 IsSearchAnswer may rounds proposers p (Err (Plan fault)) = (fault ≡ NotReadBack) × IsFoundUnreadable may rounds proposers p
 IsSearchAnswer may rounds proposers p (Err other) = ⊥
-
--- what is answered of a plan's text: the text, or that it isn't read as the plan, or want of memory
-abbrev pub IsDocumentAnswer : ShopPlan → Result Answer CommandFault → Type 0
-IsDocumentAnswer found (Ok answer) = IsDocumentOf found answer
-IsDocumentAnswer found (Err Memory) = Unit {0}
-IsDocumentAnswer found (Err (Plan fault)) = (fault ≡ NotReadBack) × (IsPlanText (plan_lines found) found → ⊥)
-IsDocumentAnswer found (Err other) = ⊥

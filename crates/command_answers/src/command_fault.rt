@@ -3,6 +3,7 @@ ghost use Rattle.command_answers.specs.Statuses.{status_of};
 
 use crate::reading::FileFault;
 use orlib_read::OrFault;
+use plan_improve::ImproveFault;
 use plan_seek::SeekFault;
 use plan_text::PlanFault;
 use run_log::AuditFault;
@@ -86,7 +87,7 @@ impl From<PlanFault> for CommandFault {
     }
 }
 
-/// The fault of a command that a fault of the search or of the audit is: want of memory. Each other one has an answer.
+/// The fault of a command that a fault of a search or of the audit is: want of memory. Each other one has an answer.
 #[derive(Drop)]
 pub(crate) struct Unanswered(pub Option<CommandFault>);
 
@@ -100,6 +101,20 @@ impl From<SeekFault> for Unanswered {
         match told {
             SeekFault::Memory => Unanswered(Some(CommandFault::Memory)),
             _ => Unanswered(None),
+        }
+    }
+}
+
+impl From<ImproveFault> for Unanswered {
+    ghost use Rattle.std.specs.Prelude.{◌≡◌};
+    ghost use Rattle.command_answers.specs.Improving.{improve_command_fault};
+
+    ghost from_gives = { λ told unanswered. unanswered.0 ≡ improve_command_fault told };
+
+    fn from(told: ImproveFault) -> Unanswered {
+        match told {
+            ImproveFault::Memory => Unanswered(Some(CommandFault::Memory)),
+            ImproveFault::TooManyRounds => Unanswered(None),
         }
     }
 }

@@ -6,17 +6,17 @@ ghost use Rattle.shop_base.specs.Plan.{PlannedShop};
 ghost use Rattle.plan_seek.specs.Tasks.{with_order, IsAccepted};
 ghost use Rattle.plan_seek.specs.Turns.{MayPropose};
 ghost use Rattle.plan_seek.specs.Search.{IsSought, IsSeekFault};
-ghost use Rattle.command_answers.specs.Search.{task_in, IsSearchAnswer, IsDocumentAnswer, IsNoPlanAnswer, IsBadNumbersLine};
+ghost use Rattle.command_answers.specs.Search.{task_in, IsSearchAnswer, IsNoPlanAnswer, IsBadNumbersLine};
 ghost use Rattle.command_answers.specs.Commands.{RunsPlan};
 
 use crate::answer::{Answer, GOOD, REFUSED};
 use crate::command_fault::{CommandFault, Unanswered};
+use crate::documents::{document_answer, line_answer};
 use crate::instances::instance;
 use crate::plans::plan;
 use crate::print::end_line;
 use crate::texts::Texts;
 use plan_seek::{NotFound, Proposer, SeekFault, seek};
-use plan_text::plan_document;
 use plan_verifier::Verified;
 use shop_base::{Plan, ShapeFault, Shop};
 use std::alloc::{AllocError, Global};
@@ -53,7 +53,7 @@ fn search_answer(
     ensures { IsSearchAnswer (MayPropose (λ b. may b shop) proposers.now) rounds (length proposers.now) (record { shop = shop; plan = plan }) result }
 {
     match seek_for(alloc, shop, plan, proposers, rounds) {
-        Ok(verified) => document_answer(alloc, &verified),
+        Ok(verified) => document_answer(alloc, verified.shaped().plan(), GOOD),
         Err(fault) => no_plan_answer(alloc, fault),
     }
 }
@@ -91,17 +91,6 @@ fn reason(refused: NotFound) -> SeekFault
     refused.fault
 }
 
-/// The text of an accepted plan.
-fn document_answer(alloc: Global, verified: &Verified) -> Result<Answer, CommandFault>
-    ensures { IsDocumentAnswer verified.now.planned.plan result }
-{
-    let text = plan_document(alloc, verified.shaped().plan())?;
-    Ok(Answer {
-        text: text.into_bytes(),
-        status: GOOD,
-    })
-}
-
 /// The line that says why there is no plan.
 fn no_plan_answer(alloc: Global, fault: SeekFault) -> Result<Answer, CommandFault>
     ensures { IsNoPlanAnswer fault result }
@@ -115,17 +104,6 @@ fn no_plan_answer(alloc: Global, fault: SeekFault) -> Result<Answer, CommandFaul
         SeekFault::TooManyRounds => Ok(line_answer(alloc, b"too many rounds\n")?),
         SeekFault::Memory => unreachable!(),
     }
-}
-
-fn line_answer(alloc: Global, line: &[u8]) -> Result<Answer, AllocError>
-    ensures { IfOk result (λ answer. (answer.text.items ≡ line.now) × (answer.status ≡ 1)) }
-{
-    let mut text = Vec::new(alloc);
-    text.extend_from_slice(line)?;
-    Ok(Answer {
-        text,
-        status: REFUSED,
-    })
 }
 
 /// The line of numbers that are bad, with their first fault.

@@ -1,5 +1,5 @@
 -- What the steps of a command mean where the files don't change.
-use Rattle.std.proofs.Common.{◌≡◌, ℕ, List, [], ◌∷◌, ◌++◌, ◌⊎◌, Option, Result, Ok, Err, inl, inr, ap, sym, ◌∙◌, subst}
+use Rattle.std.proofs.Common.{◌≡◌, ℕ, List, [], ◌∷◌, ◌⊎◌, Option, Result, Ok, Err, inl, inr, ap, sym, ◌∙◌, subst}
 use Rattle.orlib_read.specs.declared.named.Named.{Named}
 use Rattle.orlib_read.specs.declared.or_fault.OrFault.{OrFault}
 use Rattle.command_answers.specs.declared.reading.FileFault.{FileFault}

@@ -1,12 +1,12 @@
 -- A search by planners that may propose more.
-use Rattle.std.proofs.Common.{◌≡◌, ℕ, zero, suc, ◌<◌, ◌⊎◌, List, [], ◌∷◌, Option, Some, Result, Ok, Err, inl, inr, length, slice_index_or, subst, sym, arith}
+use Rattle.std.proofs.Common.{◌≡◌, ℕ, zero, suc, ◌<◌, List, [], ◌∷◌, Option, Some, Result, Ok, Err, inl, inr, length, slice_index_or, subst, sym, arith}
 use Rattle.shop_base.specs.Shop.{JobShop}
 use Rattle.shop_base.specs.Plan.{PlannedShop, ShopPlan}
 use Rattle.plan_seek.specs.declared.seek_fault.SeekFault.{SeekFault}
 use Rattle.plan_seek.specs.declared.seek_fault.SeekFault.TheVariants.{BadNumbers, Exhausted, TooManyRounds, Memory as WantOfMemory}
 use Rattle.plan_seek.specs.Orders.{Proposal, shifted_order}
 use Rattle.plan_seek.specs.Tasks.{PlanTask}
-use Rattle.plan_seek.specs.Turns.{Turn, Proposals, MayPropose, MayFail, EachMayFail, IsFirstFound}
+use Rattle.plan_seek.specs.Turns.{Turn, Proposals, MayPropose, MayFail, EachMayFail}
 use Rattle.plan_seek.specs.Search.{IsSought, IsSeekFault}
 use Rattle.command_answers.specs.declared.answer.Answer.{Answer}
 use Rattle.command_answers.specs.declared.reading.FileFault.{FileFault}
@@ -61,7 +61,7 @@ step_more : {W A B : Type 0} (next more : A → W → Result B CommandFault → 
 step_more next more (Ok a) mid outcome after less on = less a on
 step_more next more (Err fault) mid outcome after less on = on
 
-then_more : {W A B : Type 0} (first : W → Result A CommandFault → W → Type 0) (next more : A → W → Result B CommandFault → W → Type 0) (before : W) (outcome : Result B CommandFault) (after : W)
+pub then_more : {W A B : Type 0} (first : W → Result A CommandFault → W → Type 0) (next more : A → W → Result B CommandFault → W → Type 0) (before : W) (outcome : Result B CommandFault) (after : W)
     → ((a : A) (mid : W) → next a mid outcome after → more a mid outcome after) → Then first next before outcome after → Then first more before outcome after
 then_more first next more before outcome after less run =
     record { came = run.came; mid = run.mid; is = run.is; goes_on = step_more next more run.came run.mid outcome after (λ a. less a run.mid) run.goes_on }

@@ -1,6 +1,7 @@
 pub mod Streams
 pub mod Inputs
 pub mod Planners
+pub mod Improvers
 pub mod Drives
 pub mod Hubs
 pub mod Ending

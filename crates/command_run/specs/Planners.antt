@@ -2,7 +2,7 @@
 use Rattle.std.specs.Prelude.{◌≡◌, ◌⊎◌, ℕ, zero, suc, List, Option, Some, Result, Err}
 use Rattle.shop_base.specs.Shop.{JobShop}
 use Rattle.plan_seek.specs.Orders.{Proposal, shifted_order}
-use Rattle.plan_seek.specs.Turns.{Turn, Proposals}
+use Rattle.plan_seek.specs.Turns.{Proposals}
 use Rattle.command_answers.specs.declared.reading.FileFault.{FileFault}
 use Rattle.command_answers.specs.declared.answer.Answer.{Answer}
 use Rattle.command_answers.specs.declared.command_fault.CommandFault.{CommandFault}

@@ -4,7 +4,7 @@ use Rattle.std.specs.String.{string_bytes}
 use Rattle.run_log.specs.Sinks.{TookPart}
 use Rattle.command_words.specs.declared.words.Chosen.{Chosen}
 use Rattle.command_words.specs.declared.words.CommandName.{CommandName}
-use Rattle.command_words.specs.declared.words.CommandName.TheVariants.{Input as NoWords, Facts, Shape, Check, Plan, Drive, Hub, Audit, Gantt}
+use Rattle.command_words.specs.declared.words.CommandName.TheVariants.{Input as NoWords, Facts, Shape, Check, Plan, Improve, Drive, Hub, Audit, Gantt}
 use Rattle.command_words.specs.declared.words.WordsFault.{WordsFault}
 use Rattle.command_words.specs.declared.words.WordsFault.TheVariants.{Usage, Memory}
 use Rattle.command_words.specs.Choice.{IsChoiceOf, IsWithin, TellsOneOf, reasons_in, found_in}
@@ -20,6 +20,7 @@ use Rattle.command_answers.specs.Cells.{LoadsCells}
 use Rattle.command_run.specs.Streams.{Streams}
 use Rattle.command_run.specs.Inputs.{RunsInput}
 use Rattle.command_run.specs.Planners.{SeeksPlan}
+use Rattle.command_run.specs.Improvers.{ImprovesPlan}
 use Rattle.command_run.specs.Drives.{Drives}
 use Rattle.command_run.specs.Hubs.{DrivesAll}
 use Rattle.command_run.specs.Ending.{Ends, IsMemoryLine, IsAnswerEnd}
@@ -68,6 +69,8 @@ module _ {W : Type 0} (gives : W → List ℕ → Result (List ℕ) FileFault �
       RunsCheck gives (file_at chosen 0) (name_in chosen) (file_at chosen 1) texts outcome texts_after × (after ≡ before)
   RunsCommand Plan chosen texts before outcome texts_after after =
       SeeksPlan gives chosen.rounds (file_at chosen 0) (name_in chosen) (file_at chosen 1) texts outcome texts_after × (after ≡ before)
+  RunsCommand Improve chosen texts before outcome texts_after after =
+      ImprovesPlan gives chosen.rounds (file_at chosen 0) (name_in chosen) (file_at chosen 1) texts outcome texts_after × (after ≡ before)
   RunsCommand Drive chosen texts before outcome texts_after after =
       RunsDrive (file_at chosen 0) (name_in chosen) (file_at chosen 1) texts before outcome texts_after after
   RunsCommand Hub chosen texts before outcome texts_after after =

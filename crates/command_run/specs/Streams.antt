@@ -22,3 +22,6 @@ input_of left failed device = record { left = left device; failed = failed devic
 
 abbrev pub output_of : {W : Type 0} → (W → Option (List ℕ)) → (W → Bool) → (W → List ℕ) → W → Output
 output_of taken failed pending device = record { taken = taken device; failed = failed device; pending = pending device }
+
+abbrev pub streams_of : {R W : Type 0} → (R → Option (List ℕ)) → (R → Bool) → (W → Option (List ℕ)) → (W → Bool) → (W → List ℕ) → R → W → Streams
+streams_of left read_failed taken write_failed pending input output = record { input = input_of left read_failed input; output = output_of taken write_failed pending output }

@@ -4,13 +4,15 @@ ghost use Rattle.std.specs.Prelude.{◌≡◌, ◌<◌, [], length, map};
 ghost use Rattle.std.specs.Option.{option_copied};
 ghost use Rattle.std.specs.String.{string_bytes};
 ghost use Rattle.command_words.specs.Choice.{IsWithin};
-ghost use Rattle.command_run.specs.Streams.{input_of, output_of};
+ghost use Rattle.command_run.specs.Streams.{streams_of};
 ghost use Rattle.command_run.specs.Program.{RunsCommand, RunsDrive, RunsHub, file_at, name_in, plans_in};
 
 use crate::drives::drive_cell;
 use crate::hubs::drive_cells;
+use crate::improvers::better_answer;
 use crate::input::input_answer;
 use crate::planners::seek_answer;
+use crate::screen::Screen;
 use cell_drive::{Outlet, Source};
 use command_answers::{
     Answer, CommandFault, Texts, audit_answer, check_answer, facts_answer, gantt_answer,
@@ -38,18 +40,19 @@ fn name(chosen: &Chosen) -> Option<&[u8]>
 }
 
 /// Runs the command that was chosen.
-pub(crate) fn command<T: Texts, R: Source, W: Outlet>(
+pub(crate) fn command<T: Texts, R: Source, W: Outlet, S: Screen>(
     alloc: Global,
     chosen: &Chosen,
     texts: &mut T,
     input: &mut R,
     output: &mut W,
+    screen: &mut S,
 ) -> Result<Answer, CommandFault>
     requires within { IsWithin chosen.now }
     requires shown { W.pending output.old ≡ [] }
     ensures { RunsCommand T.gives chosen.now.name chosen.now texts.old
-        (record { input = input_of R.left R.failed input.old; output = output_of W.taken W.failed W.pending output.old }) result texts.new
-        (record { input = input_of R.left R.failed input.new; output = output_of W.taken W.failed W.pending output.new }) }
+        (streams_of R.left R.failed W.taken W.failed W.pending input.old output.old) result texts.new
+        (streams_of R.left R.failed W.taken W.failed W.pending input.new output.new) }
 {
     let name = name(chosen);
     match chosen.name {
@@ -66,6 +69,11 @@ pub(crate) fn command<T: Texts, R: Source, W: Outlet>(
                 file(chosen, 1),
                 chosen.rounds,
             )
+        }
+        CommandName::Improve => {
+            let (path, plan) = (file(chosen, 0), file(chosen, 1));
+            let (rounds, seed) = (chosen.rounds, chosen.seed);
+            better_answer(alloc, texts, path, name, plan, rounds, seed, screen)
         }
         CommandName::Drive => drive(alloc, chosen, texts, input, output),
         CommandName::Hub => hub(alloc, chosen, texts, input, output),
@@ -102,8 +110,8 @@ fn drive<T: Texts, R: Source, W: Outlet>(
 ) -> Result<Answer, CommandFault>
     requires { 1 < length chosen.now.files.items }
     ensures { RunsDrive T.gives (file_at chosen.now 0) (name_in chosen.now) (file_at chosen.now 1) texts.old
-        (record { input = input_of R.left R.failed input.old; output = output_of W.taken W.failed W.pending output.old }) result texts.new
-        (record { input = input_of R.left R.failed input.new; output = output_of W.taken W.failed W.pending output.new }) }
+        (streams_of R.left R.failed W.taken W.failed W.pending input.old output.old) result texts.new
+        (streams_of R.left R.failed W.taken W.failed W.pending input.new output.new) }
 {
     let loaded = load_files(alloc, texts, file(chosen, 0), name(chosen), file(chosen, 1));
     drive_cell(alloc, loaded, input, output)
@@ -119,8 +127,8 @@ fn hub<T: Texts, R: Source, W: Outlet>(
 ) -> Result<Answer, CommandFault>
     requires { 0 < length chosen.now.files.items }
     ensures { RunsHub T.gives (file_at chosen.now 0) (name_in chosen.now) (plans_in chosen.now) texts.old
-        (record { input = input_of R.left R.failed input.old; output = output_of W.taken W.failed W.pending output.old }) result texts.new
-        (record { input = input_of R.left R.failed input.new; output = output_of W.taken W.failed W.pending output.new }) }
+        (streams_of R.left R.failed W.taken W.failed W.pending input.old output.old) result texts.new
+        (streams_of R.left R.failed W.taken W.failed W.pending input.new output.new) }
 {
     let plans = &chosen.files.as_slice()[1..];
     let loaded = load_cells(alloc, texts, file(chosen, 0), name(chosen), plans);

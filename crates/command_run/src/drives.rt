@@ -1,7 +1,7 @@
 //! The command `drive`.
 
 ghost use Rattle.std.specs.Prelude.{◌≡◌, [], ℕ, List};
-ghost use Rattle.command_run.specs.Streams.{input_of, output_of};
+ghost use Rattle.command_run.specs.Streams.{streams_of};
 ghost use Rattle.command_run.specs.Drives.{IsDrive, IsEndAnswer, DrivesCell, IsLineTold, Drives};
 
 use cell_drive::{DriveEnd, DriveFault, Outlet, Source, drive};
@@ -37,8 +37,8 @@ pub(crate) fn drive_cell<R: Source, W: Outlet>(
     output: &mut W,
 ) -> Result<Answer, CommandFault>
     ensures { Drives loaded
-        (record { input = input_of R.left R.failed input.old; output = output_of W.taken W.failed W.pending output.old })
-        (record { input = input_of R.left R.failed input.new; output = output_of W.taken W.failed W.pending output.new }) result }
+        (streams_of R.left R.failed W.taken W.failed W.pending input.old output.old)
+        (streams_of R.left R.failed W.taken W.failed W.pending input.new output.new) result }
 {
     match loaded {
         Ok(Loaded::Accepted(verified)) => drive_accepted(alloc, verified, input, output),
@@ -62,8 +62,8 @@ fn drive_accepted<R: Source, W: Outlet>(
     output: &mut W,
 ) -> Result<Answer, CommandFault>
     ensures { DrivesCell verified
-        (record { input = input_of R.left R.failed input.old; output = output_of W.taken W.failed W.pending output.old })
-        (record { input = input_of R.left R.failed input.new; output = output_of W.taken W.failed W.pending output.new }) result }
+        (streams_of R.left R.failed W.taken W.failed W.pending input.old output.old)
+        (streams_of R.left R.failed W.taken W.failed W.pending input.new output.new) result }
 {
     let end = driven(alloc, verified, input, output);
     end_answer(alloc, end)
@@ -76,8 +76,8 @@ fn driven<R: Source, W: Outlet>(
     output: &mut W,
 ) -> Result<DriveEnd, DriveFault>
     ensures { IsDrive verified
-        (record { input = input_of R.left R.failed input.old; output = output_of W.taken W.failed W.pending output.old })
-        (record { input = input_of R.left R.failed input.new; output = output_of W.taken W.failed W.pending output.new }) result }
+        (streams_of R.left R.failed W.taken W.failed W.pending input.old output.old)
+        (streams_of R.left R.failed W.taken W.failed W.pending input.new output.new) result }
 {
     drive(alloc, verified, input, output)
 }

@@ -19,7 +19,8 @@ pub(crate) fn end<W: Outlet, E: Sink>(
     output: &mut W,
     errors: &mut E,
 ) -> u8
-    ensures { Ends outcome (output_of W.taken W.failed W.pending output.old) (output_of W.taken W.failed W.pending output.new)
+    ensures { Ends outcome (output_of W.taken W.failed W.pending output.old)
+        (output_of W.taken W.failed W.pending output.new)
         (E.taken errors.old) (E.taken errors.new) result }
 {
     match outcome {
@@ -33,7 +34,8 @@ pub(crate) fn end<W: Outlet, E: Sink>(
 
 /// Prints an answer, and shows it.
 fn print<W: Outlet>(answer: &Answer, output: &mut W) -> Result<u8, CommandFault>
-    ensures { IsPrinted answer.now (output_of W.taken W.failed W.pending output.old) (output_of W.taken W.failed W.pending output.new) result }
+    ensures { IsPrinted answer.now (output_of W.taken W.failed W.pending output.old)
+        (output_of W.taken W.failed W.pending output.new) result }
 {
     match put_all(output, &answer.text) {
         Ok(()) => show(answer.status, output),
@@ -43,7 +45,8 @@ fn print<W: Outlet>(answer: &Answer, output: &mut W) -> Result<u8, CommandFault>
 
 /// Shows what was written.
 fn show<W: Outlet>(status: u8, output: &mut W) -> Result<u8, CommandFault>
-    ensures { IsShown status (output_of W.taken W.failed W.pending output.old) (output_of W.taken W.failed W.pending output.new) result }
+    ensures { IsShown status (output_of W.taken W.failed W.pending output.old)
+        (output_of W.taken W.failed W.pending output.new) result }
 {
     match output.show() {
         Ok(()) => Ok(status),
@@ -91,7 +94,8 @@ fn tell_refused<E: Sink>(
     words: Result<String, AllocError>,
     errors: &mut E,
 ) -> u8
-    ensures { (line : List ℕ) × IsRefusalLine what.now line result × TookPart (E.taken errors.old) (E.taken errors.new) line }
+    ensures { (line : List ℕ) × IsRefusalLine what.now line result
+        × TookPart (E.taken errors.old) (E.taken errors.new) line }
 {
     match refusal_line(alloc, what, words) {
         Ok(line) => tell_line(errors, &line, 3),

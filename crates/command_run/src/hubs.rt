@@ -1,7 +1,7 @@
 //! The command `hub`.
 
 ghost use Rattle.std.specs.Prelude.{◌≡◌, [], ℕ, List};
-ghost use Rattle.command_run.specs.Streams.{input_of, output_of};
+ghost use Rattle.command_run.specs.Streams.{streams_of};
 ghost use Rattle.command_run.specs.Hubs.{AreDrives, IsHubAnswer, DrivesCells, DrivesAll};
 
 use crate::drives::Told;
@@ -18,8 +18,8 @@ pub(crate) fn drive_cells<R: Source, W: Outlet>(
     output: &mut W,
 ) -> Result<Answer, CommandFault>
     ensures { DrivesAll loaded
-        (record { input = input_of R.left R.failed input.old; output = output_of W.taken W.failed W.pending output.old })
-        (record { input = input_of R.left R.failed input.new; output = output_of W.taken W.failed W.pending output.new }) result }
+        (streams_of R.left R.failed W.taken W.failed W.pending input.old output.old)
+        (streams_of R.left R.failed W.taken W.failed W.pending input.new output.new) result }
 {
     match loaded {
         Ok(Cells::Accepted(cells)) => drive_accepted(alloc, cells, input, output),
@@ -36,8 +36,8 @@ fn drive_accepted<R: Source, W: Outlet>(
     output: &mut W,
 ) -> Result<Answer, CommandFault>
     ensures { DrivesCells cells.items
-        (record { input = input_of R.left R.failed input.old; output = output_of W.taken W.failed W.pending output.old })
-        (record { input = input_of R.left R.failed input.new; output = output_of W.taken W.failed W.pending output.new }) result }
+        (streams_of R.left R.failed W.taken W.failed W.pending input.old output.old)
+        (streams_of R.left R.failed W.taken W.failed W.pending input.new output.new) result }
 {
     let end = driven(alloc, cells, input, output);
     end_answer(alloc, end)
@@ -50,8 +50,8 @@ fn driven<R: Source, W: Outlet>(
     output: &mut W,
 ) -> Result<HubEnd, DriveFault>
     ensures { AreDrives cells.items
-        (record { input = input_of R.left R.failed input.old; output = output_of W.taken W.failed W.pending output.old })
-        (record { input = input_of R.left R.failed input.new; output = output_of W.taken W.failed W.pending output.new }) result }
+        (streams_of R.left R.failed W.taken W.failed W.pending input.old output.old)
+        (streams_of R.left R.failed W.taken W.failed W.pending input.new output.new) result }
 {
     drive_hub(alloc, cells, input, output)
 }

@@ -6,11 +6,15 @@ mod devices;
 mod drives;
 mod ending;
 mod hubs;
+mod improvers;
 mod input;
 pub mod laws;
 mod planners;
 mod program;
+mod progress;
+mod screen;
 
 pub use devices::Devices;
 pub use ending::tell;
 pub use program::run;
+pub use screen::Screen;

@@ -2,12 +2,13 @@
 
 ghost use Rattle.std.specs.Prelude.{◌≡◌, [], map, IfOk};
 ghost use Rattle.command_words.specs.Choice.{IsWithin};
-ghost use Rattle.command_run.specs.Streams.{input_of, output_of};
+ghost use Rattle.command_run.specs.Streams.{streams_of};
 ghost use Rattle.command_run.specs.Program.{AreWordsRead, Follows, RunsProgram};
 
 use crate::command::command;
 use crate::devices::Devices;
 use crate::ending::{MEMORY, end, tell_line};
+use crate::screen::Screen;
 use cell_drive::{Outlet, Source};
 use command_answers::{Answer, GOOD, Texts};
 use command_words::{Chosen, WordsFault, read_words};
@@ -15,16 +16,16 @@ use run_log::Sink;
 use std::alloc::Global;
 
 /// Runs the program on the words of a command line, the program's name first, and gives the status that it ends with.
-pub fn run<T: Texts, R: Source, W: Outlet, E: Sink>(
+pub fn run<T: Texts, R: Source, W: Outlet, E: Sink, S: Screen>(
     alloc: Global,
     words: &[&str],
-    devices: &mut Devices<T, R, W, E>,
+    devices: &mut Devices<T, R, W, E, S>,
 ) -> u8
     requires shown { W.pending devices.old.output ≡ [] }
     ensures { RunsProgram T.gives (map (λ word. word.now) words.now) devices.old.texts
-        (record { input = input_of R.left R.failed devices.old.input; output = output_of W.taken W.failed W.pending devices.old.output })
+        (streams_of R.left R.failed W.taken W.failed W.pending devices.old.input devices.old.output)
         (E.taken devices.old.errors) result devices.new.texts
-        (record { input = input_of R.left R.failed devices.new.input; output = output_of W.taken W.failed W.pending devices.new.output })
+        (streams_of R.left R.failed W.taken W.failed W.pending devices.new.input devices.new.output)
         (E.taken devices.new.errors) }
 {
     let read = words_read(alloc, words);
@@ -38,17 +39,17 @@ fn words_read(alloc: Global, words: &[&str]) -> Result<Chosen, WordsFault>
 }
 
 /// What follows the reading of the words. Help that was asked for is a good answer.
-fn follow<T: Texts, R: Source, W: Outlet, E: Sink>(
+fn follow<T: Texts, R: Source, W: Outlet, E: Sink, S: Screen>(
     alloc: Global,
     read: Result<Chosen, WordsFault>,
-    devices: &mut Devices<T, R, W, E>,
+    devices: &mut Devices<T, R, W, E, S>,
 ) -> u8
     requires within { IfOk read IsWithin }
     requires shown { W.pending devices.old.output ≡ [] }
     ensures { Follows T.gives read devices.old.texts
-        (record { input = input_of R.left R.failed devices.old.input; output = output_of W.taken W.failed W.pending devices.old.output })
+        (streams_of R.left R.failed W.taken W.failed W.pending devices.old.input devices.old.output)
         (E.taken devices.old.errors) result devices.new.texts
-        (record { input = input_of R.left R.failed devices.new.input; output = output_of W.taken W.failed W.pending devices.new.output })
+        (streams_of R.left R.failed W.taken W.failed W.pending devices.new.input devices.new.output)
         (E.taken devices.new.errors) }
 {
     let Devices {
@@ -56,10 +57,11 @@ fn follow<T: Texts, R: Source, W: Outlet, E: Sink>(
         input,
         output,
         errors,
+        screen,
     } = devices;
     match read {
         Ok(chosen) => {
-            let outcome = command(alloc, &chosen, texts, input, output);
+            let outcome = command(alloc, &chosen, texts, input, output, screen);
             end(alloc, outcome, output, errors)
         }
         Err(WordsFault::Usage { help: true, text }) => {

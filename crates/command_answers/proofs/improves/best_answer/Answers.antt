@@ -1,0 +1,20 @@
+use Rattle.plan_improve.specs.Runs.{AfterRounds}
+use Rattle.command_answers.proofs.ImproveLines.{best_answer_is, no_best_is}
+use Rattle.command_answers.proofs.improves.best_answer.Goals as goal
+
+pub returns-in-Ok : goal.returns-in-Ok
+returns-in-Ok g c =
+    best_answer_is (λ p. AfterRounds (λ b. (goal.Improver-dyn g (b.vtable, b.value)).may b.value) c.args.improvers.now p c.args.rounds) c.args.rounds c.args.start c.in-Ok.verdict c.verdict_answer.result
+    (record {
+      same = c.in-Ok.ensures.same;
+      acyclic = c.in-Ok.ensures.acyclic;
+      never_worse = c.in-Ok.ensures.never_worse;
+      found = c.in-Ok.ensures.found;
+      stays_accepted = λ accepted. c.in-Ok.ensures.exact.0 (c.in-Ok.ensures.stays_accepted accepted);
+    })
+    c.in-Ok.ensures.few_rounds c.in-Ok.ensures.exact c.verdict_answer.ensures
+
+pub returns-in-Err : goal.returns-in-Err
+returns-in-Err g c =
+    no_best_is (λ p. AfterRounds (λ b. (goal.Improver-dyn g (b.vtable, b.value)).may b.value) c.args.improvers.now p c.args.rounds) c.args.rounds c.args.start c.in-Err.refused.fault c.unimproved_answer.result
+    c.in-Err.ensures.refused c.unimproved_answer.ensures

@@ -1,0 +1,78 @@
+-- The answers of the command `improve`.
+use Rattle.std.specs.Prelude.{◌≡◌, ◌<◌, ◌≤◌, ◌⊎◌, ℕ, Option, Some, None, Result, Ok, Err, codes}
+use Rattle.shop_base.specs.Plan.{PlannedShop, IsWellShaped}
+use Rattle.plan_text.specs.declared.plan_fault.PlanFault.TheVariants.{NotReadBack}
+use Rattle.plan_text.specs.Lines.{plan_lines}
+use Rattle.plan_text.specs.Documents.{IsPlanText}
+use Rattle.plan_verifier.specs.Accepted.{HasNoCycle, IsAcceptable}
+use Rattle.plan_verifier.specs.declared.verdict.Verdict.{Verdict}
+use Rattle.plan_verifier.specs.declared.verdict.Verdict.TheVariants.{Accepted, Refused}
+use Rattle.plan_improve.specs.declared.improve_fault.ImproveFault.{ImproveFault}
+use Rattle.plan_improve.specs.declared.improve_fault.ImproveFault.TheVariants.{TooManyRounds, Memory as WantOfMemory}
+use Rattle.plan_improve.specs.Reordered.{IsReordered}
+use Rattle.plan_improve.specs.Runs.{Asked}
+use Rattle.plan_improve.specs.Improved.{IsFound, IsNeverWorse}
+use Rattle.command_answers.specs.declared.answer.Answer.{Answer}
+use Rattle.command_answers.specs.declared.command_fault.CommandFault.{CommandFault}
+use Rattle.command_answers.specs.declared.command_fault.CommandFault.TheVariants.{Plan, Memory}
+use Rattle.command_answers.specs.Documents.{IsDocumentOf}
+use Rattle.command_answers.specs.Shapes.{IsNotShapedLine}
+use Rattle.command_answers.specs.Steps.{IsOrMemory}
+
+-- the best plan that is met: only the orders may differ, no cycle, never worse, just what the questions make of the start, and accepted if the start is
+pub record IsBest (made : Asked) (start best : PlannedShop) : Type 0 where
+  pub same : IsReordered start best
+  pub acyclic : HasNoCycle best
+  pub never_worse : IsNeverWorse start best
+  pub found : IsFound made start best
+  pub stays_accepted : IsAcceptable start → IsAcceptable best
+
+-- the status tells an accepted plan from one of which a job is late
+abbrev pub IsStatusOf : PlannedShop → ℕ → Type 0
+IsStatusOf best status = (IsAcceptable best × (status ≡ 0)) ⊎ ((IsAcceptable best → ⊥) × (status ≡ 1))
+
+-- the text of the best plan, after at most 1000 rounds
+pub record IsBestText (made : Asked) (rounds : ℕ) (start : PlannedShop) (answer : Answer) : Type 0 where
+  pub few_rounds : rounds ≤ 1000
+  pub best : PlannedShop
+  pub is : IsBest made start best
+  pub text : IsDocumentOf best.plan answer.status answer
+  pub status : IsStatusOf best answer.status
+
+-- the line of more than 1000 rounds
+pub record IsTooManyLine (rounds : ℕ) (answer : Answer) : Type 0 where
+  pub many_rounds : 1000 < rounds
+  pub line : answer.text.items ≡ codes "too many rounds\n"
+  pub refused : answer.status ≡ 1
+
+-- the best plan has a text that isn't read as this plan
+pub record IsBestUnreadable (made : Asked) (start : PlannedShop) : Type 0 where
+  pub best : PlannedShop
+  pub is : IsBest made start best
+  pub unreadable : IsPlanText (plan_lines best.plan) best.plan → ⊥
+
+-- what is answered where the plan is well shaped: the text of the best plan, the line of too many rounds, that the text isn't read as that plan, or want of memory
+abbrev pub IsBestAnswer : Asked → ℕ → PlannedShop → Result Answer CommandFault → Type 0
+IsBestAnswer made rounds start (Ok answer) = IsBestText made rounds start answer ⊎ IsTooManyLine rounds answer
+IsBestAnswer made rounds start (Err Memory) = Unit {0}
+IsBestAnswer made rounds start (Err (Plan fault)) = (fault ≡ NotReadBack) × IsBestUnreadable made start
+IsBestAnswer made rounds start (Err other) = ⊥
+
+-- what is answered: that of the best plan, or the first fault of the plan's shape
+abbrev pub IsImproveAnswer : Asked → ℕ → PlannedShop → Result Answer CommandFault → Type 0
+IsImproveAnswer made rounds start outcome = (IsWellShaped start × IsBestAnswer made rounds start outcome) ⊎ IsOrMemory (IsNotShapedLine start) outcome
+
+-- the status of a verdict
+abbrev pub verdict_status : Verdict → ℕ
+verdict_status (Accepted verified) = 0
+verdict_status (Refused back why) = 1
+
+-- the fault of a command that the search's is, if it is want of memory
+abbrev pub improve_command_fault : ImproveFault → Option CommandFault
+improve_command_fault WantOfMemory = Some Memory
+improve_command_fault TooManyRounds = None
+
+-- what is answered where there is no verdict: the line of too many rounds, or want of memory
+abbrev pub IsUnimprovedAnswer : ImproveFault → Result Answer CommandFault → Type 0
+IsUnimprovedAnswer TooManyRounds outcome = IsOrMemory (λ answer. (answer.text.items ≡ codes "too many rounds\n") × (answer.status ≡ 1)) outcome
+IsUnimprovedAnswer WantOfMemory outcome = outcome ≡ Err Memory

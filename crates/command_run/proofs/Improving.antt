@@ -1,0 +1,78 @@
+-- A search for better plans by improvers that may answer more.
+use Rattle.std.proofs.Common.{◌≡◌, ℕ, zero, suc, ◌+◌, ◌<◌, List, [], ◌∷◌, Option, Result, Ok, Err, inl, inr, length, slice_index_or, subst, sym, refl, arith}
+use Rattle.shop_base.specs.Plan.{PlannedShop}
+use Rattle.plan_seek.specs.Orders.{Proposal}
+use Rattle.plan_improve.specs.Runs.{Asked, AfterSome, nobody, one_more, AfterRounds, no_round, round_more}
+use Rattle.plan_improve.specs.Improved.{IsFound}
+use Rattle.command_answers.specs.declared.answer.Answer.{Answer}
+use Rattle.command_answers.specs.declared.reading.FileFault.{FileFault}
+use Rattle.command_answers.specs.declared.command_fault.CommandFault.{CommandFault}
+use Rattle.command_answers.specs.declared.command_fault.CommandFault.TheVariants.{Instance, Plan, Read, Write, InputTooLong, Memory}
+use Rattle.command_answers.specs.Improving.{IsBest, IsBestAnswer, IsImproveAnswer}
+use Rattle.command_answers.specs.Steps.{Told}
+use Rattle.command_answers.specs.Commands.{ReadsInstance, ReadsPlan, WithPlan, RunsImprove}
+use Rattle.command_run.specs.Improvers.{MayImprove, AsksOne}
+use Rattle.command_run.proofs.Planning.{then_more}
+
+module _ (made more : Asked) (rounds : ℕ) (less : (p q : PlannedShop) → made p q → more p q) where
+  best_more : (start best : PlannedShop) → IsBest made start best → IsBest more start best
+  best_more start best is = record {
+    same = is.same;
+    acyclic = is.acyclic;
+    never_worse = is.never_worse;
+    found = record { begin = is.found.begin; begins_at = is.found.begins_at; run = less is.found.begin best is.found.run };
+    stays_accepted = is.stays_accepted;
+  }
+
+  best_answer_more : (start : PlannedShop) (outcome : Result Answer CommandFault) → IsBestAnswer made rounds start outcome → IsBestAnswer more rounds start outcome
+  best_answer_more start (Ok answer) (inl text) = inl (record { few_rounds = text.few_rounds; best = text.best; is = best_more start text.best text.is; text = text.text; status = text.status })
+  best_answer_more start (Ok answer) (inr line) = inr line
+  best_answer_more start (Err (Plan fault)) is = (is.0, record { best = is.1.best; is = best_more start is.1.best is.1.is; unreadable = is.1.unreadable })
+  best_answer_more start (Err Memory) is = is
+  best_answer_more start (Err (Instance fault)) is = is
+  best_answer_more start (Err Read) is = is
+  best_answer_more start (Err Write) is = is
+  best_answer_more start (Err InputTooLong) is = is
+
+  answer_more : (start : PlannedShop) (outcome : Result Answer CommandFault) → IsImproveAnswer made rounds start outcome → IsImproveAnswer more rounds start outcome
+  answer_more start outcome (inl best) = inl (best.0, best_answer_more start outcome best.1)
+  answer_more start outcome (inr line) = inr line
+
+-- what improvers do is done by ones that may answer more
+runs_more : {W : Type 0} (gives : W → List ℕ → Result (List ℕ) FileFault → W → Type 0) (made more : Asked) → ((p q : PlannedShop) → made p q → more p q)
+    → (rounds : ℕ) (path : List ℕ) (name : Option (List ℕ)) (plan : List ℕ) (before : W) (outcome : Result Answer CommandFault) (after : W)
+    → RunsImprove gives made rounds path name plan before outcome after → RunsImprove gives more rounds path name plan before outcome after
+runs_more gives made more less rounds path name plan before outcome after =
+    then_more (ReadsInstance gives path name)
+    (λ named. WithPlan gives plan named.shop (λ p. Told (IsImproveAnswer made rounds p)))
+    (λ named. WithPlan gives plan named.shop (λ p. Told (IsImproveAnswer more rounds p)))
+    before outcome after
+    (λ named mid. then_more (ReadsPlan gives plan)
+    (λ told. Told (IsImproveAnswer made rounds (record { shop = named.shop; plan = told })))
+    (λ told. Told (IsImproveAnswer more rounds (record { shop = named.shop; plan = told })))
+    mid outcome after
+    (λ told last is. (answer_more made more rounds less (record { shop = named.shop; plan = told }) outcome is.0, is.1)))
+
+stands_alone : (who : Unit {0}) (n : ℕ) → slice_index_or (who ∷ []) n who ≡ who
+stands_alone who zero = refl
+stands_alone who (suc n) = refl
+
+module _ {B : Type 0} (may : B → PlannedShop → ℕ → Proposal → Type 0) (improvers : List B) (alone : length improvers ≡ 1) where
+  -- what one improver makes of a plan is what one that may answer anything makes of it
+  some_more : (round : ℕ) (p : PlannedShop) (n : ℕ) (r : PlannedShop) → AfterSome may improvers round p n r → AfterSome MayImprove (tt ∷ []) round p n r
+  some_more round p n r nobody = nobody
+  some_more round p n r (one_more m who q s answer run inside stands given becomes) =
+      one_more m tt q s answer (some_more round p m q run) (omega (arith, alone, inside)) (stands_alone tt m) tt becomes
+
+  rounds_more : (p : PlannedShop) (n : ℕ) (r : PlannedShop) → AfterRounds may improvers p n r → AfterRounds MayImprove (tt ∷ []) p n r
+  rounds_more p n r no_round = no_round
+  rounds_more p n r (round_more m q s run last) =
+      round_more m q s (rounds_more p m q run) (subst (λ k. AfterSome MayImprove (tt ∷ []) m q k s) alone (some_more m q (length improvers) s last))
+
+  -- a search by one improver
+  pub improves : {W : Type 0} (gives : W → List ℕ → Result (List ℕ) FileFault → W → Type 0)
+      (rounds : ℕ) (path : List ℕ) (name : Option (List ℕ)) (plan : List ℕ) (before : W) (outcome : Result Answer CommandFault) (after : W)
+      → RunsImprove gives (λ p. AfterRounds may improvers p rounds) rounds path name plan before outcome after
+      → RunsImprove gives (AsksOne rounds) rounds path name plan before outcome after
+  improves gives rounds path name plan before outcome after =
+      runs_more gives (λ p. AfterRounds may improvers p rounds) (AsksOne rounds) (λ p q. rounds_more p rounds q) rounds path name plan before outcome after
