@@ -13,8 +13,8 @@ use crate::input::input_answer;
 use crate::planners::seek_answer;
 use cell_drive::{Outlet, Source};
 use command_answers::{
-    Answer, CommandFault, Texts, audit_answer, check_answer, facts_answer, gantt_answer,
-    load_cells, load_files, shape_answer,
+    Answer, CommandFault, Texts, audit_answer, check_answer, explain_answer, facts_answer,
+    gantt_answer, load_cells, load_files, shape_answer,
 };
 use command_words::{Chosen, CommandName};
 use std::alloc::Global;
@@ -57,6 +57,9 @@ pub(crate) fn command<T: Texts, R: Source, W: Outlet>(
         CommandName::Facts => facts_answer(alloc, texts, file(chosen, 0), name),
         CommandName::Shape => shape_answer(alloc, texts, file(chosen, 0), name, file(chosen, 1)),
         CommandName::Check => check_answer(alloc, texts, file(chosen, 0), name, file(chosen, 1)),
+        CommandName::Explain => {
+            explain_answer(alloc, texts, file(chosen, 0), name, file(chosen, 1))
+        }
         CommandName::Plan => {
             seek_answer(
                 alloc,
