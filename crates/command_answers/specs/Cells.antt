@@ -8,11 +8,10 @@ use Rattle.command_answers.specs.declared.cells.Cells.TheVariants.{Accepted as A
 use Rattle.command_answers.specs.declared.command_fault.CommandFault.{CommandFault}
 use Rattle.command_answers.specs.declared.command_fault.CommandFault.TheVariants.{Memory}
 use Rattle.command_answers.specs.declared.loading.Loaded.{Loaded}
-use Rattle.command_answers.specs.declared.loading.Loaded.TheVariants.{NotShaped, Refused, Accepted}
 use Rattle.command_answers.specs.Steps.{Then, Told, IsOrMemory}
 use Rattle.command_answers.specs.Texts.{Asks}
 use Rattle.command_answers.specs.Readings.{IsInstanceRead}
-use Rattle.command_answers.specs.Checks.{IsLineOf, IsLoaded}
+use Rattle.command_answers.specs.Checks.{IsLineOf, IsLoaded, accepted_in}
 use Rattle.command_answers.specs.Commands.{WithPlan}
 
 -- the line of the plan of this number, which isn't accepted, unless memory ran out
@@ -29,10 +28,9 @@ AreAccepted cells (Ok (Line answer)) = ⊥
 AreAccepted cells (Err fault) = ⊥
 
 -- after an accepted plan the next ones follow, unless memory ran out; any other ends it by its line
-abbrev pub AfterPlan : {W : Type 0} → List VerifiedPlan → (List VerifiedPlan → W → Result Cells CommandFault → W → Type 0) → Loaded → W → Result Cells CommandFault → W → Type 0
-AfterPlan cells rest (Accepted v) before outcome after = rest (cells ++ v ∷ []) before outcome after ⊎ ((outcome ≡ Err Memory) × (after ≡ before))
-AfterPlan cells rest (NotShaped fault) before outcome after = IsCellLine (length cells) (NotShaped fault) outcome × (after ≡ before)
-AfterPlan cells rest (Refused why) before outcome after = IsCellLine (length cells) (Refused why) outcome × (after ≡ before)
+abbrev pub AfterPlan : {W : Type 0} → List VerifiedPlan → (List VerifiedPlan → W → Result Cells CommandFault → W → Type 0) → Result VerifiedPlan Loaded → W → Result Cells CommandFault → W → Type 0
+AfterPlan cells rest (Ok v) before outcome after = rest (cells ++ v ∷ []) before outcome after ⊎ ((outcome ≡ Err Memory) × (after ≡ before))
+AfterPlan cells rest (Err other) before outcome after = IsCellLine (length cells) other outcome × (after ≡ before)
 
 module _ {W : Type 0} (gives : W → List ℕ → Result (List ℕ) FileFault → W → Type 0) where
   -- the instance is read from its text, and then the plan's file is asked for
@@ -43,7 +41,7 @@ module _ {W : Type 0} (gives : W → List ℕ → Result (List ℕ) FileFault �
   abbrev pub LoadsEach : List ℕ → Option (List ℕ) → List VerifiedPlan → List (List ℕ) → W → Result Cells CommandFault → W → Type 0
   LoadsEach text name cells [] before outcome after = AreAccepted cells outcome × (after ≡ before)
   LoadsEach text name cells (path ∷ paths) before outcome after =
-      Then (LoadsOne text name path) (AfterPlan cells (λ more. LoadsEach text name more paths)) before outcome after
+      Then (LoadsOne text name path) (λ loaded. AfterPlan cells (λ more. LoadsEach text name more paths) (accepted_in loaded)) before outcome after
 
   -- the instance's file is asked for, then each plan's once the plan before it is accepted
   abbrev pub LoadsCells : List ℕ → Option (List ℕ) → List (List ℕ) → W → Result Cells CommandFault → W → Type 0

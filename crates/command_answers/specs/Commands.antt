@@ -13,6 +13,7 @@ use Rattle.command_answers.specs.Steps.{Then, Told, IsOrMemory}
 use Rattle.command_answers.specs.Texts.{Asks}
 use Rattle.command_answers.specs.Readings.{IsInstanceRead, IsPlanRead, AreFactsAnswered}
 use Rattle.command_answers.specs.Checks.{IsCheckLine, IsLoaded}
+use Rattle.command_answers.specs.Explains.{IsExplanation}
 use Rattle.command_answers.specs.Shapes.{IsShapeLine, IsNotShapedLine}
 use Rattle.command_answers.specs.Search.{IsSearchAnswer}
 use Rattle.command_answers.specs.Improving.{IsImproveAnswer}
@@ -47,6 +48,10 @@ module _ {W : Type 0} (gives : W → List ℕ → Result (List ℕ) FileFault �
   -- `check`: both are read, and the verdict is answered
   abbrev pub RunsCheck : List ℕ → Option (List ℕ) → List ℕ → W → Result Answer CommandFault → W → Type 0
   RunsCheck path name plan = WithBoth path name plan (λ p. Told (IsOrMemory (IsCheckLine p)))
+
+  -- `explain`: both are read, and the verdict is explained
+  abbrev pub RunsExplain : List ℕ → Option (List ℕ) → List ℕ → W → Result Answer CommandFault → W → Type 0
+  RunsExplain path name plan = WithBoth path name plan (λ p. Told (IsOrMemory (IsExplanation p)))
 
   -- both are read, and what is to be said of the plan is found
   abbrev pub Loads : List ℕ → Option (List ℕ) → List ℕ → W → Result Loaded CommandFault → W → Type 0

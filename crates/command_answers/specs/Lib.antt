@@ -8,6 +8,7 @@ pub mod Plans
 pub mod Readings
 pub mod Shapes
 pub mod Checks
+pub mod Explains
 pub mod Documents
 pub mod Search
 pub mod Improving

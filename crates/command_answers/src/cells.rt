@@ -51,9 +51,10 @@ fn load_each<T: Texts>(
 {
     let mut cells = Vec::new(alloc);
     for path in plans {
-        match load_one(alloc, texts, text, name, path.as_str())? {
-            Loaded::Accepted(verified) => cells.push(verified).map_err(AllocError::from)?,
-            other => return cell_line(alloc, cells.len() as u64, &other),
+        let loaded = load_one(alloc, texts, text, name, path.as_str())?;
+        match loaded.accepted() {
+            Ok(verified) => cells.push(verified).map_err(AllocError::from)?,
+            Err(other) => return cell_line(alloc, cells.len() as u64, &other),
         }
     }
     Ok(Cells::Accepted(cells))

@@ -1,16 +1,15 @@
 //! The command `check`.
 
-ghost use Rattle.std.specs.Prelude.{◌≡◌, ◌++◌, ◌<◌, IfOk, IfErr, OnOk, codes, decimal};
+ghost use Rattle.std.specs.Prelude.{◌≡◌, IfOk, IfErr};
 ghost use Rattle.std.specs.Option.{option_copied};
-ghost use Rattle.shop_base.specs.Plan.{PlannedShop, jobs};
-ghost use Rattle.shop_base.specs.Graph.{leaving};
+ghost use Rattle.shop_base.specs.Plan.{PlannedShop};
 ghost use Rattle.orlib_read.specs.declared.or_fault.OrFault.{OrFault};
 ghost use Rattle.plan_text.specs.declared.plan_fault.PlanFault.{PlanFault};
 ghost use Rattle.plan_text.specs.Documents.{IsFirstPlanFault};
-ghost use Rattle.plan_verifier.specs.Accepted.{kept_at};
+ghost use Rattle.plan_explain.specs.FirstLines.{cycle_line, late_line};
 ghost use Rattle.command_answers.specs.Instances.{IsFirstInstanceFault, Holds, IsInstanceRefusal};
 ghost use Rattle.command_answers.specs.Plans.{TellBoth, TellsAShop, IsRightOfBoth, IsPlanRefusal, IsOfBoth};
-ghost use Rattle.command_answers.specs.Checks.{IsCheckLine, IsAcceptedLine, IsLineOf, node_words, moment_words, leavings_of, cycle_line, late_line};
+ghost use Rattle.command_answers.specs.Checks.{IsCheckLine, IsAcceptedLine, IsLineOf};
 ghost use Rattle.command_answers.specs.Steps.{IsOrMemory};
 ghost use Rattle.command_answers.specs.Commands.{RunsCheck};
 
@@ -19,10 +18,10 @@ use crate::command_fault::CommandFault;
 use crate::instances::instance;
 use crate::loading::{Loaded, judged, load};
 use crate::plans::plan;
-use crate::print::{end_line, push_fact, push_words};
 use crate::shapes::not_shaped_answer;
 use crate::texts::Texts;
-use plan_verifier::{Verified, Why};
+use plan_explain::{push_accepted_line, push_cycle_line, push_late_line};
+use plan_verifier::{Verdict, Verified, Why};
 use shop_base::{JobNo, Moment, Node, Plan, Shop};
 use std::alloc::{AllocError, Global};
 
@@ -79,53 +78,28 @@ pub fn loaded_answer(alloc: Global, loaded: &Loaded) -> Result<Answer, AllocErro
 {
     match loaded {
         Loaded::NotShaped(fault) => not_shaped_answer(alloc, *fault),
-        Loaded::Refused(Why::Cycle(nodes)) => cycle_answer(alloc, nodes),
-        Loaded::Refused(Why::Late { job, leaves, chain }) => {
+        Loaded::Judged(Verdict::Accepted(verified)) => accepted_answer(alloc, verified),
+        Loaded::Judged(Verdict::Refused(_, Why::Cycle(nodes))) => cycle_answer(alloc, nodes),
+        Loaded::Judged(Verdict::Refused(_, Why::Late { job, leaves, chain })) => {
             late_answer(alloc, *job, *leaves, chain)
         }
-        Loaded::Accepted(verified) => accepted_answer(alloc, verified),
     }
 }
 
 fn accepted_answer(alloc: Global, verified: &Verified) -> Result<Answer, AllocError>
     ensures { IfOk result (IsAcceptedLine verified.now.planned) }
 {
-    let shaped = verified.shaped();
+    let _plan = verified.shaped();
     let mut text = Vec::new(alloc);
-    push_fact(&mut text, b"accepted makespan ", verified.makespan())?;
-    push_words(&mut text, b" leaves")?;
-    push_leavings(&mut text, verified, shaped.shop().jobs())?;
-    end_line(&mut text)?;
+    push_accepted_line(&mut text, verified, verified.makespan())?;
     Ok(Answer { text, status: GOOD })
-}
-
-fn push_leavings(text: &mut Vec<u8>, verified: &Verified, count: u32) -> Result<(), AllocError>
-    requires { count ≡ jobs verified.now.planned }
-    ensures { OnOk result (text.new.items ≡ text.old.items ++ moment_words (leavings_of verified.now)) }
-{
-    for job in 0..count {
-        push_leaving(text, verified, job)?;
-    }
-    Ok(())
-}
-
-fn push_leaving(text: &mut Vec<u8>, verified: &Verified, job: JobNo) -> Result<(), AllocError>
-    requires { job < jobs verified.now.planned }
-    ensures { OnOk result (text.new.items ≡ text.old.items ++ codes " " ++ decimal (kept_at verified.now (leaving verified.now.planned job))) }
-{
-    match verified.earliest_leave(job) {
-        Some(moment) => push_fact(text, b" ", moment),
-        None => unreachable!(),
-    }
 }
 
 fn cycle_answer(alloc: Global, nodes: &[Node]) -> Result<Answer, AllocError>
     ensures { IfOk result (λ answer. (answer.text.items ≡ cycle_line nodes.now) × (answer.status ≡ 1)) }
 {
     let mut text = Vec::new(alloc);
-    push_words(&mut text, b"refused cycle")?;
-    push_nodes(&mut text, nodes)?;
-    end_line(&mut text)?;
+    push_cycle_line(&mut text, nodes)?;
     Ok(Answer {
         text,
         status: REFUSED,
@@ -141,22 +115,9 @@ fn late_answer(
     ensures { IfOk result (λ answer. (answer.text.items ≡ late_line job leaves chain.now) × (answer.status ≡ 1)) }
 {
     let mut text = Vec::new(alloc);
-    push_fact(&mut text, b"refused late ", u64::from(job))?;
-    push_fact(&mut text, b" ", leaves)?;
-    push_nodes(&mut text, chain)?;
-    end_line(&mut text)?;
+    push_late_line(&mut text, job, leaves, chain)?;
     Ok(Answer {
         text,
         status: REFUSED,
     })
-}
-
-fn push_nodes(text: &mut Vec<u8>, nodes: &[Node]) -> Result<(), AllocError>
-    ensures { OnOk result (text.new.items ≡ text.old.items ++ node_words nodes.now) }
-{
-    for node in nodes {
-        push_fact(text, b" ", u64::from(node.job))?;
-        push_fact(text, b".", u64::from(node.place))?;
-    }
-    Ok(())
 }

@@ -1,6 +1,6 @@
 //! An instance and a plan, read and judged.
 
-ghost use Rattle.std.specs.Prelude.{IfOk, IfErr, IsOk};
+ghost use Rattle.std.specs.Prelude.{◌≡◌, IfOk, IfErr, IsOk};
 ghost use Rattle.std.specs.Option.{option_copied};
 ghost use Rattle.shop_base.specs.Plan.{ShopPlan, PlannedShop, IsWellShaped};
 ghost use Rattle.orlib_read.specs.declared.or_fault.OrFault.{OrFault};
@@ -8,7 +8,7 @@ ghost use Rattle.plan_text.specs.declared.plan_fault.PlanFault.{PlanFault};
 ghost use Rattle.plan_text.specs.Documents.{IsPlanText, IsFirstPlanFault};
 ghost use Rattle.command_answers.specs.Instances.{IsFirstInstanceFault, Holds, IsInstanceRefusal};
 ghost use Rattle.command_answers.specs.Plans.{TellBoth, TellsAShop, IsRightOfBoth, IsRightPlanFault, IsPlanRefusal, IsOfPlan, IsOfBoth};
-ghost use Rattle.command_answers.specs.Checks.{IsLoaded};
+ghost use Rattle.command_answers.specs.Checks.{IsLoaded, accepted_in};
 ghost use Rattle.command_answers.specs.Steps.{Then, Told, IsOrMemory};
 ghost use Rattle.command_answers.specs.Readings.{IsInstanceRead};
 ghost use Rattle.command_answers.specs.Commands.{Loads, WithPlan};
@@ -17,7 +17,7 @@ use crate::command_fault::CommandFault;
 use crate::instances::{instance, load_instance};
 use crate::plans::{load_plan, plan};
 use crate::texts::Texts;
-use plan_verifier::{Verdict, Verified, Why, verify};
+use plan_verifier::{Verdict, Verified, verify};
 use shop_base::{Plan, ShapeFault, Shaped, Shop, shape};
 use std::alloc::{AllocError, Global};
 
@@ -26,10 +26,32 @@ use std::alloc::{AllocError, Global};
 pub enum Loaded {
     /// It isn't well shaped.
     NotShaped(ShapeFault),
-    /// It is refused.
-    Refused(Why),
-    /// It is accepted.
-    Accepted(Verified),
+    /// It is well shaped, and this is the verdict on it.
+    Judged(Verdict),
+}
+
+impl Loaded {
+    /// The accepted plan; what is to be said of any other comes back.
+    pub fn accepted(self) -> Result<Verified, Loaded>
+        ensures { result ≡ accepted_in self }
+    {
+        match self {
+            Loaded::Judged(Verdict::Accepted(verified)) => Ok(verified),
+            other => Err(other),
+        }
+    }
+    /// The accepted plan; what is to be said of any other comes back.
+    pub fn accepted2(self) -> Result<Verified, Loaded>
+        ensures { result ≡ accepted_in self }
+    {
+        match self {
+            Loaded::Judged(Verdict::Accepted(verified)) => Ok(verified),
+            Loaded::Judged(Verdict::Refused(back, why)) => {
+                Err(Loaded::Judged(Verdict::Refused(back, why)))
+            }
+            Loaded::NotShaped(fault) => Err(Loaded::NotShaped(fault)),
+        }
+    }
 }
 
 /// The verdict on a plan for an instance, both given as texts. Without a name the first text is one instance, else a
@@ -77,8 +99,7 @@ fn verdict(alloc: Global, shaped: Shaped) -> Result<Loaded, AllocError>
     ensures { IfOk result (IsLoaded shaped) }
 {
     match verify(alloc, shaped) {
-        Ok(Verdict::Accepted(verified)) => Ok(Loaded::Accepted(verified)),
-        Ok(Verdict::Refused(_, why)) => Ok(Loaded::Refused(why)),
+        Ok(verdict) => Ok(Loaded::Judged(verdict)),
         Err((error, _)) => Err(error),
     }
 }

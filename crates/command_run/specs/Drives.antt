@@ -1,6 +1,7 @@
 -- What driving the cell of an accepted plan comes to.
 use Rattle.std.specs.Prelude.{◌≡◌, ℕ, List, [], Bool, true, false, Result, Ok, Err, IfOk, IfErr, OnOk}
 use Rattle.std.specs.Io.KnownBytes.{Consumes}
+use Rattle.plan_verifier.specs.declared.verdict.Verdict.TheVariants.{Accepted, Refused}
 use Rattle.plan_verifier.specs.Accepted.{VerifiedPlan}
 use Rattle.cell_drive.specs.declared.driving.DriveEnd.{DriveEnd}
 use Rattle.cell_drive.specs.declared.drive_fault.DriveFault.{DriveFault}
@@ -10,7 +11,7 @@ use Rattle.command_answers.specs.declared.answer.Answer.{Answer}
 use Rattle.command_answers.specs.declared.command_fault.CommandFault.{CommandFault}
 use Rattle.command_answers.specs.declared.command_fault.CommandFault.TheVariants.{Read, Write, InputTooLong, Memory}
 use Rattle.command_answers.specs.declared.loading.Loaded.{Loaded}
-use Rattle.command_answers.specs.declared.loading.Loaded.TheVariants.{NotShaped, Refused, Accepted}
+use Rattle.command_answers.specs.declared.loading.Loaded.TheVariants.{NotShaped, Judged}
 use Rattle.command_answers.specs.Checks.{IsLineOf}
 use Rattle.command_answers.specs.Steps.{IsOrMemory}
 use Rattle.command_run.specs.Streams.{Streams}
@@ -61,5 +62,5 @@ IsLineTold loaded = IsOrMemory (IsLineOf loaded)
 abbrev pub Drives : Result Loaded CommandFault → Streams → Streams → Result Answer CommandFault → Type 0
 Drives (Err fault) before after outcome = (outcome ≡ Err fault) × (after ≡ before)
 Drives (Ok (NotShaped fault)) before after outcome = IsLineTold (NotShaped fault) outcome × (after ≡ before)
-Drives (Ok (Refused why)) before after outcome = IsLineTold (Refused why) outcome × (after ≡ before)
-Drives (Ok (Accepted v)) before after outcome = DrivesCell v before after outcome
+Drives (Ok (Judged (Refused back why))) before after outcome = IsLineTold (Judged (Refused back why)) outcome × (after ≡ before)
+Drives (Ok (Judged (Accepted v))) before after outcome = DrivesCell v before after outcome

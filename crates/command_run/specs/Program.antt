@@ -4,7 +4,7 @@ use Rattle.std.specs.String.{string_bytes}
 use Rattle.run_log.specs.Sinks.{TookPart}
 use Rattle.command_words.specs.declared.words.Chosen.{Chosen}
 use Rattle.command_words.specs.declared.words.CommandName.{CommandName}
-use Rattle.command_words.specs.declared.words.CommandName.TheVariants.{Input as NoWords, Facts, Shape, Check, Plan, Improve, Drive, Hub, Audit, Gantt}
+use Rattle.command_words.specs.declared.words.CommandName.TheVariants.{Input as NoWords, Facts, Shape, Check, Explain, Plan, Improve, Drive, Hub, Audit, Gantt}
 use Rattle.command_words.specs.declared.words.WordsFault.{WordsFault}
 use Rattle.command_words.specs.declared.words.WordsFault.TheVariants.{Usage, Memory}
 use Rattle.command_words.specs.Choice.{IsChoiceOf, IsWithin, TellsOneOf, reasons_in, found_in}
@@ -15,7 +15,7 @@ use Rattle.command_answers.specs.declared.command_fault.CommandFault.{CommandFau
 use Rattle.command_answers.specs.declared.loading.Loaded.{Loaded}
 use Rattle.command_answers.specs.AuditLines.{IsLogLine}
 use Rattle.command_answers.specs.GanttLines.{IsDrawnLog}
-use Rattle.command_answers.specs.Commands.{RunsFacts, RunsShape, RunsCheck, RunsLog, Loads}
+use Rattle.command_answers.specs.Commands.{RunsFacts, RunsShape, RunsCheck, RunsExplain, RunsLog, Loads}
 use Rattle.command_answers.specs.Cells.{LoadsCells}
 use Rattle.command_run.specs.Streams.{Streams}
 use Rattle.command_run.specs.Inputs.{RunsInput}
@@ -67,6 +67,8 @@ module _ {W : Type 0} (gives : W → List ℕ → Result (List ℕ) FileFault �
       RunsShape gives (file_at chosen 0) (name_in chosen) (file_at chosen 1) texts outcome texts_after × (after ≡ before)
   RunsCommand Check chosen texts before outcome texts_after after =
       RunsCheck gives (file_at chosen 0) (name_in chosen) (file_at chosen 1) texts outcome texts_after × (after ≡ before)
+  RunsCommand Explain chosen texts before outcome texts_after after =
+      RunsExplain gives (file_at chosen 0) (name_in chosen) (file_at chosen 1) texts outcome texts_after × (after ≡ before)
   RunsCommand Plan chosen texts before outcome texts_after after =
       SeeksPlan gives chosen.rounds (file_at chosen 0) (name_in chosen) (file_at chosen 1) texts outcome texts_after × (after ≡ before)
   RunsCommand Improve chosen texts before outcome texts_after after =

@@ -15,8 +15,8 @@ use crate::planners::seek_answer;
 use crate::screen::Screen;
 use cell_drive::{Outlet, Source};
 use command_answers::{
-    Answer, CommandFault, Texts, audit_answer, check_answer, facts_answer, gantt_answer,
-    load_cells, load_files, shape_answer,
+    Answer, CommandFault, Texts, audit_answer, check_answer, explain_answer, facts_answer,
+    gantt_answer, load_cells, load_files, shape_answer,
 };
 use command_words::{Chosen, CommandName};
 use std::alloc::Global;
@@ -60,6 +60,9 @@ pub(crate) fn command<T: Texts, R: Source, W: Outlet, S: Screen>(
         CommandName::Facts => facts_answer(alloc, texts, file(chosen, 0), name),
         CommandName::Shape => shape_answer(alloc, texts, file(chosen, 0), name, file(chosen, 1)),
         CommandName::Check => check_answer(alloc, texts, file(chosen, 0), name, file(chosen, 1)),
+        CommandName::Explain => {
+            explain_answer(alloc, texts, file(chosen, 0), name, file(chosen, 1))
+        }
         CommandName::Plan => {
             seek_answer(
                 alloc,

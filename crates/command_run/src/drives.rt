@@ -6,7 +6,7 @@ ghost use Rattle.command_run.specs.Drives.{IsDrive, IsEndAnswer, DrivesCell, IsL
 
 use cell_drive::{DriveEnd, DriveFault, Outlet, Source, drive};
 use command_answers::{Answer, CommandFault, GOOD, Loaded, REFUSED, loaded_answer};
-use plan_verifier::Verified;
+use plan_verifier::{Verdict, Verified};
 use std::alloc::Global;
 
 /// A fault of a driven run as one of a command.
@@ -41,7 +41,9 @@ pub(crate) fn drive_cell<R: Source, W: Outlet>(
         (streams_of R.left R.failed W.taken W.failed W.pending input.new output.new) result }
 {
     match loaded {
-        Ok(Loaded::Accepted(verified)) => drive_accepted(alloc, verified, input, output),
+        Ok(Loaded::Judged(Verdict::Accepted(verified))) => {
+            drive_accepted(alloc, verified, input, output)
+        }
         Ok(other) => line_told(alloc, &other),
         Err(fault) => Err(fault),
     }

@@ -3,7 +3,7 @@ use alt_graph::{check_chain, check_cycle};
 use command_answers::{CommandFault, Loaded, check, load};
 use orlib_read::{OrFault, read_instance};
 use plan_text::{PlanFault, read_plan};
-use plan_verifier::Why;
+use plan_verifier::{Verdict, Why};
 use shop_base::{ShapeFault, Shaped, shape};
 use std::alloc::Global;
 use std::test::Fail;
@@ -78,7 +78,7 @@ fn a_refused_text_has_no_verdict(rt: HostRuntime) -> Result<(), Fail> {
 #[test]
 fn a_verdict_is_loaded(rt: HostRuntime) -> Result<(), Fail> {
     match load(rt.alloc(), TWO, None, IN_TIME)? {
-        Loaded::Accepted(verified) => {
+        Loaded::Judged(Verdict::Accepted(verified)) => {
             assert_eq!(rt; verified.makespan(), 10);
             assert_eq!(rt; verified.earliest_leave(0), Some(5));
             assert_eq!(rt; verified.earliest_leave(2), None);
@@ -127,8 +127,8 @@ fn is_refused_justly(alloc: Global, instance: &[u8], plan: &[u8]) -> Result<bool
     let shaped = planned(alloc, instance, plan)?;
     let loaded = load(alloc, instance, None, plan)?;
     Ok(match &loaded {
-        Loaded::Refused(Why::Cycle(nodes)) => check_cycle(&shaped, nodes),
-        Loaded::Refused(Why::Late { leaves, chain, .. }) => {
+        Loaded::Judged(Verdict::Refused(_, Why::Cycle(nodes))) => check_cycle(&shaped, nodes),
+        Loaded::Judged(Verdict::Refused(_, Why::Late { leaves, chain, .. })) => {
             check_chain(&shaped, chain) == Some(*leaves)
         }
         _ => false,

@@ -39,7 +39,7 @@ fn shaped(alloc: Global, plan: &[u8]) -> Result<Shaped, Fail> {
 
 fn accepted(rt: &(impl Abort + AllocGlobal)) -> Result<Verified, Fail> {
     match load(rt.alloc(), TWO, None, IN_TIME)? {
-        Loaded::Accepted(verified) => Ok(verified),
+        Loaded::Judged(Verdict::Accepted(verified)) => Ok(verified),
         _ => panic!(rt; "the plan isn't accepted"),
     }
 }

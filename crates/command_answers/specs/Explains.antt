@@ -1,0 +1,41 @@
+use Rattle.std.specs.Prelude.{◌≡◌, ℕ, ◌⊎◌}
+use Rattle.shop_base.specs.Plan.{PlannedShop}
+use Rattle.plan_verifier.specs.declared.verdict.Verdict.{Verdict}
+use Rattle.plan_verifier.specs.declared.verdict.Verdict.TheVariants.{Accepted, Refused}
+use Rattle.plan_verifier.specs.Verdicts.{OnRefused, IsReason}
+use Rattle.plan_explain.specs.Explained.{IsExplained}
+use Rattle.command_answers.specs.declared.answer.Answer.{Answer}
+use Rattle.command_answers.specs.declared.loading.Loaded.{Loaded}
+use Rattle.command_answers.specs.declared.loading.Loaded.TheVariants.{NotShaped, Judged}
+use Rattle.command_answers.specs.Shapes.{IsNotShapedLine, IsRefusedLine}
+use Rattle.command_answers.specs.Checks.{IsJudged}
+
+-- the status of a verdict
+abbrev pub verdict_status : Verdict → ℕ
+verdict_status (Accepted verified) = 0
+verdict_status (Refused back why) = 1
+
+-- the explanation of a verdict, with its status
+pub record IsVerdictExplained (verdict : Verdict) (answer : Answer) : Type 0 where
+  pub text : IsExplained verdict answer.text.items
+  pub status : answer.status ≡ verdict_status verdict
+
+-- the explanation of the verdict on a plan
+pub record IsPlanExplained (p : PlannedShop) (answer : Answer) : Type 0 where
+  pub verdict : Verdict
+  pub judged : IsJudged p verdict
+  pub explained : IsVerdictExplained verdict answer
+
+-- why a plan is accepted or refused: the line of the first fault of its shape, or the explanation of the verdict on it
+abbrev pub IsExplanation : PlannedShop → Answer → Type 0
+IsExplanation p answer = IsNotShapedLine p answer ⊎ IsPlanExplained p answer
+
+-- a refusal has its evidence
+abbrev pub HasEvidence : Loaded → Type 0
+HasEvidence (NotShaped fault) = Unit {0}
+HasEvidence (Judged verdict) = OnRefused IsReason verdict
+
+-- the explanation of what is said of a plan
+abbrev pub IsExplanationOf : Loaded → Answer → Type 0
+IsExplanationOf (NotShaped fault) answer = IsRefusedLine answer
+IsExplanationOf (Judged verdict) answer = IsVerdictExplained verdict answer
