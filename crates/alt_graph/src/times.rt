@@ -88,7 +88,8 @@ impl Times {
 
     /// What is known of the node, if it is known.
     fn time(&self, node: Node) -> Option<NodeTime>
-        ensures known { MatchOption result (IsTimed self.now node → ⊥) (λ time. IsTimed self.now node × (time ≡ time_at self.now node)) }
+        ensures known { MatchOption result (IsTimed self.now node → ⊥)
+            (λ time. IsTimed self.now node × (time ≡ time_at self.now node)) }
         ensures back { IfSome result (λ time. LeadsBack self.now node time.before) }
     {
         let firsts = self.firsts.as_slice();
@@ -119,7 +120,8 @@ impl Times {
     /// The nodes of a longest path to a known node, backwards; it has no more than its rank and one.
     fn walk_back(&self, alloc: Global, node: Node, rank: u32) -> Result<Vec<Node>, AllocError>
         requires { IsTimed self.now node }
-        ensures { IfOk result (λ nodes. (p : PlannedShop) → AreTimes p self.now → Path p (reverse nodes.items) node (earliest_of self.now node)) }
+        ensures { let t = self.now in
+            IfOk result (λ nodes. (p : PlannedShop) → AreTimes p t → Path p (reverse nodes.items) node (earliest_of t node)) }
     {
         let mut nodes = Vec::with_capacity(alloc, rank as usize + 1)?;
         let mut last = node;
