@@ -6,7 +6,6 @@ ghost use Rattle.shop_base.specs.Graph.{Arc, HasArc};
 ghost use Rattle.alt_graph.specs.Sources.{IsBlockingArc, IsBehind};
 
 use crate::sources::job_source;
-use shop_base::readers::{clean_of, machine_at, order_of};
 use shop_base::{JobNo, Moment, Node, Shaped};
 
 /// The length of the arc that leads from one node to the other, if there is one.
@@ -27,12 +26,12 @@ fn blocking_arc(shaped: &Shaped, from: Node, to: Node) -> Option<Moment>
     if from.place == 0 {
         return None;
     }
-    let left = machine_at(shaped, from.job, from.place - 1)?;
-    let entered = machine_at(shaped, to.job, to.place)?;
-    if left != entered || !is_behind(order_of(shaped, left), from.job, to.job) {
+    let left = shaped.machine_at(from.job, from.place - 1)?;
+    let entered = shaped.machine_at(to.job, to.place)?;
+    if left != entered || !is_behind(shaped.order_of(left), from.job, to.job) {
         return None;
     }
-    Some(clean_of(shaped, left))
+    Some(shaped.clean_of(left))
 }
 
 /// Whether a job stands directly behind another in an order.

@@ -4,7 +4,6 @@ ghost use Rattle.std.specs.Prelude.{◌≡◌, ◌+◌, ◌<◌, IfOk, length};
 ghost use Rattle.alt_graph.specs.Tables.{AreFirsts};
 ghost use Rattle.alt_graph.specs.Layout.{number_of};
 
-use shop_base::readers::{job_count, step_count};
 use shop_base::{Node, Shaped};
 use std::alloc::{AllocError, Global};
 
@@ -12,12 +11,12 @@ use std::alloc::{AllocError, Global};
 pub(crate) fn first_numbers(alloc: Global, shaped: &Shaped) -> Result<Vec<u32>, AllocError>
     ensures { IfOk result (λ firsts. AreFirsts shaped.now firsts.items) }
 {
-    let jobs = job_count(shaped);
+    let jobs = shaped.job_count();
     let mut firsts = Vec::with_capacity(alloc, jobs as usize + 1)?;
     let mut next = 0;
     firsts.push(next)?;
     for job in 0..jobs {
-        next += step_count(shaped, job) + 1;
+        next += shaped.step_count(job) + 1;
         firsts.push(next)?;
     }
     Ok(firsts)

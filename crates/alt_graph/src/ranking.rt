@@ -15,7 +15,6 @@ use crate::numbers::number;
 use crate::sources::{Source, blocking_source, blocking_target, job_source, job_target};
 use crate::tables::Tables;
 use crate::times::{NodeTime, UNRANKED};
-use shop_base::readers::{job_count, release_of, step_count};
 use shop_base::{JobNo, Moment, Node, Shaped};
 use std::alloc::{AllocError, Global};
 
@@ -59,7 +58,7 @@ fn rank_first(alloc: Global, shaped: &Shaped, tables: &Tables) -> Result<Ranking
     ensures settled { IfOk result (λ ranking. AreSettled shaped.now (so_far tables.now ranking) 0) }
 {
     let mut ranking = none_ranked(alloc, shaped, tables)?;
-    for job in 0..job_count(shaped) {
+    for job in 0..shaped.job_count() {
         try_rank(shaped, tables, &mut ranking, Node { job, place: 0 })?;
     }
     Ok(ranking)
@@ -69,7 +68,7 @@ fn none_ranked(alloc: Global, shaped: &Shaped, tables: &Tables) -> Result<Rankin
     requires { AreTables shaped.now tables.now }
     ensures { IfOk result (λ ranking. IsRanking shaped.now tables.now ranking) }
 {
-    let nodes = tables.firsts[job_count(shaped) as usize] as usize;
+    let nodes = tables.firsts[shaped.job_count() as usize] as usize;
     let done = Vec::with_capacity(alloc, nodes)?;
     let rows = no_times(alloc, nodes)?;
     Ok(Ranking { done, rows })
@@ -251,7 +250,7 @@ fn longest_in_job(
     match job_source(shaped, node) {
         Some(source) => longest_over(shaped, tables, ranking, source),
         None => Some(Longest {
-            length: release_of(shaped, node.job),
+            length: shaped.release_of(node.job),
             before: None,
         }),
     }
@@ -288,7 +287,7 @@ pub(crate) fn first_unranked(shaped: &Shaped, tables: &Tables, ranking: &Ranking
     ensures { let t = so_far tables.now ranking.now in
         MatchOption result ((v : Node) → IsNode shaped.now v → IsRanked t v) (λ v. IsNode shaped.now v × (rank_of t v ≡ UNRANKED)) }
 {
-    for job in 0..job_count(shaped) {
+    for job in 0..shaped.job_count() {
         if let Some(node) = first_unranked_of(shaped, tables, ranking, job) {
             return Some(node);
         }
@@ -309,7 +308,7 @@ fn first_unranked_of(
     ensures { let t = so_far tables.now ranking.now in
         MatchOption result ((k : ℕ) → k ≤ steps shaped.now job → IsRanked t (node job k)) (λ v. IsNode shaped.now v × (rank_of t v ≡ UNRANKED)) }
 {
-    for place in 0..step_count(shaped, job) + 1 {
+    for place in 0..shaped.step_count(job) + 1 {
         let node = Node { job, place };
         if !is_ranked(shaped, tables, ranking, node) {
             return Some(node);

@@ -41,8 +41,8 @@ pub(crate) fn cycle_from(
     ensures { IfOk result (λ nodes. IsCycle shaped.now nodes.items) }
 {
     let round = follow(alloc, shaped, tables, ranking, node)?;
-    let least = least_place(&round);
-    let nodes = turned(alloc, &round, least)?;
+    let least = round.least_place();
+    let nodes = round.turned(alloc, least)?;
     Ok(nodes)
 }
 
@@ -116,45 +116,47 @@ fn free_of(
     }
 }
 
-/// The nodes of the cycle at the end of the followed ones, along its arcs and from a place on.
-fn turned(alloc: Global, round: &Round, place: usize) -> Result<Vec<Node>, AllocError>
-    requires after { round.now.start ≤ place }
-    requires within { place < round_length round.now }
-    ensures { IfOk result (λ nodes. AreFrom round.now place nodes.items) }
-{
-    let count = round.nodes.len() - round.start;
-    let mut nodes = Vec::with_capacity(alloc, count)?;
-    for arcs in 0..count {
-        nodes.push(round.nodes[place_after(round, place, arcs)])?;
+impl Round {
+    /// The nodes of the cycle at the end of the followed ones, along its arcs and from a place on.
+    fn turned(&self, alloc: Global, place: usize) -> Result<Vec<Node>, AllocError>
+        requires after { self.now.start ≤ place }
+        requires within { place < round_length self.now }
+        ensures { IfOk result (λ nodes. AreFrom self.now place nodes.items) }
+    {
+        let count = self.nodes.len() - self.start;
+        let mut nodes = Vec::with_capacity(alloc, count)?;
+        for arcs in 0..count {
+            nodes.push(self.nodes[self.place_after(place, arcs)])?;
+        }
+        Ok(nodes)
     }
-    Ok(nodes)
-}
 
-/// The place that many arcs after a place of the cycle: an arc leads from each place to the one before it.
-fn place_after(round: &Round, place: usize, arcs: usize) -> usize
-    requires after { round.now.start ≤ place }
-    requires within { place < round_length round.now }
-    requires arcs { round.now.start + arcs < round_length round.now }
-    ensures place { IsPlaceAfter round.now place arcs result }
-    ensures within { result < round_length round.now }
-{
-    if arcs <= place - round.start {
-        place - arcs
-    } else {
-        place + (round.nodes.len() - round.start) - arcs
-    }
-}
-
-/// The place of the least node of the cycle.
-fn least_place(round: &Round) -> usize
-    requires { round.now.start < round_length round.now }
-    ensures { IsLeastPlace round.now result }
-{
-    let mut least = round.start;
-    for place in round.start..round.nodes.len() {
-        if is_before(round.nodes[place], round.nodes[least]) {
-            least = place;
+    /// The place that many arcs after a place of the cycle: an arc leads from each place to the one before it.
+    fn place_after(&self, place: usize, arcs: usize) -> usize
+        requires after { self.now.start ≤ place }
+        requires within { place < round_length self.now }
+        requires arcs { self.now.start + arcs < round_length self.now }
+        ensures place { IsPlaceAfter self.now place arcs result }
+        ensures within { result < round_length self.now }
+    {
+        if arcs <= place - self.start {
+            place - arcs
+        } else {
+            place + (self.nodes.len() - self.start) - arcs
         }
     }
-    least
+
+    /// The place of the least node of the cycle.
+    fn least_place(&self) -> usize
+        requires { self.now.start < round_length self.now }
+        ensures { IsLeastPlace self.now result }
+    {
+        let mut least = self.start;
+        for place in self.start..self.nodes.len() {
+            if is_before(self.nodes[place], self.nodes[least]) {
+                least = place;
+            }
+        }
+        least
+    }
 }

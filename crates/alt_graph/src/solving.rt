@@ -4,7 +4,7 @@ ghost use Rattle.alt_graph.specs.Solved.{OnOrdered, OnCyclic, IsCyclic, HasCycle
 
 use crate::ranking::{first_unranked, rank_all};
 use crate::rounds::cycle_from;
-use crate::tables::tables_of;
+use crate::tables::Tables;
 use crate::times::Times;
 use shop_base::{Node, Shaped};
 use std::alloc::{AllocError, Global};
@@ -27,7 +27,7 @@ pub fn solve(alloc: Global, shaped: &Shaped) -> Result<Solved, AllocError>
     ensures exact { IfOk result (λ solved. IsCyclic solved ↔ HasCycle shaped.now) }
     ensures well_shaped { IsWellShaped shaped.now }
 {
-    let tables = tables_of(alloc, shaped)?;
+    let tables = Tables::new(alloc, shaped)?;
     let ranking = rank_all(alloc, shaped, &tables)?;
     match first_unranked(shaped, &tables, &ranking) {
         Some(node) => {

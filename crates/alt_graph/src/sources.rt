@@ -7,7 +7,6 @@ ghost use Rattle.alt_graph.specs.Tables.{AreTables};
 ghost use Rattle.alt_graph.specs.Sources.{IsJobArc, IsBlockingArc, IsSource, IsTarget};
 
 use crate::tables::{Tables, slot};
-use shop_base::readers::{clean_of, machine_at, order_of, route_of, step_of};
 use shop_base::{MachineNo, Moment, Node, Shaped};
 
 /// The node from which an arc comes, and the arc's length.
@@ -27,7 +26,7 @@ pub(crate) fn job_source(shaped: &Shaped, node: Node) -> Option<Source>
         return None;
     }
     let place = node.place - 1;
-    let length = step_of(shaped, node.job, place)?.nominal;
+    let length = shaped.step_of(node.job, place)?.nominal;
     let node = Node {
         job: node.job,
         place,
@@ -40,13 +39,13 @@ pub(crate) fn blocking_source(shaped: &Shaped, tables: &Tables, node: Node) -> O
     requires { AreTables shaped.now tables.now }
     ensures { IsSource (IsBlockingArc shaped.now) node result }
 {
-    let machine = machine_at(shaped, node.job, node.place)?;
+    let machine = shaped.machine_at(node.job, node.place)?;
     let place = place_on(shaped, tables, machine, node);
     if place == 0 {
         return None;
     }
     let entry = entry_at(shaped, tables, machine, place - 1);
-    let length = clean_of(shaped, machine);
+    let length = shaped.clean_of(machine);
     let node = Node {
         job: entry.job,
         place: entry.place + 1,
@@ -59,7 +58,7 @@ pub(crate) fn job_target(shaped: &Shaped, node: Node) -> Option<Node>
     requires { IsNode shaped.now node }
     ensures { IsTarget (IsJobArc shaped.now) node result }
 {
-    if node.place as usize == route_of(shaped, node.job).len() {
+    if node.place as usize == shaped.route_of(node.job).len() {
         return None;
     }
     Some(Node {
@@ -80,9 +79,9 @@ pub(crate) fn blocking_target(shaped: &Shaped, tables: &Tables, node: Node) -> O
         job: node.job,
         place: node.place - 1,
     };
-    let machine = machine_at(shaped, entry.job, entry.place)?;
+    let machine = shaped.machine_at(entry.job, entry.place)?;
     let place = place_on(shaped, tables, machine, entry) + 1;
-    if place == order_of(shaped, machine).len() {
+    if place == shaped.order_of(machine).len() {
         return None;
     }
     Some(entry_at(shaped, tables, machine, place))
@@ -104,7 +103,7 @@ fn entry_at(shaped: &Shaped, tables: &Tables, machine: MachineNo, place: usize) 
     requires tables { AreTables shaped.now tables.now }
     ensures { Stands shaped.now machine place result.job result.place }
 {
-    let job = order_of(shaped, machine)[place];
+    let job = shaped.order_of(machine)[place];
     let place = tables.steps[slot(machine, job)];
     Node { job, place }
 }

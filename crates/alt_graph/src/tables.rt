@@ -6,7 +6,6 @@ ghost use Rattle.alt_graph.specs.Tables.{AreTables, AreStepsOf, ArePlacesOf, Has
 
 use crate::numbers::first_numbers;
 use shop_base::limits::MAX_JOBS;
-use shop_base::readers::{job_count, machine_count, order_of, route_of};
 use shop_base::{JobNo, MachineNo, Shaped};
 use std::alloc::{AllocError, Global};
 
@@ -19,19 +18,22 @@ pub(crate) struct Tables {
     pub places: Vec<u32>,
 }
 
-pub(crate) fn tables_of(alloc: Global, shaped: &Shaped) -> Result<Tables, AllocError>
-    ensures tables { IfOk result (AreTables shaped.now) }
-    ensures well_shaped { IsWellShaped shaped.now }
-{
-    let _jobs = job_count(shaped);
-    let firsts = first_numbers(alloc, shaped)?;
-    let steps = steps_on_machines(alloc, shaped)?;
-    let places = places_in_orders(alloc, shaped)?;
-    Ok(Tables {
-        firsts,
-        steps,
-        places,
-    })
+impl Tables {
+    /// The tables of a planned shop.
+    pub(crate) fn new(alloc: Global, shaped: &Shaped) -> Result<Tables, AllocError>
+        ensures tables { IfOk result (AreTables shaped.now) }
+        ensures well_shaped { IsWellShaped shaped.now }
+    {
+        let _jobs = shaped.job_count();
+        let firsts = first_numbers(alloc, shaped)?;
+        let steps = steps_on_machines(alloc, shaped)?;
+        let places = places_in_orders(alloc, shaped)?;
+        Ok(Tables {
+            firsts,
+            steps,
+            places,
+        })
+    }
 }
 
 /// Where the machine and the job stand in a table.
@@ -45,7 +47,7 @@ pub(crate) fn slot(machine: MachineNo, job: JobNo) -> usize
 fn no_slots(alloc: Global, shaped: &Shaped) -> Result<Vec<u32>, AllocError>
     ensures { IfOk result (λ table. HasSlots shaped.now table.items) }
 {
-    vec![in alloc; 0; machine_count(shaped) as usize * MAX_JOBS]
+    vec![in alloc; 0; shaped.machine_count() as usize * MAX_JOBS]
 }
 
 fn steps_on_machines(alloc: Global, shaped: &Shaped) -> Result<Vec<u32>, AllocError>
@@ -53,7 +55,7 @@ fn steps_on_machines(alloc: Global, shaped: &Shaped) -> Result<Vec<u32>, AllocEr
     ensures steps { IfOk result (λ table. (j : ℕ) → j < jobs shaped.now → AreStepsOf shaped.now table.items j) }
 {
     let mut steps = no_slots(alloc, shaped)?;
-    for job in 0..job_count(shaped) {
+    for job in 0..shaped.job_count() {
         note_steps(shaped, job, &mut steps);
     }
     Ok(steps)
@@ -65,7 +67,7 @@ fn note_steps(shaped: &Shaped, job: JobNo, steps: &mut [u32])
     ensures noted { AreStepsOf shaped.now steps.new job }
     ensures others { (m j : ℕ) → j < jobs shaped.now → j ≢ job → slice_index steps.new (slot_of m j) ≡ slice_index steps.old (slot_of m j) }
 {
-    let route = route_of(shaped, job);
+    let route = shaped.route_of(job);
     for step in 0..route.len() {
         steps[slot(route[step].machine, job)] = step as u32;
     }
@@ -76,7 +78,7 @@ fn places_in_orders(alloc: Global, shaped: &Shaped) -> Result<Vec<u32>, AllocErr
     ensures places { IfOk result (λ table. (m : ℕ) → m < machines shaped.now → ArePlacesOf shaped.now table.items m) }
 {
     let mut places = no_slots(alloc, shaped)?;
-    for machine in 0..machine_count(shaped) {
+    for machine in 0..shaped.machine_count() {
         note_places(shaped, machine, &mut places);
     }
     Ok(places)
@@ -88,7 +90,7 @@ fn note_places(shaped: &Shaped, machine: MachineNo, places: &mut [u32])
     ensures noted { ArePlacesOf shaped.now places.new machine }
     ensures others { (m j : ℕ) → j < jobs shaped.now → m ≢ machine → slice_index places.new (slot_of m j) ≡ slice_index places.old (slot_of m j) }
 {
-    let order = order_of(shaped, machine);
+    let order = shaped.order_of(machine);
     for place in 0..order.len() {
         places[slot(machine, order[place])] = place as u32;
     }

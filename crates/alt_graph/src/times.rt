@@ -52,7 +52,7 @@ impl Times {
     pub fn rank(&self, node: Node) -> Option<u32>
         ensures { MatchOption result (IsTimed self.now node → ⊥) (λ rank. IsTimed self.now node × (rank ≡ rank_of self.now node)) }
     {
-        match time_in(&self.firsts, &self.rows, node) {
+        match self.time(node) {
             Some(time) => Some(time.rank),
             None => None,
         }
@@ -63,7 +63,7 @@ impl Times {
     pub fn earliest(&self, node: Node) -> Option<Moment>
         ensures { MatchOption result (IsTimed self.now node → ⊥) (λ earliest. IsTimed self.now node × (earliest ≡ earliest_of self.now node)) }
     {
-        match time_in(&self.firsts, &self.rows, node) {
+        match self.time(node) {
             Some(time) => Some(time.earliest),
             None => None,
         }
@@ -76,83 +76,60 @@ impl Times {
         ensures inside { IsTimed self.now node → IfOk result IsSome }
         ensures path { IfOk result (λ found. IfSome found (λ nodes. (p : PlannedShop) → AreTimes p self.now → Path p nodes.items node (earliest_of self.now node))) }
     {
-        chain_in(alloc, &self.firsts, &self.rows, node)
-    }
-}
-
-/// What is known of the node, if it is known.
-fn time_in(firsts: &[u32], rows: &[NodeTime], node: Node) -> Option<NodeTime>
-    requires { AreLinked firsts.now rows.now }
-    ensures { let t = by_job firsts.now rows.now in
-        MatchOption result (IsTimed t node → ⊥) (λ time. IsTimed t node × (time ≡ time_at t node)) }
-{
-    let job = node.job as usize;
-    if job + 1 >= firsts.len() {
-        return None;
-    }
-    let at = number(firsts, node);
-    if at < firsts[job + 1] as usize {
-        Some(rows[at])
-    } else {
-        None
-    }
-}
-
-/// The node before a known one on a longest path to it, if there is one.
-fn before_in(firsts: &[u32], rows: &[NodeTime], node: Node) -> Option<Node>
-    requires linked { AreLinked firsts.now rows.now }
-    requires timed { IsTimed (by_job firsts.now rows.now) node }
-    ensures before { result ≡ before_of (by_job firsts.now rows.now) node }
-    ensures back { LeadsBack (by_job firsts.now rows.now) node result }
-{
-    match time_in(firsts, rows, node) {
-        Some(time) => time.before,
-        None => unreachable!(),
-    }
-}
-
-/// A longest path to the node, if it is known.
-fn chain_in(
-    alloc: Global,
-    firsts: &[u32],
-    rows: &[NodeTime],
-    node: Node,
-) -> Result<Option<Vec<Node>>, AllocError>
-    requires { AreLinked firsts.now rows.now }
-    ensures outside { (IsTimed (by_job firsts.now rows.now) node → ⊥) → result ≡ Ok None }
-    ensures inside { IsTimed (by_job firsts.now rows.now) node → IfOk result IsSome }
-    ensures path { let t = by_job firsts.now rows.now in
-        IfOk result (λ found. IfSome found (λ nodes. (p : PlannedShop) → AreTimes p t → Path p nodes.items node (earliest_of t node))) }
-{
-    match time_in(firsts, rows, node) {
-        Some(time) => {
-            let mut nodes = walk_back(alloc, firsts, rows, node, time.rank)?;
-            nodes.reverse();
-            Ok(Some(nodes))
+        match self.time(node) {
+            Some(time) => {
+                let mut nodes = self.walk_back(alloc, node, time.rank)?;
+                nodes.reverse();
+                Ok(Some(nodes))
+            }
+            None => Ok(None),
         }
-        None => Ok(None),
     }
-}
 
-/// The nodes of a longest path to the node, backwards; it has no more than its rank and one.
-fn walk_back(
-    alloc: Global,
-    firsts: &[u32],
-    rows: &[NodeTime],
-    node: Node,
-    rank: u32,
-) -> Result<Vec<Node>, AllocError>
-    requires linked { AreLinked firsts.now rows.now }
-    requires timed { IsTimed (by_job firsts.now rows.now) node }
-    ensures { let t = by_job firsts.now rows.now in
-        IfOk result (λ nodes. (p : PlannedShop) → AreTimes p t → Path p (reverse nodes.items) node (earliest_of t node)) }
-{
-    let mut nodes = Vec::with_capacity(alloc, rank as usize + 1)?;
-    let mut last = node;
-    'back: while let Some(before) = before_in(firsts, rows, last) {
-        nodes.push(last)?;
-        last = before;
+    /// What is known of the node, if it is known.
+    fn time(&self, node: Node) -> Option<NodeTime>
+        ensures known { MatchOption result (IsTimed self.now node → ⊥)
+            (λ time. IsTimed self.now node × (time ≡ time_at self.now node)) }
+        ensures back { IfSome result (λ time. LeadsBack self.now node time.before) }
+    {
+        let firsts = self.firsts.as_slice();
+        let job = node.job as usize;
+        if job + 1 >= firsts.len() {
+            return None;
+        }
+        let at = number(firsts, node);
+        if at < firsts[job + 1] as usize {
+            Some(self.rows[at])
+        } else {
+            None
+        }
     }
-    nodes.push(last)?;
-    Ok(nodes)
+
+    /// The node before a known one on a longest path to it, if there is one.
+    fn before(&self, node: Node) -> Option<Node>
+        requires { IsTimed self.now node }
+        ensures before { result ≡ before_of self.now node }
+        ensures back { LeadsBack self.now node result }
+    {
+        match self.time(node) {
+            Some(time) => time.before,
+            None => unreachable!(),
+        }
+    }
+
+    /// The nodes of a longest path to a known node, backwards; it has no more than its rank and one.
+    fn walk_back(&self, alloc: Global, node: Node, rank: u32) -> Result<Vec<Node>, AllocError>
+        requires { IsTimed self.now node }
+        ensures { let t = self.now in
+            IfOk result (λ nodes. (p : PlannedShop) → AreTimes p t → Path p (reverse nodes.items) node (earliest_of t node)) }
+    {
+        let mut nodes = Vec::with_capacity(alloc, rank as usize + 1)?;
+        let mut last = node;
+        'back: while let Some(before) = self.before(last) {
+            nodes.push(last)?;
+            last = before;
+        }
+        nodes.push(last)?;
+        Ok(nodes)
+    }
 }

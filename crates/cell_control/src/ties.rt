@@ -8,7 +8,6 @@ ghost use Rattle.shop_base.specs.Movers.{due_of_job, due_of_cleaning};
 
 use crate::dues::Dues;
 use cell_tables::WorkCell;
-use shop_base::readers::{clean_of, job_count, release_of, step_of};
 use shop_base::{JobNo, MachineNo, Moment, Planned};
 
 /// When the job's activity is due; none where it has none.
@@ -21,9 +20,9 @@ fn job_due<P: Planned>(cell: &WorkCell<P>, job: JobNo) -> Option<Moment>
         return None;
     }
     if state.made == 0 {
-        return Some(release_of(cell.shaped(), job));
+        return Some(cell.shaped().release_of(job));
     }
-    let step = step_of(cell.shaped(), job, state.made - 1)?;
+    let step = cell.shaped().step_of(job, state.made - 1)?;
     Some(state.since + step.nominal)
 }
 
@@ -33,7 +32,7 @@ fn cleaning_due<P: Planned>(cell: &WorkCell<P>, machine: MachineNo) -> Option<Mo
     ensures { result ≡ due_of_cleaning cell.now.plan machine (cleaning cell.now.cell machine) }
 {
     let from = cell.cleaned_since(machine)?;
-    Some(from + clean_of(cell.shaped(), machine))
+    Some(from + cell.shaped().clean_of(machine))
 }
 
 /// The key of the machine's cleaning.
@@ -41,7 +40,7 @@ pub(crate) fn cleaning_key<P: Planned>(cell: &WorkCell<P>, machine: MachineNo) -
     requires { machine < machines cell.now.plan }
     ensures { result ≡ jobs cell.now.plan + machine }
 {
-    job_count(cell.shaped()) + machine
+    cell.shaped().job_count() + machine
 }
 
 /// Gives the key this due moment, or takes it away.

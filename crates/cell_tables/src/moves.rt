@@ -2,20 +2,15 @@
 //! move.
 
 ghost use Rattle.std.specs.Prelude.{◌≡◌, ◌<◌, ◌≤◌};
-ghost use Rattle.shop_base.specs.declared.limits.TheConstants.{MAX_MOMENT};
 ghost use Rattle.shop_base.specs.Plan.{jobs, steps};
 ghost use Rattle.shop_base.specs.Cell.{made};
 ghost use Rattle.shop_base.specs.Report.{CanReport, after_report};
-ghost use Rattle.shop_base.specs.Move.{CanMove, KeepsPlan, source, target, after_leaving, after_move, order_for};
-ghost use Rattle.cell_tables.specs.Tables.{cell_of, AreTables};
-ghost use Rattle.cell_tables.specs.Moving.{IsSpotOf};
+ghost use Rattle.shop_base.specs.Move.{CanMove, KeepsPlan, source, target, after_move, order_for};
 ghost use Rattle.cell_tables.specs.Reports.{said};
 
 use crate::report::Report;
-use crate::tables::Tables;
 use crate::work_cell::WorkCell;
-use shop_base::readers::clean_of;
-use shop_base::{JobNo, JobState, Moment, MoveOrder, Planned, Shaped, Spot};
+use shop_base::{JobNo, JobState, Moment, MoveOrder, Planned, Spot};
 
 impl<P: Planned> WorkCell<P> {
     /// Ends the activity of a possible report.
@@ -43,7 +38,7 @@ impl<P: Planned> WorkCell<P> {
     {
         let order = self.next_order(job, at);
         let made = self.job_state(job).made + 1;
-        leave(self.basis.shaped(), &mut self.tables, order.source, at);
+        self.tables.leave(self.basis.shaped(), order.source, at);
         self.tables.enter(order.target);
         self.tables.put_job(
             job,
@@ -91,22 +86,6 @@ impl<P: Planned> WorkCell<P> {
         match self.machine_at(job, self.job_state(job).made) {
             Some(machine) => Spot::At(machine),
             None => Spot::Out,
-        }
-    }
-}
-
-/// A job leaves its source: where that is a machine with a cleaning time, its cleaning begins.
-fn leave(shaped: &Shaped, tables: &mut Tables, source: Spot, at: Moment)
-    requires tables { AreTables shaped.now tables.old }
-    requires source { IsSpotOf shaped.now source }
-    requires at { at ≤ MAX_MOMENT }
-    ensures left { cell_of shaped.now tables.new ≡ after_leaving shaped.now (cell_of shaped.now tables.old) source at }
-    ensures tables { AreTables shaped.now tables.new }
-{
-    if let Spot::At(machine) = source {
-        if clean_of(shaped, machine) > 0 {
-            let last = tables.last;
-            tables.put_cleaning(machine, Some(at), last);
         }
     }
 }

@@ -5,7 +5,7 @@ ghost use Rattle.shop_base.specs.Plan.{jobs, machines, steps, order, Visits};
 
 use crate::work_cell::WorkCell;
 use shop_base::limits::{MAX_JOBS, MAX_MACHINES};
-use shop_base::{JobNo, MachineNo, Planned, readers};
+use shop_base::{JobNo, MachineNo, Planned};
 
 impl<P: Planned> WorkCell<P> {
     /// How many jobs there are.
@@ -13,7 +13,7 @@ impl<P: Planned> WorkCell<P> {
         ensures count { result ≡ jobs self.now.plan }
         ensures few { result ≤ MAX_JOBS }
     {
-        readers::job_count(self.shaped())
+        self.shaped().job_count()
     }
 
     /// How many machines there are.
@@ -21,7 +21,7 @@ impl<P: Planned> WorkCell<P> {
         ensures count { result ≡ machines self.now.plan }
         ensures few { result ≤ MAX_MACHINES }
     {
-        readers::machine_count(self.shaped())
+        self.shaped().machine_count()
     }
 
     /// How many steps the job has.
@@ -29,14 +29,14 @@ impl<P: Planned> WorkCell<P> {
         requires { job < jobs self.now.plan }
         ensures { result ≡ steps self.now.plan job }
     {
-        readers::step_count(self.shaped(), job)
+        self.shaped().step_count(job)
     }
 
     /// The machine of the step of a job at a place of its route, none past the end of the route.
     pub fn machine_at(&self, job: JobNo, place: u32) -> Option<MachineNo>
         ensures { MatchOption result (steps self.now.plan job ≤ place) (Visits self.now.plan job place) }
     {
-        readers::machine_at(self.shaped(), job, place)
+        self.shaped().machine_at(job, place)
     }
 
     /// The machine's order.
@@ -44,6 +44,6 @@ impl<P: Planned> WorkCell<P> {
         requires { machine < machines self.now.plan }
         ensures { result.now ≡ order self.now.plan machine }
     {
-        readers::order_of(self.shaped(), machine)
+        self.shaped().order_of(machine)
     }
 }

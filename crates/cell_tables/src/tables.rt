@@ -1,12 +1,13 @@
 //! The tables of a cell: a row for each job and for each machine, and the writes of one row.
 
-ghost use Rattle.std.specs.Prelude.{◌≡◌, ◌+◌, ◌<◌, length, replicate, vec_capacity, slice_index_or, true, false, None, Some, IfOk};
+ghost use Rattle.std.specs.Prelude.{◌≡◌, ◌+◌, ◌<◌, ◌≤◌, length, replicate, vec_capacity, slice_index_or, true, false, None, Some, IfOk};
+ghost use Rattle.shop_base.specs.declared.limits.TheConstants.{MAX_MOMENT};
 ghost use Rattle.shop_base.specs.Cell.{absent, start};
+ghost use Rattle.shop_base.specs.Move.{after_leaving};
 ghost use Rattle.cell_tables.specs.Tables.{cell_of, no_row, row_at, entered_at, AreTables, IsJobPut, IsMachinePut};
-ghost use Rattle.cell_tables.specs.Moving.{HasRoom, IsEntered};
+ghost use Rattle.cell_tables.specs.Moving.{IsSpotOf, HasRoom, IsEntered};
 
 use shop_base::limits::MAX_JOBS;
-use shop_base::readers::{job_count, machine_count};
 use shop_base::{JobNo, JobState, MachineNo, Moment, Shaped, Spot};
 use std::alloc::{AllocError, Global};
 
@@ -32,8 +33,8 @@ impl Tables {
         ensures tables { IfOk result (AreTables shaped.now) }
         ensures start { IfOk result (λ tables. cell_of shaped.now tables ≡ start shaped.now) }
     {
-        let jobs = start_jobs(alloc, job_count(shaped) as usize)?;
-        let machines = start_machines(alloc, machine_count(shaped) as usize)?;
+        let jobs = start_jobs(alloc, shaped.job_count() as usize)?;
+        let machines = start_machines(alloc, shaped.machine_count() as usize)?;
         Ok(Tables {
             jobs,
             machines,
@@ -71,6 +72,21 @@ impl Tables {
     {
         self.machines[machine as usize].cleaning = cleaning;
         self.last = last;
+    }
+
+    /// A job leaves its source: where that is a machine with a cleaning time, its cleaning begins.
+    pub(crate) fn leave(&mut self, shaped: &Shaped, source: Spot, at: Moment)
+        requires tables { AreTables shaped.now self.old }
+        requires source { IsSpotOf shaped.now source }
+        requires at { at ≤ MAX_MOMENT }
+        ensures left { cell_of shaped.now self.new ≡ after_leaving shaped.now (cell_of shaped.now self.old) source at }
+        ensures tables { AreTables shaped.now self.new }
+    {
+        if let Spot::At(machine) = source {
+            if shaped.clean_of(machine) > 0 {
+                self.put_cleaning(machine, Some(at), self.last);
+            }
+        }
     }
 
     /// One more job enters the spot, if that is a machine.

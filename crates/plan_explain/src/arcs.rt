@@ -5,7 +5,6 @@ ghost use Rattle.shop_base.specs.Plan.{steps};
 ghost use Rattle.shop_base.specs.Graph.{HasArc};
 ghost use Rattle.plan_explain.specs.Arcs.{told_arc, told_job_arc, told_blocking_arc, time_of};
 
-use shop_base::readers::{clean_of, machine_at, step_of};
 use shop_base::{JobNo, MachineNo, Moment, Node, Shaped};
 
 /// An arc of the graph, told by machines and jobs.
@@ -66,7 +65,7 @@ fn job_arc(shaped: &Shaped, from: Node) -> ToldArc
     requires { from.place < steps shaped.now from.job }
     ensures { result ≡ told_job_arc shaped.now from }
 {
-    match step_of(shaped, from.job, from.place) {
+    match shaped.step_of(from.job, from.place) {
         Some(step) => ToldArc::Job {
             job: from.job,
             machine: step.machine,
@@ -80,12 +79,12 @@ fn blocking_arc(shaped: &Shaped, from: JobNo, to: Node) -> ToldArc
     requires { to.place < steps shaped.now to.job }
     ensures { result ≡ told_blocking_arc shaped.now from to }
 {
-    match machine_at(shaped, to.job, to.place) {
+    match shaped.machine_at(to.job, to.place) {
         Some(machine) => ToldArc::Blocking {
             machine,
             from,
             to: to.job,
-            clean: clean_of(shaped, machine),
+            clean: shaped.clean_of(machine),
         },
         None => unreachable!(),
     }

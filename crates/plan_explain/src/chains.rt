@@ -5,7 +5,6 @@ ghost use Rattle.plan_explain.specs.Chains.{AreAlong, IsPath, length_from, relea
 
 use crate::arcs::{ToldArc, told_arc};
 use crate::words::{Line, push_line, put_arc, put_node};
-use shop_base::readers::release_of;
 use shop_base::{Moment, Node, Shaped};
 use std::alloc::AllocError;
 
@@ -34,7 +33,7 @@ fn push_from(
     requires { IsPath shaped.now (first ∷ rest.now) }
     ensures { OnOk result (text.new.items ≡ text.old.items ++ chain_lines shaped.now (first ∷ rest.now)) }
 {
-    let release = release_of(shaped, first.job);
+    let release = shaped.release_of(first.job);
     push_release_line(text, first, release)?;
     push_reached_lines(text, shaped, release, first, rest)
 }

@@ -9,7 +9,6 @@ ghost use Rattle.plan_explain.specs.Leavings.{leaving_line, leaving_lines, IsLas
 
 use crate::words::{Line, push_line};
 use plan_verifier::Verified;
-use shop_base::readers::job_count;
 use shop_base::{JobNo, Moment};
 use std::alloc::AllocError;
 
@@ -17,7 +16,7 @@ use std::alloc::AllocError;
 pub(crate) fn jobs_of(verified: &Verified) -> u32
     ensures { result ≡ jobs verified.now.planned }
 {
-    job_count(verified.shaped())
+    verified.shaped().job_count()
 }
 
 /// The moment kept for the job's leaving.

@@ -51,14 +51,14 @@ struct Simulation {
 
 /// The orders in which the jobs enter the machines in the simulated cell.
 fn simulate(alloc: Global, shop: &Shop, round: u32) -> Result<Option<Vec<Vec<JobNo>>>, AllocError> {
-    let mut simulation = start(alloc, shop)?;
+    let mut simulation = Simulation::start(alloc, shop)?;
     for _ in 0..MAX_CHOICES {
         if simulation.cell.is_done() {
             let Simulation { orders, .. } = simulation;
             return Ok(Some(orders));
         }
-        match next_mover(alloc, shop, round, &mut simulation)? {
-            Some(job) => make_move(shop, job, &mut simulation)?,
+        match simulation.next_mover(alloc, shop, round)? {
+            Some(job) => simulation.make_move(shop, job)?,
             None => match simulation.cell.next_end(simulation.now) {
                 Some(moment) => simulation.now = moment,
                 None => return Ok(None),
@@ -68,86 +68,79 @@ fn simulate(alloc: Global, shop: &Shop, round: u32) -> Result<Option<Vec<Vec<Job
     Ok(None)
 }
 
-fn start(alloc: Global, shop: &Shop) -> Result<Simulation, AllocError> {
-    let mut orders = Vec::new(alloc);
-    for _ in 0..shop.machines() {
-        orders.push(Vec::new(alloc))?;
+impl Simulation {
+    fn start(alloc: Global, shop: &Shop) -> Result<Simulation, AllocError> {
+        let mut orders = Vec::new(alloc);
+        for _ in 0..shop.machines() {
+            orders.push(Vec::new(alloc))?;
+        }
+        Ok(Simulation {
+            cell: SimulatedCell::new(alloc, shop)?,
+            orders,
+            way: Vec::new(alloc),
+            now: 0,
+            choices: MAX_CHOICES,
+        })
     }
-    Ok(Simulation {
-        cell: SimulatedCell::new(alloc, shop)?,
-        orders,
-        way: Vec::new(alloc),
-        now: 0,
-        choices: MAX_CHOICES,
-    })
-}
 
-/// The first job, counted round from the round's number on, that can move so that a way out is known
-/// afterwards.
-fn next_mover(
-    alloc: Global,
-    shop: &Shop,
-    round: u32,
-    simulation: &mut Simulation,
-) -> Result<Option<JobNo>, AllocError> {
-    let jobs = shop.jobs();
-    let first = round % jobs;
-    for turn in 0..jobs {
-        let job = (first + turn) % jobs;
-        if is_admitted(shop, round, job, simulation) && keeps_way(alloc, shop, job, simulation)? {
-            return Ok(Some(job));
+    /// The first job, counted round from the round's number on, that can move so that a way out is known
+    /// afterwards.
+    fn next_mover(
+        &mut self,
+        alloc: Global,
+        shop: &Shop,
+        round: u32,
+    ) -> Result<Option<JobNo>, AllocError> {
+        let jobs = shop.jobs();
+        let first = round % jobs;
+        for turn in 0..jobs {
+            let job = (first + turn) % jobs;
+            if self.is_admitted(shop, round, job) && self.keeps_way(alloc, shop, job)? {
+                return Ok(Some(job));
+            }
+        }
+        Ok(None)
+    }
+
+    /// Whether the job can move now, and isn't kept outside in this round.
+    fn is_admitted(&self, shop: &Shop, round: u32, job: JobNo) -> bool {
+        if !self.cell.is_ready(job, self.now) || !self.cell.can_move(shop, job) {
+            return false;
+        }
+        let many = round % 2 == 1 && self.cell.inside() > shop.machines() as usize / 2;
+        self.cell.is_inside(job) || !many
+    }
+
+    /// Whether a way out is known after the job's move. It is then the one that is kept.
+    fn keeps_way(&mut self, alloc: Global, shop: &Shop, job: JobNo) -> Result<bool, AllocError> {
+        let target = self.cell.next_step(shop, job).map(|step| step.machine);
+        if let Some(place) = place_in(&self.way, job, target) {
+            let _ = self.way.remove(place);
+            return Ok(true);
+        }
+        if self.choices == 0 || self.cell.closes_circle(shop, job) {
+            return Ok(false);
+        }
+        self.choices -= 1;
+        let mut ahead = self.cell.copy(alloc)?;
+        ahead.advance(shop, job, 0);
+        match way_out(alloc, shop, ahead, &mut self.choices)? {
+            Some(way) => {
+                self.way = way;
+                Ok(true)
+            }
+            None => Ok(false),
         }
     }
-    Ok(None)
-}
 
-/// Whether the job can move now, and isn't kept outside in this round.
-fn is_admitted(shop: &Shop, round: u32, job: JobNo, simulation: &Simulation) -> bool {
-    let cell = &simulation.cell;
-    if !cell.is_ready(job, simulation.now) || !cell.can_move(shop, job) {
-        return false;
-    }
-    let many = round % 2 == 1 && cell.inside() > shop.machines() as usize / 2;
-    cell.is_inside(job) || !many
-}
-
-/// Whether a way out is known after the job's move. It is then the one that is kept.
-fn keeps_way(
-    alloc: Global,
-    shop: &Shop,
-    job: JobNo,
-    simulation: &mut Simulation,
-) -> Result<bool, AllocError> {
-    let target = simulation
-        .cell
-        .next_step(shop, job)
-        .map(|step| step.machine);
-    if let Some(place) = place_in(&simulation.way, job, target) {
-        let _ = simulation.way.remove(place);
-        return Ok(true);
-    }
-    if simulation.choices == 0 || simulation.cell.closes_circle(shop, job) {
-        return Ok(false);
-    }
-    simulation.choices -= 1;
-    let mut ahead = simulation.cell.copy(alloc)?;
-    ahead.advance(shop, job, 0);
-    match way_out(alloc, shop, ahead, &mut simulation.choices)? {
-        Some(way) => {
-            simulation.way = way;
-            Ok(true)
+    /// Makes the job's move.
+    fn make_move(&mut self, shop: &Shop, job: JobNo) -> Result<(), AllocError> {
+        if let Some(step) = self.cell.next_step(shop, job) {
+            if let Some(order) = self.orders.get_mut(step.machine as usize) {
+                order.push(job)?;
+            }
         }
-        None => Ok(false),
+        self.cell.advance(shop, job, self.now);
+        Ok(())
     }
-}
-
-/// Makes the job's move.
-fn make_move(shop: &Shop, job: JobNo, simulation: &mut Simulation) -> Result<(), AllocError> {
-    if let Some(step) = simulation.cell.next_step(shop, job) {
-        if let Some(order) = simulation.orders.get_mut(step.machine as usize) {
-            order.push(job)?;
-        }
-    }
-    simulation.cell.advance(shop, job, simulation.now);
-    Ok(())
 }

@@ -5,7 +5,6 @@ ghost use Rattle.plan_seek.specs.Search.{IsSought, IsSeekFault, IsBegun};
 
 use crate::attempt::Attempt;
 use crate::not_found::NotFound;
-use crate::numbers::check_numbers;
 use crate::proposer::Proposer;
 use crate::rounds::try_rounds;
 use crate::seek_fault::SeekFault;
@@ -47,7 +46,7 @@ pub fn seek(
         budget,
         clean,
     };
-    if let Err(fault) = check_numbers(&task) {
+    if let Err(fault) = task.check_numbers() {
         return Err(task.not_found(SeekFault::BadNumbers(fault)));
     }
     if rounds > MAX_ROUNDS {

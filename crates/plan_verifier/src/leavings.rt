@@ -7,7 +7,6 @@ ghost use Rattle.alt_graph.specs.Times.{AreOrdered, earliest_of};
 ghost use Rattle.plan_verifier.specs.Accepted.{IsFirstPast};
 
 use alt_graph::Times;
-use shop_base::readers::step_count;
 use shop_base::{JobNo, Moment, Node, Shaped};
 
 /// The first job whose greatest length is past its budget, if there is one.
@@ -42,6 +41,6 @@ pub fn leaving_of(shaped: &Shaped, job: JobNo) -> Node
 {
     Node {
         job,
-        place: step_count(shaped, job),
+        place: shaped.step_count(job),
     }
 }

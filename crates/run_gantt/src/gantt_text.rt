@@ -13,7 +13,6 @@ use crate::visit::Visit;
 use crate::visits::{Visits, visits_of};
 use cell_tables::Entry;
 use itoa::Buffer;
-use shop_base::readers::machine_count;
 use shop_base::{MachineNo, Moment, Shaped};
 use std::alloc::{AllocError, Global};
 
@@ -36,7 +35,7 @@ pub fn gantt(alloc: Global, shaped: &Shaped, entries: &[Entry]) -> Result<String
     push_machines(
         &mut text,
         &visits,
-        machine_count(shaped),
+        shaped.machine_count(),
         scale,
         columns,
         entries,

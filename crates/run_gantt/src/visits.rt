@@ -8,7 +8,6 @@ ghost use Rattle.run_gantt.specs.LinkedVisits.{HasVisits};
 use crate::visit::Visit;
 use crate::visit_ends::{VisitEnd, no_visit_ends, note_visit_end, visit_end_at};
 use cell_tables::Entry;
-use shop_base::readers::{job_count, machine_count};
 use shop_base::{MachineNo, Shaped, Spot};
 use std::alloc::{AllocError, Global};
 
@@ -35,8 +34,8 @@ pub(crate) fn visits_of(
     ensures visits { IfOk result (λ visits. HasVisits visits entries.now) }
     ensures machines { IfOk result (λ visits. length visits.first.items ≡ machines shaped.now) }
 {
-    let mut ends = no_visit_ends(alloc, job_count(shaped))?;
-    let mut visits = no_visits(alloc, machine_count(shaped))?;
+    let mut ends = no_visit_ends(alloc, shaped.job_count())?;
+    let mut visits = no_visits(alloc, shaped.machine_count())?;
     let mut place = entries.len();
     while place > 0 {
         let later = &entries[place..];

@@ -8,7 +8,6 @@ ghost use Rattle.run_log.specs.LogWords.{IsNumberFirst, HasNoNumberFirst, AreEnd
 
 use cell_tables::{Entry, Report};
 use shop_base::limits::MAX_MOMENT;
-use shop_base::readers::{job_count, machine_count};
 use shop_base::{JobNo, Moment, MoveOrder, Shaped, Spot};
 use text_lines::{after_prefix, cut_word, number_before_space, short_number_of};
 
@@ -153,7 +152,7 @@ fn is_spot_of(shaped: &Shaped, spot: Spot) -> bool
 {
     match spot {
         Spot::Out => true,
-        Spot::At(machine) => machine < machine_count(shaped),
+        Spot::At(machine) => machine < shaped.machine_count(),
     }
 }
 
@@ -161,20 +160,20 @@ fn ends_of_shop(shaped: &Shaped, report: Report) -> bool
     ensures { IsTrue result ↔ AreEndsOf shaped.now report }
 {
     match report {
-        Report::Arrive { job, at: _ } => job < job_count(shaped),
+        Report::Arrive { job, at: _ } => job < shaped.job_count(),
         Report::Finish {
             job,
             machine,
             at: _,
-        } => job < job_count(shaped) && machine < machine_count(shaped),
-        Report::Clean { machine, at: _ } => machine < machine_count(shaped),
+        } => job < shaped.job_count() && machine < shaped.machine_count(),
+        Report::Clean { machine, at: _ } => machine < shaped.machine_count(),
     }
 }
 
 fn is_order_of(shaped: &Shaped, order: MoveOrder) -> bool
     ensures { IsTrue result ↔ IsEntryOf shaped.now (Entry.Order order) }
 {
-    if order.job >= job_count(shaped) || order.at > MAX_MOMENT {
+    if order.job >= shaped.job_count() || order.at > MAX_MOMENT {
         return false;
     }
     is_spot_of(shaped, order.source) && is_spot_of(shaped, order.target)

@@ -12,7 +12,7 @@ mod move_order;
 mod node;
 mod plan;
 mod planned;
-pub mod readers;
+mod readers;
 mod shape_check;
 mod shape_fault;
 mod shaped;

@@ -1,6 +1,0 @@
-use Rattle.std.proofs.Common.{arith}
-use Rattle.std.proofs.lemmas.Grind.{common_steps}
-use Rattle.shop_base.proofs.readers.order_of.Goals as goal
-
-pub returns-clause-order : goal.returns-clause-order
-returns-clause-order c = grind (arith, common_steps)
