@@ -1,3 +1,4 @@
 pub mod Planning
 pub mod Improving
 pub mod PlainWords
+pub mod Telling

@@ -1,7 +1,6 @@
 -- What the whole program does: what it answers to the words of its command line, and how it ends.
 use Rattle.std.specs.Prelude.{◌≡◌, ℕ, List, [], Option, true, false, Result, Ok, Err, IfOk, IfErr, get_or, map, option_map, drop}
 use Rattle.std.specs.String.{string_bytes}
-use Rattle.run_log.specs.Sinks.{TookPart}
 use Rattle.command_words.specs.declared.words.Chosen.{Chosen}
 use Rattle.command_words.specs.declared.words.CommandName.{CommandName}
 use Rattle.command_words.specs.declared.words.CommandName.TheVariants.{Input as NoWords, Facts, Shape, Check, Explain, Plan, Improve, Drive, Hub, Audit, Gantt}
@@ -17,13 +16,13 @@ use Rattle.command_answers.specs.AuditLines.{IsLogLine}
 use Rattle.command_answers.specs.GanttLines.{IsDrawnLog}
 use Rattle.command_answers.specs.Commands.{RunsFacts, RunsShape, RunsCheck, RunsExplain, RunsLog, Loads}
 use Rattle.command_answers.specs.Cells.{LoadsCells}
-use Rattle.command_run.specs.Streams.{Streams}
+use Rattle.command_run.specs.Streams.{Streams, Errors}
 use Rattle.command_run.specs.Inputs.{RunsInput}
 use Rattle.command_run.specs.Planners.{SeeksPlan}
 use Rattle.command_run.specs.Improvers.{ImprovesPlan}
 use Rattle.command_run.specs.Drives.{Drives}
 use Rattle.command_run.specs.Hubs.{DrivesAll}
-use Rattle.command_run.specs.Ending.{Ends, IsMemoryLine, IsAnswerEnd}
+use Rattle.command_run.specs.Ending.{Ends, IsMemoryLine, IsAnswerEnd, WasTold}
 
 -- what the words of the command line are read as
 pub record AreWordsRead (words : List (List ℕ)) (read : Result Chosen WordsFault) : Type 0 where
@@ -83,8 +82,8 @@ module _ {W : Type 0} (gives : W → List ℕ → Result (List ℕ) FileFault �
       RunsLog gives IsDrawnLog (file_at chosen 0) (name_in chosen) (file_at chosen 1) (file_at chosen 2) texts outcome texts_after × (after ≡ before)
 
   -- the command is run, and then its answer printed, or its fault told
-  pub record Commands (chosen : Chosen) (texts : W) (before : Streams) (told_before : Option (List ℕ)) (status : ℕ)
-      (texts_after : W) (after : Streams) (told_after : Option (List ℕ)) : Type 0 where
+  pub record Commands (chosen : Chosen) (texts : W) (before : Streams) (told_before : Errors) (status : ℕ)
+      (texts_after : W) (after : Streams) (told_after : Errors) : Type 0 where
     pub outcome : Result Answer CommandFault
     pub mid : Streams
     pub runs : RunsCommand chosen.name chosen texts before outcome texts_after mid
@@ -92,27 +91,27 @@ module _ {W : Type 0} (gives : W → List ℕ → Result (List ℕ) FileFault �
     pub ends : Ends outcome mid.output after.output told_before told_after status
 
   -- help that was asked for is a good answer
-  pub record Helps (text : List ℕ) (texts : W) (before : Streams) (told_before : Option (List ℕ)) (status : ℕ)
-      (texts_after : W) (after : Streams) (told_after : Option (List ℕ)) : Type 0 where
+  pub record Helps (text : List ℕ) (texts : W) (before : Streams) (told_before : Errors) (status : ℕ)
+      (texts_after : W) (after : Streams) (told_after : Errors) : Type 0 where
     pub help : Answer
     pub text_is : (help.text.items ≡ text) × (help.status ≡ 0)
     pub ends : IsAnswerEnd help before.output after.output told_before told_after status
     pub same : (texts_after ≡ texts) × (after.input ≡ before.input)
 
   -- what follows the reading of the words: the command that was chosen, help, or a line on the standard error
-  abbrev pub Follows : Result Chosen WordsFault → W → Streams → Option (List ℕ) → ℕ → W → Streams → Option (List ℕ) → Type 0
+  abbrev pub Follows : Result Chosen WordsFault → W → Streams → Errors → ℕ → W → Streams → Errors → Type 0
   Follows (Ok chosen) texts before told_before status texts_after after told_after =
       Commands chosen texts before told_before status texts_after after told_after
   Follows (Err (Usage true text)) texts before told_before status texts_after after told_after =
       Helps (string_bytes text) texts before told_before status texts_after after told_after
   Follows (Err (Usage false text)) texts before told_before status texts_after after told_after =
-      TookPart told_before told_after (string_bytes text) × (status ≡ 2) × (texts_after ≡ texts) × (after ≡ before)
+      WasTold (string_bytes text) told_before told_after × (status ≡ 2) × (texts_after ≡ texts) × (after ≡ before)
   Follows (Err Memory) texts before told_before status texts_after after told_after =
-      ((line : List ℕ) × IsMemoryLine line status × TookPart told_before told_after line) × (texts_after ≡ texts) × (after ≡ before)
+      ((line : List ℕ) × IsMemoryLine line status × WasTold line told_before told_after) × (texts_after ≡ texts) × (after ≡ before)
 
   -- the program: the words are read, and what they ask for is done
-  pub record RunsProgram (words : List (List ℕ)) (texts : W) (before : Streams) (told_before : Option (List ℕ)) (status : ℕ)
-      (texts_after : W) (after : Streams) (told_after : Option (List ℕ)) : Type 0 where
+  pub record RunsProgram (words : List (List ℕ)) (texts : W) (before : Streams) (told_before : Errors) (status : ℕ)
+      (texts_after : W) (after : Streams) (told_after : Errors) : Type 0 where
     pub read : Result Chosen WordsFault
     pub is : AreWordsRead words read
     pub follows : Follows read texts before told_before status texts_after after told_after

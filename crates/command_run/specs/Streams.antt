@@ -1,4 +1,4 @@
--- The standard input and output, as they are seen before and after a step.
+-- The standard streams, as they are seen before and after a step.
 use Rattle.std.specs.Prelude.{ℕ, List, Option, Bool}
 
 -- what an input still has to give, and whether a read has failed
@@ -16,6 +16,11 @@ pub record Streams : Type 0 where
   pub input : Input
   pub output : Output
 
+-- what the error output has taken, and whether a write has failed
+pub record Errors : Type 0 where
+  pub taken : Option (List ℕ)
+  pub failed : Bool
+
 -- a device as it is seen
 abbrev pub input_of : {R : Type 0} → (R → Option (List ℕ)) → (R → Bool) → R → Input
 input_of left failed device = record { left = left device; failed = failed device }
@@ -25,3 +30,6 @@ output_of taken failed pending device = record { taken = taken device; failed = 
 
 abbrev pub streams_of : {R W : Type 0} → (R → Option (List ℕ)) → (R → Bool) → (W → Option (List ℕ)) → (W → Bool) → (W → List ℕ) → R → W → Streams
 streams_of left read_failed taken write_failed pending input output = record { input = input_of left read_failed input; output = output_of taken write_failed pending output }
+
+abbrev pub errors_of : {E : Type 0} → (E → Option (List ℕ)) → (E → Bool) → E → Errors
+errors_of taken failed device = record { taken = taken device; failed = failed device }

@@ -1,9 +1,8 @@
 //! How the program ends.
 
 ghost use Rattle.std.specs.Prelude.{◌≡◌, ◌++◌, ℕ, List, IfOk, codes};
-ghost use Rattle.run_log.specs.Sinks.{TookPart};
-ghost use Rattle.command_run.specs.Streams.{output_of};
-ghost use Rattle.command_run.specs.Ending.{IsRefusalLine, IsTold, IsShown, IsPrinted, IsToldAfter, Ends};
+ghost use Rattle.command_run.specs.Streams.{errors_of, output_of};
+ghost use Rattle.command_run.specs.Ending.{WasTold, IsRefusalLine, IsTold, IsShown, IsPrinted, IsToldAfter, Ends};
 
 use cell_drive::Outlet;
 use command_answers::{Answer, CommandFault};
@@ -21,7 +20,7 @@ pub(crate) fn end<W: Outlet, E: Sink>(
 ) -> u8
     ensures { Ends outcome (output_of W.taken W.failed W.pending output.old)
         (output_of W.taken W.failed W.pending output.new)
-        (E.taken errors.old) (E.taken errors.new) result }
+        (errors_of E.taken E.failed errors.old) (errors_of E.taken E.failed errors.new) result }
 {
     match outcome {
         Ok(answer) => {
@@ -55,7 +54,8 @@ fn show<W: Outlet>(status: u8, output: &mut W) -> Result<u8, CommandFault>
 }
 
 fn tell_after<E: Sink>(alloc: Global, printed: Result<u8, CommandFault>, errors: &mut E) -> u8
-    ensures { IsToldAfter printed (E.taken errors.old) (E.taken errors.new) result }
+    ensures { IsToldAfter printed (errors_of E.taken E.failed errors.old)
+        (errors_of E.taken E.failed errors.new) result }
 {
     match printed {
         Ok(status) => status,
@@ -66,7 +66,7 @@ fn tell_after<E: Sink>(alloc: Global, printed: Result<u8, CommandFault>, errors:
 /// Says on the standard error why there is no answer, and gives the status that the program ends with. Nothing is left
 /// to do where that can't be written.
 pub fn tell<E: Sink>(alloc: Global, fault: &CommandFault, errors: &mut E) -> u8
-    ensures { IsTold fault.now (E.taken errors.old) (E.taken errors.new) result }
+    ensures { IsTold fault.now (errors_of E.taken E.failed errors.old) (errors_of E.taken E.failed errors.new) result }
 {
     match fault {
         CommandFault::Instance(fault) => {
@@ -95,7 +95,7 @@ fn tell_refused<E: Sink>(
     errors: &mut E,
 ) -> u8
     ensures { (line : List ℕ) × IsRefusalLine what.now line result
-        × TookPart (E.taken errors.old) (E.taken errors.new) line }
+        × WasTold line (errors_of E.taken E.failed errors.old) (errors_of E.taken E.failed errors.new) }
 {
     match refusal_line(alloc, what, words) {
         Ok(line) => tell_line(errors, &line, 3),
@@ -121,7 +121,7 @@ fn refusal_line(
 
 /// Writes as much of a line as can be written, and gives the status.
 pub(crate) fn tell_line<E: Sink>(errors: &mut E, line: &[u8], status: u8) -> u8
-    ensures told { TookPart (E.taken errors.old) (E.taken errors.new) line.now }
+    ensures told { WasTold line.now (errors_of E.taken E.failed errors.old) (errors_of E.taken E.failed errors.new) }
     ensures status { result ≡ status }
 {
     let _ = put_all(errors, line);

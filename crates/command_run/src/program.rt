@@ -2,7 +2,7 @@
 
 ghost use Rattle.std.specs.Prelude.{◌≡◌, [], map, IfOk};
 ghost use Rattle.command_words.specs.Choice.{IsWithin};
-ghost use Rattle.command_run.specs.Streams.{streams_of};
+ghost use Rattle.command_run.specs.Streams.{errors_of, streams_of};
 ghost use Rattle.command_run.specs.Program.{AreWordsRead, Follows, RunsProgram};
 
 use crate::command::command;
@@ -24,9 +24,9 @@ pub fn run<T: Texts, R: Source, W: Outlet, E: Sink, S: Screen>(
     requires shown { W.pending devices.old.output ≡ [] }
     ensures { RunsProgram T.gives (map (λ word. word.now) words.now) devices.old.texts
         (streams_of R.left R.failed W.taken W.failed W.pending devices.old.input devices.old.output)
-        (E.taken devices.old.errors) result devices.new.texts
+        (errors_of E.taken E.failed devices.old.errors) result devices.new.texts
         (streams_of R.left R.failed W.taken W.failed W.pending devices.new.input devices.new.output)
-        (E.taken devices.new.errors) }
+        (errors_of E.taken E.failed devices.new.errors) }
 {
     let read = words_read(alloc, words);
     follow(alloc, read, devices)
@@ -48,9 +48,9 @@ fn follow<T: Texts, R: Source, W: Outlet, E: Sink, S: Screen>(
     requires shown { W.pending devices.old.output ≡ [] }
     ensures { Follows T.gives read devices.old.texts
         (streams_of R.left R.failed W.taken W.failed W.pending devices.old.input devices.old.output)
-        (E.taken devices.old.errors) result devices.new.texts
+        (errors_of E.taken E.failed devices.old.errors) result devices.new.texts
         (streams_of R.left R.failed W.taken W.failed W.pending devices.new.input devices.new.output)
-        (E.taken devices.new.errors) }
+        (errors_of E.taken E.failed devices.new.errors) }
 {
     let Devices {
         texts,

@@ -1,0 +1,10 @@
+-- What is told on the error output.
+use Rattle.std.proofs.Common.{◌≡◌, ℕ, List, Result, Ok, Err, OnOk, inl, inr}
+use Rattle.run_log.specs.Sinks.{Wrote}
+use Rattle.command_run.specs.Streams.{Errors}
+use Rattle.command_run.specs.Ending.{WasTold}
+
+pub told_by : {T F : Type 0} (written : Result T F) (line : List ℕ) (before after : Errors)
+    → Wrote written after.failed before.taken after.taken line → OnOk written (after.failed ≡ before.failed) → WasTold line before after
+told_by (Ok x) line before after wrote same = inl (wrote, same)
+told_by (Err fault) line before after wrote same = inr wrote
