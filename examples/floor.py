@@ -1,0 +1,367 @@
+#!/usr/bin/env python3
+"""A simulated floor that is driven by cellplan, and that goes on after its cellplan was killed.
+
+floor.py [FILE PLAN] [--runs N] [--seed S] [--program CELLPLAN]
+
+FILE is an instance and PLAN a plan for it that `cellplan check` accepts; without them it is `examples/ft06.txt` with
+`examples/ft06-cleaned.toml`. Each run is one pass of all parts through the cell, with random times of which some are too long:
+
+1. `cellplan drive` is killed (SIGKILL) at a random moment, and its log loses its last bytes, as where a machine goes down.
+2. `cellplan resume` takes the run up from that log, and is killed in turn.
+3. `cellplan resume` takes it up again, and drives the parts until all are out.
+
+In one of 2 and 3 the floor still has what it had sent. Then it sends again what it sent after the last report that the log has. In
+the other one it has forgotten all that, and goes by where the parts are: it reports what has happened and isn't in the log.
+Either way it first carries out each order of the log that isn't carried out yet.
+
+Each order is checked against the parts before it is carried out: the part stands where it is to be fetched and is finished, and
+the machine to which it goes is the next one of its route, holds no part and is clean. No report may be refused. At the end
+`cellplan audit` has to find the whole run in the last log. What is wrong ends the program with status 1.
+
+What a floor of one's own needs is in three places: `Told` follows what cellplan has said, `Floor.serve` is the loop that carries out
+orders and sends reports, and `Floor.take_up` is what has to be done before the first report after a restart.
+"""
+import argparse, collections, heapq, json, os, random, re, select, signal, subprocess, sys, tempfile, time
+
+HERE = os.path.dirname(os.path.abspath(__file__))
+UNIT = 0.0005  # seconds for which a time unit of the instance lasts
+PATIENCE = 30 / UNIT  # the time units after which a floor on which nothing moves, and nothing comes, is given up
+OUTSIDE = -1  # the place of a part that hasn't entered the cell; after its last step its place is the length of its route
+
+
+class Wrong(Exception):
+    """Something that must not happen: a wrong order, a refused report, a log that isn't the run's."""
+
+
+class Shop:
+    """The routes of the jobs, as lists of machine and nominal time, and the releases and cleaning times of the plan."""
+
+    def __init__(self, instance, plan):
+        with open(instance) as text:
+            lines = iter([line.split() for line in text])
+        jobs, self.machines = next(map(int, line) for line in lines if len(line) == 2 and all(map(str.isdigit, line)))
+        numbers = [list(map(int, next(lines))) for _ in range(jobs)]
+        self.routes = [list(zip(row[0::2], row[1::2])) for row in numbers]
+        with open(plan) as text:  # one key a line, as `cellplan plan` writes it
+            lists = {key: json.loads(value) for key, value in re.findall(r"^(\w+) *= *(\[.*\])", text.read(), re.MULTILINE)}
+        self.release = lists["release"]
+        self.clean = lists.get("clean", [0] * self.machines)
+
+    def spot(self, job, place):
+        """The word for a place of a job's route in an order line."""
+        on_route = 0 <= place < len(self.routes[job])
+        return str(self.routes[job][place][0]) if on_route else "out"
+
+    def step(self, job, machine):
+        """The step of a job on a machine; one behind all places where its route doesn't come there."""
+        return next((step for step, (at, _) in enumerate(self.routes[job]) if at == machine), len(self.routes[job]) + 1)
+
+    def entered(self, places, machine):
+        """How many parts have come to a machine, by the places of all parts."""
+        return sum(place >= self.step(job, machine) for job, place in enumerate(places))
+
+    def left(self, places, machine):
+        """How many parts have left a machine, by the places of all parts."""
+        return sum(place > self.step(job, machine) for job, place in enumerate(places))
+
+    def totals(self):
+        """The numbers of reports and of orders of a whole run."""
+        moves = sum(len(route) + 1 for route in self.routes)
+        cleanings = sum(self.clean[machine] > 0 for route in self.routes for machine, _ in route)
+        return moves + cleanings, moves
+
+
+class Told:
+    """What cellplan has said so far: the cell as it stands after the lines `report` and `order`."""
+
+    def __init__(self, shop):
+        self.shop = shop
+        self.places = [OUTSIDE] * len(shop.routes)
+        self.ready = [False] * len(shop.routes)
+        self.cleaning = set()
+        self.reports = []  # the accepted reports, in the words in which they are sent
+        self.marked = False
+        self.ended = False
+
+    def take(self, line):
+        """Follows one line, and gives the job, the source and the target of an order."""
+        words = line.split(" ")
+        if words[0] == "report":
+            self.report(words[1], words[2:])
+        elif words[0] == "order":
+            return self.order(int(words[2]), words[3], words[4])
+        elif line == "":
+            self.marked = True
+        elif words[0] in ("done", "unfinished"):
+            self.ended = True
+        elif words[0] != "late":
+            raise Wrong("cellplan says: " + line)
+        return None
+
+    def report(self, moment, what):
+        self.reports.append(" ".join(what + [moment]))
+        if what[0] == "clean":
+            self.cleaning.remove(int(what[1]))
+        else:
+            self.ready[int(what[1])] = True
+
+    def order(self, job, source, target):
+        self.places[job] += 1
+        self.ready[job] = False
+        if source != "out" and self.shop.clean[int(source)] > 0:
+            self.cleaning.add(int(source))
+        return job, source, target
+
+
+class Floor:
+    """Parts, machines, one carrier that makes the moves, and a clock that never stops."""
+
+    def __init__(self, rng, shop):
+        self.rng, self.shop = rng, shop
+        self.begun = time.monotonic()
+        self.places = [OUTSIDE] * len(shop.routes)
+        self.finished = [False] * len(shop.routes)  # has arrived, or its operation has ended
+        self.cleaning = set()
+        self.ends = []  # a heap of (moment, kind, number): what goes on and when it ends
+        for job, release in enumerate(shop.release):
+            heapq.heappush(self.ends, (rng.uniform(0, release + 3), "part", job))
+        self.sent = []  # pairs of what has happened and the line that told it; lost where the floor forgets
+
+    def now(self):
+        return (time.monotonic() - self.begun) / UNIT
+
+    # --- the parts and machines
+
+    def pass_time(self):
+        """Ends what is due by now."""
+        while self.ends and self.ends[0][0] <= self.now():
+            _, kind, number = heapq.heappop(self.ends)
+            if kind == "part":
+                self.finished[number] = True
+            else:
+                self.cleaning.discard(number)
+
+    def lasts(self, nominal):
+        """When something ends that begins now: mostly before its nominal time is over, at times after it."""
+        return self.now() + nominal * self.rng.choice([0, 0.5, 0.9, 0.9, 1, 1.3])
+
+    def carry(self, order, again):
+        """Carries out an order, unless it was carried out before (`again`: it may have been)."""
+        job, source, target = order
+        place, route = self.places[job], self.shop.routes[job]
+        if again and self.is_carried_out(job, target):
+            return
+        if self.shop.spot(job, place) != source or self.shop.spot(job, place + 1) != target or place == len(route):
+            raise Wrong("the order %s, but part %d stands at place %d" % (order, job, place))
+        if not self.finished[job]:
+            raise Wrong("the order %s, but part %d isn't finished" % (order, job))
+        if target != "out":
+            self.look_whether_free(order, int(target))
+        self.places[job], self.finished[job] = place + 1, False
+        if target != "out":
+            heapq.heappush(self.ends, (self.lasts(route[place + 1][1]), "part", job))
+        if source != "out" and self.shop.clean[int(source)] > 0:
+            self.cleaning.add(int(source))
+            heapq.heappush(self.ends, (self.lasts(self.shop.clean[int(source)]), "machine", int(source)))
+
+    def is_carried_out(self, job, target):
+        """Whether a part stands where an order puts it, or further on."""
+        route = self.shop.routes[job]
+        return self.places[job] >= (len(route) if target == "out" else self.shop.step(job, int(target)))
+
+    def look_whether_free(self, order, machine):
+        if self.shop.entered(self.places, machine) > self.shop.left(self.places, machine):
+            raise Wrong("the order %s, but a part is on machine %d" % (order, machine))
+        if machine in self.cleaning:
+            raise Wrong("the order %s, but machine %d is being cleaned" % (order, machine))
+
+    # --- what is reported
+
+    def news(self, told):
+        """What has happened on the floor and cellplan still waits for: pairs of a name of its own and the words of its report."""
+        for job, place in enumerate(told.places):
+            if not told.ready[job] and self.is_past(job, place):
+                yield ("part", job, place), "arrive %d" % job if place == OUTSIDE else "finish %d %s" % (job, self.shop.spot(job, place))
+        for machine in sorted(told.cleaning):
+            departures = self.shop.left(told.places, machine)
+            if self.is_cleaned(machine, departures):
+                yield ("machine", machine, departures), "clean %d" % machine
+
+    def is_past(self, job, place):
+        """Whether a part has ended what it does at a place."""
+        return self.places[job] > place or self.places[job] == place and self.finished[job]
+
+    def is_cleaned(self, machine, departures):
+        """Whether a machine has been cleaned after so many departures: another part has come since, or it is clean now."""
+        if self.shop.entered(self.places, machine) > departures:
+            return True
+        return self.shop.left(self.places, machine) == departures and machine not in self.cleaning
+
+    def take_up(self, told):
+        """What is sent first after a restart: what was sent after the last report that the log has, with its moments."""
+        rest = self.sent
+        for report in told.reports:
+            lines = [line for _, line in rest]
+            if report in lines:
+                rest = rest[lines.index(report) + 1:]
+        return rest
+
+    # --- the loop
+
+    def serve(self, cell, told, enough):
+        """Carries out what cellplan orders and reports what happens, until all is done or soon after so many reports."""
+        orders = collections.deque()
+        carrier_free, moved, stop = 0, self.now(), float("inf")
+        known = None  # what was reported since the start of this cellplan, by the names of `news`
+        while self.now() < stop and not (self.is_done(told) and not orders):
+            self.pass_time()
+            if len(told.reports) >= enough:
+                stop = min(stop, self.now() + self.rng.uniform(0, 3))
+            if orders and self.now() >= carrier_free:
+                self.carry(orders.popleft(), cell.resumed)
+                carrier_free = self.now() + self.rng.uniform(0, 1)
+            if known is None and told.marked and not orders:
+                again = self.take_up(told) if cell.resumed else []
+                known = {name for name, _ in again}
+                cell.send([line for _, line in again])
+            if known is not None:
+                fresh = [(name, "%s %d" % (words, self.now())) for name, words in self.news(told) if name not in known]
+                known.update(name for name, _ in fresh)
+                self.sent += fresh
+                cell.send([line for _, line in fresh])
+            lines = cell.lines(UNIT)
+            orders.extend(filter(None, map(told.take, lines)))
+            if lines or orders or self.ends:
+                moved = self.now()
+            elif self.now() > moved + PATIENCE:
+                raise Wrong("nothing goes on any more, and cellplan orders nothing")
+
+    def is_done(self, told):
+        """Whether all parts are out and all machines clean, and cellplan knows it."""
+        return all(place == len(route) for place, route in zip(told.places, self.shop.routes)) and not told.cleaning
+
+
+class Cell:
+    """A cellplan process: lines go to it, and what it writes goes to a log and is read from there on as lines."""
+
+    def __init__(self, words, log, resumed):
+        self.process = subprocess.Popen(words, stdin=subprocess.PIPE, stdout=subprocess.PIPE)
+        self.log, self.resumed, self.held = log, resumed, b""
+
+    def send(self, lines):
+        self.process.stdin.write("".join(line + "\n" for line in lines).encode())
+        self.process.stdin.flush()
+
+    def lines(self, seconds):
+        """The whole lines that have come; waits for so many seconds at most."""
+        if not select.select([self.process.stdout], [], [], seconds)[0]:
+            return []
+        read = os.read(self.process.stdout.fileno(), 65536)
+        if not read:
+            raise Wrong("cellplan has ended with status %d" % self.process.wait())
+        return self.split(read)
+
+    def split(self, read):
+        with open(self.log, "ab") as log:
+            log.write(read)
+        *lines, self.held = (self.held + read).split(b"\n")
+        return [line.decode() for line in lines]
+
+    def kill(self):
+        """Kills it at once; what it had written before still comes."""
+        self.process.send_signal(signal.SIGKILL)
+        self.split(self.process.stdout.read())
+        self.process.wait()
+        self.process.stdin.close()
+        self.process.stdout.close()
+
+    def close(self):
+        """Ends its input, and gives its last lines."""
+        with self.process:
+            self.process.stdin.close()
+            lines = self.split(self.process.stdout.read())
+        if self.process.returncode != 0:
+            raise Wrong("cellplan ends with status %d" % self.process.returncode)
+        return lines
+
+
+class Run:
+    """One pass of all parts through the cell, by three processes one after the other."""
+
+    def __init__(self, options, rng, work):
+        self.options, self.rng, self.work = options, rng, work
+        self.shop = Shop(options.instance, options.plan)
+        self.floor = Floor(rng, self.shop)
+        self.log = None
+
+    def ask(self, *words):
+        """The answer of a command that reads files alone."""
+        ended = subprocess.run([self.options.program, *words], stdout=subprocess.PIPE)
+        return ended.stdout.decode().strip()
+
+    def start(self, number):
+        """The process of this number, with a log of its own."""
+        files = [self.options.instance, self.options.plan]
+        words = ["drive", *files] if self.log is None else ["resume", *files, self.log]
+        return Cell([self.options.program, *words], os.path.join(self.work, "run-%d.log" % number), self.log is not None)
+
+    def go(self):
+        forgets = self.rng.choice([2, 3])
+        total, _ = self.shop.totals()
+        killed = sorted([self.rng.randint(0, total), self.rng.randint(0, total)])
+        for number, enough in enumerate([*killed, float("inf")], 1):
+            cell, told = self.start(number), Told(self.shop)
+            told.marked = not cell.resumed
+            if number == forgets:
+                self.floor.sent = []
+            self.floor.serve(cell, told, enough)
+            if number < 3:
+                cell.kill()
+                self.cut(cell)
+        for line in cell.close():
+            told.take(line)
+        self.look_at_the_end(cell, told)
+
+    def cut(self, cell):
+        """Cuts the log's last bytes off. A log counts once its mark is out, the empty line; until then the one before it does."""
+        size = os.path.getsize(cell.log) if os.path.exists(cell.log) else 0
+        with open(cell.log, "ab") as log:
+            log.truncate(max(0, size - self.rng.choice([0, 1, self.rng.randint(0, 120)])))
+        with open(cell.log, "rb") as log:
+            if not cell.resumed or b"\n\n" in b"\n" + log.read():
+                self.log = cell.log
+
+    def look_at_the_end(self, cell, told):
+        if not told.ended or self.floor.places != told.places or self.floor.cleaning:
+            raise Wrong("the end isn't told as it is")
+        found = self.ask("audit", self.options.instance, self.options.plan, cell.log)
+        if not re.fullmatch(r"log kept reports %d orders %d last \d+ complete" % self.shop.totals(), found):
+            raise Wrong("the audit says: " + found)
+
+
+def words():
+    parser = argparse.ArgumentParser(description="A simulated floor whose cellplan is killed and taken up again.")
+    parser.add_argument("instance", nargs="?", default=os.path.join(HERE, "ft06.txt"))
+    parser.add_argument("plan", nargs="?", default=os.path.join(HERE, "ft06-cleaned.toml"))
+    parser.add_argument("--runs", type=int, default=10, help="how many passes (10)")
+    parser.add_argument("--seed", type=int, default=0, help="where the random times begin (0)")
+    parser.add_argument("--program", default=os.path.join(HERE, "../crates/cellplan/out/cellplan"), help="the built cellplan")
+    return parser.parse_args()
+
+
+def main():
+    options = words()
+    for number in range(options.runs):
+        seed = options.seed + number
+        with tempfile.TemporaryDirectory() as work:
+            try:
+                Run(options, random.Random(seed), work).go()
+            except (Wrong, OSError) as wrong:
+                print("run with seed %d: %s" % (seed, wrong))
+                return 1
+        print("run with seed %d: all parts are out, and the log has the whole run" % seed)
+    return 0
+
+
+if __name__ == "__main__":
+    sys.exit(main())
