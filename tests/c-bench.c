@@ -1,5 +1,6 @@
 /* The time of a report: c-bench INSTANCE PLAN drives the cell, each report at a moment one later than the last, and prints the
    nanoseconds of a report. */
+#define _POSIX_C_SOURCE 200809L
 #include "cellplan.h"
 
 #include <inttypes.h>
