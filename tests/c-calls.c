@@ -36,34 +36,34 @@ static void checked(const char *instance, const char *name, const char *plan, ui
 }
 
 static void reported(struct cellplan_cell *cell, uint32_t kind, uint32_t job, uint32_t machine, uint64_t at, uint32_t status,
-                     uint64_t detail, size_t count) {
+                     uint64_t detail, size_t count, bool late) {
   struct cellplan_order orders[4];
   size_t told = 9;
-  bool was_late = true;
+  bool was_late = !late;
   uint64_t named = 9;
   same("a report", cellplan_cell_report(cell, kind, job, machine, at, orders, 4, &told, &was_late, &named), status);
   same("its orders", told, count);
   same("what it names", named, detail);
-  same("late", was_late, false);
+  same("late", was_late, late);
 }
 
 static void driven(struct cellplan_cell *cell) {
   uint64_t at = 0;
   uint32_t number = 0;
-  bool yes = false;
+  bool yes = true;
   size_t count = 9;
   struct cellplan_phase phase;
   struct cellplan_order orders[4];
-  reported(cell, 3, 0, 0, 0, CELLPLAN_NO_KIND, 0, 0);
-  reported(cell, CELLPLAN_ARRIVE, 2, 0, 0, CELLPLAN_JOB_OUT_OF_RANGE, 0, 0);
-  reported(cell, CELLPLAN_CLEAN, 0, 2, 0, CELLPLAN_MACHINE_OUT_OF_RANGE, 0, 0);
-  reported(cell, CELLPLAN_ARRIVE, 0, 0, UINT64_MAX, CELLPLAN_MOMENT_TOO_LARGE, 0, 0);
-  reported(cell, CELLPLAN_FINISH, 0, 0, 0, CELLPLAN_WRONG_KIND, 0, 0);
+  reported(cell, 3, 0, 0, 0, CELLPLAN_NO_KIND, 0, 0, false);
+  reported(cell, CELLPLAN_ARRIVE, 2, 0, 0, CELLPLAN_JOB_OUT_OF_RANGE, 0, 0, false);
+  reported(cell, CELLPLAN_CLEAN, 0, 2, 0, CELLPLAN_MACHINE_OUT_OF_RANGE, 0, 0, false);
+  reported(cell, CELLPLAN_ARRIVE, 0, 0, UINT64_MAX, CELLPLAN_MOMENT_TOO_LARGE, 0, 0, false);
+  reported(cell, CELLPLAN_FINISH, 0, 0, 0, CELLPLAN_WRONG_KIND, 0, 0, false);
   same("outside", cellplan_cell_phase(cell, 0, &phase) + phase.place, CELLPLAN_OUTSIDE);
-  reported(cell, CELLPLAN_ARRIVE, 0, 0, 3, CELLPLAN_GOOD, 0, 1);
-  reported(cell, CELLPLAN_ARRIVE, 1, 0, 2, CELLPLAN_BACKWARDS, 3, 0);
-  reported(cell, CELLPLAN_FINISH, 0, 1, 6, CELLPLAN_WRONG_MACHINE, 0, 0);
-  reported(cell, CELLPLAN_CLEAN, 0, 0, 6, CELLPLAN_NOT_EXPECTED, 0, 0);
+  reported(cell, CELLPLAN_ARRIVE, 0, 0, 3, CELLPLAN_GOOD, 0, 1, true);
+  reported(cell, CELLPLAN_ARRIVE, 1, 0, 2, CELLPLAN_BACKWARDS, 3, 0, false);
+  reported(cell, CELLPLAN_FINISH, 0, 1, 6, CELLPLAN_WRONG_MACHINE, 0, 0, false);
+  reported(cell, CELLPLAN_CLEAN, 0, 0, 6, CELLPLAN_NOT_EXPECTED, 0, 0, false);
   same("orders", cellplan_cell_orders(cell, 0, orders, 4, &count), CELLPLAN_GOOD);
   same("of them", count, 1);
   same("the job", orders[0].job, 0);
@@ -88,7 +88,7 @@ static void driven(struct cellplan_cell *cell) {
   same("left", cellplan_cell_reports_left(cell, &at), CELLPLAN_GOOD);
   same("the reports left", at, 5);
   same("punctual", cellplan_cell_punctual(cell, &yes), CELLPLAN_GOOD);
-  same("is punctual", yes, true);
+  same("is punctual", yes, false);
   same("done", cellplan_cell_is_done(cell, &yes), CELLPLAN_GOOD);
   same("is done", yes, false);
   same("jobs", cellplan_cell_jobs(cell, &number) + number, 2);
@@ -104,7 +104,7 @@ static void without_a_cell(struct cellplan_cell *cell) {
   size_t count = 7;
   struct cellplan_order orders[4];
   struct cellplan_phase phase;
-  reported(cell, CELLPLAN_ARRIVE, 0, 0, 0, CELLPLAN_NO_CELL, 0, 0);
+  reported(cell, CELLPLAN_ARRIVE, 0, 0, 0, CELLPLAN_NO_CELL, 0, 0, false);
   same("no orders", cellplan_cell_orders(cell, 0, orders, 4, &count), CELLPLAN_NO_CELL);
   same("no phase", cellplan_cell_phase(cell, 0, &phase), CELLPLAN_NO_CELL);
   same("no holder", cellplan_cell_holder(cell, 0, &number), CELLPLAN_NO_CELL);
@@ -131,6 +131,7 @@ static void named(uint32_t number, const char *wanted) {
 
 int main(int argc, char **argv) {
   struct cellplan_cell cell = {0};
+  bool punctual = false;
   (void)argv;
   if (argc > 1) {
     uint8_t line[64];
@@ -151,9 +152,11 @@ int main(int argc, char **argv) {
   same("begun", cellplan_cell_new(TEXT(two), NO_NAME, TEXT(in_time), &cell), CELLPLAN_GOOD);
   driven(&cell);
   same("refused again", cellplan_cell_new(TEXT(two), NO_NAME, TEXT(late), &cell), CELLPLAN_REFUSED);
-  reported(&cell, CELLPLAN_FINISH, 0, 0, 6, CELLPLAN_GOOD, 0, 1);
+  reported(&cell, CELLPLAN_FINISH, 0, 0, 6, CELLPLAN_GOOD, 0, 1, true);
   same("begun anew", cellplan_cell_new(TEXT(two), NO_NAME, TEXT(in_time), &cell), CELLPLAN_GOOD);
-  reported(&cell, CELLPLAN_ARRIVE, 0, 0, 0, CELLPLAN_GOOD, 0, 1);
+  reported(&cell, CELLPLAN_ARRIVE, 0, 0, 0, CELLPLAN_GOOD, 0, 1, false);
+  same("punctual then", cellplan_cell_punctual(&cell, &punctual), CELLPLAN_GOOD);
+  same("is punctual then", punctual, true);
   cellplan_cell_free(&cell);
   cellplan_cell_free(&cell);
   without_a_cell(&cell);
