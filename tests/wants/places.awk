@@ -377,6 +377,11 @@ function is_filled(i, end, depth, count) {
   return count > 1
 }
 
+# an unsafe block that is a call of Box::from_raw, and nothing else
+function makes_a_box_alone(i) {
+  return token[i] == "unsafe" && token[i + 1] == "{" && token[i + 2] == "Box" && token[i + 3] == "::" && token[i + 4] == "from_raw" && token[i + 5] == "(" && closing(i + 5) + 1 == closing(i + 1)
+}
+
 function look_at(i, word) {
   if (word == "AllocError") look_at_alloc_error(i)
   else if (word == "Memory") look_at_memory(i)
@@ -384,7 +389,7 @@ function look_at(i, word) {
   else if (word ~ /^(AllocFailed|SpawnError|from_raw_os_error)$/) tell(i, "what an AllocError could be made of")
   else if (word == "Error" && token[i - 1] == "::" && token[i - 2] == "fmt") tell(i, "what an AllocError could be made of")
   else if (word == "default" && token[i - 1] == "::") tell(i, "a default value, which may be a fmt::Error")
-  else if (word ~ /^(unsafe|macro_rules|include|transmute)$/) tell(i, "code whose words don't tell what it makes")
+  else if (word ~ /^(unsafe|macro_rules|include|transmute)$/ && !makes_a_box_alone(i)) tell(i, "code whose words don't tell what it makes")
   else if (word == "is_memory" && token[i - 1] == "fn") tell(i, "an error of ours that says that it is want of memory")
   else if (word == "Error" && using && from_fmt) tell(i, "what an AllocError could be made of")
   else if (word ~ /^(map_err|or_else)$/ && token[i + 1] == "(") look_at_mapping(i)

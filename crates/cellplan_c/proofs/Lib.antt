@@ -1,0 +1,4 @@
+mod Found
+mod Slots
+mod Telling
+mod Values

@@ -1,0 +1,22 @@
+use Rattle.std.proofs.Common.{ap, arith, rules}
+use Rattle.command_answers.specs.Statuses.{status_of}
+use Rattle.cellplan_c.proofs.cells.cellplan_cell_new.Goals as goal
+
+pub returns-in-Some-clause-second : goal.returns-in-Some-clause-second
+returns-in-Some-clause-second c = λ fault tells is. absurd (c.in-Ok-Accepted.ensures.second fault tells is)
+
+pub returns-in-Ok : goal.returns-in-Ok
+returns-in-Ok c = record {
+  started = λ e. absurd (omega (arith, e));
+  full = λ e. absurd (omega (arith, e));
+  refused = search rules;
+  fault = λ e. absurd (omega (arith, e));
+  only = λ p tell e. omega (arith, e);
+  first = λ fault is. absurd (c.in-Ok.ensures.first fault is);
+  second = λ fault tells is. absurd (c.in-Ok.ensures.second fault tells is);
+  unchanged = search rules;
+  statuses = search rules;
+}
+
+pub returns-clause-only : goal.returns-clause-only
+returns-clause-only c = λ p tell three. let four = ap status_of (c.in-Err.ensures.only p tell) in omega (arith, four, three, c.status.ensures, c.from.ensures)

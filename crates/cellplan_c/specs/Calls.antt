@@ -1,0 +1,68 @@
+-- What the calls from C do.
+use Rattle.std.specs.Prelude.{◌≡◌, ℕ, ◌<◌, ◌≤◌, ◌++◌, ◌⊎◌, List, Option, length, drop, codes}
+use Rattle.shop_base.specs.Plan.{PlannedShop}
+use Rattle.plan_verifier.specs.Accepted.{VerifiedPlan, IsAcceptable}
+use Rattle.cell_control.specs.Control.{Control, at_start}
+use Rattle.command_answers.specs.declared.answer.Answer.{Answer}
+use Rattle.command_answers.specs.declared.command_fault.CommandFault.{CommandFault}
+use Rattle.command_answers.specs.declared.command_fault.CommandFault.TheVariants.{Instance, Plan}
+use Rattle.command_answers.specs.declared.loading.Loaded.{Loaded}
+use Rattle.command_answers.specs.declared.loading.Loaded.TheVariants.{NotShaped, Refused, Accepted}
+use Rattle.command_answers.specs.Plans.{TellBoth, IsOfBoth, IsRightOfBoth}
+use Rattle.command_answers.specs.Statuses.{status_of}
+
+-- the fault is of one of the two texts, the instance's before the plan's
+pub record IsTextFault (instance : List ℕ) (name : Option (List ℕ)) (plan : List ℕ) (fault : CommandFault) : Type 0 where
+  pub right : IsRightOfBoth instance name plan fault
+  pub status : status_of fault ≡ 3
+
+-- the text stands in front in the caller's room, and its length is told
+pub record IsLaid (text old new : List ℕ) (needed : ℕ) : Type 0 where
+  pub stands : new ≡ text ++ drop (length text) old
+  pub told : needed ≡ length text
+
+-- the text is longer than the caller's room, which stays as it was, and its length is told
+pub record IsTooLong (text old new : List ℕ) (needed : ℕ) : Type 0 where
+  pub beyond : length old < length text
+  pub unchanged : new ≡ old
+  pub told : needed ≡ length text
+
+-- the status, with the text in the caller's room, or the status of too little room
+abbrev pub IsPut : List ℕ → ℕ → ℕ → List ℕ → List ℕ → ℕ → Type 0
+IsPut text status result old new needed =
+    ((result ≡ status) × IsLaid text old new needed) ⊎ ((result ≡ 6) × IsTooLong text old new needed)
+
+-- memory was wanting, and nothing is written; or one of these answers was put
+abbrev pub Answers : (Answer → Type 0) → ℕ → List ℕ → List ℕ → ℕ → Type 0
+Answers Is result old new needed =
+    ((result ≡ 4) × (needed ≡ 0) × (new ≡ old))
+    ⊎ ((told : Answer) × Is told × IsPut told.text.items told.status result old new needed)
+
+-- the line that the program tells of the fault of a text on its standard error
+abbrev pub IsFaultLine : CommandFault → List ℕ → Type 0
+IsFaultLine (Instance fault) line = (words : List ℕ) × (line ≡ codes "cellplan: instance: " ++ words ++ codes "\n")
+IsFaultLine (Plan fault) line = (words : List ℕ) × (line ≡ codes "cellplan: plan: " ++ words ++ codes "\n")
+IsFaultLine other line = ⊥
+
+-- the line of this fault, with the status of a text that is refused
+abbrev pub IsFaultTold : CommandFault → Answer → Type 0
+IsFaultTold fault told = IsFaultLine fault told.text.items × (told.status ≡ 3)
+
+-- an answer to the two texts of status 0 or 1, or the line of what is wrong with them
+abbrev pub IsTold : List ℕ → Option (List ℕ) → List ℕ → (PlannedShop → Answer → Type 0) → Answer → Type 0
+IsTold instance name plan Is told =
+    (IsOfBoth instance name plan Is told × (told.status ≤ 1))
+    ⊎ ((fault : CommandFault) × IsTextFault instance name plan fault × IsFaultTold fault told)
+
+-- the controller of the accepted plan that the two texts tell, before the first report
+pub record IsStarted (instance : List ℕ) (name : Option (List ℕ)) (plan : List ℕ) (control : Control) : Type 0 where
+  pub verified : VerifiedPlan
+  pub tell : TellBoth instance name plan verified.planned
+  pub acceptable : IsAcceptable verified.planned
+  pub start : control ≡ at_start verified
+
+-- it isn't well shaped, or refused
+abbrev pub IsNotAccepted : Loaded → Type 0
+IsNotAccepted (NotShaped fault) = Unit {0}
+IsNotAccepted (Refused why) = Unit {0}
+IsNotAccepted (Accepted verified) = ⊥

@@ -1,0 +1,66 @@
+-- Reports, reasons, orders and phases as numbers.
+use Rattle.std.specs.Prelude.{◌≡◌, ◌≢◌, ℕ, List, [], ◌∷◌, Option, None, Some, Bool, false, nat_eq, if◌then◌else◌, codes}
+use Rattle.shop_base.specs.declared.move_order.Spot.{Spot}
+use Rattle.shop_base.specs.declared.move_order.Spot.TheVariants.{Out, At}
+use Rattle.shop_base.specs.declared.move_order.MoveOrder.{MoveOrder}
+use Rattle.cell_tables.specs.declared.report.Report.{Report}
+use Rattle.cell_tables.specs.declared.report.Report.TheVariants.{Arrive, Finish, Clean}
+use Rattle.cell_control.specs.declared.report.Phase.{Phase as Whereabouts}
+use Rattle.cell_control.specs.declared.report.Phase.TheVariants.{Outside, OnMachine, Gone}
+use Rattle.cell_control.specs.declared.report_fault.ReportFault.{ReportFault}
+use Rattle.cell_control.specs.declared.report_fault.ReportFault.TheVariants.{JobOutOfRange, MachineOutOfRange, MomentTooLarge, Backwards, NotExpected, WrongKind, WrongMachine}
+use Rattle.cellplan_c.specs.declared.told.Order.{Order}
+use Rattle.cellplan_c.specs.declared.told.Phase.{Phase}
+
+-- the report of kind 0, an arrival, 1, the end of an operation, or 2, the end of a cleaning
+abbrev pub report_by : ℕ → ℕ → ℕ → ℕ → Option Report
+report_by kind job machine at =
+    if nat_eq kind 0 then Some (Arrive job at) else (if nat_eq kind 1 then Some (Finish job machine at) else (if nat_eq kind 2 then Some (Clean machine at) else None))
+
+-- the number of a reason, from 16 on in the order of the reasons
+abbrev pub fault_number : ReportFault → ℕ
+fault_number JobOutOfRange = 16
+fault_number MachineOutOfRange = 17
+fault_number MomentTooLarge = 18
+fault_number (Backwards last) = 19
+fault_number NotExpected = 20
+fault_number WrongKind = 21
+fault_number (WrongMachine actual) = 22
+
+-- the moment or the machine that a reason names, and 0 where it names none
+abbrev pub fault_detail : ReportFault → ℕ
+fault_detail (Backwards last) = last
+fault_detail (WrongMachine actual) = actual
+fault_detail _ = 0
+
+-- the machine's number, and the greatest number outside
+abbrev pub spot_number : Spot → ℕ
+spot_number Out = 4294967295
+spot_number (At machine) = machine
+
+-- the order as its numbers
+abbrev pub order_told : MoveOrder → Order
+order_told order = record { job = order.job; source = spot_number order.source; target = spot_number order.target; at = order.at }
+
+-- where a job is as numbers: 0 outside, 1 on a machine, 2 gone
+abbrev pub phase_told : Whereabouts → Phase
+phase_told (Outside ready) = record { place = 0; machine = 0; ready = ready; at = 0 }
+phase_told (OnMachine machine ready) = record { place = 1; machine = machine; ready = ready; at = 0 }
+phase_told (Gone at) = record { place = 2; machine = 0; ready = false; at = at }
+
+-- what a call that reads has answered: what it wrote, at status 0, else none
+abbrev pub answer_of : {A : Type 0} → ℕ → A → Option A
+answer_of status written = if nat_eq status 0 then Some written else None
+
+-- the name of an instance, and none where the text is empty
+abbrev pub named : List ℕ → Option (List ℕ)
+named [] = None
+named (c ∷ cs) = Some (c ∷ cs)
+
+-- the name of the reason with this number
+abbrev pub reason_name_of : ℕ → Option (List ℕ)
+reason_name_of number =
+    if nat_eq number 16 then Some (codes "JobOutOfRange") else (if nat_eq number 17 then Some (codes "MachineOutOfRange")
+    else (if nat_eq number 18 then Some (codes "MomentTooLarge") else (if nat_eq number 19 then Some (codes "Backwards")
+    else (if nat_eq number 20 then Some (codes "NotExpected") else (if nat_eq number 21 then Some (codes "WrongKind")
+    else (if nat_eq number 22 then Some (codes "WrongMachine") else None))))))

@@ -1,0 +1,69 @@
+//! What is written into the caller's room.
+
+ghost use Rattle.std.specs.Prelude.{◌≡◌, ◌≢◌, ℕ, ◌+◌, ◌<◌, ◌≤◌, ◌⊎◌, None, IfSome, length, slice_get, option_map};
+ghost use Rattle.cellplan_c.specs.Told.{order_told, answer_of};
+ghost use Rattle.cellplan_c.specs.Calls.{IsLaid, IsTooLong, IsPut};
+
+use crate::statuses::{GOOD, NO_MEMORY, NO_ROOM, NONE};
+use crate::told::{Order, order_of};
+use cell_control::MoveOrder;
+use command_answers::Answer;
+
+/// Writes as many of the orders from a first one on as there is room for.
+pub fn put_orders(orders: &[MoveOrder], first: usize, room: &mut [Order])
+    ensures room { length room.new ≡ length room.old }
+    ensures put { (i : ℕ) → first + i < length orders.now → i < length room.old
+        → slice_get room.new i ≡ option_map order_told (slice_get orders.now (first + i)) }
+    ensures kept { (i : ℕ) → length orders.now ≤ first + i → slice_get room.new i ≡ slice_get room.old i }
+{
+    let count = orders.len().saturating_sub(first).min(room.len());
+    for place in 0..count {
+        room[place] = order_of(orders[first + place]);
+    }
+}
+
+/// Writes the text, if there is room for it, and its length in any case. The answer is the status, or that there is
+/// no room.
+pub fn put_text(text: &[u8], status: u32, room: &mut [u8], needed: &mut usize) -> u32
+    ensures needed { needed.new ≡ length text.now }
+    ensures put { IsPut text.now status result room.old room.new needed.new }
+    ensures fits { length text.now ≤ length room.old → (result ≡ status) × IsLaid text.now room.old room.new needed.new }
+    ensures too_long { length room.old < length text.now → (result ≡ 6) × IsTooLong text.now room.old room.new needed.new }
+{
+    *needed = text.len();
+    if room.len() < text.len() {
+        return NO_ROOM;
+    }
+    room[..text.len()].copy_from_slice(text);
+    status
+}
+
+/// Writes the answer's text, if there is one and room for it. The answer is its status, or that memory was wanting, or
+/// that there is no room.
+pub fn put_answer(told: Option<Answer>, room: &mut [u8], needed: &mut usize) -> u32
+    ensures none { (told ≡ None) → (result ≡ 4) × (needed.new ≡ 0) × (room.new ≡ room.old) }
+    ensures put { IfSome told (λ answer. IsPut answer.text.items answer.status result room.old room.new needed.new) }
+{
+    match told {
+        Some(answer) => put_text(&answer.text, u32::from(answer.status), room, needed),
+        None => {
+            *needed = 0;
+            NO_MEMORY
+        }
+    }
+}
+
+/// Writes what was found, if it was.
+pub fn put_found<T: Copy>(found: Option<T>, room: &mut T) -> u32
+    ensures answer { answer_of result room.new ≡ found }
+    ensures statuses { (result ≡ 0) ⊎ (result ≡ 7) }
+    ensures unwritten { result ≢ 0 → room.new ≡ room.old }
+{
+    match found {
+        Some(value) => {
+            *room = value;
+            GOOD
+        }
+        None => NONE,
+    }
+}

@@ -1,0 +1,25 @@
+//! The statuses of the calls: those of the program, and further ones below the numbers of the reasons.
+
+/// The call has done what it says.
+pub const GOOD: u32 = 0;
+
+/// The plan isn't accepted.
+pub const REFUSED: u32 = 1;
+
+/// The text of the instance or of the plan is refused.
+pub const FAULT: u8 = 3;
+
+/// Memory was wanting.
+pub const NO_MEMORY: u32 = 4;
+
+/// There is no room for the text; how much it needs is told.
+pub const NO_ROOM: u32 = 6;
+
+/// There is none of what was asked for.
+pub const NONE: u32 = 7;
+
+/// The cell holds no controller.
+pub const NO_CELL: u32 = 8;
+
+/// The report is of no kind.
+pub const NO_KIND: u32 = 9;

@@ -1,0 +1,114 @@
+//! Reports, reasons, orders and phases as numbers.
+
+ghost use Rattle.std.specs.Prelude.{◌≡◌};
+ghost use Rattle.cellplan_c.specs.Told.{report_by, fault_number, fault_detail, order_told, spot_number, phase_told};
+
+use cell_control::{MoveOrder, Phase as Whereabouts, Report, ReportFault, Spot};
+
+/// The number in place of a machine that stands for outside.
+pub const OUTSIDE: u32 = u32::MAX;
+
+/// A move to be made: the job, the machine that it leaves and the one that it enters, and the moment.
+#[repr(C)]
+#[derive(Clone, Copy)]
+pub struct Order {
+    pub job: u32,
+    pub source: u32,
+    pub target: u32,
+    pub at: u64,
+}
+
+/// Where a job is: 0 outside, 1 on the machine, or 2 gone at the moment; ready where its activity has ended.
+#[repr(C)]
+#[derive(Clone, Copy)]
+pub struct Phase {
+    pub place: u32,
+    pub machine: u32,
+    pub ready: bool,
+    pub at: u64,
+}
+
+/// The report of this kind, if it is one: an arrival, the end of an operation, or of a cleaning.
+pub fn report_of(kind: u32, job: u32, machine: u32, at: u64) -> Option<Report>
+    ensures { result ≡ report_by kind job machine at }
+{
+    match kind {
+        0 => Some(Report::Arrive { job, at }),
+        1 => Some(Report::Finish { job, machine, at }),
+        2 => Some(Report::Clean { machine, at }),
+        _ => None,
+    }
+}
+
+/// The number of a reason.
+pub fn number_of(fault: ReportFault) -> u32
+    ensures { result ≡ fault_number fault }
+{
+    match fault {
+        ReportFault::JobOutOfRange => 16,
+        ReportFault::MachineOutOfRange => 17,
+        ReportFault::MomentTooLarge => 18,
+        ReportFault::Backwards { last: _ } => 19,
+        ReportFault::NotExpected => 20,
+        ReportFault::WrongKind => 21,
+        ReportFault::WrongMachine { actual: _ } => 22,
+    }
+}
+
+/// The moment or the machine that a reason names, and 0 where it names none.
+pub fn detail_of(fault: ReportFault) -> u64
+    ensures { result ≡ fault_detail fault }
+{
+    match fault {
+        ReportFault::Backwards { last } => last,
+        ReportFault::WrongMachine { actual } => u64::from(actual),
+        _ => 0,
+    }
+}
+
+fn number_of_spot(spot: Spot) -> u32
+    ensures { result ≡ spot_number spot }
+{
+    match spot {
+        Spot::Out => OUTSIDE,
+        Spot::At(machine) => machine,
+    }
+}
+
+/// The order as its numbers.
+pub fn order_of(order: MoveOrder) -> Order
+    ensures { result ≡ order_told order }
+{
+    Order {
+        job: order.job,
+        source: number_of_spot(order.source),
+        target: number_of_spot(order.target),
+        at: order.at,
+    }
+}
+
+/// Where a job is as its numbers.
+pub fn phase_of(phase: Whereabouts) -> Phase
+    ensures { result ≡ phase_told phase }
+{
+    match phase {
+        Whereabouts::Outside { ready } => Phase {
+            place: 0,
+            machine: 0,
+            ready,
+            at: 0,
+        },
+        Whereabouts::OnMachine { machine, ready } => Phase {
+            place: 1,
+            machine,
+            ready,
+            at: 0,
+        },
+        Whereabouts::Gone { at } => Phase {
+            place: 2,
+            machine: 0,
+            ready: false,
+            at,
+        },
+    }
+}

@@ -1,0 +1,170 @@
+/* cellplan.h - the controller of a cell, for C, C++ and whatever calls C.
+
+   A cell is begun from the text of an instance and the text of an accepted plan, told by reports what has ended, and
+   orders the moves that then keep the plan. Texts and moments are those of the program `cellplan`; docs/EMBEDDING.md
+   goes from the sources to a driven cell.
+
+   What each call answers is proved, by the clauses at its function in crates/cellplan_c. What no clause can say, and a
+   caller has to keep to:
+
+   - A cell begins as zero bytes (`struct cellplan_cell cell = {0};`) and lies at one place until it is freed: it is
+     never copied, and none of its members is read or written. A copy would free the same controller twice.
+   - Pointers aren't null, also to a room of 0 bytes, and point to as much as is said. What a call writes overlaps
+     nothing else that it is given.
+   - A cell stays on the thread that began it, and one call at a time is in it. Cells are apart: each thread may have
+     cells of its own. No call is made from a signal handler, or in the child of a fork of a process with threads.
+   - `malloc`, `realloc` and `free` are those of one allocator.
+
+   cellplan_check and cellplan_cell_new take memory, and so may answer CELLPLAN_NO_MEMORY. No other call takes any: a
+   report never fails for want of it. cellplan_cell_free and cellplan_cell_new give it back. */
+#ifndef CELLPLAN_H
+#define CELLPLAN_H
+
+#include <stdbool.h>
+#include <stddef.h>
+#include <stdint.h>
+
+#ifdef __cplusplus
+extern "C" {
+#endif
+
+/* The version of this header. The library is of the same where cellplan_version() gives it. */
+#define CELLPLAN_VERSION 1
+
+/* The statuses: those of the program, then those of these calls alone. */
+enum {
+  CELLPLAN_GOOD = 0,       /* done; of a plan: accepted */
+  CELLPLAN_REFUSED = 1,    /* the plan isn't accepted */
+  CELLPLAN_FAULT = 3,      /* the text of the instance or of the plan is refused */
+  CELLPLAN_NO_MEMORY = 4,  /* memory was wanting */
+  CELLPLAN_NO_ROOM = 6,    /* the text is longer than the room for it; its length is told */
+  CELLPLAN_NONE = 7,       /* there is none of what was asked for */
+  CELLPLAN_NO_CELL = 8,    /* the cell holds no controller */
+  CELLPLAN_NO_KIND = 9     /* the report is of no kind */
+};
+
+/* The reasons for which a report isn't possible; the first that holds, in this order, is the status. */
+enum {
+  CELLPLAN_JOB_OUT_OF_RANGE = 16,
+  CELLPLAN_MACHINE_OUT_OF_RANGE = 17,
+  CELLPLAN_MOMENT_TOO_LARGE = 18,
+  CELLPLAN_BACKWARDS = 19,         /* with the moment of the last report */
+  CELLPLAN_NOT_EXPECTED = 20,
+  CELLPLAN_WRONG_KIND = 21,
+  CELLPLAN_WRONG_MACHINE = 22      /* with the machine on which the job is */
+};
+
+/* The kinds of reports. */
+enum {
+  CELLPLAN_ARRIVE = 0, /* the job has arrived; the machine isn't read */
+  CELLPLAN_FINISH = 1, /* the machine has ended its operation on the job */
+  CELLPLAN_CLEAN = 2   /* the machine is clean; the job isn't read */
+};
+
+/* The places of a job. */
+enum {
+  CELLPLAN_OUTSIDE = 0,
+  CELLPLAN_ON_MACHINE = 1,
+  CELLPLAN_GONE = 2
+};
+
+/* In the place of a machine: outside the cell. */
+#define CELLPLAN_OUT UINT32_MAX
+
+/* A cell, or none: see above how it begins. */
+struct cellplan_cell {
+  bool full;
+  void *slot;
+};
+
+/* A move to be made at this moment: the job leaves the source and enters the target. */
+struct cellplan_order {
+  uint32_t job;
+  uint32_t source; /* a machine, or CELLPLAN_OUT */
+  uint32_t target; /* a machine, or CELLPLAN_OUT */
+  uint64_t at;
+};
+
+/* Where a job is. */
+struct cellplan_phase {
+  uint32_t place;   /* CELLPLAN_OUTSIDE, CELLPLAN_ON_MACHINE or CELLPLAN_GONE */
+  uint32_t machine; /* on which it is; 0 where it is on none */
+  bool ready;       /* its arrival, or the end of its operation there, was reported; false where it is gone */
+  uint64_t at;      /* the moment at which it left; 0 where it isn't gone */
+};
+
+/* The version of the library. */
+uint32_t cellplan_version(void);
+
+/* Writes the name of the reason with this number, as `JobOutOfRange`, and its length; no zero byte ends it.
+   GOOD, NO_ROOM (the length alone is written), or NONE for a number that is no reason's (the length is 0). */
+uint32_t cellplan_reason(uint32_t number, uint8_t *name, size_t room, size_t *length);
+
+/* Judges a plan: writes the line that `cellplan check` prints, and its length, with its line feed and no zero byte.
+   With a name the first text is a collection with an instance of this name; with a name of length 0 it is one instance.
+   GOOD where the plan is accepted, REFUSED where it isn't, each with the line; FAULT with the line that the program
+   tells on its standard error; NO_ROOM with the length of the line, which isn't written; NO_MEMORY. */
+uint32_t cellplan_check(const uint8_t *instance, size_t instance_length, const uint8_t *name, size_t name_length,
+                        const uint8_t *plan, size_t plan_length, uint8_t *line, size_t room, size_t *length);
+
+/* Begins a cell with the plan, before the first report; what the cell held before is freed. The texts are as above, and
+   aren't read any more when the call has ended.
+   GOOD; REFUSED, FAULT or NO_MEMORY, and then the cell holds what it held. */
+uint32_t cellplan_cell_new(const uint8_t *instance, size_t instance_length, const uint8_t *name, size_t name_length,
+                           const uint8_t *plan, size_t plan_length, struct cellplan_cell *cell);
+
+/* Frees what the cell holds, and leaves a cell that holds none; one that holds none stays as it is. */
+void cellplan_cell_free(struct cellplan_cell *cell);
+
+/* Reports that something has ended, at a moment that isn't before that of the last report. Makes the moves that the plan
+   has then: writes as many of their orders as there is room for, in the order in which they are made, and the number of
+   them all. `late` says whether the report came past the due moment of something that was going on.
+   GOOD; NO_CELL; NO_KIND; or the number of the reason for which the report isn't possible, with the moment or the machine
+   that it names in `detail` (0 where it names none). A report that isn't GOOD changes nothing, and its count is 0. */
+uint32_t cellplan_cell_report(struct cellplan_cell *cell, uint32_t kind, uint32_t job, uint32_t machine, uint64_t at,
+                              struct cellplan_order *orders, size_t room, size_t *count, bool *late, uint64_t *detail);
+
+/* Writes the orders of the last accepted report from number `first` on, as many as there is room for, and the number of
+   them all. A report releases at most one for each job. GOOD or NO_CELL. */
+uint32_t cellplan_cell_orders(struct cellplan_cell *cell, size_t first, struct cellplan_order *orders, size_t room,
+                              size_t *count);
+
+/* The calls below read a cell and change nothing. Each is GOOD, and has written its answer, or NO_CELL, or NONE where
+   that is said, and has written nothing. */
+
+/* Where the job is; NONE for a number that is no job's. */
+uint32_t cellplan_cell_phase(struct cellplan_cell *cell, uint32_t job, struct cellplan_phase *phase);
+
+/* The job that is on the machine; NONE where it is free, or no machine. */
+uint32_t cellplan_cell_holder(struct cellplan_cell *cell, uint32_t machine, uint32_t *job);
+
+/* When the job's arrival or operation is due; NONE where it has none going on. */
+uint32_t cellplan_cell_due(struct cellplan_cell *cell, uint32_t job, uint64_t *at);
+
+/* When the machine's cleaning is due; NONE where it isn't being cleaned. */
+uint32_t cellplan_cell_clean_due(struct cellplan_cell *cell, uint32_t machine, uint64_t *at);
+
+/* The moment of the last accepted report, 0 before the first. */
+uint32_t cellplan_cell_now(struct cellplan_cell *cell, uint64_t *at);
+
+/* Whether no accepted report was late. */
+uint32_t cellplan_cell_punctual(struct cellplan_cell *cell, bool *punctual);
+
+/* How many reports are still to come. */
+uint32_t cellplan_cell_reports_left(struct cellplan_cell *cell, uint64_t *left);
+
+/* Whether the run has ended: all jobs are gone, and no machine is being cleaned. */
+uint32_t cellplan_cell_is_done(struct cellplan_cell *cell, bool *done);
+
+/* How many jobs and machines the shop has: jobs are numbered from 0, and machines too. */
+uint32_t cellplan_cell_jobs(struct cellplan_cell *cell, uint32_t *count);
+uint32_t cellplan_cell_machines(struct cellplan_cell *cell, uint32_t *count);
+
+/* The job's earliest leaving by the plan, which it keeps to while no report is late; NONE for a number that is no job's. */
+uint32_t cellplan_cell_leaves(struct cellplan_cell *cell, uint32_t job, uint64_t *at);
+
+#ifdef __cplusplus
+}
+#endif
+
+#endif

@@ -1,0 +1,174 @@
+/* The statuses of the calls of the library for C, each seen once; by tests/c-library, also with memory that is refused. With a
+   word it makes the calls that take memory once, and says how they ended. */
+#include "cellplan.h"
+
+#include <stdio.h>
+#include <string.h>
+
+static const char two[] = "two\n2 2\n0 3 1 2\n1 4 0 1\n";
+static const char in_time[] = "release = [0, 0]\nbudget = [5, 10]\norder = [[0, 1], [0, 1]]\n";
+static const char late[] = "release = [0, 0]\nbudget = [5, 9]\norder = [[0, 1], [0, 1]]\n";
+static const uint8_t nothing[1];
+static int missed;
+
+#define TEXT(text) (const uint8_t *)(text), strlen(text)
+#define NO_NAME nothing, 0
+
+static void same(const char *what, uint64_t told, uint64_t wanted) {
+  if (told == wanted) return;
+  printf("%s: %llu and not %llu\n", what, (unsigned long long)told, (unsigned long long)wanted);
+  missed++;
+}
+
+/* The line of a check, its status, and that one byte less is no room for it. */
+static void checked(const char *instance, const char *name, const char *plan, uint32_t status, const char *line) {
+  uint8_t room[256];
+  size_t length = 7;
+  memset(room, '#', sizeof room);
+  same(line, cellplan_check(TEXT(instance), TEXT(name), TEXT(plan), room, sizeof room, &length), status);
+  same("its length", length, strlen(line));
+  same("its text", (uint64_t)memcmp(room, line, strlen(line)), 0);
+  same("what is behind it", room[strlen(line)], '#');
+  memset(room, '#', sizeof room);
+  same("too little room", cellplan_check(TEXT(instance), TEXT(name), TEXT(plan), room, strlen(line) - 1, &length), CELLPLAN_NO_ROOM);
+  same("the length that it needs", length, strlen(line));
+  same("what is written then", room[0], '#');
+}
+
+static void reported(struct cellplan_cell *cell, uint32_t kind, uint32_t job, uint32_t machine, uint64_t at, uint32_t status,
+                     uint64_t detail, size_t count, bool late) {
+  struct cellplan_order orders[4];
+  size_t told = 9;
+  bool was_late = !late;
+  uint64_t named = 9;
+  same("a report", cellplan_cell_report(cell, kind, job, machine, at, orders, 4, &told, &was_late, &named), status);
+  same("its orders", told, count);
+  same("what it names", named, detail);
+  same("late", was_late, late);
+}
+
+static void driven(struct cellplan_cell *cell) {
+  uint64_t at = 0;
+  uint32_t number = 0;
+  bool yes = true;
+  size_t count = 9;
+  struct cellplan_phase phase;
+  struct cellplan_order orders[4];
+  reported(cell, 3, 0, 0, 0, CELLPLAN_NO_KIND, 0, 0, false);
+  reported(cell, CELLPLAN_ARRIVE, 2, 0, 0, CELLPLAN_JOB_OUT_OF_RANGE, 0, 0, false);
+  reported(cell, CELLPLAN_CLEAN, 0, 2, 0, CELLPLAN_MACHINE_OUT_OF_RANGE, 0, 0, false);
+  reported(cell, CELLPLAN_ARRIVE, 0, 0, UINT64_MAX, CELLPLAN_MOMENT_TOO_LARGE, 0, 0, false);
+  reported(cell, CELLPLAN_FINISH, 0, 0, 0, CELLPLAN_WRONG_KIND, 0, 0, false);
+  same("outside", cellplan_cell_phase(cell, 0, &phase) + phase.place, CELLPLAN_OUTSIDE);
+  reported(cell, CELLPLAN_ARRIVE, 0, 0, 3, CELLPLAN_GOOD, 0, 1, true);
+  reported(cell, CELLPLAN_ARRIVE, 1, 0, 2, CELLPLAN_BACKWARDS, 3, 0, false);
+  reported(cell, CELLPLAN_FINISH, 0, 1, 6, CELLPLAN_WRONG_MACHINE, 0, 0, false);
+  reported(cell, CELLPLAN_CLEAN, 0, 0, 6, CELLPLAN_NOT_EXPECTED, 0, 0, false);
+  same("orders", cellplan_cell_orders(cell, 0, orders, 4, &count), CELLPLAN_GOOD);
+  same("of them", count, 1);
+  same("the job", orders[0].job, 0);
+  same("the source", orders[0].source, CELLPLAN_OUT);
+  same("the target", orders[0].target, 0);
+  same("the moment", orders[0].at, 3);
+  same("orders from the end on", cellplan_cell_orders(cell, 1, orders, 4, &count), CELLPLAN_GOOD);
+  same("phase", cellplan_cell_phase(cell, 0, &phase), CELLPLAN_GOOD);
+  same("place", phase.place, CELLPLAN_ON_MACHINE);
+  same("machine", phase.machine, 0);
+  same("ready", phase.ready, false);
+  same("no phase", cellplan_cell_phase(cell, 2, &phase), CELLPLAN_NONE);
+  same("holder", cellplan_cell_holder(cell, 0, &number), CELLPLAN_GOOD);
+  same("the job that holds", number, 0);
+  same("no holder", cellplan_cell_holder(cell, 1, &number), CELLPLAN_NONE);
+  same("due", cellplan_cell_due(cell, 0, &at), CELLPLAN_GOOD);
+  same("the due moment", at, 6);
+  same("no due", cellplan_cell_due(cell, 2, &at), CELLPLAN_NONE);
+  same("no cleaning", cellplan_cell_clean_due(cell, 0, &at), CELLPLAN_NONE);
+  same("now", cellplan_cell_now(cell, &at), CELLPLAN_GOOD);
+  same("the moment now", at, 3);
+  same("left", cellplan_cell_reports_left(cell, &at), CELLPLAN_GOOD);
+  same("the reports left", at, 5);
+  same("punctual", cellplan_cell_punctual(cell, &yes), CELLPLAN_GOOD);
+  same("is punctual", yes, false);
+  same("done", cellplan_cell_is_done(cell, &yes), CELLPLAN_GOOD);
+  same("is done", yes, false);
+  same("jobs", cellplan_cell_jobs(cell, &number) + number, 2);
+  same("machines", cellplan_cell_machines(cell, &number) + number, 2);
+  same("leaves", cellplan_cell_leaves(cell, 1, &at) + at, 10);
+  same("leaves of no job", cellplan_cell_leaves(cell, 2, &at), CELLPLAN_NONE);
+}
+
+static void without_a_cell(struct cellplan_cell *cell) {
+  uint64_t at = 7;
+  uint32_t number = 7;
+  bool yes = true;
+  size_t count = 7;
+  struct cellplan_order orders[4];
+  struct cellplan_phase phase;
+  reported(cell, CELLPLAN_ARRIVE, 0, 0, 0, CELLPLAN_NO_CELL, 0, 0, false);
+  same("no orders", cellplan_cell_orders(cell, 0, orders, 4, &count), CELLPLAN_NO_CELL);
+  same("no phase", cellplan_cell_phase(cell, 0, &phase), CELLPLAN_NO_CELL);
+  same("no holder", cellplan_cell_holder(cell, 0, &number), CELLPLAN_NO_CELL);
+  same("no due", cellplan_cell_due(cell, 0, &at), CELLPLAN_NO_CELL);
+  same("no clean due", cellplan_cell_clean_due(cell, 0, &at), CELLPLAN_NO_CELL);
+  same("no now", cellplan_cell_now(cell, &at), CELLPLAN_NO_CELL);
+  same("no left", cellplan_cell_reports_left(cell, &at), CELLPLAN_NO_CELL);
+  same("no punctual", cellplan_cell_punctual(cell, &yes), CELLPLAN_NO_CELL);
+  same("no done", cellplan_cell_is_done(cell, &yes), CELLPLAN_NO_CELL);
+  same("no jobs", cellplan_cell_jobs(cell, &number), CELLPLAN_NO_CELL);
+  same("no machines", cellplan_cell_machines(cell, &number), CELLPLAN_NO_CELL);
+  same("no leaves", cellplan_cell_leaves(cell, 0, &at), CELLPLAN_NO_CELL);
+  same("nothing written", at + number + yes, 15);
+}
+
+static void named(uint32_t number, const char *wanted) {
+  uint8_t name[32];
+  size_t length = 7;
+  same(wanted, cellplan_reason(number, name, sizeof name, &length), CELLPLAN_GOOD);
+  same("its length", length, strlen(wanted));
+  same("its text", (uint64_t)memcmp(name, wanted, length), 0);
+  same("too little room", cellplan_reason(number, name, length - 1, &length), CELLPLAN_NO_ROOM);
+}
+
+int main(int argc, char **argv) {
+  struct cellplan_cell cell = {0};
+  bool punctual = false;
+  (void)argv;
+  if (argc > 1) {
+    uint8_t line[64];
+    size_t length = 0;
+    uint32_t check = cellplan_check(TEXT(two), NO_NAME, TEXT(in_time), line, sizeof line, &length);
+    uint32_t begun = cellplan_cell_new(TEXT(two), NO_NAME, TEXT(in_time), &cell);
+    cellplan_cell_free(&cell);
+    fprintf(stderr, "check %u new %u\n", (unsigned)check, (unsigned)begun);
+    return (check != 0 && (check != CELLPLAN_NO_MEMORY || length != 0)) || (begun != 0 && begun != CELLPLAN_NO_MEMORY);
+  }
+  same("version", cellplan_version(), CELLPLAN_VERSION);
+  checked(two, "", in_time, CELLPLAN_GOOD, "accepted makespan 10 leaves 5 10\n");
+  checked(two, "", late, CELLPLAN_REFUSED, "refused late 1 10 0.0 0.1 0.2 1.0 1.1 1.2\n");
+  without_a_cell(&cell);
+  same("refused", cellplan_cell_new(TEXT(two), NO_NAME, TEXT(late), &cell), CELLPLAN_REFUSED);
+  same("no instance", cellplan_cell_new(TEXT("x"), NO_NAME, TEXT(late), &cell), CELLPLAN_FAULT);
+  same("still none", cellplan_cell_now(&cell, &(uint64_t){0}), CELLPLAN_NO_CELL);
+  same("begun", cellplan_cell_new(TEXT(two), NO_NAME, TEXT(in_time), &cell), CELLPLAN_GOOD);
+  driven(&cell);
+  same("refused again", cellplan_cell_new(TEXT(two), NO_NAME, TEXT(late), &cell), CELLPLAN_REFUSED);
+  reported(&cell, CELLPLAN_FINISH, 0, 0, 6, CELLPLAN_GOOD, 0, 1, true);
+  same("begun anew", cellplan_cell_new(TEXT(two), NO_NAME, TEXT(in_time), &cell), CELLPLAN_GOOD);
+  reported(&cell, CELLPLAN_ARRIVE, 0, 0, 0, CELLPLAN_GOOD, 0, 1, false);
+  same("punctual then", cellplan_cell_punctual(&cell, &punctual), CELLPLAN_GOOD);
+  same("is punctual then", punctual, true);
+  cellplan_cell_free(&cell);
+  cellplan_cell_free(&cell);
+  without_a_cell(&cell);
+  named(CELLPLAN_JOB_OUT_OF_RANGE, "JobOutOfRange");
+  named(CELLPLAN_MACHINE_OUT_OF_RANGE, "MachineOutOfRange");
+  named(CELLPLAN_MOMENT_TOO_LARGE, "MomentTooLarge");
+  named(CELLPLAN_BACKWARDS, "Backwards");
+  named(CELLPLAN_NOT_EXPECTED, "NotExpected");
+  named(CELLPLAN_WRONG_KIND, "WrongKind");
+  named(CELLPLAN_WRONG_MACHINE, "WrongMachine");
+  uint8_t name[8];
+  size_t length = 7;
+  same("no reason", cellplan_reason(15, name, sizeof name, &length) + length, CELLPLAN_NONE);
+  return missed != 0;
+}
