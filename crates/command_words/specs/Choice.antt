@@ -9,7 +9,7 @@ use Rattle.clap.specs.declared.error.kind.ErrorKind.TheVariants.{DisplayHelp, Di
 use Rattle.command_words.specs.CommandLine.{command_line}
 use Rattle.command_words.specs.declared.words.Chosen.{Chosen}
 use Rattle.command_words.specs.declared.words.CommandName.{CommandName}
-use Rattle.command_words.specs.declared.words.CommandName.TheVariants.{Input, Facts, Shape, Check, Plan, Drive, Hub, Audit, Gantt}
+use Rattle.command_words.specs.declared.words.CommandName.TheVariants.{Input, Facts, Shape, Check, Explain, Plan, Improve, Drive, Resume, Hub, Audit, Gantt}
 use Rattle.command_words.specs.declared.words.WordsFault.{WordsFault}
 use Rattle.command_words.specs.declared.words.WordsFault.TheVariants.{Usage, Memory}
 
@@ -19,8 +19,11 @@ word_of Input = None
 word_of Facts = Some (codes "facts")
 word_of Shape = Some (codes "shape")
 word_of Check = Some (codes "check")
+word_of Explain = Some (codes "explain")
 word_of Plan = Some (codes "plan")
+word_of Improve = Some (codes "improve")
 word_of Drive = Some (codes "drive")
+word_of Resume = Some (codes "resume")
 word_of Hub = Some (codes "hub")
 word_of Audit = Some (codes "audit")
 word_of Gantt = Some (codes "gantt")
@@ -31,8 +34,11 @@ TakesFiles Input n = n ≡ 0
 TakesFiles Facts n = n ≡ 1
 TakesFiles Shape n = n ≡ 2
 TakesFiles Check n = n ≡ 2
+TakesFiles Explain n = n ≡ 2
 TakesFiles Plan n = n ≡ 2
+TakesFiles Improve n = n ≡ 2
 TakesFiles Drive n = n ≡ 2
+TakesFiles Resume n = n ≡ 3
 TakesFiles Hub n = 2 ≤ n
 TakesFiles Audit n = n ≡ 3
 TakesFiles Gantt n = n ≡ 3
@@ -67,22 +73,32 @@ files_in rows = values_of (codes "FILE") rows
 abbrev pub instance_in : List Row → Option Text
 instance_in rows = first_of (codes "instance") rows
 
+-- the number that is given with an option, and another where it is not said
+abbrev pub number_in : Text → ℕ → List Row → ℕ
+number_in name other rows = option_map_or (λ text. digits_value 10 (without_leading_plus text))
+    (one_of name rows) other
+
 -- the number of rounds, 20 where it is not said
 abbrev pub rounds_in : List Row → ℕ
-rounds_in rows = option_map_or (λ text. digits_value 10 (without_leading_plus text))
-    (one_of (codes "rounds") rows) 20
+rounds_in = number_in (codes "rounds") 20
 
--- the choice holds the command, the files, the instance's name and the rounds that were found
+-- the seed, 0 where it is not said
+abbrev pub seed_in : List Row → ℕ
+seed_in = number_in (codes "seed") 0
+
+-- the choice holds the command, the files, the instance's name, the rounds and the seed that were found
 pub record IsChoiceOf (found : Found) (chosen : Chosen) : Type 0 where
   pub name : word_of chosen.name ≡ word_found found
   pub files : map string_bytes chosen.files.items ≡ files_in (rows_found found)
   pub instance : option_map string_bytes chosen.instance ≡ instance_in (rows_found found)
   pub rounds : chosen.rounds ≡ rounds_in (rows_found found)
+  pub seed : chosen.seed ≡ seed_in (rows_found found)
 
--- the choice has as many files as its command takes, and at most 1000 rounds
+-- the choice has as many files as its command takes, at most 1000 rounds, and a seed of at most 1,000,000
 pub record IsWithin (chosen : Chosen) : Type 0 where
   pub files : TakesFiles chosen.name (length chosen.files.items)
   pub rounds : chosen.rounds ≤ 1000
+  pub seed : chosen.seed ≤ 1000000
 
 -- why `clap` refuses the words, or nothing where it takes them
 abbrev pub reasons_in : List Text → Kinds
@@ -110,15 +126,16 @@ TellsOneOf kinds Memory = Unit {0}
 TellsOneOf kinds (Usage help text) =
     (kind : ErrorKind) × IsAmong kind kinds × (help ≡ asks_for_help kind)
 
--- a text for the number of rounds: none, or a number from 0 to 1000, as it is read
-abbrev pub FitsRounds : Option Text → Type 0
-FitsRounds None = Unit {0}
-FitsRounds (Some text) =
-    (written : Text) × (text ≡ without_minus written) × IsSignedIn (pos 0) (pos 1000) written
+-- a text for a number: none, or a number from 0 to the most, as it is read
+abbrev pub FitsUpTo : ℕ → Option Text → Type 0
+FitsUpTo most None = Unit {0}
+FitsUpTo most (Some text) =
+    (written : Text) × (text ≡ without_minus written) × IsSignedIn (pos 0) (pos most) written
 
 -- what is found where `clap` takes the words: a command of the program with as many files as it
--- takes, or no command
+-- takes and numbers within their limits, or no command
 abbrev pub IsFit : Found → Type 0
 IsFit None = Unit {0}
 IsFit (Some p) = ((name : CommandName) × (word_of name ≡ Some p.0)
-    × TakesFiles name (length (files_in p.1))) × FitsRounds (one_of (codes "rounds") p.1)
+    × TakesFiles name (length (files_in p.1)))
+    × FitsUpTo 1000 (one_of (codes "rounds") p.1) × FitsUpTo 1000000 (one_of (codes "seed") p.1)

@@ -1,4 +1,4 @@
--- The command line of the program, as `clap` reads it: eight commands, with their options and files.
+-- The command line of the program, as `clap` reads it: eleven commands, with their options and files.
 use Rattle.std.specs.Prelude.{◌≡◌, List, [], ◌∷◌, Some, true, false, pos, codes, fold, map}
 use Rattle.clap.specs.Lexer.{usize_max}
 use Rattle.clap.specs.Words.{App, Rule, Shape, Text, app_of, new_rule}
@@ -6,7 +6,7 @@ use Rattle.clap.specs.Simple.{new_shape, with_subcommand}
 use Rattle.clap.specs.declared.builder.command.Command.{Command}
 use Rattle.clap.specs.declared.builder.command.Command.TheViews.{out-Command}
 use Rattle.command_words.specs.declared.words.CommandName.{CommandName}
-use Rattle.command_words.specs.declared.words.CommandName.TheVariants.{Input, Facts, Shape as ShapeName, Check, Plan, Drive, Hub, Audit, Gantt}
+use Rattle.command_words.specs.declared.words.CommandName.TheVariants.{Input, Facts, Shape as ShapeName, Check, Explain, Plan, Improve, Drive, Resume, Hub, Audit, Gantt}
 use Rattle.clap.specs.declared.builder.value_parser.ValueParser.TheVariants.{Signed}
 
 -- a file that has to be named, under the name that help gives it
@@ -28,6 +28,13 @@ abbrev pub rounds_rule : Rule
 rounds_rule = record (option_rule (codes "rounds")) {
   parser = Some (Signed (pos 0) (pos 1000));
   defaults = codes "20" ∷ [];
+}
+
+-- `--seed S`, a whole number from 0 to 1,000,000, and 0 where it is left out
+abbrev pub seed_rule : Rule
+seed_rule = record (option_rule (codes "seed")) {
+  parser = Some (Signed (pos 0) (pos 1000000));
+  defaults = codes "0" ∷ [];
 }
 
 -- a command with `--instance NAME` and the instance's file, and what it takes besides
@@ -54,8 +61,11 @@ described Input = bare_program
 described Facts = command (codes "facts") []
 described ShapeName = plan_command (codes "shape") []
 described Check = plan_command (codes "check") []
+described Explain = plan_command (codes "explain") []
 described Plan = plan_command (codes "plan") (rounds_rule ∷ [])
+described Improve = plan_command (codes "improve") (rounds_rule ∷ seed_rule ∷ [])
 described Drive = plan_command (codes "drive") []
+described Resume = log_command (codes "resume")
 described Hub = command (codes "hub") (plans_rule ∷ [])
 described Audit = log_command (codes "audit")
 described Gantt = log_command (codes "gantt")
@@ -71,7 +81,8 @@ program_with names = fold with_subcommand (leaf bare_program) (map described nam
 -- the whole command line, with the commands in the order in which help lists them
 abbrev pub command_line : App
 command_line = program_with
-    (Facts ∷ ShapeName ∷ Check ∷ Plan ∷ Drive ∷ Hub ∷ Audit ∷ Gantt ∷ [])
+    (Facts ∷ ShapeName ∷ Check ∷ Explain ∷ Plan ∷ Improve
+    ∷ Drive ∷ Resume ∷ Hub ∷ Audit ∷ Gantt ∷ [])
 
 -- the command that the code builds is the described one
 pub record Describes (a : App) (c : Command) : Type 0 where

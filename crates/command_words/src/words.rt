@@ -4,7 +4,7 @@ ghost use Rattle.std.specs.Prelude.{◌≡◌, ◌≤◌, ◌++◌, [], IfOk, If
 ghost use Rattle.std.specs.String.{string_bytes};
 ghost use Rattle.clap.specs.Words.{found_of, kind_of, rows_of, subcommand_rows_of, one_of};
 ghost use Rattle.command_words.specs.declared.words.CommandName.{CommandName};
-ghost use Rattle.command_words.specs.Choice.{FitsRounds, IsChoiceOf, IsFit, IsWithin, TellsOneOf, TellsReason, files_in, found_in, instance_in, reasons_in, rounds_in, values_of, word_of};
+ghost use Rattle.command_words.specs.Choice.{FitsUpTo, IsChoiceOf, IsFit, IsWithin, TellsOneOf, TellsReason, files_in, found_in, instance_in, reasons_in, rounds_in, seed_in, values_of, word_of};
 
 mod command_line;
 
@@ -24,10 +24,16 @@ pub enum CommandName {
     Shape,
     /// Whether a plan is accepted.
     Check,
+    /// Why a plan is accepted or refused.
+    Explain,
     /// The search of an accepted plan.
     Plan,
+    /// The search of a better plan.
+    Improve,
     /// One cell, driven by reports on the standard input.
     Drive,
+    /// One cell, driven on from the log of a run that was cut off.
+    Resume,
     /// Several cells, one for each plan.
     Hub,
     /// Whether a log is that of a run.
@@ -47,6 +53,8 @@ pub struct Chosen {
     pub instance: Option<String>,
     /// The rounds of a search, 20 where none are given.
     pub rounds: u32,
+    /// The seed of a search's random numbers, 0 where none is given.
+    pub seed: u32,
 }
 
 /// Why the words choose nothing.
@@ -139,6 +147,7 @@ fn chosen_by(alloc: Global, matches: &ArgMatches<'_>) -> Result<Chosen, AllocErr
             files: Vec::new(alloc),
             instance: None,
             rounds: 20,
+            seed: 0,
         }),
     }
 }
@@ -154,6 +163,7 @@ fn chosen_of(alloc: Global, word: &str, matches: &ArgMatches<'_>) -> Result<Chos
         files: files_of(alloc, matches)?,
         instance: instance_of(alloc, matches)?,
         rounds: rounds_of(matches),
+        seed: seed_of(matches),
     })
 }
 
@@ -166,8 +176,11 @@ fn name_of(word: &str) -> CommandName
         "facts" => CommandName::Facts,
         "shape" => CommandName::Shape,
         "check" => CommandName::Check,
+        "explain" => CommandName::Explain,
         "plan" => CommandName::Plan,
+        "improve" => CommandName::Improve,
         "drive" => CommandName::Drive,
+        "resume" => CommandName::Resume,
         "hub" => CommandName::Hub,
         "audit" => CommandName::Audit,
         _ => CommandName::Gantt,
@@ -216,9 +229,18 @@ fn instance_of(alloc: Global, matches: &ArgMatches<'_>) -> Result<Option<String>
 
 /// The number of rounds.
 fn rounds_of(matches: &ArgMatches<'_>) -> u32
-    requires { FitsRounds (one_of (codes "rounds") (rows_of (found_of matches.now))) }
+    requires { FitsUpTo 1000 (one_of (codes "rounds") (rows_of (found_of matches.now))) }
     ensures exact { result ≡ rounds_in (rows_of (found_of matches.now)) }
     ensures few { result ≤ 1000 }
 {
     matches.get_one::<u32>("rounds").unwrap_or(20)
+}
+
+/// The seed of a search's random numbers.
+fn seed_of(matches: &ArgMatches<'_>) -> u32
+    requires { FitsUpTo 1000000 (one_of (codes "seed") (rows_of (found_of matches.now))) }
+    ensures exact { result ≡ seed_in (rows_of (found_of matches.now)) }
+    ensures small { result ≤ 1000000 }
+{
+    matches.get_one::<u32>("seed").unwrap_or(0)
 }

@@ -16,10 +16,10 @@ use Rattle.clap.specs.declared.builder.action.ArgAction.TheVariants.{Set, Help}
 use Rattle.clap.specs.declared.builder.value_parser.ValueParser.{ValueParser}
 use Rattle.clap.specs.declared.builder.value_parser.ValueParser.TheVariants.{Signed}
 use Rattle.clap.proofs.ValueTestLemmas.{accepts-Accepts}
-use Rattle.command_words.specs.CommandLine.{command, command_line, log_command, plan_command, plans_rule, rounds_rule}
-use Rattle.command_words.specs.Choice.{FitsRounds, Found, IsFit, TakesFiles, TellsOneOf, TellsReason, files_in, found_in, reasons_in, values_of, word_of}
+use Rattle.command_words.specs.CommandLine.{command, command_line, log_command, plan_command, plans_rule, rounds_rule, seed_rule}
+use Rattle.command_words.specs.Choice.{FitsUpTo, Found, IsFit, TakesFiles, TellsOneOf, TellsReason, files_in, found_in, reasons_in, values_of, word_of}
 use Rattle.command_words.specs.declared.words.CommandName.{CommandName}
-use Rattle.command_words.specs.declared.words.CommandName.TheVariants.{Facts, Shape as ShapeName, Check, Plan, Drive, Hub, Audit, Gantt}
+use Rattle.command_words.specs.declared.words.CommandName.TheVariants.{Facts, Shape as ShapeName, Check, Explain, Plan, Improve, Drive, Resume, Hub, Audit, Gantt}
 use Rattle.command_words.specs.declared.words.WordsFault.{WordsFault}
 use Rattle.command_words.specs.declared.words.WordsFault.TheVariants.{Usage, Memory}
 use Rattle.command_words.proofs.words.Fits.{FitFound, PlainRule, PlainRules, both_none, found_fits, least_of}
@@ -70,24 +70,25 @@ shared several (Some a) (Some r) is fit =
     let low = fit.least in
     omega arith
 
--- ---- rounds
+-- ---- numbers
 
 accepted : (a : Bool) (p : ValueParser) → cond a [] (refused_kind p ∷ []) ≡ [] → a ≡ true
 accepted true p e = refl
 accepted false p e = cc
 
-abbrev CountsRounds : Option Rule → Type 0
-CountsRounds None = Unit {0}
-CountsRounds (Some a) = a.parser ≡ Some (Signed (pos 0) (pos 1000))
+-- where the command has the argument, its numbers go from 0 to the most
+abbrev GoesTo : ℕ → Option Rule → Type 0
+GoesTo most None = Unit {0}
+GoesTo most (Some a) = a.parser ≡ Some (Signed (pos 0) (pos most))
 
-fit_rounds : (o : Option Rule) (r : Option Row) → CountsRounds o → FitFound o r → FitsRounds (option_and_then row_text r)
-fit_rounds o None counts fit = tt
-fit_rounds None (Some r) counts fit = absurd fit
-fit_rounds (Some a) (Some r) counts fit =
+fit_number : (most : ℕ) (o : Option Rule) (r : Option Row) → GoesTo most o → FitFound o r → FitsUpTo most (option_and_then row_text r)
+fit_number most o None counts fit = tt
+fit_number most None (Some r) counts fit = absurd fit
+fit_number most (Some a) (Some r) counts fit =
     read r.values r.reading fit.passes (fit.reading ∙ ap (λ p. reading_of (parser_of_value p)) counts)
   where
-    read : (vs : List Text) (how : _) → values_fault a vs ≡ [] → how ≡ reading_of (Signed (pos 0) (pos 1000))
-        → FitsRounds (option_map (read_as how) (slice_get vs 0))
+    read : (vs : List Text) (how : _) → values_fault a vs ≡ [] → how ≡ reading_of (Signed (pos 0) (pos most))
+        → FitsUpTo most (option_map (read_as how) (slice_get vs 0))
     read [] how e is = tt
     read (v ∷ vs) how e is =
         let parts = both_none (value_kinds a.ignore_case (parser_of_value a.parser) v) (values_fault a vs) e in
@@ -101,9 +102,9 @@ FitsLeaf s = (words : List Text) → level_fault s [] nothing_held words false [
 
 fits_leaf : (s : Shape) (name : CommandName) (file plan log : Share) → word_of name ≡ Some s.name → s.args_override_self ≡ false → s.subcommand_negates_reqs ≡ false
     → PlainRules s.rules s.rules → SharedBy file (arg_by_id s.rules (codes "FILE")) → SharedBy plan (arg_by_id s.rules (codes "PLAN"))
-    → SharedBy log (arg_by_id s.rules (codes "LOG")) → CountsRounds (arg_by_id s.rules (codes "rounds"))
+    → SharedBy log (arg_by_id s.rules (codes "LOG")) → GoesTo 1000 (arg_by_id s.rules (codes "rounds")) → GoesTo 1000000 (arg_by_id s.rules (codes "seed"))
     → ((x y z : ℕ) → Shares file x → Shares plan y → Shares log z → TakesFiles name ((x + y) + z)) → FitsLeaf s
-fits_leaf s name file plan log is once needs plains by_file by_plan by_log by_rounds counts words e =
+fits_leaf s name file plan log is once needs plains by_file by_plan by_log by_rounds by_seed counts words e =
     let at = found_fits s once needs plains words e in
     let rows = rows_after s.rules [] words in
     let long : length (files_in rows) ≡ (length (values_of (codes "FILE") rows) + length (values_of (codes "PLAN") rows)) + length (values_of (codes "LOG") rows) =
@@ -115,7 +116,8 @@ fits_leaf s name file plan log is once needs plains by_file by_plan by_log by_ro
         subst (TakesFiles name) (sym long) (counts _ _ _ (shared file _ _ by_file (at (codes "FILE"))) (shared plan _ _ by_plan (at (codes "PLAN")))
             (shared log _ _ by_log (at (codes "LOG")))),
       ),
-      fit_rounds _ _ by_rounds (at (codes "rounds")),
+      fit_number 1000 _ _ by_rounds (at (codes "rounds")),
+      fit_number 1000000 _ _ by_seed (at (codes "seed")),
     )
 
 -- ---- each command of the program
@@ -133,13 +135,13 @@ help_plain c a own missing helps defaults = record { own = own; missing = missin
 facts_fits : FitsLeaf (as_built (command (codes "facts") []))
 facts_fits = fits_leaf (as_built (command (codes "facts") [])) Facts one none none refl refl refl
     (set_plain _ _ refl refl refl refl, (set_plain _ _ refl refl refl refl, (help_plain _ _ refl refl refl refl, tt)))
-    (_, refl, refl, refl, refl, refl) refl refl tt (λ x y z p q r. omega arith)
+    (_, refl, refl, refl, refl, refl) refl refl tt tt (λ x y z p q r. omega arith)
 
 plan_fits : (name : Text) (named : CommandName) → word_of named ≡ Some name → ((x y z : ℕ) → x ≡ 1 → y ≡ 1 → z ≡ 0 → TakesFiles named ((x + y) + z))
     → FitsLeaf (as_built (plan_command name []))
 plan_fits name named is counts = fits_leaf (as_built (plan_command name [])) named one one none is refl refl
     (set_plain _ _ refl refl refl refl, (set_plain _ _ refl refl refl refl, (set_plain _ _ refl refl refl refl, (help_plain _ _ refl refl refl refl, tt))))
-    (_, refl, refl, refl, refl, refl) (_, refl, refl, refl, refl, refl) refl tt counts
+    (_, refl, refl, refl, refl, refl) (_, refl, refl, refl, refl, refl) refl tt tt counts
 
 log_fits : (name : Text) (named : CommandName) → word_of named ≡ Some name → ((x y z : ℕ) → x ≡ 1 → y ≡ 1 → z ≡ 1 → TakesFiles named ((x + y) + z))
     → FitsLeaf (as_built (log_command name))
@@ -156,7 +158,7 @@ log_fits name named is counts = fits_leaf (as_built (log_command name)) named on
     ),
   ),
 )
-    (_, refl, refl, refl, refl, refl) (_, refl, refl, refl, refl, refl) (_, refl, refl, refl, refl, refl) tt counts
+    (_, refl, refl, refl, refl, refl) (_, refl, refl, refl, refl, refl) (_, refl, refl, refl, refl, refl) tt tt counts
 
 search_fits : FitsLeaf (as_built (plan_command (codes "plan") (rounds_rule ∷ [])))
 search_fits = fits_leaf (as_built (plan_command (codes "plan") (rounds_rule ∷ []))) Plan one one none refl refl refl (
@@ -169,7 +171,26 @@ search_fits = fits_leaf (as_built (plan_command (codes "plan") (rounds_rule ∷ 
     ),
   ),
 )
-    (_, refl, refl, refl, refl, refl) (_, refl, refl, refl, refl, refl) refl refl (λ x y z p q r. omega arith)
+    (_, refl, refl, refl, refl, refl) (_, refl, refl, refl, refl, refl) refl refl tt (λ x y z p q r. omega arith)
+
+improvement_fits : FitsLeaf (as_built (plan_command (codes "improve") (rounds_rule ∷ seed_rule ∷ [])))
+improvement_fits = fits_leaf (as_built (plan_command (codes "improve") (rounds_rule ∷ seed_rule ∷ []))) Improve one one none refl refl refl (
+  set_plain _ _ refl refl refl refl,
+  (
+    set_plain _ _ refl refl refl refl,
+    (
+      set_plain _ _ refl refl refl refl,
+      (
+        record { own = refl; missing = refl; action = inl refl; defaults = inr (omega arith, omega arith) },
+        (
+          record { own = refl; missing = refl; action = inl refl; defaults = inr (omega arith, omega arith) },
+          (help_plain _ _ refl refl refl refl, tt),
+        ),
+      ),
+    ),
+  ),
+)
+    (_, refl, refl, refl, refl, refl) (_, refl, refl, refl, refl, refl) refl refl refl (λ x y z p q r. omega arith)
 
 hub_fits : FitsLeaf (as_built (command (codes "hub") (plans_rule ∷ [])))
 hub_fits = fits_leaf (as_built (command (codes "hub") (plans_rule ∷ []))) Hub one several none refl refl refl (
@@ -179,7 +200,7 @@ hub_fits = fits_leaf (as_built (command (codes "hub") (plans_rule ∷ []))) Hub 
     (record { own = refl; missing = refl; action = inr (inl refl); defaults = inl refl }, (help_plain _ _ refl refl refl refl, tt)),
   ),
 )
-    (_, refl, refl, refl, refl, refl) (_, refl, refl, refl) refl tt (λ x y z p q r. omega arith)
+    (_, refl, refl, refl, refl, refl) (_, refl, refl, refl) refl tt tt (λ x y z p q r. omega arith)
 
 -- ---- the whole command line
 
@@ -218,14 +239,23 @@ leaves = (
     (
       plan_fits (codes "check") Check refl (λ x y z p q r. omega arith),
       (
-        search_fits,
+        plan_fits (codes "explain") Explain refl (λ x y z p q r. omega arith),
         (
-          plan_fits (codes "drive") Drive refl (λ x y z p q r. omega arith),
+          search_fits,
           (
-            hub_fits,
+            improvement_fits,
             (
-              log_fits (codes "audit") Audit refl (λ x y z p q r. omega arith),
-              (log_fits (codes "gantt") Gantt refl (λ x y z p q r. omega arith), tt),
+              plan_fits (codes "drive") Drive refl (λ x y z p q r. omega arith),
+              (
+                log_fits (codes "resume") Resume refl (λ x y z p q r. omega arith),
+                (
+                  hub_fits,
+                  (
+                    log_fits (codes "audit") Audit refl (λ x y z p q r. omega arith),
+                    (log_fits (codes "gantt") Gantt refl (λ x y z p q r. omega arith), tt),
+                  ),
+                ),
+              ),
             ),
           ),
         ),

@@ -2,7 +2,7 @@
 
 ghost use Rattle.std.specs.Prelude.{◌≡◌, IfOk, [], false};
 ghost use Rattle.clap.specs.Words.{rule_of};
-ghost use Rattle.command_words.specs.CommandLine.{Describes, bare_program, command, command_line, described, file_rule, leaf, log_command, option_rule, plan_command, plans_rule, program_with, rounds_rule};
+ghost use Rattle.command_words.specs.CommandLine.{Describes, bare_program, command, command_line, described, file_rule, leaf, log_command, option_rule, plan_command, plans_rule, program_with, rounds_rule, seed_rule};
 
 use crate::words::CommandName;
 use clap::builder::ValueParser;
@@ -41,14 +41,21 @@ fn rounds<'a>(alloc: Global) -> Arg<'a>
     ensures rule { rule_of result ≡ rounds_rule }
     ensures local { result.global ≡ false }
 {
-    option(
-        alloc,
-        "rounds",
-        "R",
-        "How often each planner is asked, 0 to 1000",
-    )
-    .value_parser(ValueParser::Signed(0, 1000))
-    .default_value("20")
+    let help = "The rounds of the search, 0 to 1000";
+    option(alloc, "rounds", "R", help)
+        .value_parser(ValueParser::Signed(0, 1000))
+        .default_value("20")
+}
+
+/// The seed of a search's random numbers.
+fn seed<'a>(alloc: Global) -> Arg<'a>
+    ensures rule { rule_of result ≡ seed_rule }
+    ensures local { result.global ≡ false }
+{
+    let help = "Other seeds search elsewhere, 0 to 1000000";
+    option(alloc, "seed", "S", help)
+        .value_parser(ValueParser::Signed(0, 1_000_000))
+        .default_value("0")
 }
 
 /// A command on an instance.
@@ -94,6 +101,15 @@ fn search<'a>(alloc: Global) -> Result<Command<'a>, AllocError>
     on_plan(alloc, "plan", about)?.arg(rounds(alloc))
 }
 
+/// The search of a better plan.
+fn improvement<'a>(alloc: Global) -> Result<Command<'a>, AllocError>
+    ensures { IfOk result (Describes (leaf (described CommandName.Improve))) }
+{
+    let about = "Looks for better orders than those of PLAN";
+    let search = on_plan(alloc, "improve", about)?.arg(rounds(alloc))?;
+    search.arg(seed(alloc))
+}
+
 /// The cells of several plans.
 fn hub<'a>(alloc: Global) -> Result<Command<'a>, AllocError>
     ensures { IfOk result (Describes (leaf (described CommandName.Hub))) }
@@ -131,11 +147,22 @@ fn command_of<'a>(alloc: Global, name: CommandName) -> Result<Command<'a>, Alloc
             "check",
             "Tells whether a plan never gets stuck and is in time",
         ),
+        CommandName::Explain => on_plan(
+            alloc,
+            "explain",
+            "Tells why a plan is accepted or refused",
+        ),
         CommandName::Plan => search(alloc),
+        CommandName::Improve => improvement(alloc),
         CommandName::Drive => on_plan(
             alloc,
             "drive",
             "Drives a cell by a plan: reports come in, move orders go out",
+        ),
+        CommandName::Resume => on_log(
+            alloc,
+            "resume",
+            "Drives a cell on, from the log of a run that was cut off",
         ),
         CommandName::Hub => hub(alloc),
         CommandName::Audit => on_log(
@@ -166,8 +193,11 @@ pub fn whole<'a>(alloc: Global) -> Result<Command<'a>, AllocError>
         CommandName::Facts,
         CommandName::Shape,
         CommandName::Check,
+        CommandName::Explain,
         CommandName::Plan,
+        CommandName::Improve,
         CommandName::Drive,
+        CommandName::Resume,
         CommandName::Hub,
         CommandName::Audit,
         CommandName::Gantt,
