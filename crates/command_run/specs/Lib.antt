@@ -2,6 +2,7 @@ pub mod Streams
 pub mod Inputs
 pub mod Planners
 pub mod Drives
+pub mod Resumes
 pub mod Hubs
 pub mod Ending
 pub mod Program

@@ -5,12 +5,13 @@ ghost use Rattle.std.specs.Option.{option_copied};
 ghost use Rattle.std.specs.String.{string_bytes};
 ghost use Rattle.command_words.specs.Choice.{IsWithin};
 ghost use Rattle.command_run.specs.Streams.{input_of, output_of};
-ghost use Rattle.command_run.specs.Program.{RunsCommand, RunsDrive, RunsHub, file_at, name_in, plans_in};
+ghost use Rattle.command_run.specs.Program.{RunsCommand, RunsDrive, RunsHub, RunsResume, file_at, name_in, plans_in};
 
 use crate::drives::drive_cell;
 use crate::hubs::drive_cells;
 use crate::input::input_answer;
 use crate::planners::seek_answer;
+use crate::resumes::resume_cell;
 use cell_drive::{Outlet, Source};
 use command_answers::{
     Answer, CommandFault, Texts, audit_answer, check_answer, facts_answer, gantt_answer,
@@ -68,6 +69,7 @@ pub(crate) fn command<T: Texts, R: Source, W: Outlet>(
             )
         }
         CommandName::Drive => drive(alloc, chosen, texts, input, output),
+        CommandName::Resume => resume(alloc, chosen, texts, input, output),
         CommandName::Hub => hub(alloc, chosen, texts, input, output),
         CommandName::Audit => {
             audit_answer(
@@ -107,6 +109,23 @@ fn drive<T: Texts, R: Source, W: Outlet>(
 {
     let loaded = load_files(alloc, texts, file(chosen, 0), name(chosen), file(chosen, 1));
     drive_cell(alloc, loaded, input, output)
+}
+
+/// Loads a plan, takes up its run from a log, and drives it on.
+fn resume<T: Texts, R: Source, W: Outlet>(
+    alloc: Global,
+    chosen: &Chosen,
+    texts: &mut T,
+    input: &mut R,
+    output: &mut W,
+) -> Result<Answer, CommandFault>
+    requires { 2 < length chosen.now.files.items }
+    ensures { RunsResume T.gives (file_at chosen.now 0) (name_in chosen.now) (file_at chosen.now 1) (file_at chosen.now 2) texts.old
+        (record { input = input_of R.left R.failed input.old; output = output_of W.taken W.failed W.pending output.old }) result texts.new
+        (record { input = input_of R.left R.failed input.new; output = output_of W.taken W.failed W.pending output.new }) }
+{
+    let loaded = load_files(alloc, texts, file(chosen, 0), name(chosen), file(chosen, 1));
+    resume_cell(alloc, texts, loaded, file(chosen, 2), input, output)
 }
 
 /// Loads several plans, and drives their cells.

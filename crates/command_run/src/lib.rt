@@ -10,6 +10,7 @@ mod input;
 pub mod laws;
 mod planners;
 mod program;
+mod resumes;
 
 pub use devices::Devices;
 pub use ending::tell;
