@@ -40,7 +40,7 @@ found_again p entries done last left text audit is_log so_far is_audit =
       complete = same_answer audit.complete done ended so_far.ended;
     }
 
-found_where : (p : PlannedShop) (entries : List Entry) (done : Bool) (last left : ℕ) (text : List ℕ) (outcome : Result Audit AuditFault)
+pub found_where : (p : PlannedShop) (entries : List Entry) (done : Bool) (last left : ℕ) (text : List ℕ) (outcome : Result Audit AuditFault)
     → IsLogOf p text (record { cell = cell_after p entries; entries = entries }) → IsSoFar p entries done last left
     → IfOk outcome (IsAudit p (lines_of text)) → IfErr outcome (λ fault. fault ≡ Memory)
     → MatchResult outcome (IsFoundAgain p entries done last left) (λ fault. fault ≡ Memory)

@@ -128,7 +128,7 @@ module _ (p : PlannedShop) (c : Cell) (number : ℕ) (shaped : IsWellShaped p) (
   stays _ _ _ _ (accepted line report movers late is_line step is_late) = (after_step-sound p c (said report) movers shaped sound step, step.rest)
 
 -- lines are answered by one text
-one_text : (p : PlannedShop) (lines : List (Option (List ℕ))) (before end last : DrivenCell) (number : ℕ) (text other : List ℕ) → IsWellShaped p → IsSound p before.cell → IsAtRest p before.cell
+pub one_text : (p : PlannedShop) (lines : List (Option (List ℕ))) (before end last : DrivenCell) (number : ℕ) (text other : List ℕ) → IsWellShaped p → IsSound p before.cell → IsAtRest p before.cell
     → AnswerAll (CellAnswers p) before number lines text end → AnswerAll (CellAnswers p) before number lines other last → (other ≡ text) × (last ≡ end)
 one_text p [] before end last number text other shaped sound rest all also = (also.0 ∙ sym all.0, also.1 ∙ sym all.1)
 one_text p (line ∷ lines) before end last number text other shaped sound rest all also =

@@ -44,13 +44,13 @@ use Rattle.cell_drive.proofs.WrittenWords.{IsWord, AreWords, decimal_word, line_
 
 module _ (p : PlannedShop) where
   -- put before a text, this one has it tell these entries first
-  abbrev TellsFirst : List ℕ → List Entry → Type 0
+  abbrev pub TellsFirst : List ℕ → List Entry → Type 0
   TellsFirst text own = (rest : List ℕ) (later : List Entry) → LinesTell p (lines_of rest) later → LinesTell p (lines_of (text ++ rest)) (own ++ later)
 
-  tells_none : TellsFirst [] []
+  pub tells_none : TellsFirst [] []
   tells_none rest later tells = tells
 
-  tells_both : (first second : List ℕ) (own more : List Entry) → TellsFirst first own → TellsFirst second more → TellsFirst (first ++ second) (own ++ more)
+  pub tells_both : (first second : List ℕ) (own more : List Entry) → TellsFirst first own → TellsFirst second more → TellsFirst (first ++ second) (own ++ more)
   tells_both first second own more one other rest later tells =
       subst (λ (text : List ℕ). LinesTell p (lines_of text) ((own ++ more) ++ later)) (sym (append_assoc first second rest))
       (subst (λ (told : List Entry). LinesTell p (lines_of (first ++ (second ++ rest))) told) (sym (append_assoc own more later))
@@ -63,7 +63,7 @@ module _ (p : PlannedShop) where
 
   -- ---- lines that are passed over
 
-  tells_late : (at : ℕ) → TellsFirst (late_line at) []
+  pub tells_late : (at : ℕ) → TellsFirst (late_line at) []
   tells_late at = tells_line (codes "late") (decimal at ∷ []) [] (refl, (decimal_word at, tt)) (passed_over-begun (codes "late") (decimal at ∷ []) true (omega arith) refl)
 
   tells_refused : (number : ℕ) (name : List ℕ) → IsWord name → TellsFirst (refused_line number name) []
@@ -88,7 +88,7 @@ module _ (p : PlannedShop) where
   late_told c r text (inl (on_time, none)) = subst (λ (t : List ℕ). TellsFirst t []) (sym none) tells_none
   late_told c r text (inr (is_late, line)) = subst (λ (t : List ℕ). TellsFirst t []) (sym line) (tells_late r.at)
 
-  closing_told : (end : DrivenCell) (text : List ℕ) → CellCloses p end text → TellsFirst text []
+  pub closing_told : (end : DrivenCell) (text : List ℕ) → CellCloses p end text → TellsFirst text []
   closing_told end text (inl (ended, line)) = subst (λ (t : List ℕ). TellsFirst t []) (sym line) (tells_done end.cell.last)
   closing_told end text (inr (unfinished, line)) = subst (λ (t : List ℕ). TellsFirst t []) (sym line) (tells_unfinished _)
 
@@ -112,7 +112,7 @@ module _ (p : PlannedShop) where
     spot_shown Out = refl
     spot_shown (At m) = decimal_word m
 
-    tells_report : (report : Report) → IsEntryOf p (ReportEntry report) → TellsFirst (report_line report) (ReportEntry report ∷ [])
+    pub tells_report : (report : Report) → IsEntryOf p (ReportEntry report) → TellsFirst (report_line report) (ReportEntry report ∷ [])
     tells_report (Arrive job at) of_shop =
         let ends = codes "arrive" ∷ decimal job ∷ [] in
         let are : AreWords (codes "report" ∷ decimal at ∷ ends) = (refl, (decimal_word at, (refl, (decimal_word job, tt)))) in
@@ -142,7 +142,7 @@ module _ (p : PlannedShop) where
           of_shop,
         )
 
-    tells_order : (o : MoveOrder) → IsEntryOf p (OrderEntry o) → TellsFirst (order_line o) (OrderEntry o ∷ [])
+    pub tells_order : (o : MoveOrder) → IsEntryOf p (OrderEntry o) → TellsFirst (order_line o) (OrderEntry o ∷ [])
     tells_order o of_shop =
         let spots = spot_word o.source ∷ spot_word o.target ∷ [] in
         let words = decimal o.at ∷ decimal o.job ∷ spots in
@@ -201,14 +201,14 @@ module _ (p : PlannedShop) where
         )
 
     -- the answers to lines tell what came between the cells before and behind them
-    record AreTold (before : DrivenCell) (text : List ℕ) (end : DrivenCell) : Type 0 where
-      more : List Entry
-      tells : TellsFirst text more
-      entries : end.entries ≡ before.entries ++ more
-      events : AreEvents p before.cell (events_of more)
-      cell : end.cell ≡ after_all p before.cell (events_of more)
+    pub record AreTold (before : DrivenCell) (text : List ℕ) (end : DrivenCell) : Type 0 where
+      pub more : List Entry
+      pub tells : TellsFirst text more
+      pub entries : end.entries ≡ before.entries ++ more
+      pub events : AreEvents p before.cell (events_of more)
+      pub cell : end.cell ≡ after_all p before.cell (events_of more)
 
-    answers_told : (lines : List (Option (List ℕ))) (before end : DrivenCell) (number : ℕ) (text : List ℕ) → IsSound p before.cell → IsAtRest p before.cell
+    pub answers_told : (lines : List (Option (List ℕ))) (before end : DrivenCell) (number : ℕ) (text : List ℕ) → IsSound p before.cell → IsAtRest p before.cell
         → AnswerAll (CellAnswers p) before number lines text end → AreTold before text end
     answers_told [] before end number text sound rest all = record {
       more = [];

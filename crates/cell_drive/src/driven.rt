@@ -22,7 +22,7 @@ use std::marker::Model;
 
 /// The controller of a cell, and its log.
 #[derive(Drop)]
-pub(crate) struct Driven<D: Dues> {
+pub struct Driven<D: Dues> {
     pub controller: Controller<D>,
     pub log: RunLog,
 }
@@ -47,7 +47,7 @@ fn note(log: &mut RunLog, report: Report, orders: &[MoveOrder])
 }
 
 /// Takes a report. Where it is accepted, it is noted with the moves that it releases.
-fn take_report<D: Dues>(
+pub fn take_report<D: Dues>(
     controller: &mut Controller<D>,
     log: &mut RunLog,
     report: Report,

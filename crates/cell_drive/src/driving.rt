@@ -33,7 +33,7 @@ pub struct DriveEnd {
 }
 
 /// The cell of an accepted plan before the first report, and an empty log.
-fn start(alloc: Global, verified: Verified) -> Result<Driven<TourneyDues>, AllocError>
+pub fn start_driven(alloc: Global, verified: Verified) -> Result<Driven<TourneyDues>, AllocError>
     ensures { IfOk result (λ driven. driven ≡ drive_start verified) }
 {
     let log = RunLog::for_run(alloc, &verified)?;
@@ -44,7 +44,7 @@ fn start(alloc: Global, verified: Verified) -> Result<Driven<TourneyDues>, Alloc
 }
 
 /// What the run has come to.
-fn end_of(driven: Driven<TourneyDues>) -> DriveEnd
+pub fn end_driven(driven: Driven<TourneyDues>) -> DriveEnd
     ensures log { result.log ≡ driven.log }
     ensures plan { result.verified ≡ driven.control.plan }
     ensures driven { IsDriven driven }
@@ -86,9 +86,9 @@ pub fn drive<R: Source, W: Outlet>(
     ensures untouched { result ≡ Err DriveFault.Memory → (reader.new ≡ reader.old) × (writer.new ≡ writer.old) }
 {
     let mut room = reading_room(alloc)?;
-    let mut driven = start(alloc, verified)?;
+    let mut driven = start_driven(alloc, verified)?;
     match stream(&mut driven, reader, &mut room, writer) {
-        Ok(()) => Ok(end_of(driven)),
+        Ok(()) => Ok(end_driven(driven)),
         Err(fault) => Err(fault),
     }
 }

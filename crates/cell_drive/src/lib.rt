@@ -24,8 +24,10 @@ mod started_cells;
 mod streaming;
 
 pub use answer_lines::{done_line, late_line, refused_line, unfinished_line};
+pub use cell_answers::put_accepted;
 pub use drive_fault::DriveFault;
-pub use driving::{DriveEnd, drive};
+pub use driven::{Driven, take_report};
+pub use driving::{DriveEnd, drive, end_driven, start_driven};
 pub use driving_cells::{HubEnd, drive_hub};
 pub use from_read::FromRead;
 pub use gathered::Gathered;

@@ -18,7 +18,7 @@ pub trait Texts {
 }
 
 /// Asks for the file of this path.
-pub(crate) fn ask<T: Texts>(
+pub fn ask<T: Texts>(
     alloc: Global,
     texts: &mut T,
     path: &str,

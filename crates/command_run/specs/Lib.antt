@@ -3,6 +3,7 @@ pub mod Inputs
 pub mod Planners
 pub mod Improvers
 pub mod Drives
+pub mod Resumes
 pub mod Hubs
 pub mod Ending
 pub mod Program

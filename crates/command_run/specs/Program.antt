@@ -3,7 +3,7 @@ use Rattle.std.specs.Prelude.{◌≡◌, ℕ, List, [], Option, true, false, Res
 use Rattle.std.specs.String.{string_bytes}
 use Rattle.command_words.specs.declared.words.Chosen.{Chosen}
 use Rattle.command_words.specs.declared.words.CommandName.{CommandName}
-use Rattle.command_words.specs.declared.words.CommandName.TheVariants.{Input as NoWords, Facts, Shape, Check, Explain, Plan, Improve, Drive, Hub, Audit, Gantt}
+use Rattle.command_words.specs.declared.words.CommandName.TheVariants.{Input as NoWords, Facts, Shape, Check, Explain, Plan, Improve, Drive, Resume, Hub, Audit, Gantt}
 use Rattle.command_words.specs.declared.words.WordsFault.{WordsFault}
 use Rattle.command_words.specs.declared.words.WordsFault.TheVariants.{Usage, Memory}
 use Rattle.command_words.specs.Choice.{IsChoiceOf, IsWithin, TellsOneOf, reasons_in, found_in}
@@ -21,6 +21,7 @@ use Rattle.command_run.specs.Inputs.{RunsInput}
 use Rattle.command_run.specs.Planners.{SeeksPlan}
 use Rattle.command_run.specs.Improvers.{ImprovesPlan}
 use Rattle.command_run.specs.Drives.{Drives}
+use Rattle.command_run.specs.Resumes.{Resumes}
 use Rattle.command_run.specs.Hubs.{DrivesAll}
 use Rattle.command_run.specs.Ending.{Ends, IsMemoryLine, IsAnswerEnd, WasTold}
 
@@ -50,6 +51,13 @@ module _ {W : Type 0} (gives : W → List ℕ → Result (List ℕ) FileFault �
     pub loads : Loads gives path name plan texts loaded texts_after
     pub drives : Drives loaded before after outcome
 
+  -- the plan is loaded, then its log taken up, and then the input is read
+  pub record RunsResume (path : List ℕ) (name : Option (List ℕ)) (plan log : List ℕ) (texts : W) (before : Streams) (outcome : Result Answer CommandFault) (texts_after : W) (after : Streams) : Type 0 where
+    pub loaded : Result Loaded CommandFault
+    pub texts_mid : W
+    pub loads : Loads gives path name plan texts loaded texts_mid
+    pub resumes : Resumes gives log loaded texts_mid before outcome texts_after after
+
   -- all plans are loaded, and then the input is read
   pub record RunsHub (path : List ℕ) (name : Option (List ℕ)) (plans : List (List ℕ)) (texts : W) (before : Streams) (outcome : Result Answer CommandFault) (texts_after : W) (after : Streams) : Type 0 where
     pub loaded : Result Cells CommandFault
@@ -74,6 +82,8 @@ module _ {W : Type 0} (gives : W → List ℕ → Result (List ℕ) FileFault �
       ImprovesPlan gives chosen.rounds (file_at chosen 0) (name_in chosen) (file_at chosen 1) texts outcome texts_after × (after ≡ before)
   RunsCommand Drive chosen texts before outcome texts_after after =
       RunsDrive (file_at chosen 0) (name_in chosen) (file_at chosen 1) texts before outcome texts_after after
+  RunsCommand Resume chosen texts before outcome texts_after after =
+      RunsResume (file_at chosen 0) (name_in chosen) (file_at chosen 1) (file_at chosen 2) texts before outcome texts_after after
   RunsCommand Hub chosen texts before outcome texts_after after =
       RunsHub (file_at chosen 0) (name_in chosen) (plans_in chosen) texts before outcome texts_after after
   RunsCommand Audit chosen texts before outcome texts_after after =

@@ -5,13 +5,14 @@ ghost use Rattle.std.specs.Option.{option_copied};
 ghost use Rattle.std.specs.String.{string_bytes};
 ghost use Rattle.command_words.specs.Choice.{IsWithin};
 ghost use Rattle.command_run.specs.Streams.{streams_of};
-ghost use Rattle.command_run.specs.Program.{RunsCommand, RunsDrive, RunsHub, file_at, name_in, plans_in};
+ghost use Rattle.command_run.specs.Program.{RunsCommand, RunsDrive, RunsHub, RunsResume, file_at, name_in, plans_in};
 
 use crate::drives::drive_cell;
 use crate::hubs::drive_cells;
 use crate::improvers::better_answer;
 use crate::input::input_answer;
 use crate::planners::seek_answer;
+use crate::resumes::resume_cell;
 use crate::screen::Screen;
 use cell_drive::{Outlet, Source};
 use command_answers::{
@@ -79,6 +80,7 @@ pub(crate) fn command<T: Texts, R: Source, W: Outlet, S: Screen>(
             better_answer(alloc, texts, path, name, plan, rounds, seed, screen)
         }
         CommandName::Drive => drive(alloc, chosen, texts, input, output),
+        CommandName::Resume => resume(alloc, chosen, texts, input, output),
         CommandName::Hub => hub(alloc, chosen, texts, input, output),
         CommandName::Audit => {
             audit_answer(
@@ -118,6 +120,23 @@ fn drive<T: Texts, R: Source, W: Outlet>(
 {
     let loaded = load_files(alloc, texts, file(chosen, 0), name(chosen), file(chosen, 1));
     drive_cell(alloc, loaded, input, output)
+}
+
+/// Loads a plan, takes up its run from a log, and drives it on.
+fn resume<T: Texts, R: Source, W: Outlet>(
+    alloc: Global,
+    chosen: &Chosen,
+    texts: &mut T,
+    input: &mut R,
+    output: &mut W,
+) -> Result<Answer, CommandFault>
+    requires { 2 < length chosen.now.files.items }
+    ensures { RunsResume T.gives (file_at chosen.now 0) (name_in chosen.now) (file_at chosen.now 1) (file_at chosen.now 2) texts.old
+        (streams_of R.left R.failed W.taken W.failed W.pending input.old output.old) result texts.new
+        (streams_of R.left R.failed W.taken W.failed W.pending input.new output.new) }
+{
+    let loaded = load_files(alloc, texts, file(chosen, 0), name(chosen), file(chosen, 1));
+    resume_cell(alloc, texts, loaded, file(chosen, 2), input, output)
 }
 
 /// Loads several plans, and drives their cells.

@@ -50,7 +50,7 @@ pub(crate) fn drive_cell<R: Source, W: Outlet>(
 }
 
 /// The line of a plan that isn't accepted.
-fn line_told(alloc: Global, loaded: &Loaded) -> Result<Answer, CommandFault>
+pub(crate) fn line_told(alloc: Global, loaded: &Loaded) -> Result<Answer, CommandFault>
     ensures { IsLineTold loaded.now result }
 {
     Ok(loaded_answer(alloc, loaded)?)
@@ -85,7 +85,7 @@ fn driven<R: Source, W: Outlet>(
 }
 
 /// What is answered at the end of a run, whose lines are written already.
-fn end_answer(alloc: Global, end: Result<DriveEnd, DriveFault>) -> Result<Answer, CommandFault>
+pub(crate) fn end_answer(alloc: Global, end: Result<DriveEnd, DriveFault>) -> Result<Answer, CommandFault>
     ensures { IsEndAnswer end result }
 {
     match end {

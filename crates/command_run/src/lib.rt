@@ -12,6 +12,7 @@ pub mod laws;
 mod planners;
 mod program;
 mod progress;
+mod resumes;
 mod screen;
 
 pub use devices::Devices;

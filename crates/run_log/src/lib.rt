@@ -25,6 +25,7 @@ pub use event_lines::{put_order, put_report, write_lines};
 pub use into_sink::IntoSink;
 pub use line_text::LineText;
 pub use log_fault::LogFault;
+pub use log_lines::{is_passed_over, told_entry};
 pub use run_log::RunLog;
 pub use sink::{Sink, WriteFault};
 pub use writing::put_all;

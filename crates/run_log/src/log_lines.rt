@@ -12,7 +12,7 @@ use shop_base::{JobNo, Moment, MoveOrder, Shaped, Spot};
 use text_lines::{after_prefix, cut_word, number_before_space, short_number_of};
 
 /// Whether the line is passed over.
-pub(crate) fn is_passed_over(line: &[u8]) -> bool
+pub fn is_passed_over(line: &[u8]) -> bool
     ensures { result ≡ is_passed_over line.now }
 {
     line.is_empty()
@@ -190,7 +190,7 @@ fn is_entry_of(shaped: &Shaped, entry: Entry) -> bool
 }
 
 /// The entry of the shop that the line tells; no such line is passed over.
-pub(crate) fn told_entry(shaped: &Shaped, line: &[u8]) -> Option<Entry>
+pub fn told_entry(shaped: &Shaped, line: &[u8]) -> Option<Entry>
     ensures { MatchOption result ((entry : Entry) → IsEntryLine line.now entry → IsEntryOf shaped.now entry → ⊥)
         (λ entry. LineTells shaped.now line.now (entry ∷ [])) }
 {

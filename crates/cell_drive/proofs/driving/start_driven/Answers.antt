@@ -1,7 +1,7 @@
 use Rattle.std.proofs.Common.{subst}
 use Rattle.plan_verifier.specs.Accepted.{IsVerified}
 use Rattle.cell_drive.proofs.DrivenRuns.{starts_driven}
-use Rattle.cell_drive.proofs.driving.start.Goals as goal
+use Rattle.cell_drive.proofs.driving.start_driven.Goals as goal
 
 pub invariant_of-result : goal.invariant_of-result
 invariant_of-result c =

@@ -1,6 +1,6 @@
 use Rattle.std.proofs.Common.{sym}
 use Rattle.cell_drive.proofs.DrivenEnds.{so_far}
-use Rattle.cell_drive.proofs.driving.end_of.Goals as goal
+use Rattle.cell_drive.proofs.driving.end_driven.Goals as goal
 
 pub returns-clause-so_far : goal.returns-clause-so_far
 returns-clause-so_far c =

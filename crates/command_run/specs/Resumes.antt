@@ -1,0 +1,83 @@
+-- What taking up the run of an accepted plan comes to.
+use Rattle.std.specs.Prelude.{◌≡◌, List, [], ℕ, ◌++◌, codes, decimal, length, take, Option, Some, None, Result, Ok, Err, IfOk, IfErr, OnOk}
+use Rattle.shop_base.specs.Cell.{start}
+use Rattle.plan_verifier.specs.Accepted.{VerifiedPlan}
+use Rattle.plan_verifier.specs.declared.verdict.Verdict.TheVariants.{Accepted, Refused}
+use Rattle.cell_drive.specs.declared.driving.DriveEnd.{DriveEnd}
+use Rattle.cell_drive.specs.declared.drive_fault.DriveFault.{DriveFault}
+use Rattle.cell_drive.specs.Driving.{IsRunOf, IsSoFar, NeverWentWrong}
+use Rattle.run_resume.specs.declared.resume_fault.ResumeFault.{ResumeFault}
+use Rattle.run_resume.specs.declared.resume_fault.ResumeFault.TheVariants.{Memory as WantOfMemory}
+use Rattle.run_resume.specs.ResumeNames.{fault_name}
+use Rattle.run_resume.specs.CutLogs.{ended_lines, IsTakenUp, IsResumeFault, IsOnlyFault, fault_line}
+use Rattle.run_resume.specs.LateEvents.{AreLate}
+use Rattle.run_resume.specs.Replays.{TakenUp}
+use Rattle.run_resume.specs.Resuming.{IsResumedThrough, IsBrokenOff}
+use Rattle.command_answers.specs.declared.reading.FileFault.{FileFault}
+use Rattle.command_answers.specs.declared.answer.Answer.{Answer}
+use Rattle.command_answers.specs.declared.command_fault.CommandFault.{CommandFault}
+use Rattle.command_answers.specs.declared.command_fault.CommandFault.TheVariants.{Memory}
+use Rattle.command_answers.specs.declared.loading.Loaded.{Loaded}
+use Rattle.command_answers.specs.declared.loading.Loaded.TheVariants.{NotShaped, Judged}
+use Rattle.command_answers.specs.Texts.{Asks}
+use Rattle.command_run.specs.Streams.{Streams}
+use Rattle.command_run.specs.Drives.{IsEndAnswer, IsLineTold}
+
+-- the text is a log of the plan that is taken up, with all that is told of it; or this is its only fault, unless memory ran out
+pub record IsTaking (v : VerifiedPlan) (text : List ℕ) (taken : Result TakenUp ResumeFault) : Type 0 where
+  pub is : IfOk taken (λ t. IsTakenUp v.planned (ended_lines text) t.driven.log.entries (length t.late))
+  pub plan : IfOk taken (λ t. t.driven.control.plan ≡ v)
+  pub late : IfOk taken (λ t. AreLate v.planned (start v.planned) (take (length t.late) t.driven.log.entries) t.late)
+  pub fault : IfErr taken (IsResumeFault v.planned (ended_lines text))
+  pub only : IfErr taken (IsOnlyFault v.planned (ended_lines text))
+
+-- what was taken up was driven on to this end, and all that was answered is shown; or it was broken off by this fault
+pub record IsResume (t : TakenUp) (before after : Streams) (end : Result DriveEnd DriveFault) : Type 0 where
+  pub through : IfOk end (λ e. IsResumedThrough t.driven.control.plan.planned t.driven.log.entries t.late e.log.entries
+      before.input.left after.input.left before.output.taken after.output.taken after.output.pending)
+  pub run : IfOk end (λ e. IsRunOf t.driven.control.plan.planned e.log.entries)
+  pub so_far : IfOk end (λ e. IsSoFar t.driven.control.plan.planned e.log.entries e.done e.last e.left)
+  pub promised : IfOk end (λ e. NeverWentWrong t.driven.control.plan e.log.entries)
+  pub unfailed : OnOk end ((after.input.failed ≡ before.input.failed) × (after.output.failed ≡ before.output.failed))
+  pub broken_off : IfErr end (λ fault. IsBrokenOff fault t.driven.control.plan.planned t.driven.log.entries t.late
+      before.input.failed after.input.failed before.input.left after.input.left
+      before.output.failed after.output.failed before.output.taken after.output.taken after.output.pending)
+
+-- the fault of a command that a fault of taking up is, if it is want of memory
+abbrev pub resume_command_fault : ResumeFault → Option CommandFault
+resume_command_fault WantOfMemory = Some Memory
+resume_command_fault fault = None
+
+-- the line of a fault
+pub record IsFaultLine (fault : ResumeFault) (answer : Answer) : Type 0 where
+  pub line : answer.text.items ≡ codes "log refused " ++ decimal (fault_line fault) ++ codes " " ++ fault_name fault ++ codes "\n"
+  pub refused : answer.status ≡ 1
+
+-- want of memory is a fault of the command, and any other fault is answered by its line, unless memory runs out
+abbrev pub IsFaultTold : ResumeFault → Result Answer CommandFault → Type 0
+IsFaultTold WantOfMemory outcome = outcome ≡ Err Memory
+IsFaultTold fault outcome = IfOk outcome (IsFaultLine fault) × IfErr outcome (λ other. other ≡ Memory)
+
+-- what was taken up was driven on, and the status says whether its run has ended; of a log that isn't taken up the fault is told, with no byte read or written
+abbrev pub ResumesTaken : Result TakenUp ResumeFault → Streams → Streams → Result Answer CommandFault → Type 0
+ResumesTaken (Ok t) before after outcome = (end : Result DriveEnd DriveFault) × IsResume t before after end × IsEndAnswer end outcome
+ResumesTaken (Err fault) before after outcome = IsFaultTold fault outcome × (after ≡ before)
+
+-- the text of the log that came is taken up, and then driven on
+abbrev pub ResumesText : VerifiedPlan → Result (List ℕ) CommandFault → Streams → Streams → Result Answer CommandFault → Type 0
+ResumesText v (Ok text) before after outcome = (taken : Result TakenUp ResumeFault) × IsTaking v text taken × ResumesTaken taken before after outcome
+ResumesText v (Err fault) before after outcome = (outcome ≡ Err fault) × (after ≡ before)
+
+module _ {W : Type 0} (gives : W → List ℕ → Result (List ℕ) FileFault → W → Type 0) (log : List ℕ) where
+  -- the log is asked for, once the plan is accepted
+  pub record ResumesLog (v : VerifiedPlan) (texts : W) (before : Streams) (outcome : Result Answer CommandFault) (texts_after : W) (after : Streams) : Type 0 where
+    pub text : Result (List ℕ) CommandFault
+    pub asks : Asks gives log texts text texts_after
+    pub resumes : ResumesText v text before after outcome
+
+  -- what follows what is to be said of the plan: an accepted one has its log asked for; any other is answered by its line, with no file asked for and no byte read or written
+  abbrev pub Resumes : Result Loaded CommandFault → W → Streams → Result Answer CommandFault → W → Streams → Type 0
+  Resumes (Err fault) texts before outcome texts_after after = (outcome ≡ Err fault) × (after ≡ before) × (texts_after ≡ texts)
+  Resumes (Ok (NotShaped fault)) texts before outcome texts_after after = IsLineTold (NotShaped fault) outcome × (after ≡ before) × (texts_after ≡ texts)
+  Resumes (Ok (Judged (Refused back why))) texts before outcome texts_after after = IsLineTold (Judged (Refused back why)) outcome × (after ≡ before) × (texts_after ≡ texts)
+  Resumes (Ok (Judged (Accepted v))) texts before outcome texts_after after = ResumesLog v texts before outcome texts_after after

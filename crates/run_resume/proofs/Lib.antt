@@ -1,0 +1,12 @@
+pub mod Parts
+pub mod CutRuns
+pub mod OwnRuns
+pub mod EndedLines
+pub mod LateOnes
+pub mod Replayed
+pub mod FirstFaults
+pub mod OneFault
+pub mod ToldAgain
+pub mod CutLogs
+pub mod ResumedTexts
+pub mod SentAgain

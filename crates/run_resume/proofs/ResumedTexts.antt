@@ -1,0 +1,219 @@
+-- What a run that was taken up goes on to write is a log.
+use Rattle.std.proofs.Common.{◌≡◌, ℕ, ◌+◌, ◌≤◌, List, [], ◌∷◌, ◌++◌, take, drop, map, Option, Some, Result, Ok, Err, Bool, true, false, cond, length, length-take-le, IfOk, IfErr, ◌⊎◌, inl, inr, refl, sym, ap, ◌∙◌, subst, arith, append_assoc, append-nil}
+use Rattle.std.specs.Io.KnownBytes.{Appends, Consumes}
+use Rattle.std.proofs.KnownBytes.{Appends-trans}
+use Rattle.std.proofs.lemmas.List.{append_cancel_left, take-append-drop}
+use Rattle.shop_base.specs.declared.move_order.MoveOrder.{MoveOrder}
+use Rattle.shop_base.specs.Plan.{PlannedShop, IsWellShaped}
+use Rattle.shop_base.specs.Cell.{Cell, start}
+use Rattle.shop_base.specs.Report as base
+use Rattle.shop_base.specs.Move.{order_for}
+use Rattle.shop_base.specs.Run.{Event, Reported, Moved, AreEvents, after, after_all, IsRun}
+use Rattle.shop_base.specs.Controlled.{Leads, done, accepted, refused, moved, step_orders, after_step}
+use Rattle.shop_base.specs.Sound.{IsSound}
+use Rattle.shop_base.proofs.Keeping.{start-sound, after_report-sound, after_move-sound}
+use Rattle.shop_base.proofs.ControlledRuns.{controlled_to_run, events_join, after_all_join}
+use Rattle.text_lines.specs.Lines.{lines_of}
+use Rattle.plan_verifier.specs.Accepted.{VerifiedPlan}
+use Rattle.cell_tables.specs.Reports.{said}
+use Rattle.cell_tables.specs.declared.entry.Entry.{Entry}
+use Rattle.cell_tables.specs.declared.entry.Entry.TheVariants.{Report as ReportEntry, Order as OrderEntry}
+use Rattle.cell_tables.specs.Events.{events_of}
+use Rattle.run_log.specs.EventLines.{entry_line, entry_lines}
+use Rattle.cell_drive.specs.AnswerLines.{late_line}
+use Rattle.run_resume.specs.ToldLines.{told_line, told_lines}
+use Rattle.run_log.specs.LogLines.{IsEntryOf, LinesTell}
+use Rattle.run_log.proofs.Audits.{events-join}
+use Rattle.cell_drive.specs.Lines.{input_lines}
+use Rattle.cell_drive.specs.Answering.{AnswerAll, AreAnswered}
+use Rattle.cell_drive.specs.Streams.{IsStreamed, ComesTo}
+use Rattle.cell_drive.specs.declared.drive_fault.DriveFault.{DriveFault}
+use Rattle.cell_drive.specs.declared.drive_fault.DriveFault.TheVariants.{Read, Write, InputTooLong, Memory}
+use Rattle.cell_drive.specs.AnswerText.{DrivenCell, CellAnswers, CellCloses}
+use Rattle.cell_drive.specs.Driven.{DriveState, IsDriven, DriveAnswer, ControlCloses}
+use Rattle.cell_drive.specs.Driving.{cell_after, IsRunOf}
+use Rattle.cell_drive.specs.AuditLaw.{IsLogOf}
+use Rattle.cell_drive.proofs.AuditKeeps.{found_where}
+use Rattle.cell_drive.proofs.DrivenEnds.{seen, seen_answers, seen_closes, seen_cut, the_closing, cell_is}
+use Rattle.cell_drive.proofs.OneText.{one_text, one_closing}
+use Rattle.cell_drive.proofs.ReadBack.{answers_told, AreTold, TellsFirst, tells_none, tells_both, tells_report, tells_order, tells_late}
+use Rattle.cell_drive.proofs.ShopEntries.{report_of_shop, order_of_shop}
+use Rattle.run_resume.specs.Resuming.{again_text, driven_so_far, IsResumedText, IsResumedThrough, IsBrokenOff, AResumedTextIsALog, OneResumedText, AnAuditKeepsWhatWasResumed}
+use Rattle.run_resume.specs.CutLaw.{WhatWasResumedIsTakenUp}
+use Rattle.run_resume.proofs.CutLogs.{run_of_leads, answers_lead, closing_part, a_cut_log_is_taken_up}
+
+-- ---- the lines of a run
+
+empty_line : (p : PlannedShop) → TellsFirst p (10 ∷ []) []
+empty_line p rest later tells = ([], later, refl, tells, refl)
+
+module _ (p : PlannedShop) (shaped : IsWellShaped p) where
+  run_tells : (c : Cell) (entries : List Entry) → IsSound p c → AreEvents p c (events_of entries) → TellsFirst p (entry_lines entries) entries
+  run_tells c [] sound events = tells_none p
+  run_tells c (ReportEntry r ∷ entries) sound events =
+      tells_both p (entry_line (ReportEntry r)) (entry_lines entries) (ReportEntry r ∷ []) entries (tells_report p shaped r (report_of_shop p c r shaped sound events.0))
+      (run_tells (after p c (Reported (said r))) entries (after_report-sound p c (said r) shaped sound events.0) events.1)
+  run_tells c (OrderEntry o ∷ entries) sound events =
+      let is_of : IsEntryOf p (OrderEntry o) = subst (λ (q : MoveOrder). IsEntryOf p (OrderEntry q)) (sym events.0.0.is_move) (order_of_shop p c o.job o.at shaped sound events.0.0.can) in
+      tells_both p (entry_line (OrderEntry o)) (entry_lines entries) (OrderEntry o ∷ []) entries (tells_order p shaped o is_of)
+      (run_tells (after p c (Moved o)) entries (after_move-sound p c o.job o.at shaped sound events.0.0.can events.0.1) events.1)
+
+  late_part : (at : ℕ) (was_late : Bool) → TellsFirst p (cond was_late (late_line at) []) []
+  late_part at true = tells_late p at
+  late_part at false = tells_none p
+
+  -- with the lines that tell what was late, and an empty line behind
+  parted_tells : (c : Cell) (told : List Entry) (late : List Bool) (rest : List Entry) → length told ≡ length late → IsSound p c → AreEvents p c (events_of (told ++ rest))
+      → TellsFirst p (told_lines told late ++ (10 ∷ entry_lines rest)) (told ++ rest)
+  parted_tells c [] late rest same sound events = tells_both p (10 ∷ []) (entry_lines rest) [] rest (empty_line p) (run_tells c rest sound events)
+  parted_tells c (entry ∷ told) [] rest same sound events = absurd (omega (arith, same))
+  parted_tells c (ReportEntry r ∷ told) (was_late ∷ late) rest same sound events =
+      subst (λ (t : List ℕ). TellsFirst p t (ReportEntry r ∷ (told ++ rest))) (sym (append_assoc (told_line (ReportEntry r) was_late) (told_lines told late) (10 ∷ entry_lines rest)))
+      (tells_both p (told_line (ReportEntry r) was_late) (told_lines told late ++ (10 ∷ entry_lines rest)) (ReportEntry r ∷ []) (told ++ rest)
+      (tells_both p (entry_line (ReportEntry r)) (cond was_late (late_line (said r).at) []) (ReportEntry r ∷ []) [] (tells_report p shaped r (report_of_shop p c r shaped sound events.0)) (late_part (said r).at was_late))
+      (parted_tells (after p c (Reported (said r))) told late rest (omega (arith, same)) (after_report-sound p c (said r) shaped sound events.0) events.1))
+  parted_tells c (OrderEntry o ∷ told) (was_late ∷ late) rest same sound events =
+      let is_of : IsEntryOf p (OrderEntry o) = subst (λ (q : MoveOrder). IsEntryOf p (OrderEntry q)) (sym events.0.0.is_move) (order_of_shop p c o.job o.at shaped sound events.0.0.can) in
+      subst (λ (t : List ℕ). TellsFirst p t (OrderEntry o ∷ (told ++ rest))) (sym (append_assoc (entry_line (OrderEntry o)) (told_lines told late) (10 ∷ entry_lines rest)))
+      (tells_both p (entry_line (OrderEntry o)) (told_lines told late ++ (10 ∷ entry_lines rest)) (OrderEntry o ∷ []) (told ++ rest) (tells_order p shaped o is_of)
+      (parted_tells (after p c (Moved o)) told late rest (omega (arith, same)) (after_move-sound p c o.job o.at shaped sound events.0.0.can events.0.1) events.1))
+
+-- one controlled run behind another
+leads_join : (p : PlannedShop) (c mid end : Cell) (rs qs : List base.Report) (es fs : List Event) → Leads p c rs es mid → Leads p mid qs fs end → Leads p c (rs ++ qs) (es ++ fs) end
+leads_join p c mid end rs qs es fs (done same) later = later
+leads_join p c mid end rs qs es fs (accepted same r js us gs last step leads) later =
+    subst (λ hs. Leads p c (r ∷ us ++ qs) hs end) (ap (λ hs. Reported r ∷ hs) (sym (append_assoc (moved (step_orders p c r js)) gs fs)))
+    (accepted c r js (us ++ qs) (gs ++ fs) end step (leads_join p (after_step p c r js) mid end us qs gs fs leads later))
+leads_join p c mid end rs qs es fs (refused same r us gs last cannot leads) later =
+    refused c r (us ++ qs) (es ++ fs) end cannot (leads_join p c mid end us qs es fs leads later)
+
+-- what was taken up, and the answers behind it, tell just what was accepted and ordered
+record IsOn (p : PlannedShop) (text : List ℕ) (end : DrivenCell) : Type 0 where
+  log : IsLogOf p text end
+  run : IsRunOf p end.entries
+
+goes_on : (p : PlannedShop) (entries : List Entry) (late : List Bool) (lines : List (Option (List ℕ))) (answers closing : List ℕ) (end : DrivenCell) → IsWellShaped p
+    → IsRunOf p entries → length late ≤ length entries → AnswerAll (CellAnswers p) (driven_so_far p entries) 1 lines answers end
+    → (closing ≡ []) ⊎ CellCloses p end closing → IsOn p (again_text entries late ++ (answers ++ closing)) end
+goes_on p entries late lines answers closing end shaped run few are closes =
+    let (events, same, sound, rest) = controlled_to_run p run.0 (events_of entries) (cell_after p entries) shaped run.1 in
+    let parts : take (length late) entries ++ drop (length late) entries ≡ entries = take-append-drop (length late) entries in
+    let first : TellsFirst p (again_text entries late) entries =
+    subst (λ (es : List Entry). TellsFirst p (again_text entries late) es) parts
+    (parted_tells p shaped (start p) (take (length late) entries) late (drop (length late) entries) (length-take-le (length late) entries few) (start-sound p shaped) (subst (λ (es : List Entry). AreEvents p (start p) (events_of es)) (sym parts) events)) in
+    let on = answers_told p shaped lines (driven_so_far p entries) end 1 answers sound rest are in
+    let both : TellsFirst p (again_text entries late ++ (answers ++ closing)) (entries ++ (on.more ++ [])) =
+    tells_both p (again_text entries late) (answers ++ closing) entries (on.more ++ []) first
+    (tells_both p answers closing on.more [] on.tells (closing_part p end closing closes)) in
+    let tells : LinesTell p (lines_of ((again_text entries late ++ (answers ++ closing)) ++ [])) ((entries ++ (on.more ++ [])) ++ []) = both [] [] refl in
+    let same_entries : (entries ++ (on.more ++ [])) ++ [] ≡ end.entries = append-nil (entries ++ (on.more ++ [])) ∙ ap (λ (es : List Entry). entries ++ es) (append-nil on.more) ∙ sym on.entries in
+    let joined : events_of end.entries ≡ events_of entries ++ events_of on.more = ap events_of on.entries ∙ events-join entries on.more in
+    let led = answers_lead p lines (driven_so_far p entries) end 1 answers are in
+    let led_joined : events_of end.entries ≡ events_of entries ++ events_of led.more = ap events_of led.entries ∙ events-join entries led.more in
+    record {
+      log = record {
+        tells = subst (λ (t : List ℕ). LinesTell p (lines_of t) end.entries) (append-nil (again_text entries late ++ (answers ++ closing)))
+            (subst (λ (es : List Entry). LinesTell p (lines_of ((again_text entries late ++ (answers ++ closing)) ++ [])) es) same_entries tells);
+        run = subst (IsRun p) (sym joined) (events_join p (start p) (events_of entries) (events_of on.more) events on.events);
+        cell = on.cell ∙ sym (after_all_join p (start p) (events_of entries) (events_of on.more)) ∙ ap (after_all p (start p)) (sym joined);
+      };
+      run = run_of_leads p (run.0 ++ led.reports) end.entries end.cell shaped
+          (subst (λ es. Leads p (start p) (run.0 ++ led.reports) es end.cell) (sym led_joined)
+          (leads_join p (start p) (cell_after p entries) end.cell run.0 led.reports (events_of entries) (events_of led.more) run.1 led.leads));
+    }
+
+pub a_resumed_text_is_a_log : AResumedTextIsALog
+a_resumed_text_is_a_log p entries late input text end shaped run few is =
+    let on = goes_on p entries late (input_lines input) is.answers is.closing end shaped run few is.are_answers (inr is.is_closing) in
+    (subst (λ (t : List ℕ). IsLogOf p t end) (sym is.whole) on.log, on.run)
+
+pub what_was_resumed_is_taken_up : WhatWasResumedIsTakenUp
+what_was_resumed_is_taken_up p entries late lines answers closing cut lost end shaped run few are closes whole =
+    let on = goes_on p entries late lines answers closing end shaped run few are closes in
+    a_cut_log_is_taken_up p cut lost end.entries shaped (subst (λ (t : List ℕ). LinesTell p (lines_of t) end.entries) whole on.log.tells) on.run
+
+pub one_resumed_text : OneResumedText
+one_resumed_text p entries late input text other end last shaped run is also =
+    let (events, same, sound, rest) = controlled_to_run p run.0 (events_of entries) (cell_after p entries) shaped run.1 in
+    let one = one_text p (input_lines input) (driven_so_far p entries) end last 1 is.answers also.answers shaped sound rest is.are_answers also.are_answers in
+    let closing = one_closing p end is.closing also.closing is.is_closing (subst (λ s. CellCloses p s also.closing) one.1 also.is_closing) in
+    let behind : also.answers ++ also.closing ≡ is.answers ++ is.closing = ap (λ (t : List ℕ). t ++ also.closing) one.0 ∙ ap (λ (t : List ℕ). is.answers ++ t) closing in
+    (also.whole ∙ ap (λ (t : List ℕ). again_text entries late ++ t) behind ∙ sym is.whole, one.1)
+
+pub an_audit_keeps_what_was_resumed : AnAuditKeepsWhatWasResumed
+an_audit_keeps_what_was_resumed p entries late all is_done last left left_before left_after before text pending outcome shaped run few through so_far kept only =
+    let same : through.text ≡ text = append_cancel_left before through.text text (sym through.written) in
+    let is_log : IsLogOf p text (driven_so_far p all) = subst (λ (t : List ℕ). IsLogOf p t (driven_so_far p all)) same
+    (a_resumed_text_is_a_log p entries late through.input through.text (driven_so_far p all) shaped run few through.is_text).0 in
+    found_where p all is_done last left text outcome is_log so_far kept (only (all, is_log.tells, is_log.run))
+
+-- ---- the stream behind what was taken up
+
+module _ (s : DriveState) (driven : IsDriven s) where
+  abbrev p : PlannedShop
+  p = s.control.plan.planned
+
+  from : seen s ≡ driven_so_far p s.log.entries
+  from = ap (λ (c : Cell). let d : DrivenCell = record { cell = c; entries = s.log.entries } in d) (cell_is s driven)
+
+  pub resumed_through : {T : Type 0} (x : T) (e : DriveState) (late : List Bool) (read_failed_before read_failed write_failed_before write_failed : Bool) (left_before left_after before middle after : Option (List ℕ)) (pending : List ℕ)
+      → Appends before middle (again_text s.log.entries late)
+      → IsStreamed {T = T} (Ok x) DriveAnswer the_closing s e read_failed_before read_failed left_before left_after write_failed_before write_failed middle after pending → IsDriven e
+      → IsResumedThrough p s.log.entries late e.log.entries left_before left_after before after pending × (e.control.plan ≡ s.control.plan)
+  resumed_through x e late read_failed_before read_failed write_failed_before write_failed left_before left_after before middle after pending again streamed driven_then =
+      let all = streamed.comes_to in
+      let answers = seen_answers p _ s e 1 all.text refl all.are_answers in
+      let plan_is = answers.1 in
+      let same_plan : e.control.plan.planned ≡ p = ap (λ (w : VerifiedPlan). w.planned) plan_is in
+      let end_is : seen e ≡ driven_so_far p e.log.entries =
+      ap (λ (c : Cell). let d : DrivenCell = record { cell = c; entries = e.log.entries } in d) (cell_is e driven_then ∙ ap (λ q. cell_after q e.log.entries) same_plan) in (
+        record {
+          input = streamed.input;
+          was_read = streamed.was_read;
+          at_end = all.at_end;
+          within = all.within;
+          text = again_text s.log.entries late ++ (all.text ++ all.closing);
+          is_text = record {
+            answers = all.text;
+            are_answers = subst (λ (d : DrivenCell). AnswerAll (CellAnswers p) d 1 (input_lines streamed.input) all.text (driven_so_far p e.log.entries)) from
+                (subst (λ (d : DrivenCell). AnswerAll (CellAnswers p) (seen s) 1 (input_lines streamed.input) all.text d) end_is answers.0);
+            closing = all.closing;
+            is_closing = subst (λ d. CellCloses p d all.closing) end_is (seen_closes p e all.closing same_plan all.is_closing);
+            whole = refl;
+          };
+          written = Appends-trans before middle after (again_text s.log.entries late) (all.text ++ all.closing) again all.written;
+          shown = streamed.shown;
+        },
+        plan_is,
+      )
+
+  seen_answered : (lines : List (Option (List ℕ))) (e : DriveState) (failed_before failed : Bool) (before after : Option (List ℕ))
+      → AreAnswered DriveAnswer s 1 lines e failed_before failed before after → AreAnswered (CellAnswers p) (seen s) 1 lines (seen e) failed_before failed before after
+  seen_answered lines e failed_before failed before after all =
+      record { text = all.text; are_answers = (seen_answers p lines s e 1 all.text refl all.are_answers).0; written = all.written; unfailed = all.unfailed }
+
+  seen_fault : {T : Type 0} (fault : DriveFault) (input : List ℕ) (e : DriveState) (read_failed_before read_failed write_failed_before write_failed : Bool) (left before after : Option (List ℕ))
+      → ComesTo {T = T} (Err fault) DriveAnswer the_closing s input e read_failed_before read_failed left write_failed_before write_failed before after
+      → ComesTo {T = Unit {0}} (Err fault) (CellAnswers p) (CellCloses p) (seen s) input (seen e) read_failed_before read_failed left write_failed_before write_failed before after
+  seen_fault Read input e read_failed_before read_failed write_failed_before write_failed left before after told = (told.0, told.1, seen_answered _ e write_failed_before write_failed before after told.2)
+  seen_fault Write input e read_failed_before read_failed write_failed_before write_failed left before after told = (told.0, seen_cut p input s e left before after refl told.1, told.2)
+  seen_fault InputTooLong input e read_failed_before read_failed write_failed_before write_failed left before after told = (told.0, seen_answered _ e write_failed_before write_failed before after told.1, told.2)
+  seen_fault Memory input e read_failed_before read_failed write_failed_before write_failed left before after told = told
+
+  pub resumed_off : {T : Type 0} (fault : DriveFault) (e : DriveState) (late : List Bool) (read_failed_before read_failed write_failed_before write_failed : Bool) (left_before left_after before middle after : Option (List ℕ)) (pending : List ℕ)
+      → Appends before middle (again_text s.log.entries late)
+      → IsStreamed {T = T} (Err fault) DriveAnswer the_closing s e read_failed_before read_failed left_before left_after write_failed_before write_failed middle after pending
+      → IsBrokenOff fault p s.log.entries late read_failed_before read_failed left_before left_after write_failed_before write_failed before after pending
+  resumed_off {T} fault e late read_failed_before read_failed write_failed_before write_failed left_before left_after before middle after pending again streamed =
+      inr (
+        middle,
+        seen e,
+        again,
+        subst (λ (d : DrivenCell). IsStreamed {T = Unit {0}} (Err fault) (CellAnswers p) (CellCloses p) d (seen e) read_failed_before read_failed left_before left_after write_failed_before write_failed middle after pending) from
+            (record {
+              input = streamed.input;
+              was_read = streamed.was_read;
+              comes_to = seen_fault {T = T} fault streamed.input e read_failed_before read_failed write_failed_before write_failed left_after middle after streamed.comes_to;
+              shown = streamed.shown;
+            }),
+      )

@@ -1,0 +1,8 @@
+pub mod CutLogs
+pub mod ResumeNames
+pub mod LateEvents
+pub mod Replays
+pub mod ToldLines
+pub mod Resuming
+pub mod CutLaw
+pub mod AgainLaw

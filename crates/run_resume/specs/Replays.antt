@@ -1,0 +1,42 @@
+-- How far a log has been replayed.
+use Rattle.std.specs.Prelude.{◌≡◌, ℕ, ◌≤◌, Bool, List, ◌++◌, length, map, take}
+use Rattle.shop_base.specs.Plan.{PlannedShop}
+use Rattle.shop_base.specs.Cell.{start}
+use Rattle.shop_base.specs.declared.move_order.MoveOrder.{MoveOrder}
+use Rattle.cell_tables.specs.declared.entry.Entry.{Entry}
+use Rattle.cell_tables.specs.declared.entry.Entry.TheVariants.{Order as OrderEntry}
+use Rattle.cell_control.specs.Control.{Control}
+use Rattle.run_log.specs.Log.{Noted}
+use Rattle.cell_drive.specs.Driven.{DriveState, IsDriven}
+use Rattle.run_resume.specs.declared.resume_fault.ResumeFault.{ResumeFault}
+use Rattle.run_resume.specs.CutLogs.{IsFaultOf, IsFaultOfLine}
+use Rattle.run_resume.specs.LateEvents.{AreLate}
+
+-- a driven cell that was taken up, and of each entry that was told whether it is a late report
+pub record TakenUp : Type 0 where
+  pub driven : DriveState
+  pub late : List Bool
+
+-- so many of the entries were told, and the others are orders that are due
+pub record HasTold (entries : List Entry) (told : ℕ) : Type 0 where
+  pub due : List MoveOrder
+  pub whole : entries ≡ take told entries ++ map OrderEntry due
+  pub within : told ≤ length entries
+
+-- the entries that were told
+abbrev pub told_part : List Entry → List Bool → List Entry
+told_part entries late = take (length late) entries
+
+-- a driven cell, and which of the entries that were told are late reports
+pub record IsReplayed (control : Control) (log : Noted) (late : List Bool) : Type 0 where
+  pub driven : IsDriven (record { control = control; log = log })
+  pub told : HasTold log.entries (length late)
+  pub are_late : AreLate control.plan.planned (start control.plan.planned) (told_part log.entries late) late
+
+-- the fault of an entry, where so many were told
+abbrev pub IsEntryFault : PlannedShop → List Entry → List Bool → Entry → ResumeFault → Type 0
+IsEntryFault p entries late entry fault = (due : List MoveOrder) → entries ≡ told_part entries late ++ map OrderEntry due → IsFaultOf p (told_part entries late) due entry fault
+
+-- the fault of a line, where so many were told
+abbrev pub IsLineFault : PlannedShop → List Entry → List Bool → List ℕ → ResumeFault → Type 0
+IsLineFault p entries late line fault = (due : List MoveOrder) → entries ≡ told_part entries late ++ map OrderEntry due → IsFaultOfLine p (told_part entries late) due line fault

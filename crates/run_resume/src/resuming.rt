@@ -1,0 +1,101 @@
+//! A run that was taken up and goes on.
+
+ghost use Rattle.std.specs.Prelude.{◌≡◌, ◌≤◌, length, IfOk, IfErr, OnOk};
+ghost use Rattle.run_log.specs.Sinks.{Wrote};
+ghost use Rattle.cell_drive.specs.Driving.{IsRunOf, IsSoFar, IsNeverFull, NeverWentWrong};
+ghost use Rattle.run_resume.specs.ToldLines.{told_line, told_lines};
+ghost use Rattle.run_resume.specs.Resuming.{again_text, IsResumedThrough, IsBrokenOff};
+
+use crate::taking_up::Taken;
+use cell_control::Dues;
+use cell_drive::{DriveEnd, DriveFault, Driven, Outlet, Source, end_driven, put_accepted, stream};
+use cell_tables::Entry;
+use run_log::{Sink, WriteFault, put_all, write_lines};
+
+/// Writes the line of the event, and behind that of a late report the line that it is late.
+fn put_told_line<W: Sink>(entry: Entry, late: bool, writer: &mut W) -> Result<(), WriteFault>
+    ensures wrote { Wrote result (W.failed writer.new) (W.taken writer.old) (W.taken writer.new) (told_line entry late) }
+    ensures unfailed { OnOk result (W.failed writer.new ≡ W.failed writer.old) }
+{
+    match entry {
+        Entry::Report(report) => put_accepted(b"", report, late, &[], writer),
+        Entry::Order(_) => write_lines(&[entry], writer),
+    }
+}
+
+/// Writes the lines of the events that were told.
+fn put_told<W: Sink>(entries: &[Entry], late: &[bool], writer: &mut W) -> Result<(), WriteFault>
+    requires { length entries.now ≡ length late.now }
+    ensures wrote { Wrote result (W.failed writer.new) (W.taken writer.old) (W.taken writer.new)
+        (told_lines entries.now late.now) }
+    ensures unfailed { OnOk result (W.failed writer.new ≡ W.failed writer.old) }
+{
+    for place in 0..entries.len() {
+        put_told_line(entries[place], late[place], writer)?;
+    }
+    Ok(())
+}
+
+/// Writes the events that were told, an empty line, and the orders that are due.
+fn put_again<W: Sink>(entries: &[Entry], late: &[bool], writer: &mut W) -> Result<(), WriteFault>
+    requires { length late.now ≤ length entries.now }
+    ensures wrote { Wrote result (W.failed writer.new) (W.taken writer.old) (W.taken writer.new)
+        (again_text entries.now late.now) }
+    ensures unfailed { OnOk result (W.failed writer.new ≡ W.failed writer.old) }
+{
+    let (told, due) = entries.split_at(late.len());
+    put_told(told, late, writer)?;
+    put_all(writer, b"\n")?;
+    write_lines(due, writer)
+}
+
+/// Writes what was taken up.
+fn put_taken<D: Dues, W: Sink>(
+    driven: &Driven<D>,
+    late: &[bool],
+    writer: &mut W,
+) -> Result<(), WriteFault>
+    requires { length late.now ≤ length driven.now.log.entries }
+    ensures wrote { Wrote result (W.failed writer.new) (W.taken writer.old) (W.taken writer.new)
+        (again_text driven.now.log.entries late.now) }
+    ensures unfailed { OnOk result (W.failed writer.new ≡ W.failed writer.old) }
+{
+    put_again(driven.log.entries(), late, writer)
+}
+
+/// Goes on with a run that was taken up: writes its events once more, with an empty line, the mark, before the orders that
+/// the log didn't tell, and then drives it on as `drive` does. What is written is by itself a log of the whole run.
+///
+/// No memory is taken. A closing line is written only where nothing has failed before it. After a fault the plan is gone.
+pub fn resume<R: Source, W: Outlet>(
+    taken: Taken,
+    reader: &mut R,
+    writer: &mut W,
+) -> Result<DriveEnd, DriveFault>
+    ensures through { IfOk result (λ end. IsResumedThrough taken.driven.control.plan.planned taken.driven.log.entries taken.late
+        end.log.entries (R.left reader.old) (R.left reader.new) (W.taken writer.old) (W.taken writer.new) (W.pending writer.new)) }
+    ensures run { IfOk result (λ end. IsRunOf taken.driven.control.plan.planned end.log.entries) }
+    ensures so_far { IfOk result (λ end.
+        IsSoFar taken.driven.control.plan.planned end.log.entries end.done end.last end.left) }
+    ensures never_full { IfOk result (λ end. IsNeverFull taken.driven.control.plan.planned end.log) }
+    ensures promised { IfOk result (λ end. NeverWentWrong taken.driven.control.plan end.log.entries) }
+    ensures plan { IfOk result (λ end. end.verified ≡ taken.driven.control.plan) }
+    ensures unfailed { OnOk result
+        ((R.failed reader.new ≡ R.failed reader.old) × (W.failed writer.new ≡ W.failed writer.old)) }
+    ensures broken_off { IfErr result (λ fault. IsBrokenOff fault taken.driven.control.plan.planned taken.driven.log.entries taken.late
+        (R.failed reader.old) (R.failed reader.new) (R.left reader.old) (R.left reader.new)
+        (W.failed writer.old) (W.failed writer.new) (W.taken writer.old) (W.taken writer.new) (W.pending writer.new)) }
+{
+    let Taken {
+        mut driven,
+        late,
+        mut room,
+    } = taken;
+    let Ok(()) = put_taken(&driven, &late, writer) else {
+        return Err(DriveFault::Write);
+    };
+    match stream(&mut driven, reader, &mut room, writer) {
+        Ok(()) => Ok(end_driven(driven)),
+        Err(fault) => Err(fault),
+    }
+}
