@@ -6,7 +6,9 @@ ghost use Rattle.command_run.specs.Resumes.{IsTaking, IsResume, IsFaultLine, IsF
 
 use crate::drives::{end_answer, line_told};
 use cell_drive::{DriveEnd, DriveFault, Outlet, Source};
-use command_answers::{Answer, CommandFault, Loaded, REFUSED, Texts, ask, end_line, push_fact, push_words};
+use command_answers::{
+    Answer, CommandFault, Loaded, REFUSED, Texts, ask, end_line, push_fact, push_words,
+};
 use plan_verifier::{Verdict, Verified};
 use run_resume::{ResumeFault, Taken, resume, take_up};
 use std::alloc::{AllocError, Global};
