@@ -1,5 +1,5 @@
 -- Plans that are loaded one after another.
-use Rattle.std.proofs.Common.{◌≡◌, ℕ, ◌+◌, ◌<◌, List, [], ◌∷◌, ◌++◌, ◌⊎◌, Option, Result, Ok, Err, IfOk, refl, length, subst, sym, ap, ◌∙◌, map, drop, get_or, codes, decimal, string_bytes, String, Global}
+use Rattle.std.proofs.Common.{◌≡◌, ℕ, ◌+◌, ◌<◌, List, [], ◌∷◌, ◌++◌, Option, Result, Ok, Err, IfOk, length, subst, sym, ap, ◌∙◌, map, drop, get_or, codes, decimal, string_bytes, String, Global}
 use Rattle.std.proofs.lemmas.List.{at_drop_more}
 use Rattle.plan_verifier.specs.Accepted.{VerifiedPlan}
 use Rattle.command_answers.specs.declared.answer.Answer.{Answer}

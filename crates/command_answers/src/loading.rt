@@ -37,15 +37,6 @@ impl Loaded {
     {
         match self {
             Loaded::Judged(Verdict::Accepted(verified)) => Ok(verified),
-            other => Err(other),
-        }
-    }
-    /// The accepted plan; what is to be said of any other comes back.
-    pub fn accepted2(self) -> Result<Verified, Loaded>
-        ensures { result ≡ accepted_in self }
-    {
-        match self {
-            Loaded::Judged(Verdict::Accepted(verified)) => Ok(verified),
             Loaded::Judged(Verdict::Refused(back, why)) => {
                 Err(Loaded::Judged(Verdict::Refused(back, why)))
             }
