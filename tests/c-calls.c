@@ -97,6 +97,30 @@ static void driven(struct cellplan_cell *cell) {
   same("leaves of no job", cellplan_cell_leaves(cell, 2, &at), CELLPLAN_NONE);
 }
 
+/* A report is taken whatever the room, and its other orders are had afterwards. */
+static void beyond_the_room(struct cellplan_cell *cell) {
+  struct cellplan_order orders[2];
+  size_t count = 9;
+  bool late = true;
+  uint64_t detail = 9;
+  memset(orders, '#', sizeof orders);
+  reported(cell, CELLPLAN_ARRIVE, 1, 0, 0, CELLPLAN_GOOD, 0, 0, false);
+  reported(cell, CELLPLAN_FINISH, 0, 0, 3, CELLPLAN_GOOD, 0, 1, false);
+  same("a report", cellplan_cell_report(cell, CELLPLAN_FINISH, 0, 1, 5, orders, 1, &count, &late, &detail), CELLPLAN_GOOD);
+  same("all orders", count, 2);
+  same("the first job", orders[0].job, 0);
+  same("the first target", orders[0].target, CELLPLAN_OUT);
+  same("no second one", orders[1].job, 0x23232323);
+  same("no orders", cellplan_cell_orders(cell, 0, orders, 0, &count), CELLPLAN_GOOD);
+  same("still all", count, 2);
+  same("the others", cellplan_cell_orders(cell, 1, orders, 2, &count), CELLPLAN_GOOD);
+  same("the second job", orders[0].job, 1);
+  same("the second target", orders[0].target, 1);
+  same("none behind it", orders[1].job, 0x23232323);
+  same("beyond all", cellplan_cell_orders(cell, SIZE_MAX, orders, 2, &count), CELLPLAN_GOOD);
+  same("and still all", count, 2);
+}
+
 static void without_a_cell(struct cellplan_cell *cell) {
   uint64_t at = 7;
   uint32_t number = 7;
@@ -157,6 +181,7 @@ int main(int argc, char **argv) {
   reported(&cell, CELLPLAN_ARRIVE, 0, 0, 0, CELLPLAN_GOOD, 0, 1, false);
   same("punctual then", cellplan_cell_punctual(&cell, &punctual), CELLPLAN_GOOD);
   same("is punctual then", punctual, true);
+  beyond_the_room(&cell);
   cellplan_cell_free(&cell);
   cellplan_cell_free(&cell);
   without_a_cell(&cell);

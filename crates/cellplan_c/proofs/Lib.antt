@@ -1,4 +1,4 @@
 mod Found
+mod Laying
 mod Slots
 mod Telling
-mod Values

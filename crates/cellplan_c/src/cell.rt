@@ -3,7 +3,7 @@
 ghost use Rattle.std.specs.Prelude.{◌≡◌, None, Some, is_some, MatchOption};
 
 use crate::inner::Inner;
-use crate::loose::Loose;
+use crate::lain::Lain;
 use crate::slot::Slot;
 use std::alloc::Global;
 use std::mem::replace;
@@ -34,7 +34,7 @@ impl Cell {
     {
         let Cell { full, slot } = replace(self, Cell::empty());
         if full {
-            Some(slot.into_loose(alloc).into_box())
+            Some(slot.into_lain(alloc).up())
         } else {
             slot.discard();
             None
@@ -50,7 +50,7 @@ impl Cell {
             self,
             Cell {
                 full: true,
-                slot: Slot::of_loose(Loose::of(inner)),
+                slot: Slot::of_lain(Lain::down(inner)),
             },
         );
         slot.discard();

@@ -10,7 +10,7 @@ mod cells;
 mod checks;
 mod faults;
 mod inner;
-mod loose;
+mod lain;
 mod names;
 mod readers;
 mod reports;

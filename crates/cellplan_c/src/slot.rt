@@ -5,7 +5,7 @@ ghost use Rattle.cellplan_c.specs.Held.{Held, held_coded};
 ghost use Rattle.cellplan_c.specs.Slot.{slot_owns};
 
 use crate::inner::Inner;
-use crate::loose::Loose;
+use crate::lain::Lain;
 use std::alloc::Global;
 use std::marker::Model;
 
@@ -14,9 +14,8 @@ pub struct Block {
     inner: u8,
 }
 
-/// The pointer to a controller's box, or null. It isn't dropped, since that would lose the box.
+/// The pointer to a controller's box, or null. It can't be dropped, since that would lose the box.
 #[repr(C)]
-#[derive(Drop)]
 pub struct Slot {
     at: *mut Block,
     pub ghost held: { Held } by { held_coded },
@@ -36,25 +35,25 @@ impl Slot {
         }
     }
 
-    /// The pointer alone; the allocator is the heap's, of which there is one.
-    pub fn of_loose(loose: Loose<Inner, Global>) -> Slot
-        ensures { result.held ≡ Some loose.value }
+    /// Keeps where the box lies, and not its allocator: that is the heap, of which there is one.
+    pub fn of_lain(lain: Lain<Inner, Global>) -> Slot
+        ensures { result.held ≡ Some lain.value }
     {
-        let Loose { at, alloc: _ } = loose;
+        let Lain { place, from: _ } = lain;
         Slot {
-            at: at as *mut Block,
+            at: place as *mut Block,
         }
     }
 
-    /// The box that lies at the pointer.
-    pub fn into_loose(self, alloc: Global) -> Loose<Inner, Global>
+    /// The box that lies there, which is taken out of the slot.
+    pub fn into_lain(self, from: Global) -> Lain<Inner, Global>
         requires { IsSome self.held }
         ensures { self.held ≡ Some result.value }
     {
         let Slot { at } = self;
-        Loose {
-            at: at as *mut Inner,
-            alloc,
+        Lain {
+            place: at as *mut Inner,
+            from,
         }
     }
 
@@ -62,6 +61,6 @@ impl Slot {
     pub fn discard(self)
         requires { self.held ≡ None }
     {
-        drop(self);
+        let Slot { at: _ } = self;
     }
 }
