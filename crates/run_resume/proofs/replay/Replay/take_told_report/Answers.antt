@@ -1,4 +1,4 @@
-use Rattle.std.proofs.Common.{◌≡◌, ◌≤◌, ◌×◌, ◌++◌, [], ◌∷◌, List, Bool, length, map, arith, ap, subst, sym, length-append}
+use Rattle.std.proofs.Common.{◌≡◌, ◌≤◌, ◌++◌, [], ◌∷◌, List, Bool, length, map, arith, ap, subst, sym, length-append}
 use Rattle.shop_base.specs.Ends.{stated_number}
 use Rattle.plan_verifier.specs.Accepted.{VerifiedPlan}
 use Rattle.cell_tables.specs.declared.entry.Entry.TheVariants.{Report as ReportEntry, Order as OrderEntry}
