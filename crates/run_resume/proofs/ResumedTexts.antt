@@ -206,10 +206,15 @@ module _ (s : DriveState) (driven : IsDriven s) where
       → IsBrokenOff fault p s.log.entries late read_failed_before read_failed left_before left_after failed_first write_failed before after pending
   resumed_off {T} fault e late failed_first read_failed_before read_failed write_failed_before write_failed left_before left_after before middle after pending unfailed again streamed =
       subst (λ (failed : Bool). IsBrokenOff fault p s.log.entries late read_failed_before read_failed left_before left_after failed write_failed before after pending) unfailed
-      (inr (middle, seen e, again, subst (λ (d : DrivenCell). IsStreamed {T = Unit {0}} (Err fault) (CellAnswers p) (CellCloses p) d (seen e) read_failed_before read_failed left_before left_after write_failed_before write_failed middle after pending) from
-      (record {
-        input = streamed.input;
-        was_read = streamed.was_read;
-        comes_to = seen_fault T fault streamed.input e read_failed_before read_failed write_failed_before write_failed left_after middle after streamed.comes_to;
-        shown = streamed.shown;
-      })))
+      (inr (
+        middle,
+        seen e,
+        again,
+        subst (λ (d : DrivenCell). IsStreamed {T = Unit {0}} (Err fault) (CellAnswers p) (CellCloses p) d (seen e) read_failed_before read_failed left_before left_after write_failed_before write_failed middle after pending) from
+            (record {
+              input = streamed.input;
+              was_read = streamed.was_read;
+              comes_to = seen_fault T fault streamed.input e read_failed_before read_failed write_failed_before write_failed left_after middle after streamed.comes_to;
+              shown = streamed.shown;
+            }),
+      ))

@@ -27,6 +27,6 @@ pub returns-clause-wrote : goal.returns-clause-wrote
 returns-clause-wrote g c =
     let entries = c.args.entries.now in
     let last = subst (λ (es : List Entry). Wrote c.write_lines.result (g.W.Sink.failed c.write_lines.new.writer) (g.W.Sink.taken c.put_all.new.writer) (g.W.Sink.taken c.write_lines.new.writer) (entry_lines es))
-        (rest_whole (length c.args.late.now) entries) c.write_lines.ensures.wrote in
+    (rest_whole (length c.args.late.now) entries) c.write_lines.ensures.wrote in
     wrote_next c.write_lines.result _ _ _ _ _ _ c.in_ok-put_told.ensures.wrote
     (wrote_next c.write_lines.result _ _ _ _ (10 ∷ []) _ c.in_ok-put_all.ensures.wrote last)
