@@ -18,11 +18,7 @@ pub trait Texts {
 }
 
 /// Asks for the file of this path.
-pub fn ask<T: Texts>(
-    alloc: Global,
-    texts: &mut T,
-    path: &str,
-) -> Result<Vec<u8>, CommandFault>
+pub fn ask<T: Texts>(alloc: Global, texts: &mut T, path: &str) -> Result<Vec<u8>, CommandFault>
     ensures { Asks T.gives path.now texts.old (text_of result) texts.new }
 {
     match texts.text(alloc, path) {

@@ -83,7 +83,10 @@ fn driven<R: Source, W: Outlet>(
 }
 
 /// What is answered at the end of a run, whose lines are written already.
-pub(crate) fn end_answer(alloc: Global, end: Result<DriveEnd, DriveFault>) -> Result<Answer, CommandFault>
+pub(crate) fn end_answer(
+    alloc: Global,
+    end: Result<DriveEnd, DriveFault>,
+) -> Result<Answer, CommandFault>
     ensures { IsEndAnswer end result }
 {
     match end {

@@ -6,7 +6,9 @@ ghost use Rattle.command_run.specs.Resumes.{IsTaking, IsResume, IsFaultLine, IsF
 
 use crate::drives::{end_answer, line_told};
 use cell_drive::{DriveEnd, DriveFault, Outlet, Source};
-use command_answers::{Answer, CommandFault, Loaded, REFUSED, Texts, ask, end_line, push_fact, push_words};
+use command_answers::{
+    Answer, CommandFault, Loaded, REFUSED, Texts, ask, end_line, push_fact, push_words,
+};
 use plan_verifier::Verified;
 use run_resume::{ResumeFault, Taken, resume, take_up};
 use std::alloc::{AllocError, Global};
@@ -25,7 +27,9 @@ pub(crate) fn resume_cell<T: Texts, R: Source, W: Outlet>(
         (record { input = input_of R.left R.failed input.new; output = output_of W.taken W.failed W.pending output.new }) }
 {
     match loaded {
-        Ok(Loaded::Accepted(verified)) => resume_accepted(alloc, texts, verified, log, input, output),
+        Ok(Loaded::Accepted(verified)) => resume_accepted(
+            alloc, texts, verified, log, input, output,
+        ),
         Ok(other) => line_told(alloc, &other),
         Err(fault) => Err(fault),
     }
