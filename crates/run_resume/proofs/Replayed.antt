@@ -99,6 +99,11 @@ order_taken es n o d told below is = go told.due told.whole
           };
         }
 
+-- of a run that begins nothing was told
+pub starts_replayed : (control : Control) (log : Noted) (late : List Bool) → IsDriven (record { control = control; log = log }) → log.entries ≡ [] → late ≡ [] → IsReplayed control log late
+starts_replayed control log late driven none empty =
+    subst (IsReplayed control log) (sym empty) (record { driven = driven; told = record { due = []; whole = none; within = omega arith }; are_late = refl })
+
 -- the entry was told, and whether it is a late report
 module _ (control : Control) (log : Noted) (late : List Bool) (replayed : IsReplayed control log late) where
   abbrev p : PlannedShop

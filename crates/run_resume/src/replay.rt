@@ -70,8 +70,10 @@ impl<D: Dues> Replay<D> {
         let mut rest = text;
         while let Some((line, after)) = cut_line(rest) {
             number += 1;
-            self.take_line(without_return(line), number)?;
-            rest = after;
+            match self.take_line(without_return(line), number) {
+                Ok(()) => rest = after,
+                Err(fault) => return Err(fault),
+            }
         }
         Ok(())
     }

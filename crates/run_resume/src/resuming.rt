@@ -43,10 +43,10 @@ fn put_again<W: Sink>(entries: &[Entry], late: &[bool], writer: &mut W) -> Resul
         (again_text entries.now late.now) }
     ensures unfailed { OnOk result (W.failed writer.new ≡ W.failed writer.old) }
 {
-    let (told, due) = entries.split_at(late.len());
-    put_told(told, late, writer)?;
+    let told = late.len();
+    put_told(&entries[..told], late, writer)?;
     put_all(writer, b"\n")?;
-    write_lines(due, writer)
+    write_lines(&entries[told..], writer)
 }
 
 /// Writes what was taken up.

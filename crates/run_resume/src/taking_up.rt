@@ -53,15 +53,19 @@ pub fn take_up(alloc: Global, verified: Verified, text: &[u8]) -> Result<Taken, 
 {
     let room = reading_room(alloc)?;
     let mut replay = start_replay(alloc, verified)?;
-    replay.take_lines(text)?;
-    let Replay {
-        controller,
-        log,
-        late,
-    } = replay;
-    Ok(Taken {
-        driven: Driven { controller, log },
-        late,
-        room,
-    })
+    match replay.take_lines(text) {
+        Ok(()) => {
+            let Replay {
+                controller,
+                log,
+                late,
+            } = replay;
+            Ok(Taken {
+                driven: Driven { controller, log },
+                late,
+                room,
+            })
+        }
+        Err(fault) => Err(fault),
+    }
 }
