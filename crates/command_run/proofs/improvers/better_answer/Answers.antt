@@ -7,4 +7,4 @@ pub returns : goal.returns
 returns g c =
     let alone : length c.deref.result.now ≡ 1 = search rules in
     inl (improves _ c.deref.result.now alone g.T.Texts.gives c.args.rounds c.args.path.now (option_copied c.args.name) c.args.plan_path.now
-    c.args.texts.now c.improve_answer.result c.improve_answer.new.texts c.improve_answer.ensures)
+    c.args.texts.now c.improve_answer-answer.result c.improve_answer-answer.new.texts c.improve_answer-answer.ensures)
