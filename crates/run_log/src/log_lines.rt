@@ -189,7 +189,8 @@ fn is_entry_of(shaped: &Shaped, entry: Entry) -> bool
     }
 }
 
-/// The entry of the shop that the line tells; no such line is passed over.
+/// The entry of the shop that the line tells; no such line is passed over. It is read for each line of a log.
+#[inline(always)]
 pub fn told_entry(shaped: &Shaped, line: &[u8]) -> Option<Entry>
     ensures { MatchOption result ((entry : Entry) → IsEntryLine line.now entry → IsEntryOf shaped.now entry → ⊥)
         (λ entry. LineTells shaped.now line.now (entry ∷ [])) }
