@@ -1,13 +1,14 @@
 -- What the calls from C do.
 use Rattle.std.specs.Prelude.{◌≡◌, ℕ, ◌<◌, ◌≤◌, ◌++◌, ◌⊎◌, List, Option, length, drop, codes}
 use Rattle.shop_base.specs.Plan.{PlannedShop}
+use Rattle.plan_verifier.specs.declared.verdict.Verdict.TheVariants.{Accepted, Refused}
 use Rattle.plan_verifier.specs.Accepted.{VerifiedPlan, IsAcceptable}
 use Rattle.cell_control.specs.Control.{Control, at_start}
 use Rattle.command_answers.specs.declared.answer.Answer.{Answer}
 use Rattle.command_answers.specs.declared.command_fault.CommandFault.{CommandFault}
 use Rattle.command_answers.specs.declared.command_fault.CommandFault.TheVariants.{Instance, Plan}
 use Rattle.command_answers.specs.declared.loading.Loaded.{Loaded}
-use Rattle.command_answers.specs.declared.loading.Loaded.TheVariants.{NotShaped, Refused, Accepted}
+use Rattle.command_answers.specs.declared.loading.Loaded.TheVariants.{NotShaped, Judged}
 use Rattle.command_answers.specs.Plans.{TellBoth, IsOfBoth, IsRightOfBoth}
 use Rattle.command_answers.specs.Statuses.{status_of}
 
@@ -64,5 +65,5 @@ pub record IsStarted (instance : List ℕ) (name : Option (List ℕ)) (plan : Li
 -- it isn't well shaped, or refused
 abbrev pub IsNotAccepted : Loaded → Type 0
 IsNotAccepted (NotShaped fault) = Unit {0}
-IsNotAccepted (Refused why) = Unit {0}
-IsNotAccepted (Accepted verified) = ⊥
+IsNotAccepted (Judged (Refused back why)) = Unit {0}
+IsNotAccepted (Judged (Accepted verified)) = ⊥

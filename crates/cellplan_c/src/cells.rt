@@ -19,7 +19,7 @@ use crate::inner::Inner;
 use crate::statuses::{GOOD, NO_MEMORY, REFUSED};
 use cell_control::Controller;
 use command_answers::{CommandFault, Loaded, load};
-use plan_verifier::Verified;
+use plan_verifier::{Verdict, Verified};
 use std::alloc::Global;
 
 /// Makes the controller of an accepted plan, and puts it in the place of what the cell held. The line of a plan that
@@ -45,7 +45,7 @@ pub extern "C" fn cellplan_cell_new(
     ensures statuses { result ≤ 4 }
 {
     match loaded(alloc, instance, name, plan) {
-        Ok(Loaded::Accepted(verified)) => match boxed(alloc, verified) {
+        Ok(Loaded::Judged(Verdict::Accepted(verified))) => match boxed(alloc, verified) {
             Some(inner) => {
                 cellplan_cell_free(alloc, cell);
                 cell.put(inner);

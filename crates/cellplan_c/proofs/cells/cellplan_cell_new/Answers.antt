@@ -3,7 +3,7 @@ use Rattle.command_answers.specs.Statuses.{status_of}
 use Rattle.cellplan_c.proofs.cells.cellplan_cell_new.Goals as goal
 
 pub returns-in-Some-clause-second : goal.returns-in-Some-clause-second
-returns-in-Some-clause-second c = λ fault tells is. absurd (c.in-Ok-Accepted.ensures.second fault tells is)
+returns-in-Some-clause-second c = λ fault tells is. absurd (c.in-Ok-Judged-Accepted.ensures.second fault tells is)
 
 pub returns-in-Ok : goal.returns-in-Ok
 returns-in-Ok c = record {
