@@ -1,3 +1,6 @@
 pub mod Planning
 pub mod PlainWords
 pub mod Telling
+pub mod Refusing
+pub mod LowStatuses
+pub mod Endings

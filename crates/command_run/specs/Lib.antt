@@ -4,5 +4,6 @@ pub mod Planners
 pub mod Drives
 pub mod Hubs
 pub mod Ending
+pub mod Unchosen
 pub mod Program
 pub mod Laws

@@ -10,6 +10,7 @@ mod input;
 pub mod laws;
 mod planners;
 mod program;
+mod unchosen;
 
 pub use devices::Devices;
 pub use ending::tell;
