@@ -92,7 +92,7 @@ HoldsNothing output = (output.pending ≡ []) ⊎ (output.failed ≡ true)
 abbrev pub WereDriven : Streams → Streams → Type 0
 WereDriven before after = (after.output ≡ before.output)
     ⊎ (((v : VerifiedPlan) × ((end : Result DriveEnd DriveFault) × IsDrive v before after end))
-      ⊎ ((cells : List VerifiedPlan) × ((end : Result HubEnd DriveFault) × AreDrives cells before after end)))
+    ⊎ ((cells : List VerifiedPlan) × ((end : Result HubEnd DriveFault) × AreDrives cells before after end)))
 
 -- nothing was written, or the first bytes of an answer whose write failed
 abbrev pub IsUnanswered : Output → Output → Type 0
