@@ -1,5 +1,5 @@
 -- How each run of the program ends.
-use Rattle.std.proofs.Common.{◌≡◌, ℕ, ◌≤◌, List, [], ◌⊎◌, true, false, Result, Ok, Err, IfOk, inl, inr, ap, sym, ◌∙◌, subst, arith, refl}
+use Rattle.std.proofs.Common.{◌≡◌, ℕ, ◌≤◌, List, [], true, false, Result, Ok, Err, inl, inr, ap, sym, ◌∙◌, subst, arith, refl}
 use Rattle.std.specs.String.{string_bytes}
 use Rattle.cell_drive.specs.declared.driving.DriveEnd.{DriveEnd}
 use Rattle.cell_drive.specs.declared.driving_cells.HubEnd.{HubEnd}
@@ -29,8 +29,8 @@ use Rattle.command_run.specs.Drives.{Drives, IsDrive}
 use Rattle.command_run.specs.Resumes.{IsResume, ResumesTaken, ResumesText, Resumes}
 use Rattle.command_run.specs.Hubs.{DrivesAll, AreDrives}
 use Rattle.command_run.specs.Ending.{Ends, IsPrinted, IsTold, IsToldAfter, IsAnswerEnd}
-use Rattle.command_run.specs.Program.{RunsCommand, Follows, RunsProgram}
-use Rattle.command_run.specs.Laws.{WasFailureTold, EndsAsTold, HoldsNothing, WereDriven, IsUnanswered, WroteNoMore}
+use Rattle.command_run.specs.Program.{RunsCommand, Follows}
+use Rattle.command_run.specs.Laws.{EndsAsTold, HoldsNothing, WereDriven, IsUnanswered, WroteNoMore}
 use Rattle.command_run.proofs.LowStatuses.{IsLow, low}
 
 -- ---- what is told

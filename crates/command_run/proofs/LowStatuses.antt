@@ -26,7 +26,6 @@ use Rattle.command_answers.specs.declared.command_fault.CommandFault.{CommandFau
 use Rattle.command_answers.specs.declared.loading.Loaded.{Loaded}
 use Rattle.command_answers.specs.declared.loading.Loaded.TheVariants.{NotShaped, Judged}
 use Rattle.command_answers.specs.Steps.{Then, GoesOn, Told, IsOrMemory}
-use Rattle.command_answers.specs.Facts.{AreToldFacts}
 use Rattle.command_answers.specs.Readings.{AreFactsAnswered}
 use Rattle.command_answers.specs.Shapes.{IsShapeLine, IsNotShapedLine}
 use Rattle.command_answers.specs.Checks.{IsCheckLine, IsLineOf, accepted_in}
@@ -35,10 +34,10 @@ use Rattle.command_answers.specs.Improving.{IsStatusOf, IsBestAnswer, IsImproveA
 use Rattle.command_answers.specs.Search.{IsSearchLine, IsSearchAnswer, IsNoPlanLine}
 use Rattle.command_answers.specs.AuditLines.{IsLogLine, IsLogRefusedLine}
 use Rattle.command_answers.specs.GanttLines.{IsDrawnLog}
-use Rattle.command_answers.specs.Commands.{RunsFacts, WithPlan, WithBoth, WithLog, RunsPlan}
-use Rattle.command_answers.specs.Cells.{IsCellLine, AfterPlan, LoadsEach, LoadsCells}
+use Rattle.command_answers.specs.Commands.{WithPlan, WithBoth, WithLog}
+use Rattle.command_answers.specs.Cells.{IsCellLine, AfterPlan, LoadsEach}
 use Rattle.command_run.specs.Streams.{Streams}
-use Rattle.command_run.specs.Drives.{IsEnded, IsEndAnswer, IsLineTold, Drives, status_at}
+use Rattle.command_run.specs.Drives.{IsEnded, IsEndAnswer, Drives, status_at}
 use Rattle.command_run.specs.Resumes.{IsFaultLine, IsFaultTold, ResumesTaken, ResumesText, Resumes}
 use Rattle.command_run.specs.Hubs.{IsHubAnswer, DrivesAll}
 use Rattle.command_run.specs.Planners.{MayPlan, SeeksPlan}

@@ -13,7 +13,7 @@ use Rattle.command_answers.specs.Steps.{Then, GoesOn, Told}
 use Rattle.command_answers.specs.Texts.{Asks}
 use Rattle.command_answers.specs.Readings.{IsInstanceRead, AreFactsAnswered}
 use Rattle.command_answers.specs.Commands.{ReadsInstance, RunsFacts}
-use Rattle.command_answers.specs.Cells.{LoadsEach, LoadsCells}
+use Rattle.command_answers.specs.Cells.{LoadsEach}
 use Rattle.command_run.specs.Streams.{Streams}
 use Rattle.command_run.specs.Drives.{Drives}
 use Rattle.command_run.specs.Hubs.{DrivesAll}
