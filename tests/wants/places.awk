@@ -49,9 +49,10 @@ END {
 function add(text) {
   token[++tokens] = text
   line[tokens] = FNR
+  said[tokens] = ""
 }
 
-# the words and signs of a line: comments are dropped, a string is one sign
+# the words and signs of a line: comments are dropped, a string is one sign, of which it is kept what it says
 function take(s) {
   while (s != "") {
     if (comments > 0) {
@@ -59,7 +60,11 @@ function take(s) {
       comments += substr(s, RSTART, 2) == "/*" ? 1 : -1
       s = substr(s, RSTART + 2)
     } else if (quote != "") {
-      if (quote == "\"" ? !match(s, /^([^"\\]|\\.)*"/) : !index(s, quote)) return
+      if (quote == "\"" ? !match(s, /^([^"\\]|\\.)*"/) : !index(s, quote)) {
+        said[tokens] = said[tokens] s
+        return
+      }
+      said[tokens] = said[tokens] substr(s, 1, (quote == "\"" ? RLENGTH : index(s, quote)) - 1)
       s = substr(s, quote == "\"" ? RLENGTH + 1 : index(s, quote) + length(quote))
       quote = ""
     } else if (match(s, /^[ \t\r]+/)) {
@@ -137,6 +142,7 @@ function drop_ghosts(i, j, kept) {
       } else {
         token[++kept] = token[i]
         line[kept] = line[i]
+        said[kept] = said[i]
       }
     }
   }
@@ -236,6 +242,12 @@ function may_want(i, m) {
   if (m == 0 || state[m] != "body") return 0
   if (guard[m] != "") return guard[m] ~ /^[a-z_]+\.is_memory\(\)$/
   return pattern[m] ~ /^([A-Za-z]+::Memory|ErrorKind::OutOfMemory)$/
+}
+
+# whether the line of want of memory may be told here: in the arm of a fault that says so
+function may_tell(m) {
+  for (m = open; m > 0 && kind[m] != "match"; m--) continue
+  return m > 0 && state[m] == "body" && guard[m] == "" && pattern[m] ~ /^[A-Za-z]+::Memory$/
 }
 
 function look_at_alloc_error(i) {
@@ -385,6 +397,7 @@ function makes_a_box_alone(i) {
 function look_at(i, word) {
   if (word == "AllocError") look_at_alloc_error(i)
   else if (word == "Memory") look_at_memory(i)
+  else if (tolower(said[i]) ~ /out of memory/ && !may_tell()) tell(i, "the line of want of memory")
   else if (word == "OutOfMemory" && !in_pattern()) tell(i, "OutOfMemory as a value")
   else if (word ~ /^(AllocFailed|SpawnError|from_raw_os_error)$/) tell(i, "what an AllocError could be made of")
   else if (word == "Error" && token[i - 1] == "::" && token[i - 2] == "fmt") tell(i, "what an AllocError could be made of")

@@ -1,42 +1,134 @@
--- What the steps of a command mean where the files don't change.
-use Rattle.std.proofs.Common.{◌≡◌, ℕ, List, [], ◌∷◌, ◌⊎◌, Option, Result, Ok, Err, inl, inr, ap, sym, ◌∙◌, subst}
+-- What is told first where the files don't change.
+use Rattle.std.proofs.Common.{◌≡◌, ℕ, List, [], ◌∷◌, ◌⊎◌, Option, Result, Ok, Err, inl, inr, ap, sym, ◌∙◌, subst, refl}
 use Rattle.orlib_read.specs.declared.named.Named.{Named}
 use Rattle.orlib_read.specs.declared.or_fault.OrFault.{OrFault}
 use Rattle.command_answers.specs.declared.reading.FileFault.{FileFault}
 use Rattle.command_answers.specs.declared.answer.Answer.{Answer}
+use Rattle.command_answers.specs.declared.cells.Cells.{Cells}
+use Rattle.command_answers.specs.declared.loading.Loaded.{Loaded}
 use Rattle.command_answers.specs.declared.command_fault.CommandFault.{CommandFault}
 use Rattle.command_answers.specs.declared.command_fault.CommandFault.TheVariants.{Instance, Plan, Read, Write, InputTooLong, Memory}
 use Rattle.command_answers.specs.Instances.{IsFirstInstanceFault, IsInstanceRefusal}
 use Rattle.command_answers.specs.Steps.{Then, GoesOn, Told}
 use Rattle.command_answers.specs.Texts.{Asks}
-use Rattle.command_answers.specs.Readings.{IsInstanceRead}
-use Rattle.command_answers.specs.Commands.{ReadsInstance}
+use Rattle.command_answers.specs.Readings.{IsInstanceRead, AreFactsAnswered}
+use Rattle.command_answers.specs.Commands.{ReadsInstance, RunsFacts}
+use Rattle.command_answers.specs.Cells.{LoadsEach}
+use Rattle.command_run.specs.Streams.{Streams}
+use Rattle.command_run.specs.Drives.{Drives}
+use Rattle.command_run.specs.Hubs.{DrivesAll}
+use Rattle.command_run.specs.Resumes.{Resumes}
+use Rattle.command_run.specs.Planners.{SeeksPlan}
+use Rattle.command_run.specs.Improvers.{ImprovesPlan}
+use Rattle.command_run.specs.Program.{RunsDrive, RunsResume, RunsHub}
 use Rattle.command_run.specs.Laws.{Shelf, IsInstanceTold}
 
--- a refused text ends the steps
-refused : {W A : Type 0} (fault : OrFault) (read : Result A CommandFault) (next : A → W → Result Answer CommandFault → W → Type 0) (mid after : W) (outcome : Result Answer CommandFault)
-    → IsInstanceRefusal read fault → GoesOn next read mid outcome after → (after ≡ mid) × ((outcome ≡ Err (Instance fault)) ⊎ (outcome ≡ Err Memory))
-refused fault (Ok a) next mid after outcome refusal on = absurd refusal
-refused fault (Err (Instance told)) next mid after outcome refusal on = (on.1, inl (on.0 ∙ ap (λ f. Err (Instance f)) refusal))
-refused fault (Err (Plan told)) next mid after outcome refusal on = absurd refusal
-refused fault (Err Read) next mid after outcome refusal on = absurd refusal
-refused fault (Err Write) next mid after outcome refusal on = absurd refusal
-refused fault (Err InputTooLong) next mid after outcome refusal on = absurd refusal
-refused fault (Err Memory) next mid after outcome refusal on = (on.1, inr on.0)
+-- the fault of an instance, or want of memory
+abbrev IsToldOf : {A : Type 0} → OrFault → Result A CommandFault → Type 0
+IsToldOf fault outcome = (outcome ≡ Err (Instance fault)) ⊎ (outcome ≡ Err Memory)
+
+told_of : {A : Type 0} (fault : OrFault) (outcome : Result A CommandFault) → IsInstanceRefusal outcome fault → IsToldOf fault outcome
+told_of fault (Ok a) refusal = absurd refusal
+told_of fault (Err (Instance told)) refusal = inl (ap (λ f. Err (Instance f)) refusal)
+told_of fault (Err (Plan told)) refusal = absurd refusal
+told_of fault (Err Read) refusal = absurd refusal
+told_of fault (Err Write) refusal = absurd refusal
+told_of fault (Err InputTooLong) refusal = absurd refusal
+told_of fault (Err Memory) refusal = inr refl
+
+-- such a fault ends the steps
+stopped : {W A B : Type 0} (fault : OrFault) (came : Result A CommandFault) (next : A → W → Result B CommandFault → W → Type 0) (mid after : W) (outcome : Result B CommandFault)
+    → IsToldOf fault came → GoesOn next came mid outcome after → (after ≡ mid) × IsToldOf fault outcome
+stopped fault (Ok a) next mid after outcome (inl told) on = absurd (cc told)
+stopped fault (Ok a) next mid after outcome (inr told) on = absurd (cc told)
+stopped fault (Err f) next mid after outcome (inl told) on = (on.1, inl ((let one : f ≡ (Instance fault) = cc told in on.0 ∙ ap (λ x. Err x) one)))
+stopped fault (Err f) next mid after outcome (inr told) on = (on.1, inr ((let one : f ≡ Memory = cc told in on.0 ∙ ap (λ x. Err x) one)))
+
+drives_stopped : (fault : OrFault) (loaded : Result Loaded CommandFault) (before after : Streams) (outcome : Result Answer CommandFault)
+    → IsToldOf fault loaded → Drives loaded before after outcome → IsToldOf fault outcome × (after ≡ before)
+drives_stopped fault (Ok loaded) before after outcome (inl told) is = absurd (cc told)
+drives_stopped fault (Ok loaded) before after outcome (inr told) is = absurd (cc told)
+drives_stopped fault (Err f) before after outcome (inl told) is = (inl ((let one : f ≡ (Instance fault) = cc told in is.0 ∙ ap (λ x. Err x) one)), is.1)
+drives_stopped fault (Err f) before after outcome (inr told) is = (inr ((let one : f ≡ Memory = cc told in is.0 ∙ ap (λ x. Err x) one)), is.1)
+
+resumes_stopped : {W : Type 0} (gives : W → List ℕ → Result (List ℕ) FileFault → W → Type 0) (log : List ℕ) (fault : OrFault) (loaded : Result Loaded CommandFault) (mid last : W) (before after : Streams) (outcome : Result Answer CommandFault)
+    → IsToldOf fault loaded → Resumes gives log loaded mid before outcome last after → IsToldOf fault outcome × (after ≡ before) × (last ≡ mid)
+resumes_stopped gives log fault (Ok loaded) mid last before after outcome (inl told) is = absurd (cc told)
+resumes_stopped gives log fault (Ok loaded) mid last before after outcome (inr told) is = absurd (cc told)
+resumes_stopped gives log fault (Err f) mid last before after outcome (inl told) is =
+    (inl ((let one : f ≡ (Instance fault) = cc told in is.0 ∙ ap (λ x. Err x) one)), is.1, is.2)
+resumes_stopped gives log fault (Err f) mid last before after outcome (inr told) is =
+    (inr ((let one : f ≡ Memory = cc told in is.0 ∙ ap (λ x. Err x) one)), is.1, is.2)
+
+hub_stopped : (fault : OrFault) (loaded : Result Cells CommandFault) (before after : Streams) (outcome : Result Answer CommandFault)
+    → IsToldOf fault loaded → DrivesAll loaded before after outcome → IsToldOf fault outcome × (after ≡ before)
+hub_stopped fault (Ok loaded) before after outcome (inl told) is = absurd (cc told)
+hub_stopped fault (Ok loaded) before after outcome (inr told) is = absurd (cc told)
+hub_stopped fault (Err f) before after outcome (inl told) is = (inl ((let one : f ≡ (Instance fault) = cc told in is.0 ∙ ap (λ x. Err x) one)), is.1)
+hub_stopped fault (Err f) before after outcome (inr told) is = (inr ((let one : f ≡ Memory = cc told in is.0 ∙ ap (λ x. Err x) one)), is.1)
 
 module _ (content : List ℕ → Result (List ℕ) FileFault) (path text : List ℕ) (name : Option (List ℕ)) (fault : OrFault)
     (is : content path ≡ Ok text) (first : IsFirstInstanceFault text name fault) where
-  -- the instance's file was asked for alone, and is refused
-  came_refused : (came : Result (List ℕ) CommandFault) (read : Result Named CommandFault) (mid asked : List (List ℕ)) → Asks (Shelf content) path [] came mid
-      → GoesOn (λ t. Told (IsInstanceRead t name)) came mid read asked → (asked ≡ path ∷ []) × IsInstanceRefusal read fault
-  came_refused (Ok t) read mid asked given on =
-      let same : t ≡ text = (let both : Ok t ≡ Ok text = given.0 ∙ is in cc both) in
-      (on.1 ∙ given.1, on.0.first fault (subst (λ x. IsFirstInstanceFault x name fault) (sym same) first))
-  came_refused (Err f) read mid asked given on = absurd (let both : Err given.0 ≡ Ok text = given.2.0 ∙ is in cc both)
+  -- what was asked for is the text
+  same_text : (t : List ℕ) → Ok t ≡ content path → IsFirstInstanceFault t name fault
+  same_text t given =
+      let same : t ≡ text = (let both : Ok t ≡ Ok text = given ∙ is in cc both) in
+      subst (λ x. IsFirstInstanceFault x name fault) (sym same) first
 
-  pub told_first : (next : Named → List (List ℕ) → Result Answer CommandFault → List (List ℕ) → Type 0) (outcome : Result Answer CommandFault) (asked : List (List ℕ))
+  -- the instance's file was asked for alone, and is refused
+  came_refused : {A : Type 0} (Is : List ℕ → Result A CommandFault → Type 0) (came : Result (List ℕ) CommandFault) (read : Result A CommandFault) (mid asked : List (List ℕ))
+      → ((t : List ℕ) → Is t read → IsFirstInstanceFault t name fault → IsInstanceRefusal read fault)
+      → Asks (Shelf content) path [] came mid → GoesOn (λ t. Told (Is t)) came mid read asked → IsInstanceTold path fault read asked
+  came_refused Is (Ok t) read mid asked refuses given on = (on.1 ∙ given.1, told_of fault read (refuses t on.0 (same_text t given.0)))
+  came_refused Is (Err f) read mid asked refuses given on = absurd (let both : Err given.0 ≡ Ok text = given.2.0 ∙ is in cc both)
+
+  pub told_first : {A : Type 0} (next : Named → List (List ℕ) → Result A CommandFault → List (List ℕ) → Type 0) (outcome : Result A CommandFault) (asked : List (List ℕ))
       → Then (ReadsInstance (Shelf content) path name) next [] outcome asked → IsInstanceTold path fault outcome asked
   told_first next outcome asked run =
-      let read = came_refused run.is.came run.came run.is.mid run.mid run.is.is run.is.goes_on in
-      let end = refused fault run.came next run.mid asked outcome read.1 run.goes_on in
+      let read = came_refused (λ t. IsInstanceRead t name) run.is.came run.came run.is.mid run.mid (λ t came. came.first fault) run.is.is run.is.goes_on in
+      let end = stopped fault run.came next run.mid asked outcome read.1 run.goes_on in
       (end.0 ∙ read.0, end.1)
+
+  pub facts_first : (outcome : Result Answer CommandFault) (asked : List (List ℕ)) → RunsFacts (Shelf content) path name [] outcome asked → IsInstanceTold path fault outcome asked
+  facts_first outcome asked run = came_refused (λ t. AreFactsAnswered t name) run.came outcome run.mid asked (λ t answered. answered.first fault) run.is run.goes_on
+
+  pub plan_first : (rounds : ℕ) (plan : List ℕ) (outcome : Result Answer CommandFault) (asked : List (List ℕ)) → SeeksPlan (Shelf content) rounds path name plan [] outcome asked
+      → IsInstanceTold path fault outcome asked ⊎ ((outcome ≡ Err Memory) × (asked ≡ []))
+  plan_first rounds plan outcome asked (inl run) = inl (told_first _ outcome asked run)
+  plan_first rounds plan outcome asked (inr wanting) = inr wanting
+
+  pub improve_first : (rounds : ℕ) (plan : List ℕ) (outcome : Result Answer CommandFault) (asked : List (List ℕ)) → ImprovesPlan (Shelf content) rounds path name plan [] outcome asked
+      → IsInstanceTold path fault outcome asked ⊎ ((outcome ≡ Err Memory) × (asked ≡ []))
+  improve_first rounds plan outcome asked (inl run) = inl (told_first _ outcome asked run)
+  improve_first rounds plan outcome asked (inr wanting) = inr wanting
+
+  pub drive_first : (plan : List ℕ) (before after : Streams) (outcome : Result Answer CommandFault) (asked : List (List ℕ)) → RunsDrive (Shelf content) path name plan [] before outcome asked after
+      → IsInstanceTold path fault outcome asked × (after ≡ before)
+  drive_first plan before after outcome asked run =
+      let loaded = told_first _ run.loaded asked run.loads in
+      let end = drives_stopped fault run.loaded before after outcome loaded.1 run.drives in
+      ((loaded.0, end.0), end.1)
+
+  pub resume_first : (plan log : List ℕ) (before after : Streams) (outcome : Result Answer CommandFault) (asked : List (List ℕ))
+      → RunsResume (Shelf content) path name plan log [] before outcome asked after → IsInstanceTold path fault outcome asked × (after ≡ before)
+  resume_first plan log before after outcome asked run =
+      let loaded = told_first _ run.loaded run.texts_mid run.loads in
+      let end = resumes_stopped (Shelf content) log fault run.loaded run.texts_mid asked before after outcome loaded.1 run.resumes in
+      ((end.2 ∙ loaded.0, end.0), end.1)
+
+  -- the first plan isn't asked for
+  cells_refused : (plan : List ℕ) (plans : List (List ℕ)) (came : Result (List ℕ) CommandFault) (mid : List (List ℕ)) (outcome : Result Cells CommandFault) (asked : List (List ℕ))
+      → Asks (Shelf content) path [] came mid → GoesOn (λ t. LoadsEach (Shelf content) t name [] (plan ∷ plans)) came mid outcome asked → IsInstanceTold path fault outcome asked
+  cells_refused plan plans (Ok t) mid outcome asked given on =
+      let refusal = told_of fault on.is.came (on.is.is.0.first fault (same_text t given.0)) in
+      let one = stopped fault on.is.came _ on.is.mid on.mid on.came refusal on.is.goes_on in
+      let end = stopped fault on.came _ on.mid asked outcome one.1 on.goes_on in
+      (end.0 ∙ one.0 ∙ on.is.is.1 ∙ given.1, end.1)
+  cells_refused plan plans (Err f) mid outcome asked given on = absurd (let both : Err given.0 ≡ Ok text = given.2.0 ∙ is in cc both)
+
+  pub hub_first : (plan : List ℕ) (plans : List (List ℕ)) (before after : Streams) (outcome : Result Answer CommandFault) (asked : List (List ℕ))
+      → RunsHub (Shelf content) path name (plan ∷ plans) [] before outcome asked after → IsInstanceTold path fault outcome asked × (after ≡ before)
+  hub_first plan plans before after outcome asked run =
+      let loaded = cells_refused plan plans run.loads.came run.loads.mid run.loaded asked run.loads.is run.loads.goes_on in
+      let end = hub_stopped fault run.loaded before after outcome loaded.1 run.drives in
+      ((loaded.0, end.0), end.1)

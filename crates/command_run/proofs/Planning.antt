@@ -15,7 +15,7 @@ use Rattle.command_answers.specs.declared.command_fault.CommandFault.TheVariants
 use Rattle.command_answers.specs.Search.{task_in, IsFound, IsSearchLine, IsSearchAnswer}
 use Rattle.command_answers.specs.Steps.{Then, GoesOn, Told}
 use Rattle.command_answers.specs.Commands.{ReadsInstance, ReadsPlan, WithPlan, RunsPlan}
-use Rattle.command_run.specs.Planners.{MayPlanAt, MayPlan}
+use Rattle.command_run.specs.Planners.{AreTheTwo, MayPlanAt, MayPlan}
 
 module _ (may wide : Proposals) (rounds proposers : ℕ) (within : (turn : Turn) (proposal : Proposal) → may turn proposal → wide turn proposal) where
   fail_more : (t : PlanTask) (turn : Turn) → MayFail t (may turn) → MayFail t (wide turn)
@@ -94,12 +94,13 @@ module _ {B : Type 0} (may : B → JobShop → ℕ → Proposal → Type 0) (one
   both_may : (shop : JobShop) (turn : Turn) (proposal : Proposal) → MayPropose (λ b. may b shop) (one ∷ two ∷ []) turn proposal → MayPlan shop turn proposal
   both_may shop turn proposal m = at_place shop turn.round proposal turn.proposer m.who m.within m.stands m.given
 
--- a search by these two planners, of which the second proposes the shifted rows
-pub seeks : {W B : Type 0} (gives : W → List ℕ → Result (List ℕ) FileFault → W → Type 0) (may : B → JobShop → ℕ → Proposal → Type 0) (one two : B) (planners : List B)
+-- a search by the two planners
+pub seeks : {W B : Type 0} (gives : W → List ℕ → Result (List ℕ) FileFault → W → Type 0) (may : B → JobShop → ℕ → Proposal → Type 0) (planners : List B)
     (rounds : ℕ) (path : List ℕ) (name : Option (List ℕ)) (plan : List ℕ) (before : W) (outcome : Result Answer CommandFault) (after : W)
-    → RunsPlan gives (λ shop. MayPropose (λ b. may b shop) planners) rounds (length planners) path name plan before outcome after → planners ≡ one ∷ two ∷ []
-    → ((shop : JobShop) (round : ℕ) (proposal : Proposal) → may two shop round proposal → proposal ≡ Some (shifted_order shop round))
+    → AreTheTwo may planners → RunsPlan gives (λ shop. MayPropose (λ b. may b shop) planners) rounds (length planners) path name plan before outcome after
     → RunsPlan gives MayPlan rounds 2 path name plan before outcome after
-seeks gives may one two planners rounds path name plan before outcome after run same shifts =
-    runs_more gives (λ shop. MayPropose (λ b. may b shop) (one ∷ two ∷ [])) MayPlan (both_may may one two shifts) rounds 2 path name plan before outcome after
-    (subst (λ l. RunsPlan gives (λ shop. MayPropose (λ b. may b shop) l) rounds (length l) path name plan before outcome after) same run)
+seeks gives may [] rounds path name plan before outcome after are run = absurd are
+seeks gives may (one ∷ []) rounds path name plan before outcome after are run = absurd are
+seeks gives may (one ∷ two ∷ []) rounds path name plan before outcome after are run =
+    runs_more gives (λ shop. MayPropose (λ b. may b shop) (one ∷ two ∷ [])) MayPlan (both_may may one two (λ shop round proposal. (are.1 shop round proposal).0)) rounds 2 path name plan before outcome after run
+seeks gives may (one ∷ two ∷ three ∷ planners) rounds path name plan before outcome after are run = absurd are

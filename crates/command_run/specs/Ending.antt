@@ -5,6 +5,7 @@ use Rattle.run_log.specs.Sinks.{TookPart}
 use Rattle.command_answers.specs.declared.answer.Answer.{Answer}
 use Rattle.command_answers.specs.declared.command_fault.CommandFault.{CommandFault}
 use Rattle.command_answers.specs.declared.command_fault.CommandFault.TheVariants.{Instance, Plan, Read, Write, InputTooLong, Memory}
+use Rattle.command_answers.specs.Statuses.{status_of}
 use Rattle.command_run.specs.Streams.{Output, Errors}
 
 -- a line was told whole; or its first bytes were, and a write of the error output has failed
@@ -12,28 +13,41 @@ abbrev pub WasTold : List ℕ → Errors → Errors → Type 0
 WasTold line before after = (Appends before.taken after.taken line × (after.failed ≡ before.failed))
     ⊎ ((after.failed ≡ true) × TookPart before.taken after.taken line)
 
--- the line that says that memory was wanting, and its status
-abbrev pub IsMemoryLine : List ℕ → ℕ → Type 0
-IsMemoryLine line status = (line ≡ codes "cellplan: out of memory\n") × (status ≡ 4)
+-- a line with the words of a fault behind what is refused
+abbrev pub IsRefusalLine : List ℕ → List ℕ → Type 0
+IsRefusalLine what line = (words : List ℕ) × (line ≡ what ++ words ++ codes "\n")
 
--- a line with the words of a fault, and the status of a text that is refused; or memory was wanting for the words
-abbrev pub IsRefusalLine : List ℕ → List ℕ → ℕ → Type 0
-IsRefusalLine what line status = ((words : List ℕ) × (line ≡ what ++ words ++ codes "\n") × (status ≡ 3)) ⊎ IsMemoryLine line status
+-- what is said of a fault
+abbrev pub IsFaultLine : CommandFault → List ℕ → Type 0
+IsFaultLine (Instance fault) line = IsRefusalLine (codes "cellplan: instance: ") line
+IsFaultLine (Plan fault) line = IsRefusalLine (codes "cellplan: plan: ") line
+IsFaultLine Read line = line ≡ codes "cellplan: read\n"
+IsFaultLine Write line = line ≡ codes "cellplan: write\n"
+IsFaultLine InputTooLong line = line ≡ codes "cellplan: input too long\n"
+IsFaultLine Memory line = line ≡ codes "cellplan: out of memory\n"
 
--- what is said of a fault, and the status
-abbrev pub IsFaultLine : CommandFault → List ℕ → ℕ → Type 0
-IsFaultLine (Instance fault) line status = IsRefusalLine (codes "cellplan: instance: ") line status
-IsFaultLine (Plan fault) line status = IsRefusalLine (codes "cellplan: plan: ") line status
-IsFaultLine Read line status = (line ≡ codes "cellplan: read\n") × (status ≡ 5)
-IsFaultLine Write line status = (line ≡ codes "cellplan: write\n") × (status ≡ 5)
-IsFaultLine InputTooLong line status = (line ≡ codes "cellplan: input too long\n") × (status ≡ 5)
-IsFaultLine Memory line status = IsMemoryLine line status
+-- a text is refused, whose words take memory
+abbrev pub IsOfText : CommandFault → Type 0
+IsOfText (Instance fault) = Unit {0}
+IsOfText (Plan fault) = Unit {0}
+IsOfText other = ⊥
 
--- the fault was told on the standard error
-pub record IsTold (fault : CommandFault) (before after : Errors) (status : ℕ) : Type 0 where
+-- the line of a refused text; of another fault anything
+abbrev pub IsTextLine : CommandFault → List ℕ → Type 0
+IsTextLine (Instance fault) line = IsFaultLine (Instance fault) line
+IsTextLine (Plan fault) line = IsFaultLine (Plan fault) line
+IsTextLine other line = Unit {0}
+
+-- the line of the fault was told on the standard error, and the status is its own
+pub record IsLineOut (fault : CommandFault) (before after : Errors) (status : ℕ) : Type 0 where
   pub line : List ℕ
-  pub is : IsFaultLine fault line status
+  pub is : IsFaultLine fault line
   pub told : WasTold line before after
+  pub own : status ≡ status_of fault
+
+-- the fault was told; or want of memory in its place, where its words take memory
+abbrev pub IsTold : CommandFault → Errors → Errors → ℕ → Type 0
+IsTold fault before after status = IsLineOut fault before after status ⊎ (IsOfText fault × IsLineOut Memory before after status)
 
 -- all that was taken is shown, or that failed
 abbrev pub IsShown : ℕ → Output → Output → Result ℕ CommandFault → Type 0

@@ -6,5 +6,6 @@ pub mod Drives
 pub mod Resumes
 pub mod Hubs
 pub mod Ending
+pub mod Unchosen
 pub mod Program
 pub mod Laws

@@ -11,6 +11,7 @@ use Rattle.command_answers.specs.declared.reading.FileFault.{FileFault}
 use Rattle.command_answers.specs.declared.answer.Answer.{Answer}
 use Rattle.command_answers.specs.declared.cells.Cells.{Cells}
 use Rattle.command_answers.specs.declared.command_fault.CommandFault.{CommandFault}
+use Rattle.command_answers.specs.declared.command_fault.CommandFault.TheVariants.{Memory as Wanting}
 use Rattle.command_answers.specs.declared.loading.Loaded.{Loaded}
 use Rattle.command_answers.specs.AuditLines.{IsLogLine}
 use Rattle.command_answers.specs.GanttLines.{IsDrawnLog}
@@ -23,7 +24,7 @@ use Rattle.command_run.specs.Improvers.{ImprovesPlan}
 use Rattle.command_run.specs.Drives.{Drives}
 use Rattle.command_run.specs.Resumes.{Resumes}
 use Rattle.command_run.specs.Hubs.{DrivesAll}
-use Rattle.command_run.specs.Ending.{Ends, IsMemoryLine, IsAnswerEnd, WasTold}
+use Rattle.command_run.specs.Ending.{Ends, IsAnswerEnd, WasTold}
 
 -- what the words of the command line are read as
 pub record AreWordsRead (words : List (List ℕ)) (read : Result Chosen WordsFault) : Type 0 where
@@ -117,7 +118,7 @@ module _ {W : Type 0} (gives : W → List ℕ → Result (List ℕ) FileFault �
   Follows (Err (Usage false text)) texts before told_before status texts_after after told_after =
       WasTold (string_bytes text) told_before told_after × (status ≡ 2) × (texts_after ≡ texts) × (after ≡ before)
   Follows (Err Memory) texts before told_before status texts_after after told_after =
-      ((line : List ℕ) × IsMemoryLine line status × WasTold line told_before told_after) × (texts_after ≡ texts) × (after ≡ before)
+      Ends (Err Wanting) before.output after.output told_before told_after status × (texts_after ≡ texts) × (after.input ≡ before.input)
 
   -- the program: the words are read, and what they ask for is done
   pub record RunsProgram (words : List (List ℕ)) (texts : W) (before : Streams) (told_before : Errors) (status : ℕ)

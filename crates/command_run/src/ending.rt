@@ -1,15 +1,13 @@
 //! How the program ends.
 
-ghost use Rattle.std.specs.Prelude.{◌≡◌, ◌++◌, ℕ, List, IfOk, codes};
+ghost use Rattle.std.specs.Prelude.{◌≡◌, IfOk, IfErr};
 ghost use Rattle.command_run.specs.Streams.{errors_of, output_of};
-ghost use Rattle.command_run.specs.Ending.{WasTold, IsRefusalLine, IsTold, IsShown, IsPrinted, IsToldAfter, Ends};
+ghost use Rattle.command_run.specs.Ending.{WasTold, IsRefusalLine, IsFaultLine, IsOfText, IsTextLine, IsLineOut, IsTold, IsShown, IsPrinted, IsToldAfter, Ends};
 
 use cell_drive::Outlet;
 use command_answers::{Answer, CommandFault};
 use run_log::{Sink, put_all};
 use std::alloc::{AllocError, Global};
-
-pub(crate) const MEMORY: &[u8] = b"cellplan: out of memory\n";
 
 /// Prints the answer or tells the fault, and gives the status that the program ends with.
 pub(crate) fn end<W: Outlet, E: Sink>(
@@ -64,42 +62,29 @@ fn tell_after<E: Sink>(alloc: Global, printed: Result<u8, CommandFault>, errors:
 }
 
 /// Says on the standard error why there is no answer, and gives the status that the program ends with. Nothing is left
-/// to do where that can't be written.
+/// to do where that can't be written. A refused text is told as want of memory where there is none for its line.
 pub fn tell<E: Sink>(alloc: Global, fault: &CommandFault, errors: &mut E) -> u8
     ensures { IsTold fault.now (errors_of E.taken E.failed errors.old) (errors_of E.taken E.failed errors.new) result }
 {
-    match fault {
-        CommandFault::Instance(fault) => {
-            tell_refused(
-                alloc,
-                b"cellplan: instance: ",
-                fault.to_string(alloc),
-                errors,
-            )
-        }
-        CommandFault::Plan(fault) => {
-            tell_refused(alloc, b"cellplan: plan: ", fault.to_string(alloc), errors)
-        }
-        CommandFault::Read => tell_line(errors, b"cellplan: read\n", 5),
-        CommandFault::Write => tell_line(errors, b"cellplan: write\n", 5),
-        CommandFault::InputTooLong => tell_line(errors, b"cellplan: input too long\n", 5),
-        CommandFault::Memory => tell_line(errors, MEMORY, 4),
+    match text_line(alloc, fault) {
+        Ok(line) => tell_fault(fault, &line, errors),
+        Err(error) => tell_fault(&CommandFault::from(error), b"", errors),
     }
 }
 
-/// Tells why a text is refused.
-fn tell_refused<E: Sink>(
-    alloc: Global,
-    what: &[u8],
-    words: Result<String, AllocError>,
-    errors: &mut E,
-) -> u8
-    ensures { (line : List ℕ) × IsRefusalLine what.now line result
-        × WasTold line (errors_of E.taken E.failed errors.old) (errors_of E.taken E.failed errors.new) }
+/// The line of a refused text. For another fault it is empty, and takes no memory.
+fn text_line(alloc: Global, fault: &CommandFault) -> Result<Vec<u8>, AllocError>
+    ensures line { IfOk result (λ line. IsTextLine fault.now line.items) }
+    ensures wanting { IfErr result (λ _. IsOfText fault.now) }
 {
-    match refusal_line(alloc, what, words) {
-        Ok(line) => tell_line(errors, &line, 3),
-        Err(_) => tell_line(errors, MEMORY, 4),
+    match fault {
+        CommandFault::Instance(fault) => {
+            refusal_line(alloc, b"cellplan: instance: ", fault.to_string(alloc))
+        }
+        CommandFault::Plan(fault) => {
+            refusal_line(alloc, b"cellplan: plan: ", fault.to_string(alloc))
+        }
+        _ => Ok(Vec::new(alloc)),
     }
 }
 
@@ -109,7 +94,7 @@ fn refusal_line(
     what: &[u8],
     words: Result<String, AllocError>,
 ) -> Result<Vec<u8>, AllocError>
-    ensures { IfOk result (λ line. (words : List ℕ) × (line.items ≡ what.now ++ words ++ codes "\n")) }
+    ensures { IfOk result (λ line. IsRefusalLine what.now line.items) }
 {
     let words = words?;
     let mut line = Vec::new(alloc);
@@ -117,6 +102,28 @@ fn refusal_line(
     line.extend_from_slice(words.as_bytes())?;
     line.push(b'\n')?;
     Ok(line)
+}
+
+/// Tells a fault, and gives its status. The line is that of a refused text.
+fn tell_fault<E: Sink>(fault: &CommandFault, line: &[u8], errors: &mut E) -> u8
+    requires { IsTextLine fault.now line.now }
+    ensures { IsLineOut fault.now (errors_of E.taken E.failed errors.old) (errors_of E.taken E.failed errors.new) result }
+{
+    tell_line(errors, fault_line(fault, line), fault.status())
+}
+
+/// What is said of a fault. The line is that of a refused text.
+fn fault_line<'a>(fault: &CommandFault, line: &'a [u8]) -> &'a [u8]
+    requires { IsTextLine fault.now line.now }
+    ensures { IsFaultLine fault.now result.now }
+{
+    match fault {
+        CommandFault::Instance(_) | CommandFault::Plan(_) => line,
+        CommandFault::Read => b"cellplan: read\n",
+        CommandFault::Write => b"cellplan: write\n",
+        CommandFault::InputTooLong => b"cellplan: input too long\n",
+        CommandFault::Memory => b"cellplan: out of memory\n",
+    }
 }
 
 /// Writes as much of a line as can be written, and gives the status.

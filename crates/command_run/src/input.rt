@@ -1,11 +1,11 @@
 //! The command without words.
 
-ghost use Rattle.std.specs.Prelude.{◌≡◌, ◌<◌, [], length};
+ghost use Rattle.std.specs.Prelude.{◌≡◌, ◌<◌, ◌≤◌, [], length};
 ghost use Rattle.command_answers.specs.Texts.{text_of};
 ghost use Rattle.command_run.specs.Streams.{input_of};
 ghost use Rattle.command_run.specs.Inputs.{IsInputRead, RunsInput};
 
-use cell_drive::{Outlet, Source, reading_room};
+use cell_drive::{MAX_PIECE, Outlet, Source, reading_room};
 use command_answers::{Answer, CommandFault, facts_of};
 use std::alloc::Global;
 use text_lines::MAX_INPUT;
@@ -42,7 +42,7 @@ fn read_pieces<R: Source, W: Outlet>(
     room: &mut [u8],
     output: &W,
 ) -> Result<Vec<u8>, CommandFault>
-    requires room { 0 < length room.old }
+    requires room { (0 < length room.old) × (length room.old ≤ MAX_PIECE) }
     requires shown { W.pending output.now ≡ [] }
     ensures { IsInputRead (input_of R.left R.failed input.old) (text_of result) (input_of R.left R.failed input.new) }
 {

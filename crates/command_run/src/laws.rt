@@ -1,12 +1,41 @@
-//! What the steps of a command mean. Nothing is done here: a function's contract is the law.
+//! What the program's clauses come to in plain words. Nothing is done here: a function's contract is the law.
 
-ghost use Rattle.command_run.specs.Laws.{ShapeTellsInstanceFirst, CheckTellsInstanceFirst, AuditTellsInstanceFirst, GanttTellsInstanceFirst};
+ghost use Rattle.command_run.specs.Laws.{FactsTellInstanceFirst, ShapeTellsInstanceFirst, CheckTellsInstanceFirst, ExplainTellsInstanceFirst};
+ghost use Rattle.command_run.specs.Laws.{PlanTellsInstanceFirst, ImproveTellsInstanceFirst, DriveTellsInstanceFirst, ResumeTellsInstanceFirst};
+ghost use Rattle.command_run.specs.Laws.{HubTellsInstanceFirst, AuditTellsInstanceFirst, GanttTellsInstanceFirst};
+ghost use Rattle.command_run.specs.Laws.{WhatFailsIsTold, NothingIsHeldBack, WhatFailsIsNoAnswer};
+
+use command_answers::Texts;
 
 /// Where the text of the instance is refused, its first fault is told, unless memory runs out, and no other file is
-/// asked for.
+/// asked for; `drive`, `resume` and `hub` then read and write no byte.
 pub fn instance_first()
+    ensures facts { FactsTellInstanceFirst }
     ensures shape { ShapeTellsInstanceFirst }
     ensures check { CheckTellsInstanceFirst }
+    ensures explain { ExplainTellsInstanceFirst }
+    ensures plan { PlanTellsInstanceFirst }
+    ensures improve { ImproveTellsInstanceFirst }
+    ensures drive { DriveTellsInstanceFirst }
+    ensures resume { ResumeTellsInstanceFirst }
+    ensures hub { HubTellsInstanceFirst }
     ensures audit { AuditTellsInstanceFirst }
     ensures gantt { GanttTellsInstanceFirst }
+{}
+
+/// Each run of the program ends with 0 or 1 and tells nothing on the error output, or it ends with 2 or more, and what
+/// failed is told there with its status.
+pub fn what_fails_is_told<T: Texts>()
+    ensures { WhatFailsIsTold T.gives }
+{}
+
+/// At the end of each run nothing is held back, unless a write of the output has failed.
+pub fn nothing_is_held_back<T: Texts>()
+    ensures { NothingIsHeldBack T.gives }
+{}
+
+/// Where a run ends with 2 or more, nothing was written on the output but what driven cells answered, and the first
+/// bytes of an answer whose write failed.
+pub fn what_fails_is_no_answer<T: Texts>()
+    ensures { WhatFailsIsNoAnswer T.gives }
 {}

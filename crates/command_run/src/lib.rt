@@ -14,6 +14,7 @@ mod program;
 mod progress;
 mod resumes;
 mod screen;
+mod unchosen;
 
 pub use devices::Devices;
 pub use ending::tell;

@@ -7,10 +7,11 @@ ghost use Rattle.command_run.specs.Program.{AreWordsRead, Follows, RunsProgram};
 
 use crate::command::command;
 use crate::devices::Devices;
-use crate::ending::{MEMORY, end, tell_line};
+use crate::ending::{end, tell_line};
 use crate::screen::Screen;
+use crate::unchosen::Unchosen;
 use cell_drive::{Outlet, Source};
-use command_answers::{Answer, GOOD, Texts};
+use command_answers::Texts;
 use command_words::{Chosen, WordsFault, read_words};
 use run_log::Sink;
 use std::alloc::Global;
@@ -38,7 +39,7 @@ fn words_read(alloc: Global, words: &[&str]) -> Result<Chosen, WordsFault>
     read_words(alloc, words)
 }
 
-/// What follows the reading of the words. Help that was asked for is a good answer.
+/// What follows the reading of the words.
 fn follow<T: Texts, R: Source, W: Outlet, E: Sink, S: Screen>(
     alloc: Global,
     read: Result<Chosen, WordsFault>,
@@ -64,14 +65,9 @@ fn follow<T: Texts, R: Source, W: Outlet, E: Sink, S: Screen>(
             let outcome = command(alloc, &chosen, texts, input, output, screen);
             end(alloc, outcome, output, errors)
         }
-        Err(WordsFault::Usage { help: true, text }) => {
-            let help = Answer {
-                text: text.into_bytes(),
-                status: GOOD,
-            };
-            end(alloc, Ok(help), output, errors)
-        }
-        Err(WordsFault::Usage { help: false, text }) => tell_line(errors, text.as_bytes(), 2),
-        Err(WordsFault::Memory) => tell_line(errors, MEMORY, 4),
+        Err(fault) => match Unchosen::from(fault) {
+            Unchosen::Ends(outcome) => end(alloc, outcome, output, errors),
+            Unchosen::Usage(text) => tell_line(errors, text.as_bytes(), 2),
+        },
     }
 }

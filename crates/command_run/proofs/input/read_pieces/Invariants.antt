@@ -1,4 +1,4 @@
-use Rattle.std.proofs.Common.{◌≡◌, ◌+◌, ◌<◌, length}
+use Rattle.std.proofs.Common.{◌≡◌, ◌+◌, ◌<◌, ◌≤◌, length}
 use Rattle.std.specs.Io.KnownBytes.{Consumes}
 use Rattle.command_run.proofs.input.read_pieces.Given as goal
 
@@ -8,6 +8,7 @@ invariant-reads g l = record {
   unfailed : g.R.Source.failed l.input ≡ g.R.Source.failed l.initial.input;
   count : length l.text.items + l.left ≡ 67108864;
   room : 0 < length l.room;
+  piece : length l.room ≤ 65536;
 }
 
 abbrev pub decreases-reads : goal.decreases-reads

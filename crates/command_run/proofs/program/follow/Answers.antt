@@ -1,15 +1,10 @@
-use Rattle.std.proofs.Common.{rules, ◌≡◌, true, Err, refl}
-use Rattle.std.specs.String.{string_bytes}
-use Rattle.command_words.specs.declared.words.WordsFault.TheVariants.{Usage}
+use Rattle.std.proofs.Common.{◌≡◌, Err, refl, subst}
+use Rattle.command_run.specs.Unchosen.{ComesTo, Comes}
+use Rattle.command_run.proofs.Refusing.{refused_ends}
 use Rattle.command_run.proofs.program.follow.Goals as goal
 
-pub returns-in-Err-Usage-true-default : goal.returns-in-Err-Usage-true-default
-returns-in-Err-Usage-true-default g c =
-    let is : c.args.read ≡ Err (Usage true c.in-Err-Usage-true-default.text) = search rules in
-    let text : c.into_bytes.result.items ≡ string_bytes c.in-Err-Usage-true-default.text = search rules in
-    rw is (record {
-      help = record { text = c.into_bytes.result; status = 0 };
-      text_is = (text, refl);
-      ends = c.end-in-Err-Usage-true-default.ensures;
-      same = (refl, refl);
-    })
+pub returns-in-Ends : goal.returns-in-Ends
+returns-in-Ends g c =
+    let is : c.args.read ≡ Err c.in-Err.fault = c.in-Err.is in
+    let comes : ComesTo c.in-Err.fault c.in-Ends.outcome = subst (Comes c.in-Err.fault) c.in-Ends.is c.from.ensures in
+    rw is (refused_ends g.T.Texts.gives c.in-Err.fault c.in-Ends.outcome _ _ _ _ _ _ _ comes c.end-in-Ends.ensures refl refl)

@@ -1,0 +1,21 @@
+-- What words that choose no command come to.
+use Rattle.std.specs.Prelude.{◌≡◌, true, false, Result, Ok, Err}
+use Rattle.std.specs.String.{string_bytes}
+use Rattle.command_words.specs.declared.words.WordsFault.{WordsFault}
+use Rattle.command_words.specs.declared.words.WordsFault.TheVariants.{Usage, Memory}
+use Rattle.command_answers.specs.declared.answer.Answer.{Answer}
+use Rattle.command_answers.specs.declared.command_fault.CommandFault.{CommandFault}
+use Rattle.command_answers.specs.declared.command_fault.CommandFault.TheVariants.{Memory as Wanting}
+use Rattle.command_run.specs.declared.unchosen.Unchosen.{Unchosen}
+use Rattle.command_run.specs.declared.unchosen.Unchosen.TheVariants.{Ends, Usage as Wrong}
+
+-- help that was asked for is a good answer, and want of memory is a fault
+abbrev pub ComesTo : WordsFault → Result Answer CommandFault → Type 0
+ComesTo (Usage true text) (Ok answer) = (answer.text.items ≡ string_bytes text) × (answer.status ≡ 0)
+ComesTo Memory (Err fault) = fault ≡ Wanting
+ComesTo fault outcome = ⊥
+
+abbrev pub Comes : WordsFault → Unchosen → Type 0
+Comes fault (Ends outcome) = ComesTo fault outcome
+Comes (Usage false text) (Wrong told) = told ≡ text
+Comes fault (Wrong told) = ⊥
