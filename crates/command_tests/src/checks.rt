@@ -77,15 +77,15 @@ fn a_refused_text_has_no_verdict(rt: HostRuntime) -> Result<(), Fail> {
 
 #[test]
 fn a_verdict_is_loaded(rt: HostRuntime) -> Result<(), Fail> {
-    match load(rt.alloc(), TWO, None, IN_TIME)? {
-        Loaded::Judged(Verdict::Accepted(verified)) => {
+    match load(rt.alloc(), TWO, None, IN_TIME)?.accepted() {
+        Ok(verified) => {
             assert_eq!(rt; verified.makespan(), 10);
             assert_eq!(rt; verified.earliest_leave(0), Some(5));
             assert_eq!(rt; verified.earliest_leave(2), None);
             assert_eq!(rt; verified.shaped().report_count(), 6);
             assert_eq!(rt; verified.into_shaped().report_count(), 6);
         }
-        _ => assert!(rt; false),
+        Err(_) => assert!(rt; false),
     }
     Ok(())
 }
