@@ -64,10 +64,11 @@ class Run:
     def is_taken_up(self):
         """The log of a `resume` without a report: before its mark it has just the events that the torn log has in full."""
         words, first, asked = self.starts()
-        _, got = self.ends(words, b"")
+        status, got = self.ends(words, b"")
         before, _, _ = ("\n" + got.decode()).partition("\n\n")
         want("the events before the mark", events(before.split("\n")), events(whole_lines(self.log)))
         want("what is taken up", got, text_of(first + [self.closing(asked)]))
+        want("the status", status, 1 if asked else 0)
         return got
 
     def is_driven_on(self, given=list):
