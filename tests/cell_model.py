@@ -58,7 +58,8 @@ class Plan:
     @classmethod
     def read(cls, text):
         """The plan of a text whose keys stand at the beginning of a line."""
-        lists = {key: ast.literal_eval(value) for key, value in re.findall(r"^(\w+) = (\[.*?\])\s*(?=^\w|\Z)", text, re.DOTALL | re.MULTILINE)}
+        keys = re.findall(r"^(\w+) = (\[.*?\])\s*(?=^\w|\Z)", text, re.DOTALL | re.MULTILINE)
+        lists = {key: ast.literal_eval(value) for key, value in keys}
         return cls(lists["release"], lists["budget"], lists.get("clean"), lists["order"])
 
     def cleaned(self, machine):
