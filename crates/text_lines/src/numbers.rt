@@ -48,7 +48,7 @@ pub fn number_before_space(bytes: &[u8], most: usize) -> Option<(u64, &[u8])>
     for end in 0..bytes.len().min(most + 1) {
         let byte = bytes[end];
         if !is_digit(byte) {
-            return ended_number(bytes, end, value, most);
+            return ended_number(bytes, end, value);
         }
         value = 10 * value + u64::from(byte - b'0');
     }
@@ -56,16 +56,15 @@ pub fn number_before_space(bytes: &[u8], most: usize) -> Option<(u64, &[u8])>
 }
 
 /// The number that the digits before this end are, and the bytes behind it, if there are digits and a space ends them.
-fn ended_number(bytes: &[u8], end: usize, value: u64, most: usize) -> Option<(u64, &[u8])>
+fn ended_number(bytes: &[u8], end: usize, value: u64) -> Option<(u64, &[u8])>
     requires end { end < length bytes.now }
-    requires few { end ≤ most }
     requires digits { list_all is_digit (take end bytes.now) ≡ true }
     requires ended { is_digit (slice_index bytes.now end) ≡ false }
     requires value { value ≡ value_of (take end bytes.now) }
-    requires small { value < 10 ^ most }
-    ensures number { MatchOption result ((n : ℕ) (rest : List ℕ) → IsNumberBefore most bytes.now n rest → ⊥)
+    ensures number { (most : ℕ) → end ≤ most
+        → MatchOption result ((n : ℕ) (rest : List ℕ) → IsNumberBefore most bytes.now n rest → ⊥)
         (λ found. IsNumberBefore most bytes.now found.0 found.1.now) }
-    ensures small { IfSome result (λ found. found.0 < 10 ^ most) }
+    ensures same { IfSome result (λ found. found.0 ≡ value) }
 {
     if end == 0 {
         return None;
