@@ -8,7 +8,7 @@ use Rattle.shop_base.specs.Run.{Event, Reported, Moved}
 use Rattle.shop_base.specs.Punctual.{ArePunctual, AreExact}
 use Rattle.shop_base.specs.KeptMoments.{KeepsMoments}
 use Rattle.shop_base.specs.Graph.{leaving}
-use Rattle.shop_base.specs.ExactLaw.{ExactRunsAreJustInTime}
+use Rattle.shop_base.specs.ExactLaw.{JustInTime}
 use Rattle.shop_base.proofs.ControlledRuns.{controlled_to_run, start_at_rest}
 use Rattle.shop_base.proofs.Keeping.{start-sound}
 use Rattle.shop_base.proofs.InTime.{start-keeps_moments, leads-keeps_moments}
@@ -20,7 +20,7 @@ exact-punctual p c [] exact = tt
 exact-punctual p c (Reported r ∷ es) exact = (exact.0.punctual, exact-punctual p (after_report c r) es exact.1)
 exact-punctual p c (Moved o ∷ es) exact = exact-punctual p (after_move p c o.job o.at) es exact
 
-pub just_in_time-holds : ExactRunsAreJustInTime
+pub just_in_time-holds : JustInTime
 just_in_time-holds p rank kept rs es end schedule run exact j nodes path gone =
     let (events, ends, sound, rest) = controlled_to_run p rs es end schedule.shaped run in
     let keeps_moments : KeepsMoments p kept end =

@@ -1,3 +1,4 @@
+-- The activities that go on in a cell, and when each of them is due.
 use Rattle.std.specs.Prelude.{◌≡◌, ℕ, ◌+◌, Some, false}
 use Rattle.shop_base.specs.Plan.{PlannedShop, release, nominal, clean}
 use Rattle.shop_base.specs.Cell.{Cell, IsOutside, IsOn, ready, since, cleaning}

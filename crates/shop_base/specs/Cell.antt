@@ -1,3 +1,4 @@
+-- A cell without buffers: how far each job is, which jobs entered each machine, and which machines are being cleaned.
 use Rattle.std.specs.Prelude.{◌≡◌, ℕ, ◌+◌, ◌<◌, List, [], replicate, drop, slice_index_or, slice_set, Option, None, Bool, false}
 use Rattle.shop_base.specs.declared.shop.Step.{Step}
 use Rattle.shop_base.specs.declared.job_state.JobState.{JobState}

@@ -1,3 +1,4 @@
+-- The controlled run of a list of reports: each possible report, and the moves after it until the cell is at rest.
 use Rattle.std.specs.Prelude.{ℕ, List, [], ◌∷◌, ◌++◌}
 use Rattle.shop_base.specs.Plan.{PlannedShop}
 use Rattle.shop_base.specs.Cell.{Cell, start}

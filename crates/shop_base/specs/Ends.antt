@@ -1,3 +1,4 @@
+-- How a run ends: the stated number of its reports, the jobs that are gone, and their budgets.
 use Rattle.std.specs.Prelude.{ℕ, zero, suc, ◌+◌, ◌<◌, ◌≤◌, length, nat_lt, if◌then◌else◌, ◌⊎◌, List, [], ◌∷◌}
 use Rattle.shop_base.specs.Shop.{operations_of}
 use Rattle.shop_base.specs.Plan.{PlannedShop, jobs, machines, order, clean, budget}

@@ -1,3 +1,4 @@
+-- The laws of exact runs: no job is out before a path allows it, nor after the moment that is kept for it.
 use Rattle.std.specs.Prelude.{◌≡◌, ℕ, ◌≤◌, List, ◌∷◌, ◌++◌}
 use Rattle.shop_base.specs.declared.node.Node.{Node}
 use Rattle.shop_base.specs.Plan.{PlannedShop, IsWellShaped}
@@ -26,8 +27,8 @@ NoExactMoveIsEarlier =
     → n ≤ o.at
 
 -- just in time: where a plan has a schedule, and all reports of a controlled run are exact, a job that is gone is gone since just the moment of its leaving, if a path to its leaving is that long
-abbrev pub ExactRunsAreJustInTime : Type 0
-ExactRunsAreJustInTime =
+abbrev pub JustInTime : Type 0
+JustInTime =
     (p : PlannedShop) (rank kept : Node → ℕ) (rs : List Report) (es : List Event) (end : Cell)
     → IsSchedule p rank kept → IsControlledRun p rs es end → AreExact p (start p) es
     → (j : ℕ) (nodes : List Node) → Path p nodes (leaving p j) (kept (leaving p j)) → IsGone p end j

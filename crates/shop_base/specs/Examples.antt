@@ -1,3 +1,4 @@
+-- The worked examples: shops, plans and runs.
 use Rattle.std.specs.Prelude.{ℕ, List, [], ◌∷◌, ◌++◌, length, replicate, take, slice_index, slice_index_or, Option, None, Some}
 use Rattle.shop_base.specs.declared.shop.Step.{Step}
 use Rattle.shop_base.specs.declared.node.Node.{Node}

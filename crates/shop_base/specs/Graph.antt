@@ -1,3 +1,5 @@
+-- The graph of a plan: nodes, arcs and their lengths, paths, cycles, and the ranks and moments that fit it
+-- (Mascis and Pacciarelli, EJOR 143, 2002).
 use Rattle.std.specs.Prelude.{◌≢◌, ℕ, ◌+◌, ◌<◌, ◌≤◌, List, [], ◌∷◌, ◌++◌, length}
 use Rattle.shop_base.specs.declared.node.Node.{Node}
 use Rattle.shop_base.specs.Plan.{PlannedShop, jobs, steps, nominal, release, budget, clean, order, job_at, Stands, IsWellShaped}

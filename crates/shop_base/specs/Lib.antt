@@ -1,3 +1,4 @@
+-- Reached by public clauses: to be read and believed.
 pub mod Shop
 pub mod Vectors
 pub mod Work
@@ -5,7 +6,6 @@ pub mod ShopFault
 pub mod Plan
 pub mod ShapeFault
 pub mod TimeLimits
-pub mod Marks
 pub mod Cell
 pub mod Activity
 pub mod Report
@@ -28,3 +28,5 @@ pub mod CycleLaw
 pub mod ExactLaw
 pub mod SerialLaw
 pub mod Examples
+-- Of proofs and private contracts alone.
+pub mod Marks

@@ -1,3 +1,4 @@
+-- What a check has met: the machines that a route visits, the jobs in an order, a number over its limit.
 use Rattle.std.specs.Prelude.{◌≡◌, ℕ, ◌<◌, List, [], Bool, false, length, slice_index_or, MatchBool, MatchOption, Option}
 use Rattle.shop_base.specs.declared.shop.Step.{Step}
 use Rattle.shop_base.specs.declared.limits.TheConstants.{MAX_MACHINES}

@@ -1,3 +1,5 @@
+-- The move of a job to its next machine or out of the cell: when it is possible, when it keeps the plan, and
+-- the cell after it.
 use Rattle.std.specs.Prelude.{◌≡◌, ℕ, zero, suc, ◌+◌, List, [], ◌∷◌, ◌++◌, drop, None, Some, true, false, nat_lt, if◌then◌else◌, ◌⊎◌}
 use Rattle.shop_base.specs.declared.shop.Step.{Step}
 use Rattle.shop_base.specs.declared.move_order.Spot.{Spot}

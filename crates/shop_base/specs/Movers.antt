@@ -1,3 +1,4 @@
+-- The jobs that are ready or can move, and the due moments of jobs and cleanings.
 use Rattle.std.specs.Prelude.{◌≡◌, ℕ, zero, suc, ◌+◌, Option, None, Some, cond, nat_lt, if◌then◌else◌}
 use Rattle.shop_base.specs.declared.job_state.JobState.{JobState}
 use Rattle.shop_base.specs.Plan.{PlannedShop, jobs, steps, release, nominal, clean}

@@ -1,3 +1,4 @@
+-- The law that no controlled run is stuck.
 use Rattle.std.specs.Prelude.{ℕ, ◌⊎◌, List}
 use Rattle.shop_base.specs.declared.node.Node.{Node}
 use Rattle.shop_base.specs.Plan.{PlannedShop, IsWellShaped}
@@ -18,7 +19,7 @@ abbrev pub CanReportEach : PlannedShop → Cell → Type 0
 CanReportEach p c = (a : Activity) (due : ℕ) → GoesOn p c a due → CanReport p c (record { ended = a; at = c.last })
 
 -- never stuck: where ranks rise along every arc, each controlled run ends at rest and not stuck, it has ended or can go on, and each activity can be reported
-abbrev pub NoControlledRunIsStuck : Type 0
-NoControlledRunIsStuck = (p : PlannedShop) (rank : Node → ℕ) (rs : List Report) (es : List Event) (end : Cell)
+abbrev pub NeverStuck : Type 0
+NeverStuck = (p : PlannedShop) (rank : Node → ℕ) (rs : List Report) (es : List Event) (end : Cell)
     → IsWellShaped p → RanksRise p rank → IsControlledRun p rs es end
     → IsAtRest p end × (IsStuck p end → ⊥) × (HasEnded p end ⊎ CanGoOn p end) × CanReportEach p end

@@ -1,3 +1,4 @@
+-- How a node is written.
 use Rattle.std.specs.Prelude.{ℕ, List, ◌∷◌, ◌++◌}
 use Rattle.std.specs.Fmt.{decimal}
 use Rattle.shop_base.specs.declared.node.Node.{Node}

@@ -1,3 +1,4 @@
+-- Punctual and exact reports: no later than any activity is due, and exactly when their own is.
 use Rattle.std.specs.Prelude.{ℕ, ◌≤◌, List, [], ◌∷◌}
 use Rattle.shop_base.specs.Plan.{PlannedShop}
 use Rattle.shop_base.specs.Cell.{Cell}

@@ -1,3 +1,4 @@
+-- The report of an activity's end: when it is possible, and the cell after it.
 use Rattle.std.specs.Prelude.{ℕ, ◌≤◌, None, true}
 use Rattle.shop_base.specs.declared.limits.TheConstants.{MAX_MOMENT}
 use Rattle.shop_base.specs.Plan.{PlannedShop}

@@ -1,3 +1,4 @@
+-- The reports still to come in a run, counted from its cell.
 use Rattle.std.specs.Prelude.{ℕ, zero, suc, ◌+◌, ◌-◌, Bool, false, not, ◌&&◌, length, count_by, is_some, nat_eq, nat_lt, if◌then◌else◌}
 use Rattle.shop_base.specs.Plan.{PlannedShop, jobs, machines, steps, machine_of, order, clean}
 use Rattle.shop_base.specs.Cell.{Cell, made, ready, entries, cleaning}

@@ -1,3 +1,4 @@
+-- A run: reports and moves that can happen one after another, from the start; and cells at rest or stuck.
 use Rattle.std.specs.Prelude.{ℕ, ◌<◌, List, [], ◌∷◌}
 use Rattle.shop_base.specs.Plan.{PlannedShop, jobs}
 use Rattle.shop_base.specs.Cell.{Cell, start, IsGone}

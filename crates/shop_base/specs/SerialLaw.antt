@@ -1,3 +1,4 @@
+-- The law that the serial plan has no cycle.
 use Rattle.std.specs.Prelude.{List}
 use Rattle.shop_base.specs.declared.node.Node.{Node}
 use Rattle.shop_base.specs.Plan.{PlannedShop, IsWellShaped}

@@ -1,3 +1,4 @@
+-- What is wrong first with a shop.
 use Rattle.std.specs.Prelude.{◌≡◌, ℕ, ◌<◌, ◌≤◌, List, length}
 use Rattle.shop_base.specs.declared.shop.Step.{Step}
 use Rattle.shop_base.specs.declared.shop_fault.ShopFault.{ShopFault}

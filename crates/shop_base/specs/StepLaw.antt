@@ -1,3 +1,4 @@
+-- The laws of a step and of every run: one list of moves fits a report, and no two jobs are on one machine.
 use Rattle.std.specs.Prelude.{◌≡◌, ℕ, ◌<◌, ◌≤◌, List, [], ◌∷◌, ◌++◌, length, slice_index}
 use Rattle.shop_base.specs.declared.move_order.Spot.TheVariants.{At}
 use Rattle.shop_base.specs.Plan.{PlannedShop, jobs, IsWellShaped}

@@ -1,3 +1,4 @@
+-- How rows of vectors are seen as lists.
 use Rattle.std.specs.Prelude.{ℕ, List, map, Option, None, Some, Vec}
 use Rattle.std.specs.declared.alloc.Global.{Global}
 

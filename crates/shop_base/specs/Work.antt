@@ -1,3 +1,4 @@
+-- The work of a shop: the sum of its nominal times.
 use Rattle.std.specs.Prelude.{ℕ, List, sum_by}
 use Rattle.shop_base.specs.declared.shop.Step.{Step}
 use Rattle.shop_base.specs.Shop.{JobShop}

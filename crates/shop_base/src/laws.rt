@@ -3,11 +3,11 @@
 
 ghost use Rattle.shop_base.specs.StepLaw.{OneListOfMovesFitsAReport, EveryListHasOneControlledRun, NoTwoJobsAreOnOneMachine, AControlledRunIsARun};
 ghost use Rattle.shop_base.specs.StepLaw.{EveryRunIsSound, AMoveEntersItsTarget, NoJobMovesTwice};
-ghost use Rattle.shop_base.specs.NeverStuckLaw.{NoControlledRunIsStuck};
+ghost use Rattle.shop_base.specs.NeverStuckLaw.{NeverStuck};
 ghost use Rattle.shop_base.specs.EndsLaw.{EndsOnTheStatedNumber, ReportsAddUpToTheStatedNumber, OrdersNeverOutnumberReports, MovesNeverOutnumberReports};
-ghost use Rattle.shop_base.specs.InTimeLaw.{PunctualRunsAreInTime, PunctualRunsEndInTime};
+ghost use Rattle.shop_base.specs.InTimeLaw.{InTime, InTimeAtTheEnd};
 ghost use Rattle.shop_base.specs.CycleLaw.{ACycleStopsEveryRun};
-ghost use Rattle.shop_base.specs.ExactLaw.{NoExactRunIsFaster, NoExactMoveIsEarlier, ExactRunsAreJustInTime};
+ghost use Rattle.shop_base.specs.ExactLaw.{NoExactRunIsFaster, NoExactMoveIsEarlier, JustInTime};
 ghost use Rattle.shop_base.specs.SerialLaw.{TheSerialPlanHasNoCycle};
 
 /// One list of moves: from each sound cell at rest, each possible report is followed by exactly one list of moves
@@ -54,7 +54,7 @@ pub fn no_job_moves_twice()
 /// reports, and unless it has ended, an activity is going on. Each activity that is going on can be
 /// reported at the last moment.
 pub fn never_stuck()
-    ensures { NoControlledRunIsStuck }
+    ensures { NeverStuck }
 {}
 
 /// Ends on the stated number: after every list of reports no more were accepted than the stated number,
@@ -76,8 +76,8 @@ pub fn orders_never_outnumber_reports()
 /// where these moments meet the budgets, each job is in time, and out by its budget once it is gone. Where
 /// the run has ended, all jobs are out by their budgets.
 pub fn in_time()
-    ensures kept { PunctualRunsAreInTime }
-    ensures ended { PunctualRunsEndInTime }
+    ensures kept { InTime }
+    ensures ended { InTimeAtTheEnd }
 {}
 
 /// A cycle stops every run: whatever is reported and moved, at whatever moments and by any controller,
@@ -102,7 +102,7 @@ pub fn no_exact_move_is_earlier()
 /// due, and a path to a job's leaving is as long as the moment kept for it, the job, once it is gone, is
 /// gone since just that moment.
 pub fn just_in_time()
-    ensures { ExactRunsAreJustInTime }
+    ensures { JustInTime }
 {}
 
 /// The serial plan has no cycle: where each machine takes its jobs in ascending order, no arcs lead in a

@@ -2,7 +2,7 @@
 
 ghost use Rattle.std.specs.Prelude.{◌≡◌, ◌<◌, ◌≤◌, MatchOption, IfSome};
 ghost use Rattle.shop_base.specs.Shop.{step_at};
-ghost use Rattle.shop_base.specs.Plan.{jobs, machines, route, steps, order, release, clean, Visits, IsWellShaped};
+ghost use Rattle.shop_base.specs.Plan.{jobs, machines, route, steps, order, release, budget, clean, Visits, IsWellShaped};
 
 use crate::limits::{MAX_JOBS, MAX_MACHINES};
 use crate::shaped::Shaped;
@@ -83,6 +83,15 @@ impl Shaped {
         ensures well_shaped { IsWellShaped self.now }
     {
         self.plan().release[job as usize]
+    }
+
+    /// The moment by which the job has to be out of the cell.
+    pub fn budget_of(&self, job: JobNo) -> Moment
+        requires { job < jobs self.now }
+        ensures budget { result ≡ budget self.now job }
+        ensures well_shaped { IsWellShaped self.now }
+    {
+        self.plan().budget[job as usize]
     }
 
     /// The machine's cleaning time, 0 in a plan without cleaning.

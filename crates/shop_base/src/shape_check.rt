@@ -32,6 +32,7 @@ pub fn check_shape(shop: &Shop, plan: &Plan) -> Result<(), ShapeFault>
     Ok(())
 }
 
+/// Checks that each list of the plan has an entry for each job or machine.
 fn check_counts(shop: &Shop, plan: &Plan) -> Result<(), ShapeFault>
     ensures sound { OnOk result (HasCounts (record { shop = shop.now; plan = plan.now })) }
     ensures first_fault { IfErr result (IsFirstShapeFault (record { shop = shop.now; plan = plan.now })) }

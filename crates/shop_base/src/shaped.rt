@@ -1,9 +1,10 @@
-ghost use Rattle.std.specs.Prelude.{◌≡◌, ◌↔◌, ◌<◌, IsOk, IfOk, OnOk, IfErr};
-ghost use Rattle.shop_base.specs.Plan.{PlannedShop, IsWellShaped, machines};
+ghost use Rattle.std.specs.Prelude.{◌≡◌, ◌↔◌, ◌*◌, ◌<◌, ◌≤◌, IsOk, IfOk, OnOk, IfErr};
+ghost use Rattle.shop_base.specs.Plan.{IsWellShaped, machines};
 ghost use Rattle.shop_base.specs.Ends.{stated_number, cleanings_of, sum_below};
 ghost use Rattle.shop_base.specs.declared.shape_fault.ShapeFault.{ShapeFault};
 ghost use Rattle.shop_base.specs.ShapeFault.{IsFirstShapeFault};
 
+use crate::limits::{MAX_JOBS, MAX_MACHINES};
 use crate::plan::Plan;
 use crate::shape_check::check_shape;
 use crate::shape_fault::ShapeFault;
@@ -28,7 +29,7 @@ impl Model for Shaped {
     ghost invariant = { λ s. IsWellShaped (record { shop = s.shop; plan = s.plan }) };
 }
 
-/// A shop and a plan that isn't well shaped for it, handed back with the first reason.
+/// A shop and a plan that isn't well shaped for it, given back with the first reason.
 #[derive(Debug, Drop)]
 pub struct NotShaped {
     pub fault: ShapeFault,
@@ -36,7 +37,7 @@ pub struct NotShaped {
     pub plan: Plan,
 }
 
-/// Checks a plan's shape. What it refuses is handed back.
+/// Checks a plan's shape. What it refuses is given back.
 pub fn shape(shop: Shop, plan: Plan) -> Result<Shaped, NotShaped>
     ensures shaped { IfOk result (λ shaped. shaped ≡ record { shop = shop; plan = plan }) }
     ensures well_shaped { OnOk result (IsWellShaped (record { shop = shop; plan = plan })) }
@@ -83,30 +84,28 @@ impl Shaped {
     pub fn report_count(&self) -> u64
         ensures { result ≡ stated_number self.now }
     {
-        u64::from(self.shop.jobs())
-            + self.shop.operations()
-            + cleaning_count(&self.shop, &self.plan)
+        u64::from(self.job_count()) + self.shop().operations() + self.cleaning_count()
     }
-}
 
-fn cleaning_count(shop: &Shop, plan: &Plan) -> u64
-    requires { IsWellShaped (record { shop = shop.now; plan = plan.now }) }
-    ensures { let p : PlannedShop = record { shop = shop.now; plan = plan.now } in result ≡ sum_below (cleanings_of p) (machines p) }
-{
-    let mut count = 0;
-    for machine in 0..shop.machines() {
-        count += cleanings_on(shop, plan, machine);
+    fn cleaning_count(&self) -> u64
+        ensures count { result ≡ sum_below (cleanings_of self.now) (machines self.now) }
+        ensures few { result ≤ MAX_MACHINES * MAX_JOBS }
+    {
+        let mut count = 0;
+        for machine in 0..self.machine_count() {
+            count += self.cleanings_on(machine);
+        }
+        count
     }
-    count
-}
 
-fn cleanings_on(shop: &Shop, plan: &Plan, machine: MachineNo) -> u64
-    requires shaped { IsWellShaped (record { shop = shop.now; plan = plan.now }) }
-    requires in_range { machine < shop.now.machines }
-    ensures { result ≡ cleanings_of (record { shop = shop.now; plan = plan.now }) machine }
-{
-    match &plan.clean {
-        Some(times) if times[machine as usize] > 0 => plan.order[machine as usize].len() as u64,
-        _ => 0,
+    fn cleanings_on(&self, machine: MachineNo) -> u64
+        requires { machine < machines self.now }
+        ensures { result ≡ cleanings_of self.now machine }
+    {
+        if self.clean_of(machine) > 0 {
+            self.order_of(machine).len() as u64
+        } else {
+            0
+        }
     }
 }

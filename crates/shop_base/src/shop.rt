@@ -55,7 +55,7 @@ impl Shop {
         ensures first_fault { IfErr result (IsFirstFault machines (lists_of routes.items)) }
         ensures only_fault { IfErr result (λ fault. (other : ShopFault) → IsFirstFault machines (lists_of routes.items) other → other ≡ fault) }
     {
-        check_counts(machines, &routes)?;
+        check_size(machines, &routes)?;
         check_routes(machines, &routes)?;
         Ok(Shop { machines, routes })
     }
@@ -127,7 +127,8 @@ fn route_sum(route: &[Step]) -> Moment
     route.iter().map(|step| step.nominal).sum()
 }
 
-fn check_counts(machines: u32, routes: &[Vec<Step>]) -> Result<(), ShopFault>
+/// Checks how many jobs and machines there are.
+fn check_size(machines: u32, routes: &[Vec<Step>]) -> Result<(), ShopFault>
     ensures sound { OnOk result (AreCounts machines (length routes.now)) }
     ensures first_fault { IfErr result (IsFirstFault machines (lists_of routes.now)) }
 {

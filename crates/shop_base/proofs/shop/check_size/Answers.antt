@@ -1,6 +1,6 @@
 use Rattle.std.proofs.Common.{arith}
 use Rattle.std.proofs.lemmas.Grind.{common_steps}
-use Rattle.shop_base.proofs.shop.check_counts.Goals as goal
+use Rattle.shop_base.proofs.shop.check_size.Goals as goal
 
 pub returns-then-is_empty-clause-first_fault : goal.returns-then-is_empty-clause-first_fault
 returns-then-is_empty-clause-first_fault c = grind (arith, common_steps)
