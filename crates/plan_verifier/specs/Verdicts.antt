@@ -1,3 +1,4 @@
+-- The verdict on a plan: accepted, or the reason for its refusal.
 use Rattle.std.specs.Prelude.{ℕ, ◌<◌, List}
 use Rattle.shop_base.specs.declared.node.Node.{Node}
 use Rattle.shop_base.specs.Plan.{PlannedShop, jobs, budget}

@@ -15,7 +15,7 @@ pub(crate) fn first_late(shaped: &Shaped, times: &Times) -> Option<JobNo>
     ensures { MatchOption result (MeetBudgets shaped.now (earliest_of times.now)) (IsFirstPast shaped.now (earliest_of times.now)) }
 {
     for job in 0..shaped.shop().jobs() {
-        if leave_time(shaped, times, job) > shaped.plan().budget[job as usize] {
+        if leave_time(shaped, times, job) > shaped.budget_of(job) {
             return Some(job);
         }
     }
