@@ -19,7 +19,7 @@ use Rattle.plan_verifier.specs.Accepted.{VerifiedPlan, IsVerified, kept_at, rank
 use Rattle.cell_control.specs.declared.report.Ack.{Ack}
 use Rattle.cell_tables.specs.PlannedCell as planned
 use Rattle.cell_tables.specs.PlannedCell.{PlannedCell}
-use Rattle.cell_control.specs.Ties.{AreTied}
+use Rattle.cell_control.specs.DueMoments.{AreDueMoments}
 use Rattle.cell_control.specs.Steps.{IsMade}
 use Rattle.cell_control.specs.Control.{at_start, IsAnswered, IsControl}
 use Rattle.cell_control.specs.Fields.{control_of, AreFieldsOf}
@@ -47,12 +47,12 @@ start_is v c orders is none =
 
 -- a controller at the start
 pub fields_at_start : (v : VerifiedPlan) (c : PlannedCell VerifiedPlan) (dues : List (Option ℕ)) (orders : SmallVec MoveOrder) (left : ℕ) → IsVerified v
-    → c ≡ planned.at_start v v.planned → AreTied v.planned (start v.planned) dues → orders.items ≡ [] → orders.capacity ≡ max 4 (jobs v.planned)
+    → c ≡ planned.at_start v v.planned → AreDueMoments v.planned (start v.planned) dues → orders.items ≡ [] → orders.capacity ≡ max 4 (jobs v.planned)
     → left ≡ stated_number v.planned → left < 2 ^ 64 → AreFieldsOf c dues orders 0 left true
-fields_at_start v c dues orders left verified is tied none room stated fits = rw is (record {
+fields_at_start v c dues orders left verified is due_moments none room stated fits = rw is (record {
   plan = refl;
   control = subst IsControl (sym (start_is v (planned.at_start v v.planned) orders refl none)) (start_control v verified);
-  tied = tied;
+  due_moments = due_moments;
   counts = omega arith;
   fits = omega arith;
   room = room;
@@ -104,8 +104,8 @@ module _ (old : PlannedCell VerifiedPlan) (dues : List (Option ℕ)) (orders : S
 
   -- what holds of a controller holds after a step
   pub fields_after : (dues' : List (Option ℕ)) (orders' : SmallVec MoveOrder) → orders'.items ≡ items → orders'.capacity ≡ orders.capacity → new ≡ record old { cell = new.cell }
-      → AreTied old.plan new.cell dues' → AreFieldsOf new dues' orders' (accepted + 1) (left - 1) (punctual && not ack.late)
-  fields_after dues' orders' item_same capacity same tied = subst (λ (x : PlannedCell VerifiedPlan). AreFieldsOf x dues' orders' (accepted + 1) (left - 1) (punctual && not ack.late)) (sym same) (record {
+      → AreDueMoments old.plan new.cell dues' → AreFieldsOf new dues' orders' (accepted + 1) (left - 1) (punctual && not ack.late)
+  fields_after dues' orders' item_same capacity same due_moments = subst (λ (x : PlannedCell VerifiedPlan). AreFieldsOf x dues' orders' (accepted + 1) (left - 1) (punctual && not ack.late)) (sym same) (record {
     plan = fields.plan;
     control = record {
       verified = fields.control.verified;
@@ -114,7 +114,7 @@ module _ (old : PlannedCell VerifiedPlan) (dues : List (Option ℕ)) (orders : S
       counted = omega (arith, fewer, fields.control.counted);
       moments_kept = keeps;
     };
-    tied = tied;
+    due_moments = due_moments;
     counts = omega (arith, some_left, fields.counts);
     fits = fields.fits;
     room = capacity ∙ fields.room;

@@ -1,7 +1,7 @@
 pub mod Earliest
 pub mod Trees
 pub mod Seats
-pub mod Tied
+pub mod DueMoments
 pub mod Sequences
 pub mod Endings
 pub mod Reading

@@ -13,6 +13,7 @@ ghost use Rattle.cell_control.specs.Promises.{IsCalled};
 ghost use Rattle.cell_control.specs.Readings.{IsPhase, IsDueOf};
 
 use crate::checking::check_report;
+use crate::due_moments::cleaning_key;
 use crate::dues::Dues;
 use crate::readings::phase_of;
 use crate::releasing::Orders;
@@ -20,7 +21,6 @@ use crate::report::{Ack, Phase};
 use crate::report_fault::ReportFault;
 use crate::reserved::reserve;
 use crate::step::{make_step, still_punctual};
-use crate::ties::cleaning_key;
 use cell_tables::{Report, WorkCell};
 use plan_verifier::Verified;
 use shop_base::{JobNo, MachineNo, Moment, MoveOrder};

@@ -8,9 +8,10 @@
 
 mod checking;
 mod controller;
+mod due_moments;
+mod due_row;
 mod dues;
 mod ending;
-mod entries;
 pub mod laws;
 mod readings;
 mod releasing;
@@ -19,7 +20,6 @@ mod report_fault;
 mod reserved;
 mod scan_dues;
 mod step;
-mod ties;
 mod tourney_dues;
 
 pub use cell_tables::Report;

@@ -7,11 +7,11 @@ ghost use Rattle.shop_base.specs.Plan.{jobs};
 ghost use Rattle.shop_base.specs.Move.{CanMove, KeepsPlan, after_move, order_for};
 ghost use Rattle.shop_base.specs.Run.{IsAtRest};
 ghost use Rattle.shop_base.specs.Movers.{ready_count};
-ghost use Rattle.cell_control.specs.Ties.{AreTied};
+ghost use Rattle.cell_control.specs.DueMoments.{AreDueMoments};
 ghost use Rattle.cell_control.specs.Sequences.{OnlyMay, IsMover, IsSequence};
 
+use crate::due_moments::{renew_job, renew_machine};
 use crate::dues::Dues;
-use crate::ties::{renew_job, renew_machine};
 use cell_tables::WorkCell;
 use shop_base::{JobNo, MoveOrder, Planned, Spot};
 use smallvec::SmallVec;
@@ -26,7 +26,7 @@ pub(crate) fn release_moves<P: Planned, D: Dues>(
     orders: &mut Orders,
     candidate: Option<JobNo>,
 )
-    requires tied { AreTied cell.old.plan cell.old.cell (D.dues dues.old) }
+    requires due_moments { AreDueMoments cell.old.plan cell.old.cell (D.dues dues.old) }
     requires only { OnlyMay cell.old.plan cell.old.cell candidate }
     requires of_shop { IfSome candidate (λ job. job < jobs cell.old.plan) }
     requires empty { orders.old.items ≡ [] }
@@ -34,7 +34,7 @@ pub(crate) fn release_moves<P: Planned, D: Dues>(
     ensures sequence { let c = cell.old.cell in IsSequence cell.old.plan c c.last orders.new.items cell.new.cell }
     ensures rest { IsAtRest cell.old.plan cell.new.cell }
     ensures same_plan { cell.new ≡ record cell.old { cell = cell.new.cell } }
-    ensures tied { AreTied cell.old.plan cell.new.cell (D.dues dues.new) }
+    ensures due_moments { AreDueMoments cell.old.plan cell.new.cell (D.dues dues.new) }
     ensures capacity { orders.new.capacity ≡ orders.old.capacity }
 {
     let mut candidate = candidate;
@@ -70,12 +70,12 @@ fn follower<P: Planned>(cell: &WorkCell<P>, job: JobNo) -> Option<JobNo>
 
 /// Moves a job that can move, and notes what begins with that.
 fn advance<P: Planned, D: Dues>(cell: &mut WorkCell<P>, dues: &mut D, job: JobNo) -> MoveOrder
-    requires tied { AreTied cell.old.plan cell.old.cell (D.dues dues.old) }
+    requires due_moments { AreDueMoments cell.old.plan cell.old.cell (D.dues dues.old) }
     requires can { let c = cell.old.cell in CanMove cell.old.plan c job c.last }
     requires keeps { KeepsPlan cell.old.plan cell.old.cell job }
     ensures order { let c = cell.old.cell in result ≡ order_for cell.old.plan c job c.last }
     ensures moved { let c = cell.old.cell in cell.new ≡ record cell.old { cell = after_move cell.old.plan c job c.last } }
-    ensures tied { AreTied cell.old.plan cell.new.cell (D.dues dues.new) }
+    ensures due_moments { AreDueMoments cell.old.plan cell.new.cell (D.dues dues.new) }
 {
     let _plan = cell.shaped();
     let order = cell.make_move(job, cell.last());

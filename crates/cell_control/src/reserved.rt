@@ -4,11 +4,11 @@ ghost use Rattle.std.specs.Prelude.{◌≡◌, [], max, IfOk, IfErr};
 ghost use Rattle.shop_base.specs.Plan.{jobs};
 ghost use Rattle.shop_base.specs.Cell.{start};
 ghost use Rattle.cell_tables.specs.PlannedCell.{at_start};
-ghost use Rattle.cell_control.specs.Ties.{AreTied};
+ghost use Rattle.cell_control.specs.DueMoments.{AreDueMoments};
 
+use crate::due_moments::renew_job;
 use crate::dues::Dues;
 use crate::releasing::Orders;
-use crate::ties::renew_job;
 use cell_tables::WorkCell;
 use shop_base::Planned;
 use smallvec::SmallVec;
@@ -28,7 +28,7 @@ pub(crate) fn reserve<P: Planned, D: Dues>(
     basis: P,
 ) -> Result<Reserved<P, D>, (AllocError, P)>
     ensures start { IfOk result (λ new. new.cell ≡ at_start basis (P.planned basis)) }
-    ensures tied { IfOk result (λ new. AreTied (P.planned basis) (start (P.planned basis)) (D.dues new.dues)) }
+    ensures due_moments { IfOk result (λ new. AreDueMoments (P.planned basis) (start (P.planned basis)) (D.dues new.dues)) }
     ensures no_orders { IfOk result (λ new. new.orders.items ≡ []) }
     ensures room { IfOk result (λ new. new.orders.capacity ≡ max 4 (jobs (P.planned basis))) }
     ensures handed_back { IfErr result (λ refused. refused.1 ≡ basis) }
@@ -46,7 +46,7 @@ fn reserve_for<P: Planned, D: Dues>(
     cell: &WorkCell<P>,
 ) -> Result<(D, Orders), AllocError>
     requires start { cell.now.cell ≡ start cell.now.plan }
-    ensures tied { IfOk result (λ new. AreTied cell.now.plan (start cell.now.plan) (D.dues new.0)) }
+    ensures due_moments { IfOk result (λ new. AreDueMoments cell.now.plan (start cell.now.plan) (D.dues new.0)) }
     ensures no_orders { IfOk result (λ new. new.1.items ≡ []) }
     ensures room { IfOk result (λ new. new.1.capacity ≡ max 4 (jobs cell.now.plan)) }
 {
@@ -58,7 +58,7 @@ fn reserve_for<P: Planned, D: Dues>(
 /// The due moments at the start: all jobs are awaited.
 fn start_dues<P: Planned, D: Dues>(alloc: Global, cell: &WorkCell<P>) -> Result<D, AllocError>
     requires start { cell.now.cell ≡ start cell.now.plan }
-    ensures { IfOk result (λ dues. AreTied cell.now.plan (start cell.now.plan) (D.dues dues)) }
+    ensures { IfOk result (λ dues. AreDueMoments cell.now.plan (start cell.now.plan) (D.dues dues)) }
 {
     let jobs = cell.job_count();
     let mut dues = D::sized(alloc, (jobs + cell.machine_count()) as usize)?;

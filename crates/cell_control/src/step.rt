@@ -4,7 +4,7 @@ ghost use Rattle.std.specs.Prelude.{◌≡◌, ◌≤◌, ◌↔◌, ◌&&◌, n
 ghost use Rattle.shop_base.specs.Plan.{jobs};
 ghost use Rattle.shop_base.specs.Report.{CanReport};
 ghost use Rattle.shop_base.specs.Run.{IsAtRest};
-ghost use Rattle.cell_control.specs.Ties.{AreTied};
+ghost use Rattle.cell_control.specs.DueMoments.{AreDueMoments};
 ghost use Rattle.cell_tables.specs.Reports.{said};
 ghost use Rattle.cell_control.specs.Steps.{IsMade, AreDueFrom};
 
@@ -22,12 +22,12 @@ pub(crate) fn make_step<P: Planned, D: Dues>(
     orders: &mut Orders,
     report: Report,
 ) -> Ack
-    requires tied { AreTied cell.old.plan cell.old.cell (D.dues dues.old) }
+    requires due_moments { AreDueMoments cell.old.plan cell.old.cell (D.dues dues.old) }
     requires rest { IsAtRest cell.old.plan cell.old.cell }
     requires possible { CanReport cell.old.plan cell.old.cell (said report) }
     requires room { jobs cell.old.plan ≤ orders.old.capacity }
     ensures made { IsMade cell.old.plan cell.old.cell (said report) result orders.new.items cell.new.cell }
-    ensures tied { AreTied cell.old.plan cell.new.cell (D.dues dues.new) }
+    ensures due_moments { AreDueMoments cell.old.plan cell.new.cell (D.dues dues.new) }
     ensures same_plan { cell.new ≡ record cell.old { cell = cell.new.cell } }
     ensures capacity { orders.new.capacity ≡ orders.old.capacity }
 {

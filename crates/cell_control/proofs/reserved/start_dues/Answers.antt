@@ -1,7 +1,7 @@
 use Rattle.std.proofs.Common.{arith, ap, ◌∙◌, set}
 use Rattle.shop_base.specs.Cell.{Cell, job_in}
 use Rattle.shop_base.specs.Movers.{due_of_job}
-use Rattle.cell_control.proofs.Tied.{filled_none, filled_more, filled-tied}
+use Rattle.cell_control.proofs.DueMoments.{filled_none, filled_more, filled-due_moments}
 use Rattle.cell_control.proofs.reserved.start_dues.Goals as goal
 
 pub loop-job-init : goal.loop-job-init
@@ -17,4 +17,4 @@ loop-job-preserved g c =
     (c.renew_job.ensures ∙ ap (λ (x : Cell). set (g.D.Dues.dues c.loop-job.dues) c.loop-job.job (due_of_job p c.loop-job.job (job_in x c.loop-job.job))) c.requires.start)
 
 pub returns : goal.returns
-returns g c = filled-tied c.args.cell.now.plan (g.D.Dues.dues c.loop-job.dues) c.loop-job.job c.loop-job.invariant (omega (arith, c.job_count-jobs.ensures.count, c.loop-job-test.false))
+returns g c = filled-due_moments c.args.cell.now.plan (g.D.Dues.dues c.loop-job.dues) c.loop-job.job c.loop-job.invariant (omega (arith, c.job_count-jobs.ensures.count, c.loop-job-test.false))

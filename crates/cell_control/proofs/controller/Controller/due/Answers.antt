@@ -11,4 +11,4 @@ returns-then-job-job_count g c =
     let inside : c.args.job < jobs cell.plan = omega (arith, c.job_count.ensures.count) in
     subst (λ (v : Control). IsDueOf v.plan.planned v.cell c.args.job c.get.result) c.self.view_is
     (subst (λ p. IsDueOf p cell.cell c.args.job c.get.result) c.self.invariant.plan
-    (key_due cell.plan cell.cell (g.D.Dues.dues c.self.inside.dues) c.args.job c.get.result c.self.invariant.tied inside c.get.ensures))
+    (key_due cell.plan cell.cell (g.D.Dues.dues c.self.inside.dues) c.args.job c.get.result c.self.invariant.due_moments inside c.get.ensures))

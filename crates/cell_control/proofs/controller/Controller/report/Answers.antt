@@ -33,7 +33,7 @@ invariant_of-self g c =
     let new = c.make_step-ack.new in
     subst (λ still. AreFieldsOf new.cell (g.D.Dues.dues new.dues) new.orders (s.accepted + 1) (s.left - 1) still) (sym c.still_punctual-self-inside.ensures)
     (fields_after s.cell (g.D.Dues.dues s.dues) s.orders s.accepted s.left s.punctual c.self.invariant new.cell (said c.args.report) c.make_step-ack.result new.orders.items
-    c.make_step-ack.ensures.made (g.D.Dues.dues new.dues) new.orders refl c.make_step-ack.ensures.capacity c.make_step-ack.ensures.same_plan c.make_step-ack.ensures.tied)
+    c.make_step-ack.ensures.made (g.D.Dues.dues new.dues) new.orders refl c.make_step-ack.ensures.capacity c.make_step-ack.ensures.same_plan c.make_step-ack.ensures.due_moments)
 
 pub returns-clause-answered : goal.returns-clause-answered
 returns-clause-answered g c =

@@ -1,5 +1,5 @@
 use Rattle.std.proofs.Common.{rules}
-use Rattle.cell_control.proofs.ties.cleaning_due.Goals as goal
+use Rattle.cell_control.proofs.due_moments.cleaning_due.Goals as goal
 
 pub returns : goal.returns
 returns g c = search rules depth 2

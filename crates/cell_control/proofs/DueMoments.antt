@@ -1,0 +1,137 @@
+-- The due moments stay tied to the cell: at the start, after a move, and after the end of an activity.
+use Rattle.std.proofs.Common.{◌≡◌, ◌≢◌, ℕ, ◌+◌, ◌<◌, ◌≤◌, List, length, length-set, get_or, get_or-set_same, get_or-set_other, set, replicate, below_more, Option, None, refl, sym, ◌∙◌, ap, subst, arith, ◌⊎◌, inl, inr}
+use Rattle.std.proofs.lemmas.Bool.{cases_eq}
+use Rattle.std.proofs.lemmas.List.{length-replicate, get_or-replicate}
+use Rattle.shop_base.proofs.InShop.{start_unused}
+use Rattle.shop_base.specs.declared.job_state.JobState.{JobState}
+use Rattle.shop_base.specs.Plan.{PlannedShop, jobs, machines, machine_of}
+use Rattle.shop_base.specs.Cell.{Cell, MachineState, unused, absent, job_in, cleaning, start, IsOutside, IsOn}
+use Rattle.shop_base.specs.Movers.{due_of_job, due_of_cleaning}
+use Rattle.shop_base.proofs.Changes.{IsMoved, IsReadied, IsTidied}
+use Rattle.cell_control.specs.Dues.{due_at}
+use Rattle.cell_control.specs.DueMoments.{AreDueMoments}
+
+-- the due moments of all but the machine m, and the key of m renewed
+pub record AreDueMomentsBut (p : PlannedShop) (c : Cell) (dues : List (Option ℕ)) (m : ℕ) : Type 0 where
+  pub count : length dues ≡ jobs p + machines p
+  pub of_jobs : (j : ℕ) → j < jobs p → due_at dues j ≡ due_of_job p j (job_in c j)
+  pub of_others : (n : ℕ) → n < machines p → n ≢ m → due_at dues (jobs p + n) ≡ due_of_cleaning p n (cleaning c n)
+
+pub due_moments_but-renewed : (p : PlannedShop) (c : Cell) (dues : List (Option ℕ)) (m : ℕ) → m < machines p → AreDueMomentsBut p c dues m
+    → AreDueMoments p c (set dues (jobs p + m) (due_of_cleaning p m (cleaning c m)))
+due_moments_but-renewed p c dues m inside due_moments = record {
+  count = length-set dues (jobs p + m) due ∙ due_moments.count;
+  of_jobs = λ j below. get_or-set_other dues (jobs p + m) j due None (λ same. absurd (omega (arith, same))) ∙ due_moments.of_jobs j below;
+  of_machines = of_machines;
+}
+  where
+    due : Option ℕ
+    due = due_of_cleaning p m (cleaning c m)
+
+    of_machines : (n : ℕ) → n < machines p → due_at (set dues (jobs p + m) due) (jobs p + n) ≡ due_of_cleaning p n (cleaning c n)
+    of_machines n below = go (cases_eq n m)
+      where
+        go : (n ≡ m) ⊎ (n ≡ m → ⊥) → due_at (set dues (jobs p + m) due) (jobs p + n) ≡ due_of_cleaning p n (cleaning c n)
+        go (inl same) = rw same (get_or-set_same dues (jobs p + m) due None (omega (arith, due_moments.count)))
+        go (inr other) = get_or-set_other dues (jobs p + m) (jobs p + n) due None (λ same. other (omega (arith, same))) ∙ due_moments.of_others n below other
+
+-- the key of a job renewed, where no other job has changed, nor a machine but m
+pub due_moments-renewed : (p : PlannedShop) (c new : Cell) (dues : List (Option ℕ)) (j m : ℕ) → j < jobs p → AreDueMoments p c dues
+    → ((i : ℕ) → i ≢ j → job_in new i ≡ job_in c i) → ((n : ℕ) → n ≢ m → cleaning new n ≡ cleaning c n)
+    → AreDueMomentsBut p new (set dues j (due_of_job p j (job_in new j))) m
+due_moments-renewed p c new dues j m inside due_moments others elsewhere = record {
+  count = length-set dues j due ∙ due_moments.count;
+  of_jobs = of_jobs;
+  of_others = λ n below other. get_or-set_other dues j (jobs p + n) due None (λ same. absurd (omega (arith, same))) ∙ due_moments.of_machines n below
+      ∙ ap (due_of_cleaning p n) (sym (elsewhere n other));
+}
+  where
+    due : Option ℕ
+    due = due_of_job p j (job_in new j)
+
+    of_jobs : (i : ℕ) → i < jobs p → due_at (set dues j due) i ≡ due_of_job p i (job_in new i)
+    of_jobs i below = go (cases_eq i j)
+      where
+        go : (i ≡ j) ⊎ (i ≡ j → ⊥) → due_at (set dues j due) i ≡ due_of_job p i (job_in new i)
+        go (inl same) = rw same (get_or-set_same dues j due None (omega (arith, due_moments.count)))
+        go (inr other) = get_or-set_other dues j i due None other ∙ due_moments.of_jobs i below ∙ ap (due_of_job p i) (sym (others i other))
+
+-- where no machine has changed either, these are all of the cell's
+pub due_moments_but-none : (p : PlannedShop) (c : Cell) (dues : List (Option ℕ)) → AreDueMomentsBut p c dues (machines p) → AreDueMoments p c dues
+due_moments_but-none p c dues due_moments = record {
+  count = due_moments.count;
+  of_jobs = due_moments.of_jobs;
+  of_machines = λ m below. due_moments.of_others m below (λ same. absurd (omega (arith, same)));
+}
+
+-- after a move from outside
+pub due_moments-entered : (p : PlannedShop) (c new : Cell) (dues : List (Option ℕ)) (j t : ℕ) → j < jobs p → AreDueMoments p c dues → IsMoved p c j t new → IsOutside c j
+    → AreDueMoments p new (set dues j (due_of_job p j (job_in new j)))
+due_moments-entered p c new dues j t inside due_moments moved outside =
+    due_moments_but-none p new (set dues j (due_of_job p j (job_in new j)))
+    (due_moments-renewed p c new dues j (machines p) inside due_moments moved.others (λ n other. moved.cleaning_elsewhere n (λ k on. absurd (omega (arith, on.entered, outside)))))
+
+-- after a move from machine m
+pub due_moments-moved : (p : PlannedShop) (c new : Cell) (dues : List (Option ℕ)) (j k m t : ℕ) → j < jobs p → m < machines p → AreDueMoments p c dues → IsMoved p c j t new → IsOn p c j k m
+    → AreDueMoments p new (set (set dues j (due_of_job p j (job_in new j))) (jobs p + m) (due_of_cleaning p m (cleaning new m)))
+due_moments-moved p c new dues j k m t inside within due_moments moved on =
+    due_moments_but-renewed p new (set dues j (due_of_job p j (job_in new j))) m within
+    (due_moments-renewed p c new dues j m inside due_moments moved.others λ n other. moved.cleaning_elsewhere n λ l here. other (place l here))
+  where
+    place : {n : ℕ} (l : ℕ) → IsOn p c j l n → n ≡ m
+    place {n} l here =
+        let same : l ≡ k = omega (arith, here.entered, on.entered) in
+        sym here.visits.here ∙ ap (machine_of p j) same ∙ on.visits.here
+
+-- after a job has become ready
+pub due_moments-readied : (p : PlannedShop) (c new : Cell) (dues : List (Option ℕ)) (j t : ℕ) → j < jobs p → AreDueMoments p c dues → IsReadied c j t new → AreDueMoments p new (set dues j None)
+due_moments-readied p c new dues j t inside due_moments readied =
+    let none : due_of_job p j (job_in new j) ≡ None = rw readied.ready_mine refl in
+    subst (λ due. AreDueMoments p new (set dues j due)) none
+    (due_moments_but-none p new (set dues j (due_of_job p j (job_in new j)))
+    (due_moments-renewed p c new dues j (machines p) inside due_moments readied.others
+    (λ n other. ap (λ (ms : List MachineState). (get_or ms n unused).cleaning) readied.machines_same)))
+
+-- after a machine has become clean
+pub due_moments-tidied : (p : PlannedShop) (c new : Cell) (dues : List (Option ℕ)) (m t : ℕ) → m < machines p → AreDueMoments p c dues → IsTidied c m t new
+    → AreDueMoments p new (set dues (jobs p + m) None)
+due_moments-tidied p c new dues m t inside due_moments tidied =
+    subst (λ due. AreDueMoments p new (set dues (jobs p + m) due)) (ap (due_of_cleaning p m) tidied.cleaning_mine)
+    (due_moments_but-renewed p new dues m inside (record {
+      count = due_moments.count;
+      of_jobs = λ j below. due_moments.of_jobs j below ∙ ap (λ (js : List JobState). due_of_job p j (get_or js j absent)) (sym tidied.jobs_same);
+      of_others = λ n below other. due_moments.of_machines n below ∙ ap (due_of_cleaning p n) (sym (tidied.cleaning_elsewhere n other));
+    }))
+
+-- the keys of the first jobs are tied to the start, and no machine's is set
+pub record IsFilled (p : PlannedShop) (dues : List (Option ℕ)) (n : ℕ) : Type 0 where
+  pub count : length dues ≡ jobs p + machines p
+  pub of_jobs : (j : ℕ) → j < n → due_at dues j ≡ due_of_job p j (job_in (start p) j)
+  pub of_machines : (m : ℕ) → m < machines p → due_at dues (jobs p + m) ≡ None
+
+pub filled_none : (p : PlannedShop) (dues : List (Option ℕ)) (n : ℕ) → dues ≡ replicate n None → n ≡ jobs p + machines p → IsFilled p dues 0
+filled_none p dues n is count = record {
+  count = ap length is ∙ length-replicate n None ∙ count;
+  of_jobs = λ j below. absurd (omega arith);
+  of_machines = λ m below. ap (λ ds. due_at ds (jobs p + m)) is ∙ get_or-replicate n (jobs p + m) None None (omega arith);
+}
+
+pub filled_more : (p : PlannedShop) (dues more : List (Option ℕ)) (j : ℕ) → IsFilled p dues j → j < jobs p
+    → more ≡ set dues j (due_of_job p j (job_in (start p) j)) → IsFilled p more (j + 1)
+filled_more p dues more j filled inside is = record {
+  count = ap length is ∙ length-set dues j due ∙ filled.count;
+  of_jobs = below_more (λ i. due_at more i ≡ due_of_job p i (job_in (start p) i)) j
+      (λ i below. ap (λ ds. due_at ds i) is ∙ get_or-set_other dues j i due None (λ same. absurd (omega (arith, same))) ∙ filled.of_jobs i below)
+      (ap (λ ds. due_at ds j) is ∙ get_or-set_same dues j due None (omega (arith, filled.count)));
+  of_machines = λ m below. ap (λ ds. due_at ds (jobs p + m)) is ∙ get_or-set_other dues j (jobs p + m) due None (λ same. absurd (omega (arith, same))) ∙ filled.of_machines m below;
+}
+  where
+    due : Option ℕ
+    due = due_of_job p j (job_in (start p) j)
+
+pub filled-due_moments : (p : PlannedShop) (dues : List (Option ℕ)) (n : ℕ) → IsFilled p dues n → jobs p ≤ n → AreDueMoments p (start p) dues
+filled-due_moments p dues n filled all = record {
+  count = filled.count;
+  of_jobs = λ j below. filled.of_jobs j (omega arith);
+  of_machines = λ m below. filled.of_machines m below ∙ ap (λ (s : MachineState). due_of_cleaning p m s.cleaning) (sym (start_unused p m));
+}
