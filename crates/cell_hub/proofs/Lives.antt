@@ -15,7 +15,7 @@ use Rattle.cell_hub.specs.Hub.{HubState, hub_from, cell_at, Puts, AreSerialsBelo
 use Rattle.cell_hub.specs.Calls as call
 use Rattle.cell_hub.specs.Calls.{HubCall, Admitted, Reported, Shown, Dismissed, IsCall, AreCalls, IsAdmitted, IsReported, IsNotReported, IsDismissed}
 use Rattle.cell_hub.specs.Laws as law
-use Rattle.cell_hub.specs.Laws.{DismissedNeverAnswers, CellsAreApart, Life, not_given, stands, dismissed, content_in, Lives, AreLived, FindsNoCell, IsOn}
+use Rattle.cell_hub.specs.Laws.{DismissedNeverAnswers, CellsAreApart, Life, not_given, stands, dismissed, content_in, Lives, AreLived, FindsNoCell, IsOnTicket}
 use Rattle.cell_hub.proofs.Tickets.{same_ticket}
 use Rattle.cell_hub.proofs.Puts.{serials_below}
 
@@ -41,13 +41,13 @@ record GoesOn (new : HubState) (t : Ticket) (life : Life) (call : HubCall) : Typ
   fits : Fits new t next
 
 -- a call on another ticket
-apart : (t : Ticket) (life : Life) (call : HubCall) → (IsOn t call → ⊥) → FindsNoCell t call → Lives t life call life
+apart : (t : Ticket) (life : Life) (call : HubCall) → (IsOnTicket t call → ⊥) → FindsNoCell t call → Lives t life call life
 apart t not_given call off none = law.before call none
 apart t (stands c) call off none = law.elsewhere c call off
 apart t dismissed call off none = law.after call none
 
 -- a call on another ticket, which may change that ticket's cell
-past : (old new : HubState) (t other : Ticket) (content : Option Control) (life : Life) (call : HubCall) → t ≢ other → Puts old new other content → old.next_serial ≤ new.next_serial → (IsOn t call → ⊥) → FindsNoCell t call → Fits old t life → GoesOn new t life call
+past : (old new : HubState) (t other : Ticket) (content : Option Control) (life : Life) (call : HubCall) → t ≢ other → Puts old new other content → old.next_serial ≤ new.next_serial → (IsOnTicket t call → ⊥) → FindsNoCell t call → Fits old t life → GoesOn new t life call
 past old new t other content life call differ puts up off none fits = record {
   next = life;
   lives = apart t life call off none;

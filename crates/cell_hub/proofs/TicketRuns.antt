@@ -21,7 +21,7 @@ use Rattle.cell_hub.specs.declared.hub_fault.HubFault.TheVariants.{Cell}
 use Rattle.cell_hub.specs.Hub.{is_ticket}
 use Rattle.cell_hub.specs.Calls.{HubCall, Admitted, Reported, Shown, Dismissed}
 use Rattle.cell_hub.specs.Laws as law
-use Rattle.cell_hub.specs.Laws.{Life, not_given, stands, dismissed, content_in, Lives, AreLived, FindsNoCell, IsOn, reports_on, CallsMakeTheControlledRuns}
+use Rattle.cell_hub.specs.Laws.{Life, not_given, stands, dismissed, content_in, Lives, AreLived, FindsNoCell, IsOnTicket, reports_on, CallsMakeTheControlledRuns}
 use Rattle.cell_hub.proofs.Lives.{cells_are_apart}
 
 its_own : (t : Ticket) → is_ticket t t ≡ true
@@ -41,7 +41,7 @@ another t other differ =
 own_first : (t : Ticket) (r : _) (answer : _) (calls : List HubCall) → reports_on t (Reported t r answer ∷ calls) ≡ said r ∷ reports_on t calls
 own_first t r answer calls = rw (its_own t) refl
 
-elsewhere_adds_none : (t : Ticket) (call : HubCall) (calls : List HubCall) → (IsOn t call → ⊥) → reports_on t (call ∷ calls) ≡ reports_on t calls
+elsewhere_adds_none : (t : Ticket) (call : HubCall) (calls : List HubCall) → (IsOnTicket t call → ⊥) → reports_on t (call ∷ calls) ≡ reports_on t calls
 elsewhere_adds_none t (Admitted plan answer) calls off = refl
 elsewhere_adds_none t (Reported other r answer) calls off = rw (another t other off) refl
 elsewhere_adds_none t (Shown other content) calls off = refl
@@ -96,7 +96,7 @@ given_there t plan _ _ _ (law.answered c new r ack answer) is = absurd (cc)
 given_there t plan _ _ _ (law.refused c r reason first) is = absurd (cc)
 given_there t plan _ _ _ (law.shown c) is = absurd (cc)
 given_there t plan _ _ _ (law.taken c) is = absurd (cc)
-given_there t plan _ _ _ (law.elsewhere c call off) is = absurd (off (subst (IsOn t) (sym is) refl))
+given_there t plan _ _ _ (law.elsewhere c call off) is = absurd (off (subst (IsOnTicket t) (sym is) refl))
 given_there t plan _ _ _ (law.before call none) is = absurd (subst (FindsNoCell t) is none refl)
 given_there t plan _ _ _ (law.after call none) is = absurd (subst (FindsNoCell t) is none refl)
 

@@ -29,11 +29,11 @@ DismissedNeverAnswers = (first : ℕ) (before after : List HubCall) (end : HubSt
     → AreCalls (hub_from first) (before ++ Dismissed t (Ok content) ∷ after) end → All (FindsNoCell t) after
 
 -- the call is on this ticket
-abbrev pub IsOn : Ticket → HubCall → Type 0
-IsOn t (Admitted plan answer) = answer ≡ Ok t
-IsOn t (Reported other r answer) = other ≡ t
-IsOn t (Shown other content) = other ≡ t
-IsOn t (Dismissed other answer) = other ≡ t
+abbrev pub IsOnTicket : Ticket → HubCall → Type 0
+IsOnTicket t (Admitted plan answer) = answer ≡ Ok t
+IsOnTicket t (Reported other r answer) = other ≡ t
+IsOnTicket t (Shown other content) = other ≡ t
+IsOnTicket t (Dismissed other answer) = other ≡ t
 
 -- the life of a ticket: it isn't given yet, a controller stands under it, or it was dismissed
 pub data Life : Type 0 where
@@ -54,7 +54,7 @@ pub data Lives (t : Ticket) : Life → HubCall → Life → Type 0 where
   refused : (c : Control) (r : Report) (reason : ReportFault) → IsFirstReason c.plan.planned c.cell (said r) reason → Lives t (stands c) (Reported t r (Err (Cell reason))) (stands c)
   shown : (c : Control) → Lives t (stands c) (Shown t (Some c)) (stands c)
   taken : (c : Control) → Lives t (stands c) (Dismissed t (Ok c)) dismissed
-  elsewhere : (c : Control) (call : HubCall) → (IsOn t call → ⊥) → Lives t (stands c) call (stands c)
+  elsewhere : (c : Control) (call : HubCall) → (IsOnTicket t call → ⊥) → Lives t (stands c) call (stands c)
   before : (call : HubCall) → FindsNoCell t call → Lives t not_given call not_given
   after : (call : HubCall) → FindsNoCell t call → Lives t dismissed call dismissed
 

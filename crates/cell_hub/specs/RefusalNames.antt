@@ -1,3 +1,4 @@
+-- The names of the reasons for which a hub refuses a call.
 use Rattle.std.specs.Prelude.{ℕ, List, codes}
 use Rattle.cell_control.specs.ReasonNames.{reason_name}
 use Rattle.cell_hub.specs.declared.hub_fault.HubFault.{HubFault}

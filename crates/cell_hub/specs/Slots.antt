@@ -1,4 +1,4 @@
--- How the cells of a hub stand in its slots. No public clause cites this module.
+-- How the cells of a hub stand in its slots.
 use Rattle.std.specs.Prelude.{ℕ, map}
 use Rattle.slab.specs.Slab.{Slab, entries}
 use Rattle.cell_control.specs.Control.{Control}
