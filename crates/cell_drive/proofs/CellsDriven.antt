@@ -1,5 +1,5 @@
 -- What several driven cells come to.
-use Rattle.std.proofs.Common.{◌≡◌, ◌↔◌, ℕ, List, [], ◌∷◌, ◌++◌, Option, Bool, Ok, Err, map, refl, sym, subst}
+use Rattle.std.proofs.Common.{◌≡◌, ◌↔◌, ℕ, arith, List, [], ◌∷◌, ◌++◌, Option, Bool, Ok, Err, map, refl, sym, subst}
 use Rattle.std.specs.Prelude.{IsTrue}
 use Rattle.std.specs.Io.KnownBytes.{Consumes}
 use Rattle.plan_verifier.specs.Accepted.{VerifiedPlan}
@@ -36,14 +36,14 @@ starts_verified plans cells at_first all = plans_verified plans (subst HaveVerif
 -- ---- at the end
 
 -- the whole input was read and answered
-pub cells_through : {T : Type 0} (plans : List VerifiedPlan) (x : T) (start end : List Control) (all_done : Bool)
+pub cells_through : {T : Type 0} {room : ℕ} (plans : List VerifiedPlan) (x : T) (start end : List Control) (all_done : Bool)
     (read_failed_before read_failed write_failed_before write_failed : Bool) (left_before left_after before after : Option (List ℕ)) (pending : List ℕ) → start ≡ map at_start plans → AreVerified plans
-    → IsStreamed {T = T} (Ok x) CellsAnswer (CellsClose 0) start end read_failed_before read_failed left_before left_after write_failed_before write_failed before after pending
+    → IsStreamed {T = T} (Ok x) room CellsAnswer (CellsClose 0) start end read_failed_before read_failed left_before left_after write_failed_before write_failed before after pending
     → IsTrue all_done ↔ AreAllDone end
     → AreDrivenThrough plans all_done left_before left_after before after pending
-cells_through {T} plans x start end all_done read_failed_before read_failed write_failed_before write_failed left_before left_after before after pending at_first verified streamed_from done =
-    let streamed : IsStreamed {T = T} (Ok x) CellsAnswer (CellsClose 0) (map at_start plans) end read_failed_before read_failed left_before left_after write_failed_before write_failed before after pending =
-    subst (λ (cells : List Control). IsStreamed {T = T} (Ok x) CellsAnswer (CellsClose 0) cells end read_failed_before read_failed left_before left_after write_failed_before write_failed before after pending)
+cells_through {T} {room} plans x start end all_done read_failed_before read_failed write_failed_before write_failed left_before left_after before after pending at_first verified streamed_from done =
+    let streamed : IsStreamed {T = T} (Ok x) room CellsAnswer (CellsClose 0) (map at_start plans) end read_failed_before read_failed left_before left_after write_failed_before write_failed before after pending =
+    subst (λ (cells : List Control). IsStreamed {T = T} (Ok x) room CellsAnswer (CellsClose 0) cells end read_failed_before read_failed left_before left_after write_failed_before write_failed before after pending)
     at_first streamed_from in
     let all = streamed.comes_to in
     record {
@@ -65,23 +65,29 @@ written_from : (plans : List VerifiedPlan) (lines : List (Option (List ℕ))) (e
 written_from plans lines end failed_before failed before after all = (all.text, end, all.are_answers, all.written)
 
 -- it was broken off
-off : {T : Type 0} (plans : List VerifiedPlan) (fault : DriveFault) (end : List Control)
+off : {T : Type 0} {room : ℕ} (plans : List VerifiedPlan) (fault : DriveFault) (end : List Control)
     (read_failed_before read_failed write_failed_before write_failed : Bool) (left_before left_after before after : Option (List ℕ)) (pending : List ℕ)
-    → IsStreamed {T = T} (Err fault) CellsAnswer (CellsClose 0) (map at_start plans) end read_failed_before read_failed left_before left_after write_failed_before write_failed before after pending
+    → IsStreamed {T = T} (Err fault) room CellsAnswer (CellsClose 0) (map at_start plans) end read_failed_before read_failed left_before left_after write_failed_before write_failed before after pending → room ≡ 65536
     → (input : List ℕ) × Consumes left_before left_after input × AreBrokenOff fault plans input read_failed_before read_failed left_after write_failed_before write_failed before after pending
-off plans Read end read_failed_before read_failed write_failed_before write_failed left_before left_after before after pending streamed =
+off plans Read end read_failed_before read_failed write_failed_before write_failed left_before left_after before after pending streamed room_is =
     let told = streamed.comes_to in (streamed.input, streamed.was_read, (told.0, told.1, written_from plans _ end write_failed_before write_failed before after told.2, told.2.unfailed, streamed.shown))
-off plans Write end read_failed_before read_failed write_failed_before write_failed left_before left_after before after pending streamed =
+off plans Write end read_failed_before read_failed write_failed_before write_failed left_before left_after before after pending streamed room_is =
     let told = streamed.comes_to in (streamed.input, streamed.was_read, (told.0, (end, told.1), told.2))
-off plans InputTooLong end read_failed_before read_failed write_failed_before write_failed left_before left_after before after pending streamed =
-    let told = streamed.comes_to in (streamed.input, streamed.was_read, (told.0, written_from plans _ end write_failed_before write_failed before after told.1, told.2, told.1.unfailed, streamed.shown))
-off plans Memory end read_failed_before read_failed write_failed_before write_failed left_before left_after before after pending streamed = absurd streamed.comes_to
+off plans InputTooLong end read_failed_before read_failed write_failed_before write_failed left_before left_after before after pending streamed room_is =
+    let told = streamed.comes_to in
+    let most = told.1 in (
+      streamed.input,
+      streamed.was_read,
+      (told.0, omega (arith, most, room_is), written_from plans _ end write_failed_before write_failed before after told.2, told.3, told.2.unfailed, streamed.shown),
+    )
+off plans Memory end read_failed_before read_failed write_failed_before write_failed left_before left_after before after pending streamed room_is = absurd streamed.comes_to
 
-pub cells_broken_off : {T : Type 0} (plans : List VerifiedPlan) (fault : DriveFault) (start end : List Control)
+pub cells_broken_off : {T : Type 0} {room : ℕ} (plans : List VerifiedPlan) (fault : DriveFault) (start end : List Control)
     (read_failed_before read_failed write_failed_before write_failed : Bool) (left_before left_after before after : Option (List ℕ)) (pending : List ℕ) → start ≡ map at_start plans
-    → IsStreamed {T = T} (Err fault) CellsAnswer (CellsClose 0) start end read_failed_before read_failed left_before left_after write_failed_before write_failed before after pending
+    → IsStreamed {T = T} (Err fault) room CellsAnswer (CellsClose 0) start end read_failed_before read_failed left_before left_after write_failed_before write_failed before after pending → room ≡ 65536
     → (input : List ℕ) × Consumes left_before left_after input × AreBrokenOff fault plans input read_failed_before read_failed left_after write_failed_before write_failed before after pending
-cells_broken_off {T} plans fault start end read_failed_before read_failed write_failed_before write_failed left_before left_after before after pending at_first streamed =
+cells_broken_off {T} {room} plans fault start end read_failed_before read_failed write_failed_before write_failed left_before left_after before after pending at_first streamed room_is =
     off plans fault end read_failed_before read_failed write_failed_before write_failed left_before left_after before after pending
-    (subst (λ (cells : List Control). IsStreamed {T = T} (Err fault) CellsAnswer (CellsClose 0) cells end read_failed_before read_failed left_before left_after write_failed_before write_failed before after pending)
+    (subst (λ (cells : List Control). IsStreamed {T = T} (Err fault) room CellsAnswer (CellsClose 0) cells end read_failed_before read_failed left_before left_after write_failed_before write_failed before after pending)
     at_first streamed)
+    room_is

@@ -85,9 +85,9 @@ module _ {S : Type 0} (answers : S → ℕ → Option (List ℕ) → List ℕ �
     (read_failed_before read_failed_now : Bool) (left_before left_after : Option (List ℕ)) (write_failed_before write_failed_now : Bool) (before middle : Option (List ℕ))
     (so_far : Draining answers start now lines held left read_failed_before read_failed_now left_before left_after write_failed_before write_failed_now before middle) where
   -- showing the answers, or the read behind it, failed
-  pub Draining-unread : {U : Type 0} (T : Type 0) (e : DriveFault) (left_then shown : Option (List ℕ)) (read_failed write_failed : Bool) → Keeps left_after left_then → Keeps middle shown
+  pub Draining-unread : {U : Type 0} {room : ℕ} (T : Type 0) (e : DriveFault) (left_then shown : Option (List ℕ)) (read_failed write_failed : Bool) → Keeps left_after left_then → Keeps middle shown
       → IsReadOn {T = T} (Err e) read_failed_now read_failed write_failed_now write_failed
-      → IsDrained {T = U} (Err e) answers start now lines held read_failed_before read_failed left_before left_then write_failed_before write_failed before shown
+      → IsDrained {T = U} (Err e) room answers start now lines held read_failed_before read_failed left_before left_then write_failed_before write_failed before shown
   Draining-unread T Read left_then shown read_failed write_failed kept kept_taken failed =
       let count = so_far.count in
       record {
@@ -143,8 +143,8 @@ module _ {S : Type 0} (answers : S → ℕ → Option (List ℕ) → List ℕ �
 
   module _ (left_then : Option (List ℕ)) (piece : List ℕ) (gave : Consumes left_after left_then piece) (read_failed : Bool) (gave_unfailed : read_failed ≡ read_failed_now) where
     -- nothing was read at the end
-    pub Draining-ended : {T : Type 0} (x : T) → piece ≡ [] → IsAtEnd left_then
-        → IsDrained {T = T} (Ok x) answers start now lines held read_failed_before read_failed left_before left_then write_failed_before write_failed_now before middle
+    pub Draining-ended : {T : Type 0} {room : ℕ} (x : T) → piece ≡ [] → IsAtEnd left_then
+        → IsDrained {T = T} (Ok x) room answers start now lines held read_failed_before read_failed left_before left_then write_failed_before write_failed_now before middle
     Draining-ended x none at_end =
         let count = so_far.count in
         record {
@@ -174,12 +174,12 @@ module _ {S : Type 0} (answers : S → ℕ → Option (List ℕ) → List ℕ �
     cut = sym (take-append-add so_far.bytes piece left) ∙ ap (λ (n : ℕ). take n (so_far.bytes ++ piece)) so_far.count
 
     -- a piece was read, and a write failed, or it went past the limit
-    pub Draining-failed : {T : Type 0} (e : DriveFault) (end : S) (lines_then : ℕ) (held_then after : Option (List ℕ)) (failed : Bool)
-        → IsReadTaken (Err e) answers now lines held piece left end lines_then held_then write_failed_now failed middle after
-        → IsDrained {T = T} (Err e) answers start end lines_then held_then read_failed_before read_failed left_before left_then write_failed_before failed before after
-    Draining-failed Read end lines_then held_then after failed taken = absurd taken
-    Draining-failed Memory end lines_then held_then after failed taken = absurd taken
-    Draining-failed Write end lines_then held_then after failed taken = record {
+    pub Draining-failed : {T : Type 0} (room : ℕ) (e : DriveFault) (end : S) (lines_then : ℕ) (held_then after : Option (List ℕ)) (failed : Bool)
+        → IsReadTaken (Err e) answers now lines held piece left end lines_then held_then write_failed_now failed middle after → length piece ≤ room
+        → IsDrained {T = T} (Err e) room answers start end lines_then held_then read_failed_before read_failed left_before left_then write_failed_before failed before after
+    Draining-failed room Read end lines_then held_then after failed taken fits = absurd taken
+    Draining-failed room Memory end lines_then held_then after failed taken fits = absurd taken
+    Draining-failed room Write end lines_then held_then after failed taken fits = record {
       bytes = so_far.bytes ++ piece;
       was_read = Consumes-trans left_before left_after left_then so_far.bytes piece so_far.was_read gave;
       comes_to = (
@@ -189,7 +189,7 @@ module _ {S : Type 0} (answers : S → ℕ → Option (List ℕ) → List ℕ �
         gave_unfailed ∙ so_far.unfailed,
       );
     }
-    Draining-failed InputTooLong end lines_then held_then after failed taken =
+    Draining-failed room InputTooLong end lines_then held_then after failed taken fits =
         let count = so_far.count in
         let over = taken.0 in
         let both = piece_more answers start now end lines lines_then held held_then so_far.bytes (take left piece) write_failed_before write_failed_now failed before middle after so_far.answered taken.1 in
@@ -198,6 +198,7 @@ module _ {S : Type 0} (answers : S → ℕ → Option (List ℕ) → List ℕ �
           was_read = Consumes-trans left_before left_after left_then so_far.bytes piece so_far.was_read gave;
           comes_to = (
             omega (arith, length-append so_far.bytes piece),
+            omega (arith, fits, length-append so_far.bytes piece),
             record {
               text = both.text;
               are_answers = subst (λ l. AnswerAll answers start 1 (ended (Some []) l) both.text end) cut both.are_answers;

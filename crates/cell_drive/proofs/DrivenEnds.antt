@@ -82,8 +82,8 @@ module _ (s : DriveState) (driven : IsDriven s) where
       }
 
 -- the whole input was read and answered
-through : {T : Type 0} (v : VerifiedPlan) (x : T) (e : DriveState) (read_failed_before read_failed write_failed_before write_failed : Bool) (left_before left_after before after : Option (List ℕ)) (pending : List ℕ)
-    → IsStreamed {T = T} (Ok x) DriveAnswer the_closing (drive_start v) e read_failed_before read_failed left_before left_after write_failed_before write_failed before after pending → IsDriven e
+through : {T : Type 0} {room : ℕ} (v : VerifiedPlan) (x : T) (e : DriveState) (read_failed_before read_failed write_failed_before write_failed : Bool) (left_before left_after before after : Option (List ℕ)) (pending : List ℕ)
+    → IsStreamed {T = T} (Ok x) room DriveAnswer the_closing (drive_start v) e read_failed_before read_failed left_before left_after write_failed_before write_failed before after pending → IsDriven e
     → IsDrivenThrough v.planned e.log.entries left_before left_after before after pending × (e.control.plan ≡ v)
 through v x e read_failed_before read_failed write_failed_before write_failed left_before left_after before after pending streamed driven =
     let all = streamed.comes_to in
@@ -111,12 +111,12 @@ through v x e read_failed_before read_failed write_failed_before write_failed le
       plan_is,
     )
 
-pub driven_through : {T : Type 0} (v : VerifiedPlan) (x : T) (s e : DriveState) (read_failed_before read_failed write_failed_before write_failed : Bool) (left_before left_after before after : Option (List ℕ)) (pending : List ℕ) → s ≡ drive_start v
-    → IsStreamed {T = T} (Ok x) DriveAnswer the_closing s e read_failed_before read_failed left_before left_after write_failed_before write_failed before after pending → IsDriven e
+pub driven_through : {T : Type 0} {room : ℕ} (v : VerifiedPlan) (x : T) (s e : DriveState) (read_failed_before read_failed write_failed_before write_failed : Bool) (left_before left_after before after : Option (List ℕ)) (pending : List ℕ) → s ≡ drive_start v
+    → IsStreamed {T = T} (Ok x) room DriveAnswer the_closing s e read_failed_before read_failed left_before left_after write_failed_before write_failed before after pending → IsDriven e
     → IsDrivenThrough v.planned e.log.entries left_before left_after before after pending × (e.control.plan ≡ v)
-driven_through {T} v x s e read_failed_before read_failed write_failed_before write_failed left_before left_after before after pending at_first streamed driven =
+driven_through {T} {room} v x s e read_failed_before read_failed write_failed_before write_failed left_before left_after before after pending at_first streamed driven =
     through v x e read_failed_before read_failed write_failed_before write_failed left_before left_after before after pending
-    (subst (λ d. IsStreamed {T = T} (Ok x) DriveAnswer the_closing d e read_failed_before read_failed left_before left_after write_failed_before write_failed before after pending) at_first streamed) driven
+    (subst (λ d. IsStreamed {T = T} (Ok x) room DriveAnswer the_closing d e read_failed_before read_failed left_before left_after write_failed_before write_failed before after pending) at_first streamed) driven
 
 -- an answer that was cut off is one of the cell's
 seen_cut_off : (p : PlannedShop) (lines : List (Option (List ℕ))) (s e : DriveState) (number : ℕ) (before after : Option (List ℕ)) → s.control.plan.planned ≡ p
@@ -180,23 +180,29 @@ written v lines e failed_before failed before after all =
     let (text, are_answers, appended) = seen_written v.planned lines (drive_start v) e failed_before failed before after refl all in (text, seen e, are_answers, appended)
 
 -- it was broken off
-off : {T : Type 0} (v : VerifiedPlan) (fault : DriveFault) (e : DriveState) (read_failed_before read_failed write_failed_before write_failed : Bool) (left_before left_after before after : Option (List ℕ)) (pending : List ℕ)
-    → IsStreamed {T = T} (Err fault) DriveAnswer the_closing (drive_start v) e read_failed_before read_failed left_before left_after write_failed_before write_failed before after pending
+off : {T : Type 0} {room : ℕ} (v : VerifiedPlan) (fault : DriveFault) (e : DriveState) (read_failed_before read_failed write_failed_before write_failed : Bool) (left_before left_after before after : Option (List ℕ)) (pending : List ℕ)
+    → IsStreamed {T = T} (Err fault) room DriveAnswer the_closing (drive_start v) e read_failed_before read_failed left_before left_after write_failed_before write_failed before after pending → room ≡ 65536
     → (input : List ℕ) × Consumes left_before left_after input × IsBrokenOff fault v.planned input read_failed_before read_failed left_after write_failed_before write_failed before after pending
-off v Read e read_failed_before read_failed write_failed_before write_failed left_before left_after before after pending streamed =
+off v Read e read_failed_before read_failed write_failed_before write_failed left_before left_after before after pending streamed room_is =
     let told = streamed.comes_to in (streamed.input, streamed.was_read, (told.0, told.1, written v _ e write_failed_before write_failed before after told.2, told.2.unfailed, streamed.shown))
-off v Write e read_failed_before read_failed write_failed_before write_failed left_before left_after before after pending streamed =
+off v Write e read_failed_before read_failed write_failed_before write_failed left_before left_after before after pending streamed room_is =
     let told = streamed.comes_to in (streamed.input, streamed.was_read, (told.0, (seen e, seen_cut v.planned streamed.input (drive_start v) e left_after before after refl told.1), told.2))
-off v InputTooLong e read_failed_before read_failed write_failed_before write_failed left_before left_after before after pending streamed =
-    let told = streamed.comes_to in (streamed.input, streamed.was_read, (told.0, written v _ e write_failed_before write_failed before after told.1, told.2, told.1.unfailed, streamed.shown))
-off v Memory e read_failed_before read_failed write_failed_before write_failed left_before left_after before after pending streamed = absurd streamed.comes_to
+off v InputTooLong e read_failed_before read_failed write_failed_before write_failed left_before left_after before after pending streamed room_is =
+    let told = streamed.comes_to in
+    let most = told.1 in (
+      streamed.input,
+      streamed.was_read,
+      (told.0, omega (arith, most, room_is), written v _ e write_failed_before write_failed before after told.2, told.3, told.2.unfailed, streamed.shown),
+    )
+off v Memory e read_failed_before read_failed write_failed_before write_failed left_before left_after before after pending streamed room_is = absurd streamed.comes_to
 
-pub broken_off : {T : Type 0} (v : VerifiedPlan) (fault : DriveFault) (s e : DriveState) (read_failed_before read_failed write_failed_before write_failed : Bool) (left_before left_after before after : Option (List ℕ)) (pending : List ℕ) → s ≡ drive_start v
-    → IsStreamed {T = T} (Err fault) DriveAnswer the_closing s e read_failed_before read_failed left_before left_after write_failed_before write_failed before after pending
+pub broken_off : {T : Type 0} {room : ℕ} (v : VerifiedPlan) (fault : DriveFault) (s e : DriveState) (read_failed_before read_failed write_failed_before write_failed : Bool) (left_before left_after before after : Option (List ℕ)) (pending : List ℕ) → s ≡ drive_start v
+    → IsStreamed {T = T} (Err fault) room DriveAnswer the_closing s e read_failed_before read_failed left_before left_after write_failed_before write_failed before after pending → room ≡ 65536
     → (input : List ℕ) × Consumes left_before left_after input × IsBrokenOff fault v.planned input read_failed_before read_failed left_after write_failed_before write_failed before after pending
-broken_off {T} v fault s e read_failed_before read_failed write_failed_before write_failed left_before left_after before after pending at_first streamed =
+broken_off {T} {room} v fault s e read_failed_before read_failed write_failed_before write_failed left_before left_after before after pending at_first streamed room_is =
     off v fault e read_failed_before read_failed write_failed_before write_failed left_before left_after before after pending
-    (subst (λ d. IsStreamed {T = T} (Err fault) DriveAnswer the_closing d e read_failed_before read_failed left_before left_after write_failed_before write_failed before after pending) at_first streamed)
+    (subst (λ d. IsStreamed {T = T} (Err fault) room DriveAnswer the_closing d e read_failed_before read_failed left_before left_after write_failed_before write_failed before after pending) at_first streamed)
+    room_is
 
 -- what is said of a driven cell is said of the plan that it was made of
 pub never_full_of : (v : VerifiedPlan) (e : DriveState) (log : Noted) → IsDriven e → e.control.plan ≡ v → log ≡ e.log → IsNeverFull v.planned log

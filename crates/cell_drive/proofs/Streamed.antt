@@ -84,10 +84,10 @@ finish_shown x (Err e) answers closes start lines held end failed_before failed_
 -- ---- all of the input
 
 -- reading came to a fault
-pub stream_drained : {S T U : Type 0} (e : DriveFault) (answers : S → ℕ → Option (List ℕ) → List ℕ → S → Type 0) (closes : S → List ℕ → Type 0) (start end : S) (lines : ℕ) (held : Option (List ℕ))
+pub stream_drained : {S T U : Type 0} {room : ℕ} (e : DriveFault) (answers : S → ℕ → Option (List ℕ) → List ℕ → S → Type 0) (closes : S → List ℕ → Type 0) (start end : S) (lines : ℕ) (held : Option (List ℕ))
     (read_failed_before read_failed : Bool) (left_before left_after : Option (List ℕ)) (write_failed_before write_failed : Bool) (before after : Option (List ℕ)) (pending : List ℕ)
-    → IsDrained {T = T} (Err e) answers start end lines held read_failed_before read_failed left_before left_after write_failed_before write_failed before after → IsShownAt e pending
-    → IsStreamed {T = U} (Err e) answers closes start end read_failed_before read_failed left_before left_after write_failed_before write_failed before after pending
+    → IsDrained {T = T} (Err e) room answers start end lines held read_failed_before read_failed left_before left_after write_failed_before write_failed before after → IsShownAt e pending
+    → IsStreamed {T = U} (Err e) room answers closes start end read_failed_before read_failed left_before left_after write_failed_before write_failed before after pending
 stream_drained Memory answers closes start end lines held read_failed_before read_failed left_before left_after write_failed_before write_failed before after pending drained shown = absurd drained.comes_to
 stream_drained Read answers closes start end lines held read_failed_before read_failed left_before left_after write_failed_before write_failed before after pending drained shown =
     let told = drained.comes_to.2 in
@@ -107,19 +107,20 @@ stream_drained Read answers closes start end lines held read_failed_before read_
       shown = shown;
     }
 stream_drained InputTooLong answers closes start end lines held read_failed_before read_failed left_before left_after write_failed_before write_failed before after pending drained shown =
-    let told = drained.comes_to.1 in
+    let told = drained.comes_to.2 in
     record {
       input = drained.bytes;
       was_read = drained.was_read;
       comes_to = (
         drained.comes_to.0,
+        drained.comes_to.1,
         record {
           text = told.text;
           are_answers = subst (λ l. AnswerAll answers start 1 l told.text end) (complete_lines-ended (take 67108864 drained.bytes)) told.are_answers;
           written = told.written;
           unfailed = told.unfailed;
         },
-        drained.comes_to.2,
+        drained.comes_to.3,
       );
       shown = shown;
     }
@@ -136,9 +137,9 @@ stream_drained Write answers closes start end lines held read_failed_before read
     }
 
 -- the last line and the closing text behind what was drained
-module _ {S T : Type 0} (answers : S → ℕ → Option (List ℕ) → List ℕ → S → Type 0) (closes : S → List ℕ → Type 0) (start middle end : S) (lines : ℕ) (held : Option (List ℕ)) (x : T)
+module _ {S T : Type 0} {room : ℕ} (answers : S → ℕ → Option (List ℕ) → List ℕ → S → Type 0) (closes : S → List ℕ → Type 0) (start middle end : S) (lines : ℕ) (held : Option (List ℕ)) (x : T)
     (read_failed_before read_failed : Bool) (left_before left_after : Option (List ℕ)) (write_failed_before write_failed_now failed : Bool) (before between after : Option (List ℕ))
-    (drained : IsDrained {T = T} (Ok x) answers start middle lines held read_failed_before read_failed left_before left_after write_failed_before write_failed_now before between) where
+    (drained : IsDrained {T = T} (Ok x) room answers start middle lines held read_failed_before read_failed left_before left_after write_failed_before write_failed_now before between) where
   abbrev so_far : IsPieceAnswered answers start 0 (Some []) drained.bytes middle lines held write_failed_before write_failed_now before between
   so_far = drained.comes_to.2
 
@@ -149,7 +150,7 @@ module _ {S T : Type 0} (answers : S → ℕ → Option (List ℕ) → List ℕ 
   next_number = let lines_are = so_far.lines_are in omega arith
 
   pub stream_done : {V : Type 0} (v : V) (pending : List ℕ) → IsWhollyFinished answers closes middle lines held end write_failed_now failed between after → pending ≡ []
-      → IsStreamed {T = V} (Ok v) answers closes start end read_failed_before read_failed left_before left_after write_failed_before failed before after pending
+      → IsStreamed {T = V} (Ok v) room answers closes start end read_failed_before read_failed left_before left_after write_failed_before failed before after pending
   stream_done v pending finished shown =
       let all : AnswerAll answers start 1 (ended (Some []) drained.bytes ++ last_line held) (so_far.text ++ finished.text) end =
       AnswerAll-append answers (ended (Some []) drained.bytes) (last_line held) start middle end 1 (lines + 1) so_far.text finished.text so_far.are_answers next_number finished.are_answers in
@@ -185,7 +186,7 @@ module _ {S T : Type 0} (answers : S → ℕ → Option (List ℕ) → List ℕ 
 
   pub stream_failed : {V : Type 0} (pending : List ℕ)
       → (failed ≡ true) × (AreCutOff answers middle (lines + 1) (last_line held) end between after ⊎ IsClosingCut answers closes middle (lines + 1) (last_line held) end between after)
-      → IsStreamed {T = V} (Err Write) answers closes start end read_failed_before read_failed left_before left_after write_failed_before failed before after pending
+      → IsStreamed {T = V} (Err Write) room answers closes start end read_failed_before read_failed left_before left_after write_failed_before failed before after pending
   stream_failed pending finished = record {
     input = drained.bytes;
     was_read = drained.was_read;

@@ -44,14 +44,14 @@ WereAnswersWritten p lines before after = (text : List ℕ) × (end : DrivenCell
 abbrev pub WasCutOff : PlannedShop → List ℕ → Option (List ℕ) → Option (List ℕ) → Option (List ℕ) → Type 0
 WasCutOff p input left before after = (end : DrivenCell) × IsCutOff (CellAnswers p) (CellCloses p) (undriven p) input end left before after
 
--- where driving was broken off: after a failed read, and where too much came, the answers to the complete lines within the limit were written and shown; after a failed write the answers up to that at which it failed, of which the first bytes were written; and without memory nothing. A device has failed only where it is the fault, or it had failed before
+-- where driving was broken off: after a failed read, and where too much came, of which no piece was read behind the one that went past the limit, the answers to the complete lines within the limit were written and shown; after a failed write the answers up to that at which it failed, of which the first bytes were written; and without memory nothing. A device has failed only where it is the fault, or it had failed before
 abbrev pub IsBrokenOff : DriveFault → PlannedShop → List ℕ → Bool → Bool → Option (List ℕ) → Bool → Bool → Option (List ℕ) → Option (List ℕ) → List ℕ → Type 0
 IsBrokenOff Read p input read_failed_before read_failed left write_failed_before write_failed before after pending =
     (read_failed ≡ true) × (length input ≤ 67108864) × WereAnswersWritten p (complete_lines input) before after × (write_failed ≡ write_failed_before) × (pending ≡ [])
 IsBrokenOff Write p input read_failed_before read_failed left write_failed_before write_failed before after pending =
     (write_failed ≡ true) × WasCutOff p input left before after × (read_failed ≡ read_failed_before)
 IsBrokenOff InputTooLong p input read_failed_before read_failed left write_failed_before write_failed before after pending =
-    (67108864 < length input) × WereAnswersWritten p (complete_lines (take 67108864 input)) before after × (read_failed ≡ read_failed_before) × (write_failed ≡ write_failed_before) × (pending ≡ [])
+    (67108864 < length input) × (length input ≤ 67108864 + 65536) × WereAnswersWritten p (complete_lines (take 67108864 input)) before after × (read_failed ≡ read_failed_before) × (write_failed ≡ write_failed_before) × (pending ≡ [])
 IsBrokenOff Memory p input read_failed_before read_failed left write_failed_before write_failed before after pending =
     (input ≡ []) × (after ≡ before) × (read_failed ≡ read_failed_before) × (write_failed ≡ write_failed_before)
 

@@ -1,5 +1,5 @@
 -- What driving several cells comes to.
-use Rattle.std.specs.Prelude.{◌≡◌, ℕ, ◌<◌, ◌≤◌, ◌↔◌, List, [], length, map, take, Option, Bool, true, IsTrue}
+use Rattle.std.specs.Prelude.{◌≡◌, ℕ, ◌+◌, ◌<◌, ◌≤◌, ◌↔◌, List, [], length, map, take, Option, Bool, true, IsTrue}
 use Rattle.std.specs.Io.KnownBytes.{Appends, Consumes, IsAtEnd}
 use Rattle.plan_verifier.specs.Accepted.{VerifiedPlan}
 use Rattle.cell_control.specs.Control.{Control, at_start}
@@ -40,6 +40,6 @@ AreBrokenOff Read plans input read_failed_before read_failed left write_failed_b
 AreBrokenOff Write plans input read_failed_before read_failed left write_failed_before write_failed before after pending =
     (write_failed ≡ true) × WereCellsCutOff plans input left before after × (read_failed ≡ read_failed_before)
 AreBrokenOff InputTooLong plans input read_failed_before read_failed left write_failed_before write_failed before after pending =
-    (67108864 < length input) × WereCellsAnswersWritten plans (complete_lines (take 67108864 input)) before after × (read_failed ≡ read_failed_before) × (write_failed ≡ write_failed_before) × (pending ≡ [])
+    (67108864 < length input) × (length input ≤ 67108864 + 65536) × WereCellsAnswersWritten plans (complete_lines (take 67108864 input)) before after × (read_failed ≡ read_failed_before) × (write_failed ≡ write_failed_before) × (pending ≡ [])
 AreBrokenOff Memory plans input read_failed_before read_failed left write_failed_before write_failed before after pending =
     (input ≡ []) × (after ≡ before) × (read_failed ≡ read_failed_before) × (write_failed ≡ write_failed_before)

@@ -43,25 +43,25 @@ IsReadOn (Err Write) read_failed_before read_failed write_failed_before write_fa
 IsReadOn (Err InputTooLong) read_failed_before read_failed write_failed_before write_failed = ⊥
 IsReadOn (Err Memory) read_failed_before read_failed write_failed_before write_failed = ⊥
 
--- what reading comes to once these bytes were read, the last line apart, and which device has failed
-abbrev pub ReadsTo : {S T : Type 0} → Result T DriveFault → (S → ℕ → Option (List ℕ) → List ℕ → S → Type 0) → S → List ℕ
+-- what reading comes to once these bytes were read into a room of so many, piece by piece, the last line apart, and which device has failed
+abbrev pub ReadsTo : {S T : Type 0} → Result T DriveFault → ℕ → (S → ℕ → Option (List ℕ) → List ℕ → S → Type 0) → S → List ℕ
     → S → ℕ → Option (List ℕ) → Bool → Bool → Option (List ℕ) → Bool → Bool → Option (List ℕ) → Option (List ℕ) → Type 0
-ReadsTo (Ok x) answers start bytes end lines held read_failed_before read_failed left write_failed_before write_failed before after =
+ReadsTo (Ok x) room answers start bytes end lines held read_failed_before read_failed left write_failed_before write_failed before after =
     IsAtEnd left × (length bytes ≤ 67108864) × IsPieceAnswered answers start 0 (Some []) bytes end lines held write_failed_before write_failed before after × (read_failed ≡ read_failed_before)
-ReadsTo (Err Read) answers start bytes end lines held read_failed_before read_failed left write_failed_before write_failed before after =
+ReadsTo (Err Read) room answers start bytes end lines held read_failed_before read_failed left write_failed_before write_failed before after =
     (read_failed ≡ true) × (length bytes ≤ 67108864) × AreAnswered answers start 1 (ended (Some []) bytes) end write_failed_before write_failed before after
-ReadsTo (Err Write) answers start bytes end lines held read_failed_before read_failed left write_failed_before write_failed before after =
+ReadsTo (Err Write) room answers start bytes end lines held read_failed_before read_failed left write_failed_before write_failed before after =
     (write_failed ≡ true) × AreCutShort answers start 1 (ended (Some []) (take 67108864 bytes)) end before after × (read_failed ≡ read_failed_before)
-ReadsTo (Err InputTooLong) answers start bytes end lines held read_failed_before read_failed left write_failed_before write_failed before after =
-    (67108864 < length bytes) × AreAnswered answers start 1 (ended (Some []) (take 67108864 bytes)) end write_failed_before write_failed before after × (read_failed ≡ read_failed_before)
-ReadsTo (Err Memory) answers start bytes end lines held read_failed_before read_failed left write_failed_before write_failed before after = ⊥
+ReadsTo (Err InputTooLong) room answers start bytes end lines held read_failed_before read_failed left write_failed_before write_failed before after =
+    (67108864 < length bytes) × (length bytes ≤ 67108864 + room) × AreAnswered answers start 1 (ended (Some []) (take 67108864 bytes)) end write_failed_before write_failed before after × (read_failed ≡ read_failed_before)
+ReadsTo (Err Memory) room answers start bytes end lines held read_failed_before read_failed left write_failed_before write_failed before after = ⊥
 
--- these bytes were read, and this is what reading comes to
-pub record IsDrained {S T : Type 0} (outcome : Result T DriveFault) (answers : S → ℕ → Option (List ℕ) → List ℕ → S → Type 0) (start end : S) (lines : ℕ) (held : Option (List ℕ))
+-- these bytes were read into a room of so many, and this is what reading comes to
+pub record IsDrained {S T : Type 0} (outcome : Result T DriveFault) (room : ℕ) (answers : S → ℕ → Option (List ℕ) → List ℕ → S → Type 0) (start end : S) (lines : ℕ) (held : Option (List ℕ))
     (read_failed_before read_failed : Bool) (left_before left_after : Option (List ℕ)) (write_failed_before write_failed : Bool) (before after : Option (List ℕ)) : Type 0 where
   pub bytes : List ℕ
   pub was_read : Consumes left_before left_after bytes
-  pub comes_to : ReadsTo outcome answers start bytes end lines held read_failed_before read_failed left_after write_failed_before write_failed before after
+  pub comes_to : ReadsTo outcome room answers start bytes end lines held read_failed_before read_failed left_after write_failed_before write_failed before after
 
 -- the last line, if it has bytes and no line feed
 abbrev pub last_line : Option (List ℕ) → List (Option (List ℕ))

@@ -1,5 +1,5 @@
 -- A whole input that is read and answered line by line.
-use Rattle.std.specs.Prelude.{◌≡◌, ℕ, ◌<◌, ◌≤◌, List, [], ◌++◌, length, take, Option, Bool, true, Result, Ok, Err, ◌⊎◌}
+use Rattle.std.specs.Prelude.{◌≡◌, ℕ, ◌+◌, ◌<◌, ◌≤◌, List, [], ◌++◌, length, take, Option, Bool, true, Result, Ok, Err, ◌⊎◌}
 use Rattle.std.specs.Io.KnownBytes.{Appends, Consumes, IsAtEnd}
 use Rattle.cell_drive.specs.declared.drive_fault.DriveFault.{DriveFault}
 use Rattle.cell_drive.specs.declared.drive_fault.DriveFault.TheVariants.{Read, Write, InputTooLong, Memory}
@@ -26,18 +26,18 @@ IsCutOff answers closes start input end left before after =
     ⊎ (IsAtEnd left × (length input ≤ 67108864)
     × (AreCutOff answers start 1 (input_lines input) end before after ⊎ IsClosingCut answers closes start 1 (input_lines input) end before after))
 
--- what a stream comes to once this input was read, on success and with each fault. A device has failed only where it is the fault, or it had failed before
-abbrev pub ComesTo : {S T : Type 0} → Result T DriveFault → (S → ℕ → Option (List ℕ) → List ℕ → S → Type 0) → (S → List ℕ → Type 0) → S → List ℕ → S
+-- what a stream comes to once this input was read into a room of so many bytes, piece by piece, on success and with each fault. Of an input that is too long no piece is read behind the one that goes past the limit. A device has failed only where it is the fault, or it had failed before
+abbrev pub ComesTo : {S T : Type 0} → Result T DriveFault → ℕ → (S → ℕ → Option (List ℕ) → List ℕ → S → Type 0) → (S → List ℕ → Type 0) → S → List ℕ → S
     → Bool → Bool → Option (List ℕ) → Bool → Bool → Option (List ℕ) → Option (List ℕ) → Type 0
-ComesTo (Ok x) answers closes start input end read_failed_before read_failed left write_failed_before write_failed before after =
+ComesTo (Ok x) room answers closes start input end read_failed_before read_failed left write_failed_before write_failed before after =
     IsAllAnswered answers closes start input end read_failed_before read_failed left write_failed_before write_failed before after
-ComesTo (Err Read) answers closes start input end read_failed_before read_failed left write_failed_before write_failed before after =
+ComesTo (Err Read) room answers closes start input end read_failed_before read_failed left write_failed_before write_failed before after =
     (read_failed ≡ true) × (length input ≤ 67108864) × AreAnswered answers start 1 (complete_lines input) end write_failed_before write_failed before after
-ComesTo (Err Write) answers closes start input end read_failed_before read_failed left write_failed_before write_failed before after =
+ComesTo (Err Write) room answers closes start input end read_failed_before read_failed left write_failed_before write_failed before after =
     (write_failed ≡ true) × IsCutOff answers closes start input end left before after × (read_failed ≡ read_failed_before)
-ComesTo (Err InputTooLong) answers closes start input end read_failed_before read_failed left write_failed_before write_failed before after =
-    (67108864 < length input) × AreAnswered answers start 1 (complete_lines (take 67108864 input)) end write_failed_before write_failed before after × (read_failed ≡ read_failed_before)
-ComesTo (Err Memory) answers closes start input end read_failed_before read_failed left write_failed_before write_failed before after = ⊥
+ComesTo (Err InputTooLong) room answers closes start input end read_failed_before read_failed left write_failed_before write_failed before after =
+    (67108864 < length input) × (length input ≤ 67108864 + room) × AreAnswered answers start 1 (complete_lines (take 67108864 input)) end write_failed_before write_failed before after × (read_failed ≡ read_failed_before)
+ComesTo (Err Memory) room answers closes start input end read_failed_before read_failed left write_failed_before write_failed before after = ⊥
 
 -- nothing is held back at a fault, unless it is a failed write
 abbrev pub IsShownAt : DriveFault → List ℕ → Type 0
@@ -51,10 +51,10 @@ abbrev pub IsShown : {T : Type 0} → Result T DriveFault → List ℕ → Type 
 IsShown (Ok x) pending = pending ≡ []
 IsShown (Err fault) pending = IsShownAt fault pending
 
--- an input was read from what was left to read, this is what the stream comes to, and nothing is held back of what was answered
-pub record IsStreamed {S T : Type 0} (outcome : Result T DriveFault) (answers : S → ℕ → Option (List ℕ) → List ℕ → S → Type 0) (closes : S → List ℕ → Type 0) (start end : S)
+-- an input was read from what was left to read, into a room of so many bytes, this is what the stream comes to, and nothing is held back of what was answered
+pub record IsStreamed {S T : Type 0} (outcome : Result T DriveFault) (room : ℕ) (answers : S → ℕ → Option (List ℕ) → List ℕ → S → Type 0) (closes : S → List ℕ → Type 0) (start end : S)
     (read_failed_before read_failed : Bool) (left_before left_after : Option (List ℕ)) (write_failed_before write_failed : Bool) (before after : Option (List ℕ)) (pending : List ℕ) : Type 0 where
   pub input : List ℕ
   pub was_read : Consumes left_before left_after input
-  pub comes_to : ComesTo outcome answers closes start input end read_failed_before read_failed left_after write_failed_before write_failed before after
+  pub comes_to : ComesTo outcome room answers closes start input end read_failed_before read_failed left_after write_failed_before write_failed before after
   pub shown : IsShown outcome pending

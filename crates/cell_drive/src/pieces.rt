@@ -85,12 +85,14 @@ pub(crate) fn take_piece<H: LineHandler, W: Sink>(
     ensures held { OnOk result (input.new.held ≡ held_after input.old.held piece.now) }
     ensures lines { OnOk result (input.new.lines ≡ input.old.lines + length (ended input.old.held piece.now)) }
 {
+    let mut lines = input.lines;
     let mut rest = piece;
     while let Some((line, after)) = cut_line(rest) {
-        input.lines += 1;
-        answer_ended(handler, input.lines, &mut input.held, line, writer)?;
+        lines += 1;
+        answer_ended(handler, lines, &mut input.held, line, writer)?;
         rest = after;
     }
+    input.lines = lines;
     input.held.push(rest);
     Ok(())
 }

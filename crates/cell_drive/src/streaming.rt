@@ -82,7 +82,7 @@ fn drain<H: LineHandler, R: Source, W: Outlet>(
     requires none_held { input.old.held ≡ Some [] }
     requires no_lines { input.old.lines ≡ 0 }
     requires room { 0 < length room.old }
-    ensures drained { IsDrained result H.answers handler.old handler.new input.new.lines input.new.held
+    ensures drained { IsDrained result (length room.old) H.answers handler.old handler.new input.new.lines input.new.held
         (R.failed reader.old) (R.failed reader.new) (R.left reader.old) (R.left reader.new) (W.failed writer.old) (W.failed writer.new) (W.taken writer.old) (W.taken writer.new) }
     ensures shown { IsShown result (W.pending writer.new) }
 {
@@ -142,7 +142,7 @@ pub fn stream<H: LineHandler, R: Source, W: Outlet>(
     writer: &mut W,
 ) -> Result<(), DriveFault>
     requires { 0 < length room.old }
-    ensures { IsStreamed result H.answers H.closes handler.old handler.new
+    ensures { IsStreamed result (length room.old) H.answers H.closes handler.old handler.new
         (R.failed reader.old) (R.failed reader.new) (R.left reader.old) (R.left reader.new) (W.failed writer.old) (W.failed writer.new) (W.taken writer.old) (W.taken writer.new) (W.pending writer.new) }
 {
     let mut input = Input {

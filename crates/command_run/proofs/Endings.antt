@@ -91,14 +91,14 @@ drive_shown : (v : VerifiedPlan) (before after : Streams) (end : Result DriveEnd
 drive_shown v before after (Ok end) is none = inl is.through.shown
 drive_shown v before after (Err NotRead) is none = inl is.broken_off.2.4
 drive_shown v before after (Err NotWritten) is none = inr is.broken_off.2.0
-drive_shown v before after (Err TooLong) is none = inl is.broken_off.2.4
+drive_shown v before after (Err TooLong) is none = inl is.broken_off.2.5
 drive_shown v before after (Err WantOfMemory) is none = inl (ap (λ (s : Streams). s.output.pending) (is.untouched refl) ∙ none)
 
 hub_shown : (cells : List VerifiedPlan) (before after : Streams) (end : Result HubEnd DriveFault) → AreDrives cells before after end → before.output.pending ≡ [] → HoldsNothing after.output
 hub_shown cells before after (Ok end) is none = inl is.through.shown
 hub_shown cells before after (Err NotRead) is none = inl is.broken_off.2.4
 hub_shown cells before after (Err NotWritten) is none = inr is.broken_off.2.0
-hub_shown cells before after (Err TooLong) is none = inl is.broken_off.2.4
+hub_shown cells before after (Err TooLong) is none = inl is.broken_off.2.5
 hub_shown cells before after (Err WantOfMemory) is none = inl (ap (λ (s : Streams). s.output.pending) (is.untouched refl) ∙ none)
 
 broken_shown : (t : TakenUp) (before after : Streams) (fault : DriveFault) → IsBrokenOff fault t.driven.control.plan.planned t.driven.log.entries t.late

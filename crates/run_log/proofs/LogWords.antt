@@ -4,9 +4,9 @@ use Rattle.std.specs.Prelude.{nat_eq, Bool, ◌||◌}
 use Rattle.std.specs.List.{join_with_byte, starts_with}
 use Rattle.std.proofs.lemmas.Bool.{eq-eqb, ne_eqb}
 use Rattle.shop_base.specs.declared.move_order.Spot.{Spot}
+use Rattle.shop_base.specs.declared.move_order.Spot.TheVariants.{Out, At}
 use Rattle.shop_base.specs.declared.move_order.MoveOrder.{MoveOrder}
 use Rattle.text_lines.specs.Numbers.{IsNumeral, IsNumberBefore, value_of}
-use Rattle.text_lines.specs.Cuts.{HasNone, IsCutAt}
 use Rattle.text_lines.proofs.FirstWords.{no_space}
 use Rattle.cell_tables.specs.declared.report.Report.{Report}
 use Rattle.cell_tables.specs.declared.report.Report.TheVariants.{Arrive, Finish, Clean}
@@ -14,8 +14,8 @@ use Rattle.cell_tables.specs.Reports.{said}
 use Rattle.cell_tables.specs.declared.entry.Entry.{Entry}
 use Rattle.cell_tables.specs.declared.entry.Entry.TheVariants.{Report as ReportEntry, Order as OrderEntry}
 use Rattle.run_log.specs.LogLines.{spaced_words, is_passed_over, IsSpotWord, AreSpotWords, AreEndWords, AreReportWords, AreOrderWords, IsEntryLine}
-use Rattle.run_log.specs.LogWords.{IsNumberFirst, HasNoNumberFirst, AreEndWordsAt, AreNoEndWords}
-use Rattle.run_log.proofs.SpacedWords.{words_first, words_one, words_back, numeral_one, spot_one}
+use Rattle.run_log.specs.LogWords.{IsNumberFirst, HasNoNumberFirst, IsSpotFirst, HasNoSpotFirst, AreEndWordsAt, AreNoEndWords}
+use Rattle.run_log.proofs.SpacedWords.{words_first, words_back, numeral_one, spot_one}
 
 pub different : (a b : ℕ) → eqb a b ≡ false → a ≡ b → ⊥
 different a b unequal same = let equal = eq-eqb a b same in cc
@@ -105,26 +105,28 @@ no_report-moment words none report found = go found.1 found.3 found.4
 pub same_number : (most n m : ℕ) (first other : List ℕ) → IsNumeral most first n → IsNumeral most other m → first ≡ other → m ≡ n
 same_number most n m first other is_first is_other same = is_other.value ∙ sym (ap value_of same) ∙ sym is_first.value
 
-pub spots-here : (bytes from to : List ℕ) (source target : Spot) → IsCutAt 32 bytes from to → IsSpotWord from source → IsSpotWord to target → AreSpotWords (spaced_words bytes) source target
-spots-here bytes from to source target cut is_source is_target =
-    (from, to, is_source, is_target, words_first bytes from to cut ∙ ap (λ words. from ∷ words) (spot_one to target is_target))
+pub out_first : (bytes rest : List ℕ) → bytes ≡ codes "out " ++ rest → IsSpotFirst (spaced_words bytes) Out (spaced_words rest)
+out_first bytes rest is = (codes "out", refl, ap spaced_words is)
 
-pub no_spots-uncut : (bytes : List ℕ) → HasNone 32 bytes → (source target : Spot) → AreSpotWords (spaced_words bytes) source target → ⊥
-no_spots-uncut bytes none source target found = let one = words_one bytes none in let two = found.4 in absurd (cc)
+pub no_spot-first : (bytes : List ℕ) → HasNoNumberFirst 9 (spaced_words bytes) → ((rest : List ℕ) → bytes ≢ codes "out " ++ rest) → HasNoSpotFirst (spaced_words bytes)
+no_spot-first bytes none o Out next rest found =
+    o (join_with_byte 32 (next ∷ rest)) (words_back bytes (found.0 ∷ next ∷ rest) found.2 ∙ ap (λ (word : List ℕ). word ++ 32 ∷ join_with_byte 32 (next ∷ rest)) found.1)
+no_spot-first bytes none o (At machine) next rest found = none machine next rest found
 
-pub no_spots-source : (bytes from to : List ℕ) → IsCutAt 32 bytes from to → ((spot : Spot) → IsSpotWord from spot → ⊥) → (source target : Spot) → AreSpotWords (spaced_words bytes) source target → ⊥
-no_spots-source bytes from to cut none source target found =
-    let words = words_first bytes from to cut in
+pub spots-here : (bytes rest : List ℕ) (source target : Spot) → IsSpotFirst (spaced_words bytes) source (spaced_words rest) → IsSpotWord rest target → AreSpotWords (spaced_words bytes) source target
+spots-here bytes rest source target first is_target =
+    (first.0, rest, first.1, is_target, first.2 ∙ ap (λ words. first.0 ∷ words) (spot_one rest target is_target))
+
+pub no_spots-source : (bytes : List ℕ) → HasNoSpotFirst (spaced_words bytes) → (source target : Spot) → AreSpotWords (spaced_words bytes) source target → ⊥
+no_spots-source bytes none source target found = none source found.1 [] (found.0, found.2, found.4)
+
+pub no_spots-target : (bytes rest : List ℕ) (first : Spot) → IsSpotFirst (spaced_words bytes) first (spaced_words rest) → ((spot : Spot) → IsSpotWord rest spot → ⊥)
+    → (source target : Spot) → AreSpotWords (spaced_words bytes) source target → ⊥
+no_spots-target bytes rest first is_first none source target found =
+    let words = is_first.2 in
     let is = found.4 in
-    let same : found.0 ≡ from = cc in
-    none source (subst (λ w. IsSpotWord w source) same found.2)
-
-pub no_spots-target : (bytes from to : List ℕ) → IsCutAt 32 bytes from to → ((spot : Spot) → IsSpotWord to spot → ⊥) → (source target : Spot) → AreSpotWords (spaced_words bytes) source target → ⊥
-no_spots-target bytes from to cut none source target found =
-    let words = words_first bytes from to cut in
-    let is = found.4 in
-    let one : spaced_words to ≡ found.1 ∷ [] = cc in
-    none target (subst (λ w. IsSpotWord w target) (only_word to found.1 one) found.3)
+    let one : spaced_words rest ≡ found.1 ∷ [] = cc in
+    none target (subst (λ w. IsSpotWord w target) (only_word rest found.1 one) found.3)
 
 pub no_order-moment : (words : List (List ℕ)) → HasNoNumberFirst 13 words → (o : MoveOrder) → AreOrderWords words o → ⊥
 no_order-moment words none o found = none o.at found.1 found.2 (found.0, found.3, found.6)

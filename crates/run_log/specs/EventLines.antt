@@ -20,13 +20,23 @@ abbrev pub spot_word : Spot → List ℕ
 spot_word Out = codes "out"
 spot_word (At machine) = decimal machine
 
--- `report T arrive J`, `report T finish J M` or `report T clean M`
+-- `report T arrive J`, `report T finish J M` or `report T clean M`, before a text
+abbrev pub report_words : Report → List ℕ → List ℕ
+report_words (Arrive job at) text = codes "report " ++ (decimal at ++ (codes " arrive " ++ (decimal job ++ text)))
+report_words (Finish job machine at) text = codes "report " ++ (decimal at ++ (codes " finish " ++ (decimal job ++ (32 ∷ (decimal machine ++ text)))))
+report_words (Clean machine at) text = codes "report " ++ (decimal at ++ (codes " clean " ++ (decimal machine ++ text)))
+
+-- `order T J FROM TO`, before a text
+abbrev pub order_words : MoveOrder → List ℕ → List ℕ
+order_words o text = codes "order " ++ (decimal o.at ++ (32 ∷ (decimal o.job ++ (32 ∷ (spot_word o.source ++ (32 ∷ (spot_word o.target ++ text)))))))
+
+-- the line of a report: its words with one space between them, and a line feed
 abbrev pub report_line : Report → List ℕ
 report_line (Arrive job at) = spaced_line (codes "report" ∷ decimal at ∷ codes "arrive" ∷ decimal job ∷ [])
 report_line (Finish job machine at) = spaced_line (codes "report" ∷ decimal at ∷ codes "finish" ∷ decimal job ∷ decimal machine ∷ [])
 report_line (Clean machine at) = spaced_line (codes "report" ∷ decimal at ∷ codes "clean" ∷ decimal machine ∷ [])
 
--- `order T J FROM TO`
+-- the line of an order
 abbrev pub order_line : MoveOrder → List ℕ
 order_line o = spaced_line (codes "order" ∷ decimal o.at ∷ decimal o.job ∷ spot_word o.source ∷ spot_word o.target ∷ [])
 

@@ -2,7 +2,7 @@
 
 ghost use Rattle.std.specs.Prelude.{◌≡◌, ◌+◌, ◌≤◌, [], ◌∷◌, ◌++◌, length, codes, decimal, OnOk};
 ghost use Rattle.run_log.specs.Sinks.{Wrote};
-ghost use Rattle.run_log.specs.EventLines.{spot_word, report_line, order_line, entry_line, entry_lines};
+ghost use Rattle.run_log.specs.EventLines.{spot_word, report_words, order_words, report_line, order_line, entry_line, entry_lines};
 
 use crate::line_text::LineText;
 use crate::sink::{Sink, WriteFault};
@@ -11,8 +11,8 @@ use cell_tables::{Entry, Report};
 use shop_base::{JobNo, MachineNo, Moment, MoveOrder, Spot};
 
 #[inline(always)]
-fn put_spot(line: &mut LineText, spot: Spot)
-    requires { length line.old ≤ 54 }
+fn put_spot<const ROOM: usize>(line: &mut text_lines::LineText<ROOM>, spot: Spot)
+    requires { 10 + length line.old ≤ ROOM }
     ensures written { line.new ≡ spot_word spot ++ line.old }
     ensures length { length line.new ≤ 10 + length line.old }
 {
@@ -24,10 +24,16 @@ fn put_spot(line: &mut LineText, spot: Spot)
 
 /// Writes `report T`, the word of what has ended, with a space on each side, and the number of its job or machine.
 #[inline(always)]
-fn put_ended(line: &mut LineText, ended: &[u8], number: u32, at: Moment)
-    requires line { line.old ≡ 10 ∷ [] }
+fn put_ended<const ROOM: usize>(
+    line: &mut text_lines::LineText<ROOM>,
+    ended: &[u8],
+    number: u32,
+    at: Moment,
+)
     requires ended { length ended.now ≤ 8 }
-    ensures { line.new ≡ codes "report " ++ (decimal at ++ (ended.now ++ (decimal number ++ 10 ∷ []))) }
+    requires room { 45 + length line.old ≤ ROOM }
+    ensures written { line.new ≡ codes "report " ++ (decimal at ++ (ended.now ++ (decimal number ++ line.old))) }
+    ensures length { length line.new ≤ 45 + length line.old }
 {
     line.put_short_number(number);
     line.put_text(ended);
@@ -36,9 +42,15 @@ fn put_ended(line: &mut LineText, ended: &[u8], number: u32, at: Moment)
 }
 
 #[inline(always)]
-fn put_finish(line: &mut LineText, job: JobNo, machine: MachineNo, at: Moment)
-    requires { line.old ≡ 10 ∷ [] }
-    ensures { line.new ≡ report_line (Report.Finish job machine at) }
+fn put_finish<const ROOM: usize>(
+    line: &mut text_lines::LineText<ROOM>,
+    job: JobNo,
+    machine: MachineNo,
+    at: Moment,
+)
+    requires { 56 + length line.old ≤ ROOM }
+    ensures written { line.new ≡ report_words (Report.Finish job machine at) line.old }
+    ensures length { length line.new ≤ 56 + length line.old }
 {
     line.put_short_number(machine);
     line.put_text(b" ");
@@ -48,11 +60,13 @@ fn put_finish(line: &mut LineText, job: JobNo, machine: MachineNo, at: Moment)
     line.put_text(b"report ");
 }
 
-/// Writes the line of an accepted report: `report T arrive J`, `report T finish J M` or `report T clean M`.
+/// Writes the words of an accepted report before what there is: `report T arrive J`, `report T finish J M` or
+/// `report T clean M`.
 #[inline(always)]
-pub fn put_report(line: &mut LineText, report: Report)
-    requires { line.old ≡ 10 ∷ [] }
-    ensures { line.new ≡ report_line report }
+pub fn put_report_words<const ROOM: usize>(line: &mut text_lines::LineText<ROOM>, report: Report)
+    requires { 56 + length line.old ≤ ROOM }
+    ensures written { line.new ≡ report_words report line.old }
+    ensures length { length line.new ≤ 56 + length line.old }
 {
     match report {
         Report::Arrive { job, at } => put_ended(line, b" arrive ", job, at),
@@ -61,11 +75,12 @@ pub fn put_report(line: &mut LineText, report: Report)
     }
 }
 
-/// Writes the line of a move order: `order T J FROM TO`, with `out` for outside the cell.
+/// Writes the words of a move order before what there is: `order T J FROM TO`, with `out` for outside the cell.
 #[inline(always)]
-pub fn put_order(line: &mut LineText, order: MoveOrder)
-    requires { line.old ≡ 10 ∷ [] }
-    ensures { line.new ≡ order_line order }
+pub fn put_order_words<const ROOM: usize>(line: &mut text_lines::LineText<ROOM>, order: MoveOrder)
+    requires { 59 + length line.old ≤ ROOM }
+    ensures written { line.new ≡ order_words order line.old }
+    ensures length { length line.new ≤ 59 + length line.old }
 {
     put_spot(line, order.target);
     line.put_text(b" ");
@@ -75,6 +90,24 @@ pub fn put_order(line: &mut LineText, order: MoveOrder)
     line.put_text(b" ");
     line.put_number(order.at);
     line.put_text(b"order ");
+}
+
+/// Writes the line of an accepted report.
+#[inline(always)]
+pub fn put_report(line: &mut LineText, report: Report)
+    requires { line.old ≡ 10 ∷ [] }
+    ensures { line.new ≡ report_line report }
+{
+    put_report_words(line, report);
+}
+
+/// Writes the line of a move order.
+#[inline(always)]
+pub fn put_order(line: &mut LineText, order: MoveOrder)
+    requires { line.old ≡ 10 ∷ [] }
+    ensures { line.new ≡ order_line order }
+{
+    put_order_words(line, order);
 }
 
 fn put_entry(line: &mut LineText, entry: Entry)

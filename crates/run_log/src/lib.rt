@@ -21,7 +21,7 @@ pub use audit_fault::AuditFault;
 pub use audit_result::Audit;
 pub use auditing::audit;
 pub use cell_tables::Entry;
-pub use event_lines::{put_order, put_report, write_lines};
+pub use event_lines::{put_order, put_order_words, put_report, put_report_words, write_lines};
 pub use into_sink::IntoSink;
 pub use line_text::LineText;
 pub use log_fault::LogFault;

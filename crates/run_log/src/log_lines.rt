@@ -4,12 +4,12 @@ ghost use Rattle.std.specs.Prelude.{◌≡◌, ◌^◌, ◌<◌, ◌≤◌, ◌�
 ghost use Rattle.cell_tables.specs.Moving.{IsSpotOf};
 ghost use Rattle.run_log.specs.LogLines.{spaced_words, is_passed_over, IsSpotWord, AreSpotWords, AreReportWords, AreOrderWords};
 ghost use Rattle.run_log.specs.LogLines.{IsEntryLine, AreEndsOf, IsEntryOf, LineTells};
-ghost use Rattle.run_log.specs.LogWords.{IsNumberFirst, HasNoNumberFirst, AreEndWordsAt, AreNoEndWords};
+ghost use Rattle.run_log.specs.LogWords.{IsNumberFirst, HasNoNumberFirst, IsSpotFirst, HasNoSpotFirst, AreEndWordsAt, AreNoEndWords};
 
 use cell_tables::{Entry, Report};
 use shop_base::limits::MAX_MOMENT;
-use shop_base::{JobNo, Moment, MoveOrder, Shaped, Spot};
-use text_lines::{after_prefix, cut_word, number_before_space, short_number_of};
+use shop_base::{JobNo, MachineNo, Moment, MoveOrder, Shaped, Spot};
+use text_lines::{after_prefix, number_before_space, short_number_of};
 
 /// Whether the line is passed over.
 pub fn is_passed_over(line: &[u8]) -> bool
@@ -108,14 +108,27 @@ fn report_of(words: &[u8]) -> Option<Report>
     ended_of(rest, at)
 }
 
+/// The spot that the word before the first space is, and the words behind it.
+fn spot_first(words: &[u8]) -> Option<(Spot, &[u8])>
+    ensures { MatchOption result (HasNoSpotFirst (spaced_words words.now))
+        (λ found. IsSpotFirst (spaced_words words.now) found.0 (spaced_words found.1.now)) }
+{
+    if let Some((machine, rest)) = number_first(words, 9) {
+        return Some((Spot::At(machine as MachineNo), rest));
+    }
+    match after_prefix(words, b"out ") {
+        Some(rest) => Some((Spot::Out, rest)),
+        None => None,
+    }
+}
+
 /// The spots that two words are.
 fn spots_of(words: &[u8]) -> Option<(Spot, Spot)>
     ensures { MatchOption result ((source target : Spot) → AreSpotWords (spaced_words words.now) source target → ⊥)
         (λ found. AreSpotWords (spaced_words words.now) found.0 found.1) }
 {
-    let (from, to) = cut_word(words)?;
-    let source = spot_of(from)?;
-    let target = spot_of(to)?;
+    let (source, rest) = spot_first(words)?;
+    let target = spot_of(rest)?;
     Some((source, target))
 }
 

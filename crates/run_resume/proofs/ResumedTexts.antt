@@ -156,9 +156,9 @@ module _ (s : DriveState) (driven : IsDriven s) where
   from : seen s ≡ driven_so_far p s.log.entries
   from = ap (λ (c : Cell). let d : DrivenCell = record { cell = c; entries = s.log.entries } in d) (cell_is s driven)
 
-  pub resumed_through : {T : Type 0} (x : T) (e : DriveState) (late : List Bool) (read_failed_before read_failed write_failed_before write_failed : Bool) (left_before left_after before middle after : Option (List ℕ)) (pending : List ℕ)
+  pub resumed_through : {T : Type 0} {room : ℕ} (x : T) (e : DriveState) (late : List Bool) (read_failed_before read_failed write_failed_before write_failed : Bool) (left_before left_after before middle after : Option (List ℕ)) (pending : List ℕ)
       → Appends before middle (again_text s.log.entries late)
-      → IsStreamed {T = T} (Ok x) DriveAnswer the_closing s e read_failed_before read_failed left_before left_after write_failed_before write_failed middle after pending → IsDriven e
+      → IsStreamed {T = T} (Ok x) room DriveAnswer the_closing s e read_failed_before read_failed left_before left_after write_failed_before write_failed middle after pending → IsDriven e
       → IsResumedThrough p s.log.entries late e.log.entries left_before left_after before after pending × (e.control.plan ≡ s.control.plan)
   resumed_through x e late read_failed_before read_failed write_failed_before write_failed left_before left_after before middle after pending again streamed driven_then =
       let all = streamed.comes_to in
@@ -192,29 +192,31 @@ module _ (s : DriveState) (driven : IsDriven s) where
   seen_answered lines e failed_before failed before after all =
       record { text = all.text; are_answers = (seen_answers p lines s e 1 all.text refl all.are_answers).0; written = all.written; unfailed = all.unfailed }
 
-  seen_fault : (T : Type 0) (fault : DriveFault) (input : List ℕ) (e : DriveState) (read_failed_before read_failed write_failed_before write_failed : Bool) (left before after : Option (List ℕ))
-      → ComesTo {T = T} (Err fault) DriveAnswer the_closing s input e read_failed_before read_failed left write_failed_before write_failed before after
-      → ComesTo {T = Unit {0}} (Err fault) (CellAnswers p) (CellCloses p) (seen s) input (seen e) read_failed_before read_failed left write_failed_before write_failed before after
-  seen_fault T Read input e read_failed_before read_failed write_failed_before write_failed left before after told = (told.0, told.1, seen_answered _ e write_failed_before write_failed before after told.2)
-  seen_fault T Write input e read_failed_before read_failed write_failed_before write_failed left before after told = (told.0, seen_cut p input s e left before after refl told.1, told.2)
-  seen_fault T InputTooLong input e read_failed_before read_failed write_failed_before write_failed left before after told = (told.0, seen_answered _ e write_failed_before write_failed before after told.1, told.2)
-  seen_fault T Memory input e read_failed_before read_failed write_failed_before write_failed left before after told = told
+  seen_fault : (T : Type 0) (room : ℕ) (fault : DriveFault) (input : List ℕ) (e : DriveState) (read_failed_before read_failed write_failed_before write_failed : Bool) (left before after : Option (List ℕ))
+      → ComesTo {T = T} (Err fault) room DriveAnswer the_closing s input e read_failed_before read_failed left write_failed_before write_failed before after
+      → ComesTo {T = Unit {0}} (Err fault) room (CellAnswers p) (CellCloses p) (seen s) input (seen e) read_failed_before read_failed left write_failed_before write_failed before after
+  seen_fault T room Read input e read_failed_before read_failed write_failed_before write_failed left before after told = (told.0, told.1, seen_answered _ e write_failed_before write_failed before after told.2)
+  seen_fault T room Write input e read_failed_before read_failed write_failed_before write_failed left before after told = (told.0, seen_cut p input s e left before after refl told.1, told.2)
+  seen_fault T room InputTooLong input e read_failed_before read_failed write_failed_before write_failed left before after told =
+      (told.0, told.1, seen_answered _ e write_failed_before write_failed before after told.2, told.3)
+  seen_fault T room Memory input e read_failed_before read_failed write_failed_before write_failed left before after told = told
 
-  pub resumed_off : {T : Type 0} (fault : DriveFault) (e : DriveState) (late : List Bool) (failed_first read_failed_before read_failed write_failed_before write_failed : Bool) (left_before left_after before middle after : Option (List ℕ)) (pending : List ℕ)
+  pub resumed_off : {T : Type 0} {room : ℕ} (fault : DriveFault) (e : DriveState) (late : List Bool) (failed_first read_failed_before read_failed write_failed_before write_failed : Bool) (left_before left_after before middle after : Option (List ℕ)) (pending : List ℕ)
       → write_failed_before ≡ failed_first → Appends before middle (again_text s.log.entries late)
-      → IsStreamed {T = T} (Err fault) DriveAnswer the_closing s e read_failed_before read_failed left_before left_after write_failed_before write_failed middle after pending
+      → IsStreamed {T = T} (Err fault) room DriveAnswer the_closing s e read_failed_before read_failed left_before left_after write_failed_before write_failed middle after pending → room ≡ 65536
       → IsBrokenOff fault p s.log.entries late read_failed_before read_failed left_before left_after failed_first write_failed before after pending
-  resumed_off {T} fault e late failed_first read_failed_before read_failed write_failed_before write_failed left_before left_after before middle after pending unfailed again streamed =
+  resumed_off {T} {room} fault e late failed_first read_failed_before read_failed write_failed_before write_failed left_before left_after before middle after pending unfailed again streamed room_is =
       subst (λ (failed : Bool). IsBrokenOff fault p s.log.entries late read_failed_before read_failed left_before left_after failed write_failed before after pending) unfailed
       (inr (
         middle,
         seen e,
         again,
-        subst (λ (d : DrivenCell). IsStreamed {T = Unit {0}} (Err fault) (CellAnswers p) (CellCloses p) d (seen e) read_failed_before read_failed left_before left_after write_failed_before write_failed middle after pending) from
+        subst (λ (most : ℕ). IsStreamed {T = Unit {0}} (Err fault) most (CellAnswers p) (CellCloses p) (driven_so_far p s.log.entries) (seen e) read_failed_before read_failed left_before left_after write_failed_before write_failed middle after pending) room_is
+            (subst (λ (d : DrivenCell). IsStreamed {T = Unit {0}} (Err fault) room (CellAnswers p) (CellCloses p) d (seen e) read_failed_before read_failed left_before left_after write_failed_before write_failed middle after pending) from
             (record {
               input = streamed.input;
               was_read = streamed.was_read;
-              comes_to = seen_fault T fault streamed.input e read_failed_before read_failed write_failed_before write_failed left_after middle after streamed.comes_to;
+              comes_to = seen_fault T room fault streamed.input e read_failed_before read_failed write_failed_before write_failed left_after middle after streamed.comes_to;
               shown = streamed.shown;
-            }),
+            })),
       ))

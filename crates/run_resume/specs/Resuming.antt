@@ -47,12 +47,12 @@ pub record IsResumedThrough (p : PlannedShop) (entries : List Entry) (late : Lis
   pub written : Appends before after text
   pub shown : pending ≡ []
 
--- driving on was broken off: not all of the events was written again, and nothing was read; or the stream of the answers came to this fault
+-- driving on was broken off: not all of the events was written again, and nothing was read; or the stream of the answers, read into a room of 65,536 bytes, came to this fault
 abbrev pub IsBrokenOff : DriveFault → PlannedShop → List Entry → List Bool → Bool → Bool → Option (List ℕ) → Option (List ℕ) → Bool → Bool → Option (List ℕ) → Option (List ℕ) → List ℕ → Type 0
 IsBrokenOff fault p entries late read_failed_before read_failed left_before left_after write_failed_before write_failed before after pending =
     ((fault ≡ Write) × (write_failed ≡ true) × (read_failed ≡ read_failed_before) × (left_after ≡ left_before) × TookPart before after (again_text entries late))
     ⊎ ((middle : Option (List ℕ)) × (end : DrivenCell) × Appends before middle (again_text entries late)
-    × IsStreamed {T = Unit {0}} (Err fault) (CellAnswers p) (CellCloses p) (driven_so_far p entries) end read_failed_before read_failed left_before left_after write_failed_before write_failed middle after pending)
+    × IsStreamed {T = Unit {0}} (Err fault) 65536 (CellAnswers p) (CellCloses p) (driven_so_far p entries) end read_failed_before read_failed left_before left_after write_failed_before write_failed middle after pending)
 
 -- such a text is by itself a log of the whole run
 abbrev pub AResumedTextIsALog : Type 0

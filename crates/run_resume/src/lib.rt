@@ -10,6 +10,7 @@ mod resume_fault;
 mod resuming;
 mod same_order;
 mod taking_up;
+mod told_again;
 
 pub use resume_fault::ResumeFault;
 pub use resuming::resume;

@@ -3,38 +3,14 @@
 ghost use Rattle.std.specs.Prelude.{◌≡◌, ◌≤◌, length, IfOk, IfErr, OnOk};
 ghost use Rattle.run_log.specs.Sinks.{Wrote};
 ghost use Rattle.cell_drive.specs.Driving.{IsRunOf, IsSoFar, IsNeverFull, NeverWentWrong};
-ghost use Rattle.run_resume.specs.ToldLines.{told_line, told_lines};
 ghost use Rattle.run_resume.specs.Resuming.{again_text, IsResumedThrough, IsBrokenOff};
 
 use crate::taking_up::Taken;
+use crate::told_again::put_told;
 use cell_control::Dues;
-use cell_drive::{DriveEnd, DriveFault, Driven, Outlet, Source, end_driven, put_accepted, stream};
+use cell_drive::{DriveEnd, DriveFault, Driven, Outlet, Source, end_driven, stream};
 use cell_tables::Entry;
 use run_log::{Sink, WriteFault, put_all, write_lines};
-
-/// Writes the line of the event, and behind that of a late report the line that it is late.
-fn put_told_line<W: Sink>(entry: Entry, late: bool, writer: &mut W) -> Result<(), WriteFault>
-    ensures wrote { Wrote result (W.failed writer.new) (W.taken writer.old) (W.taken writer.new) (told_line entry late) }
-    ensures unfailed { OnOk result (W.failed writer.new ≡ W.failed writer.old) }
-{
-    match entry {
-        Entry::Report(report) => put_accepted(b"", report, late, &[], writer),
-        Entry::Order(_) => write_lines(&[entry], writer),
-    }
-}
-
-/// Writes the lines of the events that were told.
-fn put_told<W: Sink>(entries: &[Entry], late: &[bool], writer: &mut W) -> Result<(), WriteFault>
-    requires { length entries.now ≡ length late.now }
-    ensures wrote { Wrote result (W.failed writer.new) (W.taken writer.old) (W.taken writer.new)
-        (told_lines entries.now late.now) }
-    ensures unfailed { OnOk result (W.failed writer.new ≡ W.failed writer.old) }
-{
-    for place in 0..entries.len() {
-        put_told_line(entries[place], late[place], writer)?;
-    }
-    Ok(())
-}
 
 /// Writes the events that were told, an empty line, and the orders that are due.
 fn put_again<W: Sink>(entries: &[Entry], late: &[bool], writer: &mut W) -> Result<(), WriteFault>

@@ -1,4 +1,4 @@
-use Rattle.std.proofs.Common.{◌∙◌, ap}
+use Rattle.std.proofs.Common.{◌≡◌, ◌∙◌, ap, arith, vec_len}
 use Rattle.run_log.specs.Log.{Noted}
 use Rattle.cell_drive.proofs.DrivenEnds.{driven_through, broken_off, never_full_of, of_plan}
 use Rattle.cell_drive.proofs.driving.drive.Goals as goal
@@ -33,4 +33,6 @@ returns-in-Ok-clause-plan g c =
     c.end_driven.ensures.plan ∙ (driven_through c.args.verified _ c.in_ok-driven.driven c.stream.new.handler _ _ _ _ _ _ _ _ _ c.in_ok-driven.ensures c.in-Ok.ensures c.end_driven.ensures.driven).1
 
 pub returns-clause-broken_off : goal.returns-clause-broken_off
-returns-clause-broken_off g c = broken_off c.args.verified c.in-Err.fault c.in_ok-driven.driven c.stream.new.handler _ _ _ _ _ _ _ _ _ c.in_ok-driven.ensures c.in-Err.ensures
+returns-clause-broken_off g c =
+    let size : vec_len c.in_ok-room.room ≡ 65536 = c.in_ok-room.ensures in
+    broken_off c.args.verified c.in-Err.fault c.in_ok-driven.driven c.stream.new.handler _ _ _ _ _ _ _ _ _ c.in_ok-driven.ensures c.in-Err.ensures (omega (arith, size, c.deref_mut.ensures.len))

@@ -5,9 +5,9 @@ use Rattle.cell_drive.proofs.pieces.take_piece.Given as goal
 abbrev pub invariant-loop-line : goal.invariant-loop-line
 invariant-loop-line g l = record {
   so_far : Taking g.H.LineHandler.answers l.initial.handler l.initial.input.lines l.initial.input.held l.piece
-      l.handler l.input.lines l.input.held l.rest
+      l.handler l.lines l.input.held l.rest
       (g.W.Sink.failed l.initial.writer) (g.W.Sink.failed l.writer) (g.W.Sink.taken l.initial.writer) (g.W.Sink.taken l.writer);
-  room : l.input.lines + length l.rest < 2 ^ 64;
+  room : l.lines + length l.rest < 2 ^ 64;
 }
 
 abbrev pub decreases-loop-line : goal.decreases-loop-line

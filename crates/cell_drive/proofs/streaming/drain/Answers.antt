@@ -1,4 +1,5 @@
 use Rattle.std.proofs.Common.{◌≡◌, ◌<◌, ◌+◌, ◌^◌, ℕ, ◌∙◌, ap, length, take, arith, rules}
+use Rattle.std.proofs.lemmas.List.{length-take}
 use Rattle.std.proofs.lemmas.Result.{err_from_is_err_and}
 use Rattle.cell_drive.proofs.Drains.{Draining-lines, Draining-unread, Draining-shown, Draining-ended, Draining-more, Draining-failed}
 use Rattle.cell_drive.proofs.streaming.drain.Goals as goal
@@ -27,7 +28,10 @@ returns-in_err-left-clause-drained g c =
     let p = err_from_is_err_and c.from_residual-in_err-left.result c.from_residual-in_err-left.ensures.1 in
     let failed = c.in_ok-count.ensures.failed in
     let so_far = Draining-shown _ _ _ _ _ _ _ _ _ _ _ _ _ _ c.reads.invariant.so_far _ _ c.in_ok-count.ensures.taken failed.1 in
-    rw (p.1, p.2) (Draining-failed _ _ _ _ _ _ _ _ _ _ _ _ _ _ so_far _ _ c.in_ok-count.ensures.given.0 _ failed.0 _ _ _ _ _ _ c.in_err-left.ensures.taken)
+    let room : length c.read_on.new.room ≡ length c.reads.room = c.read_on.auto.room in
+    let as_at_first : length c.reads.room ≡ length c.args.room.now = c.reads.auto.room in
+    let few = length-take c.in_ok-count.count c.read_on.new.room in
+    rw (p.1, p.2) (Draining-failed _ _ _ _ _ _ _ _ _ _ _ _ _ _ so_far _ _ c.in_ok-count.ensures.given.0 _ failed.0 _ _ _ _ _ _ _ c.in_err-left.ensures.taken (omega (arith, room, as_at_first, few)))
 
 pub reads-preserved : goal.reads-preserved
 reads-preserved g c =

@@ -1,4 +1,4 @@
-use Rattle.std.proofs.Common.{◌≤◌, List, Bool, length, ◌∙◌, sym, ap, subst, inl, refl}
+use Rattle.std.proofs.Common.{◌≡◌, ◌≤◌, List, Bool, length, ◌∙◌, sym, ap, subst, inl, refl, arith, vec_len}
 use Rattle.std.specs.Io.KnownBytes.{Appends}
 use Rattle.run_log.specs.Log.{Noted}
 use Rattle.run_log.specs.Sinks.{TookPart}
@@ -54,7 +54,8 @@ returns-in-Ok-stream-clause-plan g c =
 pub returns-in-Err-clause-broken_off : goal.returns-in-Err-clause-broken_off
 returns-in-Err-clause-broken_off g c =
     let driven = subst IsDriven c.driven.view_is c.driven.invariant in
-    rw (sym c.taken.view_is) (resumed_off c.taken.inside.driven driven c.in-Err.fault c.stream.new.handler c.taken.inside.late.items _ _ _ _ _ _ _ _ _ _ _ c.in-Ok.ensures.unfailed (subst (λ (late : List Bool). Appends (g.W.Sink.taken c.args.writer.now) (g.W.Sink.taken c.put_taken.new.writer) (again_text c.taken.inside.driven.log.entries late)) c.deref.ensures.value c.in-Ok.ensures.wrote) c.in-Err.ensures)
+    let size : vec_len c.taken.inside.room ≡ 65536 = c.taken.invariant.1 in
+    rw (sym c.taken.view_is) (resumed_off c.taken.inside.driven driven c.in-Err.fault c.stream.new.handler c.taken.inside.late.items _ _ _ _ _ _ _ _ _ _ _ c.in-Ok.ensures.unfailed (subst (λ (late : List Bool). Appends (g.W.Sink.taken c.args.writer.now) (g.W.Sink.taken c.put_taken.new.writer) (again_text c.taken.inside.driven.log.entries late)) c.deref.ensures.value c.in-Ok.ensures.wrote) c.in-Err.ensures (omega (arith, size, c.deref_mut.ensures.len)))
 
 pub returns-in_default-clause-broken_off : goal.returns-in_default-clause-broken_off
 returns-in_default-clause-broken_off g c =

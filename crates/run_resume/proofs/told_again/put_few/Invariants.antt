@@ -1,0 +1,13 @@
+use Rattle.std.proofs.Common.{◌≡◌, ◌+◌, ◌*◌, ◌≤◌, length, drop}
+use Rattle.run_resume.specs.ToldLines.{told_lines}
+use Rattle.run_resume.proofs.told_again.put_few.Given as goal
+
+abbrev pub invariant-places : goal.invariant-places
+invariant-places g l = record {
+  written : l.lines ≡ told_lines (drop l.place l.entries) (drop l.place l.late);
+  within : l.place ≤ length l.entries;
+  room : length l.lines + 96 * l.place ≤ 3072;
+}
+
+abbrev pub decreases-places : goal.decreases-places
+decreases-places g l = l.place

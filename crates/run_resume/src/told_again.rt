@@ -1,0 +1,108 @@
+//! The lines of the events that were told, written once more.
+
+ghost use Rattle.std.specs.Prelude.{◌≡◌, ◌+◌, ◌≤◌, ◌++◌, length, OnOk};
+ghost use Rattle.run_log.specs.EventLines.{report_line, order_line};
+ghost use Rattle.run_log.specs.Sinks.{Wrote};
+ghost use Rattle.cell_drive.specs.AnswerLines.{late_line};
+ghost use Rattle.run_resume.specs.ToldLines.{told_line, told_lines};
+
+use cell_tables::{Entry, Report};
+use run_log::{Sink, WriteFault, put_all, put_order_words, put_report_words};
+use shop_base::{Moment, MoveOrder};
+use text_lines::LineText;
+
+/// How many events are written in one call.
+const MOST: usize = 32;
+
+/// The lines of so many events: those of one have at most 96 bytes.
+type Lines = LineText<3072>;
+
+/// Writes `late T` before what there is.
+fn put_late(lines: &mut Lines, at: Moment)
+    requires { 32 + length lines.old ≤ 3072 }
+    ensures written { lines.new ≡ late_line at ++ lines.old }
+    ensures length { length lines.new ≤ 32 + length lines.old }
+{
+    lines.put_text(b"\n");
+    lines.put_number(at);
+    lines.put_text(b"late ");
+}
+
+/// Writes the line of the report before what there is.
+#[inline(always)]
+fn put_report_line(lines: &mut Lines, report: Report)
+    requires { 64 + length lines.old ≤ 3072 }
+    ensures written { lines.new ≡ report_line report ++ lines.old }
+    ensures length { length lines.new ≤ 64 + length lines.old }
+{
+    lines.put_text(b"\n");
+    put_report_words(lines, report);
+}
+
+/// Writes the line of the order before what there is.
+#[inline(always)]
+fn put_order_line(lines: &mut Lines, order: MoveOrder)
+    requires { 64 + length lines.old ≤ 3072 }
+    ensures written { lines.new ≡ order_line order ++ lines.old }
+    ensures length { length lines.new ≤ 64 + length lines.old }
+{
+    lines.put_text(b"\n");
+    put_order_words(lines, order);
+}
+
+/// Writes the line of the event, and behind that of a late report the line that it is late, before what there is.
+#[inline(always)]
+fn put_told_line(lines: &mut Lines, entry: Entry, late: bool)
+    requires { 96 + length lines.old ≤ 3072 }
+    ensures written { lines.new ≡ told_line entry late ++ lines.old }
+    ensures length { length lines.new ≤ 96 + length lines.old }
+{
+    match entry {
+        Entry::Report(report) => {
+            if late {
+                put_late(lines, report.at());
+            }
+            put_report_line(lines, report);
+        }
+        Entry::Order(order) => put_order_line(lines, order),
+    }
+}
+
+/// Writes the lines of a few events in one call, the last of them first into their room.
+fn put_few<W: Sink>(entries: &[Entry], late: &[bool], writer: &mut W) -> Result<(), WriteFault>
+    requires same { length entries.now ≡ length late.now }
+    requires few { length entries.now ≤ 32 }
+    ensures wrote { Wrote result (W.failed writer.new) (W.taken writer.old) (W.taken writer.new)
+        (told_lines entries.now late.now) }
+    ensures unfailed { OnOk result (W.failed writer.new ≡ W.failed writer.old) }
+{
+    let mut lines = Lines::empty();
+    let mut place = entries.len();
+    'places: while place > 0 {
+        place -= 1;
+        put_told_line(&mut lines, entries[place], late[place]);
+    }
+    put_all(writer, lines.bytes())
+}
+
+/// Writes the lines of the events that were told.
+pub(crate) fn put_told<W: Sink>(
+    entries: &[Entry],
+    late: &[bool],
+    writer: &mut W,
+) -> Result<(), WriteFault>
+    requires { length entries.now ≡ length late.now }
+    ensures wrote { Wrote result (W.failed writer.new) (W.taken writer.old) (W.taken writer.new)
+        (told_lines entries.now late.now) }
+    ensures unfailed { OnOk result (W.failed writer.new ≡ W.failed writer.old) }
+{
+    let mut rest = entries;
+    let mut rest_late = late;
+    'rests: while !rest.is_empty() {
+        let count = rest.len().min(MOST);
+        put_few(&rest[..count], &rest_late[..count], writer)?;
+        rest = &rest[count..];
+        rest_late = &rest_late[count..];
+    }
+    Ok(())
+}
