@@ -1,30 +1,21 @@
 -- Plans that are loaded one after another.
-use Rattle.std.proofs.Common.{◌≡◌, ℕ, ◌+◌, ◌<◌, List, [], ◌∷◌, ◌++◌, Option, Result, Ok, Err, IfOk, length, subst, sym, ap, ◌∙◌, map, drop, get_or, codes, decimal, string_bytes, String, Global}
+use Rattle.std.proofs.Common.{◌≡◌, ℕ, ◌+◌, ◌<◌, List, [], ◌∷◌, ◌++◌, Option, Result, Ok, Err, length, subst, sym, ap, ◌∙◌, map, drop, get_or, string_bytes, String, Global}
 use Rattle.std.proofs.lemmas.List.{at_drop_more}
 use Rattle.plan_verifier.specs.Accepted.{VerifiedPlan}
-use Rattle.command_answers.specs.declared.answer.Answer.{Answer}
 use Rattle.command_answers.specs.declared.cells.Cells.{Cells}
-use Rattle.command_answers.specs.declared.cells.Cells.TheVariants.{Line}
 use Rattle.command_answers.specs.declared.command_fault.CommandFault.{CommandFault}
 use Rattle.command_answers.specs.declared.loading.Loaded.{Loaded}
-use Rattle.command_answers.specs.declared.reading.FileFault.{FileFault}
-use Rattle.command_answers.specs.Checks.{IsLineOf, accepted_in}
+use Rattle.command_answers.specs.Checks.{accepted_in}
 use Rattle.command_answers.specs.Steps.{GoesOn}
-use Rattle.command_answers.specs.Cells.{IsCellLine, AfterPlan, LoadsOne, LoadsEach}
-
-pub numbered_is : {E : Type 0} (number : ℕ) (loaded : Loaded) (line : Answer) (outcome : Result Answer E) → IsLineOf loaded line
-    → IfOk outcome (λ numbered. numbered.text.items ≡ decimal number ++ codes " " ++ line.text.items) → IfOk outcome (λ numbered. numbered.status ≡ line.status)
-    → IfOk outcome (λ answer. IsCellLine number loaded (Ok (Line answer)))
-numbered_is number loaded line (Ok answer) is text status = (line, is, text, status)
-numbered_is number loaded line (Err e) is text status = tt
+use Rattle.command_answers.specs.Cells.{AfterPlan, LoadsOne, LoadsEach}
 
 -- what the plans that are left come to, all plans come to
-abbrev pub Carries : {W : Type 0} → (W → List ℕ → Result (List ℕ) FileFault → W → Type 0) → List ℕ → Option (List ℕ) → List VerifiedPlan → List (List ℕ) → W → List (List ℕ) → W → Type 0
+abbrev pub Carries : {W : Type 0} → (W → List ℕ → Result (List ℕ) CommandFault → W → Type 0) → List ℕ → Option (List ℕ) → List VerifiedPlan → List (List ℕ) → W → List (List ℕ) → W → Type 0
 Carries {W} gives text name cells left now all start = (outcome : Result Cells CommandFault) (after : W) → LoadsEach gives text name cells left now outcome after
     → LoadsEach gives text name [] all start outcome after
 
 -- one plan more is loaded, and then this follows
-pub one_more : {W : Type 0} (gives : W → List ℕ → Result (List ℕ) FileFault → W → Type 0) (text : List ℕ) (name : Option (List ℕ)) (cells : List VerifiedPlan)
+pub one_more : {W : Type 0} (gives : W → List ℕ → Result (List ℕ) CommandFault → W → Type 0) (text : List ℕ) (name : Option (List ℕ)) (cells : List VerifiedPlan)
     (paths : List (String Global)) (i : ℕ) (now : W) (all : List (List ℕ)) (start : W) → Carries gives text name cells (map string_bytes (drop i paths)) now all start
     → (item : String Global) → i < length paths → item ≡ get_or paths i item → (path : List ℕ) → path ≡ string_bytes item
     → (came loaded : Result Loaded CommandFault) (mid : W) → came ≡ loaded → LoadsOne gives text name path now came mid → (outcome : Result Cells CommandFault) (after : W)

@@ -12,8 +12,9 @@ use Rattle.plan_improve.specs.Improved.{IsImproveFault, judged}
 use Rattle.command_answers.specs.declared.answer.Answer.{Answer}
 use Rattle.command_answers.specs.declared.command_fault.CommandFault.{CommandFault}
 use Rattle.command_answers.specs.declared.command_fault.CommandFault.TheVariants.{Instance, Plan, Read, Write, InputTooLong, Memory}
+use Rattle.command_answers.specs.Checks.{verdict_status}
 use Rattle.command_answers.specs.Documents.{IsDocumentAnswer}
-use Rattle.command_answers.specs.Improving.{IsBest, IsStatusOf, IsBestAnswer, IsUnimprovedAnswer, verdict_status}
+use Rattle.command_answers.specs.Improving.{IsBest, IsStatusOf, IsBestAnswer, IsUnimprovedAnswer}
 
 status_is : (verdict : Verdict) → SaysAccepted verdict ↔ IsAcceptable (judged verdict) → IsStatusOf (judged verdict) (verdict_status verdict)
 status_is (Accepted verified) exact = inl (exact.0 tt, refl)

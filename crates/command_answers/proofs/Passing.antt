@@ -7,7 +7,13 @@ use Rattle.plan_text.specs.declared.plan_fault.PlanFault.TheVariants.{Memory as 
 use Rattle.command_answers.specs.declared.command_fault.CommandFault.{CommandFault}
 use Rattle.command_answers.specs.declared.command_fault.CommandFault.TheVariants.{Memory}
 use Rattle.command_answers.specs.Instances.{Holds, IsInstanceRefusal, instance_command_fault}
+use Rattle.command_answers.specs.Steps.{IsOrMemory}
 use Rattle.command_answers.specs.Plans.{IsPlanRefusal, plan_command_fault}
+
+-- an answer of this property, or want of memory
+pub or_memory : {A : Type 0} (P : A → Type 0) (answer : Result A CommandFault) → IsOrMemory P answer → Holds answer P
+or_memory P (Ok a) is = is
+or_memory P (Err fault) is = is
 
 -- an answer of this property, unless it is want of memory
 pub kept_property : {A : Type 0} (P : A → Type 0) (answer : Result A CommandFault) → IfOk answer P → IfErr answer (λ fault. fault ≡ Memory) → Holds answer P

@@ -1,7 +1,6 @@
 -- What loading the plans of several cells comes to.
 use Rattle.std.specs.Prelude.{◌≡◌, ◌⊎◌, ◌++◌, ◌∷◌, [], ℕ, List, Option, Result, Ok, Err, length, codes, decimal}
 use Rattle.plan_verifier.specs.Accepted.{VerifiedPlan}
-use Rattle.command_answers.specs.declared.reading.FileFault.{FileFault}
 use Rattle.command_answers.specs.declared.answer.Answer.{Answer}
 use Rattle.command_answers.specs.declared.cells.Cells.{Cells}
 use Rattle.command_answers.specs.declared.cells.Cells.TheVariants.{Accepted as AllAccepted, Line}
@@ -12,7 +11,7 @@ use Rattle.command_answers.specs.Steps.{Then, Told, IsOrMemory}
 use Rattle.command_answers.specs.Texts.{Asks}
 use Rattle.command_answers.specs.Readings.{IsInstanceRead}
 use Rattle.command_answers.specs.Checks.{IsLineOf, IsLoaded, accepted_in}
-use Rattle.command_answers.specs.Commands.{WithPlan}
+use Rattle.command_answers.specs.Commands.{ReadsPlan}
 
 -- the line of the plan of this number, which isn't accepted, unless memory ran out
 abbrev pub IsCellLine : ℕ → Loaded → Result Cells CommandFault → Type 0
@@ -32,10 +31,10 @@ abbrev pub AfterPlan : {W : Type 0} → List VerifiedPlan → (List VerifiedPlan
 AfterPlan cells rest (Ok v) before outcome after = rest (cells ++ v ∷ []) before outcome after ⊎ ((outcome ≡ Err Memory) × (after ≡ before))
 AfterPlan cells rest (Err other) before outcome after = IsCellLine (length cells) other outcome × (after ≡ before)
 
-module _ {W : Type 0} (gives : W → List ℕ → Result (List ℕ) FileFault → W → Type 0) where
+module _ {W : Type 0} (gives : W → List ℕ → Result (List ℕ) CommandFault → W → Type 0) where
   -- the instance is read from its text, and then the plan's file is asked for
   abbrev pub LoadsOne : List ℕ → Option (List ℕ) → List ℕ → W → Result Loaded CommandFault → W → Type 0
-  LoadsOne text name path = Then (Told (IsInstanceRead text name)) (λ named. WithPlan gives path named.shop (λ p. Told (IsOrMemory (IsLoaded p))))
+  LoadsOne text name path = Then (Told (IsInstanceRead text name)) (λ named. Then (ReadsPlan gives path) (λ plan. Told (IsOrMemory (IsLoaded (record { shop = named.shop; plan = plan })))))
 
   -- the plans are loaded one after another, after these
   abbrev pub LoadsEach : List ℕ → Option (List ℕ) → List VerifiedPlan → List (List ℕ) → W → Result Cells CommandFault → W → Type 0

@@ -15,6 +15,11 @@ use Rattle.command_answers.specs.declared.loading.Loaded.{Loaded}
 use Rattle.command_answers.specs.declared.loading.Loaded.TheVariants.{NotShaped, Judged}
 use Rattle.command_answers.specs.Shapes.{IsNotShapedLine, IsRefusedLine}
 
+-- the status of a verdict
+abbrev pub verdict_status : Verdict → ℕ
+verdict_status (Accepted verified) = 0
+verdict_status (Refused back why) = 1
+
 -- the verdict on a well-shaped plan: it is accepted and acceptable, or comes back with the reason for the refusal
 pub record IsJudged (p : PlannedShop) (verdict : Verdict) : Type 0 where
   pub well_shaped : IsWellShaped p

@@ -1,19 +1,13 @@
 use Rattle.std.specs.Prelude.{◌≡◌, ℕ, ◌⊎◌}
 use Rattle.shop_base.specs.Plan.{PlannedShop}
 use Rattle.plan_verifier.specs.declared.verdict.Verdict.{Verdict}
-use Rattle.plan_verifier.specs.declared.verdict.Verdict.TheVariants.{Accepted, Refused}
 use Rattle.plan_verifier.specs.Verdicts.{OnRefused, IsReason}
 use Rattle.plan_explain.specs.Explained.{IsExplained}
 use Rattle.command_answers.specs.declared.answer.Answer.{Answer}
 use Rattle.command_answers.specs.declared.loading.Loaded.{Loaded}
 use Rattle.command_answers.specs.declared.loading.Loaded.TheVariants.{NotShaped, Judged}
 use Rattle.command_answers.specs.Shapes.{IsNotShapedLine, IsRefusedLine}
-use Rattle.command_answers.specs.Checks.{IsJudged}
-
--- the status of a verdict
-abbrev pub verdict_status : Verdict → ℕ
-verdict_status (Accepted verified) = 0
-verdict_status (Refused back why) = 1
+use Rattle.command_answers.specs.Checks.{IsJudged, verdict_status}
 
 -- the explanation of a verdict, with its status
 pub record IsVerdictExplained (verdict : Verdict) (answer : Answer) : Type 0 where

@@ -5,8 +5,6 @@ use Rattle.plan_text.specs.declared.plan_fault.PlanFault.TheVariants.{NotReadBac
 use Rattle.plan_text.specs.Lines.{plan_lines}
 use Rattle.plan_text.specs.Documents.{IsPlanText}
 use Rattle.plan_verifier.specs.Accepted.{HasNoCycle, IsAcceptable}
-use Rattle.plan_verifier.specs.declared.verdict.Verdict.{Verdict}
-use Rattle.plan_verifier.specs.declared.verdict.Verdict.TheVariants.{Accepted, Refused}
 use Rattle.plan_improve.specs.declared.improve_fault.ImproveFault.{ImproveFault}
 use Rattle.plan_improve.specs.declared.improve_fault.ImproveFault.TheVariants.{TooManyRounds, Memory as WantOfMemory}
 use Rattle.plan_improve.specs.Reordered.{IsReordered}
@@ -61,11 +59,6 @@ IsBestAnswer made rounds start (Err other) = ⊥
 -- what is answered: that of the best plan, or the first fault of the plan's shape
 abbrev pub IsImproveAnswer : Asked → ℕ → PlannedShop → Result Answer CommandFault → Type 0
 IsImproveAnswer made rounds start outcome = (IsWellShaped start × IsBestAnswer made rounds start outcome) ⊎ IsOrMemory (IsNotShapedLine start) outcome
-
--- the status of a verdict
-abbrev pub verdict_status : Verdict → ℕ
-verdict_status (Accepted verified) = 0
-verdict_status (Refused back why) = 1
 
 -- the fault of a command that the search's is, if it is want of memory
 abbrev pub improve_command_fault : ImproveFault → Option CommandFault

@@ -1,10 +1,11 @@
-pub mod Reading
 pub mod Statuses
 pub mod Texts
+pub mod Reading
 pub mod Steps
 pub mod Instances
 pub mod Facts
 pub mod Plans
+pub mod OnTexts
 pub mod Readings
 pub mod Shapes
 pub mod Checks
@@ -12,7 +13,6 @@ pub mod Explains
 pub mod Documents
 pub mod Search
 pub mod Improving
-pub mod AuditLines
-pub mod GanttLines
+pub mod LogLines
 pub mod Commands
 pub mod Cells

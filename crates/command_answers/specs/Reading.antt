@@ -2,10 +2,12 @@ use Rattle.std.specs.Prelude.{◌≡◌, ◌≢◌}
 use Rattle.std.specs.IoError.{error_kind}
 use Rattle.std.specs.declared.io.Error.{Error}
 use Rattle.std.specs.declared.io.ErrorKind.TheVariants.{OutOfMemory}
-use Rattle.command_answers.specs.declared.reading.FileFault.{FileFault}
-use Rattle.command_answers.specs.declared.reading.FileFault.TheVariants.{Read, Memory}
+use Rattle.command_answers.specs.declared.command_fault.CommandFault.{CommandFault}
+use Rattle.command_answers.specs.declared.command_fault.CommandFault.TheVariants.{Read, Memory}
+use Rattle.command_answers.specs.Texts.{IsFileFault}
 
 -- the fault that the system's error is: want of memory where the error is that, and else that nothing could be read
-pub record IsFileFaultOf (error : Error) (fault : FileFault) : Type 0 where
+pub record IsFaultOfSystem (error : Error) (fault : CommandFault) : Type 0 where
   pub memory : error_kind error ≡ OutOfMemory → fault ≡ Memory
   pub read : error_kind error ≢ OutOfMemory → fault ≡ Read
+  pub is : IsFileFault fault

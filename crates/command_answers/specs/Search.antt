@@ -1,4 +1,4 @@
-use Rattle.std.specs.Prelude.{◌≡◌, ℕ, List, Option, Some, None, ◌++◌, ◌⊎◌, codes, Result, Ok, Err}
+use Rattle.std.specs.Prelude.{◌≡◌, ℕ, List, Option, Some, None, ◌⊎◌, codes, Result, Ok, Err}
 use Rattle.shop_base.specs.Plan.{ShopPlan, PlannedShop}
 use Rattle.plan_text.specs.declared.plan_fault.PlanFault.TheVariants.{NotReadBack}
 use Rattle.plan_text.specs.Lines.{plan_lines}
@@ -12,6 +12,7 @@ use Rattle.command_answers.specs.declared.answer.Answer.{Answer}
 use Rattle.command_answers.specs.declared.command_fault.CommandFault.{CommandFault}
 use Rattle.command_answers.specs.declared.command_fault.CommandFault.TheVariants.{Plan, Memory}
 use Rattle.command_answers.specs.Documents.{IsDocumentOf}
+use Rattle.command_answers.specs.Shapes.{IsLineOfFault}
 
 -- the search for a plan with the numbers of this one
 abbrev pub task_in : PlannedShop → PlanTask
@@ -34,15 +35,9 @@ abbrev pub search_command_fault : SeekFault → Option CommandFault
 search_command_fault WantOfMemory = Some Memory
 search_command_fault fault = None
 
--- the line of bad numbers, with the words of a fault
-pub record IsBadNumbersLine (answer : Answer) : Type 0 where
-  pub words : List ℕ
-  pub line : answer.text.items ≡ codes "bad numbers " ++ words ++ codes "\n"
-  pub refused : answer.status ≡ 1
-
 -- the line that says why there is no plan
 abbrev pub IsNoPlanLine : SeekFault → Answer → Type 0
-IsNoPlanLine (BadNumbers fault) answer = IsBadNumbersLine answer
+IsNoPlanLine (BadNumbers fault) answer = IsLineOfFault (codes "bad numbers ") answer
 IsNoPlanLine Exhausted answer = (answer.text.items ≡ codes "exhausted\n") × (answer.status ≡ 1)
 IsNoPlanLine TooManyRounds answer = (answer.text.items ≡ codes "too many rounds\n") × (answer.status ≡ 1)
 IsNoPlanLine WantOfMemory answer = ⊥

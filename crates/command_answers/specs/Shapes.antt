@@ -10,11 +10,15 @@ pub record IsShapedLine (p : PlannedShop) (answer : Answer) : Type 0 where
   pub line : answer.text.items ≡ codes "shaped\n"
   pub good : answer.status ≡ 0
 
--- the line of a plan that isn't well shaped, with the words of a fault
-pub record IsRefusedLine (answer : Answer) : Type 0 where
+-- a line with the words of a fault behind these, which refuses
+pub record IsLineOfFault (what : List ℕ) (answer : Answer) : Type 0 where
   pub words : List ℕ
-  pub line : answer.text.items ≡ codes "not shaped " ++ words ++ codes "\n"
+  pub line : answer.text.items ≡ what ++ words ++ codes "\n"
   pub refused : answer.status ≡ 1
+
+-- the line of a plan that isn't well shaped, with the words of a fault
+abbrev pub IsRefusedLine : Answer → Type 0
+IsRefusedLine answer = IsLineOfFault (codes "not shaped ") answer
 
 -- the line of a plan that isn't well shaped for its shop
 pub record IsNotShapedLine (p : PlannedShop) (answer : Answer) : Type 0 where

@@ -1,8 +1,6 @@
 -- Files that are asked for.
 use Rattle.std.specs.Prelude.{◌≡◌, ℕ, List, Result, Ok, Err, Vec}
 use Rattle.std.specs.declared.alloc.Global.{Global}
-use Rattle.command_answers.specs.declared.reading.FileFault.{FileFault}
-use Rattle.command_answers.specs.declared.reading.FileFault.TheVariants.{Read as NotRead, TooLong, Memory as WantOfMemory}
 use Rattle.command_answers.specs.declared.command_fault.CommandFault.{CommandFault}
 use Rattle.command_answers.specs.declared.command_fault.CommandFault.TheVariants.{Read, InputTooLong, Memory}
 
@@ -11,13 +9,14 @@ abbrev pub text_of : {F : Type 0} → Result (Vec ℕ Global) F → Result (List
 text_of (Ok text) = Ok text.items
 text_of (Err fault) = Err fault
 
--- the fault of a file as a command's
-abbrev pub file_command_fault : FileFault → CommandFault
-file_command_fault NotRead = Read
-file_command_fault TooLong = InputTooLong
-file_command_fault WantOfMemory = Memory
+-- a file can't be read, or has too many bytes, or memory was wanting
+abbrev pub IsFileFault : CommandFault → Type 0
+IsFileFault Read = Unit {0}
+IsFileFault InputTooLong = Unit {0}
+IsFileFault Memory = Unit {0}
+IsFileFault other = ⊥
 
 -- the file of a path is asked for, and gives this text or fault, which leads to another state
-abbrev pub Asks : {W : Type 0} → (W → List ℕ → Result (List ℕ) FileFault → W → Type 0) → List ℕ → W → Result (List ℕ) CommandFault → W → Type 0
+abbrev pub Asks : {W : Type 0} → (W → List ℕ → Result (List ℕ) CommandFault → W → Type 0) → List ℕ → W → Result (List ℕ) CommandFault → W → Type 0
 Asks gives path before (Ok text) after = gives before path (Ok text) after
-Asks gives path before (Err fault) after = (told : FileFault) × (fault ≡ file_command_fault told) × gives before path (Err told) after
+Asks gives path before (Err fault) after = IsFileFault fault × gives before path (Err fault) after

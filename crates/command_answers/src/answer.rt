@@ -1,9 +1,14 @@
+use crate::command_fault::CommandFault;
+
 /// What a command prints on the standard output, and the status that the program then ends with.
 #[derive(Debug, Drop)]
 pub struct Answer {
     pub text: Vec<u8>,
     pub status: u8,
 }
+
+/// The answer of a command, or why there is none.
+pub type Answered = Result<Answer, CommandFault>;
 
 /// The status of a good answer.
 pub const GOOD: u8 = 0;

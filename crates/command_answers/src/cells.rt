@@ -6,12 +6,13 @@ ghost use Rattle.std.specs.String.{string_bytes};
 ghost use Rattle.command_answers.specs.Cells.{IsCellLine, LoadsOne, LoadsEach, LoadsCells};
 
 use crate::answer::Answer;
+use crate::both::Both;
 use crate::checks::loaded_answer;
 use crate::command_fault::CommandFault;
-use crate::instances::instance_told;
-use crate::loading::{Loaded, load_with};
+use crate::loading::{Loaded, judged_told};
 use crate::print::{push_fact, push_words};
-use crate::texts::{Texts, ask};
+use crate::readings::{load_instance, plan};
+use crate::texts::Texts;
 use plan_verifier::Verified;
 use std::alloc::{AllocError, Global};
 
@@ -35,7 +36,7 @@ pub fn load_cells<T: Texts>(
 ) -> Result<Cells, CommandFault>
     ensures { LoadsCells T.gives path.now (option_copied name.entry) (map string_bytes plans.now) texts.old result texts.new }
 {
-    let text = ask(alloc, texts, path)?;
+    let text = texts.text(alloc, path)?;
     load_each(alloc, texts, &text, name, plans)
 }
 
@@ -70,35 +71,19 @@ fn load_one<T: Texts>(
 ) -> Result<Loaded, CommandFault>
     ensures { LoadsOne T.gives text.now (option_copied name.entry) path.now texts.old result texts.new }
 {
-    let named = instance_told(alloc, text, name)?;
-    load_with(alloc, texts, named.shop, path)
+    let shop = load_instance(alloc, text, name)?.shop;
+    let plan = plan(alloc, texts, path)?;
+    judged_told(alloc, Both { shop, plan })
 }
 
-/// The line of the plan of this number, which isn't accepted.
+/// The line of the plan of this number, which isn't accepted: the number, a space, and the line of the plan alone.
 fn cell_line(alloc: Global, number: u64, loaded: &Loaded) -> Result<Cells, CommandFault>
     ensures { IsCellLine number loaded.now result }
 {
-    Ok(Cells::Line(numbered_line(alloc, number, loaded)?))
-}
-
-fn numbered_line(alloc: Global, number: u64, loaded: &Loaded) -> Result<Answer, AllocError>
-    ensures { IfOk result (λ answer. IsCellLine number loaded.now (Ok (Cells.Line answer))) }
-{
     let line = loaded_answer(alloc, loaded)?;
-    numbered(alloc, number, &line)
-}
-
-/// The answer to one of several plans, with the plan's number and a space before it.
-fn numbered(alloc: Global, number: u64, answer: &Answer) -> Result<Answer, AllocError>
-    ensures text { IfOk result (λ numbered. numbered.text.items ≡ decimal number ++ codes " " ++ answer.now.text.items) }
-    ensures status { IfOk result (λ numbered. numbered.status ≡ answer.now.status) }
-{
-    let mut text = Vec::new(alloc);
+    let (mut text, status) = (Vec::new(alloc), line.status);
     push_fact(&mut text, b"", number)?;
     push_words(&mut text, b" ")?;
-    push_words(&mut text, &answer.text)?;
-    Ok(Answer {
-        text,
-        status: answer.status,
-    })
+    push_words(&mut text, &line.text)?;
+    Ok(Cells::Line(Answer { text, status }))
 }

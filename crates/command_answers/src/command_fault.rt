@@ -1,13 +1,13 @@
 ghost use Rattle.std.specs.Prelude.{◌≡◌};
 ghost use Rattle.command_answers.specs.Statuses.{status_of};
 
-use crate::reading::FileFault;
 use orlib_read::OrFault;
 use plan_improve::ImproveFault;
 use plan_seek::SeekFault;
 use plan_text::PlanFault;
 use run_log::AuditFault;
 use std::alloc::AllocError;
+use std::io::{self, ErrorKind};
 use thiserror::Error;
 
 /// Why a command has no answer. `Memory` may stand in place of any other answer.
@@ -44,17 +44,15 @@ impl From<AllocError> for CommandFault {
     }
 }
 
-impl From<FileFault> for CommandFault {
-    ghost use Rattle.std.specs.Prelude.{◌≡◌};
-    ghost use Rattle.command_answers.specs.Texts.{file_command_fault};
+impl From<io::Error> for CommandFault {
+    ghost use Rattle.command_answers.specs.Reading.{IsFaultOfSystem};
 
-    ghost from_gives = { λ told fault. fault ≡ file_command_fault told };
+    ghost from_gives = { λ error fault. IsFaultOfSystem error fault };
 
-    fn from(told: FileFault) -> CommandFault {
-        match told {
-            FileFault::Read => CommandFault::Read,
-            FileFault::TooLong => CommandFault::InputTooLong,
-            FileFault::Memory => CommandFault::Memory,
+    fn from(error: io::Error) -> CommandFault {
+        match error.kind() {
+            ErrorKind::OutOfMemory => CommandFault::Memory,
+            _ => CommandFault::Read,
         }
     }
 }
@@ -121,7 +119,7 @@ impl From<ImproveFault> for Unanswered {
 
 impl From<AuditFault> for Unanswered {
     ghost use Rattle.std.specs.Prelude.{◌≡◌};
-    ghost use Rattle.command_answers.specs.AuditLines.{audit_command_fault};
+    ghost use Rattle.command_answers.specs.LogLines.{audit_command_fault};
 
     ghost from_gives = { λ told unanswered. unanswered.0 ≡ audit_command_fault told };
 

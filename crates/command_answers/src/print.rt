@@ -5,7 +5,7 @@ ghost use Rattle.std.specs.Prelude.{◌≡◌, ◌++◌, OnOk, codes, decimal};
 use std::alloc::AllocError;
 
 /// Adds the words.
-pub fn push_words(text: &mut Vec<u8>, words: &[u8]) -> Result<(), AllocError>
+pub(crate) fn push_words(text: &mut Vec<u8>, words: &[u8]) -> Result<(), AllocError>
     ensures { OnOk result (text.new.items ≡ text.old.items ++ words.now) }
 {
     text.extend_from_slice(words)?;
@@ -13,7 +13,7 @@ pub fn push_words(text: &mut Vec<u8>, words: &[u8]) -> Result<(), AllocError>
 }
 
 /// Adds the word, and after it the number in decimal.
-pub fn push_fact(text: &mut Vec<u8>, word: &[u8], number: u64) -> Result<(), AllocError>
+pub(crate) fn push_fact(text: &mut Vec<u8>, word: &[u8], number: u64) -> Result<(), AllocError>
     ensures { OnOk result (text.new.items ≡ text.old.items ++ word.now ++ decimal number) }
 {
     let mut digits = itoa::Buffer::new();
@@ -23,7 +23,7 @@ pub fn push_fact(text: &mut Vec<u8>, word: &[u8], number: u64) -> Result<(), All
 }
 
 /// Ends the line.
-pub fn end_line(text: &mut Vec<u8>) -> Result<(), AllocError>
+pub(crate) fn end_line(text: &mut Vec<u8>) -> Result<(), AllocError>
     ensures { OnOk result (text.new.items ≡ text.old.items ++ codes "\n") }
 {
     text.push(b'\n')?;

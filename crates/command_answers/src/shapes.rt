@@ -1,77 +1,43 @@
 //! The command `shape`.
 
-ghost use Rattle.std.specs.Prelude.{◌≡◌, IfOk, codes};
-ghost use Rattle.std.specs.Option.{option_copied};
-ghost use Rattle.shop_base.specs.Plan.{PlannedShop};
+ghost use Rattle.std.specs.Prelude.{IfOk, codes};
 ghost use Rattle.command_answers.specs.Steps.{IsOrMemory};
 ghost use Rattle.command_answers.specs.Shapes.{IsShapeLine, IsRefusedLine};
 ghost use Rattle.command_answers.specs.Commands.{RunsShape};
 
-use crate::answer::{Answer, GOOD, REFUSED};
-use crate::command_fault::CommandFault;
-use crate::instances::instance;
-use crate::plans::plan;
-use crate::print::end_line;
+use crate::answer::{Answer, Answered, GOOD};
+use crate::both::{Both, Pair, read_both};
+use crate::lines::{fault_answer, line_answer};
 use crate::texts::Texts;
-use shop_base::{Plan, ShapeFault, Shop, shape};
+use shop_base::ShapeFault;
 use std::alloc::{AllocError, Global};
 
-/// Whether the plan of a file is well shaped for the instance of another, and if not, its first fault. Without a name
-/// the first file tells one instance, else a collection with an instance of this name.
-pub fn shape_answer<T: Texts>(
-    alloc: Global,
-    texts: &mut T,
-    path: &str,
-    name: Option<&[u8]>,
-    plan_path: &str,
-) -> Result<Answer, CommandFault>
-    ensures { RunsShape T.gives path.now (option_copied name.entry) plan_path.now texts.old result texts.new }
+/// Whether the plan of a file is well shaped for the instance of another, and if not, its first fault.
+pub fn shape_answer<T: Texts>(alloc: Global, texts: &mut T, pair: &Pair<'_>) -> Answered
+    ensures { RunsShape T.gives pair.now texts.old result texts.new }
 {
-    let named = instance(alloc, texts, path, name)?;
-    let told = plan(alloc, texts, plan_path)?;
-    shape_told(alloc, named.shop, told)
+    let both = read_both(alloc, texts, pair)?;
+    shape_told(alloc, both)
 }
 
-fn shape_told(alloc: Global, shop: Shop, plan: Plan) -> Result<Answer, CommandFault>
-    ensures { IsOrMemory (IsShapeLine (record { shop = shop; plan = plan })) result }
+fn shape_told(alloc: Global, both: Both) -> Answered
+    ensures { IsOrMemory (IsShapeLine both) result }
 {
-    Ok(shape_line(alloc, shop, plan)?)
-}
-
-fn shape_line(alloc: Global, shop: Shop, plan: Plan) -> Result<Answer, AllocError>
-    ensures { IfOk result (IsShapeLine (record { shop = shop; plan = plan })) }
-{
-    match shape(shop, plan) {
-        Ok(_) => shaped_answer(alloc),
-        Err(refused) => not_shaped_answer(alloc, refused.fault),
+    match both.shaped() {
+        Ok(_) => Ok(line_answer(alloc, b"shaped\n", GOOD)?),
+        Err(fault) => not_shaped_told(alloc, fault),
     }
-}
-
-fn shaped_answer(alloc: Global) -> Result<Answer, AllocError>
-    ensures { IfOk result (λ answer. (answer.text.items ≡ codes "shaped\n") × (answer.status ≡ 0)) }
-{
-    let mut text = Vec::new(alloc);
-    text.extend_from_slice(b"shaped\n")?;
-    Ok(Answer { text, status: GOOD })
 }
 
 /// The line of a plan that isn't well shaped, with its first fault.
 pub(crate) fn not_shaped_answer(alloc: Global, fault: ShapeFault) -> Result<Answer, AllocError>
     ensures { IfOk result IsRefusedLine }
 {
-    let words = fault.to_string(alloc)?;
-    let mut text = Vec::new(alloc);
-    text.extend_from_slice(b"not shaped ")?;
-    text.extend_from_slice(words.as_bytes())?;
-    end_line(&mut text)?;
-    Ok(Answer {
-        text,
-        status: REFUSED,
-    })
+    fault_answer(alloc, b"not shaped ", fault)
 }
 
-/// The line of a plan that isn't well shaped, unless memory runs out.
-pub(crate) fn not_shaped_told(alloc: Global, fault: ShapeFault) -> Result<Answer, CommandFault>
+/// The same, unless memory runs out.
+pub(crate) fn not_shaped_told(alloc: Global, fault: ShapeFault) -> Answered
     ensures { IsOrMemory IsRefusedLine result }
 {
     Ok(not_shaped_answer(alloc, fault)?)

@@ -15,7 +15,6 @@ use Rattle.command_words.specs.declared.words.CommandName.{CommandName}
 use Rattle.command_words.specs.declared.words.CommandName.TheVariants.{Input as NoWords, Facts, Shape, Check, Explain, Plan as Search, Improve, Drive, Resume, Hub, Audit, Gantt}
 use Rattle.command_words.specs.declared.words.WordsFault.{WordsFault}
 use Rattle.command_words.specs.declared.words.WordsFault.TheVariants.{Usage, Memory as NoWordsMemory}
-use Rattle.command_answers.specs.declared.reading.FileFault.{FileFault}
 use Rattle.command_answers.specs.declared.answer.Answer.{Answer}
 use Rattle.command_answers.specs.declared.cells.Cells.{Cells}
 use Rattle.command_answers.specs.declared.cells.Cells.TheVariants.{Accepted as AllAccepted, Line}
@@ -80,7 +79,7 @@ hub_written (Ok (Line answer)) before after outcome is = kept before after is.1
 hub_written (Ok (AllAccepted cells)) before after outcome is = inr (inr (inl (cells.items, (is.end, is.are))))
 
 taken_written : (taken : Result TakenUp ResumeFault) (before after : Streams) (outcome : Result Answer CommandFault) → ResumesTaken taken before after outcome → WereDriven before after
-taken_written (Ok t) before after outcome is = inr (inr (inr (t, (is.0, is.1))))
+taken_written (Ok t) before after outcome is = inr (inr (inr (t, (is.end, is.is))))
 taken_written (Err fault) before after outcome is = kept before after is.1
 
 text_written : (v : VerifiedPlan) (text : Result (List ℕ) CommandFault) (before after : Streams) (outcome : Result Answer CommandFault) → ResumesText v text before after outcome → WereDriven before after
@@ -145,7 +144,7 @@ ended_no_more (Ok answer) before after told_before told_after status low high en
     printed_no_more answer ends.printed before after told_before told_after status low high ends.is ends.told
 ended_no_more (Err fault) before after told_before told_after status low high ends = inl ends.0
 
-module _ {W : Type 0} (gives : W → List ℕ → Result (List ℕ) FileFault → W → Type 0) where
+module _ {W : Type 0} (gives : W → List ℕ → Result (List ℕ) CommandFault → W → Type 0) where
   resumes_written : (log : List ℕ) (loaded : Result Loaded CommandFault) (texts : W) (before : Streams) (outcome : Result Answer CommandFault) (texts_after : W) (after : Streams)
       → Resumes gives log loaded texts before outcome texts_after after → WereDriven before after
   resumes_written log (Err fault) texts before outcome texts_after after is = kept before after is.1

@@ -1,16 +1,15 @@
 -- A search for better plans by improvers that may answer more.
-use Rattle.std.proofs.Common.{◌≡◌, ℕ, zero, suc, ◌+◌, ◌<◌, List, [], ◌∷◌, Option, Result, Ok, Err, inl, inr, length, slice_index_or, subst, sym, refl, arith}
+use Rattle.std.proofs.Common.{◌≡◌, ℕ, zero, suc, ◌+◌, ◌<◌, List, [], ◌∷◌, Result, Ok, Err, inl, inr, length, slice_index_or, subst, sym, refl, arith}
 use Rattle.shop_base.specs.Plan.{PlannedShop}
 use Rattle.plan_seek.specs.Orders.{Proposal}
 use Rattle.plan_improve.specs.Runs.{Asked, AfterSome, nobody, one_more, AfterRounds, no_round, round_more}
 use Rattle.plan_improve.specs.Improved.{IsFound}
 use Rattle.command_answers.specs.declared.answer.Answer.{Answer}
-use Rattle.command_answers.specs.declared.reading.FileFault.{FileFault}
 use Rattle.command_answers.specs.declared.command_fault.CommandFault.{CommandFault}
 use Rattle.command_answers.specs.declared.command_fault.CommandFault.TheVariants.{Instance, Plan, Read, Write, InputTooLong, Memory}
 use Rattle.command_answers.specs.Improving.{IsBest, IsBestAnswer, IsImproveAnswer}
 use Rattle.command_answers.specs.Steps.{Told}
-use Rattle.command_answers.specs.Commands.{ReadsInstance, ReadsPlan, WithPlan, RunsImprove}
+use Rattle.command_answers.specs.Commands.{PairOfFiles, ReadsBoth, RunsImprove}
 use Rattle.command_run.specs.Improvers.{MayImprove, AsksOne}
 use Rattle.command_run.proofs.Planning.{then_more}
 
@@ -39,19 +38,12 @@ module _ (made more : Asked) (rounds : ℕ) (less : (p q : PlannedShop) → made
   answer_more start outcome (inr line) = inr line
 
 -- what improvers do is done by ones that may answer more
-runs_more : {W : Type 0} (gives : W → List ℕ → Result (List ℕ) FileFault → W → Type 0) (made more : Asked) → ((p q : PlannedShop) → made p q → more p q)
-    → (rounds : ℕ) (path : List ℕ) (name : Option (List ℕ)) (plan : List ℕ) (before : W) (outcome : Result Answer CommandFault) (after : W)
-    → RunsImprove gives made rounds path name plan before outcome after → RunsImprove gives more rounds path name plan before outcome after
-runs_more gives made more less rounds path name plan before outcome after =
-    then_more (ReadsInstance gives path name)
-    (λ named. WithPlan gives plan named.shop (λ p. Told (IsImproveAnswer made rounds p)))
-    (λ named. WithPlan gives plan named.shop (λ p. Told (IsImproveAnswer more rounds p)))
-    before outcome after
-    (λ named mid. then_more (ReadsPlan gives plan)
-    (λ told. Told (IsImproveAnswer made rounds (record { shop = named.shop; plan = told })))
-    (λ told. Told (IsImproveAnswer more rounds (record { shop = named.shop; plan = told })))
-    mid outcome after
-    (λ told last is. (answer_more made more rounds less (record { shop = named.shop; plan = told }) outcome is.0, is.1)))
+runs_more : {W : Type 0} (gives : W → List ℕ → Result (List ℕ) CommandFault → W → Type 0) (made more : Asked) → ((p q : PlannedShop) → made p q → more p q)
+    → (rounds : ℕ) (pair : PairOfFiles) (before : W) (outcome : Result Answer CommandFault) (after : W)
+    → RunsImprove gives made rounds pair before outcome after → RunsImprove gives more rounds pair before outcome after
+runs_more gives made more less rounds pair before outcome after =
+    then_more (ReadsBoth gives pair) (λ p. Told (IsImproveAnswer made rounds p)) (λ p. Told (IsImproveAnswer more rounds p)) before outcome after
+    (λ p last is. (answer_more made more rounds less p outcome is.0, is.1))
 
 stands_alone : (who : Unit {0}) (n : ℕ) → slice_index_or (who ∷ []) n who ≡ who
 stands_alone who zero = refl
@@ -70,9 +62,9 @@ module _ {B : Type 0} (may : B → PlannedShop → ℕ → Proposal → Type 0) 
       round_more m q s (rounds_more p m q run) (subst (λ k. AfterSome MayImprove (tt ∷ []) m q k s) alone (some_more m q (length improvers) s last))
 
   -- a search by one improver
-  pub improves : {W : Type 0} (gives : W → List ℕ → Result (List ℕ) FileFault → W → Type 0)
-      (rounds : ℕ) (path : List ℕ) (name : Option (List ℕ)) (plan : List ℕ) (before : W) (outcome : Result Answer CommandFault) (after : W)
-      → RunsImprove gives (λ p. AfterRounds may improvers p rounds) rounds path name plan before outcome after
-      → RunsImprove gives (AsksOne rounds) rounds path name plan before outcome after
-  improves gives rounds path name plan before outcome after =
-      runs_more gives (λ p. AfterRounds may improvers p rounds) (AsksOne rounds) (λ p q. rounds_more p rounds q) rounds path name plan before outcome after
+  pub improves : {W : Type 0} (gives : W → List ℕ → Result (List ℕ) CommandFault → W → Type 0)
+      (rounds : ℕ) (pair : PairOfFiles) (before : W) (outcome : Result Answer CommandFault) (after : W)
+      → RunsImprove gives (λ p. AfterRounds may improvers p rounds) rounds pair before outcome after
+      → RunsImprove gives (AsksOne rounds) rounds pair before outcome after
+  improves gives rounds pair before outcome after =
+      runs_more gives (λ p. AfterRounds may improvers p rounds) (AsksOne rounds) (λ p q. rounds_more p rounds q) rounds pair before outcome after

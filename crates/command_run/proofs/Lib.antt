@@ -5,3 +5,5 @@ pub mod Telling
 pub mod Refusing
 pub mod LowStatuses
 pub mod Endings
+pub mod GoodFiles
+pub mod SameWriting

@@ -9,8 +9,6 @@ use Rattle.plan_seek.specs.declared.seek_fault.SeekFault.{SeekFault}
 use Rattle.plan_seek.specs.declared.seek_fault.SeekFault.TheVariants.{BadNumbers, Exhausted, TooManyRounds, Memory as NoMemory}
 use Rattle.plan_improve.specs.Runs.{Asked}
 use Rattle.shop_base.specs.Plan.{PlannedShop}
-use Rattle.cell_drive.specs.declared.driving.DriveEnd.{DriveEnd}
-use Rattle.cell_drive.specs.declared.driving_cells.HubEnd.{HubEnd}
 use Rattle.cell_drive.specs.declared.drive_fault.DriveFault.{DriveFault}
 use Rattle.run_resume.specs.declared.resume_fault.ResumeFault.{ResumeFault}
 use Rattle.run_resume.specs.declared.resume_fault.ResumeFault.TheVariants.{BadLine, NotOrdered, NotPossible, Memory as NoMemoryToResume}
@@ -18,7 +16,6 @@ use Rattle.run_resume.specs.Replays.{TakenUp}
 use Rattle.command_words.specs.declared.words.Chosen.{Chosen}
 use Rattle.command_words.specs.declared.words.CommandName.{CommandName}
 use Rattle.command_words.specs.declared.words.CommandName.TheVariants.{Input as NoWords, Facts, Shape, Check, Explain, Plan, Improve, Drive, Resume, Hub, Audit, Gantt}
-use Rattle.command_answers.specs.declared.reading.FileFault.{FileFault}
 use Rattle.command_answers.specs.declared.answer.Answer.{Answer}
 use Rattle.command_answers.specs.declared.cells.Cells.{Cells}
 use Rattle.command_answers.specs.declared.cells.Cells.TheVariants.{Accepted as AllAccepted, Line}
@@ -28,21 +25,22 @@ use Rattle.command_answers.specs.declared.loading.Loaded.TheVariants.{NotShaped,
 use Rattle.command_answers.specs.Steps.{Then, GoesOn, Told, IsOrMemory}
 use Rattle.command_answers.specs.Readings.{AreFactsAnswered}
 use Rattle.command_answers.specs.Shapes.{IsShapeLine, IsNotShapedLine}
-use Rattle.command_answers.specs.Checks.{IsCheckLine, IsLineOf, accepted_in}
-use Rattle.command_answers.specs.Explains.{IsExplanation, verdict_status}
+use Rattle.command_answers.specs.Checks.{IsCheckLine, IsLineOf, accepted_in, verdict_status}
+use Rattle.command_answers.specs.Explains.{IsExplanation}
 use Rattle.command_answers.specs.Improving.{IsStatusOf, IsBestAnswer, IsImproveAnswer}
 use Rattle.command_answers.specs.Search.{IsSearchLine, IsSearchAnswer, IsNoPlanLine}
-use Rattle.command_answers.specs.AuditLines.{IsLogLine, IsLogRefusedLine}
-use Rattle.command_answers.specs.GanttLines.{IsDrawnLog}
-use Rattle.command_answers.specs.Commands.{WithPlan, WithBoth, WithLog}
+use Rattle.command_answers.specs.declared.logs.Telling.{Telling}
+use Rattle.command_answers.specs.declared.logs.Telling.TheVariants.{Numbers, Drawing}
+use Rattle.command_answers.specs.LogLines.{IsLogLine}
+use Rattle.command_answers.specs.Commands.{PairOfFiles, WithBoth, WithLog}
 use Rattle.command_answers.specs.Cells.{IsCellLine, AfterPlan, LoadsEach}
 use Rattle.command_run.specs.Streams.{Streams}
-use Rattle.command_run.specs.Drives.{IsEnded, IsEndAnswer, Drives, status_at}
+use Rattle.command_run.specs.Drives.{IsEnded, IsEndAnswer, Drives, status_at, end_of_drive}
 use Rattle.command_run.specs.Resumes.{IsFaultLine, IsFaultTold, ResumesTaken, ResumesText, Resumes}
-use Rattle.command_run.specs.Hubs.{IsHubAnswer, DrivesAll}
+use Rattle.command_run.specs.Hubs.{DrivesAll, end_of_hub}
 use Rattle.command_run.specs.Planners.{MayPlan, SeeksPlan}
 use Rattle.command_run.specs.Improvers.{AsksOne, ImprovesPlan}
-use Rattle.command_run.specs.Program.{RunsCommand, file_at, name_in, plans_in}
+use Rattle.command_run.specs.Program.{RunsCommand, file_at, name_in, pair_in, plans_in}
 
 -- the answer's status is 0 or 1
 abbrev pub IsLow : Result Answer CommandFault → Type 0
@@ -107,16 +105,9 @@ low_sought : (may : Proposals) (rounds proposers : ℕ) (p : PlannedShop) (outco
 low_sought may rounds proposers p (Ok answer) is = low_search may rounds proposers p answer is
 low_sought may rounds proposers p (Err fault) is = tt
 
-low_refused_log : (p : PlannedShop) (log : List ℕ) (answer : Answer) → IsLogRefusedLine p log answer → answer.status ≤ 1
-low_refused_log p log answer is = one_low answer.status is.line.refused
-
-low_log : (p : PlannedShop) (log : List ℕ) (answer : Answer) → IsLogLine p log answer → answer.status ≤ 1
-low_log p log answer (inl kept) = zero_low answer.status kept.good
-low_log p log answer (inr refused) = low_refused_log p log answer refused
-
-low_drawn : (p : PlannedShop) (log : List ℕ) (answer : Answer) → IsDrawnLog p log answer → answer.status ≤ 1
-low_drawn p log answer (inl drawing) = zero_low answer.status drawing.good
-low_drawn p log answer (inr refused) = low_refused_log p log answer refused
+low_log : (telling : Telling) (p : PlannedShop) (log : List ℕ) (answer : Answer) → IsLogLine telling p log answer → answer.status ≤ 1
+low_log telling p log answer (inl kept) = zero_low answer.status kept.told.1
+low_log telling p log answer (inr refused) = one_low answer.status refused.line.1
 
 low_verdict : (verdict : Verdict) (status : ℕ) → status ≡ verdict_status verdict → status ≤ 1
 low_verdict (Accepted v) status is = zero_low status is
@@ -155,35 +146,27 @@ low_ended : (done : Bool) (outcome : Result Answer CommandFault) → IsEnded don
 low_ended done (Ok answer) is = subst (λ n. n ≤ 1) (sym is.1) (low_at done)
 low_ended done (Err fault) is = tt
 
-low_end : (end : Result DriveEnd DriveFault) (outcome : Result Answer CommandFault) → IsEndAnswer end outcome → IsLow outcome
-low_end (Ok end) outcome is = low_ended end.done outcome is
+low_end : (done : Result Bool DriveFault) (outcome : Result Answer CommandFault) → IsEndAnswer done outcome → IsLow outcome
+low_end (Ok done) outcome is = low_ended done outcome is
 low_end (Err fault) outcome is = subst IsLow (sym is) tt
-
-low_hub_end : (end : Result HubEnd DriveFault) (outcome : Result Answer CommandFault) → IsHubAnswer end outcome → IsLow outcome
-low_hub_end (Ok end) outcome is = low_ended end.all_done outcome is
-low_hub_end (Err fault) outcome is = subst IsLow (sym is) tt
 
 low_drives : (loaded : Result Loaded CommandFault) (before after : Streams) (outcome : Result Answer CommandFault) → Drives loaded before after outcome → IsLow outcome
 low_drives (Err fault) before after outcome is = subst IsLow (sym is.0) tt
 low_drives (Ok (NotShaped fault)) before after outcome is = low_or (IsLineOf (NotShaped fault)) outcome (low_line_of (NotShaped fault)) is.0
 low_drives (Ok (Judged (Refused back why))) before after outcome is =
     low_or (IsLineOf (Judged (Refused back why))) outcome (low_line_of (Judged (Refused back why))) is.0
-low_drives (Ok (Judged (Accepted v))) before after outcome is = low_end is.end outcome is.answer
+low_drives (Ok (Judged (Accepted v))) before after outcome is = low_end (end_of_drive is.end) outcome is.answer
 
 -- ---- taking up
 
-low_fault_line : (fault : ResumeFault) (outcome : Result Answer CommandFault) → IfOk outcome (IsFaultLine fault) → IsLow outcome
-low_fault_line fault (Ok answer) is = one_low answer.status is.refused
-low_fault_line fault (Err other) is = tt
-
 low_fault_told : (fault : ResumeFault) (outcome : Result Answer CommandFault) → IsFaultTold fault outcome → IsLow outcome
-low_fault_told (BadLine line) outcome is = low_fault_line (BadLine line) outcome is.0
-low_fault_told (NotOrdered line) outcome is = low_fault_line (NotOrdered line) outcome is.0
-low_fault_told (NotPossible line reason) outcome is = low_fault_line (NotPossible line reason) outcome is.0
+low_fault_told (BadLine line) outcome is = low_or (IsFaultLine (BadLine line)) outcome (λ answer line. one_low answer.status line.1) is
+low_fault_told (NotOrdered line) outcome is = low_or (IsFaultLine (NotOrdered line)) outcome (λ answer line. one_low answer.status line.1) is
+low_fault_told (NotPossible line reason) outcome is = low_or (IsFaultLine (NotPossible line reason)) outcome (λ answer line. one_low answer.status line.1) is
 low_fault_told NoMemoryToResume outcome is = subst IsLow (sym is) tt
 
 low_taken : (taken : Result TakenUp ResumeFault) (before after : Streams) (outcome : Result Answer CommandFault) → ResumesTaken taken before after outcome → IsLow outcome
-low_taken (Ok t) before after outcome is = low_end is.0 outcome is.2
+low_taken (Ok t) before after outcome is = low_end (end_of_drive is.end) outcome is.answer
 low_taken (Err fault) before after outcome is = low_fault_told fault outcome is.0
 
 low_text : (v : VerifiedPlan) (text : Result (List ℕ) CommandFault) (before after : Streams) (outcome : Result Answer CommandFault) → ResumesText v text before after outcome → IsLow outcome
@@ -211,7 +194,7 @@ low_after_plan cells rest (Ok v) before outcome after each (inl on) = each _ on
 low_after_plan cells rest (Ok v) before outcome after each (inr wanting) = subst IsLowLine (sym wanting.0) tt
 low_after_plan cells rest (Err other) before outcome after each is = low_cell_line _ other outcome (low_line_of other) is.0
 
-low_loaded : {W : Type 0} (gives : W → List ℕ → Result (List ℕ) FileFault → W → Type 0) (text : List ℕ) (name : Option (List ℕ)) (cells : List VerifiedPlan) (paths : List (List ℕ))
+low_loaded : {W : Type 0} (gives : W → List ℕ → Result (List ℕ) CommandFault → W → Type 0) (text : List ℕ) (name : Option (List ℕ)) (cells : List VerifiedPlan) (paths : List (List ℕ))
     (before : W) (outcome : Result Cells CommandFault) (after : W) → LoadsEach gives text name cells paths before outcome after → IsLowLine outcome
 low_loaded gives text name cells [] before (Ok (Line answer)) after is = absurd is.0
 low_loaded gives text name cells [] before (Ok (AllAccepted all)) after is = tt
@@ -223,33 +206,31 @@ low_loaded gives text name cells (path ∷ paths) before outcome after is =
 low_drives_all : (loaded : Result Cells CommandFault) (before after : Streams) (outcome : Result Answer CommandFault) → IsLowLine loaded → DrivesAll loaded before after outcome → IsLow outcome
 low_drives_all (Err fault) before after outcome low is = subst IsLow (sym is.0) tt
 low_drives_all (Ok (Line answer)) before after outcome low is = subst IsLow (sym is.0) low
-low_drives_all (Ok (AllAccepted cells)) before after outcome low is = low_hub_end is.end outcome is.answer
+low_drives_all (Ok (AllAccepted cells)) before after outcome low is = low_end (end_of_hub is.end) outcome is.answer
 
 -- ---- the commands
 
-module _ {W : Type 0} (gives : W → List ℕ → Result (List ℕ) FileFault → W → Type 0) where
-  low_both : (path : List ℕ) (name : Option (List ℕ)) (plan : List ℕ) (next : PlannedShop → W → Result Answer CommandFault → W → Type 0) (texts : W) (outcome : Result Answer CommandFault) (after : W)
-      → ((p : PlannedShop) (mid : W) → next p mid outcome after → IsLow outcome) → WithBoth gives path name plan next texts outcome after → IsLow outcome
-  low_both path name plan next texts outcome after each run =
-      held IsLow _ (λ named. WithPlan gives plan named.shop next) texts outcome after low_failed
-      (λ named mid on. held IsLow _ (λ told. next (record { shop = named.shop; plan = told })) mid outcome after low_failed (λ told later. each (record { shop = named.shop; plan = told }) later) on) run
+module _ {W : Type 0} (gives : W → List ℕ → Result (List ℕ) CommandFault → W → Type 0) where
+  low_both : (pair : PairOfFiles) (next : PlannedShop → W → Result Answer CommandFault → W → Type 0) (texts : W) (outcome : Result Answer CommandFault) (after : W)
+      → ((p : PlannedShop) (mid : W) → next p mid outcome after → IsLow outcome) → WithBoth gives pair next texts outcome after → IsLow outcome
+  low_both pair next texts outcome after each run = held IsLow _ next texts outcome after low_failed each run
 
-  low_with_log : (log : List ℕ) (Is : PlannedShop → List ℕ → Answer → Type 0) (p : PlannedShop) (mid : W) (outcome : Result Answer CommandFault) (after : W)
-      → ((text : List ℕ) (answer : Answer) → Is p text answer → answer.status ≤ 1) → WithLog gives log Is p mid outcome after → IsLow outcome
-  low_with_log log Is p mid outcome after each (inl (shaped, run)) = held IsLow _ (λ text. Told (IsOrMemory (Is p text))) mid outcome after low_failed (λ text later on. low_or (Is p text) outcome (each text) on.0) run
-  low_with_log log Is p mid outcome after each (inr told) = low_or (IsNotShapedLine p) outcome (low_not_shaped p) told.0
+  low_with_log : (telling : Telling) (log : List ℕ) (p : PlannedShop) (mid : W) (outcome : Result Answer CommandFault) (after : W) → WithLog gives telling log p mid outcome after → IsLow outcome
+  low_with_log telling log p mid outcome after (inl (shaped, run)) =
+      held IsLow _ (λ text. Told (IsOrMemory (IsLogLine telling p text))) mid outcome after low_failed (λ text later on. low_or (IsLogLine telling p text) outcome (low_log telling p text) on.0) run
+  low_with_log telling log p mid outcome after (inr told) = low_or (IsNotShapedLine p) outcome (low_not_shaped p) told.0
 
-  low_seeks : (rounds : ℕ) (path : List ℕ) (name : Option (List ℕ)) (plan : List ℕ) (texts : W) (outcome : Result Answer CommandFault) (after : W)
-      → SeeksPlan gives rounds path name plan texts outcome after → IsLow outcome
-  low_seeks rounds path name plan texts outcome after (inl run) =
-      low_both path name plan (λ p. Told (IsSearchAnswer (MayPlan p.shop) rounds 2 p)) texts outcome after (λ p mid on. low_sought (MayPlan p.shop) rounds 2 p outcome on.0) run
-  low_seeks rounds path name plan texts outcome after (inr wanting) = subst IsLow (sym wanting.0) tt
+  low_seeks : (rounds : ℕ) (pair : PairOfFiles) (texts : W) (outcome : Result Answer CommandFault) (after : W)
+      → SeeksPlan gives rounds pair texts outcome after → IsLow outcome
+  low_seeks rounds pair texts outcome after (inl run) =
+      low_both pair (λ p. Told (IsSearchAnswer (MayPlan p.shop) rounds 2 p)) texts outcome after (λ p mid on. low_sought (MayPlan p.shop) rounds 2 p outcome on.0) run
+  low_seeks rounds pair texts outcome after (inr wanting) = subst IsLow (sym wanting.0) tt
 
-  low_improves : (rounds : ℕ) (path : List ℕ) (name : Option (List ℕ)) (plan : List ℕ) (texts : W) (outcome : Result Answer CommandFault) (after : W)
-      → ImprovesPlan gives rounds path name plan texts outcome after → IsLow outcome
-  low_improves rounds path name plan texts outcome after (inl run) =
-      low_both path name plan (λ p. Told (IsImproveAnswer (AsksOne rounds) rounds p)) texts outcome after (λ p mid on. low_improved (AsksOne rounds) rounds p outcome on.0) run
-  low_improves rounds path name plan texts outcome after (inr wanting) = subst IsLow (sym wanting.0) tt
+  low_improves : (rounds : ℕ) (pair : PairOfFiles) (texts : W) (outcome : Result Answer CommandFault) (after : W)
+      → ImprovesPlan gives rounds pair texts outcome after → IsLow outcome
+  low_improves rounds pair texts outcome after (inl run) =
+      low_both pair (λ p. Told (IsImproveAnswer (AsksOne rounds) rounds p)) texts outcome after (λ p mid on. low_improved (AsksOne rounds) rounds p outcome on.0) run
+  low_improves rounds pair texts outcome after (inr wanting) = subst IsLow (sym wanting.0) tt
 
   low_resumes : (log : List ℕ) (loaded : Result Loaded CommandFault) (texts : W) (before : Streams) (outcome : Result Answer CommandFault) (texts_after : W) (after : Streams)
       → Resumes gives log loaded texts before outcome texts_after after → IsLow outcome
@@ -268,19 +249,19 @@ module _ {W : Type 0} (gives : W → List ℕ → Result (List ℕ) FileFault �
   low Facts chosen texts before outcome texts_after after run =
       held IsLow _ (λ text. Told (AreFactsAnswered text (name_in chosen))) texts outcome texts_after low_failed (λ text mid on. low_facts text (name_in chosen) outcome on.0) run.0
   low Shape chosen texts before outcome texts_after after run =
-      low_both _ _ _ (λ p. Told (IsOrMemory (IsShapeLine p))) texts outcome texts_after (λ p mid on. low_or (IsShapeLine p) outcome (low_shape p) on.0) run.0
+      low_both (pair_in chosen) (λ p. Told (IsOrMemory (IsShapeLine p))) texts outcome texts_after (λ p mid on. low_or (IsShapeLine p) outcome (low_shape p) on.0) run.0
   low Check chosen texts before outcome texts_after after run =
-      low_both _ _ _ (λ p. Told (IsOrMemory (IsCheckLine p))) texts outcome texts_after (λ p mid on. low_or (IsCheckLine p) outcome (low_check p) on.0) run.0
+      low_both (pair_in chosen) (λ p. Told (IsOrMemory (IsCheckLine p))) texts outcome texts_after (λ p mid on. low_or (IsCheckLine p) outcome (low_check p) on.0) run.0
   low Explain chosen texts before outcome texts_after after run =
-      low_both _ _ _ (λ p. Told (IsOrMemory (IsExplanation p))) texts outcome texts_after (λ p mid on. low_or (IsExplanation p) outcome (low_explained p) on.0) run.0
-  low Plan chosen texts before outcome texts_after after run = low_seeks chosen.rounds _ _ _ texts outcome texts_after run.0
-  low Improve chosen texts before outcome texts_after after run = low_improves chosen.rounds _ _ _ texts outcome texts_after run.0
+      low_both (pair_in chosen) (λ p. Told (IsOrMemory (IsExplanation p))) texts outcome texts_after (λ p mid on. low_or (IsExplanation p) outcome (low_explained p) on.0) run.0
+  low Plan chosen texts before outcome texts_after after run = low_seeks chosen.rounds _ texts outcome texts_after run.0
+  low Improve chosen texts before outcome texts_after after run = low_improves chosen.rounds _ texts outcome texts_after run.0
   low Drive chosen texts before outcome texts_after after run = low_drives run.loaded before after outcome run.drives
   low Resume chosen texts before outcome texts_after after run = low_resumes _ run.loaded run.texts_mid before outcome texts_after after run.resumes
   low Hub chosen texts before outcome texts_after after run =
       low_drives_all run.loaded before after outcome
       (held IsLowLine _ (λ text. LoadsEach gives text (name_in chosen) [] (plans_in chosen)) texts run.loaded texts_after low_line_failed (λ text mid on. low_loaded gives text (name_in chosen) [] (plans_in chosen) mid run.loaded texts_after on) run.loads) run.drives
   low Audit chosen texts before outcome texts_after after run =
-      low_both _ _ _ (WithLog gives (file_at chosen 2) IsLogLine) texts outcome texts_after (λ p mid on. low_with_log (file_at chosen 2) IsLogLine p mid outcome texts_after (λ text answer. low_log p text answer) on) run.0
+      low_both (pair_in chosen) (WithLog gives Numbers (file_at chosen 2)) texts outcome texts_after (λ p mid on. low_with_log Numbers (file_at chosen 2) p mid outcome texts_after on) run.0
   low Gantt chosen texts before outcome texts_after after run =
-      low_both _ _ _ (WithLog gives (file_at chosen 2) IsDrawnLog) texts outcome texts_after (λ p mid on. low_with_log (file_at chosen 2) IsDrawnLog p mid outcome texts_after (λ text answer. low_drawn p text answer) on) run.0
+      low_both (pair_in chosen) (WithLog gives Drawing (file_at chosen 2)) texts outcome texts_after (λ p mid on. low_with_log Drawing (file_at chosen 2) p mid outcome texts_after on) run.0

@@ -1,8 +1,8 @@
 -- What is told first where the files don't change.
 use Rattle.std.proofs.Common.{◌≡◌, ℕ, List, [], ◌∷◌, ◌⊎◌, Option, Result, Ok, Err, inl, inr, ap, sym, ◌∙◌, subst, refl}
+use Rattle.shop_base.specs.Plan.{PlannedShop}
 use Rattle.orlib_read.specs.declared.named.Named.{Named}
 use Rattle.orlib_read.specs.declared.or_fault.OrFault.{OrFault}
-use Rattle.command_answers.specs.declared.reading.FileFault.{FileFault}
 use Rattle.command_answers.specs.declared.answer.Answer.{Answer}
 use Rattle.command_answers.specs.declared.cells.Cells.{Cells}
 use Rattle.command_answers.specs.declared.loading.Loaded.{Loaded}
@@ -12,7 +12,7 @@ use Rattle.command_answers.specs.Instances.{IsFirstInstanceFault, IsInstanceRefu
 use Rattle.command_answers.specs.Steps.{Then, GoesOn, Told}
 use Rattle.command_answers.specs.Texts.{Asks}
 use Rattle.command_answers.specs.Readings.{IsInstanceRead, AreFactsAnswered}
-use Rattle.command_answers.specs.Commands.{ReadsInstance, RunsFacts}
+use Rattle.command_answers.specs.Commands.{PairOfFiles, ReadsInstance, ReadsBoth, WithBoth, RunsFacts}
 use Rattle.command_answers.specs.Cells.{LoadsEach}
 use Rattle.command_run.specs.Streams.{Streams}
 use Rattle.command_run.specs.Drives.{Drives}
@@ -51,7 +51,7 @@ drives_stopped fault (Ok loaded) before after outcome (inr told) is = absurd (cc
 drives_stopped fault (Err f) before after outcome (inl told) is = (inl ((let one : f ≡ (Instance fault) = cc told in is.0 ∙ ap (λ x. Err x) one)), is.1)
 drives_stopped fault (Err f) before after outcome (inr told) is = (inr ((let one : f ≡ Memory = cc told in is.0 ∙ ap (λ x. Err x) one)), is.1)
 
-resumes_stopped : {W : Type 0} (gives : W → List ℕ → Result (List ℕ) FileFault → W → Type 0) (log : List ℕ) (fault : OrFault) (loaded : Result Loaded CommandFault) (mid last : W) (before after : Streams) (outcome : Result Answer CommandFault)
+resumes_stopped : {W : Type 0} (gives : W → List ℕ → Result (List ℕ) CommandFault → W → Type 0) (log : List ℕ) (fault : OrFault) (loaded : Result Loaded CommandFault) (mid last : W) (before after : Streams) (outcome : Result Answer CommandFault)
     → IsToldOf fault loaded → Resumes gives log loaded mid before outcome last after → IsToldOf fault outcome × (after ≡ before) × (last ≡ mid)
 resumes_stopped gives log fault (Ok loaded) mid last before after outcome (inl told) is = absurd (cc told)
 resumes_stopped gives log fault (Ok loaded) mid last before after outcome (inr told) is = absurd (cc told)
@@ -67,7 +67,7 @@ hub_stopped fault (Ok loaded) before after outcome (inr told) is = absurd (cc to
 hub_stopped fault (Err f) before after outcome (inl told) is = (inl ((let one : f ≡ (Instance fault) = cc told in is.0 ∙ ap (λ x. Err x) one)), is.1)
 hub_stopped fault (Err f) before after outcome (inr told) is = (inr ((let one : f ≡ Memory = cc told in is.0 ∙ ap (λ x. Err x) one)), is.1)
 
-module _ (content : List ℕ → Result (List ℕ) FileFault) (path text : List ℕ) (name : Option (List ℕ)) (fault : OrFault)
+module _ (content : List ℕ → Result (List ℕ) CommandFault) (path text : List ℕ) (name : Option (List ℕ)) (fault : OrFault)
     (is : content path ≡ Ok text) (first : IsFirstInstanceFault text name fault) where
   -- what was asked for is the text
   same_text : (t : List ℕ) → Ok t ≡ content path → IsFirstInstanceFault t name fault
@@ -80,41 +80,20 @@ module _ (content : List ℕ → Result (List ℕ) FileFault) (path text : List 
       → ((t : List ℕ) → Is t read → IsFirstInstanceFault t name fault → IsInstanceRefusal read fault)
       → Asks (Shelf content) path [] came mid → GoesOn (λ t. Told (Is t)) came mid read asked → IsInstanceTold path fault read asked
   came_refused Is (Ok t) read mid asked refuses given on = (on.1 ∙ given.1, told_of fault read (refuses t on.0 (same_text t given.0)))
-  came_refused Is (Err f) read mid asked refuses given on = absurd (let both : Err given.0 ≡ Ok text = given.2.0 ∙ is in cc both)
-
-  pub told_first : {A : Type 0} (next : Named → List (List ℕ) → Result A CommandFault → List (List ℕ) → Type 0) (outcome : Result A CommandFault) (asked : List (List ℕ))
-      → Then (ReadsInstance (Shelf content) path name) next [] outcome asked → IsInstanceTold path fault outcome asked
-  told_first next outcome asked run =
-      let read = came_refused (λ t. IsInstanceRead t name) run.is.came run.came run.is.mid run.mid (λ t came. came.first fault) run.is.is run.is.goes_on in
-      let end = stopped fault run.came next run.mid asked outcome read.1 run.goes_on in
-      (end.0 ∙ read.0, end.1)
+  came_refused Is (Err f) read mid asked refuses given on = absurd (let both : Err f ≡ Ok text = given.1.0 ∙ is in cc both)
 
   pub facts_first : (outcome : Result Answer CommandFault) (asked : List (List ℕ)) → RunsFacts (Shelf content) path name [] outcome asked → IsInstanceTold path fault outcome asked
   facts_first outcome asked run = came_refused (λ t. AreFactsAnswered t name) run.came outcome run.mid asked (λ t answered. answered.first fault) run.is run.goes_on
 
-  pub plan_first : (rounds : ℕ) (plan : List ℕ) (outcome : Result Answer CommandFault) (asked : List (List ℕ)) → SeeksPlan (Shelf content) rounds path name plan [] outcome asked
-      → IsInstanceTold path fault outcome asked ⊎ ((outcome ≡ Err Memory) × (asked ≡ []))
-  plan_first rounds plan outcome asked (inl run) = inl (told_first _ outcome asked run)
-  plan_first rounds plan outcome asked (inr wanting) = inr wanting
+  read_refused : (read : Result Named CommandFault) (asked : List (List ℕ)) → ReadsInstance (Shelf content) path name [] read asked → IsInstanceTold path fault read asked
+  read_refused read asked run = came_refused (λ t. IsInstanceRead t name) run.came read run.mid asked (λ t came. came.first fault) run.is run.goes_on
 
-  pub improve_first : (rounds : ℕ) (plan : List ℕ) (outcome : Result Answer CommandFault) (asked : List (List ℕ)) → ImprovesPlan (Shelf content) rounds path name plan [] outcome asked
-      → IsInstanceTold path fault outcome asked ⊎ ((outcome ≡ Err Memory) × (asked ≡ []))
-  improve_first rounds plan outcome asked (inl run) = inl (told_first _ outcome asked run)
-  improve_first rounds plan outcome asked (inr wanting) = inr wanting
-
-  pub drive_first : (plan : List ℕ) (before after : Streams) (outcome : Result Answer CommandFault) (asked : List (List ℕ)) → RunsDrive (Shelf content) path name plan [] before outcome asked after
-      → IsInstanceTold path fault outcome asked × (after ≡ before)
-  drive_first plan before after outcome asked run =
-      let loaded = told_first _ run.loaded asked run.loads in
-      let end = drives_stopped fault run.loaded before after outcome loaded.1 run.drives in
-      ((loaded.0, end.0), end.1)
-
-  pub resume_first : (plan log : List ℕ) (before after : Streams) (outcome : Result Answer CommandFault) (asked : List (List ℕ))
-      → RunsResume (Shelf content) path name plan log [] before outcome asked after → IsInstanceTold path fault outcome asked × (after ≡ before)
-  resume_first plan log before after outcome asked run =
-      let loaded = told_first _ run.loaded run.texts_mid run.loads in
-      let end = resumes_stopped (Shelf content) log fault run.loaded run.texts_mid asked before after outcome loaded.1 run.resumes in
-      ((end.2 ∙ loaded.0, end.0), end.1)
+  both_refused : (plan : List ℕ) (read : Result PlannedShop CommandFault) (asked : List (List ℕ)) → ReadsBoth (Shelf content) (record { path = path; name = name; plan = plan }) [] read asked
+      → IsInstanceTold path fault read asked
+  both_refused plan read asked run =
+      let named = read_refused run.came run.mid run.is in
+      let end = stopped fault run.came _ run.mid asked read named.1 run.goes_on in
+      (end.0 ∙ named.0, end.1)
 
   -- the first plan isn't asked for
   cells_refused : (plan : List ℕ) (plans : List (List ℕ)) (came : Result (List ℕ) CommandFault) (mid : List (List ℕ)) (outcome : Result Cells CommandFault) (asked : List (List ℕ))
@@ -124,7 +103,7 @@ module _ (content : List ℕ → Result (List ℕ) FileFault) (path text : List 
       let one = stopped fault on.is.came _ on.is.mid on.mid on.came refusal on.is.goes_on in
       let end = stopped fault on.came _ on.mid asked outcome one.1 on.goes_on in
       (end.0 ∙ one.0 ∙ on.is.is.1 ∙ given.1, end.1)
-  cells_refused plan plans (Err f) mid outcome asked given on = absurd (let both : Err given.0 ≡ Ok text = given.2.0 ∙ is in cc both)
+  cells_refused plan plans (Err f) mid outcome asked given on = absurd (let both : Err f ≡ Ok text = given.1.0 ∙ is in cc both)
 
   pub hub_first : (plan : List ℕ) (plans : List (List ℕ)) (before after : Streams) (outcome : Result Answer CommandFault) (asked : List (List ℕ))
       → RunsHub (Shelf content) path name (plan ∷ plans) [] before outcome asked after → IsInstanceTold path fault outcome asked × (after ≡ before)
@@ -132,3 +111,36 @@ module _ (content : List ℕ → Result (List ℕ) FileFault) (path text : List 
       let loaded = cells_refused plan plans run.loads.came run.loads.mid run.loaded asked run.loads.is run.loads.goes_on in
       let end = hub_stopped fault run.loaded before after outcome loaded.1 run.drives in
       ((loaded.0, end.0), end.1)
+
+module _ (content : List ℕ → Result (List ℕ) CommandFault) (pair : PairOfFiles) (text : List ℕ) (fault : OrFault)
+    (is : content pair.path ≡ Ok text) (first : IsFirstInstanceFault text pair.name fault) where
+  pub told_first : {A : Type 0} (next : PlannedShop → List (List ℕ) → Result A CommandFault → List (List ℕ) → Type 0) (outcome : Result A CommandFault) (asked : List (List ℕ))
+      → WithBoth (Shelf content) pair next [] outcome asked → IsInstanceTold pair.path fault outcome asked
+  told_first next outcome asked run =
+      let read = both_refused content pair.path text pair.name fault is first pair.plan run.came run.mid run.is in
+      let end = stopped fault run.came next run.mid asked outcome read.1 run.goes_on in
+      (end.0 ∙ read.0, end.1)
+
+  pub plan_first : (rounds : ℕ) (outcome : Result Answer CommandFault) (asked : List (List ℕ)) → SeeksPlan (Shelf content) rounds pair [] outcome asked
+      → IsInstanceTold pair.path fault outcome asked ⊎ ((outcome ≡ Err Memory) × (asked ≡ []))
+  plan_first rounds outcome asked (inl run) = inl (told_first _ outcome asked run)
+  plan_first rounds outcome asked (inr wanting) = inr wanting
+
+  pub improve_first : (rounds : ℕ) (outcome : Result Answer CommandFault) (asked : List (List ℕ)) → ImprovesPlan (Shelf content) rounds pair [] outcome asked
+      → IsInstanceTold pair.path fault outcome asked ⊎ ((outcome ≡ Err Memory) × (asked ≡ []))
+  improve_first rounds outcome asked (inl run) = inl (told_first _ outcome asked run)
+  improve_first rounds outcome asked (inr wanting) = inr wanting
+
+  pub drive_first : (before after : Streams) (outcome : Result Answer CommandFault) (asked : List (List ℕ)) → RunsDrive (Shelf content) pair [] before outcome asked after
+      → IsInstanceTold pair.path fault outcome asked × (after ≡ before)
+  drive_first before after outcome asked run =
+      let loaded = told_first _ run.loaded asked run.loads in
+      let end = drives_stopped fault run.loaded before after outcome loaded.1 run.drives in
+      ((loaded.0, end.0), end.1)
+
+  pub resume_first : (log : List ℕ) (before after : Streams) (outcome : Result Answer CommandFault) (asked : List (List ℕ))
+      → RunsResume (Shelf content) pair log [] before outcome asked after → IsInstanceTold pair.path fault outcome asked × (after ≡ before)
+  resume_first log before after outcome asked run =
+      let loaded = told_first _ run.loaded run.texts_mid run.loads in
+      let end = resumes_stopped (Shelf content) log fault run.loaded run.texts_mid asked before after outcome loaded.1 run.resumes in
+      ((end.2 ∙ loaded.0, end.0), end.1)

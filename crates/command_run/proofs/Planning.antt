@@ -1,5 +1,5 @@
 -- A search by planners that may propose more.
-use Rattle.std.proofs.Common.{◌≡◌, ℕ, zero, suc, ◌<◌, List, [], ◌∷◌, Option, Some, Result, Ok, Err, inl, inr, length, slice_index_or, subst, sym, arith}
+use Rattle.std.proofs.Common.{◌≡◌, ℕ, zero, suc, ◌<◌, List, [], ◌∷◌, Some, Result, Ok, Err, inl, inr, length, slice_index_or, subst, sym, arith}
 use Rattle.shop_base.specs.Shop.{JobShop}
 use Rattle.shop_base.specs.Plan.{PlannedShop, ShopPlan}
 use Rattle.plan_seek.specs.declared.seek_fault.SeekFault.{SeekFault}
@@ -9,12 +9,11 @@ use Rattle.plan_seek.specs.Tasks.{PlanTask}
 use Rattle.plan_seek.specs.Turns.{Turn, Proposals, MayPropose, MayFail, EachMayFail}
 use Rattle.plan_seek.specs.Search.{IsSought, IsSeekFault}
 use Rattle.command_answers.specs.declared.answer.Answer.{Answer}
-use Rattle.command_answers.specs.declared.reading.FileFault.{FileFault}
 use Rattle.command_answers.specs.declared.command_fault.CommandFault.{CommandFault}
 use Rattle.command_answers.specs.declared.command_fault.CommandFault.TheVariants.{Instance, Plan, Read, Write, InputTooLong, Memory}
 use Rattle.command_answers.specs.Search.{task_in, IsFound, IsSearchLine, IsSearchAnswer}
 use Rattle.command_answers.specs.Steps.{Then, GoesOn, Told}
-use Rattle.command_answers.specs.Commands.{ReadsInstance, ReadsPlan, WithPlan, RunsPlan}
+use Rattle.command_answers.specs.Commands.{PairOfFiles, ReadsBoth, RunsPlan}
 use Rattle.command_run.specs.Planners.{AreTheTwo, MayPlanAt, MayPlan}
 
 module _ (may wide : Proposals) (rounds proposers : ℕ) (within : (turn : Turn) (proposal : Proposal) → may turn proposal → wide turn proposal) where
@@ -67,20 +66,13 @@ then_more first next more before outcome after less run =
     record { came = run.came; mid = run.mid; is = run.is; goes_on = step_more next more run.came run.mid outcome after (λ a. less a run.mid) run.goes_on }
 
 -- what planners do is done by ones that may propose more
-pub runs_more : {W : Type 0} (gives : W → List ℕ → Result (List ℕ) FileFault → W → Type 0) (may wide : JobShop → Proposals)
+pub runs_more : {W : Type 0} (gives : W → List ℕ → Result (List ℕ) CommandFault → W → Type 0) (may wide : JobShop → Proposals)
     → ((shop : JobShop) (turn : Turn) (proposal : Proposal) → may shop turn proposal → wide shop turn proposal)
-    → (rounds proposers : ℕ) (path : List ℕ) (name : Option (List ℕ)) (plan : List ℕ) (before : W) (outcome : Result Answer CommandFault) (after : W)
-    → RunsPlan gives may rounds proposers path name plan before outcome after → RunsPlan gives wide rounds proposers path name plan before outcome after
-runs_more gives may wide within rounds proposers path name plan before outcome after =
-    then_more (ReadsInstance gives path name)
-    (λ named. WithPlan gives plan named.shop (λ p. Told (IsSearchAnswer (may p.shop) rounds proposers p)))
-    (λ named. WithPlan gives plan named.shop (λ p. Told (IsSearchAnswer (wide p.shop) rounds proposers p)))
-    before outcome after
-    (λ named mid. then_more (ReadsPlan gives plan)
-    (λ told. Told (IsSearchAnswer (may named.shop) rounds proposers (record { shop = named.shop; plan = told })))
-    (λ told. Told (IsSearchAnswer (wide named.shop) rounds proposers (record { shop = named.shop; plan = told })))
-    mid outcome after
-    (λ told last is. (answer_more (may named.shop) (wide named.shop) rounds proposers (within named.shop) (record { shop = named.shop; plan = told }) outcome is.0, is.1)))
+    → (rounds proposers : ℕ) (pair : PairOfFiles) (before : W) (outcome : Result Answer CommandFault) (after : W)
+    → RunsPlan gives may rounds proposers pair before outcome after → RunsPlan gives wide rounds proposers pair before outcome after
+runs_more gives may wide within rounds proposers pair before outcome after =
+    then_more (ReadsBoth gives pair) (λ p. Told (IsSearchAnswer (may p.shop) rounds proposers p)) (λ p. Told (IsSearchAnswer (wide p.shop) rounds proposers p)) before outcome after
+    (λ p last is. (answer_more (may p.shop) (wide p.shop) rounds proposers (within p.shop) p outcome is.0, is.1))
 
 module _ {B : Type 0} (may : B → JobShop → ℕ → Proposal → Type 0) (one two : B)
     (shifts : (shop : JobShop) (round : ℕ) (proposal : Proposal) → may two shop round proposal → proposal ≡ Some (shifted_order shop round)) where
@@ -95,12 +87,12 @@ module _ {B : Type 0} (may : B → JobShop → ℕ → Proposal → Type 0) (one
   both_may shop turn proposal m = at_place shop turn.round proposal turn.proposer m.who m.within m.stands m.given
 
 -- a search by the two planners
-pub seeks : {W B : Type 0} (gives : W → List ℕ → Result (List ℕ) FileFault → W → Type 0) (may : B → JobShop → ℕ → Proposal → Type 0) (planners : List B)
-    (rounds : ℕ) (path : List ℕ) (name : Option (List ℕ)) (plan : List ℕ) (before : W) (outcome : Result Answer CommandFault) (after : W)
-    → AreTheTwo may planners → RunsPlan gives (λ shop. MayPropose (λ b. may b shop) planners) rounds (length planners) path name plan before outcome after
-    → RunsPlan gives MayPlan rounds 2 path name plan before outcome after
-seeks gives may [] rounds path name plan before outcome after are run = absurd are
-seeks gives may (one ∷ []) rounds path name plan before outcome after are run = absurd are
-seeks gives may (one ∷ two ∷ []) rounds path name plan before outcome after are run =
-    runs_more gives (λ shop. MayPropose (λ b. may b shop) (one ∷ two ∷ [])) MayPlan (both_may may one two (λ shop round proposal. (are.1 shop round proposal).0)) rounds 2 path name plan before outcome after run
-seeks gives may (one ∷ two ∷ three ∷ planners) rounds path name plan before outcome after are run = absurd are
+pub seeks : {W B : Type 0} (gives : W → List ℕ → Result (List ℕ) CommandFault → W → Type 0) (may : B → JobShop → ℕ → Proposal → Type 0) (planners : List B)
+    (rounds : ℕ) (pair : PairOfFiles) (before : W) (outcome : Result Answer CommandFault) (after : W)
+    → AreTheTwo may planners → RunsPlan gives (λ shop. MayPropose (λ b. may b shop) planners) rounds (length planners) pair before outcome after
+    → RunsPlan gives MayPlan rounds 2 pair before outcome after
+seeks gives may [] rounds pair before outcome after are run = absurd are
+seeks gives may (one ∷ []) rounds pair before outcome after are run = absurd are
+seeks gives may (one ∷ two ∷ []) rounds pair before outcome after are run =
+    runs_more gives (λ shop. MayPropose (λ b. may b shop) (one ∷ two ∷ [])) MayPlan (both_may may one two (λ shop round proposal. (are.1 shop round proposal).0)) rounds 2 pair before outcome after run
+seeks gives may (one ∷ two ∷ three ∷ planners) rounds pair before outcome after are run = absurd are

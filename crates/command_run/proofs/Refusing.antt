@@ -2,7 +2,6 @@
 use Rattle.std.proofs.Common.{◌≡◌, ℕ, List, true, false, Result, Ok, Err, subst}
 use Rattle.command_words.specs.declared.words.WordsFault.{WordsFault}
 use Rattle.command_words.specs.declared.words.WordsFault.TheVariants.{Usage, Memory}
-use Rattle.command_answers.specs.declared.reading.FileFault.{FileFault}
 use Rattle.command_answers.specs.declared.answer.Answer.{Answer}
 use Rattle.command_answers.specs.declared.command_fault.CommandFault.{CommandFault}
 use Rattle.command_run.specs.Streams.{Streams, Errors}
@@ -10,7 +9,7 @@ use Rattle.command_run.specs.Ending.{Ends}
 use Rattle.command_run.specs.Unchosen.{ComesTo}
 use Rattle.command_run.specs.Program.{Follows}
 
-pub refused_ends : {W : Type 0} (gives : W → List ℕ → Result (List ℕ) FileFault → W → Type 0) (fault : WordsFault) (outcome : Result Answer CommandFault)
+pub refused_ends : {W : Type 0} (gives : W → List ℕ → Result (List ℕ) CommandFault → W → Type 0) (fault : WordsFault) (outcome : Result Answer CommandFault)
     (texts : W) (before : Streams) (told_before : Errors) (status : ℕ) (texts_after : W) (after : Streams) (told_after : Errors)
     → ComesTo fault outcome → Ends outcome before.output after.output told_before told_after status → texts_after ≡ texts → after.input ≡ before.input
     → Follows gives (Err fault) texts before told_before status texts_after after told_after

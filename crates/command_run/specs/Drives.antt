@@ -44,15 +44,20 @@ abbrev pub IsEnded : Bool → Result Answer CommandFault → Type 0
 IsEnded done (Ok answer) = (answer.text.items ≡ []) × (answer.status ≡ status_at done)
 IsEnded done (Err fault) = ⊥
 
-abbrev pub IsEndAnswer : Result DriveEnd DriveFault → Result Answer CommandFault → Type 0
-IsEndAnswer (Ok end) outcome = IsEnded end.done outcome
+abbrev pub IsEndAnswer : Result Bool DriveFault → Result Answer CommandFault → Type 0
+IsEndAnswer (Ok done) outcome = IsEnded done outcome
 IsEndAnswer (Err fault) outcome = outcome ≡ Err (drive_command_fault fault)
+
+-- whether the run has ended
+abbrev pub end_of_drive : Result DriveEnd DriveFault → Result Bool DriveFault
+end_of_drive (Ok end) = Ok end.done
+end_of_drive (Err fault) = Err fault
 
 -- the cell was driven, and the status says whether its run has ended
 pub record DrivesCell (v : VerifiedPlan) (before after : Streams) (outcome : Result Answer CommandFault) : Type 0 where
   pub end : Result DriveEnd DriveFault
   pub is : IsDrive v before after end
-  pub answer : IsEndAnswer end outcome
+  pub answer : IsEndAnswer (end_of_drive end) outcome
 
 -- the line of a plan that isn't accepted, unless memory ran out
 abbrev pub IsLineTold : Loaded → Result Answer CommandFault → Type 0

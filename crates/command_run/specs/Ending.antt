@@ -49,11 +49,6 @@ pub record IsLineOut (fault : CommandFault) (before after : Errors) (status : �
 abbrev pub IsTold : CommandFault → Errors → Errors → ℕ → Type 0
 IsTold fault before after status = IsLineOut fault before after status ⊎ (IsOfText fault × IsLineOut Memory before after status)
 
--- all that was taken is shown, or that failed
-abbrev pub IsShown : ℕ → Output → Output → Result ℕ CommandFault → Type 0
-IsShown status before after (Ok shown) = (shown ≡ status) × Keeps before.taken after.taken × (after.failed ≡ before.failed) × (after.pending ≡ [])
-IsShown status before after (Err fault) = (fault ≡ Write) × Keeps before.taken after.taken × (after.failed ≡ true)
-
 -- the answer was printed and shown, or its first bytes up to a write that failed
 abbrev pub IsPrinted : Answer → Output → Output → Result ℕ CommandFault → Type 0
 IsPrinted answer before after (Ok status) = (status ≡ answer.status) × Appends before.taken after.taken answer.text.items × (after.failed ≡ before.failed) × (after.pending ≡ [])

@@ -1,5 +1,5 @@
 -- What driving the cells of several plans comes to.
-use Rattle.std.specs.Prelude.{◌≡◌, ℕ, List, Result, Ok, Err, IfOk, IfErr, OnOk}
+use Rattle.std.specs.Prelude.{◌≡◌, ℕ, List, Bool, Result, Ok, Err, IfOk, IfErr, OnOk}
 use Rattle.std.specs.Io.KnownBytes.{Consumes}
 use Rattle.plan_verifier.specs.Accepted.{VerifiedPlan}
 use Rattle.cell_drive.specs.declared.driving_cells.HubEnd.{HubEnd}
@@ -11,7 +11,7 @@ use Rattle.command_answers.specs.declared.cells.Cells.{Cells}
 use Rattle.command_answers.specs.declared.cells.Cells.TheVariants.{Accepted, Line}
 use Rattle.command_answers.specs.declared.command_fault.CommandFault.{CommandFault}
 use Rattle.command_run.specs.Streams.{Streams}
-use Rattle.command_run.specs.Drives.{drive_command_fault, IsEnded}
+use Rattle.command_run.specs.Drives.{IsEndAnswer}
 
 -- the cells of the plans were driven to this end, and all that was answered is shown; or they were broken off by this fault
 pub record AreDrives (cells : List VerifiedPlan) (before after : Streams) (end : Result HubEnd DriveFault) : Type 0 where
@@ -21,15 +21,16 @@ pub record AreDrives (cells : List VerifiedPlan) (before after : Streams) (end :
       × AreBrokenOff fault cells input before.input.failed after.input.failed after.input.left before.output.failed after.output.failed before.output.taken after.output.taken after.output.pending)
   pub untouched : end ≡ Err WantOfMemory → after ≡ before
 
-abbrev pub IsHubAnswer : Result HubEnd DriveFault → Result Answer CommandFault → Type 0
-IsHubAnswer (Ok end) outcome = IsEnded end.all_done outcome
-IsHubAnswer (Err fault) outcome = outcome ≡ Err (drive_command_fault fault)
+-- whether all runs have ended
+abbrev pub end_of_hub : Result HubEnd DriveFault → Result Bool DriveFault
+end_of_hub (Ok end) = Ok end.all_done
+end_of_hub (Err fault) = Err fault
 
 -- the cells were driven, and the status says whether all their runs have ended
 pub record DrivesCells (cells : List VerifiedPlan) (before after : Streams) (outcome : Result Answer CommandFault) : Type 0 where
   pub end : Result HubEnd DriveFault
   pub are : AreDrives cells before after end
-  pub answer : IsHubAnswer end outcome
+  pub answer : IsEndAnswer (end_of_hub end) outcome
 
 -- what follows the loading of the plans: accepted ones drive their cells; else the line of the first that isn't is answered, with no byte read or written
 abbrev pub DrivesAll : Result Cells CommandFault → Streams → Streams → Result Answer CommandFault → Type 0

@@ -1,24 +1,34 @@
 -- What the program's clauses come to in plain words.
-use Rattle.std.specs.Prelude.{◌≡◌, ℕ, ◌≤◌, List, [], ◌∷◌, ◌++◌, ◌⊎◌, Option, true, Result, Ok, Err}
+use Rattle.std.specs.Prelude.{◌≡◌, ◌≢◌, ℕ, ◌≤◌, List, [], ◌∷◌, ◌++◌, ◌⊎◌, length, get_or, Option, Some, true, false, Result, Ok, Err}
+use Rattle.shop_base.specs.Shop.{JobShop}
+use Rattle.shop_base.specs.Plan.{PlannedShop, IsWellShaped}
 use Rattle.orlib_read.specs.declared.or_fault.OrFault.{OrFault}
-use Rattle.plan_verifier.specs.Accepted.{VerifiedPlan}
+use Rattle.plan_verifier.specs.Accepted.{VerifiedPlan, IsAcceptable}
 use Rattle.run_log.specs.Sinks.{TookPart}
 use Rattle.run_resume.specs.Replays.{TakenUp}
 use Rattle.cell_drive.specs.declared.driving.DriveEnd.{DriveEnd}
 use Rattle.cell_drive.specs.declared.driving_cells.HubEnd.{HubEnd}
 use Rattle.cell_drive.specs.declared.drive_fault.DriveFault.{DriveFault}
-use Rattle.command_answers.specs.declared.reading.FileFault.{FileFault}
+use Rattle.command_words.specs.declared.words.CommandName.TheVariants.{Drive}
+use Rattle.command_words.specs.Choice.{word_of, word_found, rows_found, files_in, instance_in, reasons_in, found_in}
 use Rattle.command_answers.specs.declared.answer.Answer.{Answer}
 use Rattle.command_answers.specs.declared.command_fault.CommandFault.{CommandFault}
 use Rattle.command_answers.specs.declared.command_fault.CommandFault.TheVariants.{Instance, Memory}
-use Rattle.command_answers.specs.AuditLines.{IsLogLine}
-use Rattle.command_answers.specs.GanttLines.{IsDrawnLog}
-use Rattle.command_answers.specs.Instances.{IsFirstInstanceFault}
-use Rattle.command_answers.specs.Commands.{RunsFacts, RunsShape, RunsCheck, RunsExplain, RunsLog}
+use Rattle.command_answers.specs.declared.logs.Telling.{Telling}
+use Rattle.command_answers.specs.Instances.{Tells, IsFirstInstanceFault}
+use Rattle.command_answers.specs.Plans.{TellBoth}
+use Rattle.command_answers.specs.Facts.{AreFacts}
+use Rattle.command_answers.specs.Shapes.{IsShapeLine}
+use Rattle.command_answers.specs.Checks.{IsCheckLine}
+use Rattle.command_answers.specs.Explains.{IsExplanation}
+use Rattle.command_answers.specs.LogLines.{IsLogLine}
+use Rattle.command_answers.specs.Search.{IsSearchAnswer}
+use Rattle.command_answers.specs.Improving.{IsImproveAnswer}
+use Rattle.command_answers.specs.Commands.{PairOfFiles, RunsFacts, RunsShape, RunsCheck, RunsExplain, RunsLog}
 use Rattle.command_run.specs.Streams.{Streams, Output, Errors}
-use Rattle.command_run.specs.Planners.{SeeksPlan}
-use Rattle.command_run.specs.Improvers.{ImprovesPlan}
-use Rattle.command_run.specs.Drives.{IsDrive}
+use Rattle.command_run.specs.Planners.{MayPlan, SeeksPlan}
+use Rattle.command_run.specs.Improvers.{AsksOne, ImprovesPlan}
+use Rattle.command_run.specs.Drives.{IsDrive, DrivesCell}
 use Rattle.command_run.specs.Resumes.{IsResume}
 use Rattle.command_run.specs.Hubs.{AreDrives}
 use Rattle.command_run.specs.Ending.{WasTold, IsLineOut}
@@ -27,7 +37,7 @@ use Rattle.command_run.specs.Program.{RunsDrive, RunsResume, RunsHub, RunsProgra
 -- ---- what is told first where the files don't change
 
 -- files that don't change, and the paths that were asked for
-abbrev pub Shelf : (List ℕ → Result (List ℕ) FileFault) → List (List ℕ) → List ℕ → Result (List ℕ) FileFault → List (List ℕ) → Type 0
+abbrev pub Shelf : (List ℕ → Result (List ℕ) CommandFault) → List (List ℕ) → List ℕ → Result (List ℕ) CommandFault → List (List ℕ) → Type 0
 Shelf content asked path given later = (given ≡ content path) × (later ≡ asked ++ path ∷ [])
 
 -- the instance's fault was told, unless memory ran out, and no other file was asked for
@@ -35,63 +45,145 @@ abbrev pub IsInstanceTold : {A : Type 0} → List ℕ → OrFault → Result A C
 IsInstanceTold path fault outcome asked = (asked ≡ path ∷ []) × ((outcome ≡ Err (Instance fault)) ⊎ (outcome ≡ Err Memory))
 
 -- where the text of the instance is refused, its first fault is told and no other file is asked for, when this runs
-abbrev pub TellsInstanceFirst : ((List (List ℕ) → List ℕ → Result (List ℕ) FileFault → List (List ℕ) → Type 0) → List ℕ → Option (List ℕ)
+abbrev pub TellsInstanceFirst : ((List (List ℕ) → List ℕ → Result (List ℕ) CommandFault → List (List ℕ) → Type 0) → PairOfFiles
     → List (List ℕ) → Result Answer CommandFault → List (List ℕ) → Type 0) → Type 0
-TellsInstanceFirst runs = (content : List ℕ → Result (List ℕ) FileFault) (path text : List ℕ) (name : Option (List ℕ)) (fault : OrFault) (outcome : Result Answer CommandFault) (asked : List (List ℕ))
-    → content path ≡ Ok text → IsFirstInstanceFault text name fault → runs (Shelf content) path name [] outcome asked → IsInstanceTold path fault outcome asked
-
-abbrev pub ShapeTellsInstanceFirst : Type 0
-ShapeTellsInstanceFirst = (plan : List ℕ) → TellsInstanceFirst (λ gives path name. RunsShape gives path name plan)
-
-abbrev pub CheckTellsInstanceFirst : Type 0
-CheckTellsInstanceFirst = (plan : List ℕ) → TellsInstanceFirst (λ gives path name. RunsCheck gives path name plan)
-
-abbrev pub ExplainTellsInstanceFirst : Type 0
-ExplainTellsInstanceFirst = (plan : List ℕ) → TellsInstanceFirst (λ gives path name. RunsExplain gives path name plan)
-
-abbrev pub AuditTellsInstanceFirst : Type 0
-AuditTellsInstanceFirst = (plan log : List ℕ) → TellsInstanceFirst (λ gives path name. RunsLog gives IsLogLine path name plan log)
-
-abbrev pub GanttTellsInstanceFirst : Type 0
-GanttTellsInstanceFirst = (plan log : List ℕ) → TellsInstanceFirst (λ gives path name. RunsLog gives IsDrawnLog path name plan log)
+TellsInstanceFirst runs = (content : List ℕ → Result (List ℕ) CommandFault) (pair : PairOfFiles) (text : List ℕ) (fault : OrFault) (outcome : Result Answer CommandFault) (asked : List (List ℕ))
+    → content pair.path ≡ Ok text → IsFirstInstanceFault text pair.name fault → runs (Shelf content) pair [] outcome asked → IsInstanceTold pair.path fault outcome asked
 
 abbrev pub FactsTellInstanceFirst : Type 0
-FactsTellInstanceFirst = TellsInstanceFirst (λ gives path name. RunsFacts gives path name)
+FactsTellInstanceFirst = TellsInstanceFirst (λ gives pair. RunsFacts gives pair.path pair.name)
 
--- so it is for `plan`, unless memory runs out for its planners before any file is asked for
+abbrev pub ShapeTellsInstanceFirst : Type 0
+ShapeTellsInstanceFirst = TellsInstanceFirst (λ gives pair. RunsShape gives pair)
+
+abbrev pub CheckTellsInstanceFirst : Type 0
+CheckTellsInstanceFirst = TellsInstanceFirst (λ gives pair. RunsCheck gives pair)
+
+abbrev pub ExplainTellsInstanceFirst : Type 0
+ExplainTellsInstanceFirst = TellsInstanceFirst (λ gives pair. RunsExplain gives pair)
+
+-- so it is for `audit` and for `gantt`
+abbrev pub LogTellsInstanceFirst : Type 0
+LogTellsInstanceFirst = (telling : Telling) (log : List ℕ) → TellsInstanceFirst (λ gives pair. RunsLog gives telling pair log)
+
+-- so it is, unless memory runs out for planners or improvers before any file is asked for
+abbrev pub TellsInstanceFirstOrNothing : ((List (List ℕ) → List ℕ → Result (List ℕ) CommandFault → List (List ℕ) → Type 0) → PairOfFiles
+    → List (List ℕ) → Result Answer CommandFault → List (List ℕ) → Type 0) → Type 0
+TellsInstanceFirstOrNothing runs = (content : List ℕ → Result (List ℕ) CommandFault) (pair : PairOfFiles) (text : List ℕ) (fault : OrFault) (outcome : Result Answer CommandFault) (asked : List (List ℕ))
+    → content pair.path ≡ Ok text → IsFirstInstanceFault text pair.name fault → runs (Shelf content) pair [] outcome asked
+    → IsInstanceTold pair.path fault outcome asked ⊎ ((outcome ≡ Err Memory) × (asked ≡ []))
+
 abbrev pub PlanTellsInstanceFirst : Type 0
-PlanTellsInstanceFirst = (rounds : ℕ) (plan : List ℕ) (content : List ℕ → Result (List ℕ) FileFault) (path text : List ℕ) (name : Option (List ℕ)) (fault : OrFault)
-    (outcome : Result Answer CommandFault) (asked : List (List ℕ))
-    → content path ≡ Ok text → IsFirstInstanceFault text name fault → SeeksPlan (Shelf content) rounds path name plan [] outcome asked
-    → IsInstanceTold path fault outcome asked ⊎ ((outcome ≡ Err Memory) × (asked ≡ []))
+PlanTellsInstanceFirst = (rounds : ℕ) → TellsInstanceFirstOrNothing (λ gives pair. SeeksPlan gives rounds pair)
 
--- and for `improve`, unless memory runs out for its improver before
 abbrev pub ImproveTellsInstanceFirst : Type 0
-ImproveTellsInstanceFirst = (rounds : ℕ) (plan : List ℕ) (content : List ℕ → Result (List ℕ) FileFault) (path text : List ℕ) (name : Option (List ℕ)) (fault : OrFault)
-    (outcome : Result Answer CommandFault) (asked : List (List ℕ))
-    → content path ≡ Ok text → IsFirstInstanceFault text name fault → ImprovesPlan (Shelf content) rounds path name plan [] outcome asked
-    → IsInstanceTold path fault outcome asked ⊎ ((outcome ≡ Err Memory) × (asked ≡ []))
+ImproveTellsInstanceFirst = (rounds : ℕ) → TellsInstanceFirstOrNothing (λ gives pair. ImprovesPlan gives rounds pair)
 
--- so it is for `drive`, with no byte read or written
+-- so it is, with no byte read or written
+abbrev pub TellsInstanceFirstUnread : ((List (List ℕ) → List ℕ → Result (List ℕ) CommandFault → List (List ℕ) → Type 0) → PairOfFiles
+    → List (List ℕ) → Streams → Result Answer CommandFault → List (List ℕ) → Streams → Type 0) → Type 0
+TellsInstanceFirstUnread runs = (before after : Streams) (content : List ℕ → Result (List ℕ) CommandFault) (pair : PairOfFiles) (text : List ℕ) (fault : OrFault) (outcome : Result Answer CommandFault) (asked : List (List ℕ))
+    → content pair.path ≡ Ok text → IsFirstInstanceFault text pair.name fault → runs (Shelf content) pair [] before outcome asked after
+    → IsInstanceTold pair.path fault outcome asked × (after ≡ before)
+
 abbrev pub DriveTellsInstanceFirst : Type 0
-DriveTellsInstanceFirst = (plan : List ℕ) (before after : Streams) (content : List ℕ → Result (List ℕ) FileFault) (path text : List ℕ) (name : Option (List ℕ)) (fault : OrFault)
-    (outcome : Result Answer CommandFault) (asked : List (List ℕ))
-    → content path ≡ Ok text → IsFirstInstanceFault text name fault → RunsDrive (Shelf content) path name plan [] before outcome asked after
-    → IsInstanceTold path fault outcome asked × (after ≡ before)
+DriveTellsInstanceFirst = TellsInstanceFirstUnread (λ gives pair. RunsDrive gives pair)
 
--- and for `resume`
 abbrev pub ResumeTellsInstanceFirst : Type 0
-ResumeTellsInstanceFirst = (plan log : List ℕ) (before after : Streams) (content : List ℕ → Result (List ℕ) FileFault) (path text : List ℕ) (name : Option (List ℕ)) (fault : OrFault)
-    (outcome : Result Answer CommandFault) (asked : List (List ℕ))
-    → content path ≡ Ok text → IsFirstInstanceFault text name fault → RunsResume (Shelf content) path name plan log [] before outcome asked after
-    → IsInstanceTold path fault outcome asked × (after ≡ before)
+ResumeTellsInstanceFirst = (log : List ℕ) → TellsInstanceFirstUnread (λ gives pair. RunsResume gives pair log)
 
--- and for `hub`, of any number of plans
+-- of any number of plans
 abbrev pub HubTellsInstanceFirst : Type 0
-HubTellsInstanceFirst = (plan : List ℕ) (plans : List (List ℕ)) (before after : Streams) (content : List ℕ → Result (List ℕ) FileFault) (path text : List ℕ) (name : Option (List ℕ)) (fault : OrFault)
-    (outcome : Result Answer CommandFault) (asked : List (List ℕ))
-    → content path ≡ Ok text → IsFirstInstanceFault text name fault → RunsHub (Shelf content) path name (plan ∷ plans) [] before outcome asked after
-    → IsInstanceTold path fault outcome asked × (after ≡ before)
+HubTellsInstanceFirst = (plans : List (List ℕ)) → TellsInstanceFirstUnread (λ gives pair. RunsHub gives pair.path pair.name (pair.plan ∷ plans))
+
+-- ---- what good files are answered by, where they don't change
+
+-- the files of a pair tell this shop and this plan
+pub record TellPlan (content : List ℕ → Result (List ℕ) CommandFault) (pair : PairOfFiles) (p : PlannedShop) : Type 0 where
+  pub instance : List ℕ
+  pub instance_is : content pair.path ≡ Ok instance
+  pub plan : List ℕ
+  pub plan_is : content pair.plan ≡ Ok plan
+  pub tell : TellBoth instance pair.name plan p
+
+-- an answer is one of these, for which these files were asked for, in this order; none is given for want of memory alone
+abbrev pub IsAnswered : {A : Type 0} → (A → Type 0) → List (List ℕ) → Result A CommandFault → List (List ℕ) → Type 0
+IsAnswered Is files (Ok answer) asked = Is answer × (asked ≡ files)
+IsAnswered Is files (Err fault) asked = fault ≡ Memory
+
+-- files that tell a shop and a plan are answered by a line of this kind, when this runs
+abbrev pub AnswersPlan : ((List (List ℕ) → List ℕ → Result (List ℕ) CommandFault → List (List ℕ) → Type 0) → PairOfFiles
+    → List (List ℕ) → Result Answer CommandFault → List (List ℕ) → Type 0) → (PlannedShop → Answer → Type 0) → Type 0
+AnswersPlan runs Is = (content : List ℕ → Result (List ℕ) CommandFault) (pair : PairOfFiles) (p : PlannedShop) (outcome : Result Answer CommandFault) (asked : List (List ℕ))
+    → TellPlan content pair p → runs (Shelf content) pair [] outcome asked → IsAnswered (Is p) (pair.path ∷ pair.plan ∷ []) outcome asked
+
+-- `facts`: the line of the facts of the shop that the file tells
+abbrev pub FactsAnswerShop : Type 0
+FactsAnswerShop = (content : List ℕ → Result (List ℕ) CommandFault) (path text description : List ℕ) (name : Option (List ℕ)) (shop : JobShop) (outcome : Result Answer CommandFault) (asked : List (List ℕ))
+    → content path ≡ Ok text → Tells text name description shop → RunsFacts (Shelf content) path name [] outcome asked → IsAnswered (λ answer. AreFacts answer shop) (path ∷ []) outcome asked
+
+abbrev pub ShapeAnswersPlan : Type 0
+ShapeAnswersPlan = AnswersPlan (λ gives pair. RunsShape gives pair) IsShapeLine
+
+abbrev pub CheckAnswersPlan : Type 0
+CheckAnswersPlan = AnswersPlan (λ gives pair. RunsCheck gives pair) IsCheckLine
+
+abbrev pub ExplainAnswersPlan : Type 0
+ExplainAnswersPlan = AnswersPlan (λ gives pair. RunsExplain gives pair) IsExplanation
+
+-- `audit` and `gantt`: where the plan is well shaped, what is told of the log
+abbrev pub LogIsAnswered : Type 0
+LogIsAnswered = (telling : Telling) (content : List ℕ → Result (List ℕ) CommandFault) (pair : PairOfFiles) (log text : List ℕ) (p : PlannedShop) (outcome : Result Answer CommandFault) (asked : List (List ℕ))
+    → TellPlan content pair p → content log ≡ Ok text → IsWellShaped p → RunsLog (Shelf content) telling pair log [] outcome asked
+    → IsAnswered (IsLogLine telling p text) (pair.path ∷ pair.plan ∷ log ∷ []) outcome asked
+
+-- `plan`: what the search allows for the numbers of this plan, unless memory runs out before
+abbrev pub PlanAnswersPlan : Type 0
+PlanAnswersPlan = (rounds : ℕ) (content : List ℕ → Result (List ℕ) CommandFault) (pair : PairOfFiles) (p : PlannedShop) (outcome : Result Answer CommandFault) (asked : List (List ℕ))
+    → TellPlan content pair p → SeeksPlan (Shelf content) rounds pair [] outcome asked → IsSearchAnswer (MayPlan p.shop) rounds 2 p outcome ⊎ (outcome ≡ Err Memory)
+
+-- `improve`: what the search from this plan comes to, unless memory runs out before
+abbrev pub ImproveAnswersPlan : Type 0
+ImproveAnswersPlan = (rounds : ℕ) (content : List ℕ → Result (List ℕ) CommandFault) (pair : PairOfFiles) (p : PlannedShop) (outcome : Result Answer CommandFault) (asked : List (List ℕ))
+    → TellPlan content pair p → ImprovesPlan (Shelf content) rounds pair [] outcome asked → IsImproveAnswer (AsksOne rounds) rounds p outcome ⊎ (outcome ≡ Err Memory)
+
+-- `drive`: where the plan is accepted, its cell is driven, unless memory runs out before
+abbrev pub DriveDrivesPlan : Type 0
+DriveDrivesPlan = (before after : Streams) (content : List ℕ → Result (List ℕ) CommandFault) (pair : PairOfFiles) (p : PlannedShop) (outcome : Result Answer CommandFault) (asked : List (List ℕ))
+    → TellPlan content pair p → IsWellShaped p → IsAcceptable p → RunsDrive (Shelf content) pair [] before outcome asked after
+    → ((v : VerifiedPlan) × (v.planned ≡ p) × DrivesCell v before after outcome) ⊎ (outcome ≡ Err Memory)
+
+-- ---- that a driven cell writes the same
+
+-- the words ask for `drive` with these files
+pub record AskForDrive (words : List (List ℕ)) (pair : PairOfFiles) : Type 0 where
+  pub taken : reasons_in words ≡ []
+  pub drive : word_found (found_in words) ≡ word_of Drive
+  pub path : pair.path ≡ get_or (files_in (rows_found (found_in words))) 0 []
+  pub name : pair.name ≡ instance_in (rows_found (found_in words))
+  pub plan : pair.plan ≡ get_or (files_in (rows_found (found_in words))) 1 []
+
+-- a run of the program on these words, over files that don't change: it read all of this input and wrote this, no device has failed, and memory wasn't wanting
+pub record RunsWell (content : List ℕ → Result (List ℕ) CommandFault) (words : List (List ℕ)) (input : List ℕ) (status : ℕ) (written : List ℕ) : Type 0 where
+  pub before : Streams
+  pub after : Streams
+  pub told_before : Errors
+  pub told_after : Errors
+  pub asked : List (List ℕ)
+  pub run : RunsProgram (Shelf content) words [] before told_before status asked after told_after
+  pub given : before.input.left ≡ Some input
+  pub start : List ℕ
+  pub empty : before.output.taken ≡ Some start
+  pub wrote : after.output.taken ≡ Some (start ++ written)
+  pub was_read : after.input.failed ≡ false
+  pub was_written : after.output.failed ≡ false
+  pub no_want : status ≢ 4
+
+-- `drive` with an accepted plan writes the same, and ends with the same status, whenever it is run on the same words, files and input, of no more bytes than the limit
+abbrev pub DriveWritesTheSame : Type 0
+DriveWritesTheSame = (content : List ℕ → Result (List ℕ) CommandFault) (words : List (List ℕ)) (pair : PairOfFiles) (p : PlannedShop) (input : List ℕ) (status other_status : ℕ) (written other : List ℕ)
+    → AskForDrive words pair → TellPlan content pair p → IsWellShaped p → IsAcceptable p → length input ≤ 67108864
+    → RunsWell content words input status written → RunsWell content words input other_status other → (other_status ≡ status) × (other ≡ written)
 
 -- ---- how the program ends
 
@@ -123,7 +215,7 @@ IsUnanswered before after = (after ≡ before) ⊎ ((after.failed ≡ true) × (
 abbrev pub WroteNoMore : Streams → Streams → Type 0
 WroteNoMore before after = (mid : Streams) × (WereDriven before mid × IsUnanswered mid.output after.output)
 
-module _ {W : Type 0} (gives : W → List ℕ → Result (List ℕ) FileFault → W → Type 0) where
+module _ {W : Type 0} (gives : W → List ℕ → Result (List ℕ) CommandFault → W → Type 0) where
   -- in each run of the program what fails is told on the error output with its status, and nothing else is told
   abbrev pub WhatFailsIsTold : Type 0
   WhatFailsIsTold = (words : List (List ℕ)) (texts : W) (before : Streams) (told_before : Errors) (status : ℕ) (texts_after : W) (after : Streams) (told_after : Errors)

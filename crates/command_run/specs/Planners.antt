@@ -3,11 +3,10 @@ use Rattle.std.specs.Prelude.{◌≡◌, ◌⊎◌, ◌↔◌, ℕ, zero, suc, L
 use Rattle.shop_base.specs.Shop.{JobShop}
 use Rattle.plan_seek.specs.Orders.{Proposal, shifted_order}
 use Rattle.plan_seek.specs.Turns.{Proposals}
-use Rattle.command_answers.specs.declared.reading.FileFault.{FileFault}
 use Rattle.command_answers.specs.declared.answer.Answer.{Answer}
 use Rattle.command_answers.specs.declared.command_fault.CommandFault.{CommandFault}
 use Rattle.command_answers.specs.declared.command_fault.CommandFault.TheVariants.{Memory}
-use Rattle.command_answers.specs.Commands.{RunsPlan}
+use Rattle.command_answers.specs.Commands.{PairOfFiles, RunsPlan}
 
 -- what the planner of a place may propose: the first one anything, and the second one the jobs in one row, shifted by the round
 abbrev pub MayPlanAt : ℕ → JobShop → ℕ → Proposal → Type 0
@@ -26,6 +25,6 @@ AreTheTwo may (one ∷ two ∷ []) =
 AreTheTwo may other = ⊥
 
 -- a plan is sought by the two planners, unless memory runs out before any file is asked for
-abbrev pub SeeksPlan : {W : Type 0} → (W → List ℕ → Result (List ℕ) FileFault → W → Type 0) → ℕ → List ℕ → Option (List ℕ) → List ℕ → W → Result Answer CommandFault → W → Type 0
-SeeksPlan gives rounds path name plan before outcome after =
-    RunsPlan gives MayPlan rounds 2 path name plan before outcome after ⊎ ((outcome ≡ Err Memory) × (after ≡ before))
+abbrev pub SeeksPlan : {W : Type 0} → (W → List ℕ → Result (List ℕ) CommandFault → W → Type 0) → ℕ → PairOfFiles → W → Result Answer CommandFault → W → Type 0
+SeeksPlan gives rounds pair before outcome after =
+    RunsPlan gives MayPlan rounds 2 pair before outcome after ⊎ ((outcome ≡ Err Memory) × (after ≡ before))

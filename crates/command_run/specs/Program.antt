@@ -7,15 +7,13 @@ use Rattle.command_words.specs.declared.words.CommandName.TheVariants.{Input as 
 use Rattle.command_words.specs.declared.words.WordsFault.{WordsFault}
 use Rattle.command_words.specs.declared.words.WordsFault.TheVariants.{Usage, Memory}
 use Rattle.command_words.specs.Choice.{IsChoiceOf, IsWithin, TellsOneOf, reasons_in, found_in}
-use Rattle.command_answers.specs.declared.reading.FileFault.{FileFault}
 use Rattle.command_answers.specs.declared.answer.Answer.{Answer}
 use Rattle.command_answers.specs.declared.cells.Cells.{Cells}
 use Rattle.command_answers.specs.declared.command_fault.CommandFault.{CommandFault}
 use Rattle.command_answers.specs.declared.command_fault.CommandFault.TheVariants.{Memory as Wanting}
 use Rattle.command_answers.specs.declared.loading.Loaded.{Loaded}
-use Rattle.command_answers.specs.AuditLines.{IsLogLine}
-use Rattle.command_answers.specs.GanttLines.{IsDrawnLog}
-use Rattle.command_answers.specs.Commands.{RunsFacts, RunsShape, RunsCheck, RunsExplain, RunsLog, Loads}
+use Rattle.command_answers.specs.declared.logs.Telling.TheVariants.{Numbers, Drawing}
+use Rattle.command_answers.specs.Commands.{PairOfFiles, RunsFacts, RunsShape, RunsCheck, RunsExplain, RunsLog, Loads}
 use Rattle.command_answers.specs.Cells.{LoadsCells}
 use Rattle.command_run.specs.Streams.{Streams, Errors}
 use Rattle.command_run.specs.Inputs.{RunsInput}
@@ -45,18 +43,22 @@ plans_in chosen = map string_bytes (drop 1 chosen.files.items)
 abbrev pub name_in : Chosen → Option (List ℕ)
 name_in chosen = option_map string_bytes chosen.instance
 
-module _ {W : Type 0} (gives : W → List ℕ → Result (List ℕ) FileFault → W → Type 0) where
+-- the files of the instance and of the first plan
+abbrev pub pair_in : Chosen → PairOfFiles
+pair_in chosen = record { path = file_at chosen 0; name = name_in chosen; plan = file_at chosen 1 }
+
+module _ {W : Type 0} (gives : W → List ℕ → Result (List ℕ) CommandFault → W → Type 0) where
   -- the plan is loaded, and then the input is read
-  pub record RunsDrive (path : List ℕ) (name : Option (List ℕ)) (plan : List ℕ) (texts : W) (before : Streams) (outcome : Result Answer CommandFault) (texts_after : W) (after : Streams) : Type 0 where
+  pub record RunsDrive (pair : PairOfFiles) (texts : W) (before : Streams) (outcome : Result Answer CommandFault) (texts_after : W) (after : Streams) : Type 0 where
     pub loaded : Result Loaded CommandFault
-    pub loads : Loads gives path name plan texts loaded texts_after
+    pub loads : Loads gives pair texts loaded texts_after
     pub drives : Drives loaded before after outcome
 
   -- the plan is loaded, then its log taken up, and then the input is read
-  pub record RunsResume (path : List ℕ) (name : Option (List ℕ)) (plan log : List ℕ) (texts : W) (before : Streams) (outcome : Result Answer CommandFault) (texts_after : W) (after : Streams) : Type 0 where
+  pub record RunsResume (pair : PairOfFiles) (log : List ℕ) (texts : W) (before : Streams) (outcome : Result Answer CommandFault) (texts_after : W) (after : Streams) : Type 0 where
     pub loaded : Result Loaded CommandFault
     pub texts_mid : W
-    pub loads : Loads gives path name plan texts loaded texts_mid
+    pub loads : Loads gives pair texts loaded texts_mid
     pub resumes : Resumes gives log loaded texts_mid before outcome texts_after after
 
   -- all plans are loaded, and then the input is read
@@ -72,25 +74,25 @@ module _ {W : Type 0} (gives : W → List ℕ → Result (List ℕ) FileFault �
   RunsCommand Facts chosen texts before outcome texts_after after =
       RunsFacts gives (file_at chosen 0) (name_in chosen) texts outcome texts_after × (after ≡ before)
   RunsCommand Shape chosen texts before outcome texts_after after =
-      RunsShape gives (file_at chosen 0) (name_in chosen) (file_at chosen 1) texts outcome texts_after × (after ≡ before)
+      RunsShape gives (pair_in chosen) texts outcome texts_after × (after ≡ before)
   RunsCommand Check chosen texts before outcome texts_after after =
-      RunsCheck gives (file_at chosen 0) (name_in chosen) (file_at chosen 1) texts outcome texts_after × (after ≡ before)
+      RunsCheck gives (pair_in chosen) texts outcome texts_after × (after ≡ before)
   RunsCommand Explain chosen texts before outcome texts_after after =
-      RunsExplain gives (file_at chosen 0) (name_in chosen) (file_at chosen 1) texts outcome texts_after × (after ≡ before)
+      RunsExplain gives (pair_in chosen) texts outcome texts_after × (after ≡ before)
   RunsCommand Plan chosen texts before outcome texts_after after =
-      SeeksPlan gives chosen.rounds (file_at chosen 0) (name_in chosen) (file_at chosen 1) texts outcome texts_after × (after ≡ before)
+      SeeksPlan gives chosen.rounds (pair_in chosen) texts outcome texts_after × (after ≡ before)
   RunsCommand Improve chosen texts before outcome texts_after after =
-      ImprovesPlan gives chosen.rounds (file_at chosen 0) (name_in chosen) (file_at chosen 1) texts outcome texts_after × (after ≡ before)
+      ImprovesPlan gives chosen.rounds (pair_in chosen) texts outcome texts_after × (after ≡ before)
   RunsCommand Drive chosen texts before outcome texts_after after =
-      RunsDrive (file_at chosen 0) (name_in chosen) (file_at chosen 1) texts before outcome texts_after after
+      RunsDrive (pair_in chosen) texts before outcome texts_after after
   RunsCommand Resume chosen texts before outcome texts_after after =
-      RunsResume (file_at chosen 0) (name_in chosen) (file_at chosen 1) (file_at chosen 2) texts before outcome texts_after after
+      RunsResume (pair_in chosen) (file_at chosen 2) texts before outcome texts_after after
   RunsCommand Hub chosen texts before outcome texts_after after =
       RunsHub (file_at chosen 0) (name_in chosen) (plans_in chosen) texts before outcome texts_after after
   RunsCommand Audit chosen texts before outcome texts_after after =
-      RunsLog gives IsLogLine (file_at chosen 0) (name_in chosen) (file_at chosen 1) (file_at chosen 2) texts outcome texts_after × (after ≡ before)
+      RunsLog gives Numbers (pair_in chosen) (file_at chosen 2) texts outcome texts_after × (after ≡ before)
   RunsCommand Gantt chosen texts before outcome texts_after after =
-      RunsLog gives IsDrawnLog (file_at chosen 0) (name_in chosen) (file_at chosen 1) (file_at chosen 2) texts outcome texts_after × (after ≡ before)
+      RunsLog gives Drawing (pair_in chosen) (file_at chosen 2) texts outcome texts_after × (after ≡ before)
 
   -- the command is run, and then its answer printed, or its fault told
   pub record Commands (chosen : Chosen) (texts : W) (before : Streams) (told_before : Errors) (status : ℕ)

@@ -1,5 +1,5 @@
 -- What taking up the run of an accepted plan comes to.
-use Rattle.std.specs.Prelude.{◌≡◌, List, [], ℕ, ◌++◌, codes, decimal, length, take, Option, Some, None, Result, Ok, Err, IfOk, IfErr, OnOk}
+use Rattle.std.specs.Prelude.{◌≡◌, List, [], ℕ, length, take, Option, Some, None, Result, Ok, Err, IfOk, IfErr, OnOk}
 use Rattle.shop_base.specs.Cell.{start}
 use Rattle.plan_verifier.specs.Accepted.{VerifiedPlan}
 use Rattle.plan_verifier.specs.declared.verdict.Verdict.TheVariants.{Accepted, Refused}
@@ -13,15 +13,16 @@ use Rattle.run_resume.specs.CutLogs.{ended_lines, IsTakenUp, IsResumeFault, IsOn
 use Rattle.run_resume.specs.LateEvents.{AreLate}
 use Rattle.run_resume.specs.Replays.{TakenUp}
 use Rattle.run_resume.specs.Resuming.{IsResumedThrough, IsBrokenOff}
-use Rattle.command_answers.specs.declared.reading.FileFault.{FileFault}
 use Rattle.command_answers.specs.declared.answer.Answer.{Answer}
 use Rattle.command_answers.specs.declared.command_fault.CommandFault.{CommandFault}
 use Rattle.command_answers.specs.declared.command_fault.CommandFault.TheVariants.{Memory}
 use Rattle.command_answers.specs.declared.loading.Loaded.{Loaded}
 use Rattle.command_answers.specs.declared.loading.Loaded.TheVariants.{NotShaped, Judged}
+use Rattle.command_answers.specs.Steps.{IsOrMemory}
 use Rattle.command_answers.specs.Texts.{Asks}
+use Rattle.command_answers.specs.LogLines.{log_refused_line}
 use Rattle.command_run.specs.Streams.{Streams}
-use Rattle.command_run.specs.Drives.{IsEndAnswer, IsLineTold}
+use Rattle.command_run.specs.Drives.{IsEndAnswer, IsLineTold, end_of_drive}
 
 -- the text is a log of the plan that is taken up, with all that is told of it; or this is its only fault, unless memory ran out
 pub record IsTaking (v : VerifiedPlan) (text : List ℕ) (taken : Result TakenUp ResumeFault) : Type 0 where
@@ -49,18 +50,23 @@ resume_command_fault WantOfMemory = Some Memory
 resume_command_fault fault = None
 
 -- the line of a fault
-pub record IsFaultLine (fault : ResumeFault) (answer : Answer) : Type 0 where
-  pub line : answer.text.items ≡ codes "log refused " ++ decimal (fault_line fault) ++ codes " " ++ fault_name fault ++ codes "\n"
-  pub refused : answer.status ≡ 1
+abbrev pub IsFaultLine : ResumeFault → Answer → Type 0
+IsFaultLine fault answer = (answer.text.items ≡ log_refused_line (fault_line fault) (fault_name fault)) × (answer.status ≡ 1)
 
 -- want of memory is a fault of the command, and any other fault is answered by its line, unless memory runs out
 abbrev pub IsFaultTold : ResumeFault → Result Answer CommandFault → Type 0
 IsFaultTold WantOfMemory outcome = outcome ≡ Err Memory
-IsFaultTold fault outcome = IfOk outcome (IsFaultLine fault) × IfErr outcome (λ other. other ≡ Memory)
+IsFaultTold fault outcome = IsOrMemory (IsFaultLine fault) outcome
 
--- what was taken up was driven on, and the status says whether its run has ended; of a log that isn't taken up the fault is told, with no byte read or written
+-- what was taken up was driven on, and the status says whether its run has ended
+pub record ResumesOn (t : TakenUp) (before after : Streams) (outcome : Result Answer CommandFault) : Type 0 where
+  pub end : Result DriveEnd DriveFault
+  pub is : IsResume t before after end
+  pub answer : IsEndAnswer (end_of_drive end) outcome
+
+-- what follows taking up: it is driven on; of a log that isn't taken up the fault is told, with no byte read or written
 abbrev pub ResumesTaken : Result TakenUp ResumeFault → Streams → Streams → Result Answer CommandFault → Type 0
-ResumesTaken (Ok t) before after outcome = (end : Result DriveEnd DriveFault) × IsResume t before after end × IsEndAnswer end outcome
+ResumesTaken (Ok t) before after outcome = ResumesOn t before after outcome
 ResumesTaken (Err fault) before after outcome = IsFaultTold fault outcome × (after ≡ before)
 
 -- the text of the log that came is taken up, and then driven on
@@ -68,7 +74,7 @@ abbrev pub ResumesText : VerifiedPlan → Result (List ℕ) CommandFault → Str
 ResumesText v (Ok text) before after outcome = (taken : Result TakenUp ResumeFault) × IsTaking v text taken × ResumesTaken taken before after outcome
 ResumesText v (Err fault) before after outcome = (outcome ≡ Err fault) × (after ≡ before)
 
-module _ {W : Type 0} (gives : W → List ℕ → Result (List ℕ) FileFault → W → Type 0) (log : List ℕ) where
+module _ {W : Type 0} (gives : W → List ℕ → Result (List ℕ) CommandFault → W → Type 0) (log : List ℕ) where
   -- the log is asked for, once the plan is accepted
   pub record ResumesLog (v : VerifiedPlan) (texts : W) (before : Streams) (outcome : Result Answer CommandFault) (texts_after : W) (after : Streams) : Type 0 where
     pub text : Result (List ℕ) CommandFault

@@ -1,11 +1,15 @@
-//! The command `drive`.
+//! The command `drive`, and what the other ones that drive cells share with it.
 
-ghost use Rattle.std.specs.Prelude.{◌≡◌, [], ℕ, List};
+ghost use Rattle.std.specs.Prelude.{◌≡◌, []};
 ghost use Rattle.command_run.specs.Streams.{streams_of};
-ghost use Rattle.command_run.specs.Drives.{IsDrive, IsEndAnswer, DrivesCell, IsLineTold, Drives};
+ghost use Rattle.command_run.specs.Drives.{IsDrive, IsEndAnswer, DrivesCell, IsLineTold, Drives, status_at, end_of_drive};
+ghost use Rattle.command_run.specs.Program.{RunsDrive};
 
+use crate::streams::Streams;
 use cell_drive::{DriveEnd, DriveFault, Outlet, Source, drive};
-use command_answers::{Answer, CommandFault, GOOD, Loaded, REFUSED, loaded_answer};
+use command_answers::{
+    Answer, Answered, CommandFault, GOOD, Loaded, Pair, REFUSED, Texts, load_files, loaded_answer,
+};
 use plan_verifier::{Verdict, Verified};
 use std::alloc::Global;
 
@@ -29,45 +33,49 @@ impl From<DriveFault> for Told {
     }
 }
 
-/// Drives the cell of the plan if it is accepted; else its line is the answer.
-pub(crate) fn drive_cell<R: Source, W: Outlet>(
+/// Loads a plan, and drives its cell if it is accepted; else its line is the answer.
+pub(crate) fn drive_answer<T: Texts, R: Source, W: Outlet>(
+    alloc: Global,
+    texts: &mut T,
+    pair: &Pair<'_>,
+    streams: &mut Streams<R, W>,
+) -> Answered
+    ensures { RunsDrive T.gives pair.now texts.old streams.old result texts.new streams.new }
+{
+    let loaded = load_files(alloc, texts, pair);
+    drive_loaded(alloc, loaded, streams)
+}
+
+fn drive_loaded<R: Source, W: Outlet>(
     alloc: Global,
     loaded: Result<Loaded, CommandFault>,
-    input: &mut R,
-    output: &mut W,
-) -> Result<Answer, CommandFault>
-    ensures { Drives loaded
-        (streams_of R.left R.failed W.taken W.failed W.pending input.old output.old)
-        (streams_of R.left R.failed W.taken W.failed W.pending input.new output.new) result }
+    streams: &mut Streams<R, W>,
+) -> Answered
+    ensures { Drives loaded streams.old streams.new result }
 {
     match loaded {
-        Ok(Loaded::Judged(Verdict::Accepted(verified))) => {
-            drive_accepted(alloc, verified, input, output)
-        }
+        Ok(Loaded::Judged(Verdict::Accepted(verified))) => drive_cell(alloc, verified, streams),
         Ok(other) => line_told(alloc, &other),
         Err(fault) => Err(fault),
     }
 }
 
 /// The line of a plan that isn't accepted.
-pub(crate) fn line_told(alloc: Global, loaded: &Loaded) -> Result<Answer, CommandFault>
+pub(crate) fn line_told(alloc: Global, loaded: &Loaded) -> Answered
     ensures { IsLineTold loaded.now result }
 {
     Ok(loaded_answer(alloc, loaded)?)
 }
 
 /// Drives the cell of an accepted plan to the end of the input.
-fn drive_accepted<R: Source, W: Outlet>(
+fn drive_cell<R: Source, W: Outlet>(
     alloc: Global,
     verified: Verified,
-    input: &mut R,
-    output: &mut W,
-) -> Result<Answer, CommandFault>
-    ensures { DrivesCell verified
-        (streams_of R.left R.failed W.taken W.failed W.pending input.old output.old)
-        (streams_of R.left R.failed W.taken W.failed W.pending input.new output.new) result }
+    streams: &mut Streams<R, W>,
+) -> Answered
+    ensures { DrivesCell verified streams.old streams.new result }
 {
-    let end = driven(alloc, verified, input, output);
+    let end = driven(alloc, verified, &mut streams.input, &mut streams.output);
     end_answer(alloc, end)
 }
 
@@ -85,17 +93,28 @@ fn driven<R: Source, W: Outlet>(
 }
 
 /// What is answered at the end of a run, whose lines are written already.
-pub(crate) fn end_answer(
-    alloc: Global,
-    end: Result<DriveEnd, DriveFault>,
-) -> Result<Answer, CommandFault>
-    ensures { IsEndAnswer end result }
+pub(crate) fn end_answer(alloc: Global, end: Result<DriveEnd, DriveFault>) -> Answered
+    ensures { IsEndAnswer (end_of_drive end) result }
 {
     match end {
-        Ok(end) => Ok(Answer {
-            text: Vec::new(alloc),
-            status: if end.done { GOOD } else { REFUSED },
-        }),
+        Ok(end) => Ok(ended(alloc, done(end))),
         Err(fault) => Err(Told::from(fault).0),
     }
+}
+
+/// Whether the run of a cell has ended. What else is at its end is dropped.
+fn done(end: DriveEnd) -> bool
+    ensures { result ≡ end.done }
+{
+    end.done
+}
+
+/// What is answered at the end of runs, whose lines are written already: whether all have ended.
+pub(crate) fn ended(alloc: Global, done: bool) -> Answer
+    ensures text { result.text.items ≡ [] }
+    ensures status { result.status ≡ status_at done }
+{
+    let status = if done { GOOD } else { REFUSED };
+    let text = Vec::new(alloc);
+    Answer { text, status }
 }

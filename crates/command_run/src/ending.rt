@@ -2,29 +2,29 @@
 
 ghost use Rattle.std.specs.Prelude.{◌≡◌, IfOk, IfErr};
 ghost use Rattle.command_run.specs.Streams.{errors_of, output_of};
-ghost use Rattle.command_run.specs.Ending.{WasTold, IsRefusalLine, IsFaultLine, IsOfText, IsTextLine, IsLineOut, IsTold, IsShown, IsPrinted, IsToldAfter, Ends};
+ghost use Rattle.command_run.specs.Ending.{WasTold, IsRefusalLine, IsFaultLine, IsOfText, IsTextLine, IsTold, IsPrinted, Ends};
 
-use cell_drive::Outlet;
-use command_answers::{Answer, CommandFault};
+use crate::streams::Streams;
+use cell_drive::{Outlet, Source};
+use command_answers::{Answer, Answered, CommandFault};
 use run_log::{Sink, put_all};
 use std::alloc::{AllocError, Global};
 
 /// Prints the answer or tells the fault, and gives the status that the program ends with.
-pub(crate) fn end<W: Outlet, E: Sink>(
+pub(crate) fn end<R: Source, W: Outlet, E: Sink>(
     alloc: Global,
-    outcome: Result<Answer, CommandFault>,
-    output: &mut W,
+    outcome: Answered,
+    streams: &mut Streams<R, W>,
     errors: &mut E,
 ) -> u8
-    ensures { Ends outcome (output_of W.taken W.failed W.pending output.old)
-        (output_of W.taken W.failed W.pending output.new)
-        (errors_of E.taken E.failed errors.old) (errors_of E.taken E.failed errors.new) result }
+    ensures ends { Ends outcome streams.old.output streams.new.output (errors_of E.taken E.failed errors.old) (errors_of E.taken E.failed errors.new) result }
+    ensures input { streams.new.input ≡ streams.old.input }
 {
     match outcome {
-        Ok(answer) => {
-            let printed = print(&answer, output);
-            tell_after(alloc, printed, errors)
-        }
+        Ok(answer) => match print(&answer, &mut streams.output) {
+            Ok(status) => status,
+            Err(fault) => tell(alloc, &fault, errors),
+        },
         Err(fault) => tell(alloc, &fault, errors),
     }
 }
@@ -35,29 +35,11 @@ fn print<W: Outlet>(answer: &Answer, output: &mut W) -> Result<u8, CommandFault>
         (output_of W.taken W.failed W.pending output.new) result }
 {
     match put_all(output, &answer.text) {
-        Ok(()) => show(answer.status, output),
+        Ok(()) => match output.show() {
+            Ok(()) => Ok(answer.status),
+            Err(_) => Err(CommandFault::Write),
+        },
         Err(_) => Err(CommandFault::Write),
-    }
-}
-
-/// Shows what was written.
-fn show<W: Outlet>(status: u8, output: &mut W) -> Result<u8, CommandFault>
-    ensures { IsShown status (output_of W.taken W.failed W.pending output.old)
-        (output_of W.taken W.failed W.pending output.new) result }
-{
-    match output.show() {
-        Ok(()) => Ok(status),
-        Err(_) => Err(CommandFault::Write),
-    }
-}
-
-fn tell_after<E: Sink>(alloc: Global, printed: Result<u8, CommandFault>, errors: &mut E) -> u8
-    ensures { IsToldAfter printed (errors_of E.taken E.failed errors.old)
-        (errors_of E.taken E.failed errors.new) result }
-{
-    match printed {
-        Ok(status) => status,
-        Err(fault) => tell(alloc, &fault, errors),
     }
 }
 
@@ -67,8 +49,11 @@ pub fn tell<E: Sink>(alloc: Global, fault: &CommandFault, errors: &mut E) -> u8
     ensures { IsTold fault.now (errors_of E.taken E.failed errors.old) (errors_of E.taken E.failed errors.new) result }
 {
     match text_line(alloc, fault) {
-        Ok(line) => tell_fault(fault, &line, errors),
-        Err(error) => tell_fault(&CommandFault::from(error), b"", errors),
+        Ok(line) => tell_line(errors, fault_line(fault, &line), fault.status()),
+        Err(error) => {
+            let wanting = CommandFault::from(error);
+            tell_line(errors, fault_line(&wanting, b""), wanting.status())
+        }
     }
 }
 
@@ -102,14 +87,6 @@ fn refusal_line(
     line.extend_from_slice(words.as_bytes())?;
     line.push(b'\n')?;
     Ok(line)
-}
-
-/// Tells a fault, and gives its status. The line is that of a refused text.
-fn tell_fault<E: Sink>(fault: &CommandFault, line: &[u8], errors: &mut E) -> u8
-    requires { IsTextLine fault.now line.now }
-    ensures { IsLineOut fault.now (errors_of E.taken E.failed errors.old) (errors_of E.taken E.failed errors.new) result }
-{
-    tell_line(errors, fault_line(fault, line), fault.status())
 }
 
 /// What is said of a fault. The line is that of a refused text.

@@ -5,37 +5,27 @@ ghost use Rattle.command_answers.specs.Texts.{text_of};
 ghost use Rattle.command_run.specs.Streams.{input_of};
 ghost use Rattle.command_run.specs.Inputs.{IsInputRead, RunsInput};
 
+use crate::streams::Streams;
 use cell_drive::{MAX_PIECE, Outlet, Source, reading_room};
-use command_answers::{Answer, CommandFault, facts_of};
+use command_answers::{Answered, CommandFault, facts_of};
 use std::alloc::Global;
 use text_lines::MAX_INPUT;
 
 /// The facts of the instance that the input tells.
 pub(crate) fn input_answer<R: Source, W: Outlet>(
     alloc: Global,
-    input: &mut R,
-    output: &W,
-) -> Result<Answer, CommandFault>
-    requires { W.pending output.now ≡ [] }
-    ensures { RunsInput (input_of R.left R.failed input.old) result (input_of R.left R.failed input.new) }
+    streams: &mut Streams<R, W>,
+) -> Answered
+    requires { streams.old.output.pending ≡ [] }
+    ensures read { RunsInput streams.old.input result streams.new.input }
+    ensures output { streams.new.output ≡ streams.old.output }
 {
-    let text = read_input(alloc, input, output)?;
+    let mut room = reading_room(alloc)?;
+    let text = read_pieces(alloc, &mut streams.input, &mut room, &streams.output)?;
     facts_of(alloc, &text, None)
 }
 
 /// All bytes that the input gives until its end.
-fn read_input<R: Source, W: Outlet>(
-    alloc: Global,
-    input: &mut R,
-    output: &W,
-) -> Result<Vec<u8>, CommandFault>
-    requires { W.pending output.now ≡ [] }
-    ensures { IsInputRead (input_of R.left R.failed input.old) (text_of result) (input_of R.left R.failed input.new) }
-{
-    let mut room = reading_room(alloc)?;
-    read_pieces(alloc, input, &mut room, output)
-}
-
 fn read_pieces<R: Source, W: Outlet>(
     alloc: Global,
     input: &mut R,

@@ -1,8 +1,10 @@
 //! What the program's clauses come to in plain words. Nothing is done here: a function's contract is the law.
 
 ghost use Rattle.command_run.specs.Laws.{FactsTellInstanceFirst, ShapeTellsInstanceFirst, CheckTellsInstanceFirst, ExplainTellsInstanceFirst};
-ghost use Rattle.command_run.specs.Laws.{PlanTellsInstanceFirst, ImproveTellsInstanceFirst, DriveTellsInstanceFirst, ResumeTellsInstanceFirst};
-ghost use Rattle.command_run.specs.Laws.{HubTellsInstanceFirst, AuditTellsInstanceFirst, GanttTellsInstanceFirst};
+ghost use Rattle.command_run.specs.Laws.{LogTellsInstanceFirst, PlanTellsInstanceFirst, ImproveTellsInstanceFirst};
+ghost use Rattle.command_run.specs.Laws.{DriveTellsInstanceFirst, ResumeTellsInstanceFirst, HubTellsInstanceFirst};
+ghost use Rattle.command_run.specs.Laws.{FactsAnswerShop, ShapeAnswersPlan, CheckAnswersPlan, ExplainAnswersPlan, LogIsAnswered};
+ghost use Rattle.command_run.specs.Laws.{PlanAnswersPlan, ImproveAnswersPlan, DriveDrivesPlan, DriveWritesTheSame};
 ghost use Rattle.command_run.specs.Laws.{WhatFailsIsTold, NothingIsHeldBack, WhatFailsIsNoAnswer};
 
 use command_answers::Texts;
@@ -14,13 +16,31 @@ pub fn instance_first()
     ensures shape { ShapeTellsInstanceFirst }
     ensures check { CheckTellsInstanceFirst }
     ensures explain { ExplainTellsInstanceFirst }
+    ensures log { LogTellsInstanceFirst }
     ensures plan { PlanTellsInstanceFirst }
     ensures improve { ImproveTellsInstanceFirst }
     ensures drive { DriveTellsInstanceFirst }
     ensures resume { ResumeTellsInstanceFirst }
     ensures hub { HubTellsInstanceFirst }
-    ensures audit { AuditTellsInstanceFirst }
-    ensures gantt { GanttTellsInstanceFirst }
+{}
+
+/// Files that tell a shop and a plan are answered, unless memory runs out: by the command's line for that shop and that
+/// plan, or by the driven cell of the plan if it is accepted.
+pub fn good_files_are_answered()
+    ensures facts { FactsAnswerShop }
+    ensures shape { ShapeAnswersPlan }
+    ensures check { CheckAnswersPlan }
+    ensures explain { ExplainAnswersPlan }
+    ensures log { LogIsAnswered }
+    ensures plan { PlanAnswersPlan }
+    ensures improve { ImproveAnswersPlan }
+    ensures drive { DriveDrivesPlan }
+{}
+
+/// `drive` with an accepted plan, run again on the same words, files and input, writes the same bytes and ends with the
+/// same status, unless memory runs out or a device fails.
+pub fn drive_writes_the_same()
+    ensures { DriveWritesTheSame }
 {}
 
 /// Each run of the program ends with 0 or 1 and tells nothing on the error output, or it ends with 2 or more, and what

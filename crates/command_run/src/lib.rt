@@ -14,9 +14,11 @@ mod program;
 mod progress;
 mod resumes;
 mod screen;
+mod streams;
 mod unchosen;
 
 pub use devices::Devices;
 pub use ending::tell;
 pub use program::run;
 pub use screen::Screen;
+pub use streams::Streams;

@@ -2,8 +2,8 @@
 
 ghost use Rattle.std.specs.Prelude.{◌≡◌, [], map, IfOk};
 ghost use Rattle.command_words.specs.Choice.{IsWithin};
-ghost use Rattle.command_run.specs.Streams.{errors_of, streams_of};
-ghost use Rattle.command_run.specs.Program.{AreWordsRead, Follows, RunsProgram};
+ghost use Rattle.command_run.specs.Streams.{errors_of};
+ghost use Rattle.command_run.specs.Program.{Follows, RunsProgram};
 
 use crate::command::command;
 use crate::devices::Devices;
@@ -22,21 +22,13 @@ pub fn run<T: Texts, R: Source, W: Outlet, E: Sink, S: Screen>(
     words: &[&str],
     devices: &mut Devices<T, R, W, E, S>,
 ) -> u8
-    requires shown { W.pending devices.old.output ≡ [] }
-    ensures { RunsProgram T.gives (map (λ word. word.now) words.now) devices.old.texts
-        (streams_of R.left R.failed W.taken W.failed W.pending devices.old.input devices.old.output)
-        (errors_of E.taken E.failed devices.old.errors) result devices.new.texts
-        (streams_of R.left R.failed W.taken W.failed W.pending devices.new.input devices.new.output)
-        (errors_of E.taken E.failed devices.new.errors) }
+    requires shown { devices.old.streams.output.pending ≡ [] }
+    ensures { RunsProgram T.gives (map (λ word. word.now) words.now)
+        devices.old.texts devices.old.streams (errors_of E.taken E.failed devices.old.errors) result
+        devices.new.texts devices.new.streams (errors_of E.taken E.failed devices.new.errors) }
 {
-    let read = words_read(alloc, words);
+    let read = read_words(alloc, words);
     follow(alloc, read, devices)
-}
-
-fn words_read(alloc: Global, words: &[&str]) -> Result<Chosen, WordsFault>
-    ensures { AreWordsRead (map (λ word. word.now) words.now) result }
-{
-    read_words(alloc, words)
 }
 
 /// What follows the reading of the words.
@@ -46,27 +38,24 @@ fn follow<T: Texts, R: Source, W: Outlet, E: Sink, S: Screen>(
     devices: &mut Devices<T, R, W, E, S>,
 ) -> u8
     requires within { IfOk read IsWithin }
-    requires shown { W.pending devices.old.output ≡ [] }
-    ensures { Follows T.gives read devices.old.texts
-        (streams_of R.left R.failed W.taken W.failed W.pending devices.old.input devices.old.output)
-        (errors_of E.taken E.failed devices.old.errors) result devices.new.texts
-        (streams_of R.left R.failed W.taken W.failed W.pending devices.new.input devices.new.output)
-        (errors_of E.taken E.failed devices.new.errors) }
+    requires shown { devices.old.streams.output.pending ≡ [] }
+    ensures { Follows T.gives read
+        devices.old.texts devices.old.streams (errors_of E.taken E.failed devices.old.errors) result
+        devices.new.texts devices.new.streams (errors_of E.taken E.failed devices.new.errors) }
 {
     let Devices {
         texts,
-        input,
-        output,
+        streams,
         errors,
         screen,
     } = devices;
     match read {
         Ok(chosen) => {
-            let outcome = command(alloc, &chosen, texts, input, output, screen);
-            end(alloc, outcome, output, errors)
+            let outcome = command(alloc, &chosen, texts, streams, screen);
+            end(alloc, outcome, streams, errors)
         }
         Err(fault) => match Unchosen::from(fault) {
-            Unchosen::Ends(outcome) => end(alloc, outcome, output, errors),
+            Unchosen::Ends(outcome) => end(alloc, outcome, streams, errors),
             Unchosen::Usage(text) => tell_line(errors, text.as_bytes(), 2),
         },
     }

@@ -1,34 +1,44 @@
 //! The command `resume`.
 
-ghost use Rattle.std.specs.Prelude.{◌≡◌, IfOk};
+ghost use Rattle.std.specs.Prelude.{◌≡◌};
 ghost use Rattle.command_run.specs.Streams.{streams_of};
-ghost use Rattle.command_run.specs.Resumes.{IsTaking, IsResume, IsFaultLine, IsFaultTold, ResumesTaken, ResumesLog, Resumes};
+ghost use Rattle.command_run.specs.Resumes.{IsTaking, IsResume, IsFaultTold, ResumesOn, ResumesTaken, ResumesLog, Resumes};
+ghost use Rattle.command_run.specs.Program.{RunsResume};
 
 use crate::drives::{end_answer, line_told};
+use crate::streams::Streams;
 use cell_drive::{DriveEnd, DriveFault, Outlet, Source};
-use command_answers::{
-    Answer, CommandFault, Loaded, REFUSED, Texts, ask, end_line, push_fact, push_words,
-};
+use command_answers::{Answered, CommandFault, Loaded, Pair, Texts, load_files, log_refused};
 use plan_verifier::{Verdict, Verified};
 use run_resume::{ResumeFault, Taken, resume, take_up};
-use std::alloc::{AllocError, Global};
+use std::alloc::Global;
 
-/// Takes up the run of the plan from its log if the plan is accepted, and drives it on; else the plan's line is the answer.
-pub(crate) fn resume_cell<T: Texts, R: Source, W: Outlet>(
+/// Loads a plan, and if it is accepted takes up its run from the log and drives it on; else its line is the answer.
+pub(crate) fn resume_answer<T: Texts, R: Source, W: Outlet>(
+    alloc: Global,
+    texts: &mut T,
+    pair: &Pair<'_>,
+    log: &str,
+    streams: &mut Streams<R, W>,
+) -> Answered
+    ensures { RunsResume T.gives pair.now log.now texts.old streams.old result texts.new streams.new }
+{
+    let loaded = load_files(alloc, texts, pair);
+    resume_loaded(alloc, texts, loaded, log, streams)
+}
+
+fn resume_loaded<T: Texts, R: Source, W: Outlet>(
     alloc: Global,
     texts: &mut T,
     loaded: Result<Loaded, CommandFault>,
     log: &str,
-    input: &mut R,
-    output: &mut W,
-) -> Result<Answer, CommandFault>
-    ensures { Resumes T.gives log.now loaded texts.old
-        (streams_of R.left R.failed W.taken W.failed W.pending input.old output.old) result texts.new
-        (streams_of R.left R.failed W.taken W.failed W.pending input.new output.new) }
+    streams: &mut Streams<R, W>,
+) -> Answered
+    ensures { Resumes T.gives log.now loaded texts.old streams.old result texts.new streams.new }
 {
     match loaded {
         Ok(Loaded::Judged(Verdict::Accepted(verified))) => {
-            resume_accepted(alloc, texts, verified, log, input, output)
+            resume_log(alloc, texts, verified, log, streams)
         }
         Ok(other) => line_told(alloc, &other),
         Err(fault) => Err(fault),
@@ -36,20 +46,17 @@ pub(crate) fn resume_cell<T: Texts, R: Source, W: Outlet>(
 }
 
 /// Asks for the log of an accepted plan, and takes up its run.
-fn resume_accepted<T: Texts, R: Source, W: Outlet>(
+fn resume_log<T: Texts, R: Source, W: Outlet>(
     alloc: Global,
     texts: &mut T,
     verified: Verified,
     log: &str,
-    input: &mut R,
-    output: &mut W,
-) -> Result<Answer, CommandFault>
-    ensures { ResumesLog T.gives log.now verified texts.old
-        (streams_of R.left R.failed W.taken W.failed W.pending input.old output.old) result texts.new
-        (streams_of R.left R.failed W.taken W.failed W.pending input.new output.new) }
+    streams: &mut Streams<R, W>,
+) -> Answered
+    ensures { ResumesLog T.gives log.now verified texts.old streams.old result texts.new streams.new }
 {
-    let text = ask(alloc, texts, log)?;
-    resume_taken(alloc, taken_up(alloc, verified, text), input, output)
+    let text = texts.text(alloc, log)?;
+    resume_taken(alloc, taken_up(alloc, verified, text), streams)
 }
 
 /// Takes up the run that the text tells, and gives the text back.
@@ -63,20 +70,26 @@ fn taken_up(alloc: Global, verified: Verified, text: Vec<u8>) -> Result<Taken, R
 fn resume_taken<R: Source, W: Outlet>(
     alloc: Global,
     taken: Result<Taken, ResumeFault>,
-    input: &mut R,
-    output: &mut W,
-) -> Result<Answer, CommandFault>
-    ensures { ResumesTaken taken
-        (streams_of R.left R.failed W.taken W.failed W.pending input.old output.old)
-        (streams_of R.left R.failed W.taken W.failed W.pending input.new output.new) result }
+    streams: &mut Streams<R, W>,
+) -> Answered
+    ensures { ResumesTaken taken streams.old streams.new result }
 {
     match taken {
-        Ok(taken) => {
-            let end = resumed(taken, input, output);
-            end_answer(alloc, end)
-        }
-        Err(fault) => fault_answer(alloc, fault),
+        Ok(taken) => resume_on(alloc, taken, streams),
+        Err(fault) => fault_told(alloc, fault),
     }
+}
+
+/// Drives on what was taken up to the end of the input.
+fn resume_on<R: Source, W: Outlet>(
+    alloc: Global,
+    taken: Taken,
+    streams: &mut Streams<R, W>,
+) -> Answered
+    ensures { ResumesOn taken streams.old streams.new result }
+{
+    let end = resumed(taken, &mut streams.input, &mut streams.output);
+    end_answer(alloc, end)
 }
 
 fn resumed<R: Source, W: Outlet>(
@@ -110,25 +123,11 @@ impl From<ResumeFault> for Untaken {
 }
 
 /// The line of a log that isn't taken up.
-fn fault_answer(alloc: Global, fault: ResumeFault) -> Result<Answer, CommandFault>
+fn fault_told(alloc: Global, fault: ResumeFault) -> Answered
     ensures { IsFaultTold fault result }
 {
-    if let Some(fault) = Untaken::from(fault).0 {
-        return Err(fault);
+    match Untaken::from(fault).0 {
+        Some(fault) => Err(fault),
+        None => Ok(log_refused(alloc, fault.line() as u64, fault.name())?),
     }
-    Ok(refusal_answer(alloc, fault)?)
-}
-
-fn refusal_answer(alloc: Global, fault: ResumeFault) -> Result<Answer, AllocError>
-    ensures { IfOk result (IsFaultLine fault) }
-{
-    let mut text = Vec::new(alloc);
-    push_fact(&mut text, b"log refused ", fault.line() as u64)?;
-    push_words(&mut text, b" ")?;
-    push_words(&mut text, fault.name().as_bytes())?;
-    end_line(&mut text)?;
-    Ok(Answer {
-        text,
-        status: REFUSED,
-    })
 }

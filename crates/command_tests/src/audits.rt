@@ -1,6 +1,6 @@
-use super::shelf::Shelf;
+use super::shelf::{Shelf, pair};
 use super::texts::{CHAIN, CHAINED, CLEANED, CROSSED, IN_TIME, TWO};
-use command_answers::{Answer, CommandFault, audit_answer, gantt_answer};
+use command_answers::{Answer, CommandFault, Telling, log_answer};
 use std::test::Fail;
 
 const SERIES: &[u8] =
@@ -97,7 +97,7 @@ fn logs_are_kept_or_refused(rt: HostRuntime) -> Result<(), Fail> {
             plan,
             log,
         };
-        let answer = audit_answer(alloc, &mut shelf, "instance", None, "plan", "log");
+        let answer = log_answer(alloc, &mut shelf, &pair(None), "log", Telling::Numbers);
         assert!(rt; tells(answer, line, status));
     }
     Ok(())
@@ -143,7 +143,7 @@ fn kept_logs_are_drawn(rt: HostRuntime) -> Result<(), Fail> {
             plan,
             log,
         };
-        let answer = gantt_answer(alloc, &mut shelf, "instance", None, "plan", "log");
+        let answer = log_answer(alloc, &mut shelf, &pair(None), "log", Telling::Drawing);
         assert!(rt; tells(answer, text, status));
     }
     Ok(())

@@ -1,4 +1,4 @@
-use super::shelf::Shelf;
+use super::shelf::{Shelf, pair};
 use super::texts::{CLEANED, COLLECTION, IN_TIME, TWO};
 use command_answers::{CommandFault, plan_answer};
 use orlib_read::OrFault;
@@ -47,9 +47,7 @@ fn a_plan_is_found_or_there_is_none(rt: HostRuntime) -> Result<(), Fail> {
         let answer = plan_answer(
             rt.alloc(),
             &mut Shelf::of(TWO, plan),
-            "instance",
-            None,
-            "plan",
+            &pair(None),
             &proposers,
             *rounds,
         )?;
@@ -59,9 +57,7 @@ fn a_plan_is_found_or_there_is_none(rt: HostRuntime) -> Result<(), Fail> {
     let named = plan_answer(
         rt.alloc(),
         &mut Shelf::of(COLLECTION, CROSSING),
-        "instance",
-        Some(b"two"),
-        "plan",
+        &pair(Some(b"two")),
         &proposers,
         2,
     )?;
@@ -73,13 +69,12 @@ fn a_plan_is_found_or_there_is_none(rt: HostRuntime) -> Result<(), Fail> {
 fn a_search_refuses_the_instance_before_the_plan(rt: HostRuntime) -> Result<(), Fail> {
     let none: Vec<Box<dyn Proposer>> = Vec::new(rt.alloc());
     let mut shelf = Shelf::of(COLLECTION, b"release = [");
-    let name: Option<&[u8]> = Some(b"ft07");
-    match plan_answer(rt.alloc(), &mut shelf, "instance", name, "plan", &none, 1) {
+    match plan_answer(rt.alloc(), &mut shelf, &pair(Some(b"ft07")), &none, 1) {
         Err(CommandFault::Instance(OrFault::NoInstance)) => {}
         _ => panic!(rt; "the instance isn't looked for first"),
     }
     let mut shelf = Shelf::of(TWO, b"release = [");
-    match plan_answer(rt.alloc(), &mut shelf, "instance", None, "plan", &none, 1) {
+    match plan_answer(rt.alloc(), &mut shelf, &pair(None), &none, 1) {
         Err(CommandFault::Plan(PlanFault::NotToml)) => {}
         _ => panic!(rt; "the plan's text is taken"),
     }

@@ -1,4 +1,4 @@
-use super::shelf::Shelf;
+use super::shelf::{Shelf, pair};
 use super::texts::{COLLECTION, IN_TIME, NOT_SHAPED, TWO};
 use command_answers::{CommandFault, shape_answer};
 use orlib_read::OrFault;
@@ -18,23 +18,11 @@ fn a_plan_is_shaped_or_its_first_fault_is_told(rt: HostRuntime) -> Result<(), Fa
         ),
     ];
     for (plan, line) in lines.into_iter().chain(NOT_SHAPED) {
-        let answer = shape_answer(
-            rt.alloc(),
-            &mut Shelf::of(TWO, plan),
-            "instance",
-            None,
-            "plan",
-        )?;
+        let answer = shape_answer(rt.alloc(), &mut Shelf::of(TWO, plan), &pair(None))?;
         assert_eq!(rt; answer.text.as_slice(), line);
         assert_eq!(rt; answer.status, 1);
     }
-    let answer = shape_answer(
-        rt.alloc(),
-        &mut Shelf::of(TWO, IN_TIME),
-        "instance",
-        None,
-        "plan",
-    )?;
+    let answer = shape_answer(rt.alloc(), &mut Shelf::of(TWO, IN_TIME), &pair(None))?;
     assert_eq!(rt; answer.text.as_slice(), b"shaped\n".as_slice());
     assert_eq!(rt; answer.status, 0);
     Ok(())
@@ -43,9 +31,9 @@ fn a_plan_is_shaped_or_its_first_fault_is_told(rt: HostRuntime) -> Result<(), Fa
 #[test]
 fn a_collection_has_the_instance_of_a_plan(rt: HostRuntime) -> Result<(), Fail> {
     let mut shelf = Shelf::of(COLLECTION, IN_TIME);
-    let answer = shape_answer(rt.alloc(), &mut shelf, "instance", Some(b"two"), "plan")?;
+    let answer = shape_answer(rt.alloc(), &mut shelf, &pair(Some(b"two")))?;
     assert_eq!(rt; answer.text.as_slice(), b"shaped\n".as_slice());
-    let answer = shape_answer(rt.alloc(), &mut shelf, "instance", Some(b"ft06"), "plan")?;
+    let answer = shape_answer(rt.alloc(), &mut shelf, &pair(Some(b"ft06")))?;
     assert_eq!(rt;
         answer.text.as_slice(),
         b"not shaped ReleaseCount\n".as_slice()
@@ -70,7 +58,7 @@ fn a_refused_text_has_no_shape(rt: HostRuntime) -> Result<(), Fail> {
     ];
     for (instance, plan, fault) in faults {
         let mut shelf = Shelf::of(instance, plan);
-        let answer = shape_answer(rt.alloc(), &mut shelf, "instance", None, "plan");
+        let answer = shape_answer(rt.alloc(), &mut shelf, &pair(None));
         let answer = answer.map(|answer| answer.status);
         assert_eq!(rt; answer, Err(fault));
     }

@@ -1,4 +1,4 @@
-use command_answers::{FileFault, Texts};
+use command_answers::{CommandFault, Pair, Texts};
 use std::alloc::Global;
 
 /// The files of a command: the instance's, the plan's and the log's. Each other path gives none.
@@ -20,22 +20,31 @@ impl Shelf {
     }
 }
 
+/// The files of the instance, of this name, and of the plan.
+pub(super) fn pair(name: Option<&'static [u8]>) -> Pair<'static> {
+    Pair {
+        instance: "instance",
+        name,
+        plan: "plan",
+    }
+}
+
 impl Texts for Shelf {
     ghost gives = { λ _ _ _ _. Unit {0} };
 
-    fn text(&mut self, alloc: Global, path: &str) -> Result<Vec<u8>, FileFault> {
+    fn text(&mut self, alloc: Global, path: &str) -> Result<Vec<u8>, CommandFault> {
         let text = match path {
             "instance" => self.instance,
             "plan" => self.plan,
             "log" => self.log,
-            _ => return Err(FileFault::Read),
+            _ => return Err(CommandFault::Read),
         };
         if text.len() > 67_108_864 {
-            return Err(FileFault::TooLong);
+            return Err(CommandFault::InputTooLong);
         }
         match text.to_vec(alloc) {
             Ok(copy) => Ok(copy),
-            Err(_) => Err(FileFault::Memory),
+            Err(_) => Err(CommandFault::Memory),
         }
     }
 }

@@ -3,9 +3,10 @@ use Rattle.std.specs.Option.{option_map}
 use Rattle.std.specs.declared.io.Error.{Error}
 use Rattle.std.proofs.lemmas.List.{take_all, length-take-le}
 use Rattle.std.proofs.lemmas.Bool.{cases_lt}
-use Rattle.command_answers.specs.Reading.{IsFileFaultOf}
-use Rattle.command_answers.specs.declared.reading.FileFault.{FileFault}
-use Rattle.command_answers.specs.declared.reading.FileFault.TheVariants.{TooLong}
+use Rattle.command_answers.specs.Reading.{IsFaultOfSystem}
+use Rattle.command_answers.specs.declared.command_fault.CommandFault.{CommandFault}
+use Rattle.command_answers.specs.declared.command_fault.CommandFault.TheVariants.{InputTooLong}
+use Rattle.command_answers.specs.Texts.{IsFileFault}
 use Rattle.command_answers.proofs.reading.read_whole.Goals as goal
 
 -- what was read of all that there is, up to a limit that it stays below, is all
@@ -21,20 +22,35 @@ whole_below (Some all) limit start items empty read below =
     ]
 
 -- no bytes are told at a fault
-none_at_fault : (P : Vec ℕ Global → Type 0) (Q : FileFault → Type 0) (answer : Result (Vec ℕ Global) FileFault) → IsErrAnd answer Q → IfOk answer P
+none_at_fault : (P : Vec ℕ Global → Type 0) (Q : CommandFault → Type 0) (answer : Result (Vec ℕ Global) CommandFault) → IsErrAnd answer Q → IfOk answer P
 none_at_fault P Q (Ok bytes) failed = absurd failed
 none_at_fault P Q (Err fault) failed = tt
 
-whole_told : (given : Option (List ℕ)) (start : List ℕ) (buf : Vec ℕ Global) (read : Result ℕ Error) (answer : Result (Vec ℕ Global) FileFault) → start ≡ []
+whole_told : (given : Option (List ℕ)) (start : List ℕ) (buf : Vec ℕ Global) (read : Result ℕ Error) (answer : Result (Vec ℕ Global) CommandFault) → start ≡ []
     → OnOk read (IfSome (option_map (take 67108865) given) (λ xs. buf.items ≡ start ++ xs))
-    → IfOk read (λ n. vec_len buf ≤ 67108864 → answer ≡ Ok buf) → IfOk read (λ n. 67108864 < vec_len buf → answer ≡ Err TooLong)
-    → IfErr read (λ error. IsErrAnd answer (IsFileFaultOf error)) → IfOk answer (λ bytes. IfSome given (λ all. bytes.items ≡ all))
+    → IfOk read (λ n. vec_len buf ≤ 67108864 → answer ≡ Ok buf) → IfOk read (λ n. 67108864 < vec_len buf → answer ≡ Err InputTooLong)
+    → IfErr read (λ error. IsErrAnd answer (IsFaultOfSystem error)) → IfOk answer (λ bytes. IfSome given (λ all. bytes.items ≡ all))
 whole_told given start buf (Ok n) answer empty bytes within beyond failed =
     elim (cases_lt 67108864 (vec_len buf)) [
       | inl over ↦ rw (beyond over) tt
       | inr below ↦ rw (within below) (whole_below given 67108865 start buf.items empty bytes (omega (arith, buf.ok.0)))
     ]
 whole_told given start buf (Err error) answer empty bytes within beyond failed = none_at_fault _ _ answer failed
+
+-- each fault is a file's
+faults_are : (buf : Vec ℕ Global) (read : Result ℕ Error) (answer : Result (Vec ℕ Global) CommandFault)
+    → IfOk read (λ n. vec_len buf ≤ 67108864 → answer ≡ Ok buf) → IfOk read (λ n. 67108864 < vec_len buf → answer ≡ Err InputTooLong)
+    → IfErr read (λ error. IsErrAnd answer (IsFaultOfSystem error)) → IfErr answer IsFileFault
+faults_are buf (Ok n) answer within beyond failed =
+    elim (cases_lt 67108864 (vec_len buf)) [
+      | inl over ↦ rw (beyond over) tt
+      | inr below ↦ rw (within below) tt
+    ]
+faults_are buf (Err error) (Ok bytes) within beyond failed = absurd failed
+faults_are buf (Err error) (Err fault) within beyond failed = failed.is
+
+pub returns-clause-fault : goal.returns-clause-fault
+returns-clause-fault g c = faults_are c.read_to_end-read.new.buf c.read_to_end-read.result c.whole_of.result c.whole_of.ensures.within c.whole_of.ensures.beyond c.whole_of.ensures.fault
 
 pub returns-clause-whole : goal.returns-clause-whole
 returns-clause-whole g c =

@@ -7,4 +7,4 @@ pub returns-in-Ends : goal.returns-in-Ends
 returns-in-Ends g c =
     let is : c.args.read ≡ Err c.in-Err.fault = c.in-Err.is in
     let comes : ComesTo c.in-Err.fault c.in-Ends.outcome = subst (Comes c.in-Err.fault) c.in-Ends.is c.from.ensures in
-    rw is (refused_ends g.T.Texts.gives c.in-Err.fault c.in-Ends.outcome _ _ _ _ _ _ _ comes c.end-in-Ends.ensures refl refl)
+    rw is (refused_ends g.T.Texts.gives c.in-Err.fault c.in-Ends.outcome _ _ _ _ _ _ _ comes c.end-in-Ends.ensures.ends refl c.end-in-Ends.ensures.input)

@@ -1,8 +1,0 @@
-use Rattle.command_answers.proofs.Passing.{passed_memory}
-use Rattle.command_answers.proofs.loading.load_for.Goals as goal
-
-pub returns-in_err-plan-clause-only : goal.returns-in_err-plan-clause-only
-returns-in_err-plan-clause-only c = λ told is. passed_memory _ _ c.in_err-plan.field-0.0 (c.in_err-plan.ensures.only told is) c.from_residual.ensures.1
-
-pub returns-clause-only : goal.returns-clause-only
-returns-clause-only c = λ told is. rw (c.in_ok-plan.ensures.only told is) at c.in_ok-judged.ensures.loaded

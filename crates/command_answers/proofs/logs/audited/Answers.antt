@@ -1,0 +1,9 @@
+use Rattle.std.proofs.Common.{inl}
+use Rattle.command_answers.proofs.LogAnswers.{refused_log}
+use Rattle.command_answers.proofs.logs.audited.Goals as goal
+
+pub returns-in_ok-run_told-in-Ok : goal.returns-in_ok-run_told-in-Ok
+returns-in_ok-run_told-in-Ok c = inl (record { run = c.in-Ok.found; is = c.in-Ok.ensures.kept; told = c.in_ok-run_told-in-Ok.ensures })
+
+pub returns-in-Err : goal.returns-in-Err
+returns-in-Err c = refused_log c.args.telling c.args.shaped.now c.args.log.now c.in-Err.fault c.fault_told.result c.in-Err.ensures.fault c.fault_told.ensures

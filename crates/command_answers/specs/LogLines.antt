@@ -1,0 +1,67 @@
+-- The answers of the commands `audit` and `gantt`.
+use Rattle.std.specs.Prelude.{◌≡◌, ℕ, Bool, true, false, List, ◌++◌, ◌⊎◌, Option, Some, None, Result, Err, codes, decimal}
+use Rattle.shop_base.specs.Plan.{PlannedShop, machines}
+use Rattle.text_lines.specs.Lines.{lines_of}
+use Rattle.run_log.specs.declared.audit_result.Audit.{Audit}
+use Rattle.run_log.specs.declared.audit_fault.AuditFault.{AuditFault}
+use Rattle.run_log.specs.declared.audit_fault.AuditFault.TheVariants.{Memory}
+use Rattle.run_log.specs.Audits.{IsAudit, IsFirstBad, fault_line}
+use Rattle.run_log.specs.AuditNames.{fault_name}
+use Rattle.run_gantt.specs.GanttText.{gantt_text}
+use Rattle.command_answers.specs.declared.answer.Answer.{Answer}
+use Rattle.command_answers.specs.declared.command_fault.CommandFault.{CommandFault}
+use Rattle.command_answers.specs.declared.command_fault.CommandFault.TheVariants.{Memory as WantOfMemory}
+use Rattle.command_answers.specs.declared.logs.Telling.{Telling}
+use Rattle.command_answers.specs.declared.logs.Telling.TheVariants.{Numbers, Drawing}
+use Rattle.command_answers.specs.Steps.{IsOrMemory}
+
+-- whether the run has ended, in words
+abbrev pub end_words : Bool → List ℕ
+end_words true = codes " complete\n"
+end_words false = codes " partial\n"
+
+-- the line of a log that tells a run, by its numbers
+abbrev pub kept_line : Audit → List ℕ
+kept_line run = codes "log kept reports " ++ decimal run.reports ++ codes " orders " ++ decimal run.orders ++ codes " last " ++ decimal run.last ++ end_words run.complete
+
+-- the line of a log that is refused: the number of its first bad line, and the name of the fault
+abbrev pub log_refused_line : ℕ → List ℕ → List ℕ
+log_refused_line line name = codes "log refused " ++ decimal line ++ codes " " ++ name ++ codes "\n"
+
+-- what is told of a run: its numbers, or its Gantt text
+abbrev pub run_text : Telling → PlannedShop → Audit → List ℕ
+run_text Numbers p run = kept_line run
+run_text Drawing p run = gantt_text (machines p) run.entries.items
+
+abbrev pub IsRunTold : Telling → PlannedShop → Audit → Answer → Type 0
+IsRunTold telling p run answer = (answer.text.items ≡ run_text telling p run) × (answer.status ≡ 0)
+
+-- what is told of a log that tells a run of the plan
+pub record IsLogKept (telling : Telling) (p : PlannedShop) (log : List ℕ) (answer : Answer) : Type 0 where
+  pub run : Audit
+  pub is : IsAudit p (lines_of log) run
+  pub told : IsRunTold telling p run answer
+
+-- the line of a fault
+abbrev pub IsFaultLine : AuditFault → Answer → Type 0
+IsFaultLine fault answer = (answer.text.items ≡ log_refused_line (fault_line fault) (fault_name fault)) × (answer.status ≡ 1)
+
+-- the line of a log that tells none: its first fault
+pub record IsLogRefused (p : PlannedShop) (log : List ℕ) (answer : Answer) : Type 0 where
+  pub fault : AuditFault
+  pub first : IsFirstBad p (lines_of log) fault
+  pub line : IsFaultLine fault answer
+
+-- what is told of a log
+abbrev pub IsLogLine : Telling → PlannedShop → List ℕ → Answer → Type 0
+IsLogLine telling p log answer = IsLogKept telling p log answer ⊎ IsLogRefused p log answer
+
+-- the fault of a command that the audit's is, if it is want of memory
+abbrev pub audit_command_fault : AuditFault → Option CommandFault
+audit_command_fault Memory = Some WantOfMemory
+audit_command_fault fault = None
+
+-- want of memory is a fault of the command, and any other fault is answered by its line, unless memory runs out
+abbrev pub IsFaultTold : AuditFault → Result Answer CommandFault → Type 0
+IsFaultTold Memory outcome = outcome ≡ Err WantOfMemory
+IsFaultTold fault outcome = IsOrMemory (IsFaultLine fault) outcome

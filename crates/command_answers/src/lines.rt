@@ -1,0 +1,57 @@
+//! The texts of answers.
+
+ghost use Rattle.std.specs.Prelude.{◌≡◌, ◌++◌, IfOk, codes, decimal};
+ghost use Rattle.command_answers.specs.Documents.{IsDocumentAnswer};
+ghost use Rattle.command_answers.specs.Shapes.{IsLineOfFault};
+ghost use Rattle.command_answers.specs.LogLines.{log_refused_line};
+
+use crate::answer::{Answer, Answered, REFUSED};
+use crate::print::{end_line, push_fact, push_words};
+use plan_text::plan_document;
+use shop_base::{Plan, ShapeFault};
+use std::alloc::{AllocError, Global};
+
+/// The text of a plan, with this status.
+pub(crate) fn document_answer(alloc: Global, plan: &Plan, status: u8) -> Answered
+    ensures { IsDocumentAnswer plan.now status result }
+{
+    let text = plan_document(alloc, plan)?.into_bytes();
+    Ok(Answer { text, status })
+}
+
+/// A line, with this status.
+pub(crate) fn line_answer(alloc: Global, line: &[u8], status: u8) -> Result<Answer, AllocError>
+    ensures { IfOk result (λ answer. (answer.text.items ≡ line.now) × (answer.status ≡ status)) }
+{
+    let mut text = Vec::new(alloc);
+    push_words(&mut text, line)?;
+    Ok(Answer { text, status })
+}
+
+/// The line of a fault of a plan's shape, behind these words.
+pub(crate) fn fault_answer(
+    alloc: Global,
+    what: &[u8],
+    fault: ShapeFault,
+) -> Result<Answer, AllocError>
+    ensures { IfOk result (IsLineOfFault what.now) }
+{
+    let words = fault.to_string(alloc)?;
+    let (mut text, status) = (Vec::new(alloc), REFUSED);
+    push_words(&mut text, what)?;
+    push_words(&mut text, words.as_bytes())?;
+    end_line(&mut text)?;
+    Ok(Answer { text, status })
+}
+
+/// The line of a log that is refused: the number of its first bad line, and the name of the fault.
+pub fn log_refused(alloc: Global, line: u64, name: &str) -> Result<Answer, AllocError>
+    ensures { IfOk result (λ answer. (answer.text.items ≡ log_refused_line line name.now) × (answer.status ≡ 1)) }
+{
+    let (mut text, status) = (Vec::new(alloc), REFUSED);
+    push_fact(&mut text, b"log refused ", line)?;
+    push_words(&mut text, b" ")?;
+    push_words(&mut text, name.as_bytes())?;
+    end_line(&mut text)?;
+    Ok(Answer { text, status })
+}

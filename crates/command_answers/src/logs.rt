@@ -1,0 +1,106 @@
+//! The commands `audit` and `gantt`.
+
+ghost use Rattle.std.specs.Prelude.{◌≡◌, IfOk, IfErr};
+ghost use Rattle.command_answers.specs.LogLines.{IsRunTold, IsLogLine, IsFaultTold, kept_line, end_words};
+ghost use Rattle.command_answers.specs.Steps.{IsOrMemory};
+ghost use Rattle.command_answers.specs.Commands.{RunsLog};
+
+use crate::answer::{Answer, Answered, GOOD};
+use crate::both::{Pair, read_both};
+use crate::command_fault::Unanswered;
+use crate::lines::log_refused;
+use crate::print::{push_fact, push_words};
+use crate::shapes::not_shaped_told;
+use crate::texts::Texts;
+use run_gantt::gantt;
+use run_log::{Audit, AuditFault, audit};
+use shop_base::Shaped;
+use std::alloc::{AllocError, Global};
+
+/// What is told of a log that tells a run.
+#[derive(Clone, Copy, Debug, PartialEq, Eq)]
+pub enum Telling {
+    /// Its numbers, as `audit` does.
+    Numbers,
+    /// Its Gantt text, as `gantt` does.
+    Drawing,
+}
+
+/// Whether the log of a file tells a run of the plan of another for the instance of a third, by any controller.
+pub fn log_answer<T: Texts>(
+    alloc: Global,
+    texts: &mut T,
+    pair: &Pair<'_>,
+    log: &str,
+    telling: Telling,
+) -> Answered
+    ensures { RunsLog T.gives telling pair.now log.now texts.old result texts.new }
+{
+    match read_both(alloc, texts, pair)?.shaped() {
+        Ok(shaped) => {
+            let text = texts.text(alloc, log)?;
+            audited(alloc, &shaped, &text, telling)
+        }
+        Err(fault) => not_shaped_told(alloc, fault),
+    }
+}
+
+/// What is told of a log that is audited against a plan.
+fn audited(alloc: Global, shaped: &Shaped, log: &[u8], telling: Telling) -> Answered
+    ensures { IsOrMemory (IsLogLine telling shaped.now log.now) result }
+{
+    match audit(alloc, shaped, log) {
+        Ok(found) => Ok(run_told(alloc, shaped, &found, telling)?),
+        Err(fault) => fault_told(alloc, fault),
+    }
+}
+
+/// What is told of the run of a log.
+fn run_told(
+    alloc: Global,
+    shaped: &Shaped,
+    run: &Audit,
+    telling: Telling,
+) -> Result<Answer, AllocError>
+    ensures { IfOk result (IsRunTold telling shaped.now run.now) }
+{
+    match telling {
+        Telling::Numbers => kept_answer(alloc, run),
+        Telling::Drawing => {
+            let text = gantt(alloc, shaped, run.entries.as_slice())?.into_bytes();
+            Ok(Answer { text, status: GOOD })
+        }
+    }
+}
+
+fn kept_answer(alloc: Global, run: &Audit) -> Result<Answer, AllocError>
+    ensures { IfOk result (λ answer. (answer.text.items ≡ kept_line run.now) × (answer.status ≡ 0)) }
+{
+    let mut text = Vec::new(alloc);
+    push_fact(&mut text, b"log kept reports ", run.reports)?;
+    push_fact(&mut text, b" orders ", run.orders)?;
+    push_fact(&mut text, b" last ", run.last)?;
+    push_words(&mut text, end_words(run.complete).as_bytes())?;
+    Ok(Answer { text, status: GOOD })
+}
+
+/// Whether the run has ended, in words.
+fn end_words(complete: bool) -> &'static str
+    ensures { result.now ≡ end_words complete }
+{
+    if complete {
+        " complete\n"
+    } else {
+        " partial\n"
+    }
+}
+
+/// The line of a log that tells no run.
+fn fault_told(alloc: Global, fault: AuditFault) -> Answered
+    ensures { IsFaultTold fault result }
+{
+    match Unanswered::from(fault).0 {
+        Some(fault) => Err(fault),
+        None => Ok(log_refused(alloc, fault.line() as u64, fault.name())?),
+    }
+}

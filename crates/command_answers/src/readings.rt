@@ -1,0 +1,54 @@
+//! Instance and plan texts, read for the commands.
+
+ghost use Rattle.std.specs.Option.{option_copied};
+ghost use Rattle.command_answers.specs.Readings.{IsInstanceRead, IsPlanRead};
+ghost use Rattle.command_answers.specs.Commands.{ReadsInstance, ReadsPlan};
+
+use crate::command_fault::CommandFault;
+use crate::texts::Texts;
+use orlib_read::{Named, read_from_collection, read_instance};
+use plan_text::read_plan;
+use shop_base::Plan;
+use std::alloc::Global;
+
+/// The instance that the text tells.
+pub(crate) fn load_instance(
+    alloc: Global,
+    text: &[u8],
+    name: Option<&[u8]>,
+) -> Result<Named, CommandFault>
+    ensures { IsInstanceRead text.now (option_copied name.entry) result }
+{
+    match name {
+        Some(name) => Ok(read_from_collection(alloc, text, name)?),
+        None => Ok(read_instance(alloc, text)?),
+    }
+}
+
+/// The plan that the text tells.
+pub(crate) fn load_plan(alloc: Global, text: &[u8]) -> Result<Plan, CommandFault>
+    ensures { IsPlanRead text.now result }
+{
+    Ok(read_plan(alloc, text)?)
+}
+
+/// The instance that the file of this path tells.
+pub(crate) fn instance<T: Texts>(
+    alloc: Global,
+    texts: &mut T,
+    path: &str,
+    name: Option<&[u8]>,
+) -> Result<Named, CommandFault>
+    ensures { ReadsInstance T.gives path.now (option_copied name.entry) texts.old result texts.new }
+{
+    let text = texts.text(alloc, path)?;
+    load_instance(alloc, &text, name)
+}
+
+/// The plan that the file of this path tells.
+pub(crate) fn plan<T: Texts>(alloc: Global, texts: &mut T, path: &str) -> Result<Plan, CommandFault>
+    ensures { ReadsPlan T.gives path.now texts.old result texts.new }
+{
+    let text = texts.text(alloc, path)?;
+    load_plan(alloc, &text)
+}

@@ -1,0 +1,159 @@
+-- What good files are answered by, where they don't change.
+use Rattle.std.proofs.Common.{◌≡◌, ℕ, ◌++◌, List, [], ◌∷◌, ◌⊎◌, Option, Result, Ok, Err, inl, inr, ap, sym, ◌∙◌, subst, arith, refl}
+use Rattle.shop_base.specs.Shop.{JobShop}
+use Rattle.shop_base.specs.Plan.{ShopPlan, PlannedShop, IsWellShaped}
+use Rattle.shop_base.proofs.Refusals.{shape_fault_refutes}
+use Rattle.alt_graph.proofs.CycleParts.{cycle_simple}
+use Rattle.orlib_read.specs.declared.named.Named.{Named}
+use Rattle.plan_verifier.specs.Accepted.{VerifiedPlan, IsAcceptable}
+use Rattle.plan_verifier.specs.declared.verdict.Verdict.TheVariants.{Accepted, Refused}
+use Rattle.plan_verifier.specs.declared.verdict.Why.{Why}
+use Rattle.plan_verifier.specs.declared.verdict.Why.TheVariants.{Cycle, Late}
+use Rattle.plan_verifier.specs.Verdicts.{IsReason}
+use Rattle.command_answers.specs.declared.answer.Answer.{Answer}
+use Rattle.command_answers.specs.declared.loading.Loaded.{Loaded}
+use Rattle.command_answers.specs.declared.loading.Loaded.TheVariants.{NotShaped, Judged}
+use Rattle.command_answers.specs.declared.command_fault.CommandFault.{CommandFault}
+use Rattle.command_answers.specs.declared.command_fault.CommandFault.TheVariants.{Memory}
+use Rattle.command_answers.specs.declared.logs.Telling.{Telling}
+use Rattle.command_answers.specs.Instances.{Tells}
+use Rattle.command_answers.specs.Facts.{AreFacts}
+use Rattle.command_answers.specs.Steps.{Then, GoesOn, Told, IsOrMemory}
+use Rattle.command_answers.specs.Texts.{Asks}
+use Rattle.command_answers.specs.Readings.{IsInstanceRead, IsPlanRead, AreFactsAnswered}
+use Rattle.command_answers.specs.Shapes.{IsNotShapedLine}
+use Rattle.command_answers.specs.Checks.{IsLoaded}
+use Rattle.command_answers.specs.LogLines.{IsLogLine}
+use Rattle.command_answers.specs.Search.{IsSearchAnswer}
+use Rattle.command_answers.specs.Improving.{IsImproveAnswer}
+use Rattle.command_answers.specs.Commands.{PairOfFiles, ReadsPlan, ReadsBoth, WithBoth, WithLog, RunsFacts, RunsLog}
+use Rattle.command_run.specs.Streams.{Streams}
+use Rattle.command_run.specs.Planners.{MayPlan, SeeksPlan}
+use Rattle.command_run.specs.Improvers.{AsksOne, ImprovesPlan}
+use Rattle.command_run.specs.Drives.{DrivesCell, Drives}
+use Rattle.command_run.specs.Program.{RunsDrive}
+use Rattle.command_run.specs.Laws.{Shelf, TellPlan, IsAnswered}
+
+-- the answer is one of these, or memory ran out
+answered : {A : Type 0} (Is : A → Type 0) (files : List (List ℕ)) (outcome : Result A CommandFault) (asked : List (List ℕ)) → IsOrMemory Is outcome → asked ≡ files → IsAnswered Is files outcome asked
+answered Is files (Ok a) asked is same = (is, same)
+answered Is files (Err fault) asked is same = is
+
+wanting : {A : Type 0} (Is : A → Type 0) (files : List (List ℕ)) (outcome : Result A CommandFault) (asked : List (List ℕ)) → outcome ≡ Err Memory → IsAnswered Is files outcome asked
+wanting Is files outcome asked is = subst (λ r. IsAnswered Is files r asked) (sym is) refl
+
+-- a reason for a refusal leaves no plan to be accepted
+reason_refutes : (p : PlannedShop) (why : Why) → IsReason p why → IsAcceptable p → ⊥
+reason_refutes p (Cycle nodes) is acceptable = acceptable.acyclic nodes.items (cycle_simple p nodes.items is)
+reason_refutes p (Late job leaves chain) is acceptable = (let within = acceptable.budgets job is.job _ leaves is.path in omega (arith, within, is.past))
+
+module _ (content : List ℕ → Result (List ℕ) CommandFault) where
+  -- a file that is there was asked for, and what it tells was read
+  asked_and_read : {A : Type 0} (Is : List ℕ → Result A CommandFault → Type 0) (path text : List ℕ) → content path ≡ Ok text → (before : List (List ℕ)) (came : Result (List ℕ) CommandFault) (mid : List (List ℕ))
+      (read : Result A CommandFault) (after : List (List ℕ)) → Asks (Shelf content) path before came mid → GoesOn (λ t. Told (Is t)) came mid read after → Is text read × (after ≡ before ++ path ∷ [])
+  asked_and_read Is path text is before (Ok t) mid read after given on =
+      let same : t ≡ text = (let both : Ok t ≡ Ok text = given.0 ∙ is in cc both) in
+      (subst (λ x. Is x read) same on.0, on.1 ∙ given.1)
+  asked_and_read Is path text is before (Err f) mid read after given on = absurd (let both : Err f ≡ Ok text = given.1.0 ∙ is in cc both)
+
+  facts_answered : (path : List ℕ) (text description : List ℕ) (name : Option (List ℕ)) (shop : JobShop) (outcome : Result Answer CommandFault) (asked : List (List ℕ)) → Tells text name description shop
+      → AreFactsAnswered text name outcome → asked ≡ path ∷ [] → IsAnswered (λ answer. AreFacts answer shop) (path ∷ []) outcome asked
+  facts_answered path text description name shop (Ok answer) asked tells are same = (are.only description shop tells, same)
+  facts_answered path text description name shop (Err fault) asked tells are same = are.only description shop tells
+
+  pub good_facts : (path text description : List ℕ) (name : Option (List ℕ)) (shop : JobShop) (outcome : Result Answer CommandFault) (asked : List (List ℕ)) → content path ≡ Ok text → Tells text name description shop
+      → RunsFacts (Shelf content) path name [] outcome asked → IsAnswered (λ answer. AreFacts answer shop) (path ∷ []) outcome asked
+  good_facts path text description name shop outcome asked is tells run =
+      let read = asked_and_read (λ t. AreFactsAnswered t name) path text is [] run.came run.mid outcome asked run.is run.goes_on in
+      facts_answered path text description name shop outcome asked tells read.0 read.1
+
+module _ (content : List ℕ → Result (List ℕ) CommandFault) (pair : PairOfFiles) (p : PlannedShop) (good : TellPlan content pair p) where
+  -- the plan's text tells its plan
+  plan_came : (shop : JobShop) (came : Result ShopPlan CommandFault) (mid : List (List ℕ)) (read : Result PlannedShop CommandFault) (asked : List (List ℕ)) → shop ≡ p.shop → IsPlanRead good.plan came
+      → mid ≡ pair.path ∷ pair.plan ∷ [] → GoesOn (λ plan. Told (λ r. r ≡ Ok (record { shop = shop; plan = plan }))) came mid read asked → IsAnswered (λ q. q ≡ p) (pair.path ∷ pair.plan ∷ []) read asked
+  plan_came shop (Ok plan) mid read asked same_shop is files on =
+      let same_plan : plan ≡ p.plan = is.only p.plan good.tell.plan in
+      let of_shop : JobShop → PlannedShop = λ s. record { shop = s; plan = plan } in
+      let of_plan : ShopPlan → PlannedShop = λ q. record { shop = p.shop; plan = q } in
+      let same : of_shop shop ≡ p = ap of_shop same_shop ∙ ap of_plan same_plan in
+      subst (λ r. IsAnswered (λ q. q ≡ p) (pair.path ∷ pair.plan ∷ []) r asked) (sym on.0) (same, on.1 ∙ files)
+  plan_came shop (Err f) mid read asked same_shop is files on = wanting _ _ read asked (on.0 ∙ ap Err (is.only p.plan good.tell.plan))
+
+  -- so does the instance's text tell its shop
+  instance_came : (came : Result Named CommandFault) (mid : List (List ℕ)) (read : Result PlannedShop CommandFault) (asked : List (List ℕ)) → IsInstanceRead good.instance pair.name came → mid ≡ pair.path ∷ []
+      → GoesOn (λ named. Then (ReadsPlan (Shelf content) pair.plan) (λ plan. Told (λ r. r ≡ Ok (record { shop = named.shop; plan = plan })))) came mid read asked
+      → IsAnswered (λ q. q ≡ p) (pair.path ∷ pair.plan ∷ []) read asked
+  instance_came (Ok named) mid read asked is files on =
+      let same_shop = (is.only good.tell.description p.shop good.tell.shop).1 in
+      let plan = asked_and_read content (λ t. IsPlanRead t) pair.plan good.plan good.plan_is mid on.is.came on.is.mid on.came on.mid on.is.is on.is.goes_on in
+      plan_came named.shop on.came on.mid read asked same_shop plan.0 (plan.1 ∙ ap (λ ps. ps ++ pair.plan ∷ []) files) on.goes_on
+  instance_came (Err f) mid read asked is files on = wanting _ _ read asked (on.0 ∙ ap Err (is.only good.tell.description p.shop good.tell.shop))
+
+  both_come : (read : Result PlannedShop CommandFault) (asked : List (List ℕ)) → ReadsBoth (Shelf content) pair [] read asked → IsAnswered (λ q. q ≡ p) (pair.path ∷ pair.plan ∷ []) read asked
+  both_come read asked run =
+      let instance = asked_and_read content (λ t. IsInstanceRead t pair.name) pair.path good.instance good.instance_is [] run.is.came run.is.mid run.came run.mid run.is.is run.is.goes_on in
+      instance_came run.came run.mid read asked instance.0 instance.1 run.goes_on
+
+  goes_with : {A : Type 0} (next : PlannedShop → List (List ℕ) → Result A CommandFault → List (List ℕ) → Type 0) (came : Result PlannedShop CommandFault) (mid : List (List ℕ)) (outcome : Result A CommandFault) (asked : List (List ℕ))
+      → IsAnswered (λ q. q ≡ p) (pair.path ∷ pair.plan ∷ []) came mid → GoesOn next came mid outcome asked → next p (pair.path ∷ pair.plan ∷ []) outcome asked ⊎ (outcome ≡ Err Memory)
+  goes_with next (Ok q) mid outcome asked is on = inl (subst (λ x. next x (pair.path ∷ pair.plan ∷ []) outcome asked) is.0 (subst (λ files. next q files outcome asked) is.1 on))
+  goes_with next (Err f) mid outcome asked is on = inr (on.0 ∙ ap Err is)
+
+  -- after both files comes the next step with this plan
+  pub with_both : {A : Type 0} (next : PlannedShop → List (List ℕ) → Result A CommandFault → List (List ℕ) → Type 0) (outcome : Result A CommandFault) (asked : List (List ℕ)) → WithBoth (Shelf content) pair next [] outcome asked
+      → next p (pair.path ∷ pair.plan ∷ []) outcome asked ⊎ (outcome ≡ Err Memory)
+  with_both next outcome asked run = goes_with next run.came run.mid outcome asked (both_come run.came run.mid run.is) run.goes_on
+
+  told_answered : {A : Type 0} (Is : A → Type 0) (outcome : Result A CommandFault) (asked : List (List ℕ)) → Told (IsOrMemory Is) (pair.path ∷ pair.plan ∷ []) outcome asked ⊎ (outcome ≡ Err Memory)
+      → IsAnswered Is (pair.path ∷ pair.plan ∷ []) outcome asked
+  told_answered Is outcome asked (inl told) = answered Is _ outcome asked told.0 told.1
+  told_answered Is outcome asked (inr none) = wanting Is _ outcome asked none
+
+  pub good_plan : {A : Type 0} (Is : PlannedShop → A → Type 0) (outcome : Result A CommandFault) (asked : List (List ℕ)) → WithBoth (Shelf content) pair (λ q. Told (IsOrMemory (Is q))) [] outcome asked
+      → IsAnswered (Is p) (pair.path ∷ pair.plan ∷ []) outcome asked
+  good_plan Is outcome asked run = told_answered (Is p) outcome asked (with_both (λ q. Told (IsOrMemory (Is q))) outcome asked run)
+
+  shaped_after_all : (outcome : Result Answer CommandFault) → IsWellShaped p → IsOrMemory (IsNotShapedLine p) outcome → outcome ≡ Err Memory
+  shaped_after_all (Ok answer) shaped is = absurd (shape_fault_refutes p is.fault is.first shaped)
+  shaped_after_all (Err fault) shaped is = ap Err is
+
+  log_came : (telling : Telling) (log text : List ℕ) (outcome : Result Answer CommandFault) (asked : List (List ℕ)) → content log ≡ Ok text → IsWellShaped p
+      → WithLog (Shelf content) telling log p (pair.path ∷ pair.plan ∷ []) outcome asked ⊎ (outcome ≡ Err Memory) → IsAnswered (IsLogLine telling p text) (pair.path ∷ pair.plan ∷ log ∷ []) outcome asked
+  log_came telling log text outcome asked is shaped (inl (inl (also, run))) =
+      let read = asked_and_read content (λ t. IsOrMemory (IsLogLine telling p t)) log text is (pair.path ∷ pair.plan ∷ []) run.came run.mid outcome asked run.is run.goes_on in
+      answered _ _ outcome asked read.0 read.1
+  log_came telling log text outcome asked is shaped (inl (inr told)) = wanting _ _ outcome asked (shaped_after_all outcome shaped told.0)
+  log_came telling log text outcome asked is shaped (inr none) = wanting _ _ outcome asked none
+
+  pub good_log : (telling : Telling) (log text : List ℕ) (outcome : Result Answer CommandFault) (asked : List (List ℕ)) → content log ≡ Ok text → IsWellShaped p → RunsLog (Shelf content) telling pair log [] outcome asked
+      → IsAnswered (IsLogLine telling p text) (pair.path ∷ pair.plan ∷ log ∷ []) outcome asked
+  good_log telling log text outcome asked is shaped run = log_came telling log text outcome asked is shaped (with_both (WithLog (Shelf content) telling log) outcome asked run)
+
+  first_part : {P Q R : Type 0} → (P × R) ⊎ Q → P ⊎ Q
+  first_part (inl both) = inl both.0
+  first_part (inr other) = inr other
+
+  pub good_search : (rounds : ℕ) (outcome : Result Answer CommandFault) (asked : List (List ℕ)) → SeeksPlan (Shelf content) rounds pair [] outcome asked → IsSearchAnswer (MayPlan p.shop) rounds 2 p outcome ⊎ (outcome ≡ Err Memory)
+  good_search rounds outcome asked (inl run) = first_part (with_both (λ q. Told (IsSearchAnswer (MayPlan q.shop) rounds 2 q)) outcome asked run)
+  good_search rounds outcome asked (inr none) = inr none.0
+
+  pub good_improvement : (rounds : ℕ) (outcome : Result Answer CommandFault) (asked : List (List ℕ)) → ImprovesPlan (Shelf content) rounds pair [] outcome asked → IsImproveAnswer (AsksOne rounds) rounds p outcome ⊎ (outcome ≡ Err Memory)
+  good_improvement rounds outcome asked (inl run) = first_part (with_both (λ q. Told (IsImproveAnswer (AsksOne rounds) rounds q)) outcome asked run)
+  good_improvement rounds outcome asked (inr none) = inr none.0
+
+  -- an accepted plan drives its cell
+  loaded_drives : (loaded : Result Loaded CommandFault) (before after : Streams) (outcome : Result Answer CommandFault) → IsWellShaped p → IsAcceptable p → IsOrMemory (IsLoaded p) loaded → Drives loaded before after outcome
+      → ((v : VerifiedPlan) × (v.planned ≡ p) × DrivesCell v before after outcome) ⊎ (outcome ≡ Err Memory)
+  loaded_drives (Err fault) before after outcome shaped acceptable is drives = inr (drives.0 ∙ ap Err is)
+  loaded_drives (Ok (NotShaped fault)) before after outcome shaped acceptable is drives = absurd (shape_fault_refutes p fault is shaped)
+  loaded_drives (Ok (Judged (Refused back why))) before after outcome shaped acceptable is drives = absurd (reason_refutes p why is.refused.1 acceptable)
+  loaded_drives (Ok (Judged (Accepted v))) before after outcome shaped acceptable is drives = inl (v, is.accepted.0, drives)
+
+  as_loaded : (loaded : Result Loaded CommandFault) (asked : List (List ℕ)) → IsAnswered (IsLoaded p) (pair.path ∷ pair.plan ∷ []) loaded asked → IsOrMemory (IsLoaded p) loaded
+  as_loaded (Ok loaded) asked is = is.0
+  as_loaded (Err fault) asked is = is
+
+  pub good_drive : (before after : Streams) (outcome : Result Answer CommandFault) (asked : List (List ℕ)) → IsWellShaped p → IsAcceptable p → RunsDrive (Shelf content) pair [] before outcome asked after
+      → ((v : VerifiedPlan) × (v.planned ≡ p) × DrivesCell v before after outcome) ⊎ (outcome ≡ Err Memory)
+  good_drive before after outcome asked shaped acceptable run =
+      loaded_drives run.loaded before after outcome shaped acceptable (as_loaded run.loaded asked (good_plan IsLoaded run.loaded asked run.loads)) run.drives

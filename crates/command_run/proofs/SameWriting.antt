@@ -1,0 +1,191 @@
+-- A driven cell writes the same.
+use Rattle.std.proofs.Common.{◌≡◌, ◌≢◌, ◌↔◌, ℕ, ◌<◌, ◌≤◌, ◌++◌, List, [], ◌⊎◌, Bool, true, false, IsTrue, Option, Some, None, Result, Ok, Err, IfSome, length, length-append, get_or, map, option_map, inl, inr, ap, sym, ◌∙◌, subst, arith, refl}
+use Rattle.std.specs.Io.KnownBytes.{Appends, Consumes, IsAtEnd}
+use Rattle.std.specs.String.{string_bytes}
+use Rattle.std.proofs.KnownBytes.{Appends-trans, Consumes-whole}
+use Rattle.std.proofs.lemmas.List.{append_cancel_left, append-nil}
+use Rattle.shop_base.specs.Plan.{PlannedShop, IsWellShaped}
+use Rattle.shop_base.specs.Ends.{stated_number, reports_in}
+use Rattle.cell_tables.specs.declared.entry.Entry.{Entry}
+use Rattle.cell_tables.specs.Events.{events_of}
+use Rattle.plan_verifier.specs.Accepted.{VerifiedPlan, IsAcceptable}
+use Rattle.cell_drive.specs.declared.driving.DriveEnd.{DriveEnd}
+use Rattle.cell_drive.specs.declared.drive_fault.DriveFault.{DriveFault}
+use Rattle.cell_drive.specs.declared.drive_fault.DriveFault.TheVariants.{Read as NotRead, Write as NotWritten, InputTooLong as TooLong, Memory as WantOfMemory}
+use Rattle.cell_drive.specs.AnswerText.{DrivenCell, IsAnswerText}
+use Rattle.cell_drive.specs.Driving.{IsDrivenThrough, IsSoFar, cell_after}
+use Rattle.cell_drive.proofs.OneText.{one_answer_text}
+use Rattle.command_words.specs.declared.words.Chosen.{Chosen}
+use Rattle.command_words.specs.declared.words.CommandName.{CommandName}
+use Rattle.command_words.specs.declared.words.CommandName.TheVariants.{Input, Facts, Shape, Check, Explain, Plan, Improve, Drive, Resume, Hub, Audit, Gantt}
+use Rattle.command_words.specs.declared.words.WordsFault.{WordsFault}
+use Rattle.command_words.specs.declared.words.WordsFault.TheVariants.{Usage, Memory as NoWordsMemory}
+use Rattle.command_words.specs.Choice.{word_of, IsChoiceOf, TellsOneOf, reasons_in, found_in}
+use Rattle.command_answers.specs.declared.answer.Answer.{Answer}
+use Rattle.command_answers.specs.declared.command_fault.CommandFault.{CommandFault}
+use Rattle.command_answers.specs.declared.command_fault.CommandFault.TheVariants.{Write, Memory}
+use Rattle.command_answers.specs.Commands.{PairOfFiles}
+use Rattle.command_run.specs.Streams.{Streams, Output, Errors}
+use Rattle.command_run.specs.Drives.{IsDrive, IsEnded, IsEndAnswer, DrivesCell, status_at, end_of_drive}
+use Rattle.command_run.specs.Ending.{IsTold, IsPrinted, IsToldAfter, Ends}
+use Rattle.command_run.specs.Program.{AreWordsRead, RunsDrive, RunsCommand, Follows, Commands, pair_in}
+use Rattle.command_run.specs.Laws.{Shelf, TellPlan, AskForDrive, RunsWell}
+use Rattle.command_run.proofs.GoodFiles.{good_drive}
+
+-- ---- the words
+
+abbrev first : Option (List ℕ) → ℕ
+first None = 0
+first (Some word) = get_or word 0 0
+
+is_drive : (name : CommandName) → word_of name ≡ word_of Drive → name ≡ Drive
+is_drive Input word = absurd (cc word)
+is_drive Drive word = refl
+is_drive Facts word = (let differ : 102 ≡ 100 = ap first word in absurd (omega (arith, differ)))
+is_drive Shape word = (let differ : 115 ≡ 100 = ap first word in absurd (omega (arith, differ)))
+is_drive Check word = (let differ : 99 ≡ 100 = ap first word in absurd (omega (arith, differ)))
+is_drive Explain word = (let differ : 101 ≡ 100 = ap first word in absurd (omega (arith, differ)))
+is_drive Plan word = (let differ : 112 ≡ 100 = ap first word in absurd (omega (arith, differ)))
+is_drive Improve word = (let differ : 105 ≡ 100 = ap first word in absurd (omega (arith, differ)))
+is_drive Resume word = (let differ : 114 ≡ 100 = ap first word in absurd (omega (arith, differ)))
+is_drive Hub word = (let differ : 104 ≡ 100 = ap first word in absurd (omega (arith, differ)))
+is_drive Audit word = (let differ : 97 ≡ 100 = ap first word in absurd (omega (arith, differ)))
+is_drive Gantt word = (let differ : 103 ≡ 100 = ap first word in absurd (omega (arith, differ)))
+
+same_pair : (words : List (List ℕ)) (pair : PairOfFiles) (chosen : Chosen) → AskForDrive words pair → IsChoiceOf (found_in words) chosen → pair_in chosen ≡ pair
+same_pair words pair chosen ask is =
+    let path : get_or (map string_bytes chosen.files.items) 0 [] ≡ pair.path = ap (λ (fs : List (List ℕ)). get_or fs 0 []) is.files ∙ sym ask.path in
+    let plan : get_or (map string_bytes chosen.files.items) 1 [] ≡ pair.plan = ap (λ (fs : List (List ℕ)). get_or fs 1 []) is.files ∙ sym ask.plan in
+    let name : option_map string_bytes chosen.instance ≡ pair.name = is.instance ∙ sym ask.name in
+    let of : List ℕ → Option (List ℕ) → List ℕ → PairOfFiles = λ a b c. record { path = a; name = b; plan = c } in
+    ap (λ a. of a (option_map string_bytes chosen.instance) (get_or (map string_bytes chosen.files.items) 1 [])) path
+    ∙ ap (λ b. of pair.path b (get_or (map string_bytes chosen.files.items) 1 [])) name ∙ ap (λ c. of pair.path pair.name c) plan
+
+-- ---- the bytes
+
+all_read : (before after : Option (List ℕ)) (input came : List ℕ) → before ≡ Some input → Consumes before after came → IsAtEnd after → came ≡ input
+all_read before after input came same was end =
+    let whole = Consumes-whole before after came (λ xs. xs ≡ came) was end refl in
+    sym (subst (λ o. IfSome o (λ xs. xs ≡ came)) same whole)
+
+fewer_of : (after : Option (List ℕ)) (input came : List ℕ) → Consumes (Some input) after came → length came ≤ length input
+fewer_of None input came was = absurd was
+fewer_of (Some ys) input came was = omega (arith, ap length was, length-append came ys)
+
+fewer : (before after : Option (List ℕ)) (input came : List ℕ) → before ≡ Some input → Consumes before after came → length came ≤ length input
+fewer before after input came same was = fewer_of after input came (subst (λ o. Consumes o after came) same was)
+
+written_is : (before mid after : Option (List ℕ)) (start written text more : List ℕ) → before ≡ Some start → after ≡ Some (start ++ written) → Appends before mid text → Appends mid after more → more ≡ [] → written ≡ text
+written_is before mid after start written text more from to first second none =
+    let both = Appends-trans before mid after text more first second in
+    let known : start ++ written ≡ start ++ (text ++ more) = subst (λ o. Appends o (Some (start ++ written)) (text ++ more)) from (subst (λ o. Appends before o (text ++ more)) to both) in
+    append_cancel_left start written (text ++ more) known ∙ ap (λ xs. text ++ xs) none ∙ append-nil text
+
+-- ---- how it ends
+
+memory_status : (before after : Errors) (status : ℕ) → IsTold Memory before after status → status ≡ 4
+memory_status before after status (inl out) = out.own
+memory_status before after status (inr (text, out)) = absurd text
+
+memory_ends : (outcome : Result Answer CommandFault) (before after : Output) (told_before told_after : Errors) (status : ℕ) → outcome ≡ Err Memory → Ends outcome before after told_before told_after status → status ≡ 4
+memory_ends outcome before after told_before told_after status is ends =
+    let wanting = subst (λ o. Ends o before after told_before told_after status) is ends in memory_status told_before told_after status wanting.1
+
+write_ends : (outcome : Result Answer CommandFault) (before after : Output) (told_before told_after : Errors) (status : ℕ) → outcome ≡ Err Write → Ends outcome before after told_before told_after status → after ≡ before
+write_ends outcome before after told_before told_after status is ends =
+    let failed = subst (λ o. Ends o before after told_before told_after status) is ends in failed.0
+
+printed_as : (answer : Answer) (printed : Result ℕ CommandFault) (before after : Output) (told_before told_after : Errors) (status : ℕ) → after.failed ≡ false → IsPrinted answer before after printed
+    → IsToldAfter printed told_before told_after status → (status ≡ answer.status) × Appends before.taken after.taken answer.text.items
+printed_as answer (Ok shown) before after told_before told_after status unfailed is told = (told.1 ∙ is.0, is.1)
+printed_as answer (Err fault) before after told_before told_after status unfailed is told = absurd (let failed : true ≡ false = sym is.2 ∙ unfailed in cc failed)
+
+ended_as : (done : Bool) (outcome : Result Answer CommandFault) (before after : Output) (told_before told_after : Errors) (status : ℕ) → after.failed ≡ false → IsEnded done outcome
+    → Ends outcome before after told_before told_after status → (status ≡ status_at done) × ((more : List ℕ) × (more ≡ []) × Appends before.taken after.taken more)
+ended_as done (Ok answer) before after told_before told_after status unfailed is ends =
+    let printed = printed_as answer ends.printed before after told_before told_after status unfailed ends.is ends.told in
+    (printed.0 ∙ is.1, (answer.text.items, is.0, printed.1))
+ended_as done (Err fault) before after told_before told_after status unfailed is ends = absurd is
+
+-- what a good run of `drive` wrote
+record Wrote (p : PlannedShop) (input : List ℕ) (status : ℕ) (written : List ℕ) : Type 0 where
+  pub entries : List Entry
+  pub done : Bool
+  pub last : ℕ
+  pub left : ℕ
+  pub is_answer_text : IsAnswerText p input written (record { cell = cell_after p entries; entries = entries })
+  pub so_far : IsSoFar p entries done last left
+  pub own : status ≡ status_at done
+
+module _ (content : List ℕ → Result (List ℕ) CommandFault) (words : List (List ℕ)) (p : PlannedShop) (input : List ℕ) (few : length input ≤ 67108864)
+    (status : ℕ) (written : List ℕ) (well : RunsWell content words input status written) where
+  drive_wrote : (v : VerifiedPlan) (mid : Streams) (outcome : Result Answer CommandFault) (end : Result DriveEnd DriveFault) → v.planned ≡ p → IsDrive v well.before mid end
+      → IsEndAnswer (end_of_drive end) outcome → well.after.input ≡ mid.input → Ends outcome mid.output well.after.output well.told_before well.told_after status → Wrote p input status written
+  drive_wrote v mid outcome (Ok end) same is answer same_input ends =
+      let through = subst (λ q. IsDrivenThrough q end.log.entries well.before.input.left mid.input.left well.before.output.taken mid.output.taken mid.output.pending) same is.through in
+      let came : through.input ≡ input = all_read well.before.input.left mid.input.left input through.input well.given through.was_read through.at_end in
+      let last = ended_as end.done outcome mid.output well.after.output well.told_before well.told_after status well.was_written answer ends in
+      let text : written ≡ through.text = written_is well.before.output.taken mid.output.taken well.after.output.taken well.start written through.text last.1.0 well.empty well.wrote through.written last.1.2 last.1.1 in
+      let state : DrivenCell = record { cell = cell_after p end.log.entries; entries = end.log.entries } in
+      record {
+        entries = end.log.entries;
+        done = end.done;
+        last = end.last;
+        left = end.left;
+        is_answer_text = subst (λ xs. IsAnswerText p input xs state) (sym text) (subst (λ xs. IsAnswerText p xs through.text state) came through.is_answer_text);
+        so_far = subst (λ q. IsSoFar q end.log.entries end.done end.last end.left) same is.so_far;
+        own = last.0;
+      }
+  drive_wrote v mid outcome (Err NotRead) same is answer same_input ends =
+      absurd (let failed : true ≡ false = sym is.broken_off.2.0 ∙ sym (ap (λ i. i.failed) same_input) ∙ well.was_read in cc failed)
+  drive_wrote v mid outcome (Err NotWritten) same is answer same_input ends =
+      let same_output = write_ends outcome mid.output well.after.output well.told_before well.told_after status answer ends in
+      absurd (let failed : true ≡ false = sym is.broken_off.2.0 ∙ sym (ap (λ (o : Output). o.failed) same_output) ∙ well.was_written in cc failed)
+  drive_wrote v mid outcome (Err TooLong) same is answer same_input ends =
+      let less = fewer well.before.input.left mid.input.left input is.broken_off.0 well.given is.broken_off.1 in
+      absurd (omega (arith, less, few, is.broken_off.2.0))
+  drive_wrote v mid outcome (Err WantOfMemory) same is answer same_input ends =
+      absurd (well.no_want (memory_ends outcome mid.output well.after.output well.told_before well.told_after status answer ends))
+
+  cell_wrote : (mid : Streams) (outcome : Result Answer CommandFault) → ((v : VerifiedPlan) × (v.planned ≡ p) × DrivesCell v well.before mid outcome) ⊎ (outcome ≡ Err Memory) → well.after.input ≡ mid.input
+      → Ends outcome mid.output well.after.output well.told_before well.told_after status → Wrote p input status written
+  cell_wrote mid outcome (inl (v, same, cell)) same_input ends = drive_wrote v mid outcome cell.end same cell.is cell.answer same_input ends
+  cell_wrote mid outcome (inr none) same_input ends =
+      absurd (well.no_want (memory_ends outcome mid.output well.after.output well.told_before well.told_after status none ends))
+
+  follows_wrote : (pair : PairOfFiles) (read : Result Chosen WordsFault) → AskForDrive words pair → TellPlan content pair p → IsWellShaped p → IsAcceptable p → AreWordsRead words read
+      → Follows (Shelf content) read [] well.before well.told_before status well.asked well.after well.told_after → Wrote p input status written
+  follows_wrote pair (Ok chosen) ask good shaped acceptable are follows =
+      let name = is_drive chosen.name (are.chosen.name ∙ ask.drive) in
+      let runs : RunsDrive (Shelf content) (pair_in chosen) [] well.before follows.outcome well.asked follows.mid =
+      subst (λ n. RunsCommand (Shelf content) n chosen [] well.before follows.outcome well.asked follows.mid) name follows.runs in
+      let drive = subst (λ q. RunsDrive (Shelf content) q [] well.before follows.outcome well.asked follows.mid) (same_pair words pair chosen ask are.chosen) runs in
+      cell_wrote follows.mid follows.outcome (good_drive content pair p good well.before follows.mid follows.outcome well.asked shaped acceptable drive) follows.input follows.ends
+  follows_wrote pair (Err (Usage help text)) ask good shaped acceptable are follows =
+      absurd (let told = subst (λ kinds. TellsOneOf kinds (Usage help text)) ask.taken are.refused in told.1)
+  follows_wrote pair (Err NoWordsMemory) ask good shaped acceptable are follows = absurd (well.no_want (memory_status well.told_before well.told_after status follows.0.1))
+
+-- ---- two runs
+
+same_truth : (a b : Bool) → (IsTrue a → IsTrue b) → (IsTrue b → IsTrue a) → b ≡ a
+same_truth true true there back = refl
+same_truth true false there back = absurd (let bad : false ≡ true = there refl in cc bad)
+same_truth false true there back = absurd (let bad : false ≡ true = back refl in cc bad)
+same_truth false false there back = refl
+
+wrote_the_same : (p : PlannedShop) (input : List ℕ) (status other_status : ℕ) (written other : List ℕ) → IsWellShaped p → Wrote p input status written → Wrote p input other_status other
+    → (other_status ≡ status) × (other ≡ written)
+wrote_the_same p input status other_status written other shaped one two =
+    let same = one_answer_text p input written other _ _ shaped one.is_answer_text two.is_answer_text in
+    let entries : two.entries ≡ one.entries = ap (λ (d : DrivenCell). d.entries) same.1 in
+    let counted : IsTrue two.done ↔ (reports_in (events_of one.entries) ≡ stated_number p) = subst (λ es. IsTrue two.done ↔ (reports_in (events_of es) ≡ stated_number p)) entries two.so_far.counted in
+    let done : two.done ≡ one.done = same_truth one.done two.done (λ yet. counted.1 (one.so_far.counted.0 yet)) (λ yet. one.so_far.counted.1 (counted.0 yet)) in
+    (two.own ∙ ap status_at done ∙ sym one.own, same.0)
+
+pub drive_writes_the_same : (content : List ℕ → Result (List ℕ) CommandFault) (words : List (List ℕ)) (pair : PairOfFiles) (p : PlannedShop) (input : List ℕ) (status other_status : ℕ) (written other : List ℕ)
+    → AskForDrive words pair → TellPlan content pair p → IsWellShaped p → IsAcceptable p → length input ≤ 67108864
+    → RunsWell content words input status written → RunsWell content words input other_status other → (other_status ≡ status) × (other ≡ written)
+drive_writes_the_same content words pair p input status other_status written other ask good shaped acceptable few one two =
+    wrote_the_same p input status other_status written other shaped
+    (follows_wrote content words p input few status written one pair one.run.read ask good shaped acceptable one.run.is one.run.follows)
+    (follows_wrote content words p input few other_status other two pair two.run.read ask good shaped acceptable two.run.is two.run.follows)

@@ -1,0 +1,29 @@
+use Rattle.command_answers.specs.Shapes.{IsShapeLine}
+use Rattle.command_answers.specs.Checks.{IsCheckLine}
+use Rattle.command_answers.specs.Explains.{IsExplanation}
+use Rattle.command_run.proofs.GoodFiles.{good_facts, good_plan, good_log, good_search, good_improvement, good_drive}
+use Rattle.command_run.proofs.laws.good_files_are_answered.Goals as goal
+
+pub returns-clause-facts : goal.returns-clause-facts
+returns-clause-facts c = λ content path text description name shop outcome asked is tells run. good_facts content path text description name shop outcome asked is tells run
+
+pub returns-clause-shape : goal.returns-clause-shape
+returns-clause-shape c = λ content pair p outcome asked good run. good_plan content pair p good IsShapeLine outcome asked run
+
+pub returns-clause-check : goal.returns-clause-check
+returns-clause-check c = λ content pair p outcome asked good run. good_plan content pair p good IsCheckLine outcome asked run
+
+pub returns-clause-explain : goal.returns-clause-explain
+returns-clause-explain c = λ content pair p outcome asked good run. good_plan content pair p good IsExplanation outcome asked run
+
+pub returns-clause-log : goal.returns-clause-log
+returns-clause-log c = λ telling content pair log text p outcome asked good is shaped run. good_log content pair p good telling log text outcome asked is shaped run
+
+pub returns-clause-plan : goal.returns-clause-plan
+returns-clause-plan c = λ rounds content pair p outcome asked good run. good_search content pair p good rounds outcome asked run
+
+pub returns-clause-improve : goal.returns-clause-improve
+returns-clause-improve c = λ rounds content pair p outcome asked good run. good_improvement content pair p good rounds outcome asked run
+
+pub returns-clause-drive : goal.returns-clause-drive
+returns-clause-drive c = λ before after content pair p outcome asked good shaped acceptable run. good_drive content pair p good before after outcome asked shaped acceptable run
