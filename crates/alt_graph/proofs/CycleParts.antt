@@ -5,13 +5,13 @@ use Rattle.shop_base.specs.declared.node.Node.{Node}
 use Rattle.shop_base.specs.Plan.{PlannedShop, IsWellShaped}
 use Rattle.shop_base.specs.Graph.{IsNode, ArcsLead, AreDistinct, IsSimpleCycle}
 use Rattle.shop_base.proofs.CycleLaw.{cycle_never_made, cycle_never_done}
-use Rattle.alt_graph.specs.Evidence.{IsBefore, IsCycle}
+use Rattle.alt_graph.specs.Evidence.{IsNodeBefore, IsCycle}
 use Rattle.shop_base.specs.CycleLaw.{IsNeverDone, AreNeverMade}
 
 -- what is checked of nodes that are a first one and others
 pub record AreCycleParts (p : PlannedShop) (nodes : List Node) (first : Node) (rest : List Node) : Type 0 where
   pub of_shop : All (IsNode p) nodes
-  pub least : All (IsBefore first) rest
+  pub least : All (IsNodeBefore first) rest
   pub arcs : ArcsLead p first rest first
   pub distinct : AreDistinct nodes
 

@@ -1,10 +1,10 @@
--- The tables, filled row by row.
+-- The lookups, filled row by row.
 use Rattle.std.proofs.Common.{◌≡◌, ◌≢◌, ℕ, ◌+◌, ◌*◌, ◌<◌, ◌≤◌, ◌++◌, ◌∷◌, [], List, length, get_or, set, arith, sym, ap, ◌∙◌, get_or-set_same, get_or-set_other, inl, inr}
 use Rattle.std.proofs.lemmas.Bool.{cases_order}
 use Rattle.std.proofs.lemmas.List.{get_or_append_left, get_or_push, length_push}
 use Rattle.shop_base.specs.declared.limits.TheConstants.{MAX_MACHINES}
 use Rattle.shop_base.specs.Plan.{PlannedShop, jobs, machines, steps, order, job_at, IsWellShaped}
-use Rattle.alt_graph.specs.Tables.{AreFirsts, ArePlacesOf, slot_of, HasSlots}
+use Rattle.alt_graph.specs.Lookups.{AreFirsts, ArePlacesOf, slot_of, HasSlots}
 use Rattle.shop_base.proofs.Sizes.{steps_few, place_job}
 
 -- ---- the numbers of the first nodes

@@ -5,7 +5,7 @@ use Rattle.shop_base.specs.Plan.{PlannedShop, release, IsWellShaped}
 use Rattle.shop_base.specs.Graph.{node, IsNode, Path, begins, follows}
 use Rattle.shop_base.proofs.Cycles.{source_node}
 use Rattle.alt_graph.specs.declared.times.NodeTime.{NodeTime}
-use Rattle.alt_graph.specs.Tables.{AreFirsts}
+use Rattle.alt_graph.specs.Lookups.{AreFirsts}
 use Rattle.alt_graph.specs.Times.{NodeTimes, rank_of, earliest_of, before_of, IsAttained, AreTimes, AreOrdered}
 use Rattle.alt_graph.specs.Layout.{by_job, LeadsBack, AreLinked}
 use Rattle.alt_graph.specs.Ranking.{IsRanked, AreRanked}

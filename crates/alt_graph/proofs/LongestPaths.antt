@@ -5,7 +5,7 @@ use Rattle.shop_base.specs.declared.node.Node.{Node}
 use Rattle.shop_base.specs.Plan.{PlannedShop, nominal, release, IsWellShaped}
 use Rattle.shop_base.specs.Graph.{node, IsNode, Arc}
 use Rattle.alt_graph.specs.declared.times.TheConstants.{UNRANKED}
-use Rattle.alt_graph.specs.declared.sources.Source.{Source}
+use Rattle.alt_graph.specs.declared.sources.ArcIn.{ArcIn}
 use Rattle.alt_graph.specs.declared.ranking.Longest.{Longest}
 use Rattle.alt_graph.specs.Sources.{IsJobArc, IsBlockingArc}
 use Rattle.alt_graph.specs.Times.{NodeTimes, rank_of, earliest_of, IsAttained}
@@ -33,11 +33,11 @@ module _ (p : PlannedShop) (shaped : IsWellShaped p) (t : NodeTimes) (n : ℕ) (
   }
 
   -- the longest path over one arc is over the node that it comes from
-  over_last : (s : Source) (longest : Longest) → Arc p s.node v s.length → IsOver p t n s longest → IsAttained p t v longest.length longest.before
+  over_last : (s : ArcIn) (longest : Longest) → Arc p s.node v s.length → IsOver p t n s longest → IsAttained p t v longest.length longest.before
   over_last s longest arc over = subst (λ (o : Option Node). IsAttained p t v longest.length o) (sym over.before) (s.length, arc, sym over.length)
 
   -- over the job arc
-  pub longest_along : (s : Source) (longest : Longest) → IsJobArc p s.node v s.length → IsOver p t n s longest → IsLongest p t n (IsJobArc p) v longest
+  pub longest_along : (s : ArcIn) (longest : Longest) → IsJobArc p s.node v s.length → IsOver p t n s longest → IsLongest p t n (IsJobArc p) v longest
   longest_along s longest arc over = record {
     ranked = λ u d other. (let once = job_source_once p shaped u s.node v d s.length other arc in subst (IsRanked t) (sym once.0) over.ranked);
     fits = λ u d other. (let once = job_source_once p shaped u s.node v d s.length other arc in omega (arith, ap (earliest_of t) once.0, once.1, over.length));
@@ -47,7 +47,7 @@ module _ (p : PlannedShop) (shaped : IsWellShaped p) (t : NodeTimes) (n : ℕ) (
   }
 
   -- a node waits for the source of an arc to it that has no rank
-  pub waits_for : (s : Source) → Arc p s.node v s.length → rank_of t s.node ≡ UNRANKED → WaitsFor p t UNRANKED v
+  pub waits_for : (s : ArcIn) → Arc p s.node v s.length → rank_of t s.node ≡ UNRANKED → WaitsFor p t UNRANKED v
   waits_for s arc free = (s.node, s.length, arc, omega arith)
 
   -- without a blocking arc
@@ -64,7 +64,7 @@ module _ (p : PlannedShop) (shaped : IsWellShaped p) (t : NodeTimes) (n : ℕ) (
       only u d (inl arc) = arc
       only u d (inr arc) = absurd (none u d arc)
 
-  module _ (s : Source) (along freed : Longest) (is_along : IsLongest p t n (IsJobArc p) v along) (arc : IsBlockingArc p s.node v s.length) (over : IsOver p t n s freed) where
+  module _ (s : ArcIn) (along freed : Longest) (is_along : IsLongest p t n (IsJobArc p) v along) (arc : IsBlockingArc p s.node v s.length) (over : IsOver p t n s freed) where
     both_ranked : (u : Node) (d : ℕ) → IsJobArc p u v d ⊎ IsBlockingArc p u v d → IsRanked t u
     both_ranked u d (inl other) = is_along.ranked u d other
     both_ranked u d (inr other) = let once = blocking_source_once p shaped u s.node v d s.length other arc in subst (IsRanked t) (sym once.0) over.ranked

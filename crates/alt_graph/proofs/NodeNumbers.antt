@@ -8,7 +8,7 @@ use Rattle.shop_base.specs.Plan.{PlannedShop, jobs, steps}
 use Rattle.shop_base.specs.Graph.{node, IsNode}
 use Rattle.alt_graph.specs.declared.times.NodeTime.{NodeTime}
 use Rattle.alt_graph.specs.Evidence.{node_count}
-use Rattle.alt_graph.specs.Tables.{AreFirsts}
+use Rattle.alt_graph.specs.Lookups.{AreFirsts}
 use Rattle.alt_graph.specs.Times.{NodeTimes, no_time, time_at, IsTimed}
 use Rattle.alt_graph.specs.Layout.{number_of, by_job}
 use Rattle.alt_graph.proofs.Layouts.{time_told, timed_told, timed_job, timed_place}

@@ -11,7 +11,7 @@ use Rattle.shop_base.proofs.Cycles.{source_node}
 use Rattle.alt_graph.specs.declared.times.NodeTime.{NodeTime}
 use Rattle.alt_graph.specs.declared.times.TheConstants.{UNRANKED}
 use Rattle.alt_graph.specs.declared.ranking.Longest.{Longest}
-use Rattle.alt_graph.specs.Tables.{AreFirsts}
+use Rattle.alt_graph.specs.Lookups.{AreFirsts}
 use Rattle.alt_graph.specs.Times.{NodeTimes, no_time, time_at, rank_of, earliest_of, before_of, IsAttained}
 use Rattle.alt_graph.specs.Layout.{number_of, by_job}
 use Rattle.alt_graph.specs.Ranking.{IsRanked, IsPlaced, IsLongest, AreRanked, Grows, blank}

@@ -1,30 +1,30 @@
--- Where jobs stand in the orders, by the tables, and what follows for blocking arcs.
+-- Where jobs stand in the orders, by the lookups, and what follows for blocking arcs.
 use Rattle.std.proofs.Common.{◌≡◌, ℕ, ◌+◌, ◌<◌, length, get_or, arith, sym, ◌∙◌, ap, subst}
 use Rattle.shop_base.specs.declared.node.Node.{Node}
 use Rattle.shop_base.specs.Plan.{PlannedShop, machines, order, job_at, Visits, Stands, IsWellShaped}
 use Rattle.shop_base.proofs.Visits.{visits_job, visits_machine, visits-stands, stands_once}
 use Rattle.shop_base.proofs.Places.{stands_at}
-use Rattle.alt_graph.specs.declared.tables.Tables.{Tables}
-use Rattle.alt_graph.specs.Tables.{AreTables, slot_of}
+use Rattle.alt_graph.specs.declared.lookups.Lookups.{Lookups}
+use Rattle.alt_graph.specs.Lookups.{AreLookups, slot_of}
 use Rattle.alt_graph.specs.Sources.{IsBlockingArc}
 
 module _ (p : PlannedShop) (shaped : IsWellShaped p) where
   -- the place of a step's job, looked up
-  pub place_told : (tables : Tables) (j k m : ℕ) → AreTables p tables → Visits p j k m → Stands p m (get_or tables.places.items (slot_of m j) 0) j k
-  place_told tables j k m are visits =
+  pub place_told : (lookups : Lookups) (j k m : ℕ) → AreLookups p lookups → Visits p j k m → Stands p m (get_or lookups.places.items (slot_of m j) 0) j k
+  place_told lookups j k m are visits =
       let found = visits-stands p j k m shaped visits in
       let stands : Stands p m found.0 j k = found.1 in
-      let told : get_or tables.places.items (slot_of m (job_at p m found.0)) 0 ≡ found.0 = are.places m (visits_machine p j k m shaped visits) found.0 stands.within in
-      let same : get_or tables.places.items (slot_of m j) 0 ≡ found.0 = ap (λ i. get_or tables.places.items (slot_of m i) 0) (sym stands.job) ∙ told in
+      let told : get_or lookups.places.items (slot_of m (job_at p m found.0)) 0 ≡ found.0 = are.places m (visits_machine p j k m shaped visits) found.0 stands.within in
+      let same : get_or lookups.places.items (slot_of m j) 0 ≡ found.0 = ap (λ i. get_or lookups.places.items (slot_of m i) 0) (sym stands.job) ∙ told in
       rw same stands
 
   -- the step of the job at a place, looked up
-  pub entry_told : (tables : Tables) (m a : ℕ) → AreTables p tables → m < machines p → a < length (order p m)
-      → Stands p m a (job_at p m a) (get_or tables.steps.items (slot_of m (job_at p m a)) 0)
-  entry_told tables m a are machine within =
+  pub entry_told : (lookups : Lookups) (m a : ℕ) → AreLookups p lookups → m < machines p → a < length (order p m)
+      → Stands p m a (job_at p m a) (get_or lookups.steps.items (slot_of m (job_at p m a)) 0)
+  entry_told lookups m a are machine within =
       let found = stands_at p m a shaped machine within in
       let stands : Stands p m a (job_at p m a) found.0 = found.1 in
-      let told : get_or tables.steps.items (slot_of m (job_at p m a)) 0 ≡ found.0 =
+      let told : get_or lookups.steps.items (slot_of m (job_at p m a)) 0 ≡ found.0 =
       are.steps (job_at p m a) (visits_job p (job_at p m a) found.0 m stands.visits) found.0 m stands.visits in
       rw told stands
 

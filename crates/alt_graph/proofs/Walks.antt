@@ -10,14 +10,14 @@ use Rattle.shop_base.specs.Plan.{PlannedShop, jobs}
 use Rattle.shop_base.specs.Graph.{node, IsNode, HasArc}
 use Rattle.alt_graph.specs.declared.times.NodeTime.{NodeTime}
 use Rattle.alt_graph.specs.declared.times.TheConstants.{UNRANKED}
-use Rattle.alt_graph.specs.declared.sources.Source.{Source}
-use Rattle.alt_graph.specs.declared.rounds.Round.{Round}
-use Rattle.alt_graph.specs.Sources.{IsSource}
-use Rattle.alt_graph.specs.Tables.{AreFirsts}
+use Rattle.alt_graph.specs.declared.sources.ArcIn.{ArcIn}
+use Rattle.alt_graph.specs.declared.cycles.Trail.{Trail}
+use Rattle.alt_graph.specs.Sources.{IsArcIn}
+use Rattle.alt_graph.specs.Lookups.{AreFirsts}
 use Rattle.alt_graph.specs.Times.{NodeTimes, rank_of}
 use Rattle.alt_graph.specs.Layout.{number_of, by_job}
 use Rattle.alt_graph.specs.Ranking.{IsRanked}
-use Rattle.alt_graph.specs.Rounds.{IsRound, IsWalk, unseen, round_at}
+use Rattle.alt_graph.specs.Trails.{IsTrail, IsWalk, unseen, trail_at}
 use Rattle.alt_graph.specs.Places.{node_at}
 use Rattle.alt_graph.proofs.NodeNumbers.{number_inside, cases_node, number_same}
 
@@ -25,7 +25,7 @@ use Rattle.alt_graph.proofs.NodeNumbers.{number_inside, cases_node, number_same}
 
 -- the arc of one kind comes from a ranked node, where that one is
 pub source_ranked : (Kind : Node → Node → ℕ → Type 0) → ((u w v : Node) (d e : ℕ) → Kind u v d → Kind w v e → (u ≡ w) × (d ≡ e))
-    → (t : NodeTimes) (v : Node) (o : Option Source) → IsSource Kind v o → ((s : Source) → o ≡ Some s → IsRanked t s.node) → (u : Node) (d : ℕ) → Kind u v d → IsRanked t u
+    → (t : NodeTimes) (v : Node) (o : Option ArcIn) → IsArcIn Kind v o → ((s : ArcIn) → o ≡ Some s → IsRanked t s.node) → (u : Node) (d : ℕ) → Kind u v d → IsRanked t u
 source_ranked Kind once t v None none ranked u d arc = absurd (none u d arc)
 source_ranked Kind once t v (Some s) is ranked u d arc = subst (IsRanked t) (sym ((once u s.node v d s.length arc is).0)) (ranked s refl)
 
@@ -163,13 +163,13 @@ module _ (p : PlannedShop) (firsts : List ℕ) (are : AreFirsts p firsts) (rows 
       walk_shorter = omega (arith, unseen_less seen (number_of firsts v) (length nodes) inside free (λ same. omega (arith, few_nodes, same)))
 
   -- where a node comes again
-  pub walk_round : (round : Round) (seen : List ℕ) (v : Node) → IsWalk p firsts rows round.nodes.items seen v → get_or seen (number_of firsts v) 0 ≢ UNRANKED
-      → round.start ≡ get_or seen (number_of firsts v) 0 → IsRound p round
-  walk_round round seen v walk taken is = record {
+  pub walk_trail : (trail : Trail) (seen : List ℕ) (v : Node) → IsWalk p firsts rows trail.nodes.items seen v → get_or seen (number_of firsts v) 0 ≢ UNRANKED
+      → trail.start ≡ get_or seen (number_of firsts v) 0 → IsTrail p trail
+  walk_trail trail seen v walk taken is = record {
     start = omega (arith, is, walk.marked_in v walk.next_node taken);
     back = walk.back;
     closes = λ i same.
-        let at : round_at round round.start ≡ v = ap (round_at round) is ∙ walk.marked v walk.next_node taken in
-        subst (λ (w : Node). HasArc p w (round_at round i)) (sym at) (walk.last i same);
+        let at : trail_at trail trail.start ≡ v = ap (trail_at trail) is ∙ walk.marked v walk.next_node taken in
+        subst (λ (w : Node). HasArc p w (trail_at trail i)) (sym at) (walk.last i same);
     apart = λ i j lt within same. omega (arith, walk.marks i (omega arith), walk.marks j within, ap (λ (w : Node). get_or seen (number_of firsts w) 0) same);
   }

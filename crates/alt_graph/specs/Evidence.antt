@@ -5,13 +5,13 @@ use Rattle.shop_base.specs.Plan.{PlannedShop, jobs}
 use Rattle.shop_base.specs.Graph.{IsNode, IsSimpleCycle, Path}
 
 -- nodes are ordered by job, then by place
-abbrev pub IsBefore : Node → Node → Type 0
-IsBefore u v = (u.job < v.job) ⊎ ((u.job ≡ v.job) × (u.place < v.place))
+abbrev pub IsNodeBefore : Node → Node → Type 0
+IsNodeBefore u v = (u.job < v.job) ⊎ ((u.job ≡ v.job) × (u.place < v.place))
 
 -- the evidence of a cycle: a simple cycle of nodes of the shop, the least of them first
 abbrev pub IsCycle : PlannedShop → List Node → Type 0
 IsCycle p [] = ⊥
-IsCycle p (u ∷ us) = IsSimpleCycle p (u ∷ us) × All (IsNode p) (u ∷ us) × All (IsBefore u) us
+IsCycle p (u ∷ us) = IsSimpleCycle p (u ∷ us) × All (IsNode p) (u ∷ us) × All (IsNodeBefore u) us
 
 -- how many nodes there are: each job has one for each step, and its leaving
 abbrev pub node_count : PlannedShop → ℕ

@@ -3,7 +3,7 @@ pub mod Places
 pub mod Times
 pub mod Layout
 pub mod Solved
-pub mod Tables
+pub mod Lookups
 pub mod Sources
 pub mod Ranking
-pub mod Rounds
+pub mod Trails

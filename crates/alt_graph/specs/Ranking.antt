@@ -5,17 +5,17 @@ use Rattle.shop_base.specs.Plan.{PlannedShop, jobs, release}
 use Rattle.shop_base.specs.Graph.{Arc, IsNode}
 use Rattle.alt_graph.specs.declared.times.NodeTime.{NodeTime}
 use Rattle.alt_graph.specs.declared.times.TheConstants.{UNRANKED}
-use Rattle.alt_graph.specs.declared.tables.Tables.{Tables}
+use Rattle.alt_graph.specs.declared.lookups.Lookups.{Lookups}
 use Rattle.alt_graph.specs.declared.ranking.Ranking.{Ranking}
 use Rattle.alt_graph.specs.declared.ranking.Longest.{Longest}
-use Rattle.alt_graph.specs.declared.sources.Source.{Source}
+use Rattle.alt_graph.specs.declared.sources.ArcIn.{ArcIn}
 use Rattle.alt_graph.specs.Times.{NodeTimes, time_at, rank_of, earliest_of, before_of, IsAttained}
 use Rattle.alt_graph.specs.Layout.{by_job}
 use Rattle.alt_graph.specs.Places.{node_at}
 
 -- what is known of the nodes in the midst of the ranking
-abbrev pub so_far : Tables → Ranking → NodeTimes
-so_far tables ranking = by_job tables.firsts.items ranking.rows.items
+abbrev pub so_far : Lookups → Ranking → NodeTimes
+so_far lookups ranking = by_job lookups.firsts.items ranking.rows.items
 
 -- the node has a rank
 abbrev pub IsRanked : NodeTimes → Node → Type 0
@@ -34,7 +34,7 @@ pub record IsLongest (p : PlannedShop) (t : NodeTimes) (n : ℕ) (Into : Node �
   pub bounded : longest.length ≤ MAX_RELEASE + MAX_NOMINAL * n
 
 -- what one arc allows
-pub record IsOver (p : PlannedShop) (t : NodeTimes) (n : ℕ) (source : Source) (longest : Longest) : Type 0 where
+pub record IsOver (p : PlannedShop) (t : NodeTimes) (n : ℕ) (source : ArcIn) (longest : Longest) : Type 0 where
   pub ranked : IsRanked t source.node
   pub length : longest.length ≡ earliest_of t source.node + source.length
   pub before : longest.before ≡ Some source.node
@@ -63,8 +63,8 @@ pub record AreRanked (p : PlannedShop) (firsts : List ℕ) (rows : List NodeTime
   pub size : length rows ≡ slice_index firsts (jobs p)
 
 -- the same of a ranking
-abbrev pub IsRanking : PlannedShop → Tables → Ranking → Type 0
-IsRanking p tables ranking = AreRanked p tables.firsts.items ranking.rows.items ranking.done.items
+abbrev pub IsRanking : PlannedShop → Lookups → Ranking → Type 0
+IsRanking p lookups ranking = AreRanked p lookups.firsts.items ranking.rows.items ranking.done.items
 
 -- nodes without a rank may have got one from n on, and nothing else has changed
 abbrev pub Grows : PlannedShop → NodeTimes → NodeTimes → ℕ → Type 0

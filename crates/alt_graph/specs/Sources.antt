@@ -1,7 +1,7 @@
 use Rattle.std.specs.Prelude.{◌≡◌, ℕ, ◌+◌, ◌<◌, List, length, slice_index, Option, MatchOption}
 use Rattle.shop_base.specs.declared.node.Node.{Node}
 use Rattle.shop_base.specs.Plan.{PlannedShop, steps, nominal, clean, Stands}
-use Rattle.alt_graph.specs.declared.sources.Source.{Source}
+use Rattle.alt_graph.specs.declared.sources.ArcIn.{ArcIn}
 
 -- a job arc leads from u to v, and has the length d
 pub record IsJobArc (p : PlannedShop) (u v : Node) (d : ℕ) : Type 0 where
@@ -25,8 +25,8 @@ abbrev pub IsBehind : List ℕ → ℕ → ℕ → Type 0
 IsBehind order i j = (a : ℕ) × (a + 1 < length order) × (slice_index order a ≡ i) × (slice_index order (a + 1) ≡ j)
 
 -- the arc into v of one kind, if there is one
-abbrev pub IsSource : (Node → Node → ℕ → Type 0) → Node → Option Source → Type 0
-IsSource Arc v found = MatchOption found ((u : Node) (d : ℕ) → Arc u v d → ⊥) (λ s. Arc s.node v s.length)
+abbrev pub IsArcIn : (Node → Node → ℕ → Type 0) → Node → Option ArcIn → Type 0
+IsArcIn Arc v found = MatchOption found ((u : Node) (d : ℕ) → Arc u v d → ⊥) (λ s. Arc s.node v s.length)
 
 -- the node to which the arc out of u of one kind leads, if there is one
 abbrev pub IsTarget : (Node → Node → ℕ → Type 0) → Node → Option Node → Type 0

@@ -4,7 +4,7 @@ ghost use Rattle.std.specs.Prelude.{◌<◌, ◌↔◌, All, IsTrue, length};
 ghost use Rattle.std.specs.Bool.{OnTrue};
 ghost use Rattle.shop_base.specs.Plan.{IsWellShaped};
 ghost use Rattle.shop_base.specs.Graph.{IsNode, ArcsLead, AreDistinct};
-ghost use Rattle.alt_graph.specs.Evidence.{IsBefore, IsCycle};
+ghost use Rattle.alt_graph.specs.Evidence.{IsNodeBefore, IsCycle};
 ghost use Rattle.shop_base.specs.CycleLaw.{IsNeverDone, AreNeverMade};
 ghost use Rattle.alt_graph.specs.Places.{IsNewAt};
 
@@ -44,7 +44,7 @@ fn is_node(shaped: &Shaped, node: Node) -> bool
 }
 
 fn is_least(first: Node, rest: &[Node]) -> bool
-    ensures { IsTrue result ↔ All (IsBefore first) rest.now }
+    ensures { IsTrue result ↔ All (IsNodeBefore first) rest.now }
 {
     rest.iter().all(|node| is_before(first, *node))
 }

@@ -10,13 +10,13 @@
 mod arcs;
 mod chain_check;
 mod cycle_check;
+mod cycles;
+mod lookups;
 mod node_order;
 mod numbers;
 mod ranking;
-mod rounds;
 mod solving;
 mod sources;
-mod tables;
 mod times;
 
 pub use chain_check::check_chain;

@@ -1,7 +1,7 @@
 //! The numbers of nodes: job after job, and within a job by place.
 
 ghost use Rattle.std.specs.Prelude.{◌≡◌, ◌+◌, ◌<◌, IfOk, length};
-ghost use Rattle.alt_graph.specs.Tables.{AreFirsts};
+ghost use Rattle.alt_graph.specs.Lookups.{AreFirsts};
 ghost use Rattle.alt_graph.specs.Layout.{number_of};
 
 use shop_base::{Node, Shaped};

@@ -6,14 +6,14 @@ ghost use Rattle.shop_base.specs.declared.limits.TheConstants.{MAX_NOMINAL};
 ghost use Rattle.shop_base.specs.declared.node.Node.{Node};
 ghost use Rattle.shop_base.specs.Plan.{jobs, steps};
 ghost use Rattle.shop_base.specs.Graph.{Arc, IsNode, node};
-ghost use Rattle.alt_graph.specs.Tables.{AreTables};
+ghost use Rattle.alt_graph.specs.Lookups.{AreLookups};
 ghost use Rattle.alt_graph.specs.Sources.{IsJobArc};
 ghost use Rattle.alt_graph.specs.Times.{rank_of, time_at, no_time};
 ghost use Rattle.alt_graph.specs.Ranking.{so_far, IsRanked, IsLongest, IsOver, WaitsFor, IsRanking, Grows, IsSettled, AreSettled};
 
+use crate::lookups::Lookups;
 use crate::numbers::number;
-use crate::sources::{Source, blocking_source, blocking_target, job_source, job_target};
-use crate::tables::Tables;
+use crate::sources::{ArcIn, blocking_source, blocking_target, job_source, job_target};
 use crate::times::{NodeTime, UNRANKED};
 use shop_base::{JobNo, Moment, Node, Shaped};
 use std::alloc::{AllocError, Global};
@@ -36,39 +36,39 @@ pub(crate) struct Longest {
 pub(crate) fn rank_all(
     alloc: Global,
     shaped: &Shaped,
-    tables: &Tables,
+    lookups: &Lookups,
 ) -> Result<Ranking, AllocError>
-    requires { AreTables shaped.now tables.now }
-    ensures ranked { IfOk result (λ ranking. IsRanking shaped.now tables.now ranking) }
-    ensures settled { IfOk result (λ ranking. AreSettled shaped.now (so_far tables.now ranking) UNRANKED) }
+    requires { AreLookups shaped.now lookups.now }
+    ensures ranked { IfOk result (λ ranking. IsRanking shaped.now lookups.now ranking) }
+    ensures settled { IfOk result (λ ranking. AreSettled shaped.now (so_far lookups.now ranking) UNRANKED) }
 {
-    let mut ranking = rank_first(alloc, shaped, tables)?;
+    let mut ranking = rank_first(alloc, shaped, lookups)?;
     let mut next = 0;
     while next < ranking.done.len() {
-        rank_after(shaped, tables, &mut ranking, next)?;
+        rank_after(shaped, lookups, &mut ranking, next)?;
         next += 1;
     }
     Ok(ranking)
 }
 
 /// Ranks the nodes that no arc leads to.
-fn rank_first(alloc: Global, shaped: &Shaped, tables: &Tables) -> Result<Ranking, AllocError>
-    requires { AreTables shaped.now tables.now }
-    ensures ranked { IfOk result (λ ranking. IsRanking shaped.now tables.now ranking) }
-    ensures settled { IfOk result (λ ranking. AreSettled shaped.now (so_far tables.now ranking) 0) }
+fn rank_first(alloc: Global, shaped: &Shaped, lookups: &Lookups) -> Result<Ranking, AllocError>
+    requires { AreLookups shaped.now lookups.now }
+    ensures ranked { IfOk result (λ ranking. IsRanking shaped.now lookups.now ranking) }
+    ensures settled { IfOk result (λ ranking. AreSettled shaped.now (so_far lookups.now ranking) 0) }
 {
-    let mut ranking = none_ranked(alloc, shaped, tables)?;
+    let mut ranking = none_ranked(alloc, shaped, lookups)?;
     for job in 0..shaped.job_count() {
-        try_rank(shaped, tables, &mut ranking, Node { job, place: 0 })?;
+        try_rank(shaped, lookups, &mut ranking, Node { job, place: 0 })?;
     }
     Ok(ranking)
 }
 
-fn none_ranked(alloc: Global, shaped: &Shaped, tables: &Tables) -> Result<Ranking, AllocError>
-    requires { AreTables shaped.now tables.now }
-    ensures { IfOk result (λ ranking. IsRanking shaped.now tables.now ranking) }
+fn none_ranked(alloc: Global, shaped: &Shaped, lookups: &Lookups) -> Result<Ranking, AllocError>
+    requires { AreLookups shaped.now lookups.now }
+    ensures { IfOk result (λ ranking. IsRanking shaped.now lookups.now ranking) }
 {
-    let nodes = tables.firsts[shaped.job_count() as usize] as usize;
+    let nodes = lookups.firsts[shaped.job_count() as usize] as usize;
     let done = Vec::with_capacity(alloc, nodes)?;
     let rows = no_times(alloc, nodes)?;
     Ok(Ranking { done, rows })
@@ -91,43 +91,43 @@ fn no_times(alloc: Global, count: usize) -> Result<Vec<NodeTime>, AllocError>
 /// Ranks those nodes after the next ranked one that can be ranked now.
 fn rank_after(
     shaped: &Shaped,
-    tables: &Tables,
+    lookups: &Lookups,
     ranking: &mut Ranking,
     next: usize,
 ) -> Result<(), AllocError>
-    requires tables { AreTables shaped.now tables.now }
+    requires lookups { AreLookups shaped.now lookups.now }
     requires next { next < length ranking.old.done.items }
-    requires ranked { IsRanking shaped.now tables.now ranking.old }
-    requires settled { AreSettled shaped.now (so_far tables.now ranking.old) next }
-    ensures ranked { OnOk result (IsRanking shaped.now tables.now ranking.new) }
-    ensures settled { OnOk result (AreSettled shaped.now (so_far tables.now ranking.new) (next + 1)) }
+    requires ranked { IsRanking shaped.now lookups.now ranking.old }
+    requires settled { AreSettled shaped.now (so_far lookups.now ranking.old) next }
+    ensures ranked { OnOk result (IsRanking shaped.now lookups.now ranking.new) }
+    ensures settled { OnOk result (AreSettled shaped.now (so_far lookups.now ranking.new) (next + 1)) }
     ensures longer { OnOk result (length ranking.old.done.items ≤ length ranking.new.done.items) }
 {
     let node = ranking.done[next];
     let target = job_target(shaped, node);
-    try_target(shaped, tables, ranking, target)?;
-    let target = blocking_target(shaped, tables, node);
-    try_target(shaped, tables, ranking, target)?;
+    try_target(shaped, lookups, ranking, target)?;
+    let target = blocking_target(shaped, lookups, node);
+    try_target(shaped, lookups, ranking, target)?;
     Ok(())
 }
 
 /// Ranks the node, if there is one, and if it can be ranked now.
 fn try_target(
     shaped: &Shaped,
-    tables: &Tables,
+    lookups: &Lookups,
     ranking: &mut Ranking,
     target: Option<Node>,
 ) -> Result<(), AllocError>
     requires node { ForSome target (IsNode shaped.now) }
-    requires tables { AreTables shaped.now tables.now }
-    requires ranked { IsRanking shaped.now tables.now ranking.old }
-    ensures ranked { OnOk result (IsRanking shaped.now tables.now ranking.new) }
-    ensures grows { OnOk result (Grows shaped.now (so_far tables.now ranking.old) (so_far tables.now ranking.new) (length ranking.old.done.items)) }
+    requires lookups { AreLookups shaped.now lookups.now }
+    requires ranked { IsRanking shaped.now lookups.now ranking.old }
+    ensures ranked { OnOk result (IsRanking shaped.now lookups.now ranking.new) }
+    ensures grows { OnOk result (Grows shaped.now (so_far lookups.now ranking.old) (so_far lookups.now ranking.new) (length ranking.old.done.items)) }
     ensures longer { OnOk result (length ranking.old.done.items ≤ length ranking.new.done.items) }
-    ensures settled { OnOk result (ForSome target (IsSettled shaped.now (so_far tables.now ranking.new) UNRANKED)) }
+    ensures settled { OnOk result (ForSome target (IsSettled shaped.now (so_far lookups.now ranking.new) UNRANKED)) }
 {
     match target {
-        Some(node) => try_rank(shaped, tables, ranking, node),
+        Some(node) => try_rank(shaped, lookups, ranking, node),
         None => Ok(()),
     }
 }
@@ -135,23 +135,23 @@ fn try_target(
 /// Ranks the node if it isn't ranked and all arcs to it come from ranked nodes.
 fn try_rank(
     shaped: &Shaped,
-    tables: &Tables,
+    lookups: &Lookups,
     ranking: &mut Ranking,
     node: Node,
 ) -> Result<(), AllocError>
     requires node { IsNode shaped.now node }
-    requires tables { AreTables shaped.now tables.now }
-    requires ranked { IsRanking shaped.now tables.now ranking.old }
-    ensures ranked { OnOk result (IsRanking shaped.now tables.now ranking.new) }
-    ensures grows { OnOk result (Grows shaped.now (so_far tables.now ranking.old) (so_far tables.now ranking.new) (length ranking.old.done.items)) }
+    requires lookups { AreLookups shaped.now lookups.now }
+    requires ranked { IsRanking shaped.now lookups.now ranking.old }
+    ensures ranked { OnOk result (IsRanking shaped.now lookups.now ranking.new) }
+    ensures grows { OnOk result (Grows shaped.now (so_far lookups.now ranking.old) (so_far lookups.now ranking.new) (length ranking.old.done.items)) }
     ensures longer { OnOk result (length ranking.old.done.items ≤ length ranking.new.done.items) }
-    ensures settled { OnOk result (IsSettled shaped.now (so_far tables.now ranking.new) UNRANKED node) }
+    ensures settled { OnOk result (IsSettled shaped.now (so_far lookups.now ranking.new) UNRANKED node) }
 {
-    if is_ranked(shaped, tables, ranking, node) {
+    if is_ranked(shaped, lookups, ranking, node) {
         return Ok(());
     }
-    match longest_to(shaped, tables, ranking, node) {
-        Some(longest) => rank_next(shaped, tables, ranking, node, longest),
+    match longest_to(shaped, lookups, ranking, node) {
+        Some(longest) => rank_next(shaped, lookups, ranking, node, longest),
         None => Ok(()),
     }
 }
@@ -159,22 +159,22 @@ fn try_rank(
 /// Gives the node the next rank.
 fn rank_next(
     shaped: &Shaped,
-    tables: &Tables,
+    lookups: &Lookups,
     ranking: &mut Ranking,
     node: Node,
     longest: Longest,
 ) -> Result<(), AllocError>
     requires node { IsNode shaped.now node }
-    requires tables { AreTables shaped.now tables.now }
-    requires ranked { IsRanking shaped.now tables.now ranking.old }
-    requires unranked { rank_of (so_far tables.now ranking.old) node ≡ UNRANKED }
-    requires longest { IsLongest shaped.now (so_far tables.now ranking.old) (length ranking.old.done.items) (Arc shaped.now) node longest }
-    ensures ranked { OnOk result (IsRanking shaped.now tables.now ranking.new) }
-    ensures grows { OnOk result (Grows shaped.now (so_far tables.now ranking.old) (so_far tables.now ranking.new) (length ranking.old.done.items)) }
+    requires lookups { AreLookups shaped.now lookups.now }
+    requires ranked { IsRanking shaped.now lookups.now ranking.old }
+    requires unranked { rank_of (so_far lookups.now ranking.old) node ≡ UNRANKED }
+    requires longest { IsLongest shaped.now (so_far lookups.now ranking.old) (length ranking.old.done.items) (Arc shaped.now) node longest }
+    ensures ranked { OnOk result (IsRanking shaped.now lookups.now ranking.new) }
+    ensures grows { OnOk result (Grows shaped.now (so_far lookups.now ranking.old) (so_far lookups.now ranking.new) (length ranking.old.done.items)) }
     ensures longer { OnOk result (length ranking.old.done.items ≤ length ranking.new.done.items) }
-    ensures now_ranked { OnOk result (IsRanked (so_far tables.now ranking.new) node) }
+    ensures now_ranked { OnOk result (IsRanked (so_far lookups.now ranking.new) node) }
 {
-    let at = number(&tables.firsts, node);
+    let at = number(&lookups.firsts, node);
     ranking.rows[at] = NodeTime {
         rank: ranking.done.len() as u32,
         earliest: longest.length,
@@ -185,37 +185,37 @@ fn rank_next(
 }
 
 /// Whether the node has a rank.
-pub(crate) fn is_ranked(shaped: &Shaped, tables: &Tables, ranking: &Ranking, node: Node) -> bool
+pub(crate) fn is_ranked(shaped: &Shaped, lookups: &Lookups, ranking: &Ranking, node: Node) -> bool
     requires node { IsNode shaped.now node }
-    requires tables { AreTables shaped.now tables.now }
-    requires ranked { IsRanking shaped.now tables.now ranking.now }
-    ensures { MatchBool result (IsRanked (so_far tables.now ranking.now) node) (rank_of (so_far tables.now ranking.now) node ≡ UNRANKED) }
+    requires lookups { AreLookups shaped.now lookups.now }
+    requires ranked { IsRanking shaped.now lookups.now ranking.now }
+    ensures { MatchBool result (IsRanked (so_far lookups.now ranking.now) node) (rank_of (so_far lookups.now ranking.now) node ≡ UNRANKED) }
 {
-    row_of(shaped, tables, ranking, node).rank != UNRANKED
+    row_of(shaped, lookups, ranking, node).rank != UNRANKED
 }
 
 /// What is known of the node.
-fn row_of(shaped: &Shaped, tables: &Tables, ranking: &Ranking, node: Node) -> NodeTime
+fn row_of(shaped: &Shaped, lookups: &Lookups, ranking: &Ranking, node: Node) -> NodeTime
     requires node { IsNode shaped.now node }
-    requires tables { AreTables shaped.now tables.now }
-    requires ranked { IsRanking shaped.now tables.now ranking.now }
-    ensures { result ≡ time_at (so_far tables.now ranking.now) node }
+    requires lookups { AreLookups shaped.now lookups.now }
+    requires ranked { IsRanking shaped.now lookups.now ranking.now }
+    ensures { result ≡ time_at (so_far lookups.now ranking.now) node }
 {
-    ranking.rows[number(&tables.firsts, node)]
+    ranking.rows[number(&lookups.firsts, node)]
 }
 
 /// The longest path to the node, none where an arc to it comes from a node without a rank.
-fn longest_to(shaped: &Shaped, tables: &Tables, ranking: &Ranking, node: Node) -> Option<Longest>
+fn longest_to(shaped: &Shaped, lookups: &Lookups, ranking: &Ranking, node: Node) -> Option<Longest>
     requires node { IsNode shaped.now node }
-    requires tables { AreTables shaped.now tables.now }
-    requires ranked { IsRanking shaped.now tables.now ranking.now }
-    ensures { let t = so_far tables.now ranking.now in
+    requires lookups { AreLookups shaped.now lookups.now }
+    requires ranked { IsRanking shaped.now lookups.now ranking.now }
+    ensures { let t = so_far lookups.now ranking.now in
         MatchOption result (WaitsFor shaped.now t UNRANKED node) (IsLongest shaped.now t (length ranking.now.done.items) (Arc shaped.now) node) }
 {
-    let along = longest_in_job(shaped, tables, ranking, node)?;
-    match blocking_source(shaped, tables, node) {
+    let along = longest_in_job(shaped, lookups, ranking, node)?;
+    match blocking_source(shaped, lookups, node) {
         Some(source) => {
-            let freed = longest_over(shaped, tables, ranking, source)?;
+            let freed = longest_over(shaped, lookups, ranking, source)?;
             Some(longer(along, freed))
         }
         None => Some(along),
@@ -237,18 +237,18 @@ fn longer(one: Longest, other: Longest) -> Longest
 /// first; none where the place before has no rank.
 fn longest_in_job(
     shaped: &Shaped,
-    tables: &Tables,
+    lookups: &Lookups,
     ranking: &Ranking,
     node: Node,
 ) -> Option<Longest>
     requires node { IsNode shaped.now node }
-    requires tables { AreTables shaped.now tables.now }
-    requires ranked { IsRanking shaped.now tables.now ranking.now }
-    ensures { let t = so_far tables.now ranking.now in
+    requires lookups { AreLookups shaped.now lookups.now }
+    requires ranked { IsRanking shaped.now lookups.now ranking.now }
+    ensures { let t = so_far lookups.now ranking.now in
         MatchOption result (WaitsFor shaped.now t UNRANKED node) (IsLongest shaped.now t (length ranking.now.done.items) (IsJobArc shaped.now) node) }
 {
     match job_source(shaped, node) {
-        Some(source) => longest_over(shaped, tables, ranking, source),
+        Some(source) => longest_over(shaped, lookups, ranking, source),
         None => Some(Longest {
             length: shaped.release_of(node.job),
             before: None,
@@ -259,18 +259,18 @@ fn longest_in_job(
 /// The longest path over an arc, none where it comes from a node without a rank.
 fn longest_over(
     shaped: &Shaped,
-    tables: &Tables,
+    lookups: &Lookups,
     ranking: &Ranking,
-    source: Source,
+    source: ArcIn,
 ) -> Option<Longest>
     requires node { IsNode shaped.now source.node }
     requires short { source.length ≤ MAX_NOMINAL }
-    requires tables { AreTables shaped.now tables.now }
-    requires ranked { IsRanking shaped.now tables.now ranking.now }
-    ensures { let t = so_far tables.now ranking.now in
+    requires lookups { AreLookups shaped.now lookups.now }
+    requires ranked { IsRanking shaped.now lookups.now ranking.now }
+    ensures { let t = so_far lookups.now ranking.now in
         MatchOption result (rank_of t source.node ≡ UNRANKED) (IsOver shaped.now t (length ranking.now.done.items) source) }
 {
-    let row = row_of(shaped, tables, ranking, source.node);
+    let row = row_of(shaped, lookups, ranking, source.node);
     if row.rank == UNRANKED {
         return None;
     }
@@ -281,14 +281,14 @@ fn longest_over(
 }
 
 /// A node without a rank, if there is one.
-pub(crate) fn first_unranked(shaped: &Shaped, tables: &Tables, ranking: &Ranking) -> Option<Node>
-    requires tables { AreTables shaped.now tables.now }
-    requires ranked { IsRanking shaped.now tables.now ranking.now }
-    ensures { let t = so_far tables.now ranking.now in
+pub(crate) fn first_unranked(shaped: &Shaped, lookups: &Lookups, ranking: &Ranking) -> Option<Node>
+    requires lookups { AreLookups shaped.now lookups.now }
+    requires ranked { IsRanking shaped.now lookups.now ranking.now }
+    ensures { let t = so_far lookups.now ranking.now in
         MatchOption result ((v : Node) → IsNode shaped.now v → IsRanked t v) (λ v. IsNode shaped.now v × (rank_of t v ≡ UNRANKED)) }
 {
     for job in 0..shaped.job_count() {
-        if let Some(node) = first_unranked_of(shaped, tables, ranking, job) {
+        if let Some(node) = first_unranked_of(shaped, lookups, ranking, job) {
             return Some(node);
         }
     }
@@ -298,19 +298,19 @@ pub(crate) fn first_unranked(shaped: &Shaped, tables: &Tables, ranking: &Ranking
 /// A node of the job without a rank, if there is one.
 fn first_unranked_of(
     shaped: &Shaped,
-    tables: &Tables,
+    lookups: &Lookups,
     ranking: &Ranking,
     job: JobNo,
 ) -> Option<Node>
     requires job { job < jobs shaped.now }
-    requires tables { AreTables shaped.now tables.now }
-    requires ranked { IsRanking shaped.now tables.now ranking.now }
-    ensures { let t = so_far tables.now ranking.now in
+    requires lookups { AreLookups shaped.now lookups.now }
+    requires ranked { IsRanking shaped.now lookups.now ranking.now }
+    ensures { let t = so_far lookups.now ranking.now in
         MatchOption result ((k : ℕ) → k ≤ steps shaped.now job → IsRanked t (node job k)) (λ v. IsNode shaped.now v × (rank_of t v ≡ UNRANKED)) }
 {
     for place in 0..shaped.step_count(job) + 1 {
         let node = Node { job, place };
-        if !is_ranked(shaped, tables, ranking, node) {
+        if !is_ranked(shaped, lookups, ranking, node) {
             return Some(node);
         }
     }

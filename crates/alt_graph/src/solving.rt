@@ -2,9 +2,9 @@ ghost use Rattle.std.specs.Prelude.{◌↔◌, IfOk};
 ghost use Rattle.shop_base.specs.Plan.{IsWellShaped};
 ghost use Rattle.alt_graph.specs.Solved.{OnOrdered, OnCyclic, IsCyclic, HasCycle};
 
+use crate::cycles::cycle_from;
+use crate::lookups::Lookups;
 use crate::ranking::{first_unranked, rank_all};
-use crate::rounds::cycle_from;
-use crate::tables::Tables;
 use crate::times::Times;
 use shop_base::{Node, Shaped};
 use std::alloc::{AllocError, Global};
@@ -20,20 +20,20 @@ pub enum Solved {
 }
 
 /// Ranks the nodes of the graph and finds the greatest lengths of the paths to them, or finds a cycle, in
-/// time and memory linear in the nodes, the arcs and the machines. An error is want of memory.
+/// time and memory linear in the nodes, the arcs and the machines. It fails only where it is out of memory.
 pub fn solve(alloc: Global, shaped: &Shaped) -> Result<Solved, AllocError>
     ensures ordered { IfOk result (OnOrdered shaped.now) }
     ensures cyclic { IfOk result (OnCyclic shaped.now) }
     ensures exact { IfOk result (λ solved. IsCyclic solved ↔ HasCycle shaped.now) }
     ensures well_shaped { IsWellShaped shaped.now }
 {
-    let tables = Tables::new(alloc, shaped)?;
-    let ranking = rank_all(alloc, shaped, &tables)?;
-    match first_unranked(shaped, &tables, &ranking) {
+    let lookups = Lookups::new(alloc, shaped)?;
+    let ranking = rank_all(alloc, shaped, &lookups)?;
+    match first_unranked(shaped, &lookups, &ranking) {
         Some(node) => {
-            let nodes = cycle_from(alloc, shaped, &tables, &ranking, node)?;
+            let nodes = cycle_from(alloc, shaped, &lookups, &ranking, node)?;
             Ok(Solved::Cyclic(nodes))
         }
-        None => Ok(Solved::Ordered(Times::of(tables.firsts, ranking.rows))),
+        None => Ok(Solved::Ordered(Times::of(lookups.firsts, ranking.rows))),
     }
 }

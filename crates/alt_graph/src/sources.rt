@@ -3,22 +3,22 @@
 ghost use Rattle.std.specs.Prelude.{◌<◌, length};
 ghost use Rattle.shop_base.specs.Plan.{machines, order, Visits, Stands, IsWellShaped};
 ghost use Rattle.shop_base.specs.Graph.{IsNode};
-ghost use Rattle.alt_graph.specs.Tables.{AreTables};
-ghost use Rattle.alt_graph.specs.Sources.{IsJobArc, IsBlockingArc, IsSource, IsTarget};
+ghost use Rattle.alt_graph.specs.Lookups.{AreLookups};
+ghost use Rattle.alt_graph.specs.Sources.{IsJobArc, IsBlockingArc, IsArcIn, IsTarget};
 
-use crate::tables::{Tables, slot};
+use crate::lookups::{Lookups, slot};
 use shop_base::{MachineNo, Moment, Node, Shaped};
 
 /// The node from which an arc comes, and the arc's length.
 #[derive(Clone, Copy)]
-pub(crate) struct Source {
+pub(crate) struct ArcIn {
     pub node: Node,
     pub length: Moment,
 }
 
 /// The job arc into the node, if there is one.
-pub(crate) fn job_source(shaped: &Shaped, node: Node) -> Option<Source>
-    ensures arc { IsSource (IsJobArc shaped.now) node result }
+pub(crate) fn job_source(shaped: &Shaped, node: Node) -> Option<ArcIn>
+    ensures arc { IsArcIn (IsJobArc shaped.now) node result }
     ensures well_shaped { IsWellShaped shaped.now }
 {
     let _shop = shaped.shop();
@@ -31,26 +31,26 @@ pub(crate) fn job_source(shaped: &Shaped, node: Node) -> Option<Source>
         job: node.job,
         place,
     };
-    Some(Source { node, length })
+    Some(ArcIn { node, length })
 }
 
 /// The blocking arc into the node, if there is one.
-pub(crate) fn blocking_source(shaped: &Shaped, tables: &Tables, node: Node) -> Option<Source>
-    requires { AreTables shaped.now tables.now }
-    ensures { IsSource (IsBlockingArc shaped.now) node result }
+pub(crate) fn blocking_source(shaped: &Shaped, lookups: &Lookups, node: Node) -> Option<ArcIn>
+    requires { AreLookups shaped.now lookups.now }
+    ensures { IsArcIn (IsBlockingArc shaped.now) node result }
 {
     let machine = shaped.machine_at(node.job, node.place)?;
-    let place = place_on(shaped, tables, machine, node);
+    let place = place_on(shaped, lookups, machine, node);
     if place == 0 {
         return None;
     }
-    let entry = entry_at(shaped, tables, machine, place - 1);
+    let entry = entry_at(shaped, lookups, machine, place - 1);
     let length = shaped.clean_of(machine);
     let node = Node {
         job: entry.job,
         place: entry.place + 1,
     };
-    Some(Source { node, length })
+    Some(ArcIn { node, length })
 }
 
 /// The node to which the job arc out of the node leads, if there is one.
@@ -68,8 +68,8 @@ pub(crate) fn job_target(shaped: &Shaped, node: Node) -> Option<Node>
 }
 
 /// The node to which the blocking arc out of the node leads, if there is one.
-pub(crate) fn blocking_target(shaped: &Shaped, tables: &Tables, node: Node) -> Option<Node>
-    requires { AreTables shaped.now tables.now }
+pub(crate) fn blocking_target(shaped: &Shaped, lookups: &Lookups, node: Node) -> Option<Node>
+    requires { AreLookups shaped.now lookups.now }
     ensures { IsTarget (IsBlockingArc shaped.now) node result }
 {
     if node.place == 0 {
@@ -80,30 +80,30 @@ pub(crate) fn blocking_target(shaped: &Shaped, tables: &Tables, node: Node) -> O
         place: node.place - 1,
     };
     let machine = shaped.machine_at(entry.job, entry.place)?;
-    let place = place_on(shaped, tables, machine, entry) + 1;
+    let place = place_on(shaped, lookups, machine, entry) + 1;
     if place == shaped.order_of(machine).len() {
         return None;
     }
-    Some(entry_at(shaped, tables, machine, place))
+    Some(entry_at(shaped, lookups, machine, place))
 }
 
 /// The place of the node's job in the order of the machine that it enters.
-fn place_on(shaped: &Shaped, tables: &Tables, machine: MachineNo, node: Node) -> usize
+fn place_on(shaped: &Shaped, lookups: &Lookups, machine: MachineNo, node: Node) -> usize
     requires visits { Visits shaped.now node.job node.place machine }
-    requires tables { AreTables shaped.now tables.now }
+    requires lookups { AreLookups shaped.now lookups.now }
     ensures { Stands shaped.now machine result node.job node.place }
 {
-    tables.places[slot(machine, node.job)] as usize
+    lookups.places[slot(machine, node.job)] as usize
 }
 
 /// The job at a place of the machine's order, with its step there.
-fn entry_at(shaped: &Shaped, tables: &Tables, machine: MachineNo, place: usize) -> Node
+fn entry_at(shaped: &Shaped, lookups: &Lookups, machine: MachineNo, place: usize) -> Node
     requires machine { machine < machines shaped.now }
     requires place { place < length (order shaped.now machine) }
-    requires tables { AreTables shaped.now tables.now }
+    requires lookups { AreLookups shaped.now lookups.now }
     ensures { Stands shaped.now machine place result.job result.place }
 {
     let job = shaped.order_of(machine)[place];
-    let place = tables.steps[slot(machine, job)];
+    let place = lookups.steps[slot(machine, job)];
     Node { job, place }
 }

@@ -6,4 +6,4 @@ use Rattle.alt_graph.proofs.ranking.first_unranked.Given as goal
 
 -- the jobs looked at have ranks
 abbrev pub invariant-loop-job : goal.invariant-loop-job
-invariant-loop-job l = (j k : ℕ) → j < l.job → k ≤ steps l.shaped j → IsRanked (so_far l.tables l.ranking) (node j k)
+invariant-loop-job l = (j k : ℕ) → j < l.job → k ≤ steps l.shaped j → IsRanked (so_far l.lookups l.ranking) (node j k)

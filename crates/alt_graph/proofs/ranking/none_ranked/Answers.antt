@@ -6,7 +6,7 @@ use Rattle.alt_graph.proofs.ranking.none_ranked.Goals as goal
 
 pub returns : goal.returns
 returns c =
-    let firsts = c.args.tables.now.firsts.items in
+    let firsts = c.args.lookups.now.firsts.items in
     let within : c.job_count.result < length firsts = omega (arith, c.requires.firsts.size, c.job_count.ensures.count) in
     let is : c.index.result.now ≡ get_or firsts (jobs c.args.shaped.now) 0 =
     get_or_read firsts c.job_count.result c.index.result.now within c.index.ensures 0 ∙ ap (λ (j : ℕ). get_or firsts j 0) c.job_count.ensures.count in

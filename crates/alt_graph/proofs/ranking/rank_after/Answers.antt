@@ -14,12 +14,12 @@ use Rattle.alt_graph.proofs.ranking.rank_after.Goals as goal
 pub returns-clause-settled : goal.returns-clause-settled
 returns-clause-settled c =
     let p = c.args.shaped.now in
-    let shaped = c.requires.tables.shaped in
+    let shaped = c.requires.lookups.shaped in
     let done = c.args.ranking.now.done.items in
-    let old = so_far c.args.tables.now c.args.ranking.now in
-    let mid = so_far c.args.tables.now c.try_target.new.ranking in
-    let new = so_far c.args.tables.now c.try_target-2.new.ranking in
-    let few : length done < UNRANKED = few_done p c.args.tables.now.firsts.items c.requires.tables.firsts c.args.ranking.now.rows.items done c.requires.ranked in
+    let old = so_far c.args.lookups.now c.args.ranking.now in
+    let mid = so_far c.args.lookups.now c.try_target.new.ranking in
+    let new = so_far c.args.lookups.now c.try_target-2.new.ranking in
+    let few : length done < UNRANKED = few_done p c.args.lookups.now.firsts.items c.requires.lookups.firsts c.args.ranking.now.rows.items done c.requires.ranked in
     let at : c.index-node.result.now ≡ node_at done c.args.next = get_or_read done c.args.next c.index-node.result.now c.requires.next c.index-node.ensures (node 0 0) in
     let first = c.in_ok-try_target.ensures in
     let second = c.in_ok-try_target-2.ensures in

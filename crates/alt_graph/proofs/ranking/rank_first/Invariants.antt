@@ -6,6 +6,6 @@ use Rattle.alt_graph.proofs.ranking.rank_first.Given as goal
 -- the first places of the jobs looked at are settled
 abbrev pub invariant-loop-job : goal.invariant-loop-job
 invariant-loop-job l = record {
-  ranked : IsRanking l.shaped l.tables l.ranking;
-  settled : (j : ℕ) → j < l.job → IsSettled l.shaped (so_far l.tables l.ranking) 0 (node j 0);
+  ranked : IsRanking l.shaped l.lookups l.ranking;
+  settled : (j : ℕ) → j < l.job → IsSettled l.shaped (so_far l.lookups l.ranking) 0 (node j 0);
 }

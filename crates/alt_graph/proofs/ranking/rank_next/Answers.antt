@@ -6,31 +6,31 @@ use Rattle.alt_graph.proofs.ranking.rank_next.Goals as goal
 
 pub index_mut-requires : goal.index_mut-requires
 index_mut-requires c =
-    let firsts = c.args.tables.now.firsts.items in
+    let firsts = c.args.lookups.now.firsts.items in
     let is : c.number-at.result ≡ number_of firsts c.args.node = rw c.deref.ensures.value at c.number-at.ensures in
-    omega (arith, is, number_inside _ firsts c.requires.tables.firsts c.args.node c.requires.node, c.requires.ranked.size, c.args.ranking.now.rows.ok.0)
+    omega (arith, is, number_inside _ firsts c.requires.lookups.firsts c.args.node c.requires.node, c.requires.ranked.size, c.args.ranking.now.rows.ok.0)
 
 pub returns-clause-ranked : goal.returns-clause-ranked
 returns-clause-ranked c =
-    let firsts = c.args.tables.now.firsts.items in
+    let firsts = c.args.lookups.now.firsts.items in
     let is : c.number-at.result ≡ number_of firsts c.args.node = rw c.deref.ensures.value at c.number-at.ensures in
     let rank : c.len.result ≡ length c.args.ranking.now.done.items = omega (arith, c.len.ensures, c.args.ranking.now.done.ok.0) in
     let pushed : c.push.new.self.items ≡ c.args.ranking.now.done.items ++ c.args.node ∷ [] = search rules in
     rw (pushed, is, rank)
-    (ranked_more _ firsts c.requires.tables.firsts c.args.ranking.now.rows.items c.args.ranking.now.done.items c.requires.ranked c.args.node c.requires.node c.requires.unranked c.args.longest c.requires.longest)
+    (ranked_more _ firsts c.requires.lookups.firsts c.args.ranking.now.rows.items c.args.ranking.now.done.items c.requires.ranked c.args.node c.requires.node c.requires.unranked c.args.longest c.requires.longest)
 
 pub returns-clause-grows : goal.returns-clause-grows
 returns-clause-grows c =
-    let firsts = c.args.tables.now.firsts.items in
+    let firsts = c.args.lookups.now.firsts.items in
     let is : c.number-at.result ≡ number_of firsts c.args.node = rw c.deref.ensures.value at c.number-at.ensures in
     let rank : c.len.result ≡ length c.args.ranking.now.done.items = omega (arith, c.len.ensures, c.args.ranking.now.done.ok.0) in
     rw (is, rank)
-    (grows _ firsts c.requires.tables.firsts c.args.ranking.now.rows.items c.args.ranking.now.done.items c.requires.ranked c.args.node c.requires.node c.requires.unranked c.args.longest c.requires.longest)
+    (grows _ firsts c.requires.lookups.firsts c.args.ranking.now.rows.items c.args.ranking.now.done.items c.requires.ranked c.args.node c.requires.node c.requires.unranked c.args.longest c.requires.longest)
 
 pub returns-clause-now_ranked : goal.returns-clause-now_ranked
 returns-clause-now_ranked c =
-    let firsts = c.args.tables.now.firsts.items in
+    let firsts = c.args.lookups.now.firsts.items in
     let is : c.number-at.result ≡ number_of firsts c.args.node = rw c.deref.ensures.value at c.number-at.ensures in
     let rank : c.len.result ≡ length c.args.ranking.now.done.items = omega (arith, c.len.ensures, c.args.ranking.now.done.ok.0) in
     rw (is, rank)
-    (new_ranked _ firsts c.requires.tables.firsts c.args.ranking.now.rows.items c.args.ranking.now.done.items c.requires.ranked c.args.node c.requires.node c.requires.unranked c.args.longest c.requires.longest)
+    (new_ranked _ firsts c.requires.lookups.firsts c.args.ranking.now.rows.items c.args.ranking.now.done.items c.requires.ranked c.args.node c.requires.node c.requires.unranked c.args.longest c.requires.longest)

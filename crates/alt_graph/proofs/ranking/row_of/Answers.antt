@@ -7,14 +7,14 @@ use Rattle.alt_graph.proofs.ranking.row_of.Goals as goal
 
 pub index-requires : goal.index-requires
 index-requires c =
-    let firsts = c.args.tables.now.firsts.items in
+    let firsts = c.args.lookups.now.firsts.items in
     let is : c.number.result ≡ number_of firsts c.args.node = rw c.deref.ensures.value at c.number.ensures in
-    omega (arith, is, number_inside _ firsts c.requires.tables.firsts c.args.node c.requires.node, c.requires.ranked.size, c.args.ranking.now.rows.ok.0)
+    omega (arith, is, number_inside _ firsts c.requires.lookups.firsts c.args.node c.requires.node, c.requires.ranked.size, c.args.ranking.now.rows.ok.0)
 
 pub returns : goal.returns
 returns c =
-    let firsts = c.args.tables.now.firsts.items in
+    let firsts = c.args.lookups.now.firsts.items in
     let rows = c.args.ranking.now.rows.items in
     let is : c.number.result ≡ number_of firsts c.args.node = rw c.deref.ensures.value at c.number.ensures in
-    let within : c.number.result < length rows = omega (arith, is, number_inside _ firsts c.requires.tables.firsts c.args.node c.requires.node, c.requires.ranked.size) in
-    get_or_read rows c.number.result c.index.result.now within c.index.ensures no_time ∙ ap (λ (i : ℕ). get_or rows i no_time) is ∙ sym (node_time _ firsts c.requires.tables.firsts rows c.args.node c.requires.node)
+    let within : c.number.result < length rows = omega (arith, is, number_inside _ firsts c.requires.lookups.firsts c.args.node c.requires.node, c.requires.ranked.size) in
+    get_or_read rows c.number.result c.index.result.now within c.index.ensures no_time ∙ ap (λ (i : ℕ). get_or rows i no_time) is ∙ sym (node_time _ firsts c.requires.lookups.firsts rows c.args.node c.requires.node)

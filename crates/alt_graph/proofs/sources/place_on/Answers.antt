@@ -2,23 +2,23 @@ use Rattle.std.proofs.Common.{◌≡◌, ℕ, ◌<◌, length, get_or, arith, ap
 use Rattle.std.proofs.lemmas.List.{get_or_read}
 use Rattle.shop_base.specs.Plan.{Stands}
 use Rattle.shop_base.proofs.Visits.{visits_job, visits_machine}
-use Rattle.alt_graph.specs.Tables.{slot_of}
+use Rattle.alt_graph.specs.Lookups.{slot_of}
 use Rattle.alt_graph.proofs.Filling.{slot_inside}
 use Rattle.alt_graph.proofs.Standing.{place_told}
 use Rattle.alt_graph.proofs.sources.place_on.Goals as goal
 
 pub index-requires : goal.index-requires
 index-requires c =
-    let shaped = c.requires.tables.shaped in
-    let inside = slot_inside _ c.args.tables.now.places.items _ _ shaped c.requires.tables.place_slots (visits_machine _ _ _ _ shaped c.requires.visits) (visits_job _ _ _ _ c.requires.visits) in
-    omega (arith, inside, c.slot.ensures, c.args.tables.now.places.ok.0)
+    let shaped = c.requires.lookups.shaped in
+    let inside = slot_inside _ c.args.lookups.now.places.items _ _ shaped c.requires.lookups.place_slots (visits_machine _ _ _ _ shaped c.requires.visits) (visits_job _ _ _ _ c.requires.visits) in
+    omega (arith, inside, c.slot.ensures, c.args.lookups.now.places.ok.0)
 
 pub returns : goal.returns
 returns c =
-    let shaped = c.requires.tables.shaped in
-    let places = c.args.tables.now.places.items in
+    let shaped = c.requires.lookups.shaped in
+    let places = c.args.lookups.now.places.items in
     let at = slot_of c.args.machine c.args.node.job in
-    let inside = slot_inside _ places _ _ shaped c.requires.tables.place_slots (visits_machine _ _ _ _ shaped c.requires.visits) (visits_job _ _ _ _ c.requires.visits) in
+    let inside = slot_inside _ places _ _ shaped c.requires.lookups.place_slots (visits_machine _ _ _ _ shaped c.requires.visits) (visits_job _ _ _ _ c.requires.visits) in
     let within : c.slot.result < length places = omega (arith, inside, c.slot.ensures) in
     let is : c.index.result.now ≡ get_or places at 0 = get_or_read places c.slot.result c.index.result.now within c.index.ensures 0 ∙ ap (λ i. get_or places i 0) c.slot.ensures in
-    subst (λ (a : ℕ). Stands c.args.shaped.now c.args.machine a c.args.node.job c.args.node.place) (sym is) (place_told _ shaped c.args.tables.now _ _ _ c.requires.tables c.requires.visits)
+    subst (λ (a : ℕ). Stands c.args.shaped.now c.args.machine a c.args.node.job c.args.node.place) (sym is) (place_told _ shaped c.args.lookups.now _ _ _ c.requires.lookups c.requires.visits)

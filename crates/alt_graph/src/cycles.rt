@@ -1,0 +1,162 @@
+//! A cycle, where nodes are left without a rank.
+
+ghost use Rattle.std.specs.Prelude.{◌≡◌, ◌+◌, ◌<◌, ◌≤◌, IfOk};
+ghost use Rattle.std.specs.Option.{ForSome};
+ghost use Rattle.shop_base.specs.Graph.{IsNode, HasArc};
+ghost use Rattle.alt_graph.specs.Evidence.{IsCycle};
+ghost use Rattle.alt_graph.specs.Lookups.{AreLookups};
+ghost use Rattle.alt_graph.specs.Times.{rank_of};
+ghost use Rattle.alt_graph.specs.Ranking.{so_far, IsRanking, AreSettled};
+ghost use Rattle.alt_graph.specs.Trails.{IsTrail, IsPlaceAfter, IsLeastPlace, AreFrom, IsFreeSource, trail_length};
+
+use crate::lookups::Lookups;
+use crate::node_order::is_before;
+use crate::numbers::number;
+use crate::ranking::{Ranking, is_ranked};
+use crate::sources::{ArcIn, blocking_source, job_source};
+use crate::times::UNRANKED;
+use shop_base::{Node, Shaped};
+use std::alloc::{AllocError, Global};
+
+/// Nodes followed backwards along arcs, until one came again: the one at place `start`.
+#[derive(Drop)]
+pub(crate) struct Trail {
+    pub nodes: Vec<Node>,
+    pub start: usize,
+}
+
+/// A cycle, its least node first, from a node without a rank.
+pub(crate) fn cycle_from(
+    alloc: Global,
+    shaped: &Shaped,
+    lookups: &Lookups,
+    ranking: &Ranking,
+    node: Node,
+) -> Result<Vec<Node>, AllocError>
+    requires node { IsNode shaped.now node }
+    requires unranked { rank_of (so_far lookups.now ranking.now) node ≡ UNRANKED }
+    requires lookups { AreLookups shaped.now lookups.now }
+    requires ranked { IsRanking shaped.now lookups.now ranking.now }
+    requires settled { AreSettled shaped.now (so_far lookups.now ranking.now) UNRANKED }
+    ensures { IfOk result (λ nodes. IsCycle shaped.now nodes.items) }
+{
+    let trail = follow(alloc, shaped, lookups, ranking, node)?;
+    let least = trail.least_place();
+    let nodes = trail.turned(alloc, least)?;
+    Ok(nodes)
+}
+
+/// Follows arcs backwards among the nodes without a rank, until a node comes again.
+fn follow(
+    alloc: Global,
+    shaped: &Shaped,
+    lookups: &Lookups,
+    ranking: &Ranking,
+    node: Node,
+) -> Result<Trail, AllocError>
+    requires node { IsNode shaped.now node }
+    requires unranked { rank_of (so_far lookups.now ranking.now) node ≡ UNRANKED }
+    requires lookups { AreLookups shaped.now lookups.now }
+    requires ranked { IsRanking shaped.now lookups.now ranking.now }
+    requires settled { AreSettled shaped.now (so_far lookups.now ranking.now) UNRANKED }
+    ensures { IfOk result (IsTrail shaped.now) }
+{
+    // There is a row for each node, and none is followed twice.
+    let mut seen = vec![in alloc; UNRANKED; ranking.rows.len()]?;
+    let mut nodes = Vec::with_capacity(alloc, ranking.rows.len())?;
+    let mut next = node;
+    let mut at = number(&lookups.firsts, next);
+    'back: while seen[at] == UNRANKED {
+        seen[at] = nodes.len() as u32;
+        nodes.push(next)?;
+        next = free_source(shaped, lookups, ranking, next);
+        at = number(&lookups.firsts, next);
+    }
+    let start = seen[at] as usize;
+    Ok(Trail { nodes, start })
+}
+
+/// A node without a rank from which an arc leads to the node.
+fn free_source(shaped: &Shaped, lookups: &Lookups, ranking: &Ranking, node: Node) -> Node
+    requires node { IsNode shaped.now node }
+    requires unranked { rank_of (so_far lookups.now ranking.now) node ≡ UNRANKED }
+    requires lookups { AreLookups shaped.now lookups.now }
+    requires ranked { IsRanking shaped.now lookups.now ranking.now }
+    requires settled { AreSettled shaped.now (so_far lookups.now ranking.now) UNRANKED }
+    ensures node { IsNode shaped.now result }
+    ensures unranked { rank_of (so_far lookups.now ranking.now) result ≡ UNRANKED }
+    ensures arc { HasArc shaped.now result node }
+{
+    let source = job_source(shaped, node);
+    if let Some(free) = free_of(shaped, lookups, ranking, source) {
+        return free;
+    }
+    let source = blocking_source(shaped, lookups, node);
+    match free_of(shaped, lookups, ranking, source) {
+        Some(free) => free,
+        None => unreachable!(),
+    }
+}
+
+/// The node from which the arc comes, if there is one and it has no rank.
+fn free_of(
+    shaped: &Shaped,
+    lookups: &Lookups,
+    ranking: &Ranking,
+    source: Option<ArcIn>,
+) -> Option<Node>
+    requires node { ForSome source (λ s. IsNode shaped.now s.node) }
+    requires lookups { AreLookups shaped.now lookups.now }
+    requires ranked { IsRanking shaped.now lookups.now ranking.now }
+    ensures { IsFreeSource (so_far lookups.now ranking.now) source result }
+{
+    match source {
+        Some(source) if !is_ranked(shaped, lookups, ranking, source.node) => Some(source.node),
+        _ => None,
+    }
+}
+
+impl Trail {
+    /// The nodes of the cycle at the end of the followed ones, along its arcs and from a place on.
+    fn turned(&self, alloc: Global, place: usize) -> Result<Vec<Node>, AllocError>
+        requires after { self.now.start ≤ place }
+        requires within { place < trail_length self.now }
+        ensures { IfOk result (λ nodes. AreFrom self.now place nodes.items) }
+    {
+        let count = self.nodes.len() - self.start;
+        let mut nodes = Vec::with_capacity(alloc, count)?;
+        for arcs in 0..count {
+            nodes.push(self.nodes[self.place_after(place, arcs)])?;
+        }
+        Ok(nodes)
+    }
+
+    /// The place that many arcs after a place of the cycle: an arc leads from each place to the one before it.
+    fn place_after(&self, place: usize, arcs: usize) -> usize
+        requires after { self.now.start ≤ place }
+        requires within { place < trail_length self.now }
+        requires arcs { self.now.start + arcs < trail_length self.now }
+        ensures place { IsPlaceAfter self.now place arcs result }
+        ensures within { result < trail_length self.now }
+    {
+        if arcs <= place - self.start {
+            place - arcs
+        } else {
+            place + (self.nodes.len() - self.start) - arcs
+        }
+    }
+
+    /// The place of the least node of the cycle.
+    fn least_place(&self) -> usize
+        requires { self.now.start < trail_length self.now }
+        ensures { IsLeastPlace self.now result }
+    {
+        let mut least = self.start;
+        for place in self.start..self.nodes.len() {
+            if is_before(self.nodes[place], self.nodes[least]) {
+                least = place;
+            }
+        }
+        least
+    }
+}
