@@ -20,7 +20,7 @@ first_same : (faults : List PlanFault) (a b : PlanFault) → IsFirstOf faults a 
 first_same [] a b h k = absurd h
 first_same (x ∷ faults) a b h k = sym h ∙ k
 
--- a fault is want of memory, or it isn't
+-- a fault is out of memory, or it isn't
 memory_or_not : (fault : PlanFault) → (fault ≡ Memory) ⊎ (fault ≢ Memory)
 memory_or_not NotToml = inr (λ e. cc)
 memory_or_not BadVersion = inr (λ e. cc)

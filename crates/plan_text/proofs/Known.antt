@@ -1,5 +1,5 @@
 -- The keys of a table: all known, or one that isn't.
-use Rattle.std.proofs.Common.{◌≡◌, ℕ, Bool, true, false, ◌||◌, List, [], ◌∷◌, codes, Option, Some, None, String, Global, string_bytes, refl, inl, inr}
+use Rattle.std.proofs.Common.{◌≡◌, ℕ, Bool, true, false, ◌||◌, List, [], ◌∷◌, Option, Some, None, String, Global, string_bytes, refl, inl, inr}
 use Rattle.std.proofs.lemmas.Bool.{cases_Bool, or_cases, or_left, or_right, false≢true}
 use Rattle.std.proofs.lemmas.Slice.Eq.{bytes_eq-Decides}
 use Rattle.std.specs.List.{list_all}
@@ -10,7 +10,7 @@ use Rattle.toml.specs.View.{members_view}
 use Rattle.toml.specs.declared.value.Value.{Value}
 use Rattle.plan_text.specs.declared.plan_key.PlanKey.TheVariants.{Release, Budget, Order, Clean}
 use Rattle.plan_text.specs.declared.plan_fault.PlanFault.TheVariants.{UnknownKey}
-use Rattle.plan_text.specs.Keys.{name_of}
+use Rattle.plan_text.specs.Keys.{name_of, version_key}
 use Rattle.plan_text.specs.Plans.{IsCommonKey, IsKeyOf, HasOnlyKeys}
 use Rattle.plan_text.specs.Answers.{IsFirstOf}
 use Rattle.plan_text.specs.Listing.{is_common_key, is_known_key, key_faults}
@@ -45,11 +45,11 @@ test_bytes key name e = (bytes_eq-Decides key name).1 e
 
 pub common_key : (key : List ℕ) → is_common_key key ≡ true → IsCommonKey key
 common_key key h =
-    elim (or_cases (bytes_eq key (codes "version") || bytes_eq key (name_of Release) || bytes_eq key (name_of Budget)) (bytes_eq key (name_of Order)) h) [
+    elim (or_cases (bytes_eq key version_key || bytes_eq key (name_of Release) || bytes_eq key (name_of Budget)) (bytes_eq key (name_of Order)) h) [
       | inr order ↦ inr (inr (inr (same_bytes key _ order)))
-      | inl rest ↦ elim (or_cases (bytes_eq key (codes "version") || bytes_eq key (name_of Release)) (bytes_eq key (name_of Budget)) rest) [
+      | inl rest ↦ elim (or_cases (bytes_eq key version_key || bytes_eq key (name_of Release)) (bytes_eq key (name_of Budget)) rest) [
         | inr budget ↦ inr (inr (inl (same_bytes key _ budget)))
-        | inl rest ↦ elim (or_cases (bytes_eq key (codes "version")) (bytes_eq key (name_of Release)) rest) [
+        | inl rest ↦ elim (or_cases (bytes_eq key version_key) (bytes_eq key (name_of Release)) rest) [
           | inl version ↦ inl (same_bytes key _ version)
           | inr release ↦ inr (inl (same_bytes key _ release))
         ]

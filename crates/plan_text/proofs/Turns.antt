@@ -7,18 +7,18 @@ use Rattle.plan_text.specs.declared.plan_fault.PlanFault.{PlanFault}
 use Rattle.plan_text.specs.declared.plan_fault.PlanFault.TheVariants.{BadVersion, UnknownKey, MissingKey, NotArray, NotWhole, OutOfRange}
 use Rattle.plan_text.specs.Keys.{limit_of, value_at, version_in}
 use Rattle.plan_text.specs.Answers.{IsFirstOf}
-use Rattle.plan_text.specs.Faults.{place_of, list_turn, turn_of, IsBefore, IsFirstTableFault}
+use Rattle.plan_text.specs.Faults.{place_of, list_turn, turn_of, IsTurnBefore, IsFirstTableFault}
 use Rattle.plan_text.specs.Listing.{unless, version_faults, has_cleaning, key_faults, number_faults, each_faults, list_faults, row_faults, order_faults, faults_at, if_cleaning, missing_keys, list_values, content_faults, faults_of}
 use Rattle.plan_text.proofs.Listed.{In, in_either}
 use Rattle.plan_text.proofs.Has.{only_one, bad_version, unknown_has, missing_at, each_key, missing_part, value_part, has_fault, fault_listed}
 
 -- ---- turns
 
-never_before_itself : (t : List ℕ) → IsBefore t t → ⊥
+never_before_itself : (t : List ℕ) → IsTurnBefore t t → ⊥
 never_before_itself [] h = h
 never_before_itself (n ∷ t) h = elim h [ inl less ↦ absurd (omega arith) | inr same ↦ never_before_itself t same.1 ]
 
-never_both : (s t : List ℕ) → IsBefore s t → IsBefore t s → ⊥
+never_both : (s t : List ℕ) → IsTurnBefore s t → IsTurnBefore t s → ⊥
 never_both [] [] h k = h
 never_both [] (n ∷ t) h k = k
 never_both (m ∷ s) [] h k = h
@@ -30,7 +30,7 @@ never_both (m ∷ s) (n ∷ t) h k = elim h [
 -- the first of the faults comes before each other one
 abbrev pub Leads : List PlanFault → Type 0
 Leads [] = Unit {0}
-Leads (x ∷ xs) = (fault : PlanFault) → In fault xs → (fault ≡ x) ⊎ IsBefore (turn_of x) (turn_of fault)
+Leads (x ∷ xs) = (fault : PlanFault) → In fault xs → (fault ≡ x) ⊎ IsTurnBefore (turn_of x) (turn_of fault)
 
 -- ---- how a turn begins
 
@@ -49,7 +49,7 @@ starts_shorter [] j t h = tt
 starts_shorter (m ∷ p) j [] h = absurd h
 starts_shorter (m ∷ p) j (n ∷ t) h = (h.0, starts_shorter p j t h.1)
 
-starts_before : (p : List ℕ) (i j : ℕ) (s t : List ℕ) → i < j → Starts (p ++ i ∷ []) s → Starts (p ++ j ∷ []) t → IsBefore s t
+starts_before : (p : List ℕ) (i j : ℕ) (s t : List ℕ) → i < j → Starts (p ++ i ∷ []) s → Starts (p ++ j ∷ []) t → IsTurnBefore s t
 starts_before [] i j [] t lt h k = absurd h
 starts_before [] i j (m ∷ s) [] lt h k = absurd k
 starts_before [] i j (m ∷ s) (n ∷ t) lt h k = let a = h.0 in let b = k.0 in inl (omega arith)
@@ -59,7 +59,7 @@ starts_before (q ∷ p) i j (m ∷ s) (n ∷ t) lt h k = inr (h.0 ∙ sym k.0, s
 
 -- ---- one list of faults behind another
 
-leads_append : (a b : List PlanFault) → Leads a → Leads b → ((x y : PlanFault) → In x a → In y b → IsBefore (turn_of x) (turn_of y)) → Leads (a ++ b)
+leads_append : (a b : List PlanFault) → Leads a → Leads b → ((x y : PlanFault) → In x a → In y b → IsTurnBefore (turn_of x) (turn_of y)) → Leads (a ++ b)
 leads_append [] b la lb cross = lb
 leads_append (x ∷ a) b la lb cross = λ fault h. elim (in_either fault a b h) [
   | inl left ↦ la fault left
@@ -96,7 +96,7 @@ part_append p i n a b leads starts lt rest = record {
   ];
 }
   where
-    cross : (x y : PlanFault) → In x a → Begins p n (turn_of y) → IsBefore (turn_of x) (turn_of y)
+    cross : (x y : PlanFault) → In x a → Begins p n (turn_of y) → IsTurnBefore (turn_of x) (turn_of y)
     cross x y hx r = let further : i < r.number = omega (arith, r.least) in starts_before p i r.number (turn_of x) (turn_of y) further (starts x hx) r.starts
 
     further : {t : List ℕ} → Begins p n t → Begins p i t
@@ -259,7 +259,7 @@ first_in : (faults : List PlanFault) (fault : PlanFault) → IsFirstOf faults fa
 first_in [] fault h = absurd h
 first_in (x ∷ faults) fault h = inl (sym h)
 
-least : (faults : List PlanFault) (fault other : PlanFault) → Leads faults → IsFirstOf faults fault → In other faults → IsBefore (turn_of other) (turn_of fault) → ⊥
+least : (faults : List PlanFault) (fault other : PlanFault) → Leads faults → IsFirstOf faults fault → In other faults → IsTurnBefore (turn_of other) (turn_of fault) → ⊥
 least [] fault other leads h inside before = absurd h
 least (x ∷ faults) fault other leads h inside before =
     elim inside [
@@ -276,7 +276,7 @@ listed_first t fault h = record {
   first = λ other has before. least (faults_of t) fault other (faults_lead t) h (fault_listed t other has) before;
 }
 
-head_first : (faults : List PlanFault) (fault : PlanFault) → Leads faults → In fault faults → ((other : PlanFault) → In other faults → IsBefore (turn_of other) (turn_of fault) → ⊥) → IsFirstOf faults fault
+head_first : (faults : List PlanFault) (fault : PlanFault) → Leads faults → In fault faults → ((other : PlanFault) → In other faults → IsTurnBefore (turn_of other) (turn_of fault) → ⊥) → IsFirstOf faults fault
 head_first [] fault leads inside first = absurd inside
 head_first (x ∷ faults) fault leads inside first =
     elim inside [

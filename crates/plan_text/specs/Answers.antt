@@ -31,7 +31,7 @@ abbrev pub Passes : {A : Type 0} → List PlanFault → Result A PlanFault → T
 Passes faults (Ok x) = faults ≡ []
 Passes faults (Err fault) = fault ≢ Memory → IsFirstOf faults fault
 
--- the fault that an error of the reader of TOML is: want of memory where it says so, and else that the text is no document
+-- the fault that an error of the reader of TOML is: out of memory where it says so, and else that the text is no document
 pub record IsFaultOf (error : Error) (fault : PlanFault) : Type 0 where
   pub memory : IsMemory error → fault ≡ Memory
   pub no_document : ¬ (IsMemory error) → fault ≡ NotToml

@@ -106,13 +106,13 @@ turn_of Memory = []
 turn_of NotReadBack = []
 
 -- one turn comes before another, as words do in a dictionary
-abbrev pub IsBefore : List ℕ → List ℕ → Type 0
-IsBefore [] [] = ⊥
-IsBefore [] (n ∷ ns) = Unit {0}
-IsBefore (m ∷ ms) [] = ⊥
-IsBefore (m ∷ ms) (n ∷ ns) = (m < n) ⊎ ((m ≡ n) × IsBefore ms ns)
+abbrev pub IsTurnBefore : List ℕ → List ℕ → Type 0
+IsTurnBefore [] [] = ⊥
+IsTurnBefore [] (n ∷ ns) = Unit {0}
+IsTurnBefore (m ∷ ms) [] = ⊥
+IsTurnBefore (m ∷ ms) (n ∷ ns) = (m < n) ⊎ ((m ≡ n) × IsTurnBefore ms ns)
 
 -- the table has the fault, and none whose turn comes before
 pub record IsFirstTableFault (table : Members) (fault : PlanFault) : Type 0 where
   pub has : HasFault table fault
-  pub first : (other : PlanFault) → HasFault table other → IsBefore (turn_of other) (turn_of fault) → ⊥
+  pub first : (other : PlanFault) → HasFault table other → IsTurnBefore (turn_of other) (turn_of fault) → ⊥

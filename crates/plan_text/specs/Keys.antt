@@ -22,6 +22,10 @@ limit_of Clean = 2 ^ 64
 abbrev pub value_at : Members → PlanKey → Option Data
 value_at table key = get_member (name_of key) table
 
+-- the key of the version
+abbrev pub version_key : List ℕ
+version_key = codes "version"
+
 -- the version that a table states, if it states one
 abbrev pub version_in : Members → Option Data
-version_in table = get_member (codes "version") table
+version_in table = get_member version_key table

@@ -4,7 +4,7 @@ use Rattle.std.specs.List.{flat_map}
 use Rattle.shop_base.specs.Plan.{ShopPlan}
 use Rattle.plan_text.specs.declared.plan_key.PlanKey.{PlanKey}
 use Rattle.plan_text.specs.declared.plan_key.PlanKey.TheVariants.{Release, Budget, Order, Clean}
-use Rattle.plan_text.specs.Keys.{name_of}
+use Rattle.plan_text.specs.Keys.{name_of, version_key}
 
 -- the elements behind the first one, each with a comma and a space before it
 abbrev pub after_first : {A : Type 0} → (A → List ℕ) → List A → List ℕ
@@ -31,10 +31,14 @@ key_line key value = name_of key ++ (codes " = " ++ (value ++ codes "\n"))
 abbrev pub three_lines : ShopPlan → List ℕ
 three_lines plan = key_line Release (numbers_text plan.release) ++ (key_line Budget (numbers_text plan.budget) ++ key_line Order (rows_text plan.order))
 
+-- the line of version 2
+abbrev pub version_line : List ℕ
+version_line = version_key ++ codes " = 2\n"
+
 -- these lines, and in version 2 the version's before them and the cleaning times' behind them
 abbrev pub lines_with : Option (List ℕ) → List ℕ → List ℕ
 lines_with None three = three
-lines_with (Some times) three = codes "version = 2\n" ++ (three ++ key_line Clean (numbers_text times))
+lines_with (Some times) three = version_line ++ (three ++ key_line Clean (numbers_text times))
 
 -- the lines of a plan
 abbrev pub plan_lines : ShopPlan → List ℕ

@@ -1,12 +1,12 @@
 -- All faults of a TOML table as a plan, in the order in which the first one counts: what the checks go through.
-use Rattle.std.specs.Prelude.{ℕ, ◌+◌, ◌==◌, ◌||◌, nat_lt, pos, negsuc, Bool, true, false, if◌then◌else◌, List, [], ◌∷◌, ◌++◌, codes, Option, None, Some}
+use Rattle.std.specs.Prelude.{ℕ, ◌+◌, ◌==◌, ◌||◌, nat_lt, pos, negsuc, Bool, true, false, if◌then◌else◌, List, [], ◌∷◌, ◌++◌, Option, None, Some}
 use Rattle.std.specs.Str.{bytes_eq}
 use Rattle.toml.specs.Data.{Data, integer, array, Items, no_items, item, Members, no_members, member}
 use Rattle.plan_text.specs.declared.plan_key.PlanKey.{PlanKey}
 use Rattle.plan_text.specs.declared.plan_key.PlanKey.TheVariants.{Release, Budget, Order, Clean}
 use Rattle.plan_text.specs.declared.plan_fault.PlanFault.{PlanFault}
 use Rattle.plan_text.specs.declared.plan_fault.PlanFault.TheVariants.{BadVersion, UnknownKey, MissingKey, NotArray, NotWhole, OutOfRange}
-use Rattle.plan_text.specs.Keys.{name_of, limit_of, value_at, version_in}
+use Rattle.plan_text.specs.Keys.{name_of, version_key, limit_of, value_at, version_in}
 
 -- the fault, where it is one
 abbrev pub unless : Bool → PlanFault → List PlanFault
@@ -28,7 +28,7 @@ has_cleaning (Some d) = false
 
 -- whether a key is one of every plan text
 abbrev pub is_common_key : List ℕ → Bool
-is_common_key key = bytes_eq key (codes "version") || bytes_eq key (name_of Release) || bytes_eq key (name_of Budget) || bytes_eq key (name_of Order)
+is_common_key key = bytes_eq key version_key || bytes_eq key (name_of Release) || bytes_eq key (name_of Budget) || bytes_eq key (name_of Order)
 
 -- whether a key is one of a plan text, with cleaning or without
 abbrev pub is_known_key : Bool → List ℕ → Bool

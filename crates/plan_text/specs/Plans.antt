@@ -1,9 +1,9 @@
 -- Which plan a TOML table is.
-use Rattle.std.specs.Prelude.{◌≡◌, ℕ, ◌⊎◌, pos, List, codes, Option, None, Some}
+use Rattle.std.specs.Prelude.{◌≡◌, ℕ, ◌⊎◌, pos, List, Option, None, Some}
 use Rattle.shop_base.specs.Plan.{ShopPlan}
 use Rattle.toml.specs.Data.{Data, integer, Members, no_members, member}
 use Rattle.plan_text.specs.declared.plan_key.PlanKey.TheVariants.{Release, Budget, Order, Clean}
-use Rattle.plan_text.specs.Keys.{name_of, value_at, version_in}
+use Rattle.plan_text.specs.Keys.{name_of, version_key, value_at, version_in}
 use Rattle.plan_text.specs.Numbers.{IsNumberArray, IsRowArray}
 
 -- a plan without cleaning has version 1, which may be left out, and one with cleaning has version 2
@@ -13,7 +13,7 @@ IsVersionOf (Some times) version = version ≡ Some (integer (pos 2))
 
 -- the key is one of every plan text
 abbrev pub IsCommonKey : List ℕ → Type 0
-IsCommonKey key = (key ≡ codes "version") ⊎ (key ≡ name_of Release) ⊎ (key ≡ name_of Budget) ⊎ (key ≡ name_of Order)
+IsCommonKey key = (key ≡ version_key) ⊎ (key ≡ name_of Release) ⊎ (key ≡ name_of Budget) ⊎ (key ≡ name_of Order)
 
 -- the key is one of a plan text, with cleaning or without
 abbrev pub IsKeyOf : Option (List ℕ) → List ℕ → Type 0

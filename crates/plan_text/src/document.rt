@@ -3,11 +3,11 @@
 ghost use Rattle.std.specs.Prelude.{◌≡◌, ◌⊎◌, ◌++◌, Err, IfOk, OnOk, IfErr, MatchBool, string_bytes};
 ghost use Rattle.shop_base.specs.Vectors.{lists_of};
 ghost use Rattle.plan_text.specs.Documents.{IsPlanText};
-ghost use Rattle.plan_text.specs.Lines.{list_text, after_first, numbers_text, rows_text, key_line, three_lines, plan_lines};
+ghost use Rattle.plan_text.specs.Lines.{list_text, after_first, numbers_text, rows_text, key_line, three_lines, version_line, plan_lines};
 
 use crate::compare::is_same;
 use crate::plan_fault::PlanFault;
-use crate::plan_key::PlanKey;
+use crate::plan_key::{PlanKey, VERSION};
 use crate::read::read_plan;
 use itoa::{Buffer, Integer};
 use shop_base::{JobNo, Moment, Plan};
@@ -91,6 +91,14 @@ fn push_three_lines(text: &mut String, plan: &Plan) -> Result<(), AllocError>
     push_order_line(text, &plan.order)
 }
 
+/// The line of version 2, that of plans with cleaning.
+fn push_version(text: &mut String) -> Result<(), AllocError>
+    ensures { OnOk result (string_bytes text.new ≡ string_bytes text.old ++ version_line) }
+{
+    text.push_str(VERSION)?;
+    text.push_str(" = 2\n")
+}
+
 /// The lines of a plan.
 fn plan_lines(alloc: Global, plan: &Plan) -> Result<String, AllocError>
     ensures { IfOk result (λ text. string_bytes text ≡ plan_lines plan.now) }
@@ -100,7 +108,7 @@ fn plan_lines(alloc: Global, plan: &Plan) -> Result<String, AllocError>
         push_three_lines(&mut text, plan)?;
         return Ok(text);
     };
-    text.push_str("version = 2\n")?;
+    push_version(&mut text)?;
     push_three_lines(&mut text, plan)?;
     push_line(&mut text, PlanKey::Clean, times)?;
     Ok(text)
@@ -115,7 +123,7 @@ pub fn plan_document(alloc: Global, plan: &Plan) -> Result<String, PlanFault>
     ensures lines { IfOk result (λ text. string_bytes text ≡ plan_lines plan.now) }
     ensures read_back { OnOk result (IsPlanText (plan_lines plan.now) plan.now) }
 
-    // A refusal says that they aren't, or that memory was wanting.
+    // A refusal says that they aren't, or that memory ran out.
     ensures not_read_back { result ≡ Err PlanFault.NotReadBack → IsPlanText (plan_lines plan.now) plan.now → ⊥ }
     ensures refusals { IfErr result (λ fault. (fault ≡ PlanFault.NotReadBack) ⊎ (fault ≡ PlanFault.Memory)) }
 {

@@ -2,15 +2,16 @@
 
 ghost use Rattle.std.specs.Prelude.{◌≡◌, IfOk, Some, option_map, string_bytes};
 ghost use Rattle.std.specs.List.{list_all};
+ghost use Rattle.std.specs.Str.{bytes_eq};
 ghost use Rattle.std.specs.BTreeMap.{keys};
 ghost use Rattle.toml.specs.Data.{get_member};
 ghost use Rattle.toml.specs.View.{view, table_view};
-ghost use Rattle.plan_text.specs.Keys.{value_at, version_in};
+ghost use Rattle.plan_text.specs.Keys.{name_of, value_at, version_in};
 ghost use Rattle.plan_text.specs.Answers.{PassesExactly};
 ghost use Rattle.plan_text.specs.Listing.{version_faults, has_cleaning, is_common_key, is_known_key, key_faults, missing_faults, missing_keys};
 
 use crate::plan_fault::PlanFault;
-use crate::plan_key::PlanKey;
+use crate::plan_key::{PlanKey, VERSION};
 use toml::{Table, Value};
 
 /// The value of a key, if the table has one.
@@ -25,7 +26,7 @@ pub(crate) fn check_version(table: &Table) -> Result<bool, PlanFault>
     ensures faults { PassesExactly (version_faults (version_in (table_view table.now))) result }
     ensures value { IfOk result (λ cleaning. cleaning ≡ has_cleaning (version_in (table_view table.now))) }
 {
-    let Some(version) = value_of(table, "version") else {
+    let Some(version) = value_of(table, VERSION) else {
         return Ok(false);
     };
     match version.as_integer() {
@@ -35,16 +36,25 @@ pub(crate) fn check_version(table: &Table) -> Result<bool, PlanFault>
     }
 }
 
+fn is_key(key: &str, wanted: PlanKey) -> bool
+    ensures { result ≡ bytes_eq key.now (name_of wanted) }
+{
+    key == wanted.name()
+}
+
 fn is_common(key: &str) -> bool
     ensures { result ≡ is_common_key key.now }
 {
-    key == "version" || key == "release" || key == "budget" || key == "order"
+    key == VERSION
+        || is_key(key, PlanKey::Release)
+        || is_key(key, PlanKey::Budget)
+        || is_key(key, PlanKey::Order)
 }
 
 fn is_known(key: &str, cleaning: bool) -> bool
     ensures { result ≡ is_known_key cleaning key.now }
 {
-    is_common(key) || (cleaning && key == "clean")
+    is_common(key) || (cleaning && is_key(key, PlanKey::Clean))
 }
 
 fn are_known(table: &Table, cleaning: bool) -> bool

@@ -45,7 +45,7 @@ pub enum PlanFault {
         row: Option<usize>,
         place: usize,
     },
-    /// Memory was wanting.
+    /// Out of memory.
     #[error("Memory")]
     Memory,
     /// The plan's text isn't read as this plan.

@@ -3,6 +3,9 @@ ghost use Rattle.plan_text.specs.Keys.{name_of};
 
 use std::fmt;
 
+/// The key of a plan text that holds its version.
+pub(crate) const VERSION: &str = "version";
+
 /// The keys of a plan text that hold lists.
 #[derive(Clone, Copy, Debug, PartialEq, Eq)]
 pub enum PlanKey {
