@@ -1,3 +1,4 @@
+-- What a planner proposes; the jobs that visit each machine in a row of jobs, and the orders of the serial and the shifted plans.
 use Rattle.std.specs.Prelude.{ℕ, ◌-◌, ◌%◌, ◌==◌, List, ◌++◌, Bool, map, filter, length, Option, None, Some, Vec}
 use Rattle.std.specs.List.{list_any, range_with_len}
 use Rattle.std.specs.declared.alloc.Global.{Global}

@@ -1,3 +1,4 @@
+-- What came of the parts of a search: of one proposal or several, of a round, and of the serial plan.
 use Rattle.std.specs.Prelude.{◌≡◌, ℕ, ◌<◌, List, Some, Result, Ok, Err}
 use Rattle.shop_base.specs.Plan.{PlannedShop}
 use Rattle.plan_verifier.specs.Accepted.{VerifiedPlan}
@@ -15,7 +16,7 @@ pub record IsPlanFor (t : PlanTask) (p : PlannedShop) : Type 0 where
   pub same : p ≡ with_order t p.plan.order
   pub accepted : IsAccepted p
 
--- what came of the attempts: an accepted plan for the task, whose orders are such, or else the task again, where this holds, or want of memory
+-- what came of the attempts: an accepted plan for the task, whose orders are such, or else the task again, where this holds, or out of memory
 abbrev pub IsOutcome : PlanTask → (List (List ℕ) → Type 0) → Type 0 → Attempt → Type 0
 IsOutcome t Found Failed (Accepted verified) = IsPlanFor t verified.planned × Found verified.planned.plan.order
 IsOutcome t Found Failed (InVain back) = (back ≡ t) × Failed
@@ -28,7 +29,7 @@ pub record IsFoundIn (t : PlanTask) (may : Proposals) (round proposers : ℕ) (o
   pub given : may (turn_of round place) (Some order)
   pub before : EachInRound t may round place
 
--- why the serial plan isn't given: it is late, or memory was wanting
+-- why the serial plan isn't given: it is late, or memory ran out
 abbrev pub IsSerialFault : PlanTask → SeekFault → Type 0
 IsSerialFault t Exhausted = IsSeriallyLate t
 IsSerialFault t Memory = Unit {0}

@@ -1,8 +1,10 @@
+-- What a search gives: the first proposal that is accepted, or else the serial plan; and why it gives none.
 use Rattle.std.specs.Prelude.{◌≡◌, ℕ, ◌<◌, ◌≤◌, List, ◌⊎◌}
 use Rattle.shop_base.specs.declared.node.Node.{Node}
 use Rattle.shop_base.specs.Plan.{IsWellShaped}
 use Rattle.shop_base.specs.ShapeFault.{IsFirstShapeFault}
 use Rattle.plan_verifier.specs.Verdicts.{IsFirstLate}
+use Rattle.plan_seek.specs.declared.search.TheConstants.{MAX_ROUNDS}
 use Rattle.plan_seek.specs.declared.seek_fault.SeekFault.{SeekFault}
 use Rattle.plan_seek.specs.declared.seek_fault.SeekFault.TheVariants.{BadNumbers, Exhausted, TooManyRounds, Memory}
 use Rattle.plan_seek.specs.Orders.{serial_order}
@@ -10,8 +12,8 @@ use Rattle.plan_seek.specs.Tasks.{PlanTask, serial_plan}
 use Rattle.plan_seek.specs.Turns.{Proposals, IsFirstFound, EachMayFail}
 
 -- the numbers are as many as they should be and within the limits: the serial plan is well shaped
-abbrev pub AreSound : PlanTask → Type 0
-AreSound t = IsWellShaped (serial_plan t)
+abbrev pub AreSoundNumbers : PlanTask → Type 0
+AreSoundNumbers t = IsWellShaped (serial_plan t)
 
 -- these orders are the search's: the first proposal that is accepted, or else the serial plan's
 abbrev pub IsSought : PlanTask → Proposals → ℕ → ℕ → List (List ℕ) → Type 0
@@ -27,12 +29,12 @@ pub record IsSeriallyLate (t : PlanTask) : Type 0 where
 
 -- the numbers are sound, and the rounds aren't too many
 pub record IsBegun (t : PlanTask) (rounds : ℕ) : Type 0 where
-  pub sound : AreSound t
-  pub few : rounds ≤ 1000
+  pub sound : AreSoundNumbers t
+  pub few : rounds ≤ MAX_ROUNDS
 
--- why there is no plan: the first fault of the numbers, which is that of the serial plan's shape; else too many rounds; else that all proposals may fail and the serial plan is late, or want of memory
+-- why there is no plan: the first fault of the numbers, which is that of the serial plan's shape; else too many rounds; else that all proposals may fail and the serial plan is late, or out of memory
 abbrev pub IsSeekFault : PlanTask → Proposals → ℕ → ℕ → SeekFault → Type 0
 IsSeekFault t may rounds proposers (BadNumbers fault) = IsFirstShapeFault (serial_plan t) fault
-IsSeekFault t may rounds proposers TooManyRounds = AreSound t × (1000 < rounds)
+IsSeekFault t may rounds proposers TooManyRounds = AreSoundNumbers t × (MAX_ROUNDS < rounds)
 IsSeekFault t may rounds proposers Exhausted = IsBegun t rounds × EachMayFail t may rounds proposers × IsSeriallyLate t
 IsSeekFault t may rounds proposers Memory = IsBegun t rounds

@@ -1,3 +1,4 @@
+-- A task: a shop with the releases, budgets and cleaning times of a plan whose orders are sought; and when a plan is accepted.
 use Rattle.std.specs.Prelude.{ℕ, List, Option, Vec}
 use Rattle.std.specs.declared.alloc.Global.{Global}
 use Rattle.shop_base.specs.Shop.{JobShop}

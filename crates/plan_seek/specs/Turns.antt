@@ -1,3 +1,4 @@
+-- The turns of the planners, round by round and in each round in order, and the first of them whose proposal is accepted.
 use Rattle.std.specs.Prelude.{◌≡◌, ℕ, ◌<◌, List, None, Some, ◌⊎◌, length, slice_index_or}
 use Rattle.plan_seek.specs.Orders.{Proposal}
 use Rattle.plan_seek.specs.Tasks.{PlanTask, with_order, IsAccepted}
@@ -13,8 +14,8 @@ pub record IsTurn (rounds proposers : ℕ) (turn : Turn) : Type 0 where
   pub within_list : turn.proposer < proposers
 
 -- turns come round by round, and in each round in the order of the list
-abbrev pub IsBefore : Turn → Turn → Type 0
-IsBefore one other = (one.round < other.round) ⊎ ((one.round ≡ other.round) × (one.proposer < other.proposer))
+abbrev pub ComesSooner : Turn → Turn → Type 0
+ComesSooner one other = (one.round < other.round) ⊎ ((one.round ≡ other.round) × (one.proposer < other.proposer))
 
 -- the turn of a proposer in a round
 abbrev pub turn_of : ℕ → ℕ → Turn
@@ -47,7 +48,7 @@ pub record IsFirstFound (t : PlanTask) (may : Proposals) (rounds proposers : ℕ
   pub turn : Turn
   pub inside : IsTurn rounds proposers turn
   pub given : may turn (Some order)
-  pub before : (earlier : Turn) → IsTurn rounds proposers earlier → IsBefore earlier turn → MayFail t (may earlier)
+  pub before : (earlier : Turn) → IsTurn rounds proposers earlier → ComesSooner earlier turn → MayFail t (may earlier)
 
 -- at each turn a proposal may be made that isn't accepted
 abbrev pub EachMayFail : PlanTask → Proposals → ℕ → ℕ → Type 0

@@ -19,7 +19,7 @@ pub(crate) enum Attempt {
     Accepted(Verified),
     /// There is no plan, or it isn't accepted.
     InVain(Task),
-    /// Memory was wanting: what the request was refused with, and the task.
+    /// Out of memory: what the request was refused with, and the task.
     WantsMemory(AllocError, Task),
 }
 

@@ -20,7 +20,7 @@ mod way_out;
 pub use greedy::GreedyProposer;
 pub use not_found::NotFound;
 pub use proposer::Proposer;
-pub use search::{MAX_ROUNDS, seek};
+pub use search::{MAX_ROUNDS, seek, the_most_rounds_in_numbers};
 pub use seek_fault::SeekFault;
 pub use serial::serial_orders;
 pub use shift::ShiftProposer;

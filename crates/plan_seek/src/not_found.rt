@@ -1,7 +1,7 @@
 use crate::seek_fault::SeekFault;
 use shop_base::{Moment, Shop};
 
-/// The shop and the numbers for which no plan was found, handed back with the reason.
+/// The shop and the numbers for which no plan was found, given back with the reason.
 #[derive(Debug, Drop)]
 pub struct NotFound {
     pub fault: SeekFault,

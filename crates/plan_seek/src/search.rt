@@ -17,10 +17,15 @@ use std::alloc::Global;
 /// The most rounds in which the proposers are asked.
 pub const MAX_ROUNDS: u32 = 1000;
 
+/// The most rounds, in numbers.
+pub fn the_most_rounds_in_numbers()
+    ensures { MAX_ROUNDS ≡ 1000 }
+{}
+
 /// Looks for a plan with these numbers that is accepted. In each round from 0 on each proposer is asked in
 /// order, and the first proposal that is accepted is given; last comes the serial plan, in which each machine
 /// takes its jobs in ascending order. A fault of the numbers, and then too many rounds, is answered before a
-/// proposer is asked and before memory is taken. Where there is no plan, everything is handed back.
+/// proposer is asked and before memory is taken. Where there is no plan, everything is given back.
 pub fn seek(
     alloc: Global,
     shop: Shop,
@@ -32,12 +37,12 @@ pub fn seek(
 ) -> Result<Verified, NotFound>
     ensures same { IfOk result (λ verified. verified.planned ≡ with_order (task_of shop release budget clean) verified.planned.plan.order) }
     ensures accepted { IfOk result (λ verified. IsAccepted verified.planned) }
-    ensures few_rounds { OnOk result (rounds ≤ 1000) }
+    ensures few_rounds { OnOk result (rounds ≤ MAX_ROUNDS) }
     ensures sought { IfOk result (λ verified.
         IsSought (task_of shop release budget clean) (MayPropose (λ b. may b shop) proposers.now) rounds (length proposers.now) verified.planned.plan.order) }
     ensures refused { IfErr result (λ refused.
         IsSeekFault (task_of shop release budget clean) (MayPropose (λ b. may b shop) proposers.now) rounds (length proposers.now) refused.fault) }
-    ensures handed_back { IfErr result (λ refused.
+    ensures given_back { IfErr result (λ refused.
         task_of refused.shop refused.release refused.budget refused.clean ≡ task_of shop release budget clean) }
 {
     let task = Task {
@@ -69,7 +74,7 @@ fn search(
         IsSought task (MayPropose (λ b. may b task.shop) proposers.now) rounds (length proposers.now) verified.planned.plan.order) }
     ensures refused { IfErr result (λ refused.
         IsSeekFault task (MayPropose (λ b. may b task.shop) proposers.now) rounds (length proposers.now) refused.fault) }
-    ensures handed_back { IfErr result (λ refused. task_of refused.shop refused.release refused.budget refused.clean ≡ task) }
+    ensures given_back { IfErr result (λ refused. task_of refused.shop refused.release refused.budget refused.clean ≡ task) }
 {
     match try_rounds(alloc, task, proposers, rounds) {
         Attempt::Accepted(verified) => Ok(verified),

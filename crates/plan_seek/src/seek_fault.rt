@@ -15,7 +15,7 @@ pub enum SeekFault {
     /// There are more than 1000 rounds.
     #[error("TooManyRounds")]
     TooManyRounds,
-    /// Memory was wanting, here or to a proposer.
+    /// Out of memory, here or in a proposer.
     #[error("Memory")]
     Memory,
 }

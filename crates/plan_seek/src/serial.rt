@@ -5,7 +5,7 @@ ghost use Rattle.shop_base.specs.Vectors.{lists_of};
 ghost use Rattle.shop_base.specs.Plan.{IsWellShaped};
 ghost use Rattle.plan_seek.specs.Orders.{serial_order};
 ghost use Rattle.plan_seek.specs.Tasks.{PlanTask, serial_plan};
-ghost use Rattle.plan_seek.specs.Search.{AreSound};
+ghost use Rattle.plan_seek.specs.Search.{AreSoundNumbers};
 ghost use Rattle.plan_seek.specs.Outcomes.{IsSerialOutcome};
 
 use crate::not_found::NotFound;
@@ -18,7 +18,7 @@ use std::alloc::{AllocError, Global};
 
 /// The serial plan, where it isn't late.
 pub(crate) fn try_serial(alloc: Global, task: Task) -> Result<Verified, NotFound>
-    requires { AreSound task }
+    requires { AreSoundNumbers task }
     ensures { IsSerialOutcome task result }
 {
     match serial_orders(alloc, &task.shop) {
@@ -38,7 +38,7 @@ pub fn serial_orders(alloc: Global, shop: &Shop) -> Result<Vec<Vec<JobNo>>, Allo
 
 /// Shapes and verifies the serial plan.
 fn shape_serial(alloc: Global, task: Task, order: Vec<Vec<JobNo>>) -> Result<Verified, NotFound>
-    requires sound { AreSound task }
+    requires sound { AreSoundNumbers task }
     requires serial { lists_of order.items ≡ serial_order task.shop }
     ensures { IsSerialOutcome task result }
 {

@@ -72,10 +72,10 @@ impl Task {
         Task::of(shop, plan)
     }
 
-    /// The task, handed back with the reason why there is no plan.
+    /// The task, given back with the reason why there is no plan.
     pub fn not_found(self, fault: SeekFault) -> NotFound
         ensures reason { result.fault ≡ fault }
-        ensures handed_back { task_of result.shop result.release result.budget result.clean ≡ self }
+        ensures given_back { task_of result.shop result.release result.budget result.clean ≡ self }
     {
         let Task {
             shop,
