@@ -1,3 +1,4 @@
+-- How the rows of the nodes lie one behind another: job after job, and within a job by place.
 use Rattle.std.specs.Prelude.{ℕ, ◌+◌, ◌-◌, ◌<◌, ◌≤◌, List, [], ◌∷◌, length, take, drop, slice_index, Option, None, Some}
 use Rattle.shop_base.specs.declared.node.Node.{Node}
 use Rattle.alt_graph.specs.declared.times.NodeTime.{NodeTime}

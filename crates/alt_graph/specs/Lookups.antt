@@ -1,3 +1,4 @@
+-- What is looked up in a plan's graph: the numbers of nodes, the jobs' steps on machines, and their places in the orders.
 use Rattle.std.specs.Prelude.{◌≡◌, ℕ, ◌+◌, ◌*◌, ◌<◌, ◌≤◌, List, length, slice_index}
 use Rattle.shop_base.specs.declared.limits.TheConstants.{MAX_JOBS, MAX_MACHINES}
 use Rattle.shop_base.specs.Plan.{PlannedShop, jobs, machines, steps, order, job_at, Visits, IsWellShaped}

@@ -1,3 +1,4 @@
+-- Nodes by their places in a list.
 use Rattle.std.specs.Prelude.{◌≢◌, ℕ, ◌<◌, List, slice_index_or}
 use Rattle.shop_base.specs.declared.node.Node.{Node}
 use Rattle.shop_base.specs.Graph.{node}

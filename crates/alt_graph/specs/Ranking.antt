@@ -1,3 +1,4 @@
+-- A ranking under way: which nodes have ranks, what may be ranked next, and which nodes still wait for others.
 use Rattle.std.specs.Prelude.{◌≡◌, ◌≢◌, ◌==◌, ℕ, ◌+◌, ◌*◌, ◌<◌, ◌≤◌, ◌⊎◌, if◌then◌else◌, List, length, slice_index, sum_by, Some}
 use Rattle.shop_base.specs.declared.node.Node.{Node}
 use Rattle.shop_base.specs.declared.limits.TheConstants.{MAX_RELEASE, MAX_NOMINAL}
@@ -5,17 +6,17 @@ use Rattle.shop_base.specs.Plan.{PlannedShop, jobs, release}
 use Rattle.shop_base.specs.Graph.{Arc, IsNode}
 use Rattle.alt_graph.specs.declared.times.NodeTime.{NodeTime}
 use Rattle.alt_graph.specs.declared.times.TheConstants.{UNRANKED}
-use Rattle.alt_graph.specs.declared.lookups.Lookups.{Lookups}
 use Rattle.alt_graph.specs.declared.ranking.Ranking.{Ranking}
 use Rattle.alt_graph.specs.declared.ranking.Longest.{Longest}
 use Rattle.alt_graph.specs.declared.sources.ArcIn.{ArcIn}
 use Rattle.alt_graph.specs.Times.{NodeTimes, time_at, rank_of, earliest_of, before_of, IsAttained}
 use Rattle.alt_graph.specs.Layout.{by_job}
+use Rattle.alt_graph.specs.PlanGraph.{PlanGraph}
 use Rattle.alt_graph.specs.Places.{node_at}
 
 -- what is known of the nodes in the midst of the ranking
-abbrev pub so_far : Lookups → Ranking → NodeTimes
-so_far lookups ranking = by_job lookups.firsts.items ranking.rows.items
+abbrev pub so_far : PlanGraph → Ranking → NodeTimes
+so_far graph ranking = by_job graph.firsts ranking.rows.items
 
 -- the node has a rank
 abbrev pub IsRanked : NodeTimes → Node → Type 0
@@ -62,9 +63,9 @@ pub record AreRanked (p : PlannedShop) (firsts : List ℕ) (rows : List NodeTime
   pub count : length done + sum_by blank rows ≡ length rows
   pub size : length rows ≡ slice_index firsts (jobs p)
 
--- the same of a ranking
-abbrev pub IsRanking : PlannedShop → Lookups → Ranking → Type 0
-IsRanking p lookups ranking = AreRanked p lookups.firsts.items ranking.rows.items ranking.done.items
+-- the same of a ranking of the graph
+abbrev pub IsRanking : PlanGraph → Ranking → Type 0
+IsRanking graph ranking = AreRanked graph.plan graph.firsts ranking.rows.items ranking.done.items
 
 -- nodes without a rank may have got one from n on, and nothing else has changed
 abbrev pub Grows : PlannedShop → NodeTimes → NodeTimes → ℕ → Type 0

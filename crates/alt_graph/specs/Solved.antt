@@ -1,3 +1,4 @@
+-- What `solve` answers: ranks and greatest lengths where the graph has no cycle, and else a cycle.
 use Rattle.std.specs.Prelude.{List}
 use Rattle.shop_base.specs.declared.node.Node.{Node}
 use Rattle.shop_base.specs.Plan.{PlannedShop}

@@ -1,3 +1,4 @@
+-- The two kinds of arcs; the one arc of a kind into a node, and the one out of it.
 use Rattle.std.specs.Prelude.{◌≡◌, ℕ, ◌+◌, ◌<◌, List, length, slice_index, Option, MatchOption}
 use Rattle.shop_base.specs.declared.node.Node.{Node}
 use Rattle.shop_base.specs.Plan.{PlannedShop, steps, nominal, clean, Stands}

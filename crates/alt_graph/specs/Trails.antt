@@ -1,3 +1,4 @@
+-- Trails: nodes followed backwards along arcs until one comes again, and the cycle at the end of a trail.
 use Rattle.std.specs.Prelude.{◌≡◌, ◌≢◌, ℕ, ◌+◌, ◌-◌, ◌<◌, ◌≤◌, ◌⊎◌, List, length, sum_by, ◌==◌, if◌then◌else◌, slice_index, Option, MatchOption, Some}
 use Rattle.std.specs.Option.{ForSome}
 use Rattle.shop_base.specs.declared.node.Node.{Node}

@@ -4,18 +4,16 @@ ghost use Rattle.std.specs.Prelude.{◌≡◌, ◌+◌, ◌<◌, ◌≤◌, IfOk
 ghost use Rattle.std.specs.Option.{ForSome};
 ghost use Rattle.shop_base.specs.Graph.{IsNode, HasArc};
 ghost use Rattle.alt_graph.specs.Evidence.{IsCycle};
-ghost use Rattle.alt_graph.specs.Lookups.{AreLookups};
 ghost use Rattle.alt_graph.specs.Times.{rank_of};
 ghost use Rattle.alt_graph.specs.Ranking.{so_far, IsRanking, AreSettled};
 ghost use Rattle.alt_graph.specs.Trails.{IsTrail, IsPlaceAfter, IsLeastPlace, AreFrom, IsFreeSource, trail_length};
 
-use crate::lookups::Lookups;
+use crate::graph::Graph;
 use crate::node_order::is_before;
-use crate::numbers::number;
-use crate::ranking::{Ranking, is_ranked};
-use crate::sources::{ArcIn, blocking_source, job_source};
+use crate::ranking::Ranking;
+use crate::sources::{ArcIn, job_source};
 use crate::times::UNRANKED;
-use shop_base::{Node, Shaped};
+use shop_base::Node;
 use std::alloc::{AllocError, Global};
 
 /// Nodes followed backwards along arcs, until one came again: the one at place `start`.
@@ -25,94 +23,80 @@ pub(crate) struct Trail {
     pub start: usize,
 }
 
-/// A cycle, its least node first, from a node without a rank.
-pub(crate) fn cycle_from(
-    alloc: Global,
-    shaped: &Shaped,
-    lookups: &Lookups,
-    ranking: &Ranking,
-    node: Node,
-) -> Result<Vec<Node>, AllocError>
-    requires node { IsNode shaped.now node }
-    requires unranked { rank_of (so_far lookups.now ranking.now) node ≡ UNRANKED }
-    requires lookups { AreLookups shaped.now lookups.now }
-    requires ranked { IsRanking shaped.now lookups.now ranking.now }
-    requires settled { AreSettled shaped.now (so_far lookups.now ranking.now) UNRANKED }
-    ensures { IfOk result (λ nodes. IsCycle shaped.now nodes.items) }
-{
-    let trail = follow(alloc, shaped, lookups, ranking, node)?;
-    let least = trail.least_place();
-    let nodes = trail.turned(alloc, least)?;
-    Ok(nodes)
-}
-
-/// Follows arcs backwards among the nodes without a rank, until a node comes again.
-fn follow(
-    alloc: Global,
-    shaped: &Shaped,
-    lookups: &Lookups,
-    ranking: &Ranking,
-    node: Node,
-) -> Result<Trail, AllocError>
-    requires node { IsNode shaped.now node }
-    requires unranked { rank_of (so_far lookups.now ranking.now) node ≡ UNRANKED }
-    requires lookups { AreLookups shaped.now lookups.now }
-    requires ranked { IsRanking shaped.now lookups.now ranking.now }
-    requires settled { AreSettled shaped.now (so_far lookups.now ranking.now) UNRANKED }
-    ensures { IfOk result (IsTrail shaped.now) }
-{
-    // There is a row for each node, and none is followed twice.
-    let mut seen = vec![in alloc; UNRANKED; ranking.rows.len()]?;
-    let mut nodes = Vec::with_capacity(alloc, ranking.rows.len())?;
-    let mut next = node;
-    let mut at = number(&lookups.firsts, next);
-    'back: while seen[at] == UNRANKED {
-        seen[at] = nodes.len() as u32;
-        nodes.push(next)?;
-        next = free_source(shaped, lookups, ranking, next);
-        at = number(&lookups.firsts, next);
+impl Graph<'_> {
+    /// A cycle, its least node first, from a node without a rank.
+    pub(crate) fn cycle_from(
+        &self,
+        alloc: Global,
+        ranking: &Ranking,
+        node: Node,
+    ) -> Result<Vec<Node>, AllocError>
+        requires node { IsNode self.now.plan node }
+        requires unranked { rank_of (so_far self.now ranking.now) node ≡ UNRANKED }
+        requires ranked { IsRanking self.now ranking.now }
+        requires settled { AreSettled self.now.plan (so_far self.now ranking.now) UNRANKED }
+        ensures { IfOk result (λ nodes. IsCycle self.now.plan nodes.items) }
+    {
+        let trail = self.follow(alloc, ranking, node)?;
+        let least = trail.least_place();
+        let nodes = trail.turned(alloc, least)?;
+        Ok(nodes)
     }
-    let start = seen[at] as usize;
-    Ok(Trail { nodes, start })
-}
 
-/// A node without a rank from which an arc leads to the node.
-fn free_source(shaped: &Shaped, lookups: &Lookups, ranking: &Ranking, node: Node) -> Node
-    requires node { IsNode shaped.now node }
-    requires unranked { rank_of (so_far lookups.now ranking.now) node ≡ UNRANKED }
-    requires lookups { AreLookups shaped.now lookups.now }
-    requires ranked { IsRanking shaped.now lookups.now ranking.now }
-    requires settled { AreSettled shaped.now (so_far lookups.now ranking.now) UNRANKED }
-    ensures node { IsNode shaped.now result }
-    ensures unranked { rank_of (so_far lookups.now ranking.now) result ≡ UNRANKED }
-    ensures arc { HasArc shaped.now result node }
-{
-    let source = job_source(shaped, node);
-    if let Some(free) = free_of(shaped, lookups, ranking, source) {
-        return free;
+    /// Follows arcs backwards among the nodes without a rank, until a node comes again.
+    fn follow(&self, alloc: Global, ranking: &Ranking, node: Node) -> Result<Trail, AllocError>
+        requires node { IsNode self.now.plan node }
+        requires unranked { rank_of (so_far self.now ranking.now) node ≡ UNRANKED }
+        requires ranked { IsRanking self.now ranking.now }
+        requires settled { AreSettled self.now.plan (so_far self.now ranking.now) UNRANKED }
+        ensures { IfOk result (IsTrail self.now.plan) }
+    {
+        // There is a row for each node, and none is followed twice.
+        let mut seen = vec![in alloc; UNRANKED; ranking.rows.len()]?;
+        let mut nodes = Vec::with_capacity(alloc, ranking.rows.len())?;
+        let mut next = node;
+        let mut at = self.number(next);
+        'back: while seen[at] == UNRANKED {
+            seen[at] = nodes.len() as u32;
+            nodes.push(next)?;
+            next = self.free_source(ranking, next);
+            at = self.number(next);
+        }
+        let start = seen[at] as usize;
+        Ok(Trail { nodes, start })
     }
-    let source = blocking_source(shaped, lookups, node);
-    match free_of(shaped, lookups, ranking, source) {
-        Some(free) => free,
-        None => unreachable!(),
-    }
-}
 
-/// The node from which the arc comes, if there is one and it has no rank.
-fn free_of(
-    shaped: &Shaped,
-    lookups: &Lookups,
-    ranking: &Ranking,
-    source: Option<ArcIn>,
-) -> Option<Node>
-    requires node { ForSome source (λ s. IsNode shaped.now s.node) }
-    requires lookups { AreLookups shaped.now lookups.now }
-    requires ranked { IsRanking shaped.now lookups.now ranking.now }
-    ensures { IsFreeSource (so_far lookups.now ranking.now) source result }
-{
-    match source {
-        Some(source) if !is_ranked(shaped, lookups, ranking, source.node) => Some(source.node),
-        _ => None,
+    /// A node without a rank from which an arc leads to the node.
+    fn free_source(&self, ranking: &Ranking, node: Node) -> Node
+        requires node { IsNode self.now.plan node }
+        requires unranked { rank_of (so_far self.now ranking.now) node ≡ UNRANKED }
+        requires ranked { IsRanking self.now ranking.now }
+        requires settled { AreSettled self.now.plan (so_far self.now ranking.now) UNRANKED }
+        ensures node { IsNode self.now.plan result }
+        ensures unranked { rank_of (so_far self.now ranking.now) result ≡ UNRANKED }
+        ensures arc { HasArc self.now.plan result node }
+    {
+        let source = job_source(self.shaped(), node);
+        if let Some(free) = self.free_of(ranking, source) {
+            return free;
+        }
+        let source = self.blocking_source(node);
+        match self.free_of(ranking, source) {
+            Some(free) => free,
+            None => unreachable!(),
+        }
+    }
+
+    /// The node from which the arc comes, if there is one and it has no rank.
+    fn free_of(&self, ranking: &Ranking, source: Option<ArcIn>) -> Option<Node>
+        requires node { ForSome source (λ s. IsNode self.now.plan s.node) }
+        requires ranked { IsRanking self.now ranking.now }
+        ensures { IsFreeSource (so_far self.now ranking.now) source result }
+    {
+        match source {
+            Some(source) if !self.is_ranked(ranking, source.node) => Some(source.node),
+            _ => None,
+        }
     }
 }
 

@@ -11,6 +11,7 @@ mod arcs;
 mod chain_check;
 mod cycle_check;
 mod cycles;
+mod graph;
 mod lookups;
 mod node_order;
 mod numbers;

@@ -24,7 +24,6 @@ impl Lookups {
         ensures lookups { IfOk result (AreLookups shaped.now) }
         ensures well_shaped { IsWellShaped shaped.now }
     {
-        let _jobs = shaped.job_count();
         let firsts = first_numbers(alloc, shaped)?;
         let steps = steps_on_machines(alloc, shaped)?;
         let places = places_in_orders(alloc, shaped)?;

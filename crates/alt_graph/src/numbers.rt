@@ -1,6 +1,7 @@
 //! The numbers of nodes: job after job, and within a job by place.
 
 ghost use Rattle.std.specs.Prelude.{◌≡◌, ◌+◌, ◌<◌, IfOk, length};
+ghost use Rattle.shop_base.specs.Plan.{IsWellShaped};
 ghost use Rattle.alt_graph.specs.Lookups.{AreFirsts};
 ghost use Rattle.alt_graph.specs.Layout.{number_of};
 
@@ -9,7 +10,8 @@ use std::alloc::{AllocError, Global};
 
 /// The number of each job's first node, and last the count of all nodes.
 pub(crate) fn first_numbers(alloc: Global, shaped: &Shaped) -> Result<Vec<u32>, AllocError>
-    ensures { IfOk result (λ firsts. AreFirsts shaped.now firsts.items) }
+    ensures firsts { IfOk result (λ firsts. AreFirsts shaped.now firsts.items) }
+    ensures well_shaped { IsWellShaped shaped.now }
 {
     let jobs = shaped.job_count();
     let mut firsts = Vec::with_capacity(alloc, jobs as usize + 1)?;

@@ -6,16 +6,14 @@ ghost use Rattle.shop_base.specs.declared.limits.TheConstants.{MAX_NOMINAL};
 ghost use Rattle.shop_base.specs.declared.node.Node.{Node};
 ghost use Rattle.shop_base.specs.Plan.{jobs, steps};
 ghost use Rattle.shop_base.specs.Graph.{Arc, IsNode, node};
-ghost use Rattle.alt_graph.specs.Lookups.{AreLookups};
 ghost use Rattle.alt_graph.specs.Sources.{IsJobArc};
 ghost use Rattle.alt_graph.specs.Times.{rank_of, time_at, no_time};
 ghost use Rattle.alt_graph.specs.Ranking.{so_far, IsRanked, IsLongest, IsOver, WaitsFor, IsRanking, Grows, IsSettled, AreSettled};
 
-use crate::lookups::Lookups;
-use crate::numbers::number;
-use crate::sources::{ArcIn, blocking_source, blocking_target, job_source, job_target};
+use crate::graph::Graph;
+use crate::sources::{ArcIn, job_source, job_target};
 use crate::times::{NodeTime, UNRANKED};
-use shop_base::{JobNo, Moment, Node, Shaped};
+use shop_base::{JobNo, Moment, Node};
 use std::alloc::{AllocError, Global};
 
 /// The nodes ranked so far, in the order of their ranks, and what is known of each node.
@@ -32,48 +30,6 @@ pub(crate) struct Longest {
     pub before: Option<Node>,
 }
 
-/// Ranks all nodes that can be.
-pub(crate) fn rank_all(
-    alloc: Global,
-    shaped: &Shaped,
-    lookups: &Lookups,
-) -> Result<Ranking, AllocError>
-    requires { AreLookups shaped.now lookups.now }
-    ensures ranked { IfOk result (λ ranking. IsRanking shaped.now lookups.now ranking) }
-    ensures settled { IfOk result (λ ranking. AreSettled shaped.now (so_far lookups.now ranking) UNRANKED) }
-{
-    let mut ranking = rank_first(alloc, shaped, lookups)?;
-    let mut next = 0;
-    while next < ranking.done.len() {
-        rank_after(shaped, lookups, &mut ranking, next)?;
-        next += 1;
-    }
-    Ok(ranking)
-}
-
-/// Ranks the nodes that no arc leads to.
-fn rank_first(alloc: Global, shaped: &Shaped, lookups: &Lookups) -> Result<Ranking, AllocError>
-    requires { AreLookups shaped.now lookups.now }
-    ensures ranked { IfOk result (λ ranking. IsRanking shaped.now lookups.now ranking) }
-    ensures settled { IfOk result (λ ranking. AreSettled shaped.now (so_far lookups.now ranking) 0) }
-{
-    let mut ranking = none_ranked(alloc, shaped, lookups)?;
-    for job in 0..shaped.job_count() {
-        try_rank(shaped, lookups, &mut ranking, Node { job, place: 0 })?;
-    }
-    Ok(ranking)
-}
-
-fn none_ranked(alloc: Global, shaped: &Shaped, lookups: &Lookups) -> Result<Ranking, AllocError>
-    requires { AreLookups shaped.now lookups.now }
-    ensures { IfOk result (λ ranking. IsRanking shaped.now lookups.now ranking) }
-{
-    let nodes = lookups.firsts[shaped.job_count() as usize] as usize;
-    let done = Vec::with_capacity(alloc, nodes)?;
-    let rows = no_times(alloc, nodes)?;
-    Ok(Ranking { done, rows })
-}
-
 fn no_times(alloc: Global, count: usize) -> Result<Vec<NodeTime>, AllocError>
     ensures { IfOk result (λ rows. rows.items ≡ replicate count no_time) }
 {
@@ -88,140 +44,6 @@ fn no_times(alloc: Global, count: usize) -> Result<Vec<NodeTime>, AllocError>
     Ok(rows)
 }
 
-/// Ranks those nodes after the next ranked one that can be ranked now.
-fn rank_after(
-    shaped: &Shaped,
-    lookups: &Lookups,
-    ranking: &mut Ranking,
-    next: usize,
-) -> Result<(), AllocError>
-    requires lookups { AreLookups shaped.now lookups.now }
-    requires next { next < length ranking.old.done.items }
-    requires ranked { IsRanking shaped.now lookups.now ranking.old }
-    requires settled { AreSettled shaped.now (so_far lookups.now ranking.old) next }
-    ensures ranked { OnOk result (IsRanking shaped.now lookups.now ranking.new) }
-    ensures settled { OnOk result (AreSettled shaped.now (so_far lookups.now ranking.new) (next + 1)) }
-    ensures longer { OnOk result (length ranking.old.done.items ≤ length ranking.new.done.items) }
-{
-    let node = ranking.done[next];
-    let target = job_target(shaped, node);
-    try_target(shaped, lookups, ranking, target)?;
-    let target = blocking_target(shaped, lookups, node);
-    try_target(shaped, lookups, ranking, target)?;
-    Ok(())
-}
-
-/// Ranks the node, if there is one, and if it can be ranked now.
-fn try_target(
-    shaped: &Shaped,
-    lookups: &Lookups,
-    ranking: &mut Ranking,
-    target: Option<Node>,
-) -> Result<(), AllocError>
-    requires node { ForSome target (IsNode shaped.now) }
-    requires lookups { AreLookups shaped.now lookups.now }
-    requires ranked { IsRanking shaped.now lookups.now ranking.old }
-    ensures ranked { OnOk result (IsRanking shaped.now lookups.now ranking.new) }
-    ensures grows { OnOk result (Grows shaped.now (so_far lookups.now ranking.old) (so_far lookups.now ranking.new) (length ranking.old.done.items)) }
-    ensures longer { OnOk result (length ranking.old.done.items ≤ length ranking.new.done.items) }
-    ensures settled { OnOk result (ForSome target (IsSettled shaped.now (so_far lookups.now ranking.new) UNRANKED)) }
-{
-    match target {
-        Some(node) => try_rank(shaped, lookups, ranking, node),
-        None => Ok(()),
-    }
-}
-
-/// Ranks the node if it isn't ranked and all arcs to it come from ranked nodes.
-fn try_rank(
-    shaped: &Shaped,
-    lookups: &Lookups,
-    ranking: &mut Ranking,
-    node: Node,
-) -> Result<(), AllocError>
-    requires node { IsNode shaped.now node }
-    requires lookups { AreLookups shaped.now lookups.now }
-    requires ranked { IsRanking shaped.now lookups.now ranking.old }
-    ensures ranked { OnOk result (IsRanking shaped.now lookups.now ranking.new) }
-    ensures grows { OnOk result (Grows shaped.now (so_far lookups.now ranking.old) (so_far lookups.now ranking.new) (length ranking.old.done.items)) }
-    ensures longer { OnOk result (length ranking.old.done.items ≤ length ranking.new.done.items) }
-    ensures settled { OnOk result (IsSettled shaped.now (so_far lookups.now ranking.new) UNRANKED node) }
-{
-    if is_ranked(shaped, lookups, ranking, node) {
-        return Ok(());
-    }
-    match longest_to(shaped, lookups, ranking, node) {
-        Some(longest) => rank_next(shaped, lookups, ranking, node, longest),
-        None => Ok(()),
-    }
-}
-
-/// Gives the node the next rank.
-fn rank_next(
-    shaped: &Shaped,
-    lookups: &Lookups,
-    ranking: &mut Ranking,
-    node: Node,
-    longest: Longest,
-) -> Result<(), AllocError>
-    requires node { IsNode shaped.now node }
-    requires lookups { AreLookups shaped.now lookups.now }
-    requires ranked { IsRanking shaped.now lookups.now ranking.old }
-    requires unranked { rank_of (so_far lookups.now ranking.old) node ≡ UNRANKED }
-    requires longest { IsLongest shaped.now (so_far lookups.now ranking.old) (length ranking.old.done.items) (Arc shaped.now) node longest }
-    ensures ranked { OnOk result (IsRanking shaped.now lookups.now ranking.new) }
-    ensures grows { OnOk result (Grows shaped.now (so_far lookups.now ranking.old) (so_far lookups.now ranking.new) (length ranking.old.done.items)) }
-    ensures longer { OnOk result (length ranking.old.done.items ≤ length ranking.new.done.items) }
-    ensures now_ranked { OnOk result (IsRanked (so_far lookups.now ranking.new) node) }
-{
-    let at = number(&lookups.firsts, node);
-    ranking.rows[at] = NodeTime {
-        rank: ranking.done.len() as u32,
-        earliest: longest.length,
-        before: longest.before,
-    };
-    ranking.done.push(node)?;
-    Ok(())
-}
-
-/// Whether the node has a rank.
-pub(crate) fn is_ranked(shaped: &Shaped, lookups: &Lookups, ranking: &Ranking, node: Node) -> bool
-    requires node { IsNode shaped.now node }
-    requires lookups { AreLookups shaped.now lookups.now }
-    requires ranked { IsRanking shaped.now lookups.now ranking.now }
-    ensures { MatchBool result (IsRanked (so_far lookups.now ranking.now) node) (rank_of (so_far lookups.now ranking.now) node ≡ UNRANKED) }
-{
-    row_of(shaped, lookups, ranking, node).rank != UNRANKED
-}
-
-/// What is known of the node.
-fn row_of(shaped: &Shaped, lookups: &Lookups, ranking: &Ranking, node: Node) -> NodeTime
-    requires node { IsNode shaped.now node }
-    requires lookups { AreLookups shaped.now lookups.now }
-    requires ranked { IsRanking shaped.now lookups.now ranking.now }
-    ensures { result ≡ time_at (so_far lookups.now ranking.now) node }
-{
-    ranking.rows[number(&lookups.firsts, node)]
-}
-
-/// The longest path to the node, none where an arc to it comes from a node without a rank.
-fn longest_to(shaped: &Shaped, lookups: &Lookups, ranking: &Ranking, node: Node) -> Option<Longest>
-    requires node { IsNode shaped.now node }
-    requires lookups { AreLookups shaped.now lookups.now }
-    requires ranked { IsRanking shaped.now lookups.now ranking.now }
-    ensures { let t = so_far lookups.now ranking.now in
-        MatchOption result (WaitsFor shaped.now t UNRANKED node) (IsLongest shaped.now t (length ranking.now.done.items) (Arc shaped.now) node) }
-{
-    let along = longest_in_job(shaped, lookups, ranking, node)?;
-    match blocking_source(shaped, lookups, node) {
-        Some(source) => {
-            let freed = longest_over(shaped, lookups, ranking, source)?;
-            Some(longer(along, freed))
-        }
-        None => Some(along),
-    }
-}
-
 /// The longer of two.
 fn longer(one: Longest, other: Longest) -> Longest
     ensures { ((result ≡ one) × (other.length ≤ one.length)) ⊎ ((result ≡ other) × (one.length ≤ other.length)) }
@@ -233,86 +55,216 @@ fn longer(one: Longest, other: Longest) -> Longest
     }
 }
 
-/// The longest path to the node over the place before it in its job, or its job's release where it is the
-/// first; none where the place before has no rank.
-fn longest_in_job(
-    shaped: &Shaped,
-    lookups: &Lookups,
-    ranking: &Ranking,
-    node: Node,
-) -> Option<Longest>
-    requires node { IsNode shaped.now node }
-    requires lookups { AreLookups shaped.now lookups.now }
-    requires ranked { IsRanking shaped.now lookups.now ranking.now }
-    ensures { let t = so_far lookups.now ranking.now in
-        MatchOption result (WaitsFor shaped.now t UNRANKED node) (IsLongest shaped.now t (length ranking.now.done.items) (IsJobArc shaped.now) node) }
-{
-    match job_source(shaped, node) {
-        Some(source) => longest_over(shaped, lookups, ranking, source),
-        None => Some(Longest {
-            length: shaped.release_of(node.job),
-            before: None,
-        }),
+impl Graph<'_> {
+    /// Ranks all nodes that can be.
+    pub(crate) fn rank_all(&self, alloc: Global) -> Result<Ranking, AllocError>
+        ensures ranked { IfOk result (λ ranking. IsRanking self.now ranking) }
+        ensures settled { IfOk result (λ ranking. AreSettled self.now.plan (so_far self.now ranking) UNRANKED) }
+    {
+        let mut ranking = self.rank_first(alloc)?;
+        let mut next = 0;
+        while next < ranking.done.len() {
+            self.rank_after(&mut ranking, next)?;
+            next += 1;
+        }
+        Ok(ranking)
     }
-}
 
-/// The longest path over an arc, none where it comes from a node without a rank.
-fn longest_over(
-    shaped: &Shaped,
-    lookups: &Lookups,
-    ranking: &Ranking,
-    source: ArcIn,
-) -> Option<Longest>
-    requires node { IsNode shaped.now source.node }
-    requires short { source.length ≤ MAX_NOMINAL }
-    requires lookups { AreLookups shaped.now lookups.now }
-    requires ranked { IsRanking shaped.now lookups.now ranking.now }
-    ensures { let t = so_far lookups.now ranking.now in
-        MatchOption result (rank_of t source.node ≡ UNRANKED) (IsOver shaped.now t (length ranking.now.done.items) source) }
-{
-    let row = row_of(shaped, lookups, ranking, source.node);
-    if row.rank == UNRANKED {
-        return None;
+    /// Ranks the nodes that no arc leads to.
+    fn rank_first(&self, alloc: Global) -> Result<Ranking, AllocError>
+        ensures ranked { IfOk result (λ ranking. IsRanking self.now ranking) }
+        ensures settled { IfOk result (λ ranking. AreSettled self.now.plan (so_far self.now ranking) 0) }
+    {
+        let mut ranking = self.none_ranked(alloc)?;
+        for job in 0..self.shaped().job_count() {
+            self.try_rank(&mut ranking, Node { job, place: 0 })?;
+        }
+        Ok(ranking)
     }
-    Some(Longest {
-        length: row.earliest + source.length,
-        before: Some(source.node),
-    })
-}
 
-/// A node without a rank, if there is one.
-pub(crate) fn first_unranked(shaped: &Shaped, lookups: &Lookups, ranking: &Ranking) -> Option<Node>
-    requires lookups { AreLookups shaped.now lookups.now }
-    requires ranked { IsRanking shaped.now lookups.now ranking.now }
-    ensures { let t = so_far lookups.now ranking.now in
-        MatchOption result ((v : Node) → IsNode shaped.now v → IsRanked t v) (λ v. IsNode shaped.now v × (rank_of t v ≡ UNRANKED)) }
-{
-    for job in 0..shaped.job_count() {
-        if let Some(node) = first_unranked_of(shaped, lookups, ranking, job) {
-            return Some(node);
+    fn none_ranked(&self, alloc: Global) -> Result<Ranking, AllocError>
+        ensures { IfOk result (λ ranking. IsRanking self.now ranking) }
+    {
+        let nodes = self.node_count();
+        let done = Vec::with_capacity(alloc, nodes)?;
+        let rows = no_times(alloc, nodes)?;
+        Ok(Ranking { done, rows })
+    }
+
+    /// Ranks those nodes after the next ranked one that can be ranked now.
+    fn rank_after(&self, ranking: &mut Ranking, next: usize) -> Result<(), AllocError>
+        requires next { next < length ranking.old.done.items }
+        requires ranked { IsRanking self.now ranking.old }
+        requires settled { AreSettled self.now.plan (so_far self.now ranking.old) next }
+        ensures ranked { OnOk result (IsRanking self.now ranking.new) }
+        ensures settled { OnOk result (AreSettled self.now.plan (so_far self.now ranking.new) (next + 1)) }
+        ensures longer { OnOk result (length ranking.old.done.items ≤ length ranking.new.done.items) }
+    {
+        let node = ranking.done[next];
+        let target = job_target(self.shaped(), node);
+        self.try_target(ranking, target)?;
+        let target = self.blocking_target(node);
+        self.try_target(ranking, target)?;
+        Ok(())
+    }
+
+    /// Ranks the node, if there is one, and if it can be ranked now.
+    fn try_target(&self, ranking: &mut Ranking, target: Option<Node>) -> Result<(), AllocError>
+        requires node { ForSome target (IsNode self.now.plan) }
+        requires ranked { IsRanking self.now ranking.old }
+        ensures ranked { OnOk result (IsRanking self.now ranking.new) }
+        ensures grows { OnOk result (Grows self.now.plan (so_far self.now ranking.old) (so_far self.now ranking.new) (length ranking.old.done.items)) }
+        ensures longer { OnOk result (length ranking.old.done.items ≤ length ranking.new.done.items) }
+        ensures settled { OnOk result (ForSome target (IsSettled self.now.plan (so_far self.now ranking.new) UNRANKED)) }
+    {
+        match target {
+            Some(node) => self.try_rank(ranking, node),
+            None => Ok(()),
         }
     }
-    None
-}
 
-/// A node of the job without a rank, if there is one.
-fn first_unranked_of(
-    shaped: &Shaped,
-    lookups: &Lookups,
-    ranking: &Ranking,
-    job: JobNo,
-) -> Option<Node>
-    requires job { job < jobs shaped.now }
-    requires lookups { AreLookups shaped.now lookups.now }
-    requires ranked { IsRanking shaped.now lookups.now ranking.now }
-    ensures { let t = so_far lookups.now ranking.now in
-        MatchOption result ((k : ℕ) → k ≤ steps shaped.now job → IsRanked t (node job k)) (λ v. IsNode shaped.now v × (rank_of t v ≡ UNRANKED)) }
-{
-    for place in 0..shaped.step_count(job) + 1 {
-        let node = Node { job, place };
-        if !is_ranked(shaped, lookups, ranking, node) {
-            return Some(node);
+    /// Ranks the node if it isn't ranked and all arcs to it come from ranked nodes.
+    fn try_rank(&self, ranking: &mut Ranking, node: Node) -> Result<(), AllocError>
+        requires node { IsNode self.now.plan node }
+        requires ranked { IsRanking self.now ranking.old }
+        ensures ranked { OnOk result (IsRanking self.now ranking.new) }
+        ensures grows { OnOk result (Grows self.now.plan (so_far self.now ranking.old) (so_far self.now ranking.new) (length ranking.old.done.items)) }
+        ensures longer { OnOk result (length ranking.old.done.items ≤ length ranking.new.done.items) }
+        ensures settled { OnOk result (IsSettled self.now.plan (so_far self.now ranking.new) UNRANKED node) }
+    {
+        if self.is_ranked(ranking, node) {
+            return Ok(());
+        }
+        match self.longest_to(ranking, node) {
+            Some(longest) => self.rank_next(ranking, node, longest),
+            None => Ok(()),
         }
     }
-    None
+
+    /// Gives the node the next rank.
+    fn rank_next(
+        &self,
+        ranking: &mut Ranking,
+        node: Node,
+        longest: Longest,
+    ) -> Result<(), AllocError>
+        requires node { IsNode self.now.plan node }
+        requires ranked { IsRanking self.now ranking.old }
+        requires unranked { rank_of (so_far self.now ranking.old) node ≡ UNRANKED }
+        requires longest { IsLongest self.now.plan (so_far self.now ranking.old) (length ranking.old.done.items) (Arc self.now.plan) node longest }
+        ensures ranked { OnOk result (IsRanking self.now ranking.new) }
+        ensures grows { OnOk result (Grows self.now.plan (so_far self.now ranking.old) (so_far self.now ranking.new) (length ranking.old.done.items)) }
+        ensures longer { OnOk result (length ranking.old.done.items ≤ length ranking.new.done.items) }
+        ensures now_ranked { OnOk result (IsRanked (so_far self.now ranking.new) node) }
+    {
+        let at = self.number(node);
+        ranking.rows[at] = NodeTime {
+            rank: ranking.done.len() as u32,
+            earliest: longest.length,
+            before: longest.before,
+        };
+        ranking.done.push(node)?;
+        Ok(())
+    }
+
+    /// Whether the node has a rank.
+    pub(crate) fn is_ranked(&self, ranking: &Ranking, node: Node) -> bool
+        requires node { IsNode self.now.plan node }
+        requires ranked { IsRanking self.now ranking.now }
+        ensures { MatchBool result (IsRanked (so_far self.now ranking.now) node) (rank_of (so_far self.now ranking.now) node ≡ UNRANKED) }
+    {
+        self.row_of(ranking, node).rank != UNRANKED
+    }
+
+    /// What is known of the node.
+    fn row_of(&self, ranking: &Ranking, node: Node) -> NodeTime
+        requires node { IsNode self.now.plan node }
+        requires ranked { IsRanking self.now ranking.now }
+        ensures { result ≡ time_at (so_far self.now ranking.now) node }
+    {
+        ranking.rows[self.number(node)]
+    }
+
+    /// The longest path to the node, none where an arc to it comes from a node without a rank.
+    fn longest_to(&self, ranking: &Ranking, node: Node) -> Option<Longest>
+        requires node { IsNode self.now.plan node }
+        requires ranked { IsRanking self.now ranking.now }
+        ensures { let t = so_far self.now ranking.now in
+            MatchOption result (WaitsFor self.now.plan t UNRANKED node) (IsLongest self.now.plan t (length ranking.now.done.items) (Arc self.now.plan) node) }
+    {
+        let along = self.longest_in_job(ranking, node)?;
+        match self.blocking_source(node) {
+            Some(source) => {
+                let freed = self.longest_over(ranking, source)?;
+                Some(longer(along, freed))
+            }
+            None => Some(along),
+        }
+    }
+
+    /// The longest path to the node over the place before it in its job, or its job's release where it is the
+    /// first; none where the place before has no rank.
+    fn longest_in_job(&self, ranking: &Ranking, node: Node) -> Option<Longest>
+        requires node { IsNode self.now.plan node }
+        requires ranked { IsRanking self.now ranking.now }
+        ensures { let t = so_far self.now ranking.now in
+            MatchOption result (WaitsFor self.now.plan t UNRANKED node) (IsLongest self.now.plan t (length ranking.now.done.items) (IsJobArc self.now.plan) node) }
+    {
+        let shaped = self.shaped();
+        match job_source(shaped, node) {
+            Some(source) => self.longest_over(ranking, source),
+            None => Some(Longest {
+                length: shaped.release_of(node.job),
+                before: None,
+            }),
+        }
+    }
+
+    /// The longest path over an arc, none where it comes from a node without a rank.
+    fn longest_over(&self, ranking: &Ranking, source: ArcIn) -> Option<Longest>
+        requires node { IsNode self.now.plan source.node }
+        requires short { source.length ≤ MAX_NOMINAL }
+        requires ranked { IsRanking self.now ranking.now }
+        ensures { let t = so_far self.now ranking.now in
+            MatchOption result (rank_of t source.node ≡ UNRANKED) (IsOver self.now.plan t (length ranking.now.done.items) source) }
+    {
+        let row = self.row_of(ranking, source.node);
+        if row.rank == UNRANKED {
+            return None;
+        }
+        Some(Longest {
+            length: row.earliest + source.length,
+            before: Some(source.node),
+        })
+    }
+
+    /// A node without a rank, if there is one.
+    pub(crate) fn first_unranked(&self, ranking: &Ranking) -> Option<Node>
+        requires { IsRanking self.now ranking.now }
+        ensures { let t = so_far self.now ranking.now in
+            MatchOption result ((v : Node) → IsNode self.now.plan v → IsRanked t v) (λ v. IsNode self.now.plan v × (rank_of t v ≡ UNRANKED)) }
+    {
+        for job in 0..self.shaped().job_count() {
+            if let Some(node) = self.first_unranked_of(ranking, job) {
+                return Some(node);
+            }
+        }
+        None
+    }
+
+    /// A node of the job without a rank, if there is one.
+    fn first_unranked_of(&self, ranking: &Ranking, job: JobNo) -> Option<Node>
+        requires job { job < jobs self.now.plan }
+        requires ranked { IsRanking self.now ranking.now }
+        ensures { let t = so_far self.now ranking.now in
+            MatchOption result ((k : ℕ) → k ≤ steps self.now.plan job → IsRanked t (node job k)) (λ v. IsNode self.now.plan v × (rank_of t v ≡ UNRANKED)) }
+    {
+        for place in 0..self.shaped().step_count(job) + 1 {
+            let node = Node { job, place };
+            if !self.is_ranked(ranking, node) {
+                return Some(node);
+            }
+        }
+        None
+    }
 }

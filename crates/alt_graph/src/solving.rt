@@ -2,9 +2,7 @@ ghost use Rattle.std.specs.Prelude.{◌↔◌, IfOk};
 ghost use Rattle.shop_base.specs.Plan.{IsWellShaped};
 ghost use Rattle.alt_graph.specs.Solved.{OnOrdered, OnCyclic, IsCyclic, HasCycle};
 
-use crate::cycles::cycle_from;
-use crate::lookups::Lookups;
-use crate::ranking::{first_unranked, rank_all};
+use crate::graph::Graph;
 use crate::times::Times;
 use shop_base::{Node, Shaped};
 use std::alloc::{AllocError, Global};
@@ -27,13 +25,13 @@ pub fn solve(alloc: Global, shaped: &Shaped) -> Result<Solved, AllocError>
     ensures exact { IfOk result (λ solved. IsCyclic solved ↔ HasCycle shaped.now) }
     ensures well_shaped { IsWellShaped shaped.now }
 {
-    let lookups = Lookups::new(alloc, shaped)?;
-    let ranking = rank_all(alloc, shaped, &lookups)?;
-    match first_unranked(shaped, &lookups, &ranking) {
+    let graph = Graph::new(alloc, shaped)?;
+    let ranking = graph.rank_all(alloc)?;
+    match graph.first_unranked(&ranking) {
         Some(node) => {
-            let nodes = cycle_from(alloc, shaped, &lookups, &ranking, node)?;
+            let nodes = graph.cycle_from(alloc, &ranking, node)?;
             Ok(Solved::Cyclic(nodes))
         }
-        None => Ok(Solved::Ordered(Times::of(lookups.firsts, ranking.rows))),
+        None => Ok(Solved::Ordered(Times::of(graph.into_firsts(), ranking.rows))),
     }
 }

@@ -20,5 +20,5 @@ loop-job-preserved c =
     let pushed : c.push-in-loop-job.new.self.items ≡ c.loop-job.firsts.items ++ (c.loop-job.next + (c.step_count.result + 1)) ∷ [] = search rules in
     rw (pushed, c.step_count.ensures.count) (firsts_more _ _ _ _ c.loop-job.invariant c.job_count-jobs.ensures.well_shaped inside)
 
-pub returns : goal.returns
-returns c = firsts_all _ _ _ _ c.loop-job.invariant c.job_count-jobs.ensures.well_shaped (omega arith)
+pub returns-clause-firsts : goal.returns-clause-firsts
+returns-clause-firsts c = firsts_all _ _ _ _ c.loop-job.invariant c.job_count-jobs.ensures.well_shaped (omega arith)

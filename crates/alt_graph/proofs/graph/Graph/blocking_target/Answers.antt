@@ -1,0 +1,35 @@
+use Rattle.std.proofs.Common.{◌≡◌, ◌+◌, ◌-◌, length, arith, refl, ap, ◌∙◌}
+use Rattle.shop_base.specs.Plan.{order, clean}
+use Rattle.shop_base.proofs.Visits.{visits_machine}
+use Rattle.shop_base.proofs.Sizes.{order_few}
+use Rattle.alt_graph.proofs.Standing.{last_free}
+use Rattle.alt_graph.proofs.graph.Graph.blocking_target.Goals as goal
+
+pub overflow_add-place : goal.overflow_add-place
+overflow_add-place c =
+    let shaped = c.shaped-shaped.ensures.sound.shaped in
+    let machine = visits_machine _ _ _ _ shaped c.place_on-place.ensures.visits in
+    omega (arith, c.place_on-place.ensures.within, order_few _ shaped _ machine)
+
+pub order_of-requires : goal.order_of-requires
+order_of-requires c = rw c.shaped-shaped.ensures.plan (visits_machine _ _ _ _ c.shaped-shaped.ensures.sound.shaped c.place_on-place.ensures.visits)
+
+pub returns-then-place-order_of : goal.returns-then-place-order_of
+returns-then-place-order_of c =
+    let order_is = rw c.shaped-shaped.ensures.plan at c.order_of.ensures.order in
+    let last : c.place_on-place.result + 1 ≡ length (order c.args.self.now.plan c.in_ok-machine.machine) = c.if-place-order_of.true ∙ ap length order_is in
+    last_free _ c.shaped-shaped.ensures.sound.shaped _ _ c.args.node (omega arith) last c.place_on-place.ensures
+
+pub returns : goal.returns
+returns c = (
+  clean c.args.self.now.plan c.in_ok-machine.machine,
+  record {
+    machine = c.in_ok-machine.machine;
+    ahead = c.place_on-place.result;
+    step = c.args.node.place - 1;
+    left = c.place_on-place.ensures;
+    enters = c.entry_at.ensures;
+    place = omega arith;
+    length = refl;
+  },
+)

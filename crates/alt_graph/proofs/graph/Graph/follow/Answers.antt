@@ -1,0 +1,63 @@
+use Rattle.std.proofs.Common.{◌≡◌, ℕ, ◌<◌, ◌++◌, ◌∷◌, [], length, get_or, replicate, arith, rules, sym, ◌∙◌, ap}
+use Rattle.std.proofs.lemmas.List.{get_or_read}
+use Rattle.alt_graph.specs.declared.times.TheConstants.{UNRANKED}
+use Rattle.alt_graph.specs.Layout.{number_of}
+use Rattle.alt_graph.proofs.Walks.{walk_none, walk_more, walk_shorter, walk_trail, inside}
+use Rattle.alt_graph.proofs.graph.Graph.follow.Goals as goal
+
+pub back-init : goal.back-init
+back-init c =
+    let rows : c.len.result ≡ length c.args.ranking.now.rows.items = omega (arith, c.len.ensures, c.args.ranking.now.rows.ok.0) in
+    let seen : c.in_ok-seen.seen.items ≡ replicate (length c.args.ranking.now.rows.items) UNRANKED = c.in_ok-seen.ensures.items_if_clones_equal (search rules) ∙ ap (λ (n : ℕ). replicate n UNRANKED) rows in
+    record {
+      walk = rw (seen, c.in_ok-nodes.ensures.items) (walk_none _ c.args.self.now.firsts c.number-at.ensures.sound.firsts c.args.ranking.now.rows.items c.requires.ranked.size c.args.node c.requires.node c.requires.unranked);
+      at = c.number-at.ensures.number;
+    }
+
+pub index-requires : goal.index-requires
+index-requires c = omega (arith, c.back.invariant.at, inside _ c.args.self.now.firsts c.number-at.ensures.sound.firsts c.args.ranking.now.rows.items c.requires.ranked.size c.back.nodes.items c.back.seen.items c.back.next c.back.invariant.walk, c.back.seen.ok.0)
+
+pub index_mut-requires : goal.index_mut-requires
+index_mut-requires c = omega (arith, c.back.invariant.at, inside _ c.args.self.now.firsts c.number-at.ensures.sound.firsts c.args.ranking.now.rows.items c.requires.ranked.size c.back.nodes.items c.back.seen.items c.back.next c.back.invariant.walk, c.back.seen.ok.0)
+
+pub index-requires-2 : goal.index-requires-2
+index-requires-2 c = omega (arith, c.back.invariant.at, inside _ c.args.self.now.firsts c.number-at.ensures.sound.firsts c.args.ranking.now.rows.items c.requires.ranked.size c.back.nodes.items c.back.seen.items c.back.next c.back.invariant.walk, c.back.seen.ok.0)
+
+pub back-smaller : goal.back-smaller
+back-smaller c =
+    let firsts = c.args.self.now.firsts in
+    let rows = c.args.ranking.now.rows.items in
+    let seen = c.back.seen.items in
+    let within : c.back.at < length seen = omega (arith, c.back.invariant.at, inside _ firsts c.number-at.ensures.sound.firsts rows c.requires.ranked.size c.back.nodes.items seen c.back.next c.back.invariant.walk) in
+    let read : c.index.result.now ≡ get_or seen c.back.at 0 = get_or_read seen c.back.at c.index.result.now within c.index.ensures 0 in
+    let free : get_or seen (number_of firsts c.back.next) 0 ≡ UNRANKED = ap (λ (i : ℕ). get_or seen i 0) (sym c.back.invariant.at) ∙ sym read ∙ c.back-test.true in
+    let place : c.len-in-back.result ≡ length c.back.nodes.items = omega (arith, c.len-in-back.ensures, c.back.nodes.ok.0) in
+    rw (place, c.back.invariant.at) (walk_shorter _ firsts c.number-at.ensures.sound.firsts rows c.requires.ranked.size c.back.nodes.items seen c.back.next c.back.invariant.walk free)
+
+pub back-preserved : goal.back-preserved
+back-preserved c =
+    let firsts = c.args.self.now.firsts in
+    let rows = c.args.ranking.now.rows.items in
+    let seen = c.back.seen.items in
+    let within : c.back.at < length seen = omega (arith, c.back.invariant.at, inside _ firsts c.number-at.ensures.sound.firsts rows c.requires.ranked.size c.back.nodes.items seen c.back.next c.back.invariant.walk) in
+    let read : c.index.result.now ≡ get_or seen c.back.at 0 = get_or_read seen c.back.at c.index.result.now within c.index.ensures 0 in
+    let free : get_or seen (number_of firsts c.back.next) 0 ≡ UNRANKED = ap (λ (i : ℕ). get_or seen i 0) (sym c.back.invariant.at) ∙ sym read ∙ c.back-test.true in
+    let place : c.len-in-back.result ≡ length c.back.nodes.items = omega (arith, c.len-in-back.ensures, c.back.nodes.ok.0) in
+    let pushed : c.push.new.self.items ≡ c.back.nodes.items ++ c.back.next ∷ [] = search rules in
+    record {
+      walk = rw (pushed, place, c.back.invariant.at) (walk_more _ firsts c.number-at.ensures.sound.firsts rows c.requires.ranked.size c.back.nodes.items seen c.back.next c.back.invariant.walk free
+          c.free_source-next.result c.free_source-next.ensures.node c.free_source-next.ensures.unranked c.free_source-next.ensures.arc);
+      at = c.number-at-in-back.ensures.number;
+    }
+
+pub returns : goal.returns
+returns c =
+    let firsts = c.args.self.now.firsts in
+    let rows = c.args.ranking.now.rows.items in
+    let seen = c.back.seen.items in
+    let within : c.back.at < length seen = omega (arith, c.back.invariant.at, inside _ firsts c.number-at.ensures.sound.firsts rows c.requires.ranked.size c.back.nodes.items seen c.back.next c.back.invariant.walk) in
+    let at : get_or seen c.back.at 0 ≡ get_or seen (number_of firsts c.back.next) 0 = ap (λ (i : ℕ). get_or seen i 0) c.back.invariant.at in
+    let tested : c.index.result.now ≡ get_or seen c.back.at 0 = get_or_read seen c.back.at c.index.result.now within c.index.ensures 0 in
+    let read : c.index-2.result.now ≡ get_or seen c.back.at 0 = get_or_read seen c.back.at c.index-2.result.now within c.index-2.ensures 0 in
+    walk_trail _ firsts c.number-at.ensures.sound.firsts rows c.requires.ranked.size (record { nodes = c.back.nodes; start = c.index-2.result.now }) seen c.back.next c.back.invariant.walk
+    (λ same. c.back-test.false (tested ∙ at ∙ same)) (read ∙ at)
