@@ -15,8 +15,8 @@
      cells of its own. No call is made from a signal handler, or in the child of a fork of a process with threads.
    - `malloc`, `realloc` and `free` are those of one allocator.
 
-   cellplan_check and cellplan_cell_new take memory, and so may answer CELLPLAN_NO_MEMORY. No other call takes any: a
-   report never fails for want of it. cellplan_cell_free and cellplan_cell_new give it back. */
+   cellplan_check, cellplan_explain and cellplan_cell_new take memory, and so may answer CELLPLAN_NO_MEMORY. No other call
+   takes any: a report never fails for want of it. cellplan_cell_free and cellplan_cell_new give it back. */
 #ifndef CELLPLAN_H
 #define CELLPLAN_H
 
@@ -106,6 +106,11 @@ uint32_t cellplan_reason(uint32_t number, uint8_t *name, size_t room, size_t *le
    tells on its standard error; NO_ROOM with the length of the line, which isn't written; NO_MEMORY. */
 uint32_t cellplan_check(const uint8_t *instance, size_t instance_length, const uint8_t *name, size_t name_length,
                         const uint8_t *plan, size_t plan_length, uint8_t *line, size_t room, size_t *length);
+
+/* Says why: writes the text that `cellplan explain` prints, of one line or many, and its length. All else is as above; with
+   a room of 0 bytes either call tells how many its answer needs. */
+uint32_t cellplan_explain(const uint8_t *instance, size_t instance_length, const uint8_t *name, size_t name_length,
+                          const uint8_t *plan, size_t plan_length, uint8_t *text, size_t room, size_t *length);
 
 /* Begins a cell with the plan, before the first report; what the cell held before is freed. The texts are as above, and
    aren't read any more when the call has ended.

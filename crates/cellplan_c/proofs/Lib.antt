@@ -1,4 +1,5 @@
 mod Found
+mod Judging
 mod Laying
 mod Slots
 mod Telling

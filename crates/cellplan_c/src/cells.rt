@@ -1,6 +1,6 @@
 //! A cell begun and freed, called from C.
 
-ghost use Rattle.std.specs.Prelude.{◌≡◌, ◌≢◌, ℕ, ◌≤◌, None, IfOk, IfErr, IfSome, IsSome};
+ghost use Rattle.std.specs.Prelude.{◌≡◌, ◌≢◌, ◌≤◌, None, IfSome, IsSome};
 ghost use Rattle.shop_base.specs.Plan.{PlannedShop};
 ghost use Rattle.orlib_read.specs.declared.or_fault.OrFault.{OrFault};
 ghost use Rattle.plan_text.specs.declared.plan_fault.PlanFault.{PlanFault};
@@ -8,22 +8,23 @@ ghost use Rattle.plan_text.specs.Documents.{IsFirstPlanFault};
 ghost use Rattle.cell_control.specs.Control.{at_start};
 ghost use Rattle.command_answers.specs.declared.command_fault.CommandFault.{CommandFault};
 ghost use Rattle.command_answers.specs.declared.loading.Loaded.{Loaded};
-ghost use Rattle.command_answers.specs.Instances.{IsFirstInstanceFault, Holds, IsInstanceRefusal};
-ghost use Rattle.command_answers.specs.Plans.{TellBoth, TellsAShop, IsOfBoth, IsRightOfBoth, IsPlanRefusal};
+ghost use Rattle.command_answers.specs.Instances.{IsFirstInstanceFault};
+ghost use Rattle.command_answers.specs.Plans.{TellBoth, TellsAShop, IsOfBoth};
 ghost use Rattle.command_answers.specs.Checks.{IsLoaded};
 ghost use Rattle.cellplan_c.specs.Told.{named};
 ghost use Rattle.cellplan_c.specs.Calls.{IsTextFault, IsStarted, IsNotAccepted};
 
 use crate::cell::Cell;
 use crate::inner::Inner;
+use crate::instances::name_in;
 use crate::statuses::{GOOD, NO_MEMORY, REFUSED};
 use cell_control::Controller;
-use command_answers::{CommandFault, Loaded, load};
+use command_answers::{Loaded, load};
 use plan_verifier::{Verdict, Verified};
 use std::alloc::Global;
 
 /// Makes the controller of an accepted plan, and puts it in the place of what the cell held. The line of a plan that
-/// isn't accepted, and that of a fault, is told by [`crate::checks::cellplan_check`].
+/// isn't accepted, and that of a fault, is told by [`crate::answers::cellplan_check`].
 #[unsafe(no_mangle)]
 pub extern "C" fn cellplan_cell_new(
     alloc: Global,
@@ -44,7 +45,7 @@ pub extern "C" fn cellplan_cell_new(
     ensures unchanged { result ≢ 0 → cell.new.slot.held ≡ cell.old.slot.held }
     ensures statuses { result ≤ 4 }
 {
-    match loaded(alloc, instance, name, plan) {
+    match load(alloc, instance, name_in(name), plan) {
         Ok(Loaded::Judged(Verdict::Accepted(verified))) => match boxed(alloc, verified) {
             Some(inner) => {
                 cellplan_cell_free(alloc, cell);
@@ -64,21 +65,6 @@ pub extern "C" fn cellplan_cell_free(alloc: Global, cell: &mut Cell)
     ensures { cell.new.slot.held ≡ None }
 {
     drop(cell.take(alloc));
-}
-
-/// What is to be said of the plan for the instance.
-fn loaded(alloc: Global, instance: &[u8], name: &[u8], plan: &[u8]) -> Result<Loaded, CommandFault>
-    ensures found { IfOk result (IsOfBoth instance.now (named name.now) plan.now IsLoaded) }
-    ensures only { (p : PlannedShop) → TellBoth instance.now (named name.now) plan.now p → Holds result (IsLoaded p) }
-    ensures fault { IfErr result (IsRightOfBoth instance.now (named name.now) plan.now) }
-    ensures first { (fault : OrFault) → IsFirstInstanceFault instance.now (named name.now) fault → IsInstanceRefusal result fault }
-    ensures second { (fault : PlanFault) → TellsAShop instance.now (named name.now) → IsFirstPlanFault plan.now fault → IsPlanRefusal result fault }
-{
-    if name.is_empty() {
-        load(alloc, instance, None, plan)
-    } else {
-        load(alloc, instance, Some(name), plan)
-    }
 }
 
 /// The box of the controller of an accepted plan, unless memory is wanting.

@@ -5,11 +5,13 @@
 //! and puts it back; so the clauses of that library stand here again.
 #![tactic(auto)]
 
+mod answers;
 mod cell;
 mod cells;
-mod checks;
 mod faults;
 mod inner;
+mod instances;
+mod judges;
 mod lain;
 mod names;
 mod readers;

@@ -1,6 +1,6 @@
 //! The names of the reasons, and the version of the calls.
 
-ghost use Rattle.std.specs.Prelude.{◌≡◌, ◌≢◌, ℕ, List, ◌<◌, ◌≤◌, ◌⊎◌, ◌↔◌, None, Some, IfSome, MatchOption, option_map, length as size};
+ghost use Rattle.std.specs.Prelude.{◌≡◌, ◌<◌, ◌≤◌, ◌↔◌, None, Some, IfSome, MatchOption, length as size};
 ghost use Rattle.cellplan_c.specs.Told.{reason_name_of};
 ghost use Rattle.cellplan_c.specs.Calls.{IsLaid, IsTooLong};
 

@@ -3,7 +3,7 @@ use Rattle.command_answers.specs.Statuses.{status_of}
 use Rattle.cellplan_c.proofs.cells.cellplan_cell_new.Goals as goal
 
 pub returns-in-Some-clause-second : goal.returns-in-Some-clause-second
-returns-in-Some-clause-second c = λ fault tells is. absurd (c.in-Ok-Judged-Accepted.ensures.second fault tells is)
+returns-in-Some-clause-second c = λ fault tells is. absurd (c.in-Ok-Judged-Accepted.ensures.second fault (rw c.name_in.ensures tells) is)
 
 pub returns-in-Ok : goal.returns-in-Ok
 returns-in-Ok c = record {
@@ -12,11 +12,11 @@ returns-in-Ok c = record {
   refused = search rules;
   fault = λ e. absurd (omega (arith, e));
   only = λ p tell e. omega (arith, e);
-  first = λ fault is. absurd (c.in-Ok.ensures.first fault is);
-  second = λ fault tells is. absurd (c.in-Ok.ensures.second fault tells is);
+  first = λ fault is. absurd (c.in-Ok.ensures.first fault (rw c.name_in.ensures is));
+  second = λ fault tells is. absurd (c.in-Ok.ensures.second fault (rw c.name_in.ensures tells) is);
   unchanged = search rules;
   statuses = search rules;
 }
 
 pub returns-clause-only : goal.returns-clause-only
-returns-clause-only c = λ p tell three. let four = ap status_of (c.in-Err.ensures.only p tell) in omega (arith, four, three, c.status.ensures, c.from.ensures)
+returns-clause-only c = λ p tell three. let four = ap status_of (c.in-Err.ensures.only p (rw c.name_in.ensures tell)) in omega (arith, four, three, c.status.ensures, c.from.ensures)
