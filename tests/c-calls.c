@@ -1,8 +1,11 @@
-/* The statuses of the calls of the library for C, each seen once; by tests/c-library, also with memory that is refused. With a
-   word it makes the calls that take memory once, and says how they ended. */
+/* The statuses of the calls of the library for C, each seen once; by tests/c-library, also with memory that is refused.
+
+     c-calls once                              makes the calls that take memory once, and says how they ended
+     c-calls check|explain INSTANCE PLAN NAME  prints what this call answers to the two files, and ends with its status */
 #include "cellplan.h"
 
 #include <stdio.h>
+#include <stdlib.h>
 #include <string.h>
 
 static const char two[] = "two\n2 2\n0 3 1 2\n1 4 0 1\n";
@@ -20,19 +23,62 @@ static void same(const char *what, uint64_t told, uint64_t wanted) {
   missed++;
 }
 
-/* The line of a check, its status, and that one byte less is no room for it. */
-static void checked(const char *instance, const char *name, const char *plan, uint32_t status, const char *line) {
-  uint8_t room[256];
+typedef uint32_t judge(const uint8_t *, size_t, const uint8_t *, size_t, const uint8_t *, size_t, uint8_t *, size_t, size_t *);
+
+/* The text of an answer, its status, and that one byte less is no room for it. */
+static void judged(judge *call, const char *plan, uint32_t status, const char *text) {
+  uint8_t room[512];
   size_t length = 7;
   memset(room, '#', sizeof room);
-  same(line, cellplan_check(TEXT(instance), TEXT(name), TEXT(plan), room, sizeof room, &length), status);
-  same("its length", length, strlen(line));
-  same("its text", (uint64_t)memcmp(room, line, strlen(line)), 0);
-  same("what is behind it", room[strlen(line)], '#');
+  same(text, call(TEXT(two), NO_NAME, TEXT(plan), room, sizeof room, &length), status);
+  same("its length", length, strlen(text));
+  same("its text", (uint64_t)memcmp(room, text, strlen(text)), 0);
+  same("what is behind it", room[strlen(text)], '#');
   memset(room, '#', sizeof room);
-  same("too little room", cellplan_check(TEXT(instance), TEXT(name), TEXT(plan), room, strlen(line) - 1, &length), CELLPLAN_NO_ROOM);
-  same("the length that it needs", length, strlen(line));
+  same("too little room", call(TEXT(two), NO_NAME, TEXT(plan), room, strlen(text) - 1, &length), CELLPLAN_NO_ROOM);
+  same("the length that it needs", length, strlen(text));
   same("what is written then", room[0], '#');
+}
+
+static uint8_t *whole(const char *path, size_t *length) {
+  static uint8_t rooms[2][1 << 20];
+  static int used;
+  FILE *file = fopen(path, "rb");
+  if (!file) exit(9);
+  *length = fread(rooms[used], 1, sizeof *rooms, file);
+  fclose(file);
+  return rooms[used++];
+}
+
+static int printed(judge *call, char **words) {
+  size_t instance_length, plan_length, length = 0;
+  uint8_t *instance = whole(words[0], &instance_length), *plan = whole(words[1], &plan_length);
+  uint8_t none[1];
+  uint32_t status = call(instance, instance_length, TEXT(words[2]), plan, plan_length, none, 0, &length);
+  if (status != CELLPLAN_NO_ROOM) return 9;
+  uint8_t *text = malloc(length);
+  if (!text) return 9;
+  status = call(instance, instance_length, TEXT(words[2]), plan, plan_length, text, length, &length);
+  fwrite(text, 1, length, stdout);
+  free(text);
+  return (int)status;
+}
+
+static int once(void) {
+  struct cellplan_cell cell = {0};
+  uint8_t text[512];
+  size_t length = 0;
+  uint32_t ended[3];
+  int bad = 0;
+  ended[0] = cellplan_check(TEXT(two), NO_NAME, TEXT(in_time), text, sizeof text, &length);
+  bad |= ended[0] == CELLPLAN_NO_MEMORY && length != 0;
+  ended[1] = cellplan_explain(TEXT(two), NO_NAME, TEXT(in_time), text, sizeof text, &length);
+  bad |= ended[1] == CELLPLAN_NO_MEMORY && length != 0;
+  ended[2] = cellplan_cell_new(TEXT(two), NO_NAME, TEXT(in_time), &cell);
+  cellplan_cell_free(&cell);
+  fprintf(stderr, "check %u explain %u new %u\n", (unsigned)ended[0], (unsigned)ended[1], (unsigned)ended[2]);
+  for (int i = 0; i < 3; i++) bad |= ended[i] != CELLPLAN_GOOD && ended[i] != CELLPLAN_NO_MEMORY;
+  return bad;
 }
 
 static void reported(struct cellplan_cell *cell, uint32_t kind, uint32_t job, uint32_t machine, uint64_t at, uint32_t status,
@@ -156,19 +202,19 @@ static void named(uint32_t number, const char *wanted) {
 int main(int argc, char **argv) {
   struct cellplan_cell cell = {0};
   bool punctual = false;
-  (void)argv;
-  if (argc > 1) {
-    uint8_t line[64];
-    size_t length = 0;
-    uint32_t check = cellplan_check(TEXT(two), NO_NAME, TEXT(in_time), line, sizeof line, &length);
-    uint32_t begun = cellplan_cell_new(TEXT(two), NO_NAME, TEXT(in_time), &cell);
-    cellplan_cell_free(&cell);
-    fprintf(stderr, "check %u new %u\n", (unsigned)check, (unsigned)begun);
-    return (check != 0 && (check != CELLPLAN_NO_MEMORY || length != 0)) || (begun != 0 && begun != CELLPLAN_NO_MEMORY);
-  }
+  if (argc == 2) return once();
+  if (argc == 5) return printed(strcmp(argv[1], "check") == 0 ? cellplan_check : cellplan_explain, argv + 2);
   same("version", cellplan_version(), CELLPLAN_VERSION);
-  checked(two, "", in_time, CELLPLAN_GOOD, "accepted makespan 10 leaves 5 10\n");
-  checked(two, "", late, CELLPLAN_REFUSED, "refused late 1 10 0.0 0.1 0.2 1.0 1.1 1.2\n");
+  judged(cellplan_check, in_time, CELLPLAN_GOOD, "accepted makespan 10 leaves 5 10\n");
+  judged(cellplan_check, late, CELLPLAN_REFUSED, "refused late 1 10 0.0 0.1 0.2 1.0 1.1 1.2\n");
+  judged(cellplan_explain, in_time, CELLPLAN_GOOD,
+         "accepted makespan 10 leaves 5 10\njob 0 leaves 5 budget 5 slack 0\njob 1 leaves 10 budget 10 slack 0\n"
+         "0 0.0 release of job 0\n3 0.1 job 0 on machine 0 for 3\n5 0.2 job 0 on machine 1 for 2\n"
+         "5 1.0 machine 1 from job 0 to job 1\n9 1.1 job 1 on machine 1 for 4\n10 1.2 job 1 on machine 0 for 1\n");
+  judged(cellplan_explain, late, CELLPLAN_REFUSED,
+         "refused late 1 10 0.0 0.1 0.2 1.0 1.1 1.2\n"
+         "0 0.0 release of job 0\n3 0.1 job 0 on machine 0 for 3\n5 0.2 job 0 on machine 1 for 2\n"
+         "5 1.0 machine 1 from job 0 to job 1\n9 1.1 job 1 on machine 1 for 4\n10 1.2 job 1 on machine 0 for 1\n");
   without_a_cell(&cell);
   same("refused", cellplan_cell_new(TEXT(two), NO_NAME, TEXT(late), &cell), CELLPLAN_REFUSED);
   same("no instance", cellplan_cell_new(TEXT("x"), NO_NAME, TEXT(late), &cell), CELLPLAN_FAULT);
