@@ -1,10 +1,14 @@
--- The status of a command's answer.
-use Rattle.std.proofs.Common.{◌≤◌, inl, inr, arith}
+-- The status of a command's answer, and of its fault.
+use Rattle.std.proofs.Common.{ℕ, ◌≤◌, List, Option, inl, inr, arith}
 use Rattle.shop_base.specs.Plan.{PlannedShop}
 use Rattle.plan_verifier.specs.declared.verdict.Verdict.{Verdict}
 use Rattle.plan_verifier.specs.declared.verdict.Verdict.TheVariants.{Accepted, Refused}
 use Rattle.command_answers.specs.declared.answer.Answer.{Answer}
+use Rattle.command_answers.specs.declared.command_fault.CommandFault.{CommandFault}
+use Rattle.command_answers.specs.declared.command_fault.CommandFault.TheVariants.{Instance, Plan, Read, Write, InputTooLong, Memory}
 use Rattle.command_answers.specs.Explains.{verdict_status}
+use Rattle.command_answers.specs.Plans.{IsRightOfBoth}
+use Rattle.command_answers.specs.Statuses.{status_of}
 use Rattle.cellplan_c.specs.declared.judges.Judge.{Judge}
 use Rattle.cellplan_c.specs.declared.judges.Judge.TheVariants.{Check, Explain}
 use Rattle.cellplan_c.specs.Judges.{IsAnswerOf}
@@ -20,3 +24,12 @@ status_bound Check p answer (inr (shaped, inr (inl cycle))) = omega (arith, cycl
 status_bound Check p answer (inr (shaped, inr (inr late))) = omega (arith, late.refused)
 status_bound Explain p answer (inl line) = omega (arith, line.line.refused)
 status_bound Explain p answer (inr explained) = omega (arith, explained.explained.status, verdict_bound explained.verdict)
+
+pub fault_bounds : (instance : List ℕ) (name : Option (List ℕ)) (plan : List ℕ) (fault : CommandFault)
+    → IsRightOfBoth instance name plan fault → (3 ≤ status_of fault) × (status_of fault ≤ 4)
+fault_bounds instance name plan (Instance why) is = (omega arith, omega arith)
+fault_bounds instance name plan (Plan why) is = (omega arith, omega arith)
+fault_bounds instance name plan Memory is = (omega arith, omega arith)
+fault_bounds instance name plan Read is = absurd is
+fault_bounds instance name plan Write is = absurd is
+fault_bounds instance name plan InputTooLong is = absurd is

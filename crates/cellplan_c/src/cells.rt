@@ -43,7 +43,7 @@ pub extern "C" fn cellplan_cell_new(
     ensures first { (fault : OrFault) → IsFirstInstanceFault instance.now (named name.now) fault → 3 ≤ result }
     ensures second { (fault : PlanFault) → TellsAShop instance.now (named name.now) → IsFirstPlanFault plan.now fault → 3 ≤ result }
     ensures unchanged { result ≢ 0 → cell.new.slot.held ≡ cell.old.slot.held }
-    ensures statuses { result ≤ 4 }
+    ensures statuses { (result ≤ 4) × (result ≢ 2) }
 {
     match load(alloc, instance, name_in(name), plan) {
         Ok(Loaded::Judged(Verdict::Accepted(verified))) => match boxed(alloc, verified) {

@@ -1,6 +1,6 @@
 //! Reports and their orders, called from C.
 
-ghost use Rattle.std.specs.Prelude.{◌≡◌, ◌≢◌, ℕ, List, ◌+◌, ◌<◌, ◌≤◌, ◌↔◌, None, IsSome, IfSome, length, slice_get, option_map};
+ghost use Rattle.std.specs.Prelude.{◌≡◌, ◌≢◌, ℕ, List, ◌+◌, ◌<◌, ◌≤◌, ◌↔◌, None, IsSome, IfSome, length, slice_get, option_map, false};
 ghost use Rattle.shop_base.specs.Report.{CanReport};
 ghost use Rattle.shop_base.specs.Activity.{GoesOn};
 ghost use Rattle.shop_base.specs.Run.{Event};
@@ -55,10 +55,14 @@ pub extern "C" fn cellplan_cell_report(
     ensures never_refused { IfSome cell.old.slot.held (λ old. IfSome (report_by kind job machine at) (λ report.
         (due : ℕ) → GoesOn old.controller.plan.planned old.controller.cell (said report).ended due
         → (said report).at ≡ old.controller.cell.last → result ≡ 0)) }
+    ensures not_late { result ≢ 0 → late.new ≡ false }
+    ensures no_detail { result < 16 → detail.new ≡ 0 }
     ensures no_orders { result ≢ 0 → (count.new ≡ 0) × (orders.new ≡ orders.old) }
     ensures count { IfSome cell.new.slot.held (λ new. result ≡ 0 → count.new ≡ length new.controller.orders) }
     ensures orders { IfSome cell.new.slot.held (λ new. result ≡ 0 → (i : ℕ) → i < length new.controller.orders
         → i < length orders.old → slice_get orders.new i ≡ option_map order_told (slice_get new.controller.orders i)) }
+    ensures kept { IfSome cell.new.slot.held (λ new. result ≡ 0 → (i : ℕ) → length new.controller.orders ≤ i
+        → slice_get orders.new i ≡ slice_get orders.old i) }
 {
     *count = 0;
     *late = false;
@@ -91,6 +95,7 @@ pub extern "C" fn cellplan_cell_orders(
     ensures good { IsSome cell.old.slot.held → result ≡ 0 }
     ensures no_cell { (cell.old.slot.held ≡ None) ↔ (result ≡ 8) }
     ensures unchanged { cell.new.slot.held ≡ cell.old.slot.held }
+    ensures no_orders { result ≢ 0 → (count.new ≡ 0) × (orders.new ≡ orders.old) }
     ensures count { IfSome cell.old.slot.held (λ old. count.new ≡ length old.controller.orders) }
     ensures orders { IfSome cell.old.slot.held (λ old. (i : ℕ) → first + i < length old.controller.orders
         → i < length orders.old → slice_get orders.new i ≡ option_map order_told (slice_get old.controller.orders (first + i))) }
@@ -117,7 +122,9 @@ fn report_to(inner: &mut Inner, report: Report, late: &mut bool, detail: &mut u6
         × IsFirstReason inner.old.controller.plan.planned inner.old.controller.cell (said report) fault
         × IsOnlyReason inner.old.controller.plan.planned inner.old.controller.cell (said report) fault }
     ensures unchanged { result ≢ 0 → inner.new ≡ inner.old }
-    ensures numbers { (result ≢ 8) × (result ≢ 9) }
+    ensures numbers { result ≢ 0 → 16 ≤ result }
+    ensures not_late { result ≢ 0 → late.new ≡ late.old }
+    ensures no_detail { result ≡ 0 → detail.new ≡ detail.old }
     ensures called { (es : List Event) × IsCalled inner.old.controller (said report) es inner.new.controller }
     ensures never_refused { (due : ℕ)
         → GoesOn inner.old.controller.plan.planned inner.old.controller.cell (said report).ended due

@@ -1,5 +1,6 @@
 use Rattle.std.proofs.Common.{ap, arith, rules}
 use Rattle.command_answers.specs.Statuses.{status_of}
+use Rattle.cellplan_c.proofs.Judging.{fault_bounds}
 use Rattle.cellplan_c.proofs.cells.cellplan_cell_new.Goals as goal
 
 pub returns-in-Some-clause-second : goal.returns-in-Some-clause-second
@@ -20,3 +21,7 @@ returns-in-Ok c = record {
 
 pub returns-clause-only : goal.returns-clause-only
 returns-clause-only c = λ p tell three. let four = ap status_of (c.in-Err.ensures.only p (rw c.name_in.ensures tell)) in omega (arith, four, three, c.status.ensures, c.from.ensures)
+
+pub returns-clause-statuses : goal.returns-clause-statuses
+returns-clause-statuses c = let bounds = fault_bounds c.args.instance.now _ c.args.plan.now c.in-Err.fault c.in-Err.ensures.fault in
+    (omega (arith, bounds.1, c.status.ensures, c.from.ensures), λ two. omega (arith, bounds.0, two, c.status.ensures, c.from.ensures))
