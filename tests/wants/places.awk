@@ -23,9 +23,11 @@ function of_crate(path, name) {
 }
 
 BEGIN {
-  asks = "^((with|within)_capacity|(try_)?reserve(_exact)?|(try_)?grow|resize(_with)?|from_elem|from_fn|repeat(_n)?|cycle|(try_)?collect|from_iter|extend(_from_within)?|allocate)$"
+  asks = "^((with|within)_capacity(_and_hasher)?|(try_)?reserve(_exact)?|(try_)?grow|(try_)?resize(_with)?|insert_many|splice|write_repeated|from_elem|from_fn|repeat(_n)?|cycle|(try_)?collect|from_iter|extend(_from_within)?|allocate)$"
   drops = "^(ok|err|or|ok_or|ok_or_else|unwrap_or_else|unwrap_or_default|map_or|map_or_else|is_ok_and|is_err_and|flatten|flat_map|filter_map|last_os_error)$"
   gives_option = "^(get|get_mut|get_one|copied|checked_[a-z]+|strip_prefix|strip_suffix|met)$"
+  derives = "^([(),]|::|thiserror|Clone|Copy|Debug|Default|Drop|Eq|Error|Hash|Ord|PartialEq|PartialOrd)$"
+  wide = "[{][^{}]*:[^{}]*[0-9$*]"
   numbers = "^(u8|u16|u32|u64|u128|usize|JobNo|MachineNo|Moment)$"
   while (bounds != "" && (getline text < bounds) > 0) {
     rows++
@@ -125,7 +127,9 @@ function drop_ghosts(i, j, kept) {
     if (token[i] == "#" && token[i + 1] ~ /^[[!]$/) {
       if (token[i + 2] == "path") tell(i, "a source that may stand elsewhere")
       if (token[i + 2] == "default" && token[i + 4] == "Memory") tell(i, "Memory by default")
-      i = closing(token[i + 1] == "[" ? i + 1 : i + 2)
+      j = closing(token[i + 1] == "[" ? i + 1 : i + 2)
+      look_at_attribute(i, j)
+      i = j
     } else if (token[i] == "ghost" && token[i + 1] == "use") {
       while (i < tokens && token[i] != ";") i++
     } else if (token[i] == "ghost") {
@@ -148,6 +152,15 @@ function drop_ghosts(i, j, kept) {
   }
   tokens = kept
   token[tokens + 1] = token[tokens + 2] = token[tokens + 3] = ""
+}
+
+# a derived trait of another kind may make any variant, and the text of an error may be as wide as it says
+function look_at_attribute(i, end) {
+  if (token[i + 2] == "derive") {
+    for (i += 3; i < end; i++) if (token[i] !~ derives) tell(i, "a derived trait that may make a value")
+  } else {
+    for (; i < end; i++) if (said[i] ~ wide) tell(i, "a text that is filled up")
+  }
 }
 
 function tell(i, why) {
@@ -398,6 +411,7 @@ function look_at(i, word) {
   if (word == "AllocError") look_at_alloc_error(i)
   else if (word == "Memory") look_at_memory(i)
   else if (tolower(said[i]) ~ /out of memory/ && !may_tell()) tell(i, "the line of want of memory")
+  else if (said[i] ~ wide) tell(i, "a text that is filled up")
   else if (word == "OutOfMemory" && !in_pattern()) tell(i, "OutOfMemory as a value")
   else if (word ~ /^(AllocFailed|SpawnError|from_raw_os_error)$/) tell(i, "what an AllocError could be made of")
   else if (word == "Error" && token[i - 1] == "::" && token[i - 2] == "fmt") tell(i, "what an AllocError could be made of")
