@@ -1,8 +1,7 @@
+-- Reached by public clauses: to be read and believed.
 pub mod Lines
-pub mod Holding
 pub mod Answering
 pub mod Streams
-pub mod Reading
 pub mod Devices
 pub mod InputLines
 pub mod AnswerLines
@@ -15,7 +14,10 @@ pub mod AuditLaw
 pub mod Statuses
 pub mod CellLines
 pub mod ManyCells
-pub mod NumberedCells
 pub mod CellsTextLaw
 pub mod CellsAlone
 pub mod DrivingCells
+-- Of proofs and private contracts alone.
+pub mod Holding
+pub mod Reading
+pub mod NumberedCells

@@ -1,3 +1,4 @@
+-- The status that the program ends with at a fault of a driven cell.
 use Rattle.std.specs.Prelude.{ℕ}
 use Rattle.cell_drive.specs.declared.drive_fault.DriveFault.{DriveFault}
 use Rattle.cell_drive.specs.declared.drive_fault.DriveFault.TheVariants.{Read, Write, InputTooLong, Memory}

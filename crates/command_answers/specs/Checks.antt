@@ -1,3 +1,4 @@
+-- The line that answers `check`: the first fault of the plan's shape, or the verdict on it.
 use Rattle.std.specs.Prelude.{◌≡◌, ℕ, ◌<◌, ◌≤◌, List, ◌⊎◌, Result, Ok, Err, length, slice_index}
 use Rattle.shop_base.specs.declared.node.Node.{Node}
 use Rattle.shop_base.specs.Plan.{PlannedShop, IsWellShaped}

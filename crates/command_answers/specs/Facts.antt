@@ -1,3 +1,4 @@
+-- The line that answers `facts`.
 use Rattle.std.specs.Prelude.{◌≡◌, ℕ, ◌+◌, List, ◌++◌, length, codes, decimal, Option}
 use Rattle.shop_base.specs.Shop.{JobShop, operations_of}
 use Rattle.shop_base.specs.Work.{work_of}

@@ -1,3 +1,4 @@
+-- An instance as a command reads it, and the command's fault where it can't.
 use Rattle.std.specs.Prelude.{◌≡◌, ◌≢◌, ℕ, List, Option, None, Some, Result, Ok, Err}
 use Rattle.shop_base.specs.Shop.{JobShop}
 use Rattle.orlib_read.specs.declared.or_fault.OrFault.{OrFault}

@@ -1,3 +1,4 @@
+-- Reached by public clauses: to be read and believed.
 pub mod Statuses
 pub mod Texts
 pub mod Reading
@@ -5,7 +6,6 @@ pub mod Steps
 pub mod Instances
 pub mod Facts
 pub mod Plans
-pub mod OnTexts
 pub mod Readings
 pub mod Shapes
 pub mod Checks
@@ -16,3 +16,5 @@ pub mod Improving
 pub mod LogLines
 pub mod Commands
 pub mod Cells
+-- Of proofs and private contracts alone.
+pub mod OnTexts

@@ -1,3 +1,4 @@
+-- The fault of a file that couldn't be read.
 use Rattle.std.specs.Prelude.{◌≡◌, ◌≢◌}
 use Rattle.std.specs.IoError.{error_kind}
 use Rattle.std.specs.declared.io.Error.{Error}

@@ -1,3 +1,4 @@
+-- The status that the program ends with at a command's fault.
 use Rattle.std.specs.Prelude.{ℕ}
 use Rattle.command_answers.specs.declared.command_fault.CommandFault.{CommandFault}
 use Rattle.command_answers.specs.declared.command_fault.CommandFault.TheVariants.{Instance, Plan, Read, Write, InputTooLong, Memory}

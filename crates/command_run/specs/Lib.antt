@@ -1,3 +1,4 @@
+-- Reached by public clauses: to be read and believed.
 pub mod Streams
 pub mod Inputs
 pub mod Planners
@@ -6,6 +7,7 @@ pub mod Drives
 pub mod Resumes
 pub mod Hubs
 pub mod Ending
-pub mod Unchosen
 pub mod Program
 pub mod Laws
+-- Of proofs and private contracts alone.
+pub mod Unchosen

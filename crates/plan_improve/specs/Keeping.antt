@@ -1,3 +1,4 @@
+-- The best plan so far with its cost, while answers are judged.
 use Rattle.std.specs.Prelude.{◌≡◌, ◌↔◌, ℕ, List, Option, None, Some}
 use Rattle.shop_base.specs.Plan.{PlannedShop, IsWellShaped}
 use Rattle.shop_base.specs.Vectors.{lists_of}

@@ -1,3 +1,4 @@
+-- The laws of better plans: what is no worse stays accepted, and a second search gives nothing worse than the first.
 use Rattle.std.specs.Prelude.{ℕ, ◌≤◌}
 use Rattle.shop_base.specs.Plan.{PlannedShop}
 use Rattle.plan_verifier.specs.Accepted.{HasNoCycle, IsAcceptable}

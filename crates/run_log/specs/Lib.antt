@@ -1,9 +1,11 @@
+-- Reached by public clauses: to be read and believed.
 pub mod Sinks
 pub mod Devices
 pub mod EventLines
 pub mod Log
 pub mod LogLines
-pub mod LogWords
 pub mod Audits
 pub mod AuditNames
+-- Of proofs and private contracts alone.
+pub mod LogWords
 pub mod Auditing
