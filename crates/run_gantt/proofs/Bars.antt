@@ -1,23 +1,22 @@
 -- What a visit shows in the columns of a bar.
 use Rattle.std.proofs.Common.{◌≡◌, ℕ, ◌+◌, ◌*◌, ◌/◌, ◌%◌, ◌<◌, ◌≤◌, min, nat_le, Bool, true, false, ◌&&◌, if◌then◌else◌, List, [], ◌∷◌, length, get_or, Option, None, Some, refl, sym, ap, subst, replicate, map, take, drop, ◌++◌, add-one, append_assoc, drop-cons, ◌≢◌, ◌⊎◌, inl, inr, ◌∙◌, arith}
 use Rattle.std.proofs.lemmas.Bool.{le-leb, lt-leb, cases_lt}
-use Rattle.std.specs.Prelude.{flat_map}
-use Rattle.std.specs.List.{range_with_len}
-use Rattle.std.proofs.lemmas.List.{get_or-replicate, get_or_past, map-id, flat_map_more, ext_get_or, get_or-map, get_or-take, length-map, length-take-le}
-use Rattle.std.proofs.lemmas.List.FromFn.{map-range_with_len_more, get_or-map-range_with_len, length-map-range_with_len}
+use Rattle.std.proofs.lemmas.List.{get_or-replicate, get_or_past, ext_get_or, get_or-map, get_or-take, length-map, length-take-le}
+use Rattle.std.proofs.lemmas.List.FromFn.{get_or-map-range_with_len, length-map-range_with_len}
 use Rattle.std.proofs.lemmas.Nat.{mul-le}
 use Rattle.std.proofs.lemmas.Grind.{div_ceil_times}
 use Rattle.run_gantt.specs.declared.visit.Visit.{Visit}
-use Rattle.run_gantt.specs.Visits.{or_else, first_of}
+use Rattle.std.specs.Option.{option_or}
+use Rattle.run_gantt.specs.Visits.{first_of}
 use Rattle.run_gantt.specs.GanttText.{is_before, digit_of, sign_of, column_sign, bar_of}
 
-pub or_else-none : {T : Type 0} → (x : Option T) → or_else x None ≡ x
-or_else-none None = refl
-or_else-none (Some x) = refl
+pub option_or-none : {T : Type 0} → (x : Option T) → option_or x None ≡ x
+option_or-none None = refl
+option_or-none (Some x) = refl
 
-pub or_else-assoc : {T : Type 0} → (x y z : Option T) → or_else (or_else x y) z ≡ or_else x (or_else y z)
-or_else-assoc None y z = refl
-or_else-assoc (Some x) y z = refl
+pub option_or-assoc : {T : Type 0} → (x y z : Option T) → option_or (option_or x y) z ≡ option_or x (option_or y z)
+option_or-assoc None y z = refl
+option_or-assoc (Some x) y z = refl
 
 -- a visit shows nothing before the job enters
 pub sign-early : (t : ℕ) (visit : Visit) → t < visit.enter → sign_of t visit ≡ None
@@ -44,19 +43,19 @@ columns-rise a b scale le = mul-le a scale b scale le (omega arith)
 
 -- one more column is done
 pub column-done : (before now after : List (Option ℕ)) (scale column sign : ℕ) (visit : Visit)
-    → ((c : ℕ) → c < column → c < 60 → get_or now c None ≡ or_else (get_or before c None) (sign_of (c * scale) visit))
+    → ((c : ℕ) → c < column → c < 60 → get_or now c None ≡ option_or (get_or before c None) (sign_of (c * scale) visit))
     → ((c : ℕ) → column ≤ c → get_or now c None ≡ get_or before c None)
     → sign_of (column * scale) visit ≡ Some sign
-    → get_or after column None ≡ or_else (get_or now column None) (Some sign)
+    → get_or after column None ≡ option_or (get_or now column None) (Some sign)
     → ((c : ℕ) → c ≢ column → get_or after c None ≡ get_or now c None)
-    → (c : ℕ) → c < column + 1 → c < 60 → get_or after c None ≡ or_else (get_or before c None) (sign_of (c * scale) visit)
+    → (c : ℕ) → c < column + 1 → c < 60 → get_or after c None ≡ option_or (get_or before c None) (sign_of (c * scale) visit)
 column-done before now after scale column sign visit done others shows here elsewhere c less inside = go (cases_lt c column)
   where
-    go : (c < column) ⊎ (column ≤ c) → get_or after c None ≡ or_else (get_or before c None) (sign_of (c * scale) visit)
+    go : (c < column) ⊎ (column ≤ c) → get_or after c None ≡ option_or (get_or before c None) (sign_of (c * scale) visit)
     go (inl lower) = elsewhere c (λ same. absurd (omega (arith, same))) ∙ done c lower inside
     go (inr reached) =
         let same : column ≡ c = omega arith in
-        subst (λ (x : ℕ). get_or after x None ≡ or_else (get_or before x None) (sign_of (x * scale) visit)) same
+        subst (λ (x : ℕ). get_or after x None ≡ option_or (get_or before x None) (sign_of (x * scale) visit)) same
         (here ∙ rw (others column (omega arith), shows) refl)
 
 -- a sign is an ASCII character
@@ -73,7 +72,7 @@ pub shown-ascii : (t sign : ℕ) (visits : List Visit) → first_of (sign_of t) 
 shown-ascii t sign [] is = absurd (cc)
 shown-ascii t sign (visit ∷ visits) is = go (sign_of t visit) refl is (shown-ascii t sign visits)
   where
-    go : (one : Option ℕ) → sign_of t visit ≡ one → or_else one (first_of (sign_of t) visits) ≡ Some sign → (first_of (sign_of t) visits ≡ Some sign → sign < 128) → sign < 128
+    go : (one : Option ℕ) → sign_of t visit ≡ one → option_or one (first_of (sign_of t) visits) ≡ Some sign → (first_of (sign_of t) visits ≡ Some sign → sign < 128) → sign < 128
     go None here same later = later same
     go (Some other) here same later = sign-ascii t sign visit (here ∙ same)
 
@@ -106,11 +105,11 @@ bar-text bar scale columns visits whole few shown =
 
 -- a bar of which nothing is shown yet
 pub bar-shown : (before after : List (Option ℕ)) (scale : ℕ) (visits : List Visit) → before ≡ replicate 60 None
-    → ((c : ℕ) → c < 60 → get_or after c None ≡ or_else (get_or before c None) (first_of (sign_of (c * scale)) visits))
+    → ((c : ℕ) → c < 60 → get_or after c None ≡ option_or (get_or before c None) (first_of (sign_of (c * scale)) visits))
     → (c : ℕ) → c < 60 → get_or after c None ≡ first_of (sign_of (c * scale)) visits
 bar-shown before after scale visits empty shown c inside =
     let none : get_or before c None ≡ None = rw empty (get_or-replicate 60 c None None inside) in
-    shown c inside ∙ ap (λ (x : Option ℕ). or_else x (first_of (sign_of (c * scale)) visits)) none
+    shown c inside ∙ ap (λ (x : Option ℕ). option_or x (first_of (sign_of (c * scale)) visits)) none
 
 -- all columns of a bar are ASCII characters
 pub columns-ascii : (bar : List (Option ℕ)) (scale columns : ℕ) (visits : List Visit) → length bar ≡ 60 → columns ≤ 60
@@ -129,16 +128,3 @@ pub six_parts : (start a b c d e f one two three four five six : List ℕ) → o
     → five ≡ four ++ e → six ≡ five ++ f → six ≡ start ++ (a ++ b ++ c ++ d ++ e ++ f)
 six_parts start a b c d e f one two three four five six is_one is_two is_three is_four is_five is_six =
     rw (is_six, is_five, is_four, is_three, is_two, is_one) (simp append_assoc)
-
-range-more : (n : ℕ) → range_with_len 0 (n + 1) ≡ range_with_len 0 n ++ n ∷ []
-range-more n =
-    sym (map-id (range_with_len 0 (n + 1))) ∙ map-range_with_len_more (λ x. x) 0 n n (omega arith) ∙ ap (λ (l : List ℕ). l ++ n ∷ []) (map-id (range_with_len 0 n))
-
--- the lines of one more machine
-pub one_more : (lines : ℕ → List ℕ) (start now new : List ℕ) (n : ℕ) → now ≡ start ++ flat_map lines (range_with_len 0 n) → new ≡ now ++ lines n
-    → new ≡ start ++ flat_map lines (range_with_len 0 (n + 1))
-one_more lines start now new n so_far pushed =
-    pushed
-    ∙ ap (λ (l : List ℕ). l ++ lines n) so_far
-    ∙ flat_map_more lines start (range_with_len 0 n) n
-    ∙ ap (λ (l : List ℕ). start ++ flat_map lines l) (sym (range-more n))

@@ -1,4 +1,6 @@
 pub mod EndsTold
+pub mod MachineVisits
 pub mod Linked
 pub mod Bars
+pub mod Lines
 pub mod Showing

@@ -4,10 +4,11 @@ use Rattle.std.proofs.lemmas.List.Concat.{flat_map-cons}
 use Rattle.std.specs.Prelude.{flat_map}
 use Rattle.run_gantt.specs.declared.visit.Visit.{Visit}
 use Rattle.run_gantt.specs.declared.visits.LinkedVisit.{LinkedVisit}
-use Rattle.run_gantt.specs.Visits.{or_else, first_of}
+use Rattle.std.specs.Option.{option_or}
+use Rattle.run_gantt.specs.Visits.{first_of}
 use Rattle.run_gantt.specs.GanttText.{sign_of, visit_word}
 use Rattle.run_gantt.specs.LinkedVisits.{no_visit, IsBelow, AreLinked}
-use Rattle.run_gantt.proofs.Bars.{or_else-none, or_else-assoc}
+use Rattle.run_gantt.proofs.Bars.{option_or-none, option_or-assoc}
 
 -- the number above a place, 0 for none
 abbrev pub above : Option ℕ → ℕ
@@ -19,7 +20,7 @@ pub record AreLeft (table : List LinkedVisit) (next : Option ℕ) (visits : List
   pub rest : List Visit
   pub chain : AreLinked table next rest
   pub text : now ++ flat_map visit_word rest ≡ start ++ flat_map visit_word visits
-  pub bar : (c : ℕ) → c < 60 → or_else (get_or after c None) (first_of (sign_of (c * scale)) rest) ≡ or_else (get_or before c None) (first_of (sign_of (c * scale)) visits)
+  pub bar : (c : ℕ) → c < 60 → option_or (get_or after c None) (first_of (sign_of (c * scale)) rest) ≡ option_or (get_or before c None) (first_of (sign_of (c * scale)) visits)
 
 -- a chain that goes on with this visit
 record GoesOn (table : List LinkedVisit) (place : ℕ) (linked : LinkedVisit) (visits : List Visit) : Type 0 where
@@ -59,7 +60,7 @@ module _ (table : List LinkedVisit) (next : Option ℕ) (visits : List Visit) (s
   -- the next visit is shown
   pub left-fewer : (new : List ℕ) (shown : List (Option ℕ)) (place : ℕ) (linked : LinkedVisit) → next ≡ Some place → linked ≡ get_or table place no_visit
       → new ≡ now ++ visit_word linked.visit
-      → ((c : ℕ) → c < 60 → get_or shown c None ≡ or_else (get_or after c None) (sign_of (c * scale) linked.visit))
+      → ((c : ℕ) → c < 60 → get_or shown c None ≡ option_or (get_or after c None) (sign_of (c * scale) linked.visit))
       → AreLeft table linked.next visits start new before shown scale
   left-fewer new shown place linked at is pushed is_shown =
       let on = goes_on table next place linked left.rest at is left.chain in
@@ -74,9 +75,9 @@ module _ (table : List LinkedVisit) (next : Option ℕ) (visits : List Visit) (s
             ∙ ap (λ (l : List Visit). now ++ flat_map visit_word l) (sym on.whole)
             ∙ left.text;
         bar = λ c inside.
-            ap (λ (x : Option ℕ). or_else x (first_of (sign_of (c * scale)) on.rest)) (is_shown c inside)
-            ∙ or_else-assoc (get_or after c None) (sign_of (c * scale) visit) (first_of (sign_of (c * scale)) on.rest)
-            ∙ ap (λ (l : List Visit). or_else (get_or after c None) (first_of (sign_of (c * scale)) l)) (sym on.whole)
+            ap (λ (x : Option ℕ). option_or x (first_of (sign_of (c * scale)) on.rest)) (is_shown c inside)
+            ∙ option_or-assoc (get_or after c None) (sign_of (c * scale) visit) (first_of (sign_of (c * scale)) on.rest)
+            ∙ ap (λ (l : List Visit). option_or (get_or after c None) (first_of (sign_of (c * scale)) l)) (sym on.whole)
             ∙ left.bar c inside;
       }
 
@@ -90,8 +91,8 @@ module _ (table : List LinkedVisit) (next : Option ℕ) (visits : List Visit) (s
   all_words = sym (append-nil now) ∙ ap (λ (l : List Visit). now ++ flat_map visit_word l) (sym (none_left table next left.rest at left.chain)) ∙ left.text
 
   -- and all visits are in the bar
-  pub all_signs : (c : ℕ) → c < 60 → get_or after c None ≡ or_else (get_or before c None) (first_of (sign_of (c * scale)) visits)
+  pub all_signs : (c : ℕ) → c < 60 → get_or after c None ≡ option_or (get_or before c None) (first_of (sign_of (c * scale)) visits)
   all_signs c inside =
-      sym (or_else-none (get_or after c None))
-      ∙ ap (λ (l : List Visit). or_else (get_or after c None) (first_of (sign_of (c * scale)) l)) (sym (none_left table next left.rest at left.chain))
+      sym (option_or-none (get_or after c None))
+      ∙ ap (λ (l : List Visit). option_or (get_or after c None) (first_of (sign_of (c * scale)) l)) (sym (none_left table next left.rest at left.chain))
       ∙ left.bar c inside

@@ -1,13 +1,14 @@
 -- The Gantt text of a list of entries.
-use Rattle.std.specs.Prelude.{ℕ, ◌+◌, ◌*◌, ◌/◌, ◌%◌, nat_lt, nat_le, Bool, true, ◌&&◌, if◌then◌else◌, List, ◌++◌, map, flat_map, codes, decimal, Option, None, Some}
+use Rattle.std.specs.Prelude.{ℕ, ◌+◌, ◌*◌, ◌/◌, ◌%◌, nat_lt, nat_le, Bool, true, ◌&&◌, if◌then◌else◌, List, [], ◌++◌, map, flat_map, codes, decimal, slice_index_or, Option, None, Some}
 use Rattle.std.specs.List.{range_with_len}
 use Rattle.cell_tables.specs.declared.entry.Entry.{Entry}
+use Rattle.run_gantt.specs.declared.bar.TheConstants.{MAX_COLUMNS}
 use Rattle.run_gantt.specs.declared.visit.Visit.{Visit}
 use Rattle.run_gantt.specs.Visits.{first_of, last_of, visits_to}
 
--- how long a column of a bar is, so that at most 60 columns reach to the last moment
+-- how long a column of a bar is, so that at most MAX_COLUMNS columns reach to the last moment
 abbrev pub scale_for : ℕ → ℕ
-scale_for last = last / 60 + 1
+scale_for last = last / MAX_COLUMNS + 1
 
 -- how many columns of this length reach to the last moment
 abbrev pub columns_for : ℕ → ℕ → ℕ
@@ -48,10 +49,17 @@ abbrev pub visit_word : Visit → List ℕ
 visit_word visit = codes " " ++ decimal visit.job ++ codes ":" ++ decimal visit.enter ++ codes "-" ++ moment_word visit.finish ++ codes "-" ++ moment_word visit.leave
 
 -- the two lines of machine m: its visits, and its bar
+abbrev pub visit_lines : ℕ → ℕ → ℕ → List Visit → List ℕ
+visit_lines scale columns m visits =
+    codes "machine " ++ decimal m ++ flat_map visit_word visits ++ codes "\nbar " ++ bar_of scale columns visits ++ codes "\n"
+
+-- those of the visits that the entries tell
 abbrev pub machine_lines : ℕ → ℕ → List Entry → ℕ → List ℕ
-machine_lines scale columns entries m =
-    codes "machine " ++ decimal m ++ flat_map visit_word (visits_to m entries)
-    ++ codes "\nbar " ++ bar_of scale columns (visits_to m entries) ++ codes "\n"
+machine_lines scale columns entries m = visit_lines scale columns m (visits_to m entries)
+
+-- those of the visits in a row for each machine
+abbrev pub row_lines : ℕ → ℕ → List (List Visit) → ℕ → List ℕ
+row_lines scale columns rows m = visit_lines scale columns m (slice_index_or rows m [])
 
 -- the Gantt text of entries, for so many machines
 abbrev pub gantt_text : ℕ → List Entry → List ℕ

@@ -1,14 +1,22 @@
 -- The visits to all machines in one table, in which those to a machine follow each other.
-use Rattle.std.specs.Prelude.{◌≡◌, ℕ, ◌<◌, List, [], ◌∷◌, length, slice_index_or, Option, None, Some}
-use Rattle.cell_tables.specs.declared.entry.Entry.{Entry}
+use Rattle.std.specs.Prelude.{◌≡◌, ℕ, zero, suc, ◌<◌, List, [], ◌∷◌, length, map, slice_index_or, Option, None, Some}
 use Rattle.run_gantt.specs.declared.visit.Visit.{Visit}
 use Rattle.run_gantt.specs.declared.visits.LinkedVisit.{LinkedVisit}
-use Rattle.run_gantt.specs.declared.visits.Visits.{Visits}
-use Rattle.run_gantt.specs.Visits.{visits_to}
 
 -- a visit that has no other behind it
 abbrev pub no_visit : LinkedVisit
 no_visit = record { visit = record { job = 0; enter = 0; finish = None; leave = None }; next = None }
+
+-- the visits from this place of the table on, each followed by that at the next place, and so many at the most
+abbrev pub linked_from : List LinkedVisit → ℕ → Option ℕ → List Visit
+linked_from table zero next = []
+linked_from table (suc most) None = []
+linked_from table (suc most) (Some place) =
+    (slice_index_or table place no_visit).visit ∷ linked_from table most (slice_index_or table place no_visit).next
+
+-- the visits to each machine, from the place of its first one on
+abbrev pub rows_of : List LinkedVisit → List (Option ℕ) → List (List Visit)
+rows_of table first = map (linked_from table (length table)) first
 
 -- the place of the visit that comes next is below this
 abbrev pub IsBelow : Option ℕ → ℕ → Type 0
@@ -22,6 +30,7 @@ AreLinked table first (visit ∷ visits) =
     (place : ℕ) × (first ≡ Some place) × (place < length table) × ((slice_index_or table place no_visit).visit ≡ visit)
     × IsBelow (slice_index_or table place no_visit).next place × AreLinked table (slice_index_or table place no_visit).next visits
 
--- for each machine there is the place of its first visit
-pub record HasVisits (visits : Visits) (entries : List Entry) : Type 0 where
-  pub chain : (m : ℕ) → m < length visits.first.items → AreLinked visits.table.items (slice_index_or visits.first.items m None) (visits_to m entries)
+-- the places fall from each machine's first visit to its last
+pub record AreAllLinked (table : List LinkedVisit) (first : List (Option ℕ)) : Type 0 where
+  pub chains : (m : ℕ) → m < length first
+      → AreLinked table (slice_index_or first m None) (linked_from table (length table) (slice_index_or first m None))

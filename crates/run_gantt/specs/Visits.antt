@@ -1,5 +1,7 @@
 -- The visits of jobs to machines, as a list of entries tells them.
-use Rattle.std.specs.Prelude.{ℕ, Bool, false, ◌==◌, ◌&&◌, if◌then◌else◌, max, List, [], ◌∷◌, Option, None, Some}
+use Rattle.std.specs.Prelude.{ℕ, Bool, false, ◌==◌, ◌&&◌, if◌then◌else◌, max, List, [], ◌∷◌, map, Option, None, Some}
+use Rattle.std.specs.Option.{option_or}
+use Rattle.std.specs.List.{range_with_len}
 use Rattle.shop_base.specs.declared.move_order.Spot.{Spot}
 use Rattle.shop_base.specs.declared.move_order.Spot.TheVariants.{Out, At}
 use Rattle.shop_base.specs.declared.move_order.MoveOrder.{MoveOrder}
@@ -10,15 +12,10 @@ use Rattle.cell_tables.specs.declared.entry.Entry.TheVariants.{Report as ReportE
 use Rattle.run_gantt.specs.declared.visit.Visit.{Visit}
 use Rattle.run_gantt.specs.declared.visit_ends.VisitEnd.{VisitEnd}
 
--- the first of two, else the second
-abbrev pub or_else : {T : Type 0} → Option T → Option T → Option T
-or_else (Some x) other = Some x
-or_else None other = other
-
 -- what is given for the first item for which something is given
 abbrev pub first_of : {S T : Type 0} → (S → Option T) → List S → Option T
 first_of f [] = None
-first_of f (x ∷ xs) = or_else (f x) (first_of f xs)
+first_of f (x ∷ xs) = option_or (f x) (first_of f xs)
 
 -- the moment of an entry
 abbrev pub entry_moment : Entry → ℕ
@@ -65,3 +62,7 @@ abbrev pub visits_to : ℕ → List Entry → List Visit
 visits_to m [] = []
 visits_to m (ReportEntry report ∷ later) = visits_to m later
 visits_to m (OrderEntry order ∷ later) = if is_at m order.target then visit_of order m later ∷ visits_to m later else visits_to m later
+
+-- those to each of so many machines
+abbrev pub machine_visits : ℕ → List Entry → List (List Visit)
+machine_visits machines entries = map (λ m. visits_to m entries) (range_with_len 0 machines)

@@ -1,8 +1,8 @@
 //! The bar of a machine: which job is on it, in columns of equal length.
 
 ghost use Rattle.std.specs.Prelude.{◌≡◌, ◌≢◌, ℕ, ◌*◌, ◌<◌, ◌≤◌, if◌then◌else◌, slice_index_or, None, Some};
-ghost use Rattle.run_gantt.specs.declared.bar.TheConstants.{MAX_SCALE};
-ghost use Rattle.run_gantt.specs.Visits.{or_else};
+ghost use Rattle.run_gantt.specs.declared.bar.TheConstants.{MAX_COLUMNS, MAX_SCALE};
+ghost use Rattle.std.specs.Option.{option_or};
 ghost use Rattle.run_gantt.specs.GanttText.{is_before, digit_of, sign_of};
 
 use crate::visit::Visit;
@@ -12,7 +12,7 @@ use shop_base::Moment;
 pub(crate) const MAX_COLUMNS: usize = 60;
 
 /// The greatest length of a column.
-pub(crate) const MAX_SCALE: Moment = u64::MAX / 60 + 1;
+pub(crate) const MAX_SCALE: Moment = u64::MAX / MAX_COLUMNS as u64 + 1;
 
 /// A bar's columns, each with what it shows so far.
 pub(crate) type Bar = [Option<char>; MAX_COLUMNS];
@@ -21,7 +21,7 @@ pub(crate) type Bar = [Option<char>; MAX_COLUMNS];
 pub(crate) fn show_visit(bar: &mut Bar, scale: Moment, visit: Visit)
     requires above { 0 < scale }
     requires below { scale ≤ MAX_SCALE }
-    ensures { (c : ℕ) → c < 60 → slice_index_or bar.new c None ≡ or_else (slice_index_or bar.old c None) (sign_of (c * scale) visit) }
+    ensures { (c : ℕ) → c < MAX_COLUMNS → slice_index_or bar.new c None ≡ option_or (slice_index_or bar.old c None) (sign_of (c * scale) visit) }
 {
     let mut column = visit.enter.div_ceil(scale);
     while column < MAX_COLUMNS as u64 {
@@ -36,8 +36,8 @@ pub(crate) fn show_visit(bar: &mut Bar, scale: Moment, visit: Visit)
 
 /// Shows a sign in a column in which none is shown yet.
 fn show_sign(bar: &mut Bar, column: usize, sign: char)
-    requires { column < 60 }
-    ensures here { slice_index_or bar.new column None ≡ or_else (slice_index_or bar.old column None) (Some sign) }
+    requires { column < MAX_COLUMNS }
+    ensures here { slice_index_or bar.new column None ≡ option_or (slice_index_or bar.old column None) (Some sign) }
     ensures others { (c : ℕ) → c ≢ column → slice_index_or bar.new c None ≡ slice_index_or bar.old c None }
 {
     if bar[column].is_none() {

@@ -1,12 +1,12 @@
 //! The Gantt text of a run's events: each machine's visits, and a bar of which job is on it when.
 
-ghost use Rattle.std.specs.Prelude.{◌≡◌, ℕ, ◌*◌, ◌<◌, ◌≤◌, ◌++◌, length, map, flat_map, slice_index_or, None, Some, decimal, string_bytes, IfOk, OnOk};
+ghost use Rattle.std.specs.Prelude.{◌≡◌, ℕ, ◌*◌, ◌<◌, ◌≤◌, ◌++◌, [], length, map, flat_map, slice_index_or, None, Some, decimal, string_bytes, IfOk, OnOk};
 ghost use Rattle.std.specs.List.{range_with_len};
 ghost use Rattle.shop_base.specs.Plan.{machines};
-ghost use Rattle.run_gantt.specs.Visits.{or_else, first_of, last_of, entry_moment, visits_to};
-ghost use Rattle.run_gantt.specs.GanttText.{gantt_text, scale_for, columns_for, machine_lines, visit_word, moment_word, sign_of, column_sign};
-ghost use Rattle.run_gantt.specs.LinkedVisits.{HasVisits};
-ghost use Rattle.run_gantt.specs.declared.bar.TheConstants.{MAX_SCALE};
+ghost use Rattle.std.specs.Option.{option_or};
+ghost use Rattle.run_gantt.specs.Visits.{first_of, last_of, entry_moment};
+ghost use Rattle.run_gantt.specs.GanttText.{gantt_text, scale_for, columns_for, row_lines, visit_word, moment_word, sign_of, column_sign};
+ghost use Rattle.run_gantt.specs.declared.bar.TheConstants.{MAX_COLUMNS, MAX_SCALE};
 
 use crate::bar::{Bar, MAX_COLUMNS, show_visit};
 use crate::visit::Visit;
@@ -32,16 +32,14 @@ pub fn gantt(alloc: Global, shaped: &Shaped, entries: &[Entry]) -> Result<String
     text.push_str("scale ")?;
     push_number(&mut text, scale)?;
     text.push_str("\n")?;
-    push_machines(
-        &mut text,
-        &visits,
-        shaped.machine_count(),
-        scale,
-        columns,
-        entries,
-    )?;
+    visits.push_machines(&mut text, shaped.machine_count(), scale, columns)?;
     Ok(text)
 }
+
+/// The limit in numbers: the most columns of a bar.
+pub fn the_columns_in_numbers()
+    ensures { MAX_COLUMNS ≡ 60 }
+{}
 
 fn scale_for(last: Moment) -> Moment
     ensures scale { result ≡ scale_for last }
@@ -54,7 +52,7 @@ fn scale_for(last: Moment) -> Moment
 fn columns_for(last: Moment, scale: Moment) -> usize
     requires { scale ≡ scale_for last }
     ensures columns { result ≡ columns_for last scale }
-    ensures few { result ≤ 60 }
+    ensures few { result ≤ MAX_COLUMNS }
 {
     (last / scale + 1) as usize
 }
@@ -78,78 +76,74 @@ fn entry_moment(entry: Entry) -> Moment
     }
 }
 
-fn push_machines(
-    text: &mut String,
-    visits: &Visits,
-    machines: u32,
-    scale: Moment,
-    columns: usize,
-    _entries: &[Entry],
-) -> Result<(), AllocError>
-    requires visits { HasVisits visits.now _entries.now }
-    requires machines { length visits.now.first.items ≡ machines }
-    requires above { 0 < scale }
-    requires below { scale ≤ MAX_SCALE }
-    requires columns { columns ≤ 60 }
-    ensures { OnOk result (string_bytes text.new ≡ string_bytes text.old ++ flat_map (machine_lines scale columns _entries.now) (range_with_len 0 machines)) }
-{
-    for machine in 0..machines {
-        push_machine(text, visits, machine, scale, columns, _entries)?;
+impl Visits {
+    fn push_machines(
+        &self,
+        text: &mut String,
+        machines: u32,
+        scale: Moment,
+        columns: usize,
+    ) -> Result<(), AllocError>
+        requires machines { length self.now ≡ machines }
+        requires above { 0 < scale }
+        requires below { scale ≤ MAX_SCALE }
+        requires columns { columns ≤ MAX_COLUMNS }
+        ensures { OnOk result (string_bytes text.new ≡ string_bytes text.old ++ flat_map (row_lines scale columns self.now) (range_with_len 0 machines)) }
+    {
+        for machine in 0..machines {
+            self.push_machine(text, machine, scale, columns)?;
+        }
+        Ok(())
     }
-    Ok(())
-}
 
-/// The lines of a machine. The entries are there for the contract alone.
-fn push_machine(
-    text: &mut String,
-    visits: &Visits,
-    machine: MachineNo,
-    scale: Moment,
-    columns: usize,
-    _entries: &[Entry],
-) -> Result<(), AllocError>
-    requires visits { HasVisits visits.now _entries.now }
-    requires machine { machine < length visits.now.first.items }
-    requires above { 0 < scale }
-    requires below { scale ≤ MAX_SCALE }
-    requires columns { columns ≤ 60 }
-    ensures { OnOk result (string_bytes text.new ≡ string_bytes text.old ++ machine_lines scale columns _entries.now machine) }
-{
-    text.push_str("machine ")?;
-    push_number(text, u64::from(machine))?;
-    let mut bar = [None; MAX_COLUMNS];
-    push_visits(text, &mut bar, visits, machine, scale, _entries)?;
-    text.push_str("\nbar ")?;
-    push_columns(text, &bar[..columns])?;
-    text.push_str("\n")?;
-    Ok(())
-}
-
-/// The words of a machine's visits, each of which is shown in the bar as well.
-fn push_visits(
-    text: &mut String,
-    bar: &mut Bar,
-    visits: &Visits,
-    machine: MachineNo,
-    scale: Moment,
-    _entries: &[Entry],
-) -> Result<(), AllocError>
-    requires visits { HasVisits visits.now _entries.now }
-    requires machine { machine < length visits.now.first.items }
-    requires above { 0 < scale }
-    requires below { scale ≤ MAX_SCALE }
-    ensures text { OnOk result (string_bytes text.new ≡ string_bytes text.old ++ flat_map visit_word (visits_to machine _entries.now)) }
-    ensures bar { OnOk result ((c : ℕ) → c < 60
-        → slice_index_or bar.new c None ≡ or_else (slice_index_or bar.old c None) (first_of (sign_of (c * scale)) (visits_to machine _entries.now))) }
-{
-    let mut next = visits.first[machine as usize];
-    while let Some(place) = next {
-        let linked = visits.table[place];
-        push_visit(text, linked.visit)?;
-        show_visit(bar, scale, linked.visit);
-        next = linked.next;
+    /// The lines of a machine.
+    fn push_machine(
+        &self,
+        text: &mut String,
+        machine: MachineNo,
+        scale: Moment,
+        columns: usize,
+    ) -> Result<(), AllocError>
+        requires machine { machine < length self.now }
+        requires above { 0 < scale }
+        requires below { scale ≤ MAX_SCALE }
+        requires columns { columns ≤ MAX_COLUMNS }
+        ensures { OnOk result (string_bytes text.new ≡ string_bytes text.old ++ row_lines scale columns self.now machine) }
+    {
+        text.push_str("machine ")?;
+        push_number(text, u64::from(machine))?;
+        let mut bar = [None; MAX_COLUMNS];
+        self.push_visits(text, &mut bar, machine, scale)?;
+        text.push_str("\nbar ")?;
+        push_columns(text, &bar[..columns])?;
+        text.push_str("\n")?;
+        Ok(())
     }
-    Ok(())
+
+    /// The words of a machine's visits, each of which is shown in the bar as well.
+    fn push_visits(
+        &self,
+        text: &mut String,
+        bar: &mut Bar,
+        machine: MachineNo,
+        scale: Moment,
+    ) -> Result<(), AllocError>
+        requires machine { machine < length self.now }
+        requires above { 0 < scale }
+        requires below { scale ≤ MAX_SCALE }
+        ensures text { OnOk result (string_bytes text.new ≡ string_bytes text.old ++ flat_map visit_word (slice_index_or self.now machine [])) }
+        ensures bar { OnOk result ((c : ℕ) → c < MAX_COLUMNS
+            → slice_index_or bar.new c None ≡ option_or (slice_index_or bar.old c None) (first_of (sign_of (c * scale)) (slice_index_or self.now machine []))) }
+    {
+        let mut next = self.first[machine as usize];
+        while let Some(place) = next {
+            let linked = self.table[place];
+            push_visit(text, linked.visit)?;
+            show_visit(bar, scale, linked.visit);
+            next = linked.next;
+        }
+        Ok(())
+    }
 }
 
 fn push_visit(text: &mut String, visit: Visit) -> Result<(), AllocError>

@@ -7,4 +7,4 @@ mod visit;
 mod visit_ends;
 mod visits;
 
-pub use gantt_text::gantt;
+pub use gantt_text::{gantt, the_columns_in_numbers};

@@ -3,7 +3,8 @@
 ghost use Rattle.std.specs.Prelude.{◌≡◌, ◌<◌, ◌≤◌, ◌+◌, ◌*◌, List, [], ◌∷◌, length, IfOk, MatchOption};
 ghost use Rattle.shop_base.specs.declared.limits.TheConstants.{MAX_JOBS, MAX_MACHINES};
 ghost use Rattle.cell_tables.specs.declared.entry.Entry.{Entry};
-ghost use Rattle.run_gantt.specs.Visits.{or_else, finish_told, leave_told, visit_end};
+ghost use Rattle.std.specs.Option.{option_or};
+ghost use Rattle.run_gantt.specs.Visits.{finish_told, leave_told, visit_end};
 ghost use Rattle.run_gantt.specs.VisitEnds.{IsPlace, AreVisitEnds};
 
 use cell_tables::{Entry, Report};
@@ -80,7 +81,7 @@ fn search_visit_end(entries: &[Entry], job: JobNo, machine: MachineNo) -> VisitE
 }
 
 fn first_moment(one: Option<Moment>, other: Option<Moment>) -> Option<Moment>
-    ensures { result ≡ or_else one other }
+    ensures { result ≡ option_or one other }
 {
     match one {
         Some(moment) => Some(moment),

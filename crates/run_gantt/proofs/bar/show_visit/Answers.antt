@@ -1,6 +1,6 @@
 use Rattle.std.proofs.Common.{◌≡◌, ℕ, ◌+◌, ◌*◌, ◌<◌, true, rules, Some, refl, sym, ap, subst, ◌∙◌, arith}
 use Rattle.run_gantt.specs.GanttText.{is_before}
-use Rattle.run_gantt.proofs.Bars.{or_else-none, sign-early, sign-there, column-before, column-after, columns-rise, column-done}
+use Rattle.run_gantt.proofs.Bars.{option_or-none, sign-early, sign-there, column-before, column-after, columns-rise, column-done}
 use Rattle.run_gantt.proofs.bar.show_visit.Goals as goal
 
 pub loop-column-init : goal.loop-column-init
@@ -10,7 +10,7 @@ loop-column-init c =
     let first = c.div_ceil-column.ensures in
     record {
       entered = rw first (column-after visit.enter scale c.requires.above);
-      done = λ n less inside. rw (sign-early (n * scale) visit (column-before visit.enter scale n c.requires.above (subst (λ (x : ℕ). n < x) first less))) (sym (or_else-none _));
+      done = λ n less inside. rw (sign-early (n * scale) visit (column-before visit.enter scale n c.requires.above (subst (λ (x : ℕ). n < x) first less))) (sym (option_or-none _));
       others = λ n le. refl;
     }
 

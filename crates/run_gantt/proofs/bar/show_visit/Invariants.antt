@@ -1,5 +1,5 @@
 use Rattle.std.proofs.Common.{◌≡◌, ℕ, ◌*◌, ◌-◌, ◌<◌, ◌≤◌, get_or, None}
-use Rattle.run_gantt.specs.Visits.{or_else}
+use Rattle.std.specs.Option.{option_or}
 use Rattle.run_gantt.specs.GanttText.{sign_of}
 use Rattle.run_gantt.proofs.bar.show_visit.Given as goal
 
@@ -7,7 +7,7 @@ use Rattle.run_gantt.proofs.bar.show_visit.Given as goal
 abbrev pub invariant-loop-column : goal.invariant-loop-column
 invariant-loop-column l = record {
   entered : l.visit.enter ≤ l.column * l.scale;
-  done : (c : ℕ) → c < l.column → c < 60 → get_or l.bar c None ≡ or_else (get_or l.initial.bar c None) (sign_of (c * l.scale) l.visit);
+  done : (c : ℕ) → c < l.column → c < 60 → get_or l.bar c None ≡ option_or (get_or l.initial.bar c None) (sign_of (c * l.scale) l.visit);
   others : (c : ℕ) → l.column ≤ c → get_or l.bar c None ≡ get_or l.initial.bar c None;
 }
 

@@ -1,15 +1,14 @@
 use Rattle.std.proofs.Common.{◌≡◌, ◌≤◌, length, drop}
 use Rattle.shop_base.specs.Plan.{machines}
+use Rattle.run_gantt.specs.Visits.{machine_visits}
 use Rattle.run_gantt.specs.VisitEnds.{AreVisitEnds}
-use Rattle.run_gantt.specs.LinkedVisits.{HasVisits}
 use Rattle.run_gantt.proofs.visits.visits_of.Given as goal
 
 abbrev pub invariant-loop-place : goal.invariant-loop-place
 invariant-loop-place l = record {
   within : l.place ≤ length l.entries;
   ends : AreVisitEnds l.ends.items (drop l.place l.entries);
-  visits : HasVisits l.visits (drop l.place l.entries);
-  machines_same : length l.visits.first.items ≡ machines l.shaped;
+  visits : l.visits ≡ machine_visits (machines l.shaped) (drop l.place l.entries);
 }
 
 abbrev pub decreases-loop-place : goal.decreases-loop-place

@@ -1,19 +1,18 @@
-use Rattle.std.proofs.Common.{◌++◌, ℕ, List, string_bytes, decimal, codes, refl, ap, ◌∙◌}
+use Rattle.std.proofs.Common.{◌++◌, ℕ, List, [], get_or, string_bytes, decimal, codes, refl, ap, ◌∙◌}
 use Rattle.std.specs.Prelude.{flat_map}
-use Rattle.run_gantt.specs.Visits.{visits_to}
 use Rattle.run_gantt.specs.GanttText.{visit_word, bar_of}
 use Rattle.run_gantt.proofs.Bars.{bar-shown, bar-text, columns-ascii, six_parts}
-use Rattle.run_gantt.proofs.gantt_text.push_machine.Goals as goal
+use Rattle.run_gantt.proofs.visits.Visits.push_machine.Goals as goal
 
 pub push_columns-requires : goal.push_columns-requires
 push_columns-requires c =
-    let visits = visits_to c.args.machine c.args._entries.now in
+    let visits = get_or c.args.self.now c.args.machine [] in
     let shown = bar-shown _ c.push_visits.new.bar c.args.scale visits refl c.in_ok-push_visits.ensures.bar in
     columns-ascii c.push_visits.new.bar c.args.scale c.args.columns visits c.push_visits.array_long c.requires.columns shown
 
 pub returns : goal.returns
 returns c =
-    let visits = visits_to c.args.machine c.args._entries.now in
+    let visits = get_or c.args.self.now c.args.machine [] in
     let shown = bar-shown _ c.push_visits.new.bar c.args.scale visits refl c.in_ok-push_visits.ensures.bar in
     let columns = bar-text c.push_visits.new.bar c.args.scale c.args.columns visits c.push_visits.array_long c.requires.columns shown in
     six_parts (string_bytes c.args.text.now)
