@@ -6,7 +6,7 @@ use Rattle.plan_verifier.specs.declared.verdict.Verdict.TheVariants.{Accepted, R
 use Rattle.command_answers.specs.declared.answer.Answer.{Answer}
 use Rattle.command_answers.specs.declared.command_fault.CommandFault.{CommandFault}
 use Rattle.command_answers.specs.declared.command_fault.CommandFault.TheVariants.{Instance, Plan, Read, Write, InputTooLong, Memory}
-use Rattle.command_answers.specs.Explains.{verdict_status}
+use Rattle.command_answers.specs.Checks.{verdict_status}
 use Rattle.command_answers.specs.Plans.{IsRightOfBoth}
 use Rattle.command_answers.specs.Statuses.{status_of}
 use Rattle.cellplan_c.specs.declared.judges.Judge.{Judge}
