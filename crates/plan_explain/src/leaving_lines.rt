@@ -36,18 +36,9 @@ pub(crate) fn push_leaving_lines(text: &mut Vec<u8>, verified: &Verified) -> Res
         OnOk result (text.new.items ≡ text.old.items ++ leaving_lines v.planned (leavings_of v)) }
 {
     for job in 0..jobs_of(verified) {
-        push_leaving_line(text, job, leave_of(verified, job), budget_of(verified, job))?;
+        push_leaving_line(text, job, leave_of(verified, job), verified.shaped().budget_of(job))?;
     }
     Ok(())
-}
-
-/// The job's budget.
-fn budget_of(verified: &Verified, job: JobNo) -> Moment
-    requires { job < jobs verified.now.planned }
-    ensures budget { result ≡ budget verified.now.planned job }
-    ensures kept { kept_at verified.now (leaving verified.now.planned job) ≤ result }
-{
-    verified.shaped().plan().budget[job as usize]
 }
 
 /// Adds `job J leaves L budget B slack S`.

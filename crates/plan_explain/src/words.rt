@@ -3,17 +3,21 @@
 ghost use Rattle.std.specs.Prelude.{◌≡◌, ◌+◌, ◌≤◌, ◌++◌, length, OnOk};
 ghost use Rattle.shop_base.specs.NodeText.{node_text};
 ghost use Rattle.plan_explain.specs.Arcs.{before, clean_words, arc_words};
+ghost use Rattle.plan_explain.specs.declared.words.TheConstants.{LINE_ROOM};
 
 use crate::arcs::ToldArc;
 use shop_base::{Moment, Node};
 use std::alloc::AllocError;
 
+/// The room of a line, in bytes.
+pub(crate) const LINE_ROOM: usize = 160;
+
 /// A line of an explanation. All are shorter than its room.
-pub(crate) type Line = text_lines::LineText<160>;
+pub(crate) type Line = text_lines::LineText<LINE_ROOM>;
 
 /// Writes the node as `j.k`.
 pub(crate) fn put_node(line: &mut Line, node: Node)
-    requires { length line.old ≤ 139 }
+    requires { 21 + length line.old ≤ LINE_ROOM }
     ensures written { line.new ≡ node_text node ++ line.old }
     ensures length { length line.new ≤ 21 + length line.old }
 {
