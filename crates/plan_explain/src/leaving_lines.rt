@@ -36,7 +36,12 @@ pub(crate) fn push_leaving_lines(text: &mut Vec<u8>, verified: &Verified) -> Res
         OnOk result (text.new.items ≡ text.old.items ++ leaving_lines v.planned (leavings_of v)) }
 {
     for job in 0..jobs_of(verified) {
-        push_leaving_line(text, job, leave_of(verified, job), verified.shaped().budget_of(job))?;
+        push_leaving_line(
+            text,
+            job,
+            leave_of(verified, job),
+            verified.shaped().budget_of(job),
+        )?;
     }
     Ok(())
 }

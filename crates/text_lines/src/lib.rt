@@ -8,7 +8,7 @@ mod lines;
 mod numbers;
 
 pub use cuts::{after_prefix, cut_line, cut_word};
-pub use limits::MAX_INPUT;
+pub use limits::{MAX_INPUT, the_most_input_in_numbers};
 pub use line_text::LineText;
 pub use lines::{line_count, next_line, without_return};
 pub use numbers::{number_before_space, number_of, short_number_of};
