@@ -4,6 +4,7 @@ use Rattle.std.proofs.lemmas.List.{take_all}
 use Rattle.std.proofs.Math.Seq.{take-append-add}
 use Rattle.std.specs.Io.KnownBytes.{Consumes, Keeps, IsAtEnd}
 use Rattle.std.proofs.KnownBytes.{Appends-kept, Appends-trans, Consumes-trans, Consumes-kept}
+use Rattle.text_lines.specs.declared.limits.TheConstants.{MAX_INPUT}
 use Rattle.cell_drive.specs.declared.drive_fault.DriveFault.{DriveFault}
 use Rattle.cell_drive.specs.declared.drive_fault.DriveFault.TheVariants.{Read, Write, InputTooLong, Memory}
 use Rattle.cell_drive.specs.Holding.{ended, held_after}
@@ -69,13 +70,13 @@ pub record Draining {S : Type 0} (answers : S → ℕ → Option (List ℕ) → 
   pub bytes : List ℕ
   pub was_read : Consumes left_before left_after bytes
   pub unfailed : read_failed ≡ read_failed_before
-  pub count : length bytes + left ≡ 67108864
+  pub count : length bytes + left ≡ MAX_INPUT
   pub answered : IsPieceAnswered answers start 0 (Some []) bytes now lines held write_failed_before write_failed before after
 
 -- fewer lines have ended than the limit has bytes
 pub Draining-lines : {S : Type 0} (answers : S → ℕ → Option (List ℕ) → List ℕ → S → Type 0) (start now : S) (lines : ℕ) (held : Option (List ℕ)) (left : ℕ)
     (read_failed_before read_failed : Bool) (left_before left_after : Option (List ℕ)) (write_failed_before write_failed : Bool) (before after : Option (List ℕ))
-    → Draining answers start now lines held left read_failed_before read_failed left_before left_after write_failed_before write_failed before after → lines + left ≤ 67108864
+    → Draining answers start now lines held left read_failed_before read_failed left_before left_after write_failed_before write_failed before after → lines + left ≤ MAX_INPUT
 Draining-lines answers start now lines held left read_failed_before read_failed left_before left_after write_failed_before write_failed before after so_far =
     let count = so_far.count in
     let lines_are = so_far.answered.lines_are in
@@ -106,7 +107,7 @@ module _ {S : Type 0} (answers : S → ℕ → Option (List ℕ) → List ℕ �
       }
   Draining-unread T Write left_then shown read_failed write_failed kept kept_taken failed =
       let count = so_far.count in
-      let all : so_far.bytes ≡ take 67108864 so_far.bytes = sym (take_all 67108864 so_far.bytes (omega arith)) in
+      let all : so_far.bytes ≡ take MAX_INPUT so_far.bytes = sym (take_all MAX_INPUT so_far.bytes (omega arith)) in
       record {
         bytes = so_far.bytes;
         was_read = Consumes-kept left_before left_after left_then so_far.bytes so_far.was_read kept;
@@ -170,7 +171,7 @@ module _ {S : Type 0} (answers : S → ℕ → Option (List ℕ) → List ℕ �
         }
 
     -- what is left of the limit takes so much of the piece
-    cut : so_far.bytes ++ take left piece ≡ take 67108864 (so_far.bytes ++ piece)
+    cut : so_far.bytes ++ take left piece ≡ take MAX_INPUT (so_far.bytes ++ piece)
     cut = sym (take-append-add so_far.bytes piece left) ∙ ap (λ (n : ℕ). take n (so_far.bytes ++ piece)) so_far.count
 
     -- a piece was read, and a write failed, or it went past the limit

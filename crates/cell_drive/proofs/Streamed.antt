@@ -3,6 +3,7 @@ use Rattle.std.proofs.Common.{◌≡◌, ℕ, ◌+◌, List, [], ◌++◌, lengt
 use Rattle.std.specs.Prelude.{OnOk, OnErr}
 use Rattle.std.specs.Io.KnownBytes.{Appends, Keeps}
 use Rattle.std.proofs.KnownBytes.{Appends-kept, Appends-trans}
+use Rattle.text_lines.specs.declared.limits.TheConstants.{MAX_INPUT}
 use Rattle.cell_drive.specs.declared.drive_fault.DriveFault.{DriveFault}
 use Rattle.cell_drive.specs.declared.drive_fault.DriveFault.TheVariants.{Read, Write, InputTooLong, Memory}
 use Rattle.cell_drive.specs.Lines.{input_lines}
@@ -116,7 +117,7 @@ stream_drained InputTooLong answers closes start end lines held read_failed_befo
         drained.comes_to.1,
         record {
           text = told.text;
-          are_answers = subst (λ l. AnswerAll answers start 1 l told.text end) (complete_lines-ended (take 67108864 drained.bytes)) told.are_answers;
+          are_answers = subst (λ l. AnswerAll answers start 1 l told.text end) (complete_lines-ended (take MAX_INPUT drained.bytes)) told.are_answers;
           written = told.written;
           unfailed = told.unfailed;
         },
@@ -130,7 +131,7 @@ stream_drained Write answers closes start end lines held read_failed_before read
       was_read = drained.was_read;
       comes_to = (
         drained.comes_to.0,
-        inl (subst (λ l. AreCutShort answers start 1 l end before after) (complete_lines-ended (take 67108864 drained.bytes)) drained.comes_to.1),
+        inl (subst (λ l. AreCutShort answers start 1 l end before after) (complete_lines-ended (take MAX_INPUT drained.bytes)) drained.comes_to.1),
         drained.comes_to.2,
       );
       shown = shown;

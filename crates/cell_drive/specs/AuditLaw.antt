@@ -32,7 +32,7 @@ pub record IsFoundAgain (p : PlannedShop) (entries : List Entry) (done : Bool) (
   pub moment : audit.last ≡ last
   pub complete : audit.complete ≡ done
 
--- an audit of what was written finds what driving came to, and its only fault is want of memory. The premises are what is promised of success in driving, into a taker that tells its bytes, and of an audit
+-- an audit of what was written finds what driving came to, and its only fault is that it is out of memory. The premises are what is promised of success in driving, into a taker that tells its bytes, and of an audit
 abbrev pub AnAuditKeepsWhatWasDriven : Type 0
 AnAuditKeepsWhatWasDriven =
     (p : PlannedShop) (entries : List Entry) (done : Bool) (last left : ℕ) (left_before left_after : Option (List ℕ)) (before text pending : List ℕ) (outcome : Result Audit AuditFault)

@@ -11,12 +11,14 @@ use Rattle.shop_base.specs.StepLaw.{AreJobsApart}
 use Rattle.shop_base.specs.NeverStuckLaw.{CanGoOn}
 use Rattle.shop_base.specs.Ends.{stated_number, reports_in, HasEnded, IsInTime}
 use Rattle.shop_base.specs.KeptMoments.{KeepsLeaving}
+use Rattle.text_lines.specs.declared.limits.TheConstants.{MAX_INPUT}
 use Rattle.plan_verifier.specs.Accepted.{VerifiedPlan, kept_at}
 use Rattle.cell_tables.specs.declared.entry.Entry.{Entry}
 use Rattle.run_log.specs.Log.{Noted}
 use Rattle.cell_tables.specs.Events.{events_of}
 use Rattle.cell_drive.specs.declared.drive_fault.DriveFault.{DriveFault}
 use Rattle.cell_drive.specs.declared.drive_fault.DriveFault.TheVariants.{Read, Write, InputTooLong, Memory}
+use Rattle.cell_drive.specs.declared.rooms.TheConstants.{MAX_PIECE}
 use Rattle.cell_drive.specs.Lines.{complete_lines}
 use Rattle.cell_drive.specs.Streams.{IsCutOff}
 use Rattle.cell_drive.specs.AnswerText.{DrivenCell, undriven, CellAnswers, CellCloses, AreAnswersTo, IsAnswerText}
@@ -30,7 +32,7 @@ pub record IsDrivenThrough (p : PlannedShop) (entries : List Entry) (left_before
   pub input : List ℕ
   pub was_read : Consumes left_before left_after input
   pub at_end : IsAtEnd left_after
-  pub within : length input ≤ 67108864
+  pub within : length input ≤ MAX_INPUT
   pub text : List ℕ
   pub is_answer_text : IsAnswerText p input text (record { cell = cell_after p entries; entries = entries })
   pub written : Appends before after text
@@ -47,11 +49,11 @@ WasCutOff p input left before after = (end : DrivenCell) × IsCutOff (CellAnswer
 -- where driving was broken off: after a failed read, and where too much came, of which no piece was read behind the one that went past the limit, the answers to the complete lines within the limit were written and shown; after a failed write the answers up to that at which it failed, of which the first bytes were written; and without memory nothing. A device has failed only where it is the fault, or it had failed before
 abbrev pub IsBrokenOff : DriveFault → PlannedShop → List ℕ → Bool → Bool → Option (List ℕ) → Bool → Bool → Option (List ℕ) → Option (List ℕ) → List ℕ → Type 0
 IsBrokenOff Read p input read_failed_before read_failed left write_failed_before write_failed before after pending =
-    (read_failed ≡ true) × (length input ≤ 67108864) × WereAnswersWritten p (complete_lines input) before after × (write_failed ≡ write_failed_before) × (pending ≡ [])
+    (read_failed ≡ true) × (length input ≤ MAX_INPUT) × WereAnswersWritten p (complete_lines input) before after × (write_failed ≡ write_failed_before) × (pending ≡ [])
 IsBrokenOff Write p input read_failed_before read_failed left write_failed_before write_failed before after pending =
     (write_failed ≡ true) × WasCutOff p input left before after × (read_failed ≡ read_failed_before)
 IsBrokenOff InputTooLong p input read_failed_before read_failed left write_failed_before write_failed before after pending =
-    (67108864 < length input) × (length input ≤ 67108864 + 65536) × WereAnswersWritten p (complete_lines (take 67108864 input)) before after × (read_failed ≡ read_failed_before) × (write_failed ≡ write_failed_before) × (pending ≡ [])
+    (MAX_INPUT < length input) × (length input ≤ MAX_INPUT + MAX_PIECE) × WereAnswersWritten p (complete_lines (take MAX_INPUT input)) before after × (read_failed ≡ read_failed_before) × (write_failed ≡ write_failed_before) × (pending ≡ [])
 IsBrokenOff Memory p input read_failed_before read_failed left write_failed_before write_failed before after pending =
     (input ≡ []) × (after ≡ before) × (read_failed ≡ read_failed_before) × (write_failed ≡ write_failed_before)
 

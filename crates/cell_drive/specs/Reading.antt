@@ -1,6 +1,7 @@
 -- How far an input has been read and answered.
 use Rattle.std.specs.Prelude.{◌≡◌, ℕ, ◌+◌, ◌<◌, ◌≤◌, List, [], ◌∷◌, ◌++◌, length, take, Option, Some, None, Bool, true, Result, Ok, Err, ◌⊎◌}
 use Rattle.std.specs.Io.KnownBytes.{Appends, Consumes, IsAtEnd}
+use Rattle.text_lines.specs.declared.limits.TheConstants.{MAX_INPUT}
 use Rattle.cell_drive.specs.declared.drive_fault.DriveFault.{DriveFault}
 use Rattle.cell_drive.specs.declared.drive_fault.DriveFault.TheVariants.{Read, Write, InputTooLong, Memory}
 use Rattle.cell_drive.specs.Holding.{ended, held_after, held_line}
@@ -47,13 +48,13 @@ IsReadOn (Err Memory) read_failed_before read_failed write_failed_before write_f
 abbrev pub ReadsTo : {S T : Type 0} → Result T DriveFault → ℕ → (S → ℕ → Option (List ℕ) → List ℕ → S → Type 0) → S → List ℕ
     → S → ℕ → Option (List ℕ) → Bool → Bool → Option (List ℕ) → Bool → Bool → Option (List ℕ) → Option (List ℕ) → Type 0
 ReadsTo (Ok x) room answers start bytes end lines held read_failed_before read_failed left write_failed_before write_failed before after =
-    IsAtEnd left × (length bytes ≤ 67108864) × IsPieceAnswered answers start 0 (Some []) bytes end lines held write_failed_before write_failed before after × (read_failed ≡ read_failed_before)
+    IsAtEnd left × (length bytes ≤ MAX_INPUT) × IsPieceAnswered answers start 0 (Some []) bytes end lines held write_failed_before write_failed before after × (read_failed ≡ read_failed_before)
 ReadsTo (Err Read) room answers start bytes end lines held read_failed_before read_failed left write_failed_before write_failed before after =
-    (read_failed ≡ true) × (length bytes ≤ 67108864) × AreAnswered answers start 1 (ended (Some []) bytes) end write_failed_before write_failed before after
+    (read_failed ≡ true) × (length bytes ≤ MAX_INPUT) × AreAnswered answers start 1 (ended (Some []) bytes) end write_failed_before write_failed before after
 ReadsTo (Err Write) room answers start bytes end lines held read_failed_before read_failed left write_failed_before write_failed before after =
-    (write_failed ≡ true) × AreCutShort answers start 1 (ended (Some []) (take 67108864 bytes)) end before after × (read_failed ≡ read_failed_before)
+    (write_failed ≡ true) × AreCutShort answers start 1 (ended (Some []) (take MAX_INPUT bytes)) end before after × (read_failed ≡ read_failed_before)
 ReadsTo (Err InputTooLong) room answers start bytes end lines held read_failed_before read_failed left write_failed_before write_failed before after =
-    (67108864 < length bytes) × (length bytes ≤ 67108864 + room) × AreAnswered answers start 1 (ended (Some []) (take 67108864 bytes)) end write_failed_before write_failed before after × (read_failed ≡ read_failed_before)
+    (MAX_INPUT < length bytes) × (length bytes ≤ MAX_INPUT + room) × AreAnswered answers start 1 (ended (Some []) (take MAX_INPUT bytes)) end write_failed_before write_failed before after × (read_failed ≡ read_failed_before)
 ReadsTo (Err Memory) room answers start bytes end lines held read_failed_before read_failed left write_failed_before write_failed before after = ⊥
 
 -- these bytes were read into a room of so many, and this is what reading comes to

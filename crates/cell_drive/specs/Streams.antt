@@ -1,6 +1,7 @@
 -- A whole input that is read and answered line by line.
 use Rattle.std.specs.Prelude.{◌≡◌, ℕ, ◌+◌, ◌<◌, ◌≤◌, List, [], ◌++◌, length, take, Option, Bool, true, Result, Ok, Err, ◌⊎◌}
 use Rattle.std.specs.Io.KnownBytes.{Appends, Consumes, IsAtEnd}
+use Rattle.text_lines.specs.declared.limits.TheConstants.{MAX_INPUT}
 use Rattle.cell_drive.specs.declared.drive_fault.DriveFault.{DriveFault}
 use Rattle.cell_drive.specs.declared.drive_fault.DriveFault.TheVariants.{Read, Write, InputTooLong, Memory}
 use Rattle.cell_drive.specs.Lines.{input_lines, complete_lines}
@@ -10,7 +11,7 @@ use Rattle.cell_drive.specs.Answering.{AnswerAll, AreAnswered, AreCutOff, AreCut
 pub record IsAllAnswered {S : Type 0} (answers : S → ℕ → Option (List ℕ) → List ℕ → S → Type 0) (closes : S → List ℕ → Type 0) (start : S) (input : List ℕ) (end : S)
     (read_failed_before read_failed : Bool) (left : Option (List ℕ)) (write_failed_before write_failed : Bool) (before after : Option (List ℕ)) : Type 0 where
   pub at_end : IsAtEnd left
-  pub within : length input ≤ 67108864
+  pub within : length input ≤ MAX_INPUT
   pub text : List ℕ
   pub are_answers : AnswerAll answers start 1 (input_lines input) text end
   pub closing : List ℕ
@@ -22,8 +23,8 @@ pub record IsAllAnswered {S : Type 0} (answers : S → ℕ → Option (List ℕ)
 -- a write failed: at the answer to one of the complete lines within the limit or at showing the answers to all of these, or, once the input was read to its end, at the answer to one of all lines or at the closing text. No line behind it was taken
 abbrev pub IsCutOff : {S : Type 0} → (S → ℕ → Option (List ℕ) → List ℕ → S → Type 0) → (S → List ℕ → Type 0) → S → List ℕ → S → Option (List ℕ) → Option (List ℕ) → Option (List ℕ) → Type 0
 IsCutOff answers closes start input end left before after =
-    AreCutShort answers start 1 (complete_lines (take 67108864 input)) end before after
-    ⊎ (IsAtEnd left × (length input ≤ 67108864)
+    AreCutShort answers start 1 (complete_lines (take MAX_INPUT input)) end before after
+    ⊎ (IsAtEnd left × (length input ≤ MAX_INPUT)
     × (AreCutOff answers start 1 (input_lines input) end before after ⊎ IsClosingCut answers closes start 1 (input_lines input) end before after))
 
 -- what a stream comes to once this input was read into a room of so many bytes, piece by piece, on success and with each fault. Of an input that is too long no piece is read behind the one that goes past the limit. A device has failed only where it is the fault, or it had failed before
@@ -32,11 +33,11 @@ abbrev pub ComesTo : {S T : Type 0} → Result T DriveFault → ℕ → (S → �
 ComesTo (Ok x) room answers closes start input end read_failed_before read_failed left write_failed_before write_failed before after =
     IsAllAnswered answers closes start input end read_failed_before read_failed left write_failed_before write_failed before after
 ComesTo (Err Read) room answers closes start input end read_failed_before read_failed left write_failed_before write_failed before after =
-    (read_failed ≡ true) × (length input ≤ 67108864) × AreAnswered answers start 1 (complete_lines input) end write_failed_before write_failed before after
+    (read_failed ≡ true) × (length input ≤ MAX_INPUT) × AreAnswered answers start 1 (complete_lines input) end write_failed_before write_failed before after
 ComesTo (Err Write) room answers closes start input end read_failed_before read_failed left write_failed_before write_failed before after =
     (write_failed ≡ true) × IsCutOff answers closes start input end left before after × (read_failed ≡ read_failed_before)
 ComesTo (Err InputTooLong) room answers closes start input end read_failed_before read_failed left write_failed_before write_failed before after =
-    (67108864 < length input) × (length input ≤ 67108864 + room) × AreAnswered answers start 1 (complete_lines (take 67108864 input)) end write_failed_before write_failed before after × (read_failed ≡ read_failed_before)
+    (MAX_INPUT < length input) × (length input ≤ MAX_INPUT + room) × AreAnswered answers start 1 (complete_lines (take MAX_INPUT input)) end write_failed_before write_failed before after × (read_failed ≡ read_failed_before)
 ComesTo (Err Memory) room answers closes start input end read_failed_before read_failed left write_failed_before write_failed before after = ⊥
 
 -- nothing is held back at a fault, unless it is a failed write

@@ -16,7 +16,7 @@ pub enum DriveFault {
     /// More bytes came than an input may have.
     #[error("InputTooLong")]
     InputTooLong,
-    /// Memory was wanting, before the first byte was read.
+    /// Out of memory, before the first byte was read.
     #[error("Memory")]
     Memory,
 }

@@ -1,8 +1,19 @@
 //! What holds of answer texts in general. Nothing is done here: a function's contract is the law.
 
+ghost use Rattle.std.specs.Prelude.{◌≡◌};
+ghost use Rattle.text_lines.specs.declared.limits.TheConstants.{MAX_INPUT};
+ghost use Rattle.cell_drive.specs.declared.rooms.TheConstants.{MAX_PIECE};
+ghost use Rattle.cell_drive.specs.declared.held_line.TheConstants.{MAX_LINE};
 ghost use Rattle.cell_drive.specs.OneTextLaw.{OneAnswerText, OneTextForLines};
 ghost use Rattle.cell_drive.specs.CellsTextLaw.{OneCellsAnswerText, OneCellsTextForLines};
 ghost use Rattle.cell_drive.specs.AuditLaw.{AnAnswerTextIsALog, AnAuditKeepsWhatWasDriven};
+
+/// The limits of an input in numbers: the most bytes of it, those that are read at a time, and those of one of its lines.
+pub fn the_limits_of_an_input_in_numbers()
+    ensures input { MAX_INPUT ≡ 67_108_864 }
+    ensures piece { MAX_PIECE ≡ 65_536 }
+    ensures line { MAX_LINE ≡ 63 }
+{}
 
 /// An input has one answer text: what is written for it is fixed by the plan and by all of its bytes, and not by the
 /// pieces in which these come.
@@ -23,8 +34,8 @@ pub fn an_answer_text_is_a_log()
     ensures { AnAnswerTextIsALog }
 {}
 
-/// The two ends meet: where driving succeeds, an audit of what was written, with the same plan, has no fault but want
-/// of memory, and finds what driving came to. It is complete just where the run is done.
+/// The two ends meet: where driving succeeds, an audit of what was written, with the same plan, has no fault but
+/// that it is out of memory, and finds what driving came to. It is complete exactly where the run is done.
 pub fn an_audit_keeps_what_was_driven()
     ensures { AnAuditKeepsWhatWasDriven }
 {}

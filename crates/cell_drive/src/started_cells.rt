@@ -13,7 +13,7 @@ use plan_verifier::Verified;
 use std::alloc::Global;
 use std::marker::Model;
 
-/// Why a hub that has serials left takes no cell: memory was wanting.
+/// Why a hub that has serials left takes no cell: it is out of memory.
 #[derive(Drop)]
 struct NotAdmitted {
     fault: HubFault,

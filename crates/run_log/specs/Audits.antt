@@ -119,7 +119,7 @@ pub record IsAudit (p : PlannedShop) (lines : List (List ℕ)) (audit : Audit) :
   pub last : audit.last ≡ (ends_in p (events_of audit.entries.items)).last
   pub complete : (audit.complete ≡ true) ↔ HasEnded p (ends_in p (events_of audit.entries.items))
 
--- want of memory, or the first fault of the lines
+-- out of memory, or the first fault of the lines
 abbrev pub IsAuditFault : PlannedShop → List (List ℕ) → AuditFault → Type 0
 IsAuditFault p lines Memory = Unit {0}
 IsAuditFault p lines fault = IsFirstBad p lines fault

@@ -84,12 +84,12 @@ pub record IsFirstBad (p : PlannedShop) (lines : List (List ℕ)) (fault : Resum
   pub log : IsCutLog p before told due
   pub is_fault : IsFaultOfLine p told due line fault
 
--- want of memory, or the first fault of the lines
+-- out of memory, or the first fault of the lines
 abbrev pub IsResumeFault : PlannedShop → List (List ℕ) → ResumeFault → Type 0
 IsResumeFault p lines Memory = Unit {0}
 IsResumeFault p lines fault = IsFirstBad p lines fault
 
--- want of memory, or no other fault is the first of the lines
+-- out of memory, or no other fault is the first of the lines
 abbrev pub IsOnlyFault : PlannedShop → List (List ℕ) → ResumeFault → Type 0
 IsOnlyFault p lines Memory = Unit {0}
 IsOnlyFault p lines fault = (other : ResumeFault) → IsFirstBad p lines other → other ≡ fault

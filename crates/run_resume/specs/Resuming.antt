@@ -2,6 +2,7 @@
 use Rattle.std.specs.Prelude.{◌≡◌, ℕ, ◌≤◌, List, [], ◌∷◌, ◌++◌, length, take, drop, Option, Some, Bool, true, Result, Err, IfOk, IfErr, MatchResult, ◌⊎◌}
 use Rattle.std.specs.Io.KnownBytes.{Appends, Consumes, IsAtEnd}
 use Rattle.shop_base.specs.Plan.{PlannedShop, IsWellShaped}
+use Rattle.text_lines.specs.declared.limits.TheConstants.{MAX_INPUT}
 use Rattle.text_lines.specs.Lines.{lines_of}
 use Rattle.cell_tables.specs.declared.entry.Entry.{Entry}
 use Rattle.run_log.specs.declared.audit_result.Audit.{Audit}
@@ -12,6 +13,7 @@ use Rattle.run_log.specs.EventLines.{entry_lines}
 use Rattle.run_log.specs.Sinks.{TookPart}
 use Rattle.cell_drive.specs.declared.drive_fault.DriveFault.{DriveFault}
 use Rattle.cell_drive.specs.declared.drive_fault.DriveFault.TheVariants.{Write}
+use Rattle.cell_drive.specs.declared.rooms.TheConstants.{MAX_PIECE}
 use Rattle.cell_drive.specs.Lines.{input_lines}
 use Rattle.cell_drive.specs.Streams.{IsStreamed}
 use Rattle.cell_drive.specs.Answering.{AnswerAll}
@@ -41,7 +43,7 @@ pub record IsResumedThrough (p : PlannedShop) (entries : List Entry) (late : Lis
   pub input : List ℕ
   pub was_read : Consumes left_before left_after input
   pub at_end : IsAtEnd left_after
-  pub within : length input ≤ 67108864
+  pub within : length input ≤ MAX_INPUT
   pub text : List ℕ
   pub is_text : IsResumedText p entries late input text (driven_so_far p all)
   pub written : Appends before after text
@@ -52,7 +54,7 @@ abbrev pub IsBrokenOff : DriveFault → PlannedShop → List Entry → List Bool
 IsBrokenOff fault p entries late read_failed_before read_failed left_before left_after write_failed_before write_failed before after pending =
     ((fault ≡ Write) × (write_failed ≡ true) × (read_failed ≡ read_failed_before) × (left_after ≡ left_before) × TookPart before after (again_text entries late))
     ⊎ ((middle : Option (List ℕ)) × (end : DrivenCell) × Appends before middle (again_text entries late)
-    × IsStreamed {T = Unit {0}} (Err fault) 65536 (CellAnswers p) (CellCloses p) (driven_so_far p entries) end read_failed_before read_failed left_before left_after write_failed_before write_failed middle after pending)
+    × IsStreamed {T = Unit {0}} (Err fault) MAX_PIECE (CellAnswers p) (CellCloses p) (driven_so_far p entries) end read_failed_before read_failed left_before left_after write_failed_before write_failed middle after pending)
 
 -- such a text is by itself a log of the whole run
 abbrev pub AResumedTextIsALog : Type 0
@@ -64,7 +66,7 @@ abbrev pub OneResumedText : Type 0
 OneResumedText = (p : PlannedShop) (entries : List Entry) (late : List Bool) (input text other : List ℕ) (end last : DrivenCell) → IsWellShaped p
     → IsRunOf p entries → IsResumedText p entries late input text end → IsResumedText p entries late input other last → (other ≡ text) × (last ≡ end)
 
--- an audit of such a text finds what driving came to, and its only fault is want of memory
+-- an audit of such a text finds what driving came to, and its only fault is that it is out of memory
 abbrev pub AnAuditKeepsWhatWasResumed : Type 0
 AnAuditKeepsWhatWasResumed =
     (p : PlannedShop) (entries : List Entry) (late : List Bool) (all : List Entry) (done : Bool) (last left : ℕ) (left_before left_after : Option (List ℕ)) (before text pending : List ℕ) (outcome : Result Audit AuditFault)

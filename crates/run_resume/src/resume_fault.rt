@@ -18,7 +18,7 @@ pub enum ResumeFault {
     /// The report isn't possible, for this reason.
     #[error("{} line {line}", .reason.name())]
     NotPossible { line: usize, reason: ReportFault },
-    /// Memory was wanting, before the first line was looked at.
+    /// Out of memory, before the first line was looked at.
     #[error("Memory")]
     Memory,
 }
@@ -47,7 +47,7 @@ impl ResumeFault {
         }
     }
 
-    /// The line of the fault, 0 for want of memory.
+    /// The line of the fault, 0 where it is out of memory.
     pub fn line(self) -> usize
         ensures { result ≡ fault_line self }
     {
