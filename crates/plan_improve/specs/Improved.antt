@@ -6,6 +6,7 @@ use Rattle.plan_verifier.specs.declared.verdict.Verdict.{Verdict}
 use Rattle.plan_verifier.specs.declared.verdict.Verdict.TheVariants.{Accepted, Refused}
 use Rattle.alt_graph.specs.Solved.{HasCycle}
 use Rattle.plan_seek.specs.Orders.{serial_order}
+use Rattle.plan_seek.specs.declared.search.TheConstants.{MAX_ROUNDS}
 use Rattle.plan_improve.specs.declared.improve_fault.ImproveFault.{ImproveFault}
 use Rattle.plan_improve.specs.declared.improve_fault.ImproveFault.TheVariants.{TooManyRounds, Memory}
 use Rattle.plan_improve.specs.Costs.{IsNoWorse}
@@ -31,7 +32,7 @@ pub record IsFound (made : Asked) (start p : PlannedShop) : Type 0 where
 abbrev pub IsNeverWorse : PlannedShop → PlannedShop → Type 0
 IsNeverWorse start p = (begin : PlannedShop) → IsBegin start begin → IsNoWorse p begin
 
--- why no plan is given: more than 1000 rounds, or else want of memory
+-- why no plan is given: more rounds than the most, or else out of memory
 abbrev pub IsImproveFault : ℕ → ImproveFault → Type 0
-IsImproveFault rounds TooManyRounds = 1000 < rounds
-IsImproveFault rounds Memory = rounds ≤ 1000
+IsImproveFault rounds TooManyRounds = MAX_ROUNDS < rounds
+IsImproveFault rounds Memory = rounds ≤ MAX_ROUNDS

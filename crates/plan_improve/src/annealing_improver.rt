@@ -1,16 +1,10 @@
-use crate::annealing::anneal;
-use crate::draws::Draws;
 use crate::improver::Improver;
-use crate::moves::Moves;
-use crate::net_of_plan::{net_of, orders_of};
-use crate::passing::Pass;
+use plan_annealing::annealed_orders;
 use shop_base::{JobNo, Shaped};
 use std::alloc::{AllocError, Global};
 
-/// A local search from the best plan so far: simulated annealing over the orders of the machines. In a neighbour of a
-/// plan two jobs that meet on a critical path have changed places, and one of the two has moved on other machines
-/// where it had to. A round looks at some 20 million nodes at most, and tries no more neighbours than 50 times the
-/// square of the number of operations. Another seed searches elsewhere, and the same one does the same again.
+/// A local search from the best plan so far: simulated annealing over the orders of the machines, as plan_annealing
+/// does it. Another seed searches elsewhere, and the same one does the same again.
 #[derive(Clone, Copy)]
 pub struct AnnealingImprover {
     seed: u32,
@@ -31,19 +25,6 @@ impl Improver for AnnealingImprover {
         shaped: &Shaped,
         round: u32,
     ) -> Result<Option<Vec<Vec<JobNo>>>, AllocError> {
-        let mut net = net_of(alloc, shaped)?;
-        let nodes = net.spots.len();
-        let mut pass = Pass::new(alloc, nodes)?;
-        let mut moves = Moves::new(alloc, nodes)?;
-        if !anneal(
-            &mut net,
-            &mut pass,
-            &mut moves,
-            Draws::new(self.seed, round),
-        ) {
-            return Ok(None);
-        }
-        let orders = orders_of(alloc, &mut net, shaped.shop().machines())?;
-        Ok(Some(orders))
+        annealed_orders(alloc, shaped, self.seed, round)
     }
 }

@@ -1,7 +1,6 @@
 //! The costs of plans.
 
-ghost use Rattle.std.specs.Prelude.{◌≡◌, ◌-◌, ◌<◌, IfOk, MatchOption};
-ghost use Rattle.shop_base.specs.Plan.{jobs, budget};
+ghost use Rattle.std.specs.Prelude.{IfOk, MatchOption};
 ghost use Rattle.alt_graph.specs.Times.{AreOrdered};
 ghost use Rattle.alt_graph.specs.Solved.{HasCycle};
 ghost use Rattle.plan_improve.specs.Costs.{IsCost};
@@ -10,7 +9,7 @@ ghost use Rattle.plan_improve.specs.Keeping.{IsCostBelow};
 use crate::cost::Cost;
 use alt_graph::{Solved, Times, solve};
 use plan_verifier::{later, leave_time};
-use shop_base::{JobNo, Moment, Shaped};
+use shop_base::Shaped;
 use std::alloc::{AllocError, Global};
 
 /// The plan's cost, none where it has a cycle.
@@ -53,15 +52,7 @@ fn cost_in(shaped: &Shaped, times: &Times) -> Cost
     for job in 0..shaped.shop().jobs() {
         let leaves = leave_time(shaped, times, job);
         makespan = later(makespan, leaves);
-        late = later(late, leaves.saturating_sub(budget_of(shaped, job)));
+        late = later(late, leaves.saturating_sub(shaped.budget_of(job)));
     }
     Cost { late, makespan }
-}
-
-/// The job's budget.
-fn budget_of(shaped: &Shaped, job: JobNo) -> Moment
-    requires { job < jobs shaped.now }
-    ensures { result ≡ budget shaped.now job }
-{
-    shaped.plan().budget[job as usize]
 }

@@ -4,10 +4,10 @@ use thiserror::Error;
 /// Why no plan is given.
 #[derive(Clone, Copy, Debug, PartialEq, Eq, Error)]
 pub enum ImproveFault {
-    /// There are more than 1000 rounds.
+    /// There are more than `MAX_ROUNDS` rounds.
     #[error("TooManyRounds")]
     TooManyRounds,
-    /// Memory was wanting, here or to an improver. The best plan so far is lost.
+    /// Out of memory, here or in an improver. The best plan so far is lost.
     #[error("Memory")]
     Memory,
 }

@@ -14,12 +14,10 @@ use crate::not_improved::NotImproved;
 use crate::reordering::{copy_orders, put_back};
 use crate::rounds::ask_in_rounds;
 use crate::watch::Watch;
+use plan_seek::MAX_ROUNDS;
 use plan_verifier::{Verdict, verify};
 use shop_base::Shaped;
 use std::alloc::{AllocError, Global};
-
-/// The most rounds in which the improvers are asked.
-pub const MAX_ROUNDS: u32 = 1000;
 
 /// Improves a plan. The search begins at the plan itself or, where that has a cycle, at the serial plan. In each round
 /// from 0 on each improver is asked in order with the best plan so far, and its answer is kept just where the plan
@@ -41,7 +39,7 @@ pub fn improve<W: Watch>(
     ensures stays_accepted { IfOk result (λ verdict. IsAcceptable start → SaysAccepted verdict) }
     ensures exact { IfOk result (λ verdict. SaysAccepted verdict ↔ IsAcceptable (judged verdict)) }
     ensures reason { IfOk result (OnRefused IsReason) }
-    ensures few_rounds { OnOk result (rounds ≤ 1000) }
+    ensures few_rounds { OnOk result (rounds ≤ MAX_ROUNDS) }
     ensures refused { IfErr result (λ refused. IsImproveFault rounds refused.fault) }
     ensures handed_back { IfErr result (λ refused. refused.start ≡ start) }
 {

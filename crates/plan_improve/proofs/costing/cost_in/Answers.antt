@@ -8,7 +8,7 @@ loop-job-init c = (late_none _ _, last_none _ _)
 
 pub loop-job-preserved : goal.loop-job-preserved
 loop-job-preserved c = (
-  rw c.later-late.ensures (rw c.saturating_sub.ensures (rw c.budget_of.ensures (late_more _ _ _ _ _ c.loop-job.invariant.0 c.leave_time-leaves.ensures))),
+  rw c.later-late.ensures (rw c.saturating_sub.ensures (rw c.budget_of.ensures.budget (late_more _ _ _ _ _ c.loop-job.invariant.0 c.leave_time-leaves.ensures))),
   rw c.later-makespan.ensures (last_more _ _ _ _ _ c.loop-job.invariant.1 c.leave_time-leaves.ensures),
 )
 

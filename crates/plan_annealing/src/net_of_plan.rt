@@ -1,5 +1,7 @@
 //! From a plan to its net, and from the sources of a net's nodes to orders.
 
+ghost use Rattle.std.specs.Prelude.{◌≡◌, length, IfOk};
+
 use crate::net::{NONE, Net, Span, Spot, count, link, spot_at};
 use shop_base::{JobNo, MachineNo, Moment, Plan, Shaped, Step};
 use std::alloc::{AllocError, Global};
@@ -116,13 +118,16 @@ pub(crate) fn orders_of(
     alloc: Global,
     net: &mut Net,
     machines: u32,
-) -> Result<Vec<Vec<JobNo>>, AllocError> {
+) -> Result<Vec<Vec<JobNo>>, AllocError>
+    ensures { IfOk result (λ orders. length orders.items ≡ machines) }
+{
     let mut firsts = vec![in alloc; NONE; machines as usize]?;
     unlink(&mut net.spots);
     relink(&mut net.spots, &net.saved, &mut firsts);
     let mut orders = Vec::new(alloc);
-    for first in &firsts {
-        orders.push(order_of(alloc, net, *first)?)?;
+    for machine in 0..machines {
+        let first = firsts.get(machine as usize).copied().unwrap_or(NONE);
+        orders.push(order_of(alloc, net, first)?)?;
     }
     Ok(orders)
 }

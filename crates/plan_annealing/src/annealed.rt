@@ -1,0 +1,34 @@
+ghost use Rattle.std.specs.Prelude.{◌≡◌, length, IfOk, IfSome};
+ghost use Rattle.shop_base.specs.Plan.{machines};
+
+use crate::annealing::anneal;
+use crate::draws::Draws;
+use crate::moves::Moves;
+use crate::net_of_plan::{net_of, orders_of};
+use crate::passing::Pass;
+use shop_base::{JobNo, Shaped};
+use std::alloc::{AllocError, Global};
+
+/// An order for each machine, as they are in the best plan that an annealing from this one meets, none where that one is
+/// the best. In a neighbour of a plan two jobs that meet on a critical path have changed places, and one of the two has
+/// moved on other machines where it had to. It looks at some 20 million nodes at most, and tries no more neighbours than
+/// 50 times the square of the number of operations. Another seed or round searches elsewhere, and the same ones do the
+/// same again.
+pub fn annealed_orders(
+    alloc: Global,
+    shaped: &Shaped,
+    seed: u32,
+    round: u32,
+) -> Result<Option<Vec<Vec<JobNo>>>, AllocError>
+    ensures each_machine { IfOk result (λ answer. IfSome answer (λ orders. length orders.items ≡ machines shaped.now)) }
+{
+    let mut net = net_of(alloc, shaped)?;
+    let nodes = net.spots.len();
+    let mut pass = Pass::new(alloc, nodes)?;
+    let mut moves = Moves::new(alloc, nodes)?;
+    if !anneal(&mut net, &mut pass, &mut moves, Draws::new(seed, round)) {
+        return Ok(None);
+    }
+    let orders = orders_of(alloc, &mut net, shaped.machine_count())?;
+    Ok(Some(orders))
+}
