@@ -177,3 +177,18 @@ def driven(rng, shop, plan, jitter):
         at = max(at, floor.last)
         asked.append((" ".join(map(str, activity)) + " %d" % at, floor.report(activity, at)))
     return asked, floor
+
+
+def leavings(shop, plan):
+    """When each job leaves where each activity ends when it is due; none where the plan locks."""
+    floor = Floor(shop, plan)
+    while floor.due:
+        at, activity = floor.least_due()
+        floor.report(activity, at)
+    return [floor.gone[job] for job in range(shop.jobs)] if len(floor.gone) == shop.jobs else None
+
+
+def serial(shop):
+    """The orders by which each machine takes its jobs in ascending order."""
+    visited = [{machine for machine, _ in route} for route in shop.routes]
+    return [[job for job in range(shop.jobs) if machine in visited[job]] for machine in range(shop.machines)]

@@ -16,6 +16,16 @@ def events(lines):
     return [line for line in lines if line.startswith(("report ", "order "))]
 
 
+def refusal(report, answer):
+    """The name by which the last accepted report is refused where it is sent again: what its job does since then isn't what it did."""
+    kind, number, *_ = report.split()
+    moves = [line.split() for line in answer if line.startswith("order ")]
+    targets = [target for _, _, job, _, target in moves if kind != "clean" and job == number]
+    if targets in ([], ["out"]):
+        return "NotExpected"
+    return "WrongKind" if kind == "arrive" else "WrongMachine"
+
+
 class Run:
     """One run of a cell, whose instance and plan are files: its reports with their answers, and the log that counts, none before the
     first process. Its processes are those of the program, behind the words of another one where there is one."""
@@ -50,6 +60,11 @@ class Run:
         path = self.written(self.log)
         count, told, behind = self.begun()
         return ["resume", *self.files, path], told + [""] + behind, self.asked[count:]
+
+    def sent_again(self, asked):
+        """These reports, behind the last one that the log has, which is sent again."""
+        taken = self.asked[:len(self.asked) - len(asked)]
+        return [(line, ["refused 1 " + refusal(line, answer)]) for line, answer in taken[-1:]] + asked
 
     def written(self, log):
         """The path of a file with this log."""
