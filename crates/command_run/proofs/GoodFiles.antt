@@ -22,7 +22,7 @@ use Rattle.command_answers.specs.Steps.{Then, GoesOn, Told, IsOrMemory}
 use Rattle.command_answers.specs.Texts.{Asks}
 use Rattle.command_answers.specs.Readings.{IsInstanceRead, IsPlanRead, AreFactsAnswered}
 use Rattle.command_answers.specs.Shapes.{IsNotShapedLine}
-use Rattle.command_answers.specs.Checks.{IsLoaded}
+use Rattle.command_answers.specs.Checks.{IsLoaded, IsLineOf, IsCheckLine}
 use Rattle.command_answers.specs.LogLines.{IsLogLine}
 use Rattle.command_answers.specs.Search.{IsSearchAnswer}
 use Rattle.command_answers.specs.Improving.{IsImproveAnswer}
@@ -30,8 +30,9 @@ use Rattle.command_answers.specs.Commands.{PairOfFiles, ReadsPlan, ReadsBoth, Wi
 use Rattle.command_run.specs.Streams.{Streams}
 use Rattle.command_run.specs.Planners.{MayPlan, SeeksPlan}
 use Rattle.command_run.specs.Improvers.{AsksOne, ImprovesPlan}
-use Rattle.command_run.specs.Drives.{DrivesCell, Drives}
-use Rattle.command_run.specs.Program.{RunsDrive}
+use Rattle.command_run.specs.Drives.{DrivesCell, Drives, IsLineTold}
+use Rattle.command_run.specs.Resumes.{ResumesText, Resumes}
+use Rattle.command_run.specs.Program.{RunsDrive, RunsResume}
 use Rattle.command_run.specs.Laws.{Shelf, TellPlan, IsAnswered}
 
 -- the answer is one of these, or memory ran out
@@ -129,31 +130,94 @@ module _ (content : List ℕ → Result (List ℕ) CommandFault) (pair : PairOfF
       → IsAnswered (IsLogLine telling p text) (pair.path ∷ pair.plan ∷ log ∷ []) outcome asked
   good_log telling log text outcome asked is shaped run = log_came telling log text outcome asked is shaped (with_both (WithLog (Shelf content) telling log) outcome asked run)
 
-  first_part : {P Q R : Type 0} → (P × R) ⊎ Q → P ⊎ Q
-  first_part (inl both) = inl both.0
-  first_part (inr other) = inr other
-
-  pub good_search : (rounds : ℕ) (outcome : Result Answer CommandFault) (asked : List (List ℕ)) → SeeksPlan (Shelf content) rounds pair [] outcome asked → IsSearchAnswer (MayPlan p.shop) rounds 2 p outcome ⊎ (outcome ≡ Err Memory)
-  good_search rounds outcome asked (inl run) = first_part (with_both (λ q. Told (IsSearchAnswer (MayPlan q.shop) rounds 2 q)) outcome asked run)
+  pub good_search : (rounds : ℕ) (outcome : Result Answer CommandFault) (asked : List (List ℕ)) → SeeksPlan (Shelf content) rounds pair [] outcome asked
+      → (IsSearchAnswer (MayPlan p.shop) rounds 2 p outcome × (asked ≡ pair.path ∷ pair.plan ∷ [])) ⊎ (outcome ≡ Err Memory)
+  good_search rounds outcome asked (inl run) = with_both (λ q. Told (IsSearchAnswer (MayPlan q.shop) rounds 2 q)) outcome asked run
   good_search rounds outcome asked (inr none) = inr none.0
 
-  pub good_improvement : (rounds : ℕ) (outcome : Result Answer CommandFault) (asked : List (List ℕ)) → ImprovesPlan (Shelf content) rounds pair [] outcome asked → IsImproveAnswer (AsksOne rounds) rounds p outcome ⊎ (outcome ≡ Err Memory)
-  good_improvement rounds outcome asked (inl run) = first_part (with_both (λ q. Told (IsImproveAnswer (AsksOne rounds) rounds q)) outcome asked run)
+  pub good_improvement : (rounds : ℕ) (outcome : Result Answer CommandFault) (asked : List (List ℕ)) → ImprovesPlan (Shelf content) rounds pair [] outcome asked
+      → (IsImproveAnswer (AsksOne rounds) rounds p outcome × (asked ≡ pair.path ∷ pair.plan ∷ [])) ⊎ (outcome ≡ Err Memory)
+  good_improvement rounds outcome asked (inl run) = with_both (λ q. Told (IsImproveAnswer (AsksOne rounds) rounds q)) outcome asked run
   good_improvement rounds outcome asked (inr none) = inr none.0
 
-  -- an accepted plan drives its cell
-  loaded_drives : (loaded : Result Loaded CommandFault) (before after : Streams) (outcome : Result Answer CommandFault) → IsWellShaped p → IsAcceptable p → IsOrMemory (IsLoaded p) loaded → Drives loaded before after outcome
-      → ((v : VerifiedPlan) × (v.planned ≡ p) × DrivesCell v before after outcome) ⊎ (outcome ≡ Err Memory)
-  loaded_drives (Err fault) before after outcome shaped acceptable is drives = inr (drives.0 ∙ ap Err is)
-  loaded_drives (Ok (NotShaped fault)) before after outcome shaped acceptable is drives = absurd (shape_fault_refutes p fault is shaped)
-  loaded_drives (Ok (Judged (Refused back why))) before after outcome shaped acceptable is drives = absurd (reason_refutes p why is.refused.1 acceptable)
-  loaded_drives (Ok (Judged (Accepted v))) before after outcome shaped acceptable is drives = inl (v, is.accepted.0, drives)
+  -- ---- what follows what is to be said of the plan
 
-  as_loaded : (loaded : Result Loaded CommandFault) (asked : List (List ℕ)) → IsAnswered (IsLoaded p) (pair.path ∷ pair.plan ∷ []) loaded asked → IsOrMemory (IsLoaded p) loaded
-  as_loaded (Ok loaded) asked is = is.0
-  as_loaded (Err fault) asked is = is
+  -- an accepted plan drives its cell
+  loaded_drives : (loaded : Result Loaded CommandFault) (asked : List (List ℕ)) (before after : Streams) (outcome : Result Answer CommandFault) → IsWellShaped p → IsAcceptable p
+      → IsAnswered (IsLoaded p) (pair.path ∷ pair.plan ∷ []) loaded asked → Drives loaded before after outcome
+      → ((asked ≡ pair.path ∷ pair.plan ∷ []) × ((v : VerifiedPlan) × (v.planned ≡ p) × DrivesCell v before after outcome)) ⊎ (outcome ≡ Err Memory)
+  loaded_drives (Err fault) asked before after outcome shaped acceptable is drives = inr (drives.0 ∙ ap Err is)
+  loaded_drives (Ok (NotShaped fault)) asked before after outcome shaped acceptable is drives = absurd (shape_fault_refutes p fault is.0 shaped)
+  loaded_drives (Ok (Judged (Refused back why))) asked before after outcome shaped acceptable is drives = absurd (reason_refutes p why is.0.refused.1 acceptable)
+  loaded_drives (Ok (Judged (Accepted v))) asked before after outcome shaped acceptable is drives = inl (is.1, (v, is.0.accepted.0, drives))
 
   pub good_drive : (before after : Streams) (outcome : Result Answer CommandFault) (asked : List (List ℕ)) → IsWellShaped p → IsAcceptable p → RunsDrive (Shelf content) pair [] before outcome asked after
-      → ((v : VerifiedPlan) × (v.planned ≡ p) × DrivesCell v before after outcome) ⊎ (outcome ≡ Err Memory)
+      → ((asked ≡ pair.path ∷ pair.plan ∷ []) × ((v : VerifiedPlan) × (v.planned ≡ p) × DrivesCell v before after outcome)) ⊎ (outcome ≡ Err Memory)
   good_drive before after outcome asked shaped acceptable run =
-      loaded_drives run.loaded before after outcome shaped acceptable (as_loaded run.loaded asked (good_plan IsLoaded run.loaded asked run.loads)) run.drives
+      loaded_drives run.loaded asked before after outcome shaped acceptable (good_plan IsLoaded run.loaded asked run.loads) run.drives
+
+  -- the text of the log that came is taken up
+  log_resumes : (v : VerifiedPlan) (log text : List ℕ) (came : Result (List ℕ) CommandFault) (mid asked : List (List ℕ)) (before after : Streams) (outcome : Result Answer CommandFault) → content log ≡ Ok text
+      → mid ≡ pair.path ∷ pair.plan ∷ [] → Asks (Shelf content) log mid came asked → ResumesText v came before after outcome
+      → (asked ≡ pair.path ∷ pair.plan ∷ log ∷ []) × ResumesText v (Ok text) before after outcome
+  log_resumes v log text (Ok t) mid asked before after outcome is files given resumes =
+      let same : t ≡ text = (let both : Ok t ≡ Ok text = given.0 ∙ is in cc both) in
+      (given.1 ∙ ap (λ (paths : List (List ℕ)). paths ++ log ∷ []) files, subst (λ (x : List ℕ). ResumesText v (Ok x) before after outcome) same resumes)
+  log_resumes v log text (Err f) mid asked before after outcome is files given resumes = absurd (let both : Err f ≡ Ok text = given.1.0 ∙ is in cc both)
+
+  -- an accepted plan has its log asked for
+  loaded_resumes : (log text : List ℕ) (loaded : Result Loaded CommandFault) (mid asked : List (List ℕ)) (before after : Streams) (outcome : Result Answer CommandFault) → content log ≡ Ok text → IsWellShaped p → IsAcceptable p
+      → IsAnswered (IsLoaded p) (pair.path ∷ pair.plan ∷ []) loaded mid → Resumes (Shelf content) log loaded mid before outcome asked after
+      → ((asked ≡ pair.path ∷ pair.plan ∷ log ∷ []) × ((v : VerifiedPlan) × (v.planned ≡ p) × ResumesText v (Ok text) before after outcome)) ⊎ (outcome ≡ Err Memory)
+  loaded_resumes log text (Err fault) mid asked before after outcome came shaped acceptable is resumes = inr (resumes.0 ∙ ap Err is)
+  loaded_resumes log text (Ok (NotShaped fault)) mid asked before after outcome came shaped acceptable is resumes = absurd (shape_fault_refutes p fault is.0 shaped)
+  loaded_resumes log text (Ok (Judged (Refused back why))) mid asked before after outcome came shaped acceptable is resumes = absurd (reason_refutes p why is.0.refused.1 acceptable)
+  loaded_resumes log text (Ok (Judged (Accepted v))) mid asked before after outcome came shaped acceptable is resumes =
+      let on = log_resumes v log text resumes.text mid asked before after outcome came is.1 resumes.asks resumes.resumes in
+      inl (on.0, (v, is.0.accepted.0, on.1))
+
+  pub good_resume : (before after : Streams) (log text : List ℕ) (outcome : Result Answer CommandFault) (asked : List (List ℕ)) → IsWellShaped p → IsAcceptable p → content log ≡ Ok text
+      → RunsResume (Shelf content) pair log [] before outcome asked after
+      → ((asked ≡ pair.path ∷ pair.plan ∷ log ∷ []) × ((v : VerifiedPlan) × (v.planned ≡ p) × ResumesText v (Ok text) before after outcome)) ⊎ (outcome ≡ Err Memory)
+  good_resume before after log text outcome asked shaped acceptable is run =
+      loaded_resumes log text run.loaded run.texts_mid asked before after outcome is shaped acceptable (good_plan IsLoaded run.loaded run.texts_mid run.loads) run.resumes
+
+  -- ---- plans that aren't accepted
+
+  -- the line of such a plan is that of `check`
+  check_line : (loaded : Loaded) (answer : Answer) → (IsWellShaped p → IsAcceptable p → ⊥) → IsLoaded p loaded → IsLineOf loaded answer → IsCheckLine p answer
+  check_line (NotShaped fault) answer never is line = inl (record { fault = fault; first = is; line = line })
+  check_line (Judged (Accepted v)) answer never is line = absurd (never is.well_shaped is.accepted.1)
+  check_line (Judged (Refused back (Cycle nodes))) answer never is line =
+      inr (is.well_shaped, inr (inl (record { nodes = nodes.items; cycle = is.refused.1; line = line.0; refused = line.1 })))
+  check_line (Judged (Refused back (Late job leaves chain))) answer never is line =
+      inr (is.well_shaped, inr (inr (record { job = job; leaves = leaves; chain = chain.items; late = is.refused.1; line = line.0; refused = line.1 })))
+
+  line_told : (loaded : Loaded) (outcome : Result Answer CommandFault) (asked : List (List ℕ)) → (IsWellShaped p → IsAcceptable p → ⊥) → IsLoaded p loaded → asked ≡ pair.path ∷ pair.plan ∷ [] → IsLineTold loaded outcome
+      → IsAnswered (IsCheckLine p) (pair.path ∷ pair.plan ∷ []) outcome asked
+  line_told loaded (Ok answer) asked never is files told = (check_line loaded answer never is told, files)
+  line_told loaded (Err fault) asked never is files told = told
+
+  drives_no_cell : (loaded : Result Loaded CommandFault) (asked : List (List ℕ)) (before after : Streams) (outcome : Result Answer CommandFault) → (IsWellShaped p → IsAcceptable p → ⊥)
+      → IsAnswered (IsLoaded p) (pair.path ∷ pair.plan ∷ []) loaded asked → Drives loaded before after outcome → IsAnswered (IsCheckLine p) (pair.path ∷ pair.plan ∷ []) outcome asked × (after ≡ before)
+  drives_no_cell (Err fault) asked before after outcome never is drives = (wanting (IsCheckLine p) _ outcome asked (drives.0 ∙ ap Err is), drives.1)
+  drives_no_cell (Ok (NotShaped fault)) asked before after outcome never is drives = (line_told (NotShaped fault) outcome asked never is.0 is.1 drives.0, drives.1)
+  drives_no_cell (Ok (Judged (Refused back why))) asked before after outcome never is drives = (line_told (Judged (Refused back why)) outcome asked never is.0 is.1 drives.0, drives.1)
+  drives_no_cell (Ok (Judged (Accepted v))) asked before after outcome never is drives = absurd (never is.0.well_shaped is.0.accepted.1)
+
+  resumes_no_cell : (log : List ℕ) (loaded : Result Loaded CommandFault) (mid asked : List (List ℕ)) (before after : Streams) (outcome : Result Answer CommandFault) → (IsWellShaped p → IsAcceptable p → ⊥)
+      → IsAnswered (IsLoaded p) (pair.path ∷ pair.plan ∷ []) loaded mid → Resumes (Shelf content) log loaded mid before outcome asked after
+      → IsAnswered (IsCheckLine p) (pair.path ∷ pair.plan ∷ []) outcome asked × (after ≡ before)
+  resumes_no_cell log (Err fault) mid asked before after outcome never is resumes = (wanting (IsCheckLine p) _ outcome asked (resumes.0 ∙ ap Err is), resumes.1)
+  resumes_no_cell log (Ok (NotShaped fault)) mid asked before after outcome never is resumes = (line_told (NotShaped fault) outcome asked never is.0 (resumes.2 ∙ is.1) resumes.0, resumes.1)
+  resumes_no_cell log (Ok (Judged (Refused back why))) mid asked before after outcome never is resumes = (line_told (Judged (Refused back why)) outcome asked never is.0 (resumes.2 ∙ is.1) resumes.0, resumes.1)
+  resumes_no_cell log (Ok (Judged (Accepted v))) mid asked before after outcome never is resumes = absurd (never is.0.well_shaped is.0.accepted.1)
+
+  pub no_drive : (before after : Streams) (outcome : Result Answer CommandFault) (asked : List (List ℕ)) → (IsWellShaped p → IsAcceptable p → ⊥) → RunsDrive (Shelf content) pair [] before outcome asked after
+      → IsAnswered (IsCheckLine p) (pair.path ∷ pair.plan ∷ []) outcome asked × (after ≡ before)
+  no_drive before after outcome asked never run = drives_no_cell run.loaded asked before after outcome never (good_plan IsLoaded run.loaded asked run.loads) run.drives
+
+  pub no_resume : (log : List ℕ) (before after : Streams) (outcome : Result Answer CommandFault) (asked : List (List ℕ)) → (IsWellShaped p → IsAcceptable p → ⊥) → RunsResume (Shelf content) pair log [] before outcome asked after
+      → IsAnswered (IsCheckLine p) (pair.path ∷ pair.plan ∷ []) outcome asked × (after ≡ before)
+  no_resume log before after outcome asked never run =
+      resumes_no_cell log run.loaded run.texts_mid asked before after outcome never (good_plan IsLoaded run.loaded run.texts_mid run.loads) run.resumes

@@ -32,6 +32,10 @@ use Rattle.command_run.specs.Program.{AreWordsRead, RunsDrive, RunsCommand, Foll
 use Rattle.command_run.specs.Laws.{Shelf, TellPlan, AskForDrive, RunsWell}
 use Rattle.command_run.proofs.GoodFiles.{good_drive}
 
+driven_or_not : {P Q R : Type 0} → (P × Q) ⊎ R → Q ⊎ R
+driven_or_not (inl both) = inl both.1
+driven_or_not (inr other) = inr other
+
 -- ---- the words
 
 abbrev first : Option (List ℕ) → ℕ
@@ -160,7 +164,7 @@ module _ (content : List ℕ → Result (List ℕ) CommandFault) (words : List (
       let runs : RunsDrive (Shelf content) (pair_in chosen) [] well.before follows.outcome well.asked follows.mid =
       subst (λ n. RunsCommand (Shelf content) n chosen [] well.before follows.outcome well.asked follows.mid) name follows.runs in
       let drive = subst (λ q. RunsDrive (Shelf content) q [] well.before follows.outcome well.asked follows.mid) (same_pair words pair chosen ask are.chosen) runs in
-      cell_wrote follows.mid follows.outcome (good_drive content pair p good well.before follows.mid follows.outcome well.asked shaped acceptable drive) follows.input follows.ends
+      cell_wrote follows.mid follows.outcome (driven_or_not (good_drive content pair p good well.before follows.mid follows.outcome well.asked shaped acceptable drive)) follows.input follows.ends
   follows_wrote pair (Err (Usage help text)) ask good shaped acceptable are follows =
       absurd (let told = subst (λ kinds. TellsOneOf kinds (Usage help text)) ask.taken are.refused in told.1)
   follows_wrote pair (Err NoWordsMemory) ask good shaped acceptable are follows = absurd (well.no_want (memory_status well.told_before well.told_after status follows.0.1))

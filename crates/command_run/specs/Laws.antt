@@ -29,7 +29,7 @@ use Rattle.command_run.specs.Streams.{Streams, Output, Errors}
 use Rattle.command_run.specs.Planners.{MayPlan, SeeksPlan}
 use Rattle.command_run.specs.Improvers.{AsksOne, ImprovesPlan}
 use Rattle.command_run.specs.Drives.{IsDrive, DrivesCell}
-use Rattle.command_run.specs.Resumes.{IsResume}
+use Rattle.command_run.specs.Resumes.{IsResume, ResumesText}
 use Rattle.command_run.specs.Hubs.{AreDrives}
 use Rattle.command_run.specs.Ending.{WasTold, IsLineOut}
 use Rattle.command_run.specs.Program.{RunsDrive, RunsResume, RunsHub, RunsProgram}
@@ -137,21 +137,44 @@ LogIsAnswered = (telling : Telling) (content : List ℕ → Result (List ℕ) Co
     → TellPlan content pair p → content log ≡ Ok text → IsWellShaped p → RunsLog (Shelf content) telling pair log [] outcome asked
     → IsAnswered (IsLogLine telling p text) (pair.path ∷ pair.plan ∷ log ∷ []) outcome asked
 
--- `plan`: what the search allows for the numbers of this plan, unless memory runs out before
+-- `plan`: what the search allows for the numbers of this plan, with exactly these files asked for, unless memory runs out before
 abbrev pub PlanAnswersPlan : Type 0
 PlanAnswersPlan = (rounds : ℕ) (content : List ℕ → Result (List ℕ) CommandFault) (pair : PairOfFiles) (p : PlannedShop) (outcome : Result Answer CommandFault) (asked : List (List ℕ))
-    → TellPlan content pair p → SeeksPlan (Shelf content) rounds pair [] outcome asked → IsSearchAnswer (MayPlan p.shop) rounds 2 p outcome ⊎ (outcome ≡ Err Memory)
+    → TellPlan content pair p → SeeksPlan (Shelf content) rounds pair [] outcome asked
+    → (IsSearchAnswer (MayPlan p.shop) rounds 2 p outcome × (asked ≡ pair.path ∷ pair.plan ∷ [])) ⊎ (outcome ≡ Err Memory)
 
--- `improve`: what the search from this plan comes to, unless memory runs out before
+-- `improve`: what the search from this plan comes to, with exactly these files asked for, unless memory runs out before
 abbrev pub ImproveAnswersPlan : Type 0
 ImproveAnswersPlan = (rounds : ℕ) (content : List ℕ → Result (List ℕ) CommandFault) (pair : PairOfFiles) (p : PlannedShop) (outcome : Result Answer CommandFault) (asked : List (List ℕ))
-    → TellPlan content pair p → ImprovesPlan (Shelf content) rounds pair [] outcome asked → IsImproveAnswer (AsksOne rounds) rounds p outcome ⊎ (outcome ≡ Err Memory)
+    → TellPlan content pair p → ImprovesPlan (Shelf content) rounds pair [] outcome asked
+    → (IsImproveAnswer (AsksOne rounds) rounds p outcome × (asked ≡ pair.path ∷ pair.plan ∷ [])) ⊎ (outcome ≡ Err Memory)
 
--- `drive`: where the plan is accepted, its cell is driven, unless memory runs out before
+-- `drive`: where the plan is accepted, its cell is driven, with exactly these files asked for, unless memory runs out before
 abbrev pub DriveDrivesPlan : Type 0
 DriveDrivesPlan = (before after : Streams) (content : List ℕ → Result (List ℕ) CommandFault) (pair : PairOfFiles) (p : PlannedShop) (outcome : Result Answer CommandFault) (asked : List (List ℕ))
     → TellPlan content pair p → IsWellShaped p → IsAcceptable p → RunsDrive (Shelf content) pair [] before outcome asked after
-    → ((v : VerifiedPlan) × (v.planned ≡ p) × DrivesCell v before after outcome) ⊎ (outcome ≡ Err Memory)
+    → ((asked ≡ pair.path ∷ pair.plan ∷ []) × ((v : VerifiedPlan) × (v.planned ≡ p) × DrivesCell v before after outcome)) ⊎ (outcome ≡ Err Memory)
+
+-- `resume`: where the plan is accepted, its log is asked for and taken up, and driven on if it can be, unless memory runs out before
+abbrev pub ResumeGoesOn : Type 0
+ResumeGoesOn = (before after : Streams) (content : List ℕ → Result (List ℕ) CommandFault) (pair : PairOfFiles) (log text : List ℕ) (p : PlannedShop) (outcome : Result Answer CommandFault) (asked : List (List ℕ))
+    → TellPlan content pair p → IsWellShaped p → IsAcceptable p → content log ≡ Ok text → RunsResume (Shelf content) pair log [] before outcome asked after
+    → ((asked ≡ pair.path ∷ pair.plan ∷ log ∷ []) × ((v : VerifiedPlan) × (v.planned ≡ p) × ResumesText v (Ok text) before after outcome)) ⊎ (outcome ≡ Err Memory)
+
+-- ---- plans that aren't accepted, in files that don't change
+
+-- where the plan isn't accepted, it is answered by the line of `check`, with no further file asked for and no byte read or written, when this runs
+abbrev pub AnswersByCheck : ((List (List ℕ) → List ℕ → Result (List ℕ) CommandFault → List (List ℕ) → Type 0) → PairOfFiles
+    → List (List ℕ) → Streams → Result Answer CommandFault → List (List ℕ) → Streams → Type 0) → Type 0
+AnswersByCheck runs = (before after : Streams) (content : List ℕ → Result (List ℕ) CommandFault) (pair : PairOfFiles) (p : PlannedShop) (outcome : Result Answer CommandFault) (asked : List (List ℕ))
+    → TellPlan content pair p → (IsWellShaped p → IsAcceptable p → ⊥) → runs (Shelf content) pair [] before outcome asked after
+    → IsAnswered (IsCheckLine p) (pair.path ∷ pair.plan ∷ []) outcome asked × (after ≡ before)
+
+abbrev pub DriveAnswersByCheck : Type 0
+DriveAnswersByCheck = AnswersByCheck (λ gives pair. RunsDrive gives pair)
+
+abbrev pub ResumeAnswersByCheck : Type 0
+ResumeAnswersByCheck = (log : List ℕ) → AnswersByCheck (λ gives pair. RunsResume gives pair log)
 
 -- ---- that a driven cell writes the same
 

@@ -4,7 +4,8 @@ ghost use Rattle.command_run.specs.Laws.{FactsTellInstanceFirst, ShapeTellsInsta
 ghost use Rattle.command_run.specs.Laws.{LogTellsInstanceFirst, PlanTellsInstanceFirst, ImproveTellsInstanceFirst};
 ghost use Rattle.command_run.specs.Laws.{DriveTellsInstanceFirst, ResumeTellsInstanceFirst, HubTellsInstanceFirst};
 ghost use Rattle.command_run.specs.Laws.{FactsAnswerShop, ShapeAnswersPlan, CheckAnswersPlan, ExplainAnswersPlan, LogIsAnswered};
-ghost use Rattle.command_run.specs.Laws.{PlanAnswersPlan, ImproveAnswersPlan, DriveDrivesPlan, DriveWritesTheSame};
+ghost use Rattle.command_run.specs.Laws.{PlanAnswersPlan, ImproveAnswersPlan, DriveDrivesPlan, ResumeGoesOn};
+ghost use Rattle.command_run.specs.Laws.{DriveAnswersByCheck, ResumeAnswersByCheck, DriveWritesTheSame};
 ghost use Rattle.command_run.specs.Laws.{WhatFailsIsTold, NothingIsHeldBack, WhatFailsIsNoAnswer};
 
 use command_answers::Texts;
@@ -25,7 +26,8 @@ pub fn instance_first()
 {}
 
 /// Files that tell a shop and a plan are answered, unless memory runs out: by the command's line for that shop and that
-/// plan, or by the driven cell of the plan if it is accepted.
+/// plan, or by the driven cell of the plan if it is accepted, which `resume` takes up from its log. Exactly these files are
+/// asked for.
 pub fn good_files_are_answered()
     ensures facts { FactsAnswerShop }
     ensures shape { ShapeAnswersPlan }
@@ -35,6 +37,14 @@ pub fn good_files_are_answered()
     ensures plan { PlanAnswersPlan }
     ensures improve { ImproveAnswersPlan }
     ensures drive { DriveDrivesPlan }
+    ensures resume { ResumeGoesOn }
+{}
+
+/// A plan that isn't accepted has no cell to be driven: it is answered by the line of `check`, unless memory runs out, the
+/// log isn't asked for, and no byte is read or written.
+pub fn no_cell_without_an_accepted_plan()
+    ensures drive { DriveAnswersByCheck }
+    ensures resume { ResumeAnswersByCheck }
 {}
 
 /// `drive` with an accepted plan, run again on the same words, files and input, writes the same bytes and ends with the

@@ -10,3 +10,4 @@ pub mod ToldAgain
 pub mod CutLogs
 pub mod ResumedTexts
 pub mod SentAgain
+pub mod AnsweredAgain

@@ -1,12 +1,12 @@
 -- Lists in parts, and moves among events.
-use Rattle.std.proofs.Common.{◌≡◌, ℕ, List, [], ◌∷◌, ◌++◌, map, ◌⊎◌, inl, inr, refl, sym, ap, ◌∙◌, append-nil}
+use Rattle.std.proofs.Common.{◌≡◌, List, [], ◌∷◌, ◌++◌, map, ◌⊎◌, inl, inr, refl, sym}
 use Rattle.shop_base.specs.declared.move_order.MoveOrder.{MoveOrder}
 use Rattle.shop_base.specs.Report.{Report}
 use Rattle.shop_base.specs.Run.{Event, Reported, Moved}
 use Rattle.shop_base.specs.Controlled.{moved}
 use Rattle.cell_tables.specs.declared.entry.Entry.{Entry}
 use Rattle.cell_tables.specs.declared.entry.Entry.TheVariants.{Report as ReportEntry, Order as OrderEntry}
-use Rattle.cell_tables.specs.Events.{event_of, events_of}
+use Rattle.cell_tables.specs.Events.{events_of}
 use Rattle.cell_drive.specs.Driving.{IsBeforeReport}
 
 -- two ways to part a list: one front begins the other

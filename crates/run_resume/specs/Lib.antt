@@ -7,3 +7,4 @@ pub mod ToldLines
 pub mod Resuming
 pub mod CutLaw
 pub mod AgainLaw
+pub mod AnswerLaw

@@ -2,6 +2,7 @@
 //! the law.
 
 ghost use Rattle.run_resume.specs.AgainLaw.{NoEndIsAcceptedTwice};
+ghost use Rattle.run_resume.specs.AnswerLaw.{ToldAsAnswered};
 ghost use Rattle.run_resume.specs.CutLaw.{ACutLogIsTakenUp, WhatWasDrivenIsTakenUp, WhatWasResumedIsTakenUp};
 ghost use Rattle.run_resume.specs.Resuming.{AResumedTextIsALog, AnAuditKeepsWhatWasResumed, OneResumedText};
 
@@ -11,6 +12,12 @@ pub fn a_cut_log_is_taken_up()
     ensures log { ACutLogIsTakenUp }
     ensures driven { WhatWasDrivenIsTakenUp }
     ensures resumed { WhatWasResumedIsTakenUp }
+{}
+
+/// What is told once more of a log that was taken up, and then of the orders that are due, is what `drive` answers to the
+/// reports of that log: line for line, but for the empty one between them.
+pub fn told_as_answered()
+    ensures { ToldAsAnswered }
 {}
 
 /// What a run that was taken up writes for an input is fixed by what was taken up and by all bytes of the input.

@@ -1,7 +1,7 @@
 use Rattle.command_answers.specs.Shapes.{IsShapeLine}
 use Rattle.command_answers.specs.Checks.{IsCheckLine}
 use Rattle.command_answers.specs.Explains.{IsExplanation}
-use Rattle.command_run.proofs.GoodFiles.{good_facts, good_plan, good_log, good_search, good_improvement, good_drive}
+use Rattle.command_run.proofs.GoodFiles.{good_facts, good_plan, good_log, good_search, good_improvement, good_drive, good_resume}
 use Rattle.command_run.proofs.laws.good_files_are_answered.Goals as goal
 
 pub returns-clause-facts : goal.returns-clause-facts
@@ -27,3 +27,6 @@ returns-clause-improve c = λ rounds content pair p outcome asked good run. good
 
 pub returns-clause-drive : goal.returns-clause-drive
 returns-clause-drive c = λ before after content pair p outcome asked good shaped acceptable run. good_drive content pair p good before after outcome asked shaped acceptable run
+
+pub returns-clause-resume : goal.returns-clause-resume
+returns-clause-resume c = λ before after content pair log text p outcome asked good shaped acceptable is run. good_resume content pair p good before after log text outcome asked shaped acceptable is run

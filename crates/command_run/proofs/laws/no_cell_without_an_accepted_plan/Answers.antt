@@ -1,0 +1,8 @@
+use Rattle.command_run.proofs.GoodFiles.{no_drive, no_resume}
+use Rattle.command_run.proofs.laws.no_cell_without_an_accepted_plan.Goals as goal
+
+pub returns-clause-drive : goal.returns-clause-drive
+returns-clause-drive c = λ before after content pair p outcome asked good never run. no_drive content pair p good before after outcome asked never run
+
+pub returns-clause-resume : goal.returns-clause-resume
+returns-clause-resume c = λ log before after content pair p outcome asked good never run. no_resume content pair p good log before after outcome asked never run
