@@ -4,7 +4,6 @@ ghost use Rattle.text_lines.specs.Cuts.{HasNone, IsCutAt};
 use memchr::memchr;
 
 /// The bytes before the first line feed and those after it, none where there is no line feed.
-#[inline(always)]
 pub fn cut_line(bytes: &[u8]) -> Option<(&[u8], &[u8])>
     ensures { MatchOption result (HasNone 10 bytes.now) (λ found. IsCutAt 10 bytes.now found.0.now found.1.now) }
 {

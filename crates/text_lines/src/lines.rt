@@ -5,7 +5,6 @@ use crate::cuts::cut_line;
 use memchr::memchr;
 
 /// The line without one carriage return at its end, if it has one there.
-#[inline(always)]
 pub fn without_return(line: &[u8]) -> &[u8]
     ensures { result.now ≡ without_return line.now }
 {
