@@ -5,6 +5,7 @@ use Rattle.plan_verifier.specs.Accepted.{IsAcceptable}
 use Rattle.plan_verifier.specs.declared.verdict.Verdict.{Verdict}
 use Rattle.plan_verifier.specs.declared.verdict.Verdict.TheVariants.{Accepted, Refused}
 use Rattle.plan_verifier.specs.Verdicts.{SaysAccepted}
+use Rattle.plan_improve.specs.declared.improving.TheConstants.{MAX_ROUNDS}
 use Rattle.plan_improve.specs.declared.improve_fault.ImproveFault.{ImproveFault}
 use Rattle.plan_improve.specs.declared.improve_fault.ImproveFault.TheVariants.{TooManyRounds, Memory as WantOfMemory}
 use Rattle.plan_improve.specs.Runs.{Asked}
@@ -22,7 +23,7 @@ status_is (Refused back why) exact = inr ((λ accepted. exact.1 accepted), refl)
 
 module _ (made : Asked) (rounds : ℕ) (start : PlannedShop) where
   -- the text of a plan that was judged is the answer
-  pub best_answer_is : (verdict : Verdict) (outcome : Result Answer CommandFault) → IsBest made start (judged verdict) → rounds ≤ 1000
+  pub best_answer_is : (verdict : Verdict) (outcome : Result Answer CommandFault) → IsBest made start (judged verdict) → rounds ≤ MAX_ROUNDS
       → SaysAccepted verdict ↔ IsAcceptable (judged verdict) → IsDocumentAnswer (judged verdict).plan (verdict_status verdict) outcome → IsBestAnswer made rounds start outcome
   best_answer_is verdict (Ok answer) is few exact text = inl (record {
     few_rounds = few;

@@ -10,17 +10,17 @@ use Rattle.command_answers.specs.Instances.{Holds, IsInstanceRefusal, instance_c
 use Rattle.command_answers.specs.Steps.{IsOrMemory}
 use Rattle.command_answers.specs.Plans.{IsPlanRefusal, plan_command_fault}
 
--- an answer of this property, or want of memory
+-- an answer of this property, or that memory ran out
 pub or_memory : {A : Type 0} (P : A → Type 0) (answer : Result A CommandFault) → IsOrMemory P answer → Holds answer P
 or_memory P (Ok a) is = is
 or_memory P (Err fault) is = is
 
--- an answer of this property, unless it is want of memory
+-- an answer of this property, unless memory ran out
 pub kept_property : {A : Type 0} (P : A → Type 0) (answer : Result A CommandFault) → IfOk answer P → IfErr answer (λ fault. fault ≡ Memory) → Holds answer P
 kept_property P (Ok a) holds memory = holds
 kept_property P (Err fault) holds memory = memory
 
--- an answer that passes want of memory on holds to every property
+-- an answer that passes on that memory ran out holds to every property
 pub passed_memory : {A : Type 0} (P : A → Type 0) (answer : Result A CommandFault) (fault : CommandFault) → fault ≡ Memory → IsErrAnd answer (λ passed. passed ≡ fault) → Holds answer P
 passed_memory P (Ok a) fault memory passed = absurd passed
 passed_memory P (Err answered) fault memory passed = passed ∙ memory

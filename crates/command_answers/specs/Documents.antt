@@ -14,7 +14,7 @@ pub record IsDocumentOf (found : ShopPlan) (status : ℕ) (answer : Answer) : Ty
   pub read_back : IsPlanText (plan_lines found) found
   pub ends : answer.status ≡ status
 
--- what is answered of a plan's text: the text, or that it isn't read as the plan, or want of memory
+-- what is answered of a plan's text: the text, or that it isn't read as the plan, or that memory ran out
 abbrev pub IsDocumentAnswer : ShopPlan → ℕ → Result Answer CommandFault → Type 0
 IsDocumentAnswer found status (Ok answer) = IsDocumentOf found status answer
 IsDocumentAnswer found status (Err Memory) = Unit {0}

@@ -5,6 +5,7 @@ use Rattle.plan_text.specs.declared.plan_fault.PlanFault.TheVariants.{NotReadBac
 use Rattle.plan_text.specs.Lines.{plan_lines}
 use Rattle.plan_text.specs.Documents.{IsPlanText}
 use Rattle.plan_verifier.specs.Accepted.{HasNoCycle, IsAcceptable}
+use Rattle.plan_improve.specs.declared.improving.TheConstants.{MAX_ROUNDS}
 use Rattle.plan_improve.specs.declared.improve_fault.ImproveFault.{ImproveFault}
 use Rattle.plan_improve.specs.declared.improve_fault.ImproveFault.TheVariants.{TooManyRounds, Memory as WantOfMemory}
 use Rattle.plan_improve.specs.Reordered.{IsReordered}
@@ -29,17 +30,17 @@ pub record IsBest (made : Asked) (start best : PlannedShop) : Type 0 where
 abbrev pub IsStatusOf : PlannedShop → ℕ → Type 0
 IsStatusOf best status = (IsAcceptable best × (status ≡ 0)) ⊎ ((IsAcceptable best → ⊥) × (status ≡ 1))
 
--- the text of the best plan, after at most 1000 rounds
+-- the text of the best plan, after at most as many rounds as may be asked for
 pub record IsBestText (made : Asked) (rounds : ℕ) (start : PlannedShop) (answer : Answer) : Type 0 where
-  pub few_rounds : rounds ≤ 1000
+  pub few_rounds : rounds ≤ MAX_ROUNDS
   pub best : PlannedShop
   pub is : IsBest made start best
   pub text : IsDocumentOf best.plan answer.status answer
   pub status : IsStatusOf best answer.status
 
--- the line of more than 1000 rounds
+-- the line of more rounds than may be asked for
 pub record IsTooManyLine (rounds : ℕ) (answer : Answer) : Type 0 where
-  pub many_rounds : 1000 < rounds
+  pub many_rounds : MAX_ROUNDS < rounds
   pub line : answer.text.items ≡ codes "too many rounds\n"
   pub refused : answer.status ≡ 1
 
@@ -49,7 +50,7 @@ pub record IsBestUnreadable (made : Asked) (start : PlannedShop) : Type 0 where
   pub is : IsBest made start best
   pub unreadable : IsPlanText (plan_lines best.plan) best.plan → ⊥
 
--- what is answered where the plan is well shaped: the text of the best plan, the line of too many rounds, that the text isn't read as that plan, or want of memory
+-- what is answered where the plan is well shaped: the text of the best plan, the line of too many rounds, that the text isn't read as that plan, or that memory ran out
 abbrev pub IsBestAnswer : Asked → ℕ → PlannedShop → Result Answer CommandFault → Type 0
 IsBestAnswer made rounds start (Ok answer) = IsBestText made rounds start answer ⊎ IsTooManyLine rounds answer
 IsBestAnswer made rounds start (Err Memory) = Unit {0}
@@ -60,12 +61,12 @@ IsBestAnswer made rounds start (Err other) = ⊥
 abbrev pub IsImproveAnswer : Asked → ℕ → PlannedShop → Result Answer CommandFault → Type 0
 IsImproveAnswer made rounds start outcome = (IsWellShaped start × IsBestAnswer made rounds start outcome) ⊎ IsOrMemory (IsNotShapedLine start) outcome
 
--- the fault of a command that the search's is, if it is want of memory
+-- the fault of a command that the search's is, if memory ran out
 abbrev pub improve_command_fault : ImproveFault → Option CommandFault
 improve_command_fault WantOfMemory = Some Memory
 improve_command_fault TooManyRounds = None
 
--- what is answered where there is no verdict: the line of too many rounds, or want of memory
+-- what is answered where there is no verdict: the line of too many rounds, or that memory ran out
 abbrev pub IsUnimprovedAnswer : ImproveFault → Result Answer CommandFault → Type 0
 IsUnimprovedAnswer TooManyRounds outcome = IsOrMemory (λ answer. (answer.text.items ≡ codes "too many rounds\n") × (answer.status ≡ 1)) outcome
 IsUnimprovedAnswer WantOfMemory outcome = outcome ≡ Err Memory

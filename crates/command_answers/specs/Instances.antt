@@ -23,7 +23,7 @@ abbrev pub instance_command_fault : OrFault → CommandFault
 instance_command_fault WantOfMemory = Memory
 instance_command_fault fault = Instance fault
 
--- the fault is the text's, or want of memory
+-- the fault is the text's, or that memory ran out
 abbrev pub IsRightInstanceFault : List ℕ → Option (List ℕ) → CommandFault → Type 0
 IsRightInstanceFault text name (Instance fault) = (fault ≢ WantOfMemory) × IsFirstInstanceFault text name fault
 IsRightInstanceFault text name Memory = Unit {0}

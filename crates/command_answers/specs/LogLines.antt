@@ -56,12 +56,12 @@ pub record IsLogRefused (p : PlannedShop) (log : List ℕ) (answer : Answer) : T
 abbrev pub IsLogLine : Telling → PlannedShop → List ℕ → Answer → Type 0
 IsLogLine telling p log answer = IsLogKept telling p log answer ⊎ IsLogRefused p log answer
 
--- the fault of a command that the audit's is, if it is want of memory
+-- the fault of a command that the audit's is, if memory ran out
 abbrev pub audit_command_fault : AuditFault → Option CommandFault
 audit_command_fault Memory = Some WantOfMemory
 audit_command_fault fault = None
 
--- want of memory is a fault of the command, and any other fault is answered by its line, unless memory runs out
+-- out of memory is a fault of the command, and any other fault is answered by its line, unless memory runs out
 abbrev pub IsFaultTold : AuditFault → Result Answer CommandFault → Type 0
 IsFaultTold Memory outcome = outcome ≡ Err WantOfMemory
 IsFaultTold fault outcome = IsOrMemory (IsFaultLine fault) outcome

@@ -14,7 +14,7 @@ abbrev pub plan_command_fault : PlanFault → CommandFault
 plan_command_fault WantOfMemory = Memory
 plan_command_fault fault = Plan fault
 
--- the fault is the plan text's, or want of memory
+-- the fault is the plan text's, or that memory ran out
 abbrev pub IsRightPlanFault : List ℕ → CommandFault → Type 0
 IsRightPlanFault text (Plan fault) = (fault ≢ WantOfMemory) × IsFirstPlanFault text fault
 IsRightPlanFault text Memory = Unit {0}
@@ -37,7 +37,7 @@ pub record TellBoth (instance : List ℕ) (name : Option (List ℕ)) (text : Lis
 abbrev pub TellsAShop : List ℕ → Option (List ℕ) → Type 0
 TellsAShop instance name = (description : List ℕ) × (shop : JobShop) × Tells instance name description shop
 
--- the fault is the instance's, or, where that tells a shop, the plan text's, or want of memory
+-- the fault is the instance's, or, where that tells a shop, the plan text's, or that memory ran out
 abbrev pub IsRightOfBoth : List ℕ → Option (List ℕ) → List ℕ → CommandFault → Type 0
 IsRightOfBoth instance name text (Instance fault) = IsRightInstanceFault instance name (Instance fault)
 IsRightOfBoth instance name text (Plan fault) = TellsAShop instance name × IsRightPlanFault text (Plan fault)

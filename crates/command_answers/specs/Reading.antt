@@ -7,7 +7,7 @@ use Rattle.command_answers.specs.declared.command_fault.CommandFault.{CommandFau
 use Rattle.command_answers.specs.declared.command_fault.CommandFault.TheVariants.{Read, Memory}
 use Rattle.command_answers.specs.Texts.{IsFileFault}
 
--- the fault that the system's error is: want of memory where the error is that, and else that nothing could be read
+-- the fault that the system's error is: out of memory where the error is that, and else that nothing could be read
 pub record IsFaultOfSystem (error : Error) (fault : CommandFault) : Type 0 where
   pub memory : error_kind error ≡ OutOfMemory → fault ≡ Memory
   pub read : error_kind error ≢ OutOfMemory → fault ≡ Read

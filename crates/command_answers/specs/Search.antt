@@ -31,7 +31,7 @@ pub record IsFoundText (may : Proposals) (rounds proposers : ℕ) (p : PlannedSh
   pub found : IsFound may rounds proposers p plan
   pub text : IsDocumentOf plan 0 answer
 
--- the fault of a command that the search's is, if it is want of memory
+-- the fault of a command that the search's is, if memory ran out
 abbrev pub search_command_fault : SeekFault → Option CommandFault
 search_command_fault WantOfMemory = Some Memory
 search_command_fault fault = None
@@ -43,7 +43,7 @@ IsNoPlanLine Exhausted answer = (answer.text.items ≡ codes "exhausted\n") × (
 IsNoPlanLine TooManyRounds answer = (answer.text.items ≡ codes "too many rounds\n") × (answer.status ≡ 1)
 IsNoPlanLine WantOfMemory answer = ⊥
 
--- what is answered where there is no plan: the line that says why, or want of memory
+-- what is answered where there is no plan: the line that says why, or that memory ran out
 abbrev pub IsNoPlanAnswer : SeekFault → Result Answer CommandFault → Type 0
 IsNoPlanAnswer fault (Ok answer) = IsNoPlanLine fault answer
 IsNoPlanAnswer fault (Err Memory) = Unit {0}
@@ -65,7 +65,7 @@ pub record IsFoundUnreadable (may : Proposals) (rounds proposers : ℕ) (p : Pla
   pub found : IsFound may rounds proposers p plan
   pub unreadable : IsPlanText (plan_lines plan) plan → ⊥
 
--- what is answered of the search: its line, or that the text of the plan that was found isn't read as that plan, or want of memory
+-- what is answered of the search: its line, or that the text of the plan that was found isn't read as that plan, or that memory ran out
 abbrev pub IsSearchAnswer : Proposals → ℕ → ℕ → PlannedShop → Result Answer CommandFault → Type 0
 IsSearchAnswer may rounds proposers p (Ok answer) = IsSearchLine may rounds proposers p answer
 IsSearchAnswer may rounds proposers p (Err Memory) = Unit {0}

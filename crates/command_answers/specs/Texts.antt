@@ -4,12 +4,16 @@ use Rattle.std.specs.declared.alloc.Global.{Global}
 use Rattle.command_answers.specs.declared.command_fault.CommandFault.{CommandFault}
 use Rattle.command_answers.specs.declared.command_fault.CommandFault.TheVariants.{Read, InputTooLong, Memory}
 
+-- the most bytes of a file or of the input: 64 MiB
+abbrev pub most_bytes : ℕ
+most_bytes = 67108864
+
 -- the bytes of a text that came, or why there are none
 abbrev pub text_of : {F : Type 0} → Result (Vec ℕ Global) F → Result (List ℕ) F
 text_of (Ok text) = Ok text.items
 text_of (Err fault) = Err fault
 
--- a file can't be read, or has too many bytes, or memory was wanting
+-- a file can't be read, or has too many bytes, or memory ran out
 abbrev pub IsFileFault : CommandFault → Type 0
 IsFileFault Read = Unit {0}
 IsFileFault InputTooLong = Unit {0}

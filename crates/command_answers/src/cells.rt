@@ -9,8 +9,8 @@ use crate::answer::Answer;
 use crate::both::Both;
 use crate::checks::loaded_answer;
 use crate::command_fault::CommandFault;
-use crate::loading::{Loaded, judged_told};
-use crate::print::{push_fact, push_words};
+use crate::lines::push_fact;
+use crate::loading::{Loaded, judged};
 use crate::readings::{load_instance, plan};
 use crate::texts::Texts;
 use plan_verifier::Verified;
@@ -73,7 +73,7 @@ fn load_one<T: Texts>(
 {
     let shop = load_instance(alloc, text, name)?.shop;
     let plan = plan(alloc, texts, path)?;
-    judged_told(alloc, Both { shop, plan })
+    judged(alloc, Both { shop, plan })
 }
 
 /// The line of the plan of this number, which isn't accepted: the number, a space, and the line of the plan alone.
@@ -83,7 +83,7 @@ fn cell_line(alloc: Global, number: u64, loaded: &Loaded) -> Result<Cells, Comma
     let line = loaded_answer(alloc, loaded)?;
     let (mut text, status) = (Vec::new(alloc), line.status);
     push_fact(&mut text, b"", number)?;
-    push_words(&mut text, b" ")?;
-    push_words(&mut text, &line.text)?;
+    text.extend_from_slice(b" ")?;
+    text.extend_from_slice(&line.text)?;
     Ok(Cells::Line(Answer { text, status }))
 }

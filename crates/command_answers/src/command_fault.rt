@@ -28,7 +28,7 @@ pub enum CommandFault {
     /// A file or the input has more bytes than the limit.
     #[error("InputTooLong")]
     InputTooLong,
-    /// Memory was wanting.
+    /// Memory ran out.
     #[error("Memory")]
     Memory,
 }
@@ -85,7 +85,7 @@ impl From<PlanFault> for CommandFault {
     }
 }
 
-/// The fault of a command that a fault of a search or of the audit is: want of memory. Each other one has an answer.
+/// The fault of a command that a fault of a search or of the audit is: out of memory. Each other one has an answer.
 #[derive(Drop)]
 pub(crate) struct Unanswered(pub Option<CommandFault>);
 

@@ -7,7 +7,7 @@ ghost use Rattle.command_answers.specs.Readings.{AreFactsAnswered};
 ghost use Rattle.command_answers.specs.Commands.{RunsFacts};
 
 use crate::answer::{Answer, Answered, GOOD};
-use crate::print::{end_line, push_fact};
+use crate::lines::push_fact;
 use crate::readings::load_instance;
 use crate::texts::Texts;
 use shop_base::Shop;
@@ -47,6 +47,6 @@ fn facts_text(alloc: Global, shop: &Shop) -> Result<Vec<u8>, AllocError>
     push_fact(&mut text, b" operations ", shop.operations())?;
     push_fact(&mut text, b" reports ", jobs + shop.operations())?;
     push_fact(&mut text, b" work ", shop.work())?;
-    end_line(&mut text)?;
+    text.push(b'\n')?;
     Ok(text)
 }

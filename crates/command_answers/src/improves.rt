@@ -12,7 +12,7 @@ use crate::answer::{Answered, GOOD, REFUSED};
 use crate::both::{Pair, read_both};
 use crate::command_fault::Unanswered;
 use crate::lines::{document_answer, line_answer};
-use crate::shapes::not_shaped_told;
+use crate::shapes::not_shaped_answer;
 use crate::texts::Texts;
 use plan_improve::{ImproveFault, Improver, Watch, improve};
 use plan_verifier::Verdict;
@@ -33,7 +33,7 @@ pub fn improve_answer<T: Texts, W: Watch>(
 {
     match read_both(alloc, texts, pair)?.shaped() {
         Ok(start) => best_answer(alloc, start, improvers, rounds, watch),
-        Err(fault) => not_shaped_told(alloc, fault),
+        Err(fault) => Ok(not_shaped_answer(alloc, fault)?),
     }
 }
 

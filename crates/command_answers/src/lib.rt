@@ -12,7 +12,6 @@ mod improves;
 mod lines;
 mod loading;
 mod logs;
-mod print;
 mod reading;
 mod readings;
 mod search;

@@ -1,15 +1,24 @@
 //! The texts of answers.
 
-ghost use Rattle.std.specs.Prelude.{◌≡◌, ◌++◌, IfOk, codes, decimal};
+ghost use Rattle.std.specs.Prelude.{◌≡◌, ◌++◌, IfOk, OnOk, codes, decimal};
 ghost use Rattle.command_answers.specs.Documents.{IsDocumentAnswer};
 ghost use Rattle.command_answers.specs.Shapes.{IsLineOfFault};
 ghost use Rattle.command_answers.specs.LogLines.{log_refused_line};
 
 use crate::answer::{Answer, Answered, REFUSED};
-use crate::print::{end_line, push_fact, push_words};
 use plan_text::plan_document;
 use shop_base::{Plan, ShapeFault};
 use std::alloc::{AllocError, Global};
+
+/// Adds the word, and after it the number in decimal.
+pub(crate) fn push_fact(text: &mut Vec<u8>, word: &[u8], number: u64) -> Result<(), AllocError>
+    ensures { OnOk result (text.new.items ≡ text.old.items ++ word.now ++ decimal number) }
+{
+    let mut digits = itoa::Buffer::new();
+    text.extend_from_slice(word)?;
+    text.extend_from_slice(digits.format(number).as_bytes())?;
+    Ok(())
+}
 
 /// The text of a plan, with this status.
 pub(crate) fn document_answer(alloc: Global, plan: &Plan, status: u8) -> Answered
@@ -24,7 +33,7 @@ pub(crate) fn line_answer(alloc: Global, line: &[u8], status: u8) -> Result<Answ
     ensures { IfOk result (λ answer. (answer.text.items ≡ line.now) × (answer.status ≡ status)) }
 {
     let mut text = Vec::new(alloc);
-    push_words(&mut text, line)?;
+    text.extend_from_slice(line)?;
     Ok(Answer { text, status })
 }
 
@@ -38,9 +47,9 @@ pub(crate) fn fault_answer(
 {
     let words = fault.to_string(alloc)?;
     let (mut text, status) = (Vec::new(alloc), REFUSED);
-    push_words(&mut text, what)?;
-    push_words(&mut text, words.as_bytes())?;
-    end_line(&mut text)?;
+    text.extend_from_slice(what)?;
+    text.extend_from_slice(words.as_bytes())?;
+    text.push(b'\n')?;
     Ok(Answer { text, status })
 }
 
@@ -50,8 +59,8 @@ pub fn log_refused(alloc: Global, line: u64, name: &str) -> Result<Answer, Alloc
 {
     let (mut text, status) = (Vec::new(alloc), REFUSED);
     push_fact(&mut text, b"log refused ", line)?;
-    push_words(&mut text, b" ")?;
-    push_words(&mut text, name.as_bytes())?;
-    end_line(&mut text)?;
+    text.push(b' ')?;
+    text.extend_from_slice(name.as_bytes())?;
+    text.push(b'\n')?;
     Ok(Answer { text, status })
 }

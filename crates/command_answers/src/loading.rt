@@ -15,7 +15,7 @@ use crate::readings::{load_instance, load_plan};
 use crate::texts::Texts;
 use plan_verifier::{Verdict, Verified, verify};
 use shop_base::{ShapeFault, Shaped};
-use std::alloc::{AllocError, Global};
+use std::alloc::Global;
 
 /// What is to be said of a plan for an instance.
 #[derive(Debug, Drop)]
@@ -57,7 +57,7 @@ pub fn load(
 {
     let shop = load_instance(alloc, instance, name)?.shop;
     let plan = load_plan(alloc, plan)?;
-    judged_told(alloc, Both { shop, plan })
+    judged(alloc, Both { shop, plan })
 }
 
 /// The verdict on the plan of a file for the instance of another.
@@ -69,18 +69,12 @@ pub fn load_files<T: Texts>(
     ensures { Loads T.gives pair.now texts.old result texts.new }
 {
     let both = read_both(alloc, texts, pair)?;
-    judged_told(alloc, both)
-}
-
-pub(crate) fn judged_told(alloc: Global, both: Both) -> Result<Loaded, CommandFault>
-    ensures { IsOrMemory (IsLoaded both) result }
-{
-    Ok(judged(alloc, both)?)
+    judged(alloc, both)
 }
 
 /// The verdict on a plan for a shop.
-pub(crate) fn judged(alloc: Global, both: Both) -> Result<Loaded, AllocError>
-    ensures loaded { IfOk result (IsLoaded both) }
+pub(crate) fn judged(alloc: Global, both: Both) -> Result<Loaded, CommandFault>
+    ensures loaded { IsOrMemory (IsLoaded both) result }
     ensures not_shaped { ¬ (IsWellShaped both) → IsOk result }
 {
     match both.shaped() {
@@ -89,12 +83,12 @@ pub(crate) fn judged(alloc: Global, both: Both) -> Result<Loaded, AllocError>
     }
 }
 
-fn verdict(alloc: Global, shaped: Shaped) -> Result<Loaded, AllocError>
+fn verdict(alloc: Global, shaped: Shaped) -> Result<Loaded, CommandFault>
     requires { IsWellShaped shaped }
-    ensures { IfOk result (IsLoaded shaped) }
+    ensures { IsOrMemory (IsLoaded shaped) result }
 {
     match verify(alloc, shaped) {
         Ok(verdict) => Ok(Loaded::Judged(verdict)),
-        Err((error, _)) => Err(error),
+        Err((error, _)) => Err(CommandFault::from(error)),
     }
 }

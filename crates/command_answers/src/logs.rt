@@ -8,9 +8,8 @@ ghost use Rattle.command_answers.specs.Commands.{RunsLog};
 use crate::answer::{Answer, Answered, GOOD};
 use crate::both::{Pair, read_both};
 use crate::command_fault::Unanswered;
-use crate::lines::log_refused;
-use crate::print::{push_fact, push_words};
-use crate::shapes::not_shaped_told;
+use crate::lines::{log_refused, push_fact};
+use crate::shapes::not_shaped_answer;
 use crate::texts::Texts;
 use run_gantt::gantt;
 use run_log::{Audit, AuditFault, audit};
@@ -41,7 +40,7 @@ pub fn log_answer<T: Texts>(
             let text = texts.text(alloc, log)?;
             audited(alloc, &shaped, &text, telling)
         }
-        Err(fault) => not_shaped_told(alloc, fault),
+        Err(fault) => Ok(not_shaped_answer(alloc, fault)?),
     }
 }
 
@@ -80,7 +79,7 @@ fn kept_answer(alloc: Global, run: &Audit) -> Result<Answer, AllocError>
     push_fact(&mut text, b"log kept reports ", run.reports)?;
     push_fact(&mut text, b" orders ", run.orders)?;
     push_fact(&mut text, b" last ", run.last)?;
-    push_words(&mut text, end_words(run.complete).as_bytes())?;
+    text.extend_from_slice(end_words(run.complete).as_bytes())?;
     Ok(Answer { text, status: GOOD })
 }
 

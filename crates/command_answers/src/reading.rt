@@ -3,7 +3,7 @@
 ghost use Rattle.std.specs.Prelude.{◌≡◌, ◌<◌, ◌≤◌, IfOk, IfErr, IfSome, IsErrAnd, length, vec_len};
 ghost use Rattle.command_answers.specs.declared.command_fault.CommandFault.TheVariants.{InputTooLong};
 ghost use Rattle.command_answers.specs.Reading.{IsFaultOfSystem};
-ghost use Rattle.command_answers.specs.Texts.{IsFileFault};
+ghost use Rattle.command_answers.specs.Texts.{most_bytes, IsFileFault};
 
 use crate::command_fault::CommandFault;
 use std::alloc::Global;
@@ -12,10 +12,10 @@ use text_lines::MAX_INPUT;
 
 /// The bytes that a reader gives until its end.
 pub fn read_whole<R: Read + Drop>(alloc: Global, reader: R) -> Result<Vec<u8>, CommandFault>
-    ensures within { IfOk result (λ bytes. vec_len bytes ≤ 67108864) }
+    ensures within { IfOk result (λ bytes. vec_len bytes ≤ most_bytes) }
     ensures whole { IfOk result (λ bytes. IfSome (R.remaining reader) (λ all. bytes.items ≡ all)) }
     ensures fault { IfErr result IsFileFault }
-    ensures too_long { IfErr result (λ fault. fault ≡ InputTooLong → IfSome (R.remaining reader) (λ all. 67108864 < length all)) }
+    ensures too_long { IfErr result (λ fault. fault ≡ InputTooLong → IfSome (R.remaining reader) (λ all. most_bytes < length all)) }
 {
     let mut bytes = Vec::new(alloc);
     let mut limited = reader.take(MAX_INPUT as u64 + 1);
@@ -25,8 +25,8 @@ pub fn read_whole<R: Read + Drop>(alloc: Global, reader: R) -> Result<Vec<u8>, C
 
 /// The bytes that were read to the end, or why they can't be had.
 fn whole_of(read: io::Result<usize>, bytes: Vec<u8>) -> Result<Vec<u8>, CommandFault>
-    ensures within { IfOk read (λ _. vec_len bytes ≤ 67108864 → result ≡ Ok bytes) }
-    ensures beyond { IfOk read (λ _. 67108864 < vec_len bytes → result ≡ Err InputTooLong) }
+    ensures within { IfOk read (λ _. vec_len bytes ≤ most_bytes → result ≡ Ok bytes) }
+    ensures beyond { IfOk read (λ _. most_bytes < vec_len bytes → result ≡ Err InputTooLong) }
     ensures fault { IfErr read (λ error. IsErrAnd result (IsFaultOfSystem error)) }
 {
     match read {

@@ -1,6 +1,6 @@
 ghost use Rattle.std.specs.Prelude.{◌≤◌, ℕ, List, Result, IfOk, vec_len};
 ghost use Rattle.command_answers.specs.declared.command_fault.CommandFault.{CommandFault};
-ghost use Rattle.command_answers.specs.Texts.{text_of, Asks};
+ghost use Rattle.command_answers.specs.Texts.{most_bytes, text_of, Asks};
 
 use crate::command_fault::CommandFault;
 use std::alloc::Global;
@@ -11,8 +11,8 @@ pub trait Texts {
     ghost gives: { Self → List ℕ → Result (List ℕ) CommandFault → Self → Type 0 };
 
     /// The bytes of the file of this path, 67,108,864 at most. The faults are that it can't be read, that it has more
-    /// bytes, and want of memory.
+    /// bytes, and that memory ran out.
     fn text(&mut self, alloc: Global, path: &str) -> Result<Vec<u8>, CommandFault>
         ensures asked { Asks gives path.now self.old (text_of result) self.new }
-        ensures within { IfOk result (λ text. vec_len text ≤ 67108864) };
+        ensures within { IfOk result (λ text. vec_len text ≤ most_bytes) };
 }

@@ -23,7 +23,7 @@ use Rattle.command_run.specs.Improvers.{ImprovesPlan}
 use Rattle.command_run.specs.Program.{RunsDrive, RunsResume, RunsHub}
 use Rattle.command_run.specs.Laws.{Shelf, IsInstanceTold}
 
--- the fault of an instance, or want of memory
+-- the fault of an instance, or that memory ran out
 abbrev IsToldOf : {A : Type 0} → OrFault → Result A CommandFault → Type 0
 IsToldOf fault outcome = (outcome ≡ Err (Instance fault)) ⊎ (outcome ≡ Err Memory)
 

@@ -24,6 +24,7 @@ use Rattle.command_words.specs.Choice.{word_of, IsChoiceOf, TellsOneOf, reasons_
 use Rattle.command_answers.specs.declared.answer.Answer.{Answer}
 use Rattle.command_answers.specs.declared.command_fault.CommandFault.{CommandFault}
 use Rattle.command_answers.specs.declared.command_fault.CommandFault.TheVariants.{Write, Memory}
+use Rattle.command_answers.specs.Texts.{most_bytes}
 use Rattle.command_answers.specs.Commands.{PairOfFiles}
 use Rattle.command_run.specs.Streams.{Streams, Output, Errors}
 use Rattle.command_run.specs.Drives.{IsDrive, IsEnded, IsEndAnswer, DrivesCell, status_at, end_of_drive}
@@ -121,7 +122,7 @@ record Wrote (p : PlannedShop) (input : List ℕ) (status : ℕ) (written : List
   pub so_far : IsSoFar p entries done last left
   pub own : status ≡ status_at done
 
-module _ (content : List ℕ → Result (List ℕ) CommandFault) (words : List (List ℕ)) (p : PlannedShop) (input : List ℕ) (few : length input ≤ 67108864)
+module _ (content : List ℕ → Result (List ℕ) CommandFault) (words : List (List ℕ)) (p : PlannedShop) (input : List ℕ) (few : length input ≤ most_bytes)
     (status : ℕ) (written : List ℕ) (well : RunsWell content words input status written) where
   drive_wrote : (v : VerifiedPlan) (mid : Streams) (outcome : Result Answer CommandFault) (end : Result DriveEnd DriveFault) → v.planned ≡ p → IsDrive v well.before mid end
       → IsEndAnswer (end_of_drive end) outcome → well.after.input ≡ mid.input → Ends outcome mid.output well.after.output well.told_before well.told_after status → Wrote p input status written
@@ -187,7 +188,7 @@ wrote_the_same p input status other_status written other shaped one two =
     (two.own ∙ ap status_at done ∙ sym one.own, same.0)
 
 pub drive_writes_the_same : (content : List ℕ → Result (List ℕ) CommandFault) (words : List (List ℕ)) (pair : PairOfFiles) (p : PlannedShop) (input : List ℕ) (status other_status : ℕ) (written other : List ℕ)
-    → AskForDrive words pair → TellPlan content pair p → IsWellShaped p → IsAcceptable p → length input ≤ 67108864
+    → AskForDrive words pair → TellPlan content pair p → IsWellShaped p → IsAcceptable p → length input ≤ most_bytes
     → RunsWell content words input status written → RunsWell content words input other_status other → (other_status ≡ status) × (other ≡ written)
 drive_writes_the_same content words pair p input status other_status written other ask good shaped acceptable few one two =
     wrote_the_same p input status other_status written other shaped

@@ -45,7 +45,7 @@ pub record IsLineOut (fault : CommandFault) (before after : Errors) (status : �
   pub told : WasTold line before after
   pub own : status ≡ status_of fault
 
--- the fault was told; or want of memory in its place, where its words take memory
+-- the fault was told; or out of memory in its place, where its words take memory
 abbrev pub IsTold : CommandFault → Errors → Errors → ℕ → Type 0
 IsTold fault before after status = IsLineOut fault before after status ⊎ (IsOfText fault × IsLineOut Memory before after status)
 

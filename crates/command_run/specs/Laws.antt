@@ -15,6 +15,7 @@ use Rattle.command_answers.specs.declared.answer.Answer.{Answer}
 use Rattle.command_answers.specs.declared.command_fault.CommandFault.{CommandFault}
 use Rattle.command_answers.specs.declared.command_fault.CommandFault.TheVariants.{Instance, Memory}
 use Rattle.command_answers.specs.declared.logs.Telling.{Telling}
+use Rattle.command_answers.specs.Texts.{most_bytes}
 use Rattle.command_answers.specs.Instances.{Tells, IsFirstInstanceFault}
 use Rattle.command_answers.specs.Plans.{TellBoth}
 use Rattle.command_answers.specs.Facts.{AreFacts}
@@ -106,7 +107,7 @@ pub record TellPlan (content : List ℕ → Result (List ℕ) CommandFault) (pai
   pub plan_is : content pair.plan ≡ Ok plan
   pub tell : TellBoth instance pair.name plan p
 
--- an answer is one of these, for which these files were asked for, in this order; none is given for want of memory alone
+-- an answer is one of these, for which these files were asked for, in this order; none is given only where memory ran out
 abbrev pub IsAnswered : {A : Type 0} → (A → Type 0) → List (List ℕ) → Result A CommandFault → List (List ℕ) → Type 0
 IsAnswered Is files (Ok answer) asked = Is answer × (asked ≡ files)
 IsAnswered Is files (Err fault) asked = fault ≡ Memory
@@ -186,7 +187,7 @@ pub record AskForDrive (words : List (List ℕ)) (pair : PairOfFiles) : Type 0 w
   pub name : pair.name ≡ instance_in (rows_found (found_in words))
   pub plan : pair.plan ≡ get_or (files_in (rows_found (found_in words))) 1 []
 
--- a run of the program on these words, over files that don't change: it read all of this input and wrote this, no device has failed, and memory wasn't wanting
+-- a run of the program on these words, over files that don't change: it read all of this input and wrote this, no device has failed, and memory didn't run out
 pub record RunsWell (content : List ℕ → Result (List ℕ) CommandFault) (words : List (List ℕ)) (input : List ℕ) (status : ℕ) (written : List ℕ) : Type 0 where
   pub before : Streams
   pub after : Streams
@@ -205,7 +206,7 @@ pub record RunsWell (content : List ℕ → Result (List ℕ) CommandFault) (wor
 -- `drive` with an accepted plan writes the same, and ends with the same status, whenever it is run on the same words, files and input, of no more bytes than the limit
 abbrev pub DriveWritesTheSame : Type 0
 DriveWritesTheSame = (content : List ℕ → Result (List ℕ) CommandFault) (words : List (List ℕ)) (pair : PairOfFiles) (p : PlannedShop) (input : List ℕ) (status other_status : ℕ) (written other : List ℕ)
-    → AskForDrive words pair → TellPlan content pair p → IsWellShaped p → IsAcceptable p → length input ≤ 67108864
+    → AskForDrive words pair → TellPlan content pair p → IsWellShaped p → IsAcceptable p → length input ≤ most_bytes
     → RunsWell content words input status written → RunsWell content words input other_status other → (other_status ≡ status) × (other ≡ written)
 
 -- ---- how the program ends

@@ -44,7 +44,7 @@ pub record IsResume (t : TakenUp) (before after : Streams) (end : Result DriveEn
       before.input.failed after.input.failed before.input.left after.input.left
       before.output.failed after.output.failed before.output.taken after.output.taken after.output.pending)
 
--- the fault of a command that a fault of taking up is, if it is want of memory
+-- the fault of a command that a fault of taking up is, if memory ran out
 abbrev pub resume_command_fault : ResumeFault → Option CommandFault
 resume_command_fault WantOfMemory = Some Memory
 resume_command_fault fault = None
@@ -53,7 +53,7 @@ resume_command_fault fault = None
 abbrev pub IsFaultLine : ResumeFault → Answer → Type 0
 IsFaultLine fault answer = (answer.text.items ≡ log_refused_line (fault_line fault) (fault_name fault)) × (answer.status ≡ 1)
 
--- want of memory is a fault of the command, and any other fault is answered by its line, unless memory runs out
+-- out of memory is a fault of the command, and any other fault is answered by its line, unless memory runs out
 abbrev pub IsFaultTold : ResumeFault → Result Answer CommandFault → Type 0
 IsFaultTold WantOfMemory outcome = outcome ≡ Err Memory
 IsFaultTold fault outcome = IsOrMemory (IsFaultLine fault) outcome

@@ -9,7 +9,7 @@ use Rattle.command_answers.specs.declared.command_fault.CommandFault.TheVariants
 use Rattle.command_run.specs.declared.unchosen.Unchosen.{Unchosen}
 use Rattle.command_run.specs.declared.unchosen.Unchosen.TheVariants.{Ends, Usage as Wrong}
 
--- help that was asked for is a good answer, and want of memory is a fault
+-- help that was asked for is a good answer, and out of memory is a fault
 abbrev pub ComesTo : WordsFault → Result Answer CommandFault → Type 0
 ComesTo (Usage true text) (Ok answer) = (answer.text.items ≡ string_bytes text) × (answer.status ≡ 0)
 ComesTo Memory (Err fault) = fault ≡ Wanting

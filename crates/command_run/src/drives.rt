@@ -1,8 +1,7 @@
 //! The command `drive`, and what the other ones that drive cells share with it.
 
 ghost use Rattle.std.specs.Prelude.{◌≡◌, []};
-ghost use Rattle.command_run.specs.Streams.{streams_of};
-ghost use Rattle.command_run.specs.Drives.{IsDrive, IsEndAnswer, DrivesCell, IsLineTold, Drives, status_at, end_of_drive};
+ghost use Rattle.command_run.specs.Drives.{IsEndAnswer, DrivesCell, IsLineTold, Drives, status_at, end_of_drive};
 ghost use Rattle.command_run.specs.Program.{RunsDrive};
 
 use crate::streams::Streams;
@@ -75,21 +74,8 @@ fn drive_cell<R: Source, W: Outlet>(
 ) -> Answered
     ensures { DrivesCell verified streams.old streams.new result }
 {
-    let end = driven(alloc, verified, &mut streams.input, &mut streams.output);
+    let end = drive(alloc, verified, &mut streams.input, &mut streams.output);
     end_answer(alloc, end)
-}
-
-fn driven<R: Source, W: Outlet>(
-    alloc: Global,
-    verified: Verified,
-    input: &mut R,
-    output: &mut W,
-) -> Result<DriveEnd, DriveFault>
-    ensures { IsDrive verified
-        (streams_of R.left R.failed W.taken W.failed W.pending input.old output.old)
-        (streams_of R.left R.failed W.taken W.failed W.pending input.new output.new) result }
-{
-    drive(alloc, verified, input, output)
 }
 
 /// What is answered at the end of a run, whose lines are written already.

@@ -44,7 +44,7 @@ fn print<W: Outlet>(answer: &Answer, output: &mut W) -> Result<u8, CommandFault>
 }
 
 /// Says on the standard error why there is no answer, and gives the status that the program ends with. Nothing is left
-/// to do where that can't be written. A refused text is told as want of memory where there is none for its line.
+/// to do where that can't be written. Where memory runs out for the line of a refused text, that is told.
 pub fn tell<E: Sink>(alloc: Global, fault: &CommandFault, errors: &mut E) -> u8
     ensures { IsTold fault.now (errors_of E.taken E.failed errors.old) (errors_of E.taken E.failed errors.new) result }
 {

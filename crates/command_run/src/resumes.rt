@@ -1,13 +1,12 @@
 //! The command `resume`.
 
 ghost use Rattle.std.specs.Prelude.{◌≡◌};
-ghost use Rattle.command_run.specs.Streams.{streams_of};
-ghost use Rattle.command_run.specs.Resumes.{IsTaking, IsResume, IsFaultTold, ResumesOn, ResumesTaken, ResumesLog, Resumes};
+ghost use Rattle.command_run.specs.Resumes.{IsTaking, IsFaultTold, ResumesOn, ResumesTaken, ResumesLog, Resumes};
 ghost use Rattle.command_run.specs.Program.{RunsResume};
 
 use crate::drives::{end_answer, line_told};
 use crate::streams::Streams;
-use cell_drive::{DriveEnd, DriveFault, Outlet, Source};
+use cell_drive::{Outlet, Source};
 use command_answers::{Answered, CommandFault, Loaded, Pair, Texts, load_files, log_refused};
 use plan_verifier::{Verdict, Verified};
 use run_resume::{ResumeFault, Taken, resume, take_up};
@@ -88,23 +87,11 @@ fn resume_on<R: Source, W: Outlet>(
 ) -> Answered
     ensures { ResumesOn taken streams.old streams.new result }
 {
-    let end = resumed(taken, &mut streams.input, &mut streams.output);
+    let end = resume(taken, &mut streams.input, &mut streams.output);
     end_answer(alloc, end)
 }
 
-fn resumed<R: Source, W: Outlet>(
-    taken: Taken,
-    input: &mut R,
-    output: &mut W,
-) -> Result<DriveEnd, DriveFault>
-    ensures { IsResume taken
-        (streams_of R.left R.failed W.taken W.failed W.pending input.old output.old)
-        (streams_of R.left R.failed W.taken W.failed W.pending input.new output.new) result }
-{
-    resume(taken, input, output)
-}
-
-/// The fault of a command that a fault of taking up is: want of memory. Each other one has an answer.
+/// The fault of a command that a fault of taking up is: out of memory. Each other one has an answer.
 #[derive(Drop)]
 struct Untaken(Option<CommandFault>);
 

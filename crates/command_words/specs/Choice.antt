@@ -6,7 +6,7 @@ use Rattle.std.specs.Str.Parse.{digits_value, without_leading_plus}
 use Rattle.clap.specs.Words.{IsAmong, IsSignedIn, Kinds, Row, Text, all_of, fault_of, first_of, one_of, subcommand_of, without_minus}
 use Rattle.clap.specs.declared.error.kind.ErrorKind.{ErrorKind}
 use Rattle.clap.specs.declared.error.kind.ErrorKind.TheVariants.{DisplayHelp, DisplayVersion, OutOfMemory}
-use Rattle.command_words.specs.CommandLine.{command_line}
+use Rattle.command_words.specs.CommandLine.{command_line, most_rounds, greatest_seed}
 use Rattle.command_words.specs.declared.words.Chosen.{Chosen}
 use Rattle.command_words.specs.declared.words.CommandName.{CommandName}
 use Rattle.command_words.specs.declared.words.CommandName.TheVariants.{Input, Facts, Shape, Check, Explain, Plan, Improve, Drive, Resume, Hub, Audit, Gantt}
@@ -94,11 +94,11 @@ pub record IsChoiceOf (found : Found) (chosen : Chosen) : Type 0 where
   pub rounds : chosen.rounds ≡ rounds_in (rows_found found)
   pub seed : chosen.seed ≡ seed_in (rows_found found)
 
--- the choice has as many files as its command takes, at most 1000 rounds, and a seed of at most 1,000,000
+-- the choice has as many files as its command takes, no more rounds than a search may have, and no greater seed than it takes
 pub record IsWithin (chosen : Chosen) : Type 0 where
   pub files : TakesFiles chosen.name (length chosen.files.items)
-  pub rounds : chosen.rounds ≤ 1000
-  pub seed : chosen.seed ≤ 1000000
+  pub rounds : chosen.rounds ≤ most_rounds
+  pub seed : chosen.seed ≤ greatest_seed
 
 -- why `clap` refuses the words, or nothing where it takes them
 abbrev pub reasons_in : List Text → Kinds
@@ -110,17 +110,17 @@ asks_for_help DisplayHelp = true
 asks_for_help DisplayVersion = true
 asks_for_help _ = false
 
--- the fault is the reason's: want of memory where the reason is that, and else a text, which is help where that was asked for
+-- the fault is the reason's: out of memory where the reason is that, and else a text, which is help where that was asked for
 abbrev pub IsFaultOf : ErrorKind → WordsFault → Type 0
 IsFaultOf kind Memory = kind ≡ OutOfMemory
 IsFaultOf kind (Usage help text) = (kind ≢ OutOfMemory) × (help ≡ asks_for_help kind)
 
--- the fault is want of memory, or tells of this reason
+-- the fault is out of memory, or tells of this reason
 abbrev pub TellsReason : ErrorKind → WordsFault → Type 0
 TellsReason kind Memory = Unit {0}
 TellsReason kind (Usage help text) = (kind ≢ OutOfMemory) × (help ≡ asks_for_help kind)
 
--- the fault is want of memory, or tells of one of these reasons
+-- the fault is out of memory, or tells of one of these reasons
 abbrev pub TellsOneOf : Kinds → WordsFault → Type 0
 TellsOneOf kinds Memory = Unit {0}
 TellsOneOf kinds (Usage help text) =
@@ -138,4 +138,4 @@ abbrev pub IsFit : Found → Type 0
 IsFit None = Unit {0}
 IsFit (Some p) = ((name : CommandName) × (word_of name ≡ Some p.0)
     × TakesFiles name (length (files_in p.1)))
-    × FitsUpTo 1000 (one_of (codes "rounds") p.1) × FitsUpTo 1000000 (one_of (codes "seed") p.1)
+    × FitsUpTo most_rounds (one_of (codes "rounds") p.1) × FitsUpTo greatest_seed (one_of (codes "seed") p.1)

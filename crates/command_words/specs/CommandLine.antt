@@ -1,5 +1,5 @@
 -- The command line of the program, as `clap` reads it: eleven commands, with their options and files.
-use Rattle.std.specs.Prelude.{◌≡◌, List, [], ◌∷◌, Some, true, false, pos, codes, fold, map}
+use Rattle.std.specs.Prelude.{◌≡◌, ℕ, List, [], ◌∷◌, Some, true, false, pos, codes, fold, map}
 use Rattle.clap.specs.Lexer.{usize_max}
 use Rattle.clap.specs.Words.{App, Rule, Shape, Text, app_of, new_rule}
 use Rattle.clap.specs.Simple.{new_shape, with_subcommand}
@@ -23,17 +23,25 @@ plans_rule = record (file_rule (codes "PLAN")) {
   range = Some (record { start_inclusive = 1; end_inclusive = usize_max });
 }
 
--- `--rounds R`, a whole number from 0 to 1000, and 20 where it is left out
+-- the most rounds of a search
+abbrev pub most_rounds : ℕ
+most_rounds = 1000
+
+-- the greatest seed of a search's random numbers
+abbrev pub greatest_seed : ℕ
+greatest_seed = 1000000
+
+-- `--rounds R`, a whole number from 0 to the most rounds, and 20 where it is left out
 abbrev pub rounds_rule : Rule
 rounds_rule = record (option_rule (codes "rounds")) {
-  parser = Some (Signed (pos 0) (pos 1000));
+  parser = Some (Signed (pos 0) (pos most_rounds));
   defaults = codes "20" ∷ [];
 }
 
--- `--seed S`, a whole number from 0 to 1,000,000, and 0 where it is left out
+-- `--seed S`, a whole number from 0 to the greatest seed, and 0 where it is left out
 abbrev pub seed_rule : Rule
 seed_rule = record (option_rule (codes "seed")) {
-  parser = Some (Signed (pos 0) (pos 1000000));
+  parser = Some (Signed (pos 0) (pos greatest_seed));
   defaults = codes "0" ∷ [];
 }
 

@@ -4,6 +4,7 @@ ghost use Rattle.std.specs.Prelude.{◌≡◌, ◌≤◌, ◌++◌, [], IfOk, If
 ghost use Rattle.std.specs.String.{string_bytes};
 ghost use Rattle.clap.specs.Words.{found_of, kind_of, rows_of, subcommand_rows_of, one_of};
 ghost use Rattle.command_words.specs.declared.words.CommandName.{CommandName};
+ghost use Rattle.command_words.specs.CommandLine.{most_rounds, greatest_seed};
 ghost use Rattle.command_words.specs.Choice.{FitsUpTo, IsChoiceOf, IsFit, IsWithin, TellsOneOf, TellsReason, files_in, found_in, instance_in, reasons_in, rounds_in, seed_in, values_of, word_of};
 
 mod command_line;
@@ -68,7 +69,7 @@ pub enum WordsFault {
         /// The help, or what is wrong with the words.
         text: String,
     },
-    /// Memory was wanting.
+    /// Memory ran out.
     #[error("Memory")]
     Memory,
 }
@@ -229,18 +230,18 @@ fn instance_of(alloc: Global, matches: &ArgMatches<'_>) -> Result<Option<String>
 
 /// The number of rounds.
 fn rounds_of(matches: &ArgMatches<'_>) -> u32
-    requires { FitsUpTo 1000 (one_of (codes "rounds") (rows_of (found_of matches.now))) }
+    requires { FitsUpTo most_rounds (one_of (codes "rounds") (rows_of (found_of matches.now))) }
     ensures exact { result ≡ rounds_in (rows_of (found_of matches.now)) }
-    ensures few { result ≤ 1000 }
+    ensures few { result ≤ most_rounds }
 {
     matches.get_one::<u32>("rounds").unwrap_or(20)
 }
 
 /// The seed of a search's random numbers.
 fn seed_of(matches: &ArgMatches<'_>) -> u32
-    requires { FitsUpTo 1000000 (one_of (codes "seed") (rows_of (found_of matches.now))) }
+    requires { FitsUpTo greatest_seed (one_of (codes "seed") (rows_of (found_of matches.now))) }
     ensures exact { result ≡ seed_in (rows_of (found_of matches.now)) }
-    ensures small { result ≤ 1000000 }
+    ensures small { result ≤ greatest_seed }
 {
     matches.get_one::<u32>("seed").unwrap_or(0)
 }

@@ -16,7 +16,7 @@ use Rattle.clap.specs.declared.builder.action.ArgAction.TheVariants.{Set, Help}
 use Rattle.clap.specs.declared.builder.value_parser.ValueParser.{ValueParser}
 use Rattle.clap.specs.declared.builder.value_parser.ValueParser.TheVariants.{Signed}
 use Rattle.clap.proofs.ValueTestLemmas.{accepts-Accepts}
-use Rattle.command_words.specs.CommandLine.{command, command_line, log_command, plan_command, plans_rule, rounds_rule, seed_rule}
+use Rattle.command_words.specs.CommandLine.{command, command_line, log_command, plan_command, most_rounds, greatest_seed, plans_rule, rounds_rule, seed_rule}
 use Rattle.command_words.specs.Choice.{FitsUpTo, Found, IsFit, TakesFiles, TellsOneOf, TellsReason, files_in, found_in, reasons_in, values_of, word_of}
 use Rattle.command_words.specs.declared.words.CommandName.{CommandName}
 use Rattle.command_words.specs.declared.words.CommandName.TheVariants.{Facts, Shape as ShapeName, Check, Explain, Plan, Improve, Drive, Resume, Hub, Audit, Gantt}
@@ -102,7 +102,7 @@ FitsLeaf s = (words : List Text) → level_fault s [] nothing_held words false [
 
 fits_leaf : (s : Shape) (name : CommandName) (file plan log : Share) → word_of name ≡ Some s.name → s.args_override_self ≡ false → s.subcommand_negates_reqs ≡ false
     → PlainRules s.rules s.rules → SharedBy file (arg_by_id s.rules (codes "FILE")) → SharedBy plan (arg_by_id s.rules (codes "PLAN"))
-    → SharedBy log (arg_by_id s.rules (codes "LOG")) → GoesTo 1000 (arg_by_id s.rules (codes "rounds")) → GoesTo 1000000 (arg_by_id s.rules (codes "seed"))
+    → SharedBy log (arg_by_id s.rules (codes "LOG")) → GoesTo most_rounds (arg_by_id s.rules (codes "rounds")) → GoesTo greatest_seed (arg_by_id s.rules (codes "seed"))
     → ((x y z : ℕ) → Shares file x → Shares plan y → Shares log z → TakesFiles name ((x + y) + z)) → FitsLeaf s
 fits_leaf s name file plan log is once needs plains by_file by_plan by_log by_rounds by_seed counts words e =
     let at = found_fits s once needs plains words e in
@@ -116,8 +116,8 @@ fits_leaf s name file plan log is once needs plains by_file by_plan by_log by_ro
         subst (TakesFiles name) (sym long) (counts _ _ _ (shared file _ _ by_file (at (codes "FILE"))) (shared plan _ _ by_plan (at (codes "PLAN")))
             (shared log _ _ by_log (at (codes "LOG")))),
       ),
-      fit_number 1000 _ _ by_rounds (at (codes "rounds")),
-      fit_number 1000000 _ _ by_seed (at (codes "seed")),
+      fit_number most_rounds _ _ by_rounds (at (codes "rounds")),
+      fit_number greatest_seed _ _ by_seed (at (codes "seed")),
     )
 
 -- ---- each command of the program

@@ -10,7 +10,7 @@ pub returns : goal.returns
 unfolding facts_line
 returns c =
     rw (
-      c.in_ok-end_line.ensures,
+      c.in_ok-push.ensures.items,
       c.in_ok-push_fact-5.ensures,
       c.in_ok-push_fact-4.ensures,
       c.in_ok-push_fact-3.ensures,

@@ -15,4 +15,4 @@ returns-clause-only c = λ p both.
     let of_plan : ShopPlan → PlannedShop = λ q. record { shop = p.shop; plan = q } in
     let shop : of_shop c.in_ok-shop.field-0.shop ≡ of_shop p.shop = ap of_shop (c.in_ok-shop.ensures.only both.description p.shop both.shop).1 in
     let same : of_shop c.in_ok-shop.field-0.shop ≡ p = shop ∙ ap of_plan (c.in_ok-plan.ensures.only p.plan both.plan) in
-    or_memory (IsLoaded p) c.judged_told.result (subst (λ q. IsOrMemory (IsLoaded q) c.judged_told.result) same c.judged_told.ensures))
+    or_memory (IsLoaded p) c.judged.result (subst (λ q. IsOrMemory (IsLoaded q) c.judged.result) same c.judged.ensures.loaded))

@@ -1,5 +1,0 @@
-use Rattle.std.proofs.Common.{rules}
-use Rattle.command_answers.proofs.print.end_line.Goals as goal
-
-pub returns : goal.returns
-returns c = search rules depth 2
