@@ -11,6 +11,9 @@
 static const char two[] = "two\n2 2\n0 3 1 2\n1 4 0 1\n";
 static const char in_time[] = "release = [0, 0]\nbudget = [5, 10]\norder = [[0, 1], [0, 1]]\n";
 static const char late[] = "release = [0, 0]\nbudget = [5, 9]\norder = [[0, 1], [0, 1]]\n";
+static const char cleaned[] = "version = 2\nrelease = [0, 0]\nbudget = [5, 12]\norder = [[0, 1], [0, 1]]\nclean = [0, 2]\n";
+static const char alone[] = "release = [0]\nbudget = [7]\norder = [[0]]\n";
+static const char collection[] = "instance one\none\n1 1\n0 7\n\ninstance two\ntwo\n2 2\n0 3 1 2\n1 4 0 1\n";
 static const uint8_t nothing[1];
 static int missed;
 
@@ -167,6 +170,43 @@ static void beyond_the_room(struct cellplan_cell *cell) {
   same("and still all", count, 2);
 }
 
+/* A job that is gone, and the machine that is being cleaned behind it. */
+static void gone(struct cellplan_cell *cell) {
+  struct cellplan_phase phase;
+  uint64_t at = 0;
+  uint32_t number = 9;
+  reported(cell, CELLPLAN_ARRIVE, 0, 0, 0, CELLPLAN_GOOD, 0, 1, false);
+  reported(cell, CELLPLAN_ARRIVE, 1, 0, 0, CELLPLAN_GOOD, 0, 0, false);
+  reported(cell, CELLPLAN_FINISH, 0, 0, 3, CELLPLAN_GOOD, 0, 1, false);
+  reported(cell, CELLPLAN_FINISH, 0, 1, 5, CELLPLAN_GOOD, 0, 1, false);
+  same("the phase of a gone job", cellplan_cell_phase(cell, 0, &phase), CELLPLAN_GOOD);
+  same("its place", phase.place, CELLPLAN_GONE);
+  same("its machine", phase.machine, 0);
+  same("it isn't ready", phase.ready, false);
+  same("when it left", phase.at, 5);
+  same("nothing due of it", cellplan_cell_due(cell, 0, &at), CELLPLAN_NONE);
+  same("a cleaning", cellplan_cell_clean_due(cell, 1, &at), CELLPLAN_GOOD);
+  same("its due moment", at, 7);
+  same("no machine to clean", cellplan_cell_clean_due(cell, 2, &at), CELLPLAN_NONE);
+  reported(cell, CELLPLAN_CLEAN, 0, 1, 7, CELLPLAN_GOOD, 0, 1, false);
+  same("cleaned", cellplan_cell_clean_due(cell, 1, &at), CELLPLAN_NONE);
+  same("the next job", cellplan_cell_holder(cell, 1, &number), CELLPLAN_GOOD);
+  same("its number", number, 1);
+}
+
+/* Cells of the instances of a collection. Where there is no new one, the cell is that of before. */
+static void of_a_collection(struct cellplan_cell *cell) {
+  uint32_t number = 0;
+  same("an instance", cellplan_cell_new(TEXT(collection), TEXT("two"), TEXT(cleaned), cell), CELLPLAN_GOOD);
+  gone(cell);
+  same("no such name", cellplan_cell_new(TEXT(collection), TEXT("three"), TEXT(cleaned), cell), CELLPLAN_FAULT);
+  same("no name", cellplan_cell_new(TEXT(collection), NO_NAME, TEXT(cleaned), cell), CELLPLAN_FAULT);
+  same("another's plan", cellplan_cell_new(TEXT(collection), TEXT("one"), TEXT(cleaned), cell), CELLPLAN_REFUSED);
+  same("jobs of before", cellplan_cell_jobs(cell, &number) + number, 2);
+  same("another instance", cellplan_cell_new(TEXT(collection), TEXT("one"), TEXT(alone), cell), CELLPLAN_GOOD);
+  same("its jobs", cellplan_cell_jobs(cell, &number) + number, 1);
+}
+
 static void without_a_cell(struct cellplan_cell *cell) {
   uint64_t at = 7;
   uint32_t number = 7;
@@ -228,6 +268,7 @@ int main(int argc, char **argv) {
   same("punctual then", cellplan_cell_punctual(&cell, &punctual), CELLPLAN_GOOD);
   same("is punctual then", punctual, true);
   beyond_the_room(&cell);
+  of_a_collection(&cell);
   cellplan_cell_free(&cell);
   cellplan_cell_free(&cell);
   without_a_cell(&cell);
