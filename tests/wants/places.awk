@@ -1,8 +1,10 @@
 # Tells each place of Rattle sources where a want of memory could come from anything but a refused request: a line
 # 'FILE:LINE: WHY: TEXT' for each. It reads words and signs alone, so each rule says a little more than it would have to.
 #
-#   awk -v bounds=TABLE -f places.awk FILE..
+#   awk -v bounds=TABLE -v statuses=PATHS -f places.awk FILE..
 #
+# In the files whose names match PATHS a number may be the status of a call or of the program: that of want of memory, 4, stands
+# in the arm of a fault's Memory alone, and no status is computed.
 # TABLE has a line 'FILE | CALL | WHAT BOUNDS IT' for each request for a capacity, and for each call of a function that passes
 # a number of its caller's on to one. One that no source makes is told too.
 
@@ -28,6 +30,7 @@ BEGIN {
   gives_option = "^(get|get_mut|get_one|copied|checked_[a-z]+|strip_prefix|strip_suffix|met)$"
   derives = "^([(),]|::|thiserror|Clone|Copy|Debug|Default|Drop|Eq|Error|Hash|Ord|PartialEq|PartialOrd)$"
   wide = "[{][^{}]*:[^{}]*[0-9$*]"
+  computing = "^((wrapping|saturating|checked|overflowing|unchecked)_[a-z]+|pow|abs_diff|count_ones|count_zeros|leading_zeros|trailing_zeros|min|max|clamp|ilog2|ilog10|isqrt|rotate_left|rotate_right|swap_bytes|reverse_bits|div_ceil|sum|product|count|fold|parse)$"
   numbers = "^(u8|u16|u32|u64|u128|usize|JobNo|MachineNo|Moment)$"
   while (bounds != "" && (getline text < bounds) > 0) {
     rows++
@@ -163,6 +166,30 @@ function look_at_attribute(i, end) {
   }
 }
 
+# whether a function answers a number of the kind of a status
+function gives_status(i, end) {
+  for (; i < end; i++) if (token[i] == "->" && token[i + 1] ~ /^u(8|32)$/ && i + 2 == end) return 1
+  return 0
+}
+
+# whether a number is that of want of memory, however it is written
+function is_want_number(word) {
+  if (word !~ /^[0-9]/) return word ~ /^b?'\\(x04|u[{]0*4[}])'$/
+  gsub(/_/, "", word)
+  sub(/[ui](8|16|32|64|128|size)$/, "", word)
+  return word ~ /^(0*4|0x0*4|0o0*4|0b0*100)$/
+}
+
+# whether a sign or a word makes a number of another one
+function computes(i, word) {
+  if (word ~ /^[-+\/%^]$/) return 1
+  if (word ~ /^[*&|]$/) return !in_pattern() && !(word == "|" && (token[i - 1] == word || token[i + 1] == word)) && token[i - 1] ~ /^([A-Za-z_0-9]+|[)\]])$/ && token[i - 1] !~ /^(return|in|if|match|else|mut|move|let)$/
+  if (word == "!") return token[i + 1] ~ /^[0-9(A-Z]/ && token[i - 1] !~ /^[a-z]/
+  if (word ~ /^[<>]$/) return token[i + 1] == word
+  if (word ~ /^(try_)?(from|into)$/) return token[i + 1] == "(" && token[closing(i + 1) - 1] != "status" && caller(closing(i + 1) - 1) != "status" && (token[i - 2] ~ numbers || word ~ /into$/)
+  return word == "as" || token[i - 1] ~ /^(\.|::)$/ && token[i + 1] == "(" && word ~ computing
+}
+
 function tell(i, why) {
   print file ":" line[i] ": " why ": " trim(raw[line[i]])
 }
@@ -208,6 +235,7 @@ function enter(i, inside, m, block) {
   arm[open] = kind[open] == "match" ? 0 : m
   is_block[open] = block
   in_function[open] = in_function[open - 1] || kind[open] == "fn"
+  of_status[open] = kind[open] == "fn" ? gives_status(header[open - 1], i) : of_status[open - 1]
   from[open] = from[open - 1]
   into[open] = into[open - 1]
   if (kind[open] == "match") new_arm(open)
@@ -430,6 +458,23 @@ function look_at(i, word) {
   else if (word == "as" && using && from_fmt && token[i - 1] ~ /^(fmt|self)$/) tell(i, "fmt under another name")
 }
 
+# whether the value of a field is computed
+function is_computed(i, depth) {
+  for (; i < tokens && !(depth == 0 && token[i] ~ /^[,})]$/); i++) {
+    if (token[i] ~ /^[([{]$/) depth++
+    if (token[i] ~ /^[])}]$/) depth--
+    if (computes(i, token[i])) return 1
+  }
+  return 0
+}
+
+# in a file of statuses: the one of want of memory by its number, by a name of ours, or computed
+function look_at_status(i, word) {
+  if (word ~ /^[A-Z0-9_]*MEMORY[A-Z0-9_]*$/) tell(i, "a name for the status of want of memory")
+  else if (is_want_number(word) && !in_pattern() && !may_tell()) tell(i, "the status of want of memory as a number")
+  else if ((of_status[open] || item == "value") && computes(i, word) || word == "status" && token[i + 1] == ":" && is_computed(i + 2)) tell(i, "a status that is computed")
+}
+
 # what an item, a let, a match or an arm begins or ends with
 function follow(i, word) {
   if (word == "use") using = 1
@@ -464,11 +509,12 @@ function tell_places(i, word) {
   drop_ghosts()
   open = 0
   kind[0] = bracket[0] = awaited[0] = item = from[0] = into[0] = type[0] = ""
-  using = of_a_type = from_fmt = letting[0] = within[0] = arm[0] = in_function[0] = begins[0] = begin[0] = bars = looping = 0
+  using = of_a_type = from_fmt = letting[0] = within[0] = arm[0] = in_function[0] = of_status[0] = begins[0] = begin[0] = bars = looping = 0
   split("", bound)
   for (i = 1; i <= tokens; i++) {
     word = token[i]
     look_at(i, word)
+    if (statuses != "" && file ~ statuses) look_at_status(i, word)
     note_binding(i, word)
     if (word ~ /^[([{]$/) {
       note(word)

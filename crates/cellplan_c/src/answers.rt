@@ -1,11 +1,11 @@
 //! The answers of the commands that judge a plan, called from C.
 
-ghost use Rattle.std.specs.Prelude.{IfOk, IfErr, IfSome};
+ghost use Rattle.std.specs.Prelude.{◌≡◌, IfOk, IfErr};
 ghost use Rattle.shop_base.specs.Plan.{PlannedShop};
 ghost use Rattle.orlib_read.specs.declared.or_fault.OrFault.{OrFault};
 ghost use Rattle.plan_text.specs.declared.plan_fault.PlanFault.{PlanFault};
 ghost use Rattle.plan_text.specs.Documents.{IsFirstPlanFault};
-ghost use Rattle.command_answers.specs.declared.command_fault.CommandFault.TheVariants.{Instance, Plan};
+ghost use Rattle.command_answers.specs.declared.command_fault.CommandFault.TheVariants.{Instance, Plan, Memory};
 ghost use Rattle.command_answers.specs.Instances.{IsFirstInstanceFault, Holds, IsInstanceRefusal};
 ghost use Rattle.command_answers.specs.Plans.{TellBoth, TellsAShop, IsOfBoth, IsRightOfBoth, IsPlanRefusal};
 ghost use Rattle.command_answers.specs.Checks.{IsCheckLine};
@@ -87,17 +87,24 @@ fn answer(
     put_answer(told, text, length)
 }
 
-/// The command's answer, or the line of its fault; none where memory is wanting.
-fn told(alloc: Global, judge: Judge, instance: &[u8], name: &[u8], plan: &[u8]) -> Option<Answer>
-    ensures found { IfSome result (IsTold instance.now (named name.now) plan.now (IsAnswerOf judge)) }
-    ensures only { (p : PlannedShop) → TellBoth instance.now (named name.now) plan.now p → IfSome result (IsAnswerOf judge p) }
+/// The command's answer, or the line of its fault; or that memory ran out.
+fn told(
+    alloc: Global,
+    judge: Judge,
+    instance: &[u8],
+    name: &[u8],
+    plan: &[u8],
+) -> Result<Answer, CommandFault>
+    ensures found { IfOk result (IsTold instance.now (named name.now) plan.now (IsAnswerOf judge)) }
+    ensures only { (p : PlannedShop) → TellBoth instance.now (named name.now) plan.now p → IfOk result (IsAnswerOf judge p) }
     ensures first { (fault : OrFault) → IsFirstInstanceFault instance.now (named name.now) fault
-        → IfSome result (IsFaultTold (Instance fault)) }
+        → IfOk result (IsFaultTold (Instance fault)) }
     ensures second { (fault : PlanFault) → TellsAShop instance.now (named name.now) → IsFirstPlanFault plan.now fault
-        → IfSome result (IsFaultTold (Plan fault)) }
+        → IfOk result (IsFaultTold (Plan fault)) }
+    ensures memory { IfErr result (λ fault. fault ≡ Memory) }
 {
     match judged(alloc, judge, instance, name, plan) {
-        Ok(answer) => Some(answer),
+        Ok(answer) => Ok(answer),
         Err(fault) => fault_answer(alloc, fault),
     }
 }

@@ -1,6 +1,6 @@
 //! A cell begun and freed, called from C.
 
-ghost use Rattle.std.specs.Prelude.{◌≡◌, ◌≢◌, ◌≤◌, None, IfSome, IsSome};
+ghost use Rattle.std.specs.Prelude.{◌≡◌, ◌≢◌, ◌≤◌, None, IfOk, IfSome, IsSome};
 ghost use Rattle.shop_base.specs.Plan.{PlannedShop};
 ghost use Rattle.orlib_read.specs.declared.or_fault.OrFault.{OrFault};
 ghost use Rattle.plan_text.specs.declared.plan_fault.PlanFault.{PlanFault};
@@ -17,11 +17,11 @@ ghost use Rattle.cellplan_c.specs.Calls.{IsTextFault, IsStarted, IsNotAccepted};
 use crate::cell::Cell;
 use crate::inner::Inner;
 use crate::instances::name_in;
-use crate::statuses::{GOOD, NO_MEMORY, REFUSED};
+use crate::statuses::{GOOD, REFUSED, status_of_refused};
 use cell_control::Controller;
 use command_answers::{Loaded, load};
 use plan_verifier::{Verdict, Verified};
-use std::alloc::Global;
+use std::alloc::{AllocError, Global};
 
 /// Makes the controller of an accepted plan, and puts it in the place of what the cell held. The line of a plan that
 /// isn't accepted, and that of a fault, is told by [`crate::answers::cellplan_check`].
@@ -47,12 +47,12 @@ pub extern "C" fn cellplan_cell_new(
 {
     match load(alloc, instance, name_in(name), plan) {
         Ok(Loaded::Judged(Verdict::Accepted(verified))) => match boxed(alloc, verified) {
-            Some(inner) => {
+            Ok(inner) => {
                 cellplan_cell_free(alloc, cell);
                 cell.put(inner);
                 GOOD
             }
-            None => NO_MEMORY,
+            Err(error) => status_of_refused(error),
         },
         Ok(_) => REFUSED,
         Err(fault) => u32::from(fault.status()),
@@ -67,15 +67,12 @@ pub extern "C" fn cellplan_cell_free(alloc: Global, cell: &mut Cell)
     drop(cell.take(alloc));
 }
 
-/// The box of the controller of an accepted plan, unless memory is wanting.
-fn boxed(alloc: Global, verified: Verified) -> Option<Box<Inner>>
-    ensures { IfSome result (λ inner. inner.value.controller ≡ at_start verified) }
+/// The box of the controller of an accepted plan, or the error of the request for memory that was refused.
+fn boxed(alloc: Global, verified: Verified) -> Result<Box<Inner>, AllocError>
+    ensures { IfOk result (λ inner. inner.value.controller ≡ at_start verified) }
 {
     match Controller::new(alloc, verified) {
-        Ok(controller) => match Box::new(alloc, Inner { controller }) {
-            Ok(inner) => Some(inner),
-            Err(_) => None,
-        },
-        Err(_) => None,
+        Ok(controller) => Ok(Box::new(alloc, Inner { controller })?),
+        Err((error, _verified)) => Err(error),
     }
 }

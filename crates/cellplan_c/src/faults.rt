@@ -1,41 +1,46 @@
 //! The line of a text's fault.
 
-ghost use Rattle.std.specs.Prelude.{◌≡◌, ◌++◌, ℕ, List, IfSome, IfOk, codes};
+ghost use Rattle.std.specs.Prelude.{◌≡◌, ◌++◌, ℕ, List, IfOk, IfErr, codes};
+ghost use Rattle.command_answers.specs.declared.command_fault.CommandFault.TheVariants.{Memory};
 ghost use Rattle.cellplan_c.specs.Calls.{IsFaultTold};
+ghost use Rattle.cellplan_c.specs.Judges.{IsUntold};
 
 use crate::statuses::FAULT;
 use command_answers::{Answer, CommandFault};
 use std::alloc::{AllocError, Global};
 
-/// The line that the program tells of a text's fault on its standard error, as an answer with its status; none where
-/// memory is wanting.
-pub fn fault_answer(alloc: Global, fault: CommandFault) -> Option<Answer>
-    ensures { IfSome result (IsFaultTold fault) }
+/// The line that the program tells of a text's fault on its standard error, as an answer with its status. A fault of no
+/// text is passed on.
+pub fn fault_answer(alloc: Global, fault: CommandFault) -> Result<Answer, CommandFault>
+    ensures told { IfOk result (IsFaultTold fault) }
+    ensures untold { IfErr result (IsUntold fault) }
 {
     match fault {
-        CommandFault::Instance(why) => refusal(
-            alloc,
-            b"cellplan: instance: ",
-            why.to_string(alloc),
-        ),
+        CommandFault::Instance(why) => {
+            refusal(alloc, b"cellplan: instance: ", why.to_string(alloc))
+        }
         CommandFault::Plan(why) => refusal(alloc, b"cellplan: plan: ", why.to_string(alloc)),
         CommandFault::Read
         | CommandFault::Write
         | CommandFault::InputTooLong
-        | CommandFault::Memory => None,
+        | CommandFault::Memory => Err(fault),
     }
 }
 
-fn refusal(alloc: Global, what: &[u8], words: Result<String, AllocError>) -> Option<Answer>
-    ensures { IfSome result (λ told. ((words : List ℕ) × (told.text.items ≡ what.now ++ words ++ codes "\n")) × (told.status ≡ 3)) }
+/// A line as an answer: what is refused, and the words that say why; or that memory ran out.
+fn refusal(
+    alloc: Global,
+    what: &[u8],
+    words: Result<String, AllocError>,
+) -> Result<Answer, CommandFault>
+    ensures told { IfOk result (λ told. ((words : List ℕ) × (told.text.items ≡ what.now ++ words ++ codes "\n")) × (told.status ≡ 3)) }
+    ensures memory { IfErr result (λ fault. fault ≡ Memory) }
 {
-    match refusal_line(alloc, what, words) {
-        Ok(text) => Some(Answer {
-            text,
-            status: FAULT,
-        }),
-        Err(_) => None,
-    }
+    let text = refusal_line(alloc, what, words)?;
+    Ok(Answer {
+        text,
+        status: FAULT,
+    })
 }
 
 /// A line: what is refused, and the words that say why.

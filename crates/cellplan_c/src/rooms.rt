@@ -1,13 +1,14 @@
 //! What is written into the caller's room.
 
-ghost use Rattle.std.specs.Prelude.{◌≡◌, ◌≢◌, ℕ, ◌+◌, ◌<◌, ◌≤◌, ◌⊎◌, None, IfSome, length, slice_get, option_map};
+ghost use Rattle.std.specs.Prelude.{◌≡◌, ◌≢◌, ℕ, ◌+◌, ◌<◌, ◌≤◌, ◌⊎◌, IfOk, IfErr, length, slice_get, option_map};
+ghost use Rattle.command_answers.specs.Statuses.{status_of};
 ghost use Rattle.cellplan_c.specs.Told.{order_told, answer_of};
 ghost use Rattle.cellplan_c.specs.Calls.{IsLaid, IsTooLong, IsPut};
 
-use crate::statuses::{GOOD, NO_MEMORY, NO_ROOM, NONE};
+use crate::statuses::{GOOD, NO_ROOM, NONE};
 use crate::told::{Order, order_of};
 use cell_control::MoveOrder;
-use command_answers::Answer;
+use command_answers::{Answer, CommandFault};
 
 /// Writes as many of the orders from a first one on as there is room for.
 pub fn put_orders(orders: &[MoveOrder], first: usize, room: &mut [Order])
@@ -38,17 +39,17 @@ pub fn put_text(text: &[u8], status: u32, room: &mut [u8], needed: &mut usize) -
     status
 }
 
-/// Writes the answer's text, if there is one and room for it. The answer is its status, or that memory was wanting, or
-/// that there is no room.
-pub fn put_answer(told: Option<Answer>, room: &mut [u8], needed: &mut usize) -> u32
-    ensures none { (told ≡ None) → (result ≡ 4) × (needed.new ≡ 0) × (room.new ≡ room.old) }
-    ensures put { IfSome told (λ answer. IsPut answer.text.items answer.status result room.old room.new needed.new) }
+/// Writes the answer's text, if there is one and room for it. The answer is its status, or that of the fault, or that
+/// there is no room.
+pub fn put_answer(told: Result<Answer, CommandFault>, room: &mut [u8], needed: &mut usize) -> u32
+    ensures fault { IfErr told (λ fault. (result ≡ status_of fault) × (needed.new ≡ 0) × (room.new ≡ room.old)) }
+    ensures put { IfOk told (λ answer. IsPut answer.text.items answer.status result room.old room.new needed.new) }
 {
     match told {
-        Some(answer) => put_text(&answer.text, u32::from(answer.status), room, needed),
-        None => {
+        Ok(answer) => put_text(&answer.text, u32::from(answer.status), room, needed),
+        Err(fault) => {
             *needed = 0;
-            NO_MEMORY
+            u32::from(fault.status())
         }
     }
 }

@@ -1,5 +1,10 @@
 //! The statuses of the calls: those of the program, and further ones below the numbers of the reasons.
 
+ghost use Rattle.std.specs.Prelude.{◌≡◌};
+
+use command_answers::CommandFault;
+use std::alloc::AllocError;
+
 /// The call has done what it says.
 pub const GOOD: u32 = 0;
 
@@ -8,9 +13,6 @@ pub const REFUSED: u32 = 1;
 
 /// The text of the instance or of the plan is refused.
 pub const FAULT: u8 = 3;
-
-/// Memory was wanting.
-pub const NO_MEMORY: u32 = 4;
 
 /// There is no room for the text; how much it needs is told.
 pub const NO_ROOM: u32 = 6;
@@ -23,3 +25,10 @@ pub const NO_CELL: u32 = 8;
 
 /// The report is of no kind.
 pub const NO_KIND: u32 = 9;
+
+/// The status of a call whose request for memory was refused. No other one is made for it.
+pub fn status_of_refused(error: AllocError) -> u32
+    ensures { result ≡ 4 }
+{
+    u32::from(CommandFault::from(error).status())
+}

@@ -5,6 +5,7 @@ use command_words::WordsFault;
 use orlib_read::OrFault;
 use plan_seek::SeekFault;
 use plan_text::PlanFault;
+use run_resume::ResumeFault;
 use shop_base::ShopFault;
 use std::test::Fail;
 
@@ -32,6 +33,7 @@ fn want_of_memory_is_told_as_memory(rt: HostRuntime) -> Result<(), Fail> {
         CommandFault::Memory.to_string(alloc)?,
         WordsFault::Memory.to_string(alloc)?,
         SeekFault::Memory.to_string(alloc)?,
+        ResumeFault::Memory.to_string(alloc)?,
     ] {
         assert_eq!(rt; text.as_str(), "Memory");
     }

@@ -3,8 +3,8 @@ use Rattle.command_answers.specs.Statuses.{status_of}
 use Rattle.cellplan_c.proofs.Judging.{fault_bounds}
 use Rattle.cellplan_c.proofs.cells.cellplan_cell_new.Goals as goal
 
-pub returns-in-Some-clause-second : goal.returns-in-Some-clause-second
-returns-in-Some-clause-second c = λ fault tells is. absurd (c.in-Ok-Judged-Accepted.ensures.second fault (rw c.name_in.ensures tells) is)
+pub returns-in-Ok-boxed-clause-second : goal.returns-in-Ok-boxed-clause-second
+returns-in-Ok-boxed-clause-second c = λ fault tells is. absurd (c.in-Ok-Judged-Accepted.ensures.second fault (rw c.name_in.ensures tells) is)
 
 pub returns-in-Ok : goal.returns-in-Ok
 returns-in-Ok c = record {
