@@ -1,8 +1,8 @@
-//! Runs that are drawn.
+//! Entries that are drawn: those of a run, and others, which no log has.
 
-use super::cells::{crossing, following, instant};
+use super::cells::{crossing, instant};
 use super::events::{enter, finish, go_on, leave};
-use super::worked_runs::{CLEANED_LINES, FOLLOWING_LINES, IN_TIME_LINES};
+use super::worked_runs::IN_TIME_LINES;
 use cell_tables::Entry;
 use plan_verifier::Verified;
 use run_gantt::gantt;
@@ -22,44 +22,15 @@ fn expect_text(
     Ok(())
 }
 
-/// The Gantt text of the run that the log tells.
-fn expect_text_of_log(
-    rt: &(impl Abort + AllocGlobal),
-    verified: &Verified,
-    log: &[u8],
-    text: &str,
-) -> Result<(), Fail> {
-    let found = audit(rt.alloc(), verified.shaped(), log)?;
-    expect_text(rt, verified, &found.entries, text)
-}
-
 #[test]
 fn two_jobs_on_two_machines_are_drawn(rt: HostRuntime) -> Result<(), Fail> {
-    expect_text_of_log(
+    let verified = crossing(&rt, None)?;
+    let found = audit(rt.alloc(), verified.shaped(), IN_TIME_LINES)?;
+    expect_text(
         &rt,
-        &crossing(&rt, None)?,
-        IN_TIME_LINES,
+        &verified,
+        &found.entries,
         "scale 1\nmachine 0 0:0-2-2 1:8-9-9\nbar 00......1.\nmachine 1 0:2-4-4 1:4-8-8\nbar ..001111..\n",
-    )
-}
-
-#[test]
-fn jobs_that_wait_on_their_machines_are_drawn(rt: HostRuntime) -> Result<(), Fail> {
-    expect_text_of_log(
-        &rt,
-        &following(&rt)?,
-        FOLLOWING_LINES,
-        "scale 1\nmachine 0 0:0-1-1 1:1-2-2 2:2-3-7\nbar 012====...\nmachine 1 0:1-2-2 1:2-3-7 2:7-8-8\nbar .01====2..\nmachine 2 0:2-7-7 1:7-8-8 2:8-9-9\nbar ..0000012.\n",
-    )
-}
-
-#[test]
-fn machines_that_are_cleaned_are_drawn(rt: HostRuntime) -> Result<(), Fail> {
-    expect_text_of_log(
-        &rt,
-        &crossing(&rt, Some(2))?,
-        CLEANED_LINES,
-        "scale 1\nmachine 0 0:0-3-3 1:11-12-12\nbar 000........1..\nmachine 1 0:3-5-5 1:7-11-11\nbar ...00..1111...\n",
     )
 }
 

@@ -62,9 +62,3 @@ pub(super) fn followed() -> [(Report, &'static str); 12] {
         (finish(2, 2, 9), "ok 2:2>out@9"),
     ]
 }
-
-pub(super) const FOLLOWING_INPUT: &[u8] =
-    b"arrive 0 0\narrive 1 0\narrive 2 0\nfinish 0 0 1\nfinish 0 1 2\nfinish 1 0 2\nfinish 1 1 3\nfinish 2 0 3\nfinish 0 2 7\nfinish 1 2 8\nfinish 2 1 8\nfinish 2 2 9\n";
-
-pub(super) const FOLLOWING_LINES: &[u8] =
-    b"report 0 arrive 0\norder 0 0 out 0\nreport 0 arrive 1\nreport 0 arrive 2\nreport 1 finish 0 0\norder 1 0 0 1\norder 1 1 out 0\nreport 2 finish 0 1\norder 2 0 1 2\nreport 2 finish 1 0\norder 2 1 0 1\norder 2 2 out 0\nreport 3 finish 1 1\nreport 3 finish 2 0\nreport 7 finish 0 2\norder 7 0 2 out\norder 7 1 1 2\norder 7 2 0 1\nreport 8 finish 1 2\norder 8 1 2 out\nreport 8 finish 2 1\norder 8 2 1 2\nreport 9 finish 2 2\norder 9 2 2 out\ndone 9\n";

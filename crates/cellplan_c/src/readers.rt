@@ -230,6 +230,12 @@ pub extern "C" fn cellplan_cell_leaves(
         (λ moment. (job < jobs p) × IsGreatest p (leaving p job) moment)) }
     ensures kept { IfSome cell.old.slot.held (λ held. IfSome (answer_of result at.new)
         (λ moment. moment ≡ kept_at held.controller.plan (leaving held.controller.plan.planned job))) }
+    ensures no_faster { IfSome cell.old.slot.held (λ held. IfSome (answer_of result at.new)
+        (IsNeverGoneBefore held.controller.plan.planned job)) }
+    ensures no_later { IfSome cell.old.slot.held (λ held. IfSome (answer_of result at.new)
+        (IsNeverGoneAfter held.controller.plan.planned job)) }
+    ensures just_in_time { IfSome cell.old.slot.held (λ held. IfSome (answer_of result at.new)
+        (IsGoneJustAt held.controller.plan.planned job)) }
     ensures statuses { IfSome cell.old.slot.held (λ held. (result ≡ 0) ⊎ (result ≡ 7)) }
     ensures no_cell { (cell.old.slot.held ≡ None) ↔ (result ≡ 8) }
     ensures unchanged { cell.new.slot.held ≡ cell.old.slot.held }

@@ -83,16 +83,9 @@ pub(crate) fn end_answer(alloc: Global, end: Result<DriveEnd, DriveFault>) -> An
     ensures { IsEndAnswer (end_of_drive end) result }
 {
     match end {
-        Ok(end) => Ok(ended(alloc, done(end))),
+        Ok(end) => Ok(ended(alloc, end.done)),
         Err(fault) => Err(Told::from(fault).0),
     }
-}
-
-/// Whether the run of a cell has ended. What else is at its end is dropped.
-fn done(end: DriveEnd) -> bool
-    ensures { result ≡ end.done }
-{
-    end.done
 }
 
 /// What is answered at the end of runs, whose lines are written already: whether all have ended.

@@ -1,10 +1,12 @@
-use super::texts::{CHAIN, CHAINED, CLEANED, COLLECTION, CROSSED, IN_TIME, LATE, NOT_SHAPED, TWO};
+//! What is loaded of a plan: its verdict, with evidence that stands its check, or the first fault of its shape.
+
+use super::texts::{CROSSED, IN_TIME, LATE, NOT_SHAPED, TWO};
 use alt_graph::{check_chain, check_cycle};
-use command_answers::{CommandFault, Loaded, check, load};
-use orlib_read::{OrFault, read_instance};
-use plan_text::{PlanFault, read_plan};
-use plan_verifier::{Verdict, Why};
-use shop_base::{ShapeFault, Shaped, shape};
+use command_answers::{Loaded, load};
+use orlib_read::read_instance;
+use plan_text::read_plan;
+use plan_verifier::{Verdict, Verified, Why};
+use shop_base::{JobNo, ShapeFault, Shaped, shape};
 use std::alloc::Global;
 use std::test::Fail;
 
@@ -18,61 +20,12 @@ const LATE_BY_CLEANING: &[u8] =
 const LOCKED_RING: &[u8] =
     b"release = [0, 0, 0]\nbudget = [100, 100, 100]\norder = [[0, 2], [1, 0], [2, 1]]\n";
 
-#[test]
-fn a_plan_has_its_verdict(rt: HostRuntime) -> Result<(), Fail> {
-    let lines: [(&[u8], &[u8], &[u8], u8); 9] = [
-        (TWO, CROSSED, b"refused cycle 0.1 1.1\n", 1),
-        (RING, LOCKED_RING, b"refused cycle 0.1 2.1 1.1\n", 1),
-        (TWO, IN_TIME, b"accepted makespan 10 leaves 5 10\n", 0),
-        (TWO, LATE, b"refused late 1 10 0.0 0.1 0.2 1.0 1.1 1.2\n", 1),
-        (TWO, FIRST_LATE, b"refused late 0 5 0.0 0.1 0.2\n", 1),
-        (CHAIN, CHAINED, b"accepted makespan 9 leaves 7 8 9\n", 0),
-        (
-            b"z\n1 1\n0 0\n",
-            b"release = [0]\nbudget = [0]\norder = [[0]]\n",
-            b"accepted makespan 0 leaves 0\n",
-            0,
-        ),
-        (
-            TWO,
-            LATE_BY_CLEANING,
-            b"refused late 1 12 0.0 0.1 0.2 1.0 1.1 1.2\n",
-            1,
-        ),
-        (TWO, CLEANED, b"accepted makespan 12 leaves 5 12\n", 0),
-    ];
-    for (instance, plan, line, status) in lines {
-        let answer = check(rt.alloc(), instance, None, plan)?;
-        assert_eq!(rt; answer.text.as_slice(), line);
-        assert_eq!(rt; answer.status, status);
-    }
-    Ok(())
-}
-
-#[test]
-fn the_serial_plan_of_ft06_is_accepted(rt: HostRuntime) -> Result<(), Fail> {
-    let plan = b"release = [0, 0, 0, 0, 0, 0]\nbudget = [26, 60, 89, 117, 125, 152]\norder = [\n  \
-[0, 1, 2, 3, 4, 5],\n  [0, 1, 2, 3, 4, 5],\n  [0, 1, 2, 3, 4, 5],\n  [0, 1, 2, 3, 4, 5],\n  \
-[0, 1, 2, 3, 4, 5],\n  [0, 1, 2, 3, 4, 5],\n]\n";
-    let answer = check(rt.alloc(), COLLECTION, Some(b"ft06"), plan)?;
-    let line = b"accepted makespan 152 leaves 26 60 89 117 125 152\n";
-    assert_eq!(rt; answer.text.as_slice(), line.as_slice());
-    assert_eq!(rt; answer.status, 0);
-    Ok(())
-}
-
-#[test]
-fn a_refused_text_has_no_verdict(rt: HostRuntime) -> Result<(), Fail> {
-    let unknown = b"release = [0, 0]\nbudget = [5, 10]\norder = [[0, 1], [0, 1]]\nx = 1\n";
-    let faults: [(&[u8], CommandFault); 2] = [
-        (TWO, CommandFault::Plan(PlanFault::UnknownKey)),
-        (b"", CommandFault::Instance(OrFault::NoSizes)),
-    ];
-    for (instance, fault) in faults {
-        let answer = check(rt.alloc(), instance, None, unknown).map(|answer| answer.status);
-        assert_eq!(rt; answer, Err(fault));
-    }
-    Ok(())
+/// How many nodes a longest chain to the job's leaving has, 0 where there is none.
+fn chain_length(alloc: Global, verified: &Verified, job: JobNo) -> Result<usize, Fail> {
+    Ok(match verified.chain(alloc, job)? {
+        Some(nodes) => nodes.len(),
+        None => 0,
+    })
 }
 
 #[test]
@@ -82,6 +35,9 @@ fn a_verdict_is_loaded(rt: HostRuntime) -> Result<(), Fail> {
             assert_eq!(rt; verified.makespan(), 10);
             assert_eq!(rt; verified.earliest_leave(0), Some(5));
             assert_eq!(rt; verified.earliest_leave(2), None);
+            assert_eq!(rt; chain_length(rt.alloc(), &verified, 0)?, 3);
+            assert_eq!(rt; chain_length(rt.alloc(), &verified, 1)?, 6);
+            assert_eq!(rt; chain_length(rt.alloc(), &verified, 2)?, 0);
             assert_eq!(rt; verified.shaped().report_count(), 6);
             assert_eq!(rt; verified.into_shaped().report_count(), 6);
         }
@@ -104,10 +60,7 @@ fn the_first_fault_of_a_shape_is_loaded(rt: HostRuntime) -> Result<(), Fail> {
         },
         ShapeFault::BudgetTooLarge { job: 1 },
     ];
-    for ((plan, line), first) in NOT_SHAPED.into_iter().zip(faults) {
-        let answer = check(rt.alloc(), TWO, None, plan)?;
-        assert_eq!(rt; answer.text.as_slice(), line);
-        assert_eq!(rt; answer.status, 1);
+    for ((plan, _line), first) in NOT_SHAPED.into_iter().zip(faults) {
         let loaded = load(rt.alloc(), TWO, None, plan)?;
         assert!(rt; matches!(&loaded, Loaded::NotShaped(fault) if *fault == first));
     }

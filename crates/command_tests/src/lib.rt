@@ -1,18 +1,13 @@
-//! The tests of commands: what words choose, the answers to the worked examples, and calls that are wanting memory.
+//! The tests of calls behind commands: what words choose, answers to the worked examples, and calls that are wanting memory.
+//! What whole commands write is shown on the built program, by the scripts of `tests/`.
 //!
 //! They stand apart from what they test, since a crate with tests is proved once more for them.
 #![tactic(auto)]
 
 #[cfg(test)]
-mod audits;
+mod answers;
 #[cfg(test)]
 mod checks;
-#[cfg(test)]
-mod facts;
-#[cfg(test)]
-mod plans;
-#[cfg(test)]
-mod shapes;
 #[cfg(test)]
 mod shelf;
 #[cfg(test)]

@@ -1,4 +1,4 @@
-//! The status at which each fault of a command ends the program, and what a fault says of memory.
+//! The status at which each fault of a command ends the program, and what faults say.
 
 use command_answers::CommandFault;
 use command_words::WordsFault;
@@ -36,6 +36,20 @@ fn want_of_memory_is_told_as_memory(rt: HostRuntime) -> Result<(), Fail> {
         ResumeFault::Memory.to_string(alloc)?,
     ] {
         assert_eq!(rt; text.as_str(), "Memory");
+    }
+    Ok(())
+}
+
+#[test]
+fn a_text_that_is_refused_is_told_by_its_fault(rt: HostRuntime) -> Result<(), Fail> {
+    for (fault, text) in [
+        (
+            CommandFault::Instance(OrFault::BadSizes { line: 5 }),
+            "Instance BadSizes line 5",
+        ),
+        (CommandFault::Plan(PlanFault::UnknownKey), "Plan UnknownKey"),
+    ] {
+        assert_eq!(rt; fault.to_string(rt.alloc())?.as_str(), text);
     }
     Ok(())
 }

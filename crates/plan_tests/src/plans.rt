@@ -2,7 +2,7 @@
 
 use orlib_read::read_instance;
 use plan_text::read_plan;
-use shop_base::{Plan, Shaped, Shop, shape};
+use shop_base::{Shaped, Shop, shape};
 use std::alloc::Global;
 use std::test::Fail;
 
@@ -28,17 +28,13 @@ pub(crate) fn two_jobs(alloc: Global) -> Result<Shop, Fail> {
     Ok(read_instance(alloc, TWO)?.shop)
 }
 
-pub(crate) fn shaped(shop: Shop, plan: Plan) -> Result<Shaped, Fail> {
-    match shape(shop, plan) {
+/// The plan of a text, shaped for the instance of the other.
+pub(crate) fn planned(alloc: Global, instance: &[u8], plan: &[u8]) -> Result<Shaped, Fail> {
+    match shape(
+        read_instance(alloc, instance)?.shop,
+        read_plan(alloc, plan)?,
+    ) {
         Ok(shaped) => Ok(shaped),
         Err(refused) => Err(refused.fault.into()),
     }
-}
-
-/// The plan of a text, shaped for the instance of the other.
-pub(crate) fn planned(alloc: Global, instance: &[u8], plan: &[u8]) -> Result<Shaped, Fail> {
-    shaped(
-        read_instance(alloc, instance)?.shop,
-        read_plan(alloc, plan)?,
-    )
 }

@@ -1,8 +1,8 @@
 //! What the solver of the alternative graph finds.
 
-use crate::plans::{CLEANED, CROSSED, IN_SERIES, TWO, planned, shaped};
+use crate::plans::{CLEANED, CROSSED, IN_SERIES, TWO, planned};
 use alt_graph::{Solved, Times, solve};
-use shop_base::{Moment, Node, Plan, Shaped, Shop, Step};
+use shop_base::{Moment, Node, Shaped};
 use std::alloc::Global;
 use std::process::Abort;
 use std::test::Fail;
@@ -126,56 +126,4 @@ fn three_jobs_in_a_ring_have_a_cycle(rt: HostRuntime) -> Result<(), Fail> {
         b"release = [0, 0, 0]\nbudget = [100, 100, 100]\norder = [[0, 2], [1, 0], [2, 1]]\n",
         &ring,
     )
-}
-
-/// As many jobs and machines as there can be, each job on each machine, in the same order.
-fn crowd(alloc: Global) -> Result<Shaped, Fail> {
-    let mut routes = Vec::new(alloc);
-    let mut order = Vec::new(alloc);
-    let mut release = Vec::new(alloc);
-    for _ in 0..200 {
-        let mut route = Vec::new(alloc);
-        for machine in 0..100 {
-            route.push(Step {
-                machine,
-                nominal: 1,
-            })?;
-        }
-        routes.push(route)?;
-        release.push(0)?;
-    }
-    for _ in 0..100 {
-        let mut row = Vec::new(alloc);
-        for job in 0..200 {
-            row.push(job)?;
-        }
-        order.push(row)?;
-    }
-    let budget = release.as_slice().to_vec(alloc)?;
-    let plan = Plan {
-        release,
-        budget,
-        order,
-        clean: None,
-    };
-    shaped(Shop::new(100, routes)?, plan)
-}
-
-const LAST: Node = Node {
-    job: 199,
-    place: 100,
-};
-
-#[test]
-fn a_plan_at_the_limits_is_solved(rt: HostRuntime) -> Result<(), Fail> {
-    let times = times_of(rt.alloc(), &crowd(rt.alloc())?)?;
-    assert_eq!(rt; times.earliest(LAST), Some(299));
-    Ok(())
-}
-
-#[test]
-fn a_plan_at_the_limits_has_long_chains(rt: HostRuntime) -> Result<(), Fail> {
-    let chain = chain_of(rt.alloc(), &crowd(rt.alloc())?, LAST)?.ok_or("no chain")?;
-    assert!(rt; chain.len() > 100);
-    Ok(())
 }
