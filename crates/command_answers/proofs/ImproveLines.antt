@@ -5,7 +5,7 @@ use Rattle.plan_verifier.specs.Accepted.{IsAcceptable}
 use Rattle.plan_verifier.specs.declared.verdict.Verdict.{Verdict}
 use Rattle.plan_verifier.specs.declared.verdict.Verdict.TheVariants.{Accepted, Refused}
 use Rattle.plan_verifier.specs.Verdicts.{SaysAccepted}
-use Rattle.plan_improve.specs.declared.improving.TheConstants.{MAX_ROUNDS}
+use Rattle.plan_seek.specs.declared.search.TheConstants.{MAX_ROUNDS}
 use Rattle.plan_improve.specs.declared.improve_fault.ImproveFault.{ImproveFault}
 use Rattle.plan_improve.specs.declared.improve_fault.ImproveFault.TheVariants.{TooManyRounds, Memory as WantOfMemory}
 use Rattle.plan_improve.specs.Runs.{Asked}
