@@ -104,7 +104,6 @@ fn answer_told<D: Dues, W: Sink>(
 }
 
 /// Answers a line. An empty one has no answer.
-#[inline(always)]
 fn answer_line<D: Dues, W: Sink>(
     controller: &mut Controller<D>,
     log: &mut RunLog,

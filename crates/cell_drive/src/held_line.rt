@@ -36,7 +36,6 @@ impl HeldLine {
     }
 
     /// Whether no byte of the line has come.
-    #[inline(always)]
     pub(crate) fn is_empty(&self) -> bool
         ensures { IsTrue result ↔ (self.now ≡ Some []) }
     {
@@ -59,7 +58,6 @@ impl HeldLine {
         self.count = append(&mut self.bytes, self.count, more);
     }
 
-    #[inline(always)]
     pub(crate) fn bytes(&self) -> Option<&[u8]>
         ensures { option_copied result ≡ self.now }
     {

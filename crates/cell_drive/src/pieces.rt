@@ -18,7 +18,6 @@ pub(crate) struct Input {
     pub lines: u64,
 }
 
-#[inline(always)]
 fn answer_bytes<H: LineHandler, W: Sink>(
     handler: &mut H,
     number: u64,
@@ -53,7 +52,6 @@ pub(crate) fn answer_held<H: LineHandler, W: Sink>(
 }
 
 /// Answers the line that ends with these bytes. It is copied only if some of it is held.
-#[inline(always)]
 fn answer_ended<H: LineHandler, W: Sink>(
     handler: &mut H,
     number: u64,

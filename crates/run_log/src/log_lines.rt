@@ -149,6 +149,7 @@ fn move_order_of(words: &[u8]) -> Option<MoveOrder>
 }
 
 /// The report or the order that the line is.
+#[inline(always)]
 fn entry_of(line: &[u8]) -> Option<Entry>
     ensures { MatchOption result ((entry : Entry) → IsEntryLine line.now entry → ⊥) (IsEntryLine line.now) }
 {

@@ -12,14 +12,14 @@ use shop_base::{Moment, MoveOrder};
 use text_lines::LineText;
 
 /// How many events are written in one call.
-const MOST: usize = 100;
+const MOST: usize = 20;
 
 /// The lines of so many events: those of one have at most 96 bytes.
-type Lines = LineText<9600>;
+type Lines = LineText<1920>;
 
 /// Writes `late T` before what there is.
 fn put_late(lines: &mut Lines, at: Moment)
-    requires { 32 + length lines.old ≤ 9600 }
+    requires { 32 + length lines.old ≤ 1920 }
     ensures written { lines.new ≡ late_line at ++ lines.old }
     ensures length { length lines.new ≤ 32 + length lines.old }
 {
@@ -31,7 +31,7 @@ fn put_late(lines: &mut Lines, at: Moment)
 /// Writes the line of the report before what there is.
 #[inline(always)]
 fn put_report_line(lines: &mut Lines, report: Report)
-    requires { 64 + length lines.old ≤ 9600 }
+    requires { 64 + length lines.old ≤ 1920 }
     ensures written { lines.new ≡ report_line report ++ lines.old }
     ensures length { length lines.new ≤ 64 + length lines.old }
 {
@@ -42,7 +42,7 @@ fn put_report_line(lines: &mut Lines, report: Report)
 /// Writes the line of the order before what there is.
 #[inline(always)]
 fn put_order_line(lines: &mut Lines, order: MoveOrder)
-    requires { 64 + length lines.old ≤ 9600 }
+    requires { 64 + length lines.old ≤ 1920 }
     ensures written { lines.new ≡ order_line order ++ lines.old }
     ensures length { length lines.new ≤ 64 + length lines.old }
 {
@@ -53,7 +53,7 @@ fn put_order_line(lines: &mut Lines, order: MoveOrder)
 /// Writes the line of the event, and behind that of a late report the line that it is late, before what there is.
 #[inline(always)]
 fn put_told_line(lines: &mut Lines, entry: Entry, late: bool)
-    requires { 96 + length lines.old ≤ 9600 }
+    requires { 96 + length lines.old ≤ 1920 }
     ensures written { lines.new ≡ told_line entry late ++ lines.old }
     ensures length { length lines.new ≤ 96 + length lines.old }
 {
@@ -69,23 +69,18 @@ fn put_told_line(lines: &mut Lines, entry: Entry, late: bool)
 }
 
 /// Writes the lines of a few events in one call, the last of them first into their room.
-fn put_few<W: Sink>(
-    entries: &[Entry],
-    late: &[bool],
-    lines: &mut Lines,
-    writer: &mut W,
-) -> Result<(), WriteFault>
+fn put_few<W: Sink>(entries: &[Entry], late: &[bool], writer: &mut W) -> Result<(), WriteFault>
     requires same { length entries.now ≡ length late.now }
-    requires few { length entries.now ≤ 100 }
+    requires few { length entries.now ≤ 20 }
     ensures wrote { Wrote result (W.failed writer.new) (W.taken writer.old) (W.taken writer.new)
         (told_lines entries.now late.now) }
     ensures unfailed { OnOk result (W.failed writer.new ≡ W.failed writer.old) }
 {
-    lines.clear();
+    let mut lines = Lines::empty();
     let mut place = entries.len();
     'places: while place > 0 {
         place -= 1;
-        put_told_line(lines, entries[place], late[place]);
+        put_told_line(&mut lines, entries[place], late[place]);
     }
     put_all(writer, lines.bytes())
 }
@@ -101,12 +96,11 @@ pub(crate) fn put_told<W: Sink>(
         (told_lines entries.now late.now) }
     ensures unfailed { OnOk result (W.failed writer.new ≡ W.failed writer.old) }
 {
-    let mut lines = Lines::empty();
     let mut rest = entries;
     let mut rest_late = late;
     'rests: while !rest.is_empty() {
         let count = rest.len().min(MOST);
-        put_few(&rest[..count], &rest_late[..count], &mut lines, writer)?;
+        put_few(&rest[..count], &rest_late[..count], writer)?;
         rest = &rest[count..];
         rest_late = &rest_late[count..];
     }

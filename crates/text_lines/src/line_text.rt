@@ -45,13 +45,6 @@ impl<const ROOM: usize> LineText<ROOM> {
         }
     }
 
-    /// Takes all bytes out again. The room isn't cleared, so this costs the same for any room.
-    pub fn clear(&mut self)
-        ensures { self.new ≡ [] }
-    {
-        self.start = ROOM;
-    }
-
     /// Writes the text before what there is.
     pub fn put_text(&mut self, text: &[u8])
         requires { length text.now + length self.old ≤ ROOM }

@@ -8,9 +8,9 @@ pub places-init : goal.places-init
 places-init g c =
     let entries = c.args.entries.now in
     record {
-      written = c.clear.ensures ∙ sym (none_told entries (drop (length entries) c.args.late.now));
+      written = c.empty-lines.ensures ∙ sym (none_told entries (drop (length entries) c.args.late.now));
       within = omega arith;
-      room = omega (arith, c.requires.few, ap length c.clear.ensures);
+      room = omega (arith, c.requires.few, ap length c.empty-lines.ensures);
     }
 
 pub places-preserved : goal.places-preserved

@@ -6,7 +6,7 @@ abbrev pub invariant-places : goal.invariant-places
 invariant-places g l = record {
   written : l.lines ≡ told_lines (drop l.place l.entries) (drop l.place l.late);
   within : l.place ≤ length l.entries;
-  room : length l.lines + 96 * l.place ≤ 9600;
+  room : length l.lines + 96 * l.place ≤ 1920;
 }
 
 abbrev pub decreases-places : goal.decreases-places
