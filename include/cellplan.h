@@ -16,7 +16,7 @@
    - `malloc`, `realloc` and `free` are those of one allocator.
 
    cellplan_check, cellplan_explain and cellplan_cell_new take memory, and so may answer CELLPLAN_NO_MEMORY. No other call
-   takes any: a report never fails for want of it. cellplan_cell_free and cellplan_cell_new give it back. */
+   takes any, so no report can run out of it. cellplan_cell_free and cellplan_cell_new give it back. */
 #ifndef CELLPLAN_H
 #define CELLPLAN_H
 
@@ -36,7 +36,7 @@ enum {
   CELLPLAN_GOOD = 0,       /* done; of a plan: accepted */
   CELLPLAN_REFUSED = 1,    /* the plan isn't accepted */
   CELLPLAN_FAULT = 3,      /* the text of the instance or of the plan is refused */
-  CELLPLAN_NO_MEMORY = 4,  /* memory was wanting */
+  CELLPLAN_NO_MEMORY = 4,  /* memory ran out */
   CELLPLAN_NO_ROOM = 6,    /* the text is longer than the room for it; its length is told */
   CELLPLAN_NONE = 7,       /* there is none of what was asked for */
   CELLPLAN_NO_CELL = 8,    /* the cell holds no controller */
