@@ -1,7 +1,7 @@
 //! The command `drive`, and what the other ones that drive cells share with it.
 
 ghost use Rattle.std.specs.Prelude.{◌≡◌, []};
-ghost use Rattle.command_run.specs.Drives.{IsEndAnswer, DrivesCell, IsLineTold, Drives, status_at, end_of_drive};
+ghost use Rattle.command_run.specs.Drives.{IsEndAnswer, DrivesCell, IsLineTold, status_at, end_of_drive};
 ghost use Rattle.command_run.specs.Program.{RunsDrive};
 
 use crate::streams::Streams;
@@ -41,18 +41,7 @@ pub(crate) fn drive_answer<T: Texts, R: Source, W: Outlet>(
 ) -> Answered
     ensures { RunsDrive T.gives pair.now texts.old streams.old result texts.new streams.new }
 {
-    let loaded = load_files(alloc, texts, pair);
-    drive_loaded(alloc, loaded, streams)
-}
-
-fn drive_loaded<R: Source, W: Outlet>(
-    alloc: Global,
-    loaded: Result<Loaded, CommandFault>,
-    streams: &mut Streams<R, W>,
-) -> Answered
-    ensures { Drives loaded streams.old streams.new result }
-{
-    match loaded {
+    match load_files(alloc, texts, pair) {
         Ok(Loaded::Judged(Verdict::Accepted(verified))) => drive_cell(alloc, verified, streams),
         Ok(other) => line_told(alloc, &other),
         Err(fault) => Err(fault),

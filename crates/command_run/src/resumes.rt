@@ -1,7 +1,7 @@
 //! The command `resume`.
 
 ghost use Rattle.std.specs.Prelude.{◌≡◌};
-ghost use Rattle.command_run.specs.Resumes.{IsTaking, IsFaultTold, ResumesOn, ResumesTaken, ResumesLog, Resumes};
+ghost use Rattle.command_run.specs.Resumes.{IsTaking, IsFaultTold, ResumesOn, ResumesLog};
 ghost use Rattle.command_run.specs.Program.{RunsResume};
 
 use crate::drives::{end_answer, line_told};
@@ -22,20 +22,7 @@ pub(crate) fn resume_answer<T: Texts, R: Source, W: Outlet>(
 ) -> Answered
     ensures { RunsResume T.gives pair.now log.now texts.old streams.old result texts.new streams.new }
 {
-    let loaded = load_files(alloc, texts, pair);
-    resume_loaded(alloc, texts, loaded, log, streams)
-}
-
-fn resume_loaded<T: Texts, R: Source, W: Outlet>(
-    alloc: Global,
-    texts: &mut T,
-    loaded: Result<Loaded, CommandFault>,
-    log: &str,
-    streams: &mut Streams<R, W>,
-) -> Answered
-    ensures { Resumes T.gives log.now loaded texts.old streams.old result texts.new streams.new }
-{
-    match loaded {
+    match load_files(alloc, texts, pair) {
         Ok(Loaded::Judged(Verdict::Accepted(verified))) => {
             resume_log(alloc, texts, verified, log, streams)
         }
@@ -44,7 +31,7 @@ fn resume_loaded<T: Texts, R: Source, W: Outlet>(
     }
 }
 
-/// Asks for the log of an accepted plan, and takes up its run.
+/// Asks for the log of an accepted plan, takes up its run, and drives that on; the first bad line of the log is an answer.
 fn resume_log<T: Texts, R: Source, W: Outlet>(
     alloc: Global,
     texts: &mut T,
@@ -55,7 +42,10 @@ fn resume_log<T: Texts, R: Source, W: Outlet>(
     ensures { ResumesLog T.gives log.now verified texts.old streams.old result texts.new streams.new }
 {
     let text = texts.text(alloc, log)?;
-    resume_taken(alloc, taken_up(alloc, verified, text), streams)
+    match taken_up(alloc, verified, text) {
+        Ok(taken) => resume_on(alloc, taken, streams),
+        Err(fault) => fault_told(alloc, fault),
+    }
 }
 
 /// Takes up the run that the text tells, and gives the text back.
@@ -63,20 +53,6 @@ fn taken_up(alloc: Global, verified: Verified, text: Vec<u8>) -> Result<Taken, R
     ensures { IsTaking verified text.items result }
 {
     take_up(alloc, verified, &text)
-}
-
-/// Drives on what was taken up; the first bad line of the log is an answer.
-fn resume_taken<R: Source, W: Outlet>(
-    alloc: Global,
-    taken: Result<Taken, ResumeFault>,
-    streams: &mut Streams<R, W>,
-) -> Answered
-    ensures { ResumesTaken taken streams.old streams.new result }
-{
-    match taken {
-        Ok(taken) => resume_on(alloc, taken, streams),
-        Err(fault) => fault_told(alloc, fault),
-    }
 }
 
 /// Drives on what was taken up to the end of the input.
