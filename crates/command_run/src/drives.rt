@@ -1,7 +1,7 @@
 //! The command `drive`, and what the other ones that drive cells share with it.
 
 ghost use Rattle.std.specs.Prelude.{◌≡◌, []};
-ghost use Rattle.command_run.specs.Drives.{IsEndAnswer, DrivesCell, IsLineTold, status_at, end_of_drive};
+ghost use Rattle.command_run.specs.Drives.{IsEndAnswer, DrivesCell, status_at, end_of_drive};
 ghost use Rattle.command_run.specs.Program.{RunsDrive};
 
 use crate::streams::Streams;
@@ -43,16 +43,9 @@ pub(crate) fn drive_answer<T: Texts, R: Source, W: Outlet>(
 {
     match load_files(alloc, texts, pair) {
         Ok(Loaded::Judged(Verdict::Accepted(verified))) => drive_cell(alloc, verified, streams),
-        Ok(other) => line_told(alloc, &other),
+        Ok(other) => Ok(loaded_answer(alloc, &other)?),
         Err(fault) => Err(fault),
     }
-}
-
-/// The line of a plan that isn't accepted.
-pub(crate) fn line_told(alloc: Global, loaded: &Loaded) -> Answered
-    ensures { IsLineTold loaded.now result }
-{
-    Ok(loaded_answer(alloc, loaded)?)
 }
 
 /// Drives the cell of an accepted plan to the end of the input.

@@ -4,10 +4,12 @@ ghost use Rattle.std.specs.Prelude.{◌≡◌};
 ghost use Rattle.command_run.specs.Resumes.{IsTaking, IsFaultTold, ResumesOn, ResumesLog};
 ghost use Rattle.command_run.specs.Program.{RunsResume};
 
-use crate::drives::{end_answer, line_told};
+use crate::drives::end_answer;
 use crate::streams::Streams;
 use cell_drive::{Outlet, Source};
-use command_answers::{Answered, CommandFault, Loaded, Pair, Texts, load_files, log_refused};
+use command_answers::{
+    Answered, CommandFault, Loaded, Pair, Texts, load_files, loaded_answer, log_refused,
+};
 use plan_verifier::{Verdict, Verified};
 use run_resume::{ResumeFault, Taken, resume, take_up};
 use std::alloc::Global;
@@ -26,7 +28,7 @@ pub(crate) fn resume_answer<T: Texts, R: Source, W: Outlet>(
         Ok(Loaded::Judged(Verdict::Accepted(verified))) => {
             resume_log(alloc, texts, verified, log, streams)
         }
-        Ok(other) => line_told(alloc, &other),
+        Ok(other) => Ok(loaded_answer(alloc, &other)?),
         Err(fault) => Err(fault),
     }
 }
