@@ -7,8 +7,11 @@ pub struct Answer {
     pub status: u8,
 }
 
+/// What a step of a command gives, or why the command has no answer.
+pub type Outcome<T> = Result<T, CommandFault>;
+
 /// The answer of a command, or why there is none.
-pub type Answered = Result<Answer, CommandFault>;
+pub type Answered = Outcome<Answer>;
 
 /// The status of a good answer.
 pub const GOOD: u8 = 0;

@@ -5,7 +5,7 @@ ghost use Rattle.shop_base.specs.Plan.{PlannedShop, IsWellShaped};
 ghost use Rattle.shop_base.specs.ShapeFault.{IsFirstShapeFault};
 ghost use Rattle.command_answers.specs.Commands.{ReadsBoth};
 
-use crate::command_fault::CommandFault;
+use crate::answer::Outcome;
 use crate::readings::{instance, plan};
 use crate::texts::Texts;
 use shop_base::{Plan, ShapeFault, Shaped, Shop, shape};
@@ -59,11 +59,7 @@ impl Both {
 }
 
 /// The instance and the plan that the two files tell.
-pub(crate) fn read_both<T: Texts>(
-    alloc: Global,
-    texts: &mut T,
-    pair: &Pair<'_>,
-) -> Result<Both, CommandFault>
+pub(crate) fn read_both<T: Texts>(alloc: Global, texts: &mut T, pair: &Pair<'_>) -> Outcome<Both>
     ensures { ReadsBoth T.gives pair.now texts.old result texts.new }
 {
     let shop = instance(alloc, texts, pair.instance, pair.name)?.shop;

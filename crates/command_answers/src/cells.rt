@@ -5,10 +5,9 @@ ghost use Rattle.std.specs.Option.{option_copied};
 ghost use Rattle.std.specs.String.{string_bytes};
 ghost use Rattle.command_answers.specs.Cells.{IsCellLine, LoadsOne, LoadsEach, LoadsCells};
 
-use crate::answer::Answer;
+use crate::answer::{Answer, Outcome};
 use crate::both::Both;
 use crate::checks::loaded_answer;
-use crate::command_fault::CommandFault;
 use crate::lines::push_fact;
 use crate::loading::{Loaded, judged};
 use crate::readings::{load_instance, plan};
@@ -33,7 +32,7 @@ pub fn load_cells<T: Texts>(
     path: &str,
     name: Option<&[u8]>,
     plans: &[String],
-) -> Result<Cells, CommandFault>
+) -> Outcome<Cells>
     ensures { LoadsCells T.gives path.now (option_copied name.entry) (map string_bytes plans.now) texts.old result texts.new }
 {
     let text = texts.text(alloc, path)?;
@@ -47,7 +46,7 @@ fn load_each<T: Texts>(
     text: &[u8],
     name: Option<&[u8]>,
     plans: &[String],
-) -> Result<Cells, CommandFault>
+) -> Outcome<Cells>
     ensures { LoadsEach T.gives text.now (option_copied name.entry) [] (map string_bytes plans.now) texts.old result texts.new }
 {
     let mut cells = Vec::new(alloc);
@@ -68,7 +67,7 @@ fn load_one<T: Texts>(
     text: &[u8],
     name: Option<&[u8]>,
     path: &str,
-) -> Result<Loaded, CommandFault>
+) -> Outcome<Loaded>
     ensures { LoadsOne T.gives text.now (option_copied name.entry) path.now texts.old result texts.new }
 {
     let shop = load_instance(alloc, text, name)?.shop;
@@ -77,7 +76,7 @@ fn load_one<T: Texts>(
 }
 
 /// The line of the plan of this number, which isn't accepted: the number, a space, and the line of the plan alone.
-fn cell_line(alloc: Global, number: u64, loaded: &Loaded) -> Result<Cells, CommandFault>
+fn cell_line(alloc: Global, number: u64, loaded: &Loaded) -> Outcome<Cells>
     ensures { IsCellLine number loaded.now result }
 {
     let line = loaded_answer(alloc, loaded)?;

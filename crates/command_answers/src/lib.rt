@@ -18,7 +18,7 @@ mod search;
 mod shapes;
 mod texts;
 
-pub use answer::{Answer, Answered, GOOD, REFUSED};
+pub use answer::{Answer, Answered, GOOD, Outcome, REFUSED};
 pub use both::Pair;
 pub use cells::{Cells, load_cells};
 pub use checks::{check, check_answer, loaded_answer};

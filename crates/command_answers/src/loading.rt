@@ -9,6 +9,7 @@ ghost use Rattle.command_answers.specs.Checks.{IsLoaded, accepted_in};
 ghost use Rattle.command_answers.specs.Steps.{IsOrMemory};
 ghost use Rattle.command_answers.specs.Commands.{Loads};
 
+use crate::answer::Outcome;
 use crate::both::{Both, Pair, read_both};
 use crate::command_fault::CommandFault;
 use crate::readings::{load_instance, load_plan};
@@ -43,12 +44,7 @@ impl Loaded {
 
 /// The verdict on a plan for an instance, both given as texts. Without a name the first text is one instance, else a
 /// collection with an instance of this name.
-pub fn load(
-    alloc: Global,
-    instance: &[u8],
-    name: Option<&[u8]>,
-    plan: &[u8],
-) -> Result<Loaded, CommandFault>
+pub fn load(alloc: Global, instance: &[u8], name: Option<&[u8]>, plan: &[u8]) -> Outcome<Loaded>
     ensures found { IfOk result (IsOfBoth instance.now (option_copied name.entry) plan.now IsLoaded) }
     ensures only { (p : PlannedShop) → TellBoth instance.now (option_copied name.entry) plan.now p → Holds result (IsLoaded p) }
     ensures fault { IfErr result (IsRightOfBoth instance.now (option_copied name.entry) plan.now) }
@@ -61,11 +57,7 @@ pub fn load(
 }
 
 /// The verdict on the plan of a file for the instance of another.
-pub fn load_files<T: Texts>(
-    alloc: Global,
-    texts: &mut T,
-    pair: &Pair<'_>,
-) -> Result<Loaded, CommandFault>
+pub fn load_files<T: Texts>(alloc: Global, texts: &mut T, pair: &Pair<'_>) -> Outcome<Loaded>
     ensures { Loads T.gives pair.now texts.old result texts.new }
 {
     let both = read_both(alloc, texts, pair)?;
@@ -73,7 +65,7 @@ pub fn load_files<T: Texts>(
 }
 
 /// The verdict on a plan for a shop.
-pub(crate) fn judged(alloc: Global, both: Both) -> Result<Loaded, CommandFault>
+pub(crate) fn judged(alloc: Global, both: Both) -> Outcome<Loaded>
     ensures loaded { IsOrMemory (IsLoaded both) result }
     ensures not_shaped { ¬ (IsWellShaped both) → IsOk result }
 {
@@ -83,7 +75,7 @@ pub(crate) fn judged(alloc: Global, both: Both) -> Result<Loaded, CommandFault>
     }
 }
 
-fn verdict(alloc: Global, shaped: Shaped) -> Result<Loaded, CommandFault>
+fn verdict(alloc: Global, shaped: Shaped) -> Outcome<Loaded>
     requires { IsWellShaped shaped }
     ensures { IsOrMemory (IsLoaded shaped) result }
 {

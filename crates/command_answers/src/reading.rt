@@ -5,13 +5,14 @@ ghost use Rattle.command_answers.specs.declared.command_fault.CommandFault.TheVa
 ghost use Rattle.command_answers.specs.Reading.{IsFaultOfSystem};
 ghost use Rattle.command_answers.specs.Texts.{most_bytes, IsFileFault};
 
+use crate::answer::Outcome;
 use crate::command_fault::CommandFault;
 use std::alloc::Global;
 use std::io::{self, Read};
 use text_lines::MAX_INPUT;
 
 /// The bytes that a reader gives until its end.
-pub fn read_whole<R: Read + Drop>(alloc: Global, reader: R) -> Result<Vec<u8>, CommandFault>
+pub fn read_whole<R: Read + Drop>(alloc: Global, reader: R) -> Outcome<Vec<u8>>
     ensures within { IfOk result (λ bytes. vec_len bytes ≤ most_bytes) }
     ensures whole { IfOk result (λ bytes. IfSome (R.remaining reader) (λ all. bytes.items ≡ all)) }
     ensures fault { IfErr result IsFileFault }
@@ -24,7 +25,7 @@ pub fn read_whole<R: Read + Drop>(alloc: Global, reader: R) -> Result<Vec<u8>, C
 }
 
 /// The bytes that were read to the end, or why they can't be had.
-fn whole_of(read: io::Result<usize>, bytes: Vec<u8>) -> Result<Vec<u8>, CommandFault>
+fn whole_of(read: io::Result<usize>, bytes: Vec<u8>) -> Outcome<Vec<u8>>
     ensures within { IfOk read (λ _. vec_len bytes ≤ most_bytes → result ≡ Ok bytes) }
     ensures beyond { IfOk read (λ _. most_bytes < vec_len bytes → result ≡ Err InputTooLong) }
     ensures fault { IfErr read (λ error. IsErrAnd result (IsFaultOfSystem error)) }

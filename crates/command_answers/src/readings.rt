@@ -4,7 +4,7 @@ ghost use Rattle.std.specs.Option.{option_copied};
 ghost use Rattle.command_answers.specs.Readings.{IsInstanceRead, IsPlanRead};
 ghost use Rattle.command_answers.specs.Commands.{ReadsInstance, ReadsPlan};
 
-use crate::command_fault::CommandFault;
+use crate::answer::Outcome;
 use crate::texts::Texts;
 use orlib_read::{Named, read_from_collection, read_instance};
 use plan_text::read_plan;
@@ -12,11 +12,7 @@ use shop_base::Plan;
 use std::alloc::Global;
 
 /// The instance that the text tells.
-pub(crate) fn load_instance(
-    alloc: Global,
-    text: &[u8],
-    name: Option<&[u8]>,
-) -> Result<Named, CommandFault>
+pub(crate) fn load_instance(alloc: Global, text: &[u8], name: Option<&[u8]>) -> Outcome<Named>
     ensures { IsInstanceRead text.now (option_copied name.entry) result }
 {
     match name {
@@ -26,7 +22,7 @@ pub(crate) fn load_instance(
 }
 
 /// The plan that the text tells.
-pub(crate) fn load_plan(alloc: Global, text: &[u8]) -> Result<Plan, CommandFault>
+pub(crate) fn load_plan(alloc: Global, text: &[u8]) -> Outcome<Plan>
     ensures { IsPlanRead text.now result }
 {
     Ok(read_plan(alloc, text)?)
@@ -38,7 +34,7 @@ pub(crate) fn instance<T: Texts>(
     texts: &mut T,
     path: &str,
     name: Option<&[u8]>,
-) -> Result<Named, CommandFault>
+) -> Outcome<Named>
     ensures { ReadsInstance T.gives path.now (option_copied name.entry) texts.old result texts.new }
 {
     let text = texts.text(alloc, path)?;
@@ -46,7 +42,7 @@ pub(crate) fn instance<T: Texts>(
 }
 
 /// The plan that the file of this path tells.
-pub(crate) fn plan<T: Texts>(alloc: Global, texts: &mut T, path: &str) -> Result<Plan, CommandFault>
+pub(crate) fn plan<T: Texts>(alloc: Global, texts: &mut T, path: &str) -> Outcome<Plan>
     ensures { ReadsPlan T.gives path.now texts.old result texts.new }
 {
     let text = texts.text(alloc, path)?;

@@ -2,7 +2,7 @@ ghost use Rattle.std.specs.Prelude.{◌≤◌, ℕ, List, Result, IfOk, vec_len}
 ghost use Rattle.command_answers.specs.declared.command_fault.CommandFault.{CommandFault};
 ghost use Rattle.command_answers.specs.Texts.{most_bytes, text_of, Asks};
 
-use crate::command_fault::CommandFault;
+use crate::answer::Outcome;
 use std::alloc::Global;
 
 /// The files that the words of a command line name.
@@ -12,7 +12,7 @@ pub trait Texts {
 
     /// The bytes of the file of this path, 67,108,864 at most. The faults are that it can't be read, that it has more
     /// bytes, and that memory ran out.
-    fn text(&mut self, alloc: Global, path: &str) -> Result<Vec<u8>, CommandFault>
+    fn text(&mut self, alloc: Global, path: &str) -> Outcome<Vec<u8>>
         ensures asked { Asks gives path.now self.old (text_of result) self.new }
         ensures within { IfOk result (λ text. vec_len text ≤ most_bytes) };
 }
