@@ -15,7 +15,7 @@ use crate::command_fault::CommandFault;
 use crate::readings::{load_instance, load_plan};
 use crate::texts::Texts;
 use plan_verifier::{Verdict, Verified, verify};
-use shop_base::{ShapeFault, Shaped};
+use shop_base::ShapeFault;
 use std::alloc::Global;
 
 /// What is to be said of a plan for an instance.
@@ -70,17 +70,10 @@ pub(crate) fn judged(alloc: Global, both: Both) -> Outcome<Loaded>
     ensures not_shaped { ¬ (IsWellShaped both) → IsOk result }
 {
     match both.shaped() {
-        Ok(shaped) => verdict(alloc, shaped),
+        Ok(shaped) => match verify(alloc, shaped) {
+            Ok(verdict) => Ok(Loaded::Judged(verdict)),
+            Err((error, _)) => Err(CommandFault::from(error)),
+        },
         Err(fault) => Ok(Loaded::NotShaped(fault)),
-    }
-}
-
-fn verdict(alloc: Global, shaped: Shaped) -> Outcome<Loaded>
-    requires { IsWellShaped shaped }
-    ensures { IsOrMemory (IsLoaded shaped) result }
-{
-    match verify(alloc, shaped) {
-        Ok(verdict) => Ok(Loaded::Judged(verdict)),
-        Err((error, _)) => Err(CommandFault::from(error)),
     }
 }
