@@ -34,10 +34,7 @@ impl Loaded {
     {
         match self {
             Loaded::Judged(Verdict::Accepted(verified)) => Ok(verified),
-            Loaded::Judged(Verdict::Refused(back, why)) => {
-                Err(Loaded::Judged(Verdict::Refused(back, why)))
-            }
-            Loaded::NotShaped(fault) => Err(Loaded::NotShaped(fault)),
+            other => Err(other),
         }
     }
 }
