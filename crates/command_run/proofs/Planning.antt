@@ -1,5 +1,5 @@
 -- A search by planners that may propose more.
-use Rattle.std.proofs.Common.{◌≡◌, ℕ, zero, suc, ◌<◌, List, [], ◌∷◌, Some, Result, Ok, Err, inl, inr, length, slice_index_or, subst, sym, arith}
+use Rattle.std.proofs.Common.{◌≡◌, ◌↔◌, ℕ, zero, suc, ◌<◌, List, [], ◌∷◌, Some, Result, Ok, Err, inl, inr, length, slice_index_or, subst, sym, arith}
 use Rattle.shop_base.specs.Shop.{JobShop}
 use Rattle.shop_base.specs.Plan.{PlannedShop, ShopPlan}
 use Rattle.plan_seek.specs.declared.seek_fault.SeekFault.{SeekFault}
@@ -14,7 +14,7 @@ use Rattle.command_answers.specs.declared.command_fault.CommandFault.TheVariants
 use Rattle.command_answers.specs.Search.{task_in, IsFound, IsSearchLine, IsSearchAnswer}
 use Rattle.command_answers.specs.Steps.{Then, GoesOn, Told}
 use Rattle.command_answers.specs.Commands.{PairOfFiles, ReadsBoth, RunsPlan}
-use Rattle.command_run.specs.Planners.{AreTheTwo, MayPlanAt, MayPlan}
+use Rattle.command_run.specs.Planners.{MayPlanAt, MayPlan}
 
 module _ (may wide : Proposals) (rounds proposers : ℕ) (within : (turn : Turn) (proposal : Proposal) → may turn proposal → wide turn proposal) where
   fail_more : (t : PlanTask) (turn : Turn) → MayFail t (may turn) → MayFail t (wide turn)
@@ -85,6 +85,13 @@ module _ {B : Type 0} (may : B → JobShop → ℕ → Proposal → Type 0) (one
   -- what the two planners may propose is what is said of them
   both_may : (shop : JobShop) (turn : Turn) (proposal : Proposal) → MayPropose (λ b. may b shop) (one ∷ two ∷ []) turn proposal → MayPlan shop turn proposal
   both_may shop turn proposal m = at_place shop turn.round proposal turn.proposer m.who m.within m.stands m.given
+
+-- these two planners: the first one may propose anything, as the greedy one does, and the second one the shifted rows alone
+abbrev pub AreTheTwo : {B : Type 0} → (B → JobShop → ℕ → Proposal → Type 0) → List B → Type 0
+AreTheTwo may (one ∷ two ∷ []) =
+    ((shop : JobShop) (round : ℕ) (proposal : Proposal) → may one shop round proposal)
+    × ((shop : JobShop) (round : ℕ) (proposal : Proposal) → may two shop round proposal ↔ (proposal ≡ Some (shifted_order shop round)))
+AreTheTwo may other = ⊥
 
 -- a search by the two planners
 pub seeks : {W B : Type 0} (gives : W → List ℕ → Result (List ℕ) CommandFault → W → Type 0) (may : B → JobShop → ℕ → Proposal → Type 0) (planners : List B)

@@ -1,5 +1,5 @@
 -- The planners that are asked for a plan.
-use Rattle.std.specs.Prelude.{◌≡◌, ◌⊎◌, ◌↔◌, ℕ, zero, suc, List, [], ◌∷◌, Option, Some, Result, Err}
+use Rattle.std.specs.Prelude.{◌≡◌, ◌⊎◌, ℕ, zero, suc, List, Some, Result, Err}
 use Rattle.shop_base.specs.Shop.{JobShop}
 use Rattle.plan_seek.specs.Orders.{Proposal, shifted_order}
 use Rattle.plan_seek.specs.Turns.{Proposals}
@@ -16,13 +16,6 @@ MayPlanAt (suc (suc place)) shop round proposal = ⊥
 
 abbrev pub MayPlan : JobShop → Proposals
 MayPlan shop turn proposal = MayPlanAt turn.proposer shop turn.round proposal
-
--- these two planners: the first one may propose anything, as the greedy one does, and the second one the shifted rows alone
-abbrev pub AreTheTwo : {B : Type 0} → (B → JobShop → ℕ → Proposal → Type 0) → List B → Type 0
-AreTheTwo may (one ∷ two ∷ []) =
-    ((shop : JobShop) (round : ℕ) (proposal : Proposal) → may one shop round proposal)
-    × ((shop : JobShop) (round : ℕ) (proposal : Proposal) → may two shop round proposal ↔ (proposal ≡ Some (shifted_order shop round)))
-AreTheTwo may other = ⊥
 
 -- a plan is sought by the two planners, unless memory runs out before any file is asked for
 abbrev pub SeeksPlan : {W : Type 0} → (W → List ℕ → Result (List ℕ) CommandFault → W → Type 0) → ℕ → PairOfFiles → W → Result Answer CommandFault → W → Type 0

@@ -1,7 +1,6 @@
 //! The command `plan`.
 
-ghost use Rattle.command_answers.specs.Commands.{RunsPlan};
-ghost use Rattle.command_run.specs.Planners.{AreTheTwo, MayPlan, SeeksPlan};
+ghost use Rattle.command_run.specs.Planners.{SeeksPlan};
 
 use command_answers::{Answered, Pair, Texts, plan_answer};
 use plan_seek::{GreedyProposer, Proposer, ShiftProposer};
@@ -21,19 +20,5 @@ pub(crate) fn seek_answer<T: Texts>(
     planners.push(greedy).map_err(AllocError::from)?;
     let shift = Box::new(alloc, ShiftProposer::new()).map_err(AllocError::from)?;
     planners.push(shift).map_err(AllocError::from)?;
-    answer_by(alloc, texts, pair, &planners, rounds)
-}
-
-/// The search by these two planners.
-fn answer_by<T: Texts>(
-    alloc: Global,
-    texts: &mut T,
-    pair: &Pair<'_>,
-    planners: &[Box<dyn Proposer>],
-    rounds: u32,
-) -> Answered
-    requires { AreTheTwo (λ b. may b) planners.now }
-    ensures { RunsPlan T.gives MayPlan rounds 2 pair.now texts.old result texts.new }
-{
-    plan_answer(alloc, texts, pair, planners, rounds)
+    plan_answer(alloc, texts, pair, &planners, rounds)
 }
