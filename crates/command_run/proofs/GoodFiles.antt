@@ -36,21 +36,21 @@ use Rattle.command_run.specs.Program.{RunsDrive, RunsResume}
 use Rattle.command_run.specs.Laws.{Shelf, TellPlan, IsAnswered}
 
 -- the answer is one of these, or memory ran out
-answered : {A : Type 0} (Is : A → Type 0) (files : List (List ℕ)) (outcome : Result A CommandFault) (asked : List (List ℕ)) → IsOrMemory Is outcome → asked ≡ files → IsAnswered Is files outcome asked
+pub answered : {A : Type 0} (Is : A → Type 0) (files : List (List ℕ)) (outcome : Result A CommandFault) (asked : List (List ℕ)) → IsOrMemory Is outcome → asked ≡ files → IsAnswered Is files outcome asked
 answered Is files (Ok a) asked is same = (is, same)
 answered Is files (Err fault) asked is same = is
 
-wanting : {A : Type 0} (Is : A → Type 0) (files : List (List ℕ)) (outcome : Result A CommandFault) (asked : List (List ℕ)) → outcome ≡ Err Memory → IsAnswered Is files outcome asked
+pub wanting : {A : Type 0} (Is : A → Type 0) (files : List (List ℕ)) (outcome : Result A CommandFault) (asked : List (List ℕ)) → outcome ≡ Err Memory → IsAnswered Is files outcome asked
 wanting Is files outcome asked is = subst (λ r. IsAnswered Is files r asked) (sym is) refl
 
 -- a reason for a refusal leaves no plan to be accepted
-reason_refutes : (p : PlannedShop) (why : Why) → IsReason p why → IsAcceptable p → ⊥
+pub reason_refutes : (p : PlannedShop) (why : Why) → IsReason p why → IsAcceptable p → ⊥
 reason_refutes p (Cycle nodes) is acceptable = acceptable.acyclic nodes.items (cycle_simple p nodes.items is)
 reason_refutes p (Late job leaves chain) is acceptable = (let within = acceptable.budgets job is.job _ leaves is.path in omega (arith, within, is.past))
 
 module _ (content : List ℕ → Result (List ℕ) CommandFault) where
   -- a file that is there was asked for, and what it tells was read
-  asked_and_read : {A : Type 0} (Is : List ℕ → Result A CommandFault → Type 0) (path text : List ℕ) → content path ≡ Ok text → (before : List (List ℕ)) (came : Result (List ℕ) CommandFault) (mid : List (List ℕ))
+  pub asked_and_read : {A : Type 0} (Is : List ℕ → Result A CommandFault → Type 0) (path text : List ℕ) → content path ≡ Ok text → (before : List (List ℕ)) (came : Result (List ℕ) CommandFault) (mid : List (List ℕ))
       (read : Result A CommandFault) (after : List (List ℕ)) → Asks (Shelf content) path before came mid → GoesOn (λ t. Told (Is t)) came mid read after → Is text read × (after ≡ before ++ path ∷ [])
   asked_and_read Is path text is before (Ok t) mid read after given on =
       let same : t ≡ text = (let both : Ok t ≡ Ok text = given.0 ∙ is in cc both) in

@@ -6,4 +6,6 @@ pub mod Refusing
 pub mod LowStatuses
 pub mod Endings
 pub mod GoodFiles
+pub mod GoodHubs
+pub mod GoodInputs
 pub mod SameWriting

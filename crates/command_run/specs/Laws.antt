@@ -1,5 +1,5 @@
 -- What the program's clauses come to in plain words.
-use Rattle.std.specs.Prelude.{◌≡◌, ◌≢◌, ℕ, ◌≤◌, List, [], ◌∷◌, ◌++◌, ◌⊎◌, length, get_or, Option, Some, true, false, Result, Ok, Err}
+use Rattle.std.specs.Prelude.{◌≡◌, ◌≢◌, ℕ, ◌≤◌, List, [], ◌∷◌, ◌++◌, ◌⊎◌, length, map, get_or, Option, None, Some, true, false, Result, Ok, Err}
 use Rattle.shop_base.specs.Shop.{JobShop}
 use Rattle.shop_base.specs.Plan.{PlannedShop, IsWellShaped}
 use Rattle.orlib_read.specs.declared.or_fault.OrFault.{OrFault}
@@ -13,7 +13,7 @@ use Rattle.command_words.specs.declared.words.CommandName.TheVariants.{Drive}
 use Rattle.command_words.specs.Choice.{word_of, word_found, rows_found, files_in, instance_in, reasons_in, found_in}
 use Rattle.command_answers.specs.declared.answer.Answer.{Answer}
 use Rattle.command_answers.specs.declared.command_fault.CommandFault.{CommandFault}
-use Rattle.command_answers.specs.declared.command_fault.CommandFault.TheVariants.{Instance, Memory}
+use Rattle.command_answers.specs.declared.command_fault.CommandFault.TheVariants.{Instance, Read, Memory}
 use Rattle.command_answers.specs.declared.logs.Telling.{Telling}
 use Rattle.command_answers.specs.Texts.{most_bytes}
 use Rattle.command_answers.specs.Instances.{Tells, IsFirstInstanceFault}
@@ -26,12 +26,13 @@ use Rattle.command_answers.specs.LogLines.{IsLogLine}
 use Rattle.command_answers.specs.Search.{IsSearchAnswer}
 use Rattle.command_answers.specs.Improving.{IsImproveAnswer}
 use Rattle.command_answers.specs.Commands.{PairOfFiles, RunsFacts, RunsShape, RunsCheck, RunsExplain, RunsLog}
-use Rattle.command_run.specs.Streams.{Streams, Output, Errors}
+use Rattle.command_run.specs.Streams.{Streams, Input, Output, Errors}
+use Rattle.command_run.specs.Inputs.{RunsInput}
 use Rattle.command_run.specs.Planners.{MayPlan, SeeksPlan}
 use Rattle.command_run.specs.Improvers.{AsksOne, ImprovesPlan}
 use Rattle.command_run.specs.Drives.{IsDrive, DrivesCell}
 use Rattle.command_run.specs.Resumes.{IsResume, ResumesText}
-use Rattle.command_run.specs.Hubs.{AreDrives}
+use Rattle.command_run.specs.Hubs.{AreDrives, DrivesCells}
 use Rattle.command_run.specs.Ending.{WasTold, IsLineOut}
 use Rattle.command_run.specs.Program.{RunsDrive, RunsResume, RunsHub, RunsProgram}
 
@@ -161,6 +162,42 @@ abbrev pub ResumeGoesOn : Type 0
 ResumeGoesOn = (before after : Streams) (content : List ℕ → Result (List ℕ) CommandFault) (pair : PairOfFiles) (log text : List ℕ) (p : PlannedShop) (outcome : Result Answer CommandFault) (asked : List (List ℕ))
     → TellPlan content pair p → IsWellShaped p → IsAcceptable p → content log ≡ Ok text → RunsResume (Shelf content) pair log [] before outcome asked after
     → ((asked ≡ pair.path ∷ pair.plan ∷ log ∷ []) × ((v : VerifiedPlan) × (v.planned ≡ p) × ResumesText v (Ok text) before after outcome)) ⊎ (outcome ≡ Err Memory)
+
+-- the file of this path tells this plan, which is accepted, for the instance of this text
+pub record TellsAccepted (content : List ℕ → Result (List ℕ) CommandFault) (instance : List ℕ) (name : Option (List ℕ)) (path : List ℕ) (p : PlannedShop) : Type 0 where
+  pub plan : List ℕ
+  pub plan_is : content path ≡ Ok plan
+  pub tell : TellBoth instance name plan p
+  pub well_shaped : IsWellShaped p
+  pub acceptable : IsAcceptable p
+
+-- the files of these paths tell these plans, one each
+abbrev pub TellAccepted : (List ℕ → Result (List ℕ) CommandFault) → List ℕ → Option (List ℕ) → List (List ℕ) → List PlannedShop → Type 0
+TellAccepted content instance name [] [] = Unit {0}
+TellAccepted content instance name (path ∷ paths) (p ∷ plans) = TellsAccepted content instance name path p × TellAccepted content instance name paths plans
+TellAccepted content instance name paths plans = ⊥
+
+-- the cells of these plans were driven
+abbrev pub DrivesPlans : List PlannedShop → Streams → Streams → Result Answer CommandFault → Type 0
+DrivesPlans plans before after outcome = (cells : List VerifiedPlan) × (map (λ (v : VerifiedPlan). v.planned) cells ≡ plans) × DrivesCells cells before after outcome
+
+-- `hub`: where all plans are accepted, their cells are driven, with exactly these files asked for, unless memory runs out before
+abbrev pub HubDrivesPlans : Type 0
+HubDrivesPlans = (before after : Streams) (content : List ℕ → Result (List ℕ) CommandFault) (path instance : List ℕ) (name : Option (List ℕ)) (files : List (List ℕ)) (plans : List PlannedShop) (outcome : Result Answer CommandFault) (asked : List (List ℕ))
+    → content path ≡ Ok instance → TellAccepted content instance name files plans → RunsHub (Shelf content) path name files [] before outcome asked after
+    → ((asked ≡ path ∷ files) × DrivesPlans plans before after outcome) ⊎ (outcome ≡ Err Memory)
+
+-- the whole input was read, and is answered by the line of the shop's facts; no answer is given only where a read failed or memory ran out
+abbrev pub IsInputAnswered : JobShop → Result Answer CommandFault → Input → Type 0
+IsInputAnswered shop (Ok answer) after = AreFacts answer shop × (after.left ≡ Some [])
+IsInputAnswered shop (Err Read) after = after.failed ≡ true
+IsInputAnswered shop (Err Memory) after = Unit {0}
+IsInputAnswered shop (Err other) after = ⊥
+
+-- the command without words: an input that tells a shop, of no more bytes than the limit, is answered by the facts
+abbrev pub InputAnswersShop : Type 0
+InputAnswersShop = (before after : Input) (text description : List ℕ) (shop : JobShop) (outcome : Result Answer CommandFault)
+    → before.left ≡ Some text → length text ≤ most_bytes → Tells text None description shop → RunsInput before outcome after → IsInputAnswered shop outcome after
 
 -- ---- plans that aren't accepted, in files that don't change
 

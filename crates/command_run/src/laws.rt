@@ -5,6 +5,7 @@ ghost use Rattle.command_run.specs.Laws.{LogTellsInstanceFirst, PlanTellsInstanc
 ghost use Rattle.command_run.specs.Laws.{DriveTellsInstanceFirst, ResumeTellsInstanceFirst, HubTellsInstanceFirst};
 ghost use Rattle.command_run.specs.Laws.{FactsAnswerShop, ShapeAnswersPlan, CheckAnswersPlan, ExplainAnswersPlan, LogIsAnswered};
 ghost use Rattle.command_run.specs.Laws.{PlanAnswersPlan, ImproveAnswersPlan, DriveDrivesPlan, ResumeGoesOn};
+ghost use Rattle.command_run.specs.Laws.{HubDrivesPlans, InputAnswersShop};
 ghost use Rattle.command_run.specs.Laws.{DriveAnswersByCheck, ResumeAnswersByCheck, DriveWritesTheSame};
 ghost use Rattle.command_run.specs.Laws.{WhatFailsIsTold, NothingIsHeldBack, WhatFailsIsNoAnswer};
 
@@ -26,8 +27,9 @@ pub fn instance_first()
 {}
 
 /// Files that tell a shop and a plan are answered, unless memory runs out: by the command's line for that shop and that
-/// plan, or by the driven cell of the plan if it is accepted, which `resume` takes up from its log. Exactly these files are
-/// asked for.
+/// plan, or by the driven cell of the plan if it is accepted, which `resume` takes up from its log. `hub` drives the cells
+/// of its plans if all are accepted. Exactly these files are asked for, in this order. Without words an input that tells a
+/// shop is answered by its facts, unless a read fails or memory runs out.
 pub fn good_files_are_answered()
     ensures facts { FactsAnswerShop }
     ensures shape { ShapeAnswersPlan }
@@ -38,6 +40,8 @@ pub fn good_files_are_answered()
     ensures improve { ImproveAnswersPlan }
     ensures drive { DriveDrivesPlan }
     ensures resume { ResumeGoesOn }
+    ensures hub { HubDrivesPlans }
+    ensures input { InputAnswersShop }
 {}
 
 /// A plan that isn't accepted has no cell to be driven: it is answered by the line of `check`, unless memory runs out, the

@@ -2,6 +2,8 @@ use Rattle.command_answers.specs.Shapes.{IsShapeLine}
 use Rattle.command_answers.specs.Checks.{IsCheckLine}
 use Rattle.command_answers.specs.Explains.{IsExplanation}
 use Rattle.command_run.proofs.GoodFiles.{good_facts, good_plan, good_log, good_search, good_improvement, good_drive, good_resume}
+use Rattle.command_run.proofs.GoodHubs.{good_hub}
+use Rattle.command_run.proofs.GoodInputs.{good_input}
 use Rattle.command_run.proofs.laws.good_files_are_answered.Goals as goal
 
 pub returns-clause-facts : goal.returns-clause-facts
@@ -30,3 +32,9 @@ returns-clause-drive c = λ before after content pair p outcome asked good shape
 
 pub returns-clause-resume : goal.returns-clause-resume
 returns-clause-resume c = λ before after content pair log text p outcome asked good shaped acceptable is run. good_resume content pair p good before after log text outcome asked shaped acceptable is run
+
+pub returns-clause-hub : goal.returns-clause-hub
+returns-clause-hub c = λ before after content path instance name files plans outcome asked is good run. good_hub content instance name path files plans before after outcome asked is good run
+
+pub returns-clause-input : goal.returns-clause-input
+returns-clause-input c = λ before after text description shop outcome given few tells run. good_input before after text description shop outcome given few tells run
