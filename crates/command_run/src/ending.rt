@@ -6,7 +6,7 @@ ghost use Rattle.command_run.specs.Ending.{WasTold, IsRefusalLine, IsFaultLine, 
 
 use crate::streams::Streams;
 use cell_drive::{Outlet, Source};
-use command_answers::{Answer, Answered, CommandFault};
+use command_answers::{Answer, Answered, CommandFault, Outcome};
 use run_log::{Sink, put_all};
 use std::alloc::{AllocError, Global};
 
@@ -30,7 +30,7 @@ pub(crate) fn end<R: Source, W: Outlet, E: Sink>(
 }
 
 /// Prints an answer, and shows it.
-fn print<W: Outlet>(answer: &Answer, output: &mut W) -> Result<u8, CommandFault>
+fn print<W: Outlet>(answer: &Answer, output: &mut W) -> Outcome<u8>
     ensures { IsPrinted answer.now (output_of W.taken W.failed W.pending output.old)
         (output_of W.taken W.failed W.pending output.new) result }
 {

@@ -7,7 +7,7 @@ ghost use Rattle.command_run.specs.Inputs.{IsInputRead, RunsInput};
 
 use crate::streams::Streams;
 use cell_drive::{MAX_PIECE, Outlet, Source, reading_room};
-use command_answers::{Answered, CommandFault, facts_of};
+use command_answers::{Answered, CommandFault, Outcome, facts_of};
 use std::alloc::Global;
 use text_lines::MAX_INPUT;
 
@@ -31,7 +31,7 @@ fn read_pieces<R: Source, W: Outlet>(
     input: &mut R,
     room: &mut [u8],
     output: &W,
-) -> Result<Vec<u8>, CommandFault>
+) -> Outcome<Vec<u8>>
     requires room { (0 < length room.old) × (length room.old ≤ MAX_PIECE) }
     requires shown { W.pending output.now ≡ [] }
     ensures { IsInputRead (input_of R.left R.failed input.old) (text_of result) (input_of R.left R.failed input.new) }

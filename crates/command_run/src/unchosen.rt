@@ -1,13 +1,13 @@
 //! What words that choose no command come to.
 
-use command_answers::{Answer, CommandFault, GOOD};
+use command_answers::{Answer, Answered, CommandFault, GOOD};
 use command_words::WordsFault;
 
 /// What follows words that choose no command.
 #[derive(Drop)]
 pub(crate) enum Unchosen {
     /// Help that was asked for is a good answer, and out of memory is a fault.
-    Ends(Result<Answer, CommandFault>),
+    Ends(Answered),
     /// What is wrong with the words.
     Usage(String),
 }
