@@ -1,5 +1,5 @@
 -- Plans that are loaded one after another.
-use Rattle.std.proofs.Common.{◌≡◌, ℕ, ◌+◌, ◌<◌, List, [], ◌∷◌, ◌++◌, Option, Result, Ok, Err, length, subst, sym, ap, ◌∙◌, map, drop, get_or, string_bytes, String, Global}
+use Rattle.std.proofs.Common.{◌≡◌, ℕ, ◌+◌, ◌<◌, List, [], ◌∷◌, Option, Result, length, subst, sym, ap, ◌∙◌, map, drop, get_or, string_bytes, String, Global}
 use Rattle.std.proofs.lemmas.List.{at_drop_more}
 use Rattle.plan_verifier.specs.Accepted.{VerifiedPlan}
 use Rattle.command_answers.specs.declared.cells.Cells.{Cells}

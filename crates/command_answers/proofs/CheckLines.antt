@@ -1,5 +1,5 @@
 -- The lines of verdicts.
-use Rattle.std.proofs.Common.{ℕ, ◌<◌, length, arith, ◌∙◌, inl, inr}
+use Rattle.std.proofs.Common.{ℕ, ◌<◌, arith, ◌∙◌, inl, inr}
 use Rattle.shop_base.specs.Plan.{PlannedShop, jobs}
 use Rattle.plan_verifier.specs.declared.verdict.Verdict.TheVariants.{Accepted, Refused}
 use Rattle.plan_verifier.specs.declared.verdict.Why.TheVariants.{Cycle, Late}

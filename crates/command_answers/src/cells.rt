@@ -1,6 +1,6 @@
 //! The plans of the command `hub`.
 
-ghost use Rattle.std.specs.Prelude.{◌≡◌, ◌++◌, [], IfOk, codes, decimal, map};
+ghost use Rattle.std.specs.Prelude.{[], map};
 ghost use Rattle.std.specs.Option.{option_copied};
 ghost use Rattle.std.specs.String.{string_bytes};
 ghost use Rattle.command_answers.specs.Cells.{IsCellLine, LoadsOne, LoadsEach, LoadsCells};

@@ -1,6 +1,6 @@
 //! The command `check`.
 
-ghost use Rattle.std.specs.Prelude.{◌≡◌, IfOk, IfErr};
+ghost use Rattle.std.specs.Prelude.{IfOk, IfErr};
 ghost use Rattle.std.specs.Option.{option_copied};
 ghost use Rattle.command_answers.specs.OnTexts.{PlannedShop, OrFault, PlanFault, IsFirstInstanceFault, IsFirstPlanFault, Holds, IsInstanceRefusal};
 ghost use Rattle.command_answers.specs.OnTexts.{TellBoth, TellsAShop, IsRightOfBoth, IsPlanRefusal, IsOfBoth};

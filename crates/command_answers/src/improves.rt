@@ -1,6 +1,5 @@
 //! The command `improve`.
 
-ghost use Rattle.std.specs.Prelude.{◌≡◌};
 ghost use Rattle.plan_improve.specs.Runs.{AfterRounds};
 ghost use Rattle.plan_improve.specs.Improved.{judged};
 ghost use Rattle.command_answers.specs.Checks.{verdict_status};

@@ -1,6 +1,6 @@
 //! The texts of answers.
 
-ghost use Rattle.std.specs.Prelude.{◌≡◌, ◌++◌, IfOk, OnOk, codes, decimal};
+ghost use Rattle.std.specs.Prelude.{◌≡◌, ◌++◌, IfOk, OnOk, decimal};
 ghost use Rattle.command_answers.specs.Documents.{IsDocumentAnswer};
 ghost use Rattle.command_answers.specs.Shapes.{IsLineOfFault};
 ghost use Rattle.command_answers.specs.LogLines.{log_refused_line};

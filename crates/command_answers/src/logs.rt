@@ -1,6 +1,6 @@
 //! The commands `audit` and `gantt`.
 
-ghost use Rattle.std.specs.Prelude.{◌≡◌, IfOk, IfErr};
+ghost use Rattle.std.specs.Prelude.{◌≡◌, IfOk};
 ghost use Rattle.command_answers.specs.LogLines.{IsRunTold, IsLogLine, IsFaultTold, kept_line, end_words};
 ghost use Rattle.command_answers.specs.Steps.{IsOrMemory};
 ghost use Rattle.command_answers.specs.Commands.{RunsLog};

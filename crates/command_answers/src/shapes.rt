@@ -1,6 +1,6 @@
 //! The command `shape`.
 
-ghost use Rattle.std.specs.Prelude.{IfOk, codes};
+ghost use Rattle.std.specs.Prelude.{IfOk};
 ghost use Rattle.command_answers.specs.Shapes.{IsRefusedLine};
 ghost use Rattle.command_answers.specs.Commands.{RunsShape};
 

@@ -1,5 +1,5 @@
 -- What a good input is answered by.
-use Rattle.std.proofs.Common.{◌≡◌, ℕ, ◌≤◌, ◌++◌, List, [], Option, None, Some, true, Result, Ok, Err, length, length-append, append-nil, ap, sym, ◌∙◌, subst, arith}
+use Rattle.std.proofs.Common.{◌≡◌, ℕ, ◌≤◌, ◌++◌, List, [], Option, None, Some, Result, Ok, Err, length, length-append, append-nil, ap, sym, ◌∙◌, subst, arith}
 use Rattle.std.specs.Io.KnownBytes.{Consumes, IsAtEnd}
 use Rattle.shop_base.specs.Shop.{JobShop}
 use Rattle.command_answers.specs.declared.answer.Answer.{Answer}

@@ -9,7 +9,7 @@ use Rattle.command_answers.specs.declared.loading.Loaded.{Loaded}
 use Rattle.command_answers.specs.declared.command_fault.CommandFault.{CommandFault}
 use Rattle.command_answers.specs.declared.command_fault.CommandFault.TheVariants.{Instance, Plan, Read, Write, InputTooLong, Memory}
 use Rattle.command_answers.specs.Instances.{IsFirstInstanceFault, IsInstanceRefusal}
-use Rattle.command_answers.specs.Steps.{Then, GoesOn, Told}
+use Rattle.command_answers.specs.Steps.{GoesOn, Told}
 use Rattle.command_answers.specs.Texts.{Asks}
 use Rattle.command_answers.specs.Readings.{IsInstanceRead, AreFactsAnswered}
 use Rattle.command_answers.specs.Commands.{PairOfFiles, ReadsInstance, ReadsBoth, WithBoth, RunsFacts}

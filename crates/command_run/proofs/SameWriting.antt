@@ -1,5 +1,5 @@
 -- A driven cell writes the same.
-use Rattle.std.proofs.Common.{◌≡◌, ◌≢◌, ◌↔◌, ℕ, ◌<◌, ◌≤◌, ◌++◌, List, [], ◌⊎◌, Bool, true, false, IsTrue, Option, Some, None, Result, Ok, Err, IfSome, length, length-append, get_or, map, option_map, inl, inr, ap, sym, ◌∙◌, subst, arith, refl}
+use Rattle.std.proofs.Common.{◌≡◌, ◌↔◌, ℕ, ◌≤◌, ◌++◌, List, [], ◌⊎◌, Bool, true, false, IsTrue, Option, Some, None, Result, Ok, Err, IfSome, length, length-append, get_or, map, option_map, inl, inr, ap, sym, ◌∙◌, subst, arith, refl}
 use Rattle.std.specs.Io.KnownBytes.{Appends, Consumes, IsAtEnd}
 use Rattle.std.specs.String.{string_bytes}
 use Rattle.std.proofs.KnownBytes.{Appends-trans, Consumes-whole}
@@ -20,7 +20,7 @@ use Rattle.command_words.specs.declared.words.CommandName.{CommandName}
 use Rattle.command_words.specs.declared.words.CommandName.TheVariants.{Input, Facts, Shape, Check, Explain, Plan, Improve, Drive, Resume, Hub, Audit, Gantt}
 use Rattle.command_words.specs.declared.words.WordsFault.{WordsFault}
 use Rattle.command_words.specs.declared.words.WordsFault.TheVariants.{Usage, Memory as NoWordsMemory}
-use Rattle.command_words.specs.Choice.{word_of, IsChoiceOf, TellsOneOf, reasons_in, found_in}
+use Rattle.command_words.specs.Choice.{word_of, IsChoiceOf, TellsOneOf, found_in}
 use Rattle.command_answers.specs.declared.answer.Answer.{Answer}
 use Rattle.command_answers.specs.declared.command_fault.CommandFault.{CommandFault}
 use Rattle.command_answers.specs.declared.command_fault.CommandFault.TheVariants.{Write, Memory}
@@ -29,7 +29,7 @@ use Rattle.command_answers.specs.Commands.{PairOfFiles}
 use Rattle.command_run.specs.Streams.{Streams, Output, Errors}
 use Rattle.command_run.specs.Drives.{IsDrive, IsEnded, IsEndAnswer, DrivesCell, status_at, end_of_drive}
 use Rattle.command_run.specs.Ending.{IsTold, IsPrinted, IsToldAfter, Ends}
-use Rattle.command_run.specs.Program.{AreWordsRead, RunsDrive, RunsCommand, Follows, Commands, pair_in}
+use Rattle.command_run.specs.Program.{AreWordsRead, RunsDrive, RunsCommand, Follows, pair_in}
 use Rattle.command_run.specs.Laws.{Shelf, TellPlan, AskForDrive, RunsWell}
 use Rattle.command_run.proofs.GoodFiles.{good_drive}
 

@@ -1,5 +1,5 @@
 -- What taking up the run of an accepted plan comes to.
-use Rattle.std.specs.Prelude.{◌≡◌, List, [], ℕ, length, take, Option, Some, None, Result, Ok, Err, IfOk, IfErr, OnOk}
+use Rattle.std.specs.Prelude.{◌≡◌, List, ℕ, length, take, Option, Some, None, Result, Ok, Err, IfOk, IfErr, OnOk}
 use Rattle.shop_base.specs.Cell.{start}
 use Rattle.plan_verifier.specs.Accepted.{VerifiedPlan}
 use Rattle.plan_verifier.specs.declared.verdict.Verdict.TheVariants.{Accepted, Refused}
