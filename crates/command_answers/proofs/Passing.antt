@@ -1,24 +1,18 @@
--- A fault that is passed on.
-use Rattle.std.proofs.Common.{◌≡◌, ◌≢◌, ◌∙◌, Result, Ok, Err, IsErrAnd, IfOk, IfErr}
+-- A fault that is passed on, and what comes of two texts.
+use Rattle.std.proofs.Common.{◌≡◌, ◌≢◌, ◌∙◌, ℕ, List, Option, Result, Ok, Err, IsErrAnd, ap, sym, subst}
+use Rattle.shop_base.specs.Shop.{JobShop}
+use Rattle.shop_base.specs.Plan.{ShopPlan, PlannedShop}
+use Rattle.orlib_read.specs.declared.named.Named.{Named}
 use Rattle.orlib_read.specs.declared.or_fault.OrFault.{OrFault}
 use Rattle.orlib_read.specs.declared.or_fault.OrFault.TheVariants.{Memory as WantOfReader}
 use Rattle.plan_text.specs.declared.plan_fault.PlanFault.{PlanFault}
 use Rattle.plan_text.specs.declared.plan_fault.PlanFault.TheVariants.{Memory as WantOfMemory}
 use Rattle.command_answers.specs.declared.command_fault.CommandFault.{CommandFault}
-use Rattle.command_answers.specs.declared.command_fault.CommandFault.TheVariants.{Memory}
+use Rattle.command_answers.specs.declared.command_fault.CommandFault.TheVariants.{Instance, Plan, Read, Write, InputTooLong, Memory}
 use Rattle.command_answers.specs.Instances.{Holds, IsInstanceRefusal, instance_command_fault}
 use Rattle.command_answers.specs.Steps.{IsOrMemory}
-use Rattle.command_answers.specs.Plans.{IsPlanRefusal, plan_command_fault}
-
--- an answer of this property, or that memory ran out
-pub or_memory : {A : Type 0} (P : A → Type 0) (answer : Result A CommandFault) → IsOrMemory P answer → Holds answer P
-or_memory P (Ok a) is = is
-or_memory P (Err fault) is = is
-
--- an answer of this property, unless memory ran out
-pub kept_property : {A : Type 0} (P : A → Type 0) (answer : Result A CommandFault) → IfOk answer P → IfErr answer (λ fault. fault ≡ Memory) → Holds answer P
-kept_property P (Ok a) holds memory = holds
-kept_property P (Err fault) holds memory = memory
+use Rattle.command_answers.specs.Plans.{IsPlanRefusal, IsRightOfBoth, plan_command_fault}
+use Rattle.command_answers.specs.Readings.{IsInstanceRead, IsPlanRead, AreTextsAnswered}
 
 -- an answer that passes on that memory ran out holds to every property
 pub passed_memory : {A : Type 0} (P : A → Type 0) (answer : Result A CommandFault) (fault : CommandFault) → fault ≡ Memory → IsErrAnd answer (λ passed. passed ≡ fault) → Holds answer P
@@ -37,3 +31,106 @@ pub passed_plan : {A : Type 0} (answer : Result A CommandFault) (told fault : Pl
 passed_plan (Ok a) told fault same passed = absurd passed
 passed_plan (Err answered) WantOfMemory fault same passed = rw passed tt
 passed_plan (Err answered) told fault same passed = rw passed (same (λ memory. cc memory))
+
+-- what is said of a fault is said of an answer that passes it on
+pub at_fault : {A : Type 0} (P : Result A CommandFault → Type 0) (answer : Result A CommandFault) (fault : CommandFault) → IsErrAnd answer (λ passed. passed ≡ fault) → P (Err fault) → P answer
+at_fault P (Ok a) fault passed is = absurd passed
+at_fault P (Err answered) fault passed is = subst (λ f. P (Err f)) (sym passed) is
+
+-- ---- over two texts
+
+module _ (instance : List ℕ) (name : Option (List ℕ)) (text : List ℕ) where
+  -- the instance is refused
+  pub refused_instance : {A : Type 0} (Is : PlannedShop → A → Type 0) (fault : CommandFault) → IsInstanceRead instance name (Err fault) → AreTextsAnswered instance name text Is (Err fault)
+  refused_instance Is (Instance why) read = record {
+    found = tt;
+    only = λ p both. read.only both.description p.shop both.shop;
+    fault = read.fault;
+    first = read.first;
+    second = λ other tells is. absurd (let memory : Instance why ≡ Memory = read.only tells.0 tells.1 tells.2 in cc memory);
+  }
+  refused_instance Is Memory read = record {
+    found = tt;
+    only = λ p both. read.only both.description p.shop both.shop;
+    fault = tt;
+    first = read.first;
+    second = λ other tells is. tt;
+  }
+  refused_instance Is (Plan why) read = absurd read.fault
+  refused_instance Is Read read = absurd read.fault
+  refused_instance Is Write read = absurd read.fault
+  refused_instance Is InputTooLong read = absurd read.fault
+
+  -- the instance tells a shop, and the plan is refused
+  pub refused_plan : {A : Type 0} (Is : PlannedShop → A → Type 0) (named : Named) (fault : CommandFault) → IsInstanceRead instance name (Ok named) → IsPlanRead text (Err fault)
+      → AreTextsAnswered instance name text Is (Err fault)
+  refused_plan Is named (Plan why) shop read = record {
+    found = tt;
+    only = λ p both. read.only p.plan both.plan;
+    fault = ((named.description.items, named.shop, shop.found), read.fault);
+    first = λ other is. absurd (shop.first other is);
+    second = λ other tells is. read.first other is;
+  }
+  refused_plan Is named Memory shop read = record {
+    found = tt;
+    only = λ p both. read.only p.plan both.plan;
+    fault = tt;
+    first = λ other is. absurd (shop.first other is);
+    second = λ other tells is. tt;
+  }
+  refused_plan Is named (Instance why) shop read = absurd read.fault
+  refused_plan Is named Read shop read = absurd read.fault
+  refused_plan Is named Write shop read = absurd read.fault
+  refused_plan Is named InputTooLong shop read = absurd read.fault
+
+  same_planned : (named : Named) (plan : ShopPlan) (p : PlannedShop) → named.shop ≡ p.shop → plan ≡ p.plan → record { shop = named.shop; plan = plan } ≡ p
+  same_planned named plan p shop same =
+      let of_shop : JobShop → PlannedShop = λ s. record { shop = s; plan = plan } in
+      let of_plan : ShopPlan → PlannedShop = λ q. record { shop = p.shop; plan = q } in
+      ap of_shop shop ∙ ap of_plan same
+
+  -- both are read, and this comes of them, or memory ran out
+  pub texts_answered : {A : Type 0} (Is : PlannedShop → A → Type 0) (named : Named) (plan : ShopPlan) (outcome : Result A CommandFault) → IsInstanceRead instance name (Ok named) → IsPlanRead text (Ok plan)
+      → IsOrMemory (Is (record { shop = named.shop; plan = plan })) outcome → AreTextsAnswered instance name text Is outcome
+  texts_answered Is named plan (Ok a) shop read is = record {
+    found = record { planned = record { shop = named.shop; plan = plan }; tell = record { description = named.description.items; shop = shop.found; plan = read.found }; is = is };
+    only = λ p both. subst (λ q. Is q a) (same_planned named plan p (shop.only both.description p.shop both.shop).1 (read.only p.plan both.plan)) is;
+    fault = tt;
+    first = λ other wrong. absurd (shop.first other wrong);
+    second = λ other tells wrong. absurd (read.first other wrong);
+  }
+  texts_answered Is named plan (Err fault) shop read is = record {
+    found = tt;
+    only = λ p both. is;
+    fault = subst (IsRightOfBoth instance name text) (sym is) tt;
+    first = λ other wrong. absurd (shop.first other wrong);
+    second = λ other tells wrong. absurd (read.first other wrong);
+  }
+
+  -- a fault that came is passed on
+  pub passed_on : {A B : Type 0} (Is : PlannedShop → A → Type 0) (More : PlannedShop → B → Type 0) (fault : CommandFault) → AreTextsAnswered instance name text Is (Err fault)
+      → AreTextsAnswered instance name text More (Err fault)
+  passed_on Is More (Instance why) came = record { found = tt; only = came.only; fault = came.fault; first = came.first; second = came.second }
+  passed_on Is More (Plan why) came = record { found = tt; only = came.only; fault = came.fault; first = came.first; second = came.second }
+  passed_on Is More Memory came = record { found = tt; only = came.only; fault = came.fault; first = came.first; second = came.second }
+  passed_on Is More Read came = absurd came.fault
+  passed_on Is More Write came = absurd came.fault
+  passed_on Is More InputTooLong came = absurd came.fault
+
+  -- what came is followed by this, or memory ran out
+  pub next_answered : {A B : Type 0} (Is : PlannedShop → A → Type 0) (More : PlannedShop → B → Type 0) (a : A) (outcome : Result B CommandFault) → AreTextsAnswered instance name text Is (Ok a)
+      → ((p : PlannedShop) → Is p a → IsOrMemory (More p) outcome) → AreTextsAnswered instance name text More outcome
+  next_answered Is More a (Ok b) came next = record {
+    found = record { planned = came.found.planned; tell = came.found.tell; is = next came.found.planned came.found.is };
+    only = λ p both. next p (came.only p both);
+    fault = tt;
+    first = λ other wrong. absurd (came.first other wrong);
+    second = λ other tells wrong. absurd (came.second other tells wrong);
+  }
+  next_answered Is More a (Err fault) came next = (let memory : fault ≡ Memory = next came.found.planned came.found.is in record {
+    found = tt;
+    only = λ p both. memory;
+    fault = subst (IsRightOfBoth instance name text) (sym memory) tt;
+    first = λ other wrong. absurd (came.first other wrong);
+    second = λ other tells wrong. absurd (came.second other tells wrong);
+  })

@@ -16,5 +16,3 @@ pub mod Improving
 pub mod LogLines
 pub mod Commands
 pub mod Cells
--- Of proofs and private contracts alone.
-pub mod OnTexts

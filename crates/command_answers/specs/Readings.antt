@@ -1,7 +1,7 @@
 -- What texts are read as.
 use Rattle.std.specs.Prelude.{◌≡◌, ℕ, List, Option, Result, IfOk, IfErr}
 use Rattle.shop_base.specs.Shop.{JobShop}
-use Rattle.shop_base.specs.Plan.{ShopPlan}
+use Rattle.shop_base.specs.Plan.{ShopPlan, PlannedShop}
 use Rattle.orlib_read.specs.declared.or_fault.OrFault.{OrFault}
 use Rattle.orlib_read.specs.declared.named.Named.{Named}
 use Rattle.plan_text.specs.declared.plan_fault.PlanFault.{PlanFault}
@@ -10,7 +10,7 @@ use Rattle.command_answers.specs.declared.answer.Answer.{Answer}
 use Rattle.command_answers.specs.declared.command_fault.CommandFault.{CommandFault}
 use Rattle.command_answers.specs.Facts.{AreFacts, AreToldFacts}
 use Rattle.command_answers.specs.Instances.{Tells, IsFirstInstanceFault, Holds, IsRightInstanceFault, IsInstanceRefusal}
-use Rattle.command_answers.specs.Plans.{IsRightPlanFault, IsPlanRefusal}
+use Rattle.command_answers.specs.Plans.{IsRightPlanFault, IsPlanRefusal, TellBoth, TellsAShop, IsRightOfBoth, IsOfBoth}
 
 -- the text is read as the instance that it tells, or refused by its first fault, unless memory ran out
 pub record IsInstanceRead (text : List ℕ) (name : Option (List ℕ)) (read : Result Named CommandFault) : Type 0 where
@@ -32,3 +32,11 @@ pub record AreFactsAnswered (text : List ℕ) (name : Option (List ℕ)) (read :
   pub only : (description : List ℕ) (shop : JobShop) → Tells text name description shop → Holds read (λ answer. AreFacts answer shop)
   pub fault : IfErr read (IsRightInstanceFault text name)
   pub first : (fault : OrFault) → IsFirstInstanceFault text name fault → IsInstanceRefusal read fault
+
+-- what comes belongs to the shop and the plan that the two texts tell, and comes wherever they tell them; else the first fault of the instance is told, or that of the plan, unless memory ran out
+pub record AreTextsAnswered {A : Type 0} (instance : List ℕ) (name : Option (List ℕ)) (text : List ℕ) (Is : PlannedShop → A → Type 0) (outcome : Result A CommandFault) : Type 0 where
+  pub found : IfOk outcome (IsOfBoth instance name text Is)
+  pub only : (p : PlannedShop) → TellBoth instance name text p → Holds outcome (Is p)
+  pub fault : IfErr outcome (IsRightOfBoth instance name text)
+  pub first : (fault : OrFault) → IsFirstInstanceFault instance name fault → IsInstanceRefusal outcome fault
+  pub second : (fault : PlanFault) → TellsAShop instance name → IsFirstPlanFault text fault → IsPlanRefusal outcome fault

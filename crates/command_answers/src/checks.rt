@@ -1,9 +1,8 @@
 //! The command `check`.
 
-ghost use Rattle.std.specs.Prelude.{IfOk, IfErr};
+ghost use Rattle.std.specs.Prelude.{IfOk};
 ghost use Rattle.std.specs.Option.{option_copied};
-ghost use Rattle.command_answers.specs.OnTexts.{PlannedShop, OrFault, PlanFault, IsFirstInstanceFault, IsFirstPlanFault, Holds, IsInstanceRefusal};
-ghost use Rattle.command_answers.specs.OnTexts.{TellBoth, TellsAShop, IsRightOfBoth, IsPlanRefusal, IsOfBoth};
+ghost use Rattle.command_answers.specs.Readings.{AreTextsAnswered};
 ghost use Rattle.command_answers.specs.Checks.{IsCheckLine, IsAcceptedLine, IsLineOf};
 ghost use Rattle.command_answers.specs.Commands.{RunsCheck};
 
@@ -20,11 +19,7 @@ use std::alloc::{AllocError, Global};
 /// leaving, or refused, with the evidence. Without a name the first text is one instance, else a collection with an
 /// instance of this name.
 pub fn check(alloc: Global, instance: &[u8], name: Option<&[u8]>, plan: &[u8]) -> Answered
-    ensures found { IfOk result (IsOfBoth instance.now (option_copied name.entry) plan.now IsCheckLine) }
-    ensures only { (p : PlannedShop) → TellBoth instance.now (option_copied name.entry) plan.now p → Holds result (IsCheckLine p) }
-    ensures fault { IfErr result (IsRightOfBoth instance.now (option_copied name.entry) plan.now) }
-    ensures first { (fault : OrFault) → IsFirstInstanceFault instance.now (option_copied name.entry) fault → IsInstanceRefusal result fault }
-    ensures second { (fault : PlanFault) → TellsAShop instance.now (option_copied name.entry) → IsFirstPlanFault plan.now fault → IsPlanRefusal result fault }
+    ensures { AreTextsAnswered instance.now (option_copied name.entry) plan.now IsCheckLine result }
 {
     let loaded = load(alloc, instance, name, plan)?;
     Ok(loaded_answer(alloc, &loaded)?)

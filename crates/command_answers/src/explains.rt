@@ -1,9 +1,8 @@
 //! The command `explain`.
 
-ghost use Rattle.std.specs.Prelude.{◌≡◌, IfOk, IfErr};
+ghost use Rattle.std.specs.Prelude.{◌≡◌, IfOk};
 ghost use Rattle.std.specs.Option.{option_copied};
-ghost use Rattle.command_answers.specs.OnTexts.{PlannedShop, OrFault, PlanFault, IsFirstInstanceFault, IsFirstPlanFault, Holds, IsInstanceRefusal};
-ghost use Rattle.command_answers.specs.OnTexts.{TellBoth, TellsAShop, IsRightOfBoth, IsPlanRefusal, IsOfBoth};
+ghost use Rattle.command_answers.specs.Readings.{AreTextsAnswered};
 ghost use Rattle.command_answers.specs.Explains.{IsExplanation, IsExplanationOf, HasEvidence};
 ghost use Rattle.command_answers.specs.Checks.{verdict_status};
 ghost use Rattle.command_answers.specs.Commands.{RunsExplain};
@@ -20,11 +19,7 @@ use std::alloc::{AllocError, Global};
 /// the arcs of the evidence in lines that name machines and jobs. Without a name the first text is one instance,
 /// else a collection with an instance of this name.
 pub fn explain(alloc: Global, instance: &[u8], name: Option<&[u8]>, plan: &[u8]) -> Answered
-    ensures found { IfOk result (IsOfBoth instance.now (option_copied name.entry) plan.now IsExplanation) }
-    ensures only { (p : PlannedShop) → TellBoth instance.now (option_copied name.entry) plan.now p → Holds result (IsExplanation p) }
-    ensures fault { IfErr result (IsRightOfBoth instance.now (option_copied name.entry) plan.now) }
-    ensures first { (fault : OrFault) → IsFirstInstanceFault instance.now (option_copied name.entry) fault → IsInstanceRefusal result fault }
-    ensures second { (fault : PlanFault) → TellsAShop instance.now (option_copied name.entry) → IsFirstPlanFault plan.now fault → IsPlanRefusal result fault }
+    ensures { AreTextsAnswered instance.now (option_copied name.entry) plan.now IsExplanation result }
 {
     let loaded = load(alloc, instance, name, plan)?;
     Ok(loaded_explained(alloc, &loaded)?)

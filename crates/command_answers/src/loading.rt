@@ -1,10 +1,9 @@
 //! An instance and a plan, read and judged.
 
-ghost use Rattle.std.specs.Prelude.{◌≡◌, IfOk, IfErr, IsOk};
+ghost use Rattle.std.specs.Prelude.{◌≡◌, IsOk};
 ghost use Rattle.std.specs.Option.{option_copied};
 ghost use Rattle.shop_base.specs.Plan.{IsWellShaped};
-ghost use Rattle.command_answers.specs.OnTexts.{PlannedShop, OrFault, PlanFault, IsFirstInstanceFault, IsFirstPlanFault, Holds, IsInstanceRefusal};
-ghost use Rattle.command_answers.specs.OnTexts.{TellBoth, TellsAShop, IsRightOfBoth, IsPlanRefusal, IsOfBoth};
+ghost use Rattle.command_answers.specs.Readings.{AreTextsAnswered};
 ghost use Rattle.command_answers.specs.Checks.{IsLoaded, accepted_in};
 ghost use Rattle.command_answers.specs.Steps.{IsOrMemory};
 ghost use Rattle.command_answers.specs.Commands.{Loads};
@@ -42,11 +41,7 @@ impl Loaded {
 /// The verdict on a plan for an instance, both given as texts. Without a name the first text is one instance, else a
 /// collection with an instance of this name.
 pub fn load(alloc: Global, instance: &[u8], name: Option<&[u8]>, plan: &[u8]) -> Outcome<Loaded>
-    ensures found { IfOk result (IsOfBoth instance.now (option_copied name.entry) plan.now IsLoaded) }
-    ensures only { (p : PlannedShop) → TellBoth instance.now (option_copied name.entry) plan.now p → Holds result (IsLoaded p) }
-    ensures fault { IfErr result (IsRightOfBoth instance.now (option_copied name.entry) plan.now) }
-    ensures first { (fault : OrFault) → IsFirstInstanceFault instance.now (option_copied name.entry) fault → IsInstanceRefusal result fault }
-    ensures second { (fault : PlanFault) → TellsAShop instance.now (option_copied name.entry) → IsFirstPlanFault plan.now fault → IsPlanRefusal result fault }
+    ensures { AreTextsAnswered instance.now (option_copied name.entry) plan.now IsLoaded result }
 {
     let shop = load_instance(alloc, instance, name)?.shop;
     let plan = load_plan(alloc, plan)?;
