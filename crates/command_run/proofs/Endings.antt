@@ -23,7 +23,7 @@ use Rattle.command_answers.specs.declared.command_fault.CommandFault.TheVariants
 use Rattle.command_answers.specs.declared.loading.Loaded.{Loaded}
 use Rattle.command_answers.specs.declared.loading.Loaded.TheVariants.{NotShaped, Judged}
 use Rattle.command_answers.specs.Statuses.{status_of}
-use Rattle.command_run.specs.Streams.{Streams, Output, Errors}
+use Rattle.command_run.specs.Streams.{Streams, Output, Errors, Devices}
 use Rattle.command_run.specs.Drives.{Drives, IsDrive}
 use Rattle.command_run.specs.Resumes.{IsResume, ResumesTaken, ResumesText, Resumes}
 use Rattle.command_run.specs.Hubs.{DrivesAll, AreDrives}
@@ -167,44 +167,39 @@ module _ {W : Type 0} (gives : W → List ℕ → Result (List ℕ) CommandFault
   written Audit chosen texts before outcome texts_after after run = kept before after run.1
   written Gantt chosen texts before outcome texts_after after run = kept before after run.1
 
-  pub follows_ends : (read : Result Chosen WordsFault) (texts : W) (before : Streams) (told_before : Errors) (status : ℕ) (texts_after : W) (after : Streams) (told_after : Errors)
-      → Follows gives read texts before told_before status texts_after after told_after → EndsAsTold told_before told_after status
-  follows_ends (Ok chosen) texts before told_before status texts_after after told_after is =
-      outcome_ends is.outcome is.mid.output after.output told_before told_after status (low gives chosen.name chosen texts before is.outcome texts_after is.mid is.runs) is.ends
-  follows_ends (Err (Usage true text)) texts before told_before status texts_after after told_after is =
-      answer_ends is.help before.output after.output told_before told_after status (omega (arith, is.text_is.1)) is.ends
-  follows_ends (Err (Usage false text)) texts before told_before status texts_after after told_after is =
-      inl (omega (arith, is.1), inl (is.1, (string_bytes text, is.0)))
-  follows_ends (Err NoWordsMemory) texts before told_before status texts_after after told_after is = fault_ends Memory told_before told_after status is.0.1
+  pub follows_ends : (read : Result Chosen WordsFault) (before : Devices W) (status : ℕ) (after : Devices W) → Follows gives read before status after → EndsAsTold before.errors after.errors status
+  follows_ends (Ok chosen) before status after is =
+      outcome_ends is.outcome is.mid.output after.streams.output before.errors after.errors status (low gives chosen.name chosen before.texts before.streams is.outcome after.texts is.mid is.runs) is.ends
+  follows_ends (Err (Usage true text)) before status after is =
+      answer_ends is.help before.streams.output after.streams.output before.errors after.errors status (omega (arith, is.text_is.1)) is.ends
+  follows_ends (Err (Usage false text)) before status after is = inl (omega (arith, is.1), inl (is.1, (string_bytes text, is.0)))
+  follows_ends (Err NoWordsMemory) before status after is = fault_ends Memory before.errors after.errors status is.0.1
 
-  pub follows_shown : (read : Result Chosen WordsFault) (texts : W) (before : Streams) (told_before : Errors) (status : ℕ) (texts_after : W) (after : Streams) (told_after : Errors)
-      → before.output.pending ≡ [] → Follows gives read texts before told_before status texts_after after told_after → HoldsNothing after.output
-  follows_shown (Ok chosen) texts before told_before status texts_after after told_after none is =
-      ended_shown is.outcome is.mid.output after.output told_before told_after status
-      (driven_shown before is.mid (written chosen.name chosen texts before is.outcome texts_after is.mid is.runs) none) is.ends
-  follows_shown (Err (Usage true text)) texts before told_before status texts_after after told_after none is =
-      printed_shown is.help is.ends.printed before.output after.output is.ends.is
-  follows_shown (Err (Usage false text)) texts before told_before status texts_after after told_after none is =
-      inl (ap (λ (s : Streams). s.output.pending) is.3 ∙ none)
-  follows_shown (Err NoWordsMemory) texts before told_before status texts_after after told_after none is =
-      inl (ap (λ (o : Output). o.pending) is.0.0 ∙ none)
+  pub follows_shown : (read : Result Chosen WordsFault) (before : Devices W) (status : ℕ) (after : Devices W) → before.streams.output.pending ≡ [] → Follows gives read before status after
+      → HoldsNothing after.streams.output
+  follows_shown (Ok chosen) before status after none is =
+      ended_shown is.outcome is.mid.output after.streams.output before.errors after.errors status
+      (driven_shown before.streams is.mid (written chosen.name chosen before.texts before.streams is.outcome after.texts is.mid is.runs) none) is.ends
+  follows_shown (Err (Usage true text)) before status after none is = printed_shown is.help is.ends.printed before.streams.output after.streams.output is.ends.is
+  follows_shown (Err (Usage false text)) before status after none is = inl (ap (λ (s : Streams). s.output.pending) is.3 ∙ none)
+  follows_shown (Err NoWordsMemory) before status after none is = inl (ap (λ (o : Output). o.pending) is.0.0 ∙ none)
 
-  pub follows_no_more : (read : Result Chosen WordsFault) (texts : W) (before : Streams) (told_before : Errors) (status : ℕ) (texts_after : W) (after : Streams) (told_after : Errors)
-      → 2 ≤ status → Follows gives read texts before told_before status texts_after after told_after → WroteNoMore before after
-  follows_no_more (Ok chosen) texts before told_before status texts_after after told_after high is = (
+  pub follows_no_more : (read : Result Chosen WordsFault) (before : Devices W) (status : ℕ) (after : Devices W) → 2 ≤ status → Follows gives read before status after
+      → WroteNoMore before.streams after.streams
+  follows_no_more (Ok chosen) before status after high is = (
     is.mid,
     (
-      written chosen.name chosen texts before is.outcome texts_after is.mid is.runs,
-      ended_no_more is.outcome is.mid.output after.output told_before told_after status (low gives chosen.name chosen texts before is.outcome texts_after is.mid is.runs) high is.ends,
+      written chosen.name chosen before.texts before.streams is.outcome after.texts is.mid is.runs,
+      ended_no_more is.outcome is.mid.output after.streams.output before.errors after.errors status
+          (low gives chosen.name chosen before.texts before.streams is.outcome after.texts is.mid is.runs) high is.ends,
     ),
   )
-  follows_no_more (Err (Usage true text)) texts before told_before status texts_after after told_after high is = (
-    before,
+  follows_no_more (Err (Usage true text)) before status after high is = (
+    before.streams,
     (
       inl refl,
-      printed_no_more is.help is.ends.printed before.output after.output told_before told_after status (omega (arith, is.text_is.1)) high is.ends.is is.ends.told,
+      printed_no_more is.help is.ends.printed before.streams.output after.streams.output before.errors after.errors status (omega (arith, is.text_is.1)) high is.ends.is is.ends.told,
     ),
   )
-  follows_no_more (Err (Usage false text)) texts before told_before status texts_after after told_after high is =
-      (before, (inl refl, inl (ap (λ (s : Streams). s.output) is.3)))
-  follows_no_more (Err NoWordsMemory) texts before told_before status texts_after after told_after high is = (before, (inl refl, inl is.0.0))
+  follows_no_more (Err (Usage false text)) before status after high is = (before.streams, (inl refl, inl (ap (λ (s : Streams). s.output) is.3)))
+  follows_no_more (Err NoWordsMemory) before status after high is = (before.streams, (inl refl, inl is.0.0))

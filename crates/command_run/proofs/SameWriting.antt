@@ -124,13 +124,13 @@ record Wrote (p : PlannedShop) (input : List ℕ) (status : ℕ) (written : List
 
 module _ (content : List ℕ → Result (List ℕ) CommandFault) (words : List (List ℕ)) (p : PlannedShop) (input : List ℕ) (few : length input ≤ most_bytes)
     (status : ℕ) (written : List ℕ) (well : RunsWell content words input status written) where
-  drive_wrote : (v : VerifiedPlan) (mid : Streams) (outcome : Result Answer CommandFault) (end : Result DriveEnd DriveFault) → v.planned ≡ p → IsDrive v well.before mid end
-      → IsEndAnswer (end_of_drive end) outcome → well.after.input ≡ mid.input → Ends outcome mid.output well.after.output well.told_before well.told_after status → Wrote p input status written
+  drive_wrote : (v : VerifiedPlan) (mid : Streams) (outcome : Result Answer CommandFault) (end : Result DriveEnd DriveFault) → v.planned ≡ p → IsDrive v well.before.streams mid end
+      → IsEndAnswer (end_of_drive end) outcome → well.after.streams.input ≡ mid.input → Ends outcome mid.output well.after.streams.output well.before.errors well.after.errors status → Wrote p input status written
   drive_wrote v mid outcome (Ok end) same is answer same_input ends =
-      let through = subst (λ q. IsDrivenThrough q end.log.entries well.before.input.left mid.input.left well.before.output.taken mid.output.taken mid.output.pending) same is.through in
-      let came : through.input ≡ input = all_read well.before.input.left mid.input.left input through.input well.given through.was_read through.at_end in
-      let last = ended_as end.done outcome mid.output well.after.output well.told_before well.told_after status well.was_written answer ends in
-      let text : written ≡ through.text = written_is well.before.output.taken mid.output.taken well.after.output.taken well.start written through.text last.1.0 well.empty well.wrote through.written last.1.2 last.1.1 in
+      let through = subst (λ q. IsDrivenThrough q end.log.entries well.before.streams.input.left mid.input.left well.before.streams.output.taken mid.output.taken mid.output.pending) same is.through in
+      let came : through.input ≡ input = all_read well.before.streams.input.left mid.input.left input through.input well.given through.was_read through.at_end in
+      let last = ended_as end.done outcome mid.output well.after.streams.output well.before.errors well.after.errors status well.was_written answer ends in
+      let text : written ≡ through.text = written_is well.before.streams.output.taken mid.output.taken well.after.streams.output.taken well.start written through.text last.1.0 well.empty well.wrote through.written last.1.2 last.1.1 in
       let state : DrivenCell = record { cell = cell_after p end.log.entries; entries = end.log.entries } in
       record {
         entries = end.log.entries;
@@ -144,31 +144,33 @@ module _ (content : List ℕ → Result (List ℕ) CommandFault) (words : List (
   drive_wrote v mid outcome (Err NotRead) same is answer same_input ends =
       absurd (let failed : true ≡ false = sym is.broken_off.2.0 ∙ sym (ap (λ i. i.failed) same_input) ∙ well.was_read in cc failed)
   drive_wrote v mid outcome (Err NotWritten) same is answer same_input ends =
-      let same_output = write_ends outcome mid.output well.after.output well.told_before well.told_after status answer ends in
+      let same_output = write_ends outcome mid.output well.after.streams.output well.before.errors well.after.errors status answer ends in
       absurd (let failed : true ≡ false = sym is.broken_off.2.0 ∙ sym (ap (λ (o : Output). o.failed) same_output) ∙ well.was_written in cc failed)
   drive_wrote v mid outcome (Err TooLong) same is answer same_input ends =
-      let less = fewer well.before.input.left mid.input.left input is.broken_off.0 well.given is.broken_off.1 in
+      let less = fewer well.before.streams.input.left mid.input.left input is.broken_off.0 well.given is.broken_off.1 in
       absurd (omega (arith, less, few, is.broken_off.2.0))
   drive_wrote v mid outcome (Err WantOfMemory) same is answer same_input ends =
-      absurd (well.no_want (memory_ends outcome mid.output well.after.output well.told_before well.told_after status answer ends))
+      absurd (well.no_want (memory_ends outcome mid.output well.after.streams.output well.before.errors well.after.errors status answer ends))
 
-  cell_wrote : (mid : Streams) (outcome : Result Answer CommandFault) → ((v : VerifiedPlan) × (v.planned ≡ p) × DrivesCell v well.before mid outcome) ⊎ (outcome ≡ Err Memory) → well.after.input ≡ mid.input
-      → Ends outcome mid.output well.after.output well.told_before well.told_after status → Wrote p input status written
+  cell_wrote : (mid : Streams) (outcome : Result Answer CommandFault) → ((v : VerifiedPlan) × (v.planned ≡ p) × DrivesCell v well.before.streams mid outcome) ⊎ (outcome ≡ Err Memory) → well.after.streams.input ≡ mid.input
+      → Ends outcome mid.output well.after.streams.output well.before.errors well.after.errors status → Wrote p input status written
   cell_wrote mid outcome (inl (v, same, cell)) same_input ends = drive_wrote v mid outcome cell.end same cell.is cell.answer same_input ends
   cell_wrote mid outcome (inr none) same_input ends =
-      absurd (well.no_want (memory_ends outcome mid.output well.after.output well.told_before well.told_after status none ends))
+      absurd (well.no_want (memory_ends outcome mid.output well.after.streams.output well.before.errors well.after.errors status none ends))
 
   follows_wrote : (pair : PairOfFiles) (read : Result Chosen WordsFault) → AskForDrive words pair → TellPlan content pair p → IsWellShaped p → IsAcceptable p → AreWordsRead words read
-      → Follows (Shelf content) read [] well.before well.told_before status well.asked well.after well.told_after → Wrote p input status written
+      → Follows (Shelf content) read well.before status well.after → Wrote p input status written
   follows_wrote pair (Ok chosen) ask good shaped acceptable are follows =
       let name = is_drive chosen.name (are.chosen.name ∙ ask.drive) in
-      let runs : RunsDrive (Shelf content) (pair_in chosen) [] well.before follows.outcome well.asked follows.mid =
-      subst (λ n. RunsCommand (Shelf content) n chosen [] well.before follows.outcome well.asked follows.mid) name follows.runs in
-      let drive = subst (λ q. RunsDrive (Shelf content) q [] well.before follows.outcome well.asked follows.mid) (same_pair words pair chosen ask are.chosen) runs in
-      cell_wrote follows.mid follows.outcome (driven_or_not (good_drive content pair p good well.before follows.mid follows.outcome well.asked shaped acceptable drive)) follows.input follows.ends
+      let runs : RunsDrive (Shelf content) (pair_in chosen) well.before.texts well.before.streams follows.outcome well.after.texts follows.mid =
+      subst (λ n. RunsCommand (Shelf content) n chosen well.before.texts well.before.streams follows.outcome well.after.texts follows.mid) name follows.runs in
+      let drive : RunsDrive (Shelf content) pair [] well.before.streams follows.outcome well.after.texts follows.mid =
+      subst (λ (q : PairOfFiles). RunsDrive (Shelf content) q [] well.before.streams follows.outcome well.after.texts follows.mid) (same_pair words pair chosen ask are.chosen)
+      (subst (λ (asked : List (List ℕ)). RunsDrive (Shelf content) (pair_in chosen) asked well.before.streams follows.outcome well.after.texts follows.mid) well.unasked runs) in
+      cell_wrote follows.mid follows.outcome (driven_or_not (good_drive content pair p good well.before.streams follows.mid follows.outcome well.after.texts shaped acceptable drive)) follows.input follows.ends
   follows_wrote pair (Err (Usage help text)) ask good shaped acceptable are follows =
       absurd (let told = subst (λ kinds. TellsOneOf kinds (Usage help text)) ask.taken are.refused in told.1)
-  follows_wrote pair (Err NoWordsMemory) ask good shaped acceptable are follows = absurd (well.no_want (memory_status well.told_before well.told_after status follows.0.1))
+  follows_wrote pair (Err NoWordsMemory) ask good shaped acceptable are follows = absurd (well.no_want (memory_status well.before.errors well.after.errors status follows.0.1))
 
 -- ---- two runs
 

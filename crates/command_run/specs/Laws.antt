@@ -26,7 +26,7 @@ use Rattle.command_answers.specs.LogLines.{IsLogLine}
 use Rattle.command_answers.specs.Search.{IsSearchAnswer}
 use Rattle.command_answers.specs.Improving.{IsImproveAnswer}
 use Rattle.command_answers.specs.Commands.{PairOfFiles, RunsFacts, RunsShape, RunsCheck, RunsExplain, RunsLog}
-use Rattle.command_run.specs.Streams.{Streams, Input, Output, Errors}
+use Rattle.command_run.specs.Streams.{Streams, Input, Output, Errors, Devices}
 use Rattle.command_run.specs.Inputs.{RunsInput}
 use Rattle.command_run.specs.Planners.{MayPlan, SeeksPlan}
 use Rattle.command_run.specs.Improvers.{AsksOne, ImprovesPlan}
@@ -226,18 +226,16 @@ pub record AskForDrive (words : List (List ℕ)) (pair : PairOfFiles) : Type 0 w
 
 -- a run of the program on these words, over files that don't change: it read all of this input and wrote this, no device has failed, and memory didn't run out
 pub record RunsWell (content : List ℕ → Result (List ℕ) CommandFault) (words : List (List ℕ)) (input : List ℕ) (status : ℕ) (written : List ℕ) : Type 0 where
-  pub before : Streams
-  pub after : Streams
-  pub told_before : Errors
-  pub told_after : Errors
-  pub asked : List (List ℕ)
-  pub run : RunsProgram (Shelf content) words [] before told_before status asked after told_after
-  pub given : before.input.left ≡ Some input
+  pub before : Devices (List (List ℕ))
+  pub after : Devices (List (List ℕ))
+  pub run : RunsProgram (Shelf content) words before status after
+  pub unasked : before.texts ≡ []
+  pub given : before.streams.input.left ≡ Some input
   pub start : List ℕ
-  pub empty : before.output.taken ≡ Some start
-  pub wrote : after.output.taken ≡ Some (start ++ written)
-  pub was_read : after.input.failed ≡ false
-  pub was_written : after.output.failed ≡ false
+  pub empty : before.streams.output.taken ≡ Some start
+  pub wrote : after.streams.output.taken ≡ Some (start ++ written)
+  pub was_read : after.streams.input.failed ≡ false
+  pub was_written : after.streams.output.failed ≡ false
   pub no_want : status ≢ 4
 
 -- `drive` with an accepted plan writes the same, and ends with the same status, whenever it is run on the same words, files and input, of no more bytes than the limit
@@ -279,15 +277,14 @@ WroteNoMore before after = (mid : Streams) × (WereDriven before mid × IsUnansw
 module _ {W : Type 0} (gives : W → List ℕ → Result (List ℕ) CommandFault → W → Type 0) where
   -- in each run of the program what fails is told on the error output with its status, and nothing else is told
   abbrev pub WhatFailsIsTold : Type 0
-  WhatFailsIsTold = (words : List (List ℕ)) (texts : W) (before : Streams) (told_before : Errors) (status : ℕ) (texts_after : W) (after : Streams) (told_after : Errors)
-      → RunsProgram gives words texts before told_before status texts_after after told_after → EndsAsTold told_before told_after status
+  WhatFailsIsTold = (words : List (List ℕ)) (before : Devices W) (status : ℕ) (after : Devices W) → RunsProgram gives words before status after → EndsAsTold before.errors after.errors status
 
   -- at the end of each run of the program nothing is held back, unless a write of the output has failed
   abbrev pub NothingIsHeldBack : Type 0
-  NothingIsHeldBack = (words : List (List ℕ)) (texts : W) (before : Streams) (told_before : Errors) (status : ℕ) (texts_after : W) (after : Streams) (told_after : Errors)
-      → before.output.pending ≡ [] → RunsProgram gives words texts before told_before status texts_after after told_after → HoldsNothing after.output
+  NothingIsHeldBack = (words : List (List ℕ)) (before : Devices W) (status : ℕ) (after : Devices W) → before.streams.output.pending ≡ [] → RunsProgram gives words before status after
+      → HoldsNothing after.streams.output
 
   -- where the status is 2 or more, nothing was written but what driven cells answered, and the first bytes of an answer whose write failed
   abbrev pub WhatFailsIsNoAnswer : Type 0
-  WhatFailsIsNoAnswer = (words : List (List ℕ)) (texts : W) (before : Streams) (told_before : Errors) (status : ℕ) (texts_after : W) (after : Streams) (told_after : Errors)
-      → 2 ≤ status → RunsProgram gives words texts before told_before status texts_after after told_after → WroteNoMore before after
+  WhatFailsIsNoAnswer = (words : List (List ℕ)) (before : Devices W) (status : ℕ) (after : Devices W) → 2 ≤ status → RunsProgram gives words before status after
+      → WroteNoMore before.streams after.streams

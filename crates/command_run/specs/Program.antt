@@ -15,7 +15,7 @@ use Rattle.command_answers.specs.declared.loading.Loaded.{Loaded}
 use Rattle.command_answers.specs.declared.logs.Telling.TheVariants.{Numbers, Drawing}
 use Rattle.command_answers.specs.Commands.{PairOfFiles, RunsFacts, RunsShape, RunsCheck, RunsExplain, RunsLog, Loads}
 use Rattle.command_answers.specs.Cells.{LoadsCells}
-use Rattle.command_run.specs.Streams.{Streams, Errors}
+use Rattle.command_run.specs.Streams.{Streams, Devices}
 use Rattle.command_run.specs.Inputs.{RunsInput}
 use Rattle.command_run.specs.Planners.{SeeksPlan}
 use Rattle.command_run.specs.Improvers.{ImprovesPlan}
@@ -95,36 +95,32 @@ module _ {W : Type 0} (gives : W → List ℕ → Result (List ℕ) CommandFault
       RunsLog gives Drawing (pair_in chosen) (file_at chosen 2) texts outcome texts_after × (after ≡ before)
 
   -- the command is run, and then its answer printed, or its fault told
-  pub record Commands (chosen : Chosen) (texts : W) (before : Streams) (told_before : Errors) (status : ℕ)
-      (texts_after : W) (after : Streams) (told_after : Errors) : Type 0 where
+  pub record Commands (chosen : Chosen) (before : Devices W) (status : ℕ) (after : Devices W) : Type 0 where
     pub outcome : Result Answer CommandFault
     pub mid : Streams
-    pub runs : RunsCommand chosen.name chosen texts before outcome texts_after mid
-    pub input : after.input ≡ mid.input
-    pub ends : Ends outcome mid.output after.output told_before told_after status
+    pub runs : RunsCommand chosen.name chosen before.texts before.streams outcome after.texts mid
+    pub input : after.streams.input ≡ mid.input
+    pub ends : Ends outcome mid.output after.streams.output before.errors after.errors status
 
   -- help that was asked for is a good answer
-  pub record Helps (text : List ℕ) (texts : W) (before : Streams) (told_before : Errors) (status : ℕ)
-      (texts_after : W) (after : Streams) (told_after : Errors) : Type 0 where
+  pub record Helps (text : List ℕ) (before : Devices W) (status : ℕ) (after : Devices W) : Type 0 where
     pub help : Answer
     pub text_is : (help.text.items ≡ text) × (help.status ≡ 0)
-    pub ends : IsAnswerEnd help before.output after.output told_before told_after status
-    pub same : (texts_after ≡ texts) × (after.input ≡ before.input)
+    pub ends : IsAnswerEnd help before.streams.output after.streams.output before.errors after.errors status
+    pub same : (after.texts ≡ before.texts) × (after.streams.input ≡ before.streams.input)
 
   -- what follows the reading of the words: the command that was chosen, help, or a line on the standard error
-  abbrev pub Follows : Result Chosen WordsFault → W → Streams → Errors → ℕ → W → Streams → Errors → Type 0
-  Follows (Ok chosen) texts before told_before status texts_after after told_after =
-      Commands chosen texts before told_before status texts_after after told_after
-  Follows (Err (Usage true text)) texts before told_before status texts_after after told_after =
-      Helps (string_bytes text) texts before told_before status texts_after after told_after
-  Follows (Err (Usage false text)) texts before told_before status texts_after after told_after =
-      WasTold (string_bytes text) told_before told_after × (status ≡ 2) × (texts_after ≡ texts) × (after ≡ before)
-  Follows (Err Memory) texts before told_before status texts_after after told_after =
-      Ends (Err Wanting) before.output after.output told_before told_after status × (texts_after ≡ texts) × (after.input ≡ before.input)
+  abbrev pub Follows : Result Chosen WordsFault → Devices W → ℕ → Devices W → Type 0
+  Follows (Ok chosen) before status after = Commands chosen before status after
+  Follows (Err (Usage true text)) before status after = Helps (string_bytes text) before status after
+  Follows (Err (Usage false text)) before status after =
+      WasTold (string_bytes text) before.errors after.errors × (status ≡ 2) × (after.texts ≡ before.texts) × (after.streams ≡ before.streams)
+  Follows (Err Memory) before status after =
+      Ends (Err Wanting) before.streams.output after.streams.output before.errors after.errors status
+      × (after.texts ≡ before.texts) × (after.streams.input ≡ before.streams.input)
 
   -- the program: the words are read, and what they ask for is done
-  pub record RunsProgram (words : List (List ℕ)) (texts : W) (before : Streams) (told_before : Errors) (status : ℕ)
-      (texts_after : W) (after : Streams) (told_after : Errors) : Type 0 where
+  pub record RunsProgram (words : List (List ℕ)) (before : Devices W) (status : ℕ) (after : Devices W) : Type 0 where
     pub read : Result Chosen WordsFault
     pub is : AreWordsRead words read
-    pub follows : Follows read texts before told_before status texts_after after told_after
+    pub follows : Follows read before status after

@@ -1,4 +1,4 @@
--- The standard streams, as they are seen before and after a step.
+-- What lies outside of the program, as it is seen before and after a step.
 use Rattle.std.specs.Prelude.{ℕ, List, Option, Bool}
 
 -- what an input still has to give, and whether a read has failed
@@ -20,6 +20,12 @@ pub record Streams : Type 0 where
 pub record Errors : Type 0 where
   pub taken : Option (List ℕ)
   pub failed : Bool
+
+-- the files, the standard streams and the error output
+pub record Devices (W : Type 0) : Type 0 where
+  pub texts : W
+  pub streams : Streams
+  pub errors : Errors
 
 -- a device as it is seen
 abbrev pub input_of : {R : Type 0} → (R → Option (List ℕ)) → (R → Bool) → R → Input

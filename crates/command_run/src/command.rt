@@ -5,14 +5,13 @@ ghost use Rattle.std.specs.Option.{option_copied};
 ghost use Rattle.command_words.specs.Choice.{IsWithin};
 ghost use Rattle.command_run.specs.Program.{RunsCommand, file_at, name_in, pair_in};
 
+use crate::devices::{Screen, Streams};
 use crate::drives::drive_answer;
 use crate::hubs::hub_answer;
 use crate::improvers::better_answer;
 use crate::input::input_answer;
 use crate::planners::seek_answer;
 use crate::resumes::resume_answer;
-use crate::screen::Screen;
-use crate::streams::Streams;
 use cell_drive::{Outlet, Source};
 use command_answers::{
     Answered, Pair, Telling, Texts, check_answer, explain_answer, facts_answer, log_answer,

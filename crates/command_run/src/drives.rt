@@ -4,7 +4,7 @@ ghost use Rattle.std.specs.Prelude.{◌≡◌, []};
 ghost use Rattle.command_run.specs.Drives.{IsEndAnswer, DrivesCell, status_at, end_of_drive};
 ghost use Rattle.command_run.specs.Program.{RunsDrive};
 
-use crate::streams::Streams;
+use crate::devices::Streams;
 use cell_drive::{DriveEnd, DriveFault, Outlet, Source, drive};
 use command_answers::{
     Answer, Answered, CommandFault, GOOD, Loaded, Pair, REFUSED, Texts, load_files, loaded_answer,

@@ -4,7 +4,7 @@ ghost use Rattle.std.specs.Prelude.{◌≡◌, IfOk, IfErr};
 ghost use Rattle.command_run.specs.Streams.{errors_of, output_of};
 ghost use Rattle.command_run.specs.Ending.{WasTold, IsRefusalLine, IsFaultLine, IsOfText, IsTextLine, IsTold, IsPrinted, Ends};
 
-use crate::streams::Streams;
+use crate::devices::Streams;
 use cell_drive::{Outlet, Source};
 use command_answers::{Answer, Answered, CommandFault, Outcome};
 use run_log::{Sink, put_all};

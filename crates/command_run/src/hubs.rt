@@ -6,8 +6,8 @@ ghost use Rattle.std.specs.String.{string_bytes};
 ghost use Rattle.command_run.specs.Hubs.{DrivesCells};
 ghost use Rattle.command_run.specs.Program.{RunsHub};
 
+use crate::devices::Streams;
 use crate::drives::{Told, ended};
-use crate::streams::Streams;
 use cell_drive::{Outlet, Source, drive_hub};
 use command_answers::{Answered, Cells, Texts, load_cells};
 use plan_verifier::Verified;

@@ -2,8 +2,8 @@
 
 ghost use Rattle.command_run.specs.Improvers.{ImprovesPlan};
 
+use crate::devices::Screen;
 use crate::progress::Progress;
-use crate::screen::Screen;
 use command_answers::{Answered, Pair, Texts, improve_answer};
 use plan_improve::{AnnealingImprover, Improver};
 use std::alloc::{AllocError, Global};

@@ -5,7 +5,7 @@ ghost use Rattle.command_answers.specs.Texts.{text_of};
 ghost use Rattle.command_run.specs.Streams.{input_of};
 ghost use Rattle.command_run.specs.Inputs.{IsInputRead, RunsInput};
 
-use crate::streams::Streams;
+use crate::devices::Streams;
 use cell_drive::{MAX_PIECE, Outlet, Source, reading_room};
 use command_answers::{Answered, CommandFault, Outcome, facts_of};
 use std::alloc::Global;

@@ -13,12 +13,8 @@ mod planners;
 mod program;
 mod progress;
 mod resumes;
-mod screen;
-mod streams;
 mod unchosen;
 
-pub use devices::Devices;
+pub use devices::{Devices, Screen, Streams};
 pub use ending::tell;
 pub use program::run;
-pub use screen::Screen;
-pub use streams::Streams;

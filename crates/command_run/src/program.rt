@@ -2,13 +2,11 @@
 
 ghost use Rattle.std.specs.Prelude.{◌≡◌, [], map, IfOk};
 ghost use Rattle.command_words.specs.Choice.{IsWithin};
-ghost use Rattle.command_run.specs.Streams.{errors_of};
 ghost use Rattle.command_run.specs.Program.{Follows, RunsProgram};
 
 use crate::command::command;
-use crate::devices::Devices;
+use crate::devices::{Devices, Screen};
 use crate::ending::{end, tell_line};
-use crate::screen::Screen;
 use crate::unchosen::Unchosen;
 use cell_drive::{Outlet, Source};
 use command_answers::Texts;
@@ -23,9 +21,7 @@ pub fn run<T: Texts, R: Source, W: Outlet, E: Sink, S: Screen>(
     devices: &mut Devices<T, R, W, E, S>,
 ) -> u8
     requires shown { devices.old.streams.output.pending ≡ [] }
-    ensures { RunsProgram T.gives (map (λ word. word.now) words.now)
-        devices.old.texts devices.old.streams (errors_of E.taken E.failed devices.old.errors) result
-        devices.new.texts devices.new.streams (errors_of E.taken E.failed devices.new.errors) }
+    ensures { RunsProgram T.gives (map (λ word. word.now) words.now) devices.old result devices.new }
 {
     let read = read_words(alloc, words);
     follow(alloc, read, devices)
@@ -39,9 +35,7 @@ fn follow<T: Texts, R: Source, W: Outlet, E: Sink, S: Screen>(
 ) -> u8
     requires within { IfOk read IsWithin }
     requires shown { devices.old.streams.output.pending ≡ [] }
-    ensures { Follows T.gives read
-        devices.old.texts devices.old.streams (errors_of E.taken E.failed devices.old.errors) result
-        devices.new.texts devices.new.streams (errors_of E.taken E.failed devices.new.errors) }
+    ensures { Follows T.gives read devices.old result devices.new }
 {
     let Devices {
         texts,

@@ -1,6 +1,6 @@
 //! How far a search is, told on a screen.
 
-use crate::screen::Screen;
+use crate::devices::Screen;
 use plan_improve::Watch;
 use shop_base::Moment;
 use text_lines::LineText;

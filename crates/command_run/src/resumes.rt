@@ -4,8 +4,8 @@ ghost use Rattle.std.specs.Prelude.{◌≡◌};
 ghost use Rattle.command_run.specs.Resumes.{IsTaking, IsFaultTold, ResumesOn, ResumesLog};
 ghost use Rattle.command_run.specs.Program.{RunsResume};
 
+use crate::devices::Streams;
 use crate::drives::end_answer;
-use crate::streams::Streams;
 use cell_drive::{Outlet, Source};
 use command_answers::{
     Answered, CommandFault, Loaded, Pair, Texts, load_files, loaded_answer, log_refused,
