@@ -11,7 +11,6 @@ use crate::command_fault::Unanswered;
 use crate::lines::{document_answer, fault_answer, line_answer};
 use crate::texts::Texts;
 use plan_seek::{Proposer, SeekFault, seek};
-use shop_base::Plan;
 use std::alloc::Global;
 
 /// A plan with the releases, budgets and cleaning times of the one that a file tells, that is accepted for the instance
@@ -39,17 +38,8 @@ fn search_answer(
 ) -> Answered
     ensures { IsSearchAnswer (MayPropose (λ b. may b both.shop) proposers.now) rounds (length proposers.now) both result }
 {
-    let Both {
-        shop,
-        plan: numbers,
-    } = both;
-    let Plan {
-        release,
-        budget,
-        order: _,
-        clean,
-    } = numbers;
-    match seek(alloc, shop, release, budget, clean, proposers, rounds) {
+    let Both { shop, plan } = both;
+    match seek(alloc, shop, plan.release, plan.budget, plan.clean, proposers, rounds) {
         Ok(verified) => document_answer(alloc, verified.shaped().plan(), GOOD),
         Err(refused) => no_plan_answer(alloc, refused.fault),
     }
