@@ -2,6 +2,7 @@ pub mod Planning
 pub mod Improving
 pub mod PlainWords
 pub mod Telling
+pub mod Accepting
 pub mod Refusing
 pub mod LowStatuses
 pub mod Endings

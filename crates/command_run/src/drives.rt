@@ -1,15 +1,14 @@
 //! The command `drive`, and what the other ones that drive cells share with it.
 
 ghost use Rattle.std.specs.Prelude.{◌≡◌, []};
-ghost use Rattle.command_run.specs.Drives.{IsEndAnswer, DrivesCell, status_at, end_of_drive};
+ghost use Rattle.command_run.specs.Drives.{IsEndAnswer, status_at, end_of_drive};
 ghost use Rattle.command_run.specs.Program.{RunsDrive};
 
 use crate::devices::Streams;
 use cell_drive::{DriveEnd, DriveFault, Outlet, Source, drive};
 use command_answers::{
-    Answer, Answered, CommandFault, GOOD, Loaded, Pair, REFUSED, Texts, load_files, loaded_answer,
+    Answer, Answered, CommandFault, GOOD, Pair, REFUSED, Texts, load_files, loaded_answer,
 };
-use plan_verifier::{Verdict, Verified};
 use std::alloc::Global;
 
 /// A fault of a driven run as one of a command.
@@ -32,7 +31,7 @@ impl From<DriveFault> for Told {
     }
 }
 
-/// Loads a plan, and drives its cell if it is accepted; else its line is the answer.
+/// Loads a plan, and drives its cell to the end of the input if it is accepted; else its line is the answer.
 pub(crate) fn drive_answer<T: Texts, R: Source, W: Outlet>(
     alloc: Global,
     texts: &mut T,
@@ -41,23 +40,13 @@ pub(crate) fn drive_answer<T: Texts, R: Source, W: Outlet>(
 ) -> Answered
     ensures { RunsDrive T.gives pair.now texts.old streams.old result texts.new streams.new }
 {
-    match load_files(alloc, texts, pair) {
-        Ok(Loaded::Judged(Verdict::Accepted(verified))) => drive_cell(alloc, verified, streams),
-        Ok(other) => Ok(loaded_answer(alloc, &other)?),
-        Err(fault) => Err(fault),
+    match load_files(alloc, texts, pair)?.accepted() {
+        Ok(verified) => {
+            let end = drive(alloc, verified, &mut streams.input, &mut streams.output);
+            end_answer(alloc, end)
+        }
+        Err(other) => Ok(loaded_answer(alloc, &other)?),
     }
-}
-
-/// Drives the cell of an accepted plan to the end of the input.
-fn drive_cell<R: Source, W: Outlet>(
-    alloc: Global,
-    verified: Verified,
-    streams: &mut Streams<R, W>,
-) -> Answered
-    ensures { DrivesCell verified streams.old streams.new result }
-{
-    let end = drive(alloc, verified, &mut streams.input, &mut streams.output);
-    end_answer(alloc, end)
 }
 
 /// What is answered at the end of a run, whose lines are written already.

@@ -1,16 +1,16 @@
 //! The command `resume`.
 
 ghost use Rattle.std.specs.Prelude.{◌≡◌};
-ghost use Rattle.command_run.specs.Resumes.{IsTaking, IsFaultTold, ResumesOn, ResumesLog};
+ghost use Rattle.command_run.specs.Resumes.{IsTaking, IsFaultTold, ResumesLog};
 ghost use Rattle.command_run.specs.Program.{RunsResume};
 
 use crate::devices::Streams;
 use crate::drives::end_answer;
 use cell_drive::{Outlet, Source};
 use command_answers::{
-    Answered, CommandFault, Loaded, Pair, Texts, load_files, loaded_answer, log_refused,
+    Answered, CommandFault, Pair, Texts, load_files, loaded_answer, log_refused,
 };
-use plan_verifier::{Verdict, Verified};
+use plan_verifier::Verified;
 use run_resume::{ResumeFault, Taken, resume, take_up};
 use std::alloc::Global;
 
@@ -24,16 +24,14 @@ pub(crate) fn resume_answer<T: Texts, R: Source, W: Outlet>(
 ) -> Answered
     ensures { RunsResume T.gives pair.now log.now texts.old streams.old result texts.new streams.new }
 {
-    match load_files(alloc, texts, pair) {
-        Ok(Loaded::Judged(Verdict::Accepted(verified))) => {
-            resume_log(alloc, texts, verified, log, streams)
-        }
-        Ok(other) => Ok(loaded_answer(alloc, &other)?),
-        Err(fault) => Err(fault),
+    match load_files(alloc, texts, pair)?.accepted() {
+        Ok(verified) => resume_log(alloc, texts, verified, log, streams),
+        Err(other) => Ok(loaded_answer(alloc, &other)?),
     }
 }
 
-/// Asks for the log of an accepted plan, takes up its run, and drives that on; the first bad line of the log is an answer.
+/// Asks for the log of an accepted plan, takes up its run, and drives that on to the end of the input; the first bad line of
+/// the log is an answer.
 fn resume_log<T: Texts, R: Source, W: Outlet>(
     alloc: Global,
     texts: &mut T,
@@ -45,7 +43,10 @@ fn resume_log<T: Texts, R: Source, W: Outlet>(
 {
     let text = texts.text(alloc, log)?;
     match taken_up(alloc, verified, text) {
-        Ok(taken) => resume_on(alloc, taken, streams),
+        Ok(taken) => {
+            let end = resume(taken, &mut streams.input, &mut streams.output);
+            end_answer(alloc, end)
+        }
         Err(fault) => fault_told(alloc, fault),
     }
 }
@@ -55,18 +56,6 @@ fn taken_up(alloc: Global, verified: Verified, text: Vec<u8>) -> Result<Taken, R
     ensures { IsTaking verified text.items result }
 {
     take_up(alloc, verified, &text)
-}
-
-/// Drives on what was taken up to the end of the input.
-fn resume_on<R: Source, W: Outlet>(
-    alloc: Global,
-    taken: Taken,
-    streams: &mut Streams<R, W>,
-) -> Answered
-    ensures { ResumesOn taken streams.old streams.new result }
-{
-    let end = resume(taken, &mut streams.input, &mut streams.output);
-    end_answer(alloc, end)
 }
 
 /// The fault of a command that a fault of taking up is: out of memory. Each other one has an answer.

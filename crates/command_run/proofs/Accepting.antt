@@ -1,0 +1,47 @@
+-- What follows a plan that was loaded, by whether it is accepted.
+use Rattle.std.proofs.Common.{◌≡◌, ℕ, List, Result, Ok, Err, IsErrAnd, refl, sym, subst}
+use Rattle.plan_verifier.specs.Accepted.{VerifiedPlan}
+use Rattle.plan_verifier.specs.declared.verdict.Verdict.TheVariants.{Accepted, Refused}
+use Rattle.command_answers.specs.declared.answer.Answer.{Answer}
+use Rattle.command_answers.specs.declared.command_fault.CommandFault.{CommandFault}
+use Rattle.command_answers.specs.declared.command_fault.CommandFault.TheVariants.{Memory}
+use Rattle.command_answers.specs.declared.loading.Loaded.{Loaded}
+use Rattle.command_answers.specs.declared.loading.Loaded.TheVariants.{NotShaped, Judged}
+use Rattle.command_answers.specs.Checks.{accepted_in}
+use Rattle.command_answers.specs.Steps.{IsOrMemory}
+use Rattle.command_run.specs.Streams.{Streams}
+use Rattle.command_run.specs.Drives.{DrivesCell, Drives, IsLineTold}
+use Rattle.command_run.specs.Resumes.{ResumesLog, Resumes}
+
+pub memory_told : {A : Type 0} (Is : A → Type 0) (outcome : Result A CommandFault) → IsErrAnd outcome (λ fault. fault ≡ Memory) → IsOrMemory Is outcome
+memory_told Is (Ok a) wanting = absurd wanting
+memory_told Is (Err fault) wanting = wanting
+
+same_line : (loaded other : Loaded) (outcome : Result Answer CommandFault) → loaded ≡ other → IsLineTold other outcome → IsLineTold loaded outcome
+same_line loaded other outcome same told = subst (λ (l : Loaded). IsLineTold l outcome) (sym same) told
+
+pub drives_accepted : (loaded : Loaded) (v : VerifiedPlan) (before after : Streams) (outcome : Result Answer CommandFault) → accepted_in loaded ≡ Ok v → DrivesCell v before after outcome
+    → Drives (Ok loaded) before after outcome
+drives_accepted (NotShaped fault) v before after outcome is cell = absurd (cc is)
+drives_accepted (Judged (Refused back why)) v before after outcome is cell = absurd (cc is)
+drives_accepted (Judged (Accepted w)) v before after outcome is cell = (let same : w ≡ v = cc is in subst (λ (x : VerifiedPlan). DrivesCell x before after outcome) (sym same) cell)
+
+pub drives_told : (loaded other : Loaded) (before after : Streams) (outcome : Result Answer CommandFault) → accepted_in loaded ≡ Err other → IsLineTold other outcome → after ≡ before
+    → Drives (Ok loaded) before after outcome
+drives_told (NotShaped fault) other before after outcome is told same = (same_line (NotShaped fault) other outcome (cc is) told, same)
+drives_told (Judged (Refused back why)) other before after outcome is told same = (same_line (Judged (Refused back why)) other outcome (cc is) told, same)
+drives_told (Judged (Accepted w)) other before after outcome is told same = absurd (cc is)
+
+module _ {W : Type 0} (gives : W → List ℕ → Result (List ℕ) CommandFault → W → Type 0) (log : List ℕ) where
+  pub resumes_accepted : (loaded : Loaded) (v : VerifiedPlan) (texts : W) (before : Streams) (outcome : Result Answer CommandFault) (texts_after : W) (after : Streams) → accepted_in loaded ≡ Ok v
+      → ResumesLog gives log v texts before outcome texts_after after → Resumes gives log (Ok loaded) texts before outcome texts_after after
+  resumes_accepted (NotShaped fault) v texts before outcome texts_after after is on = absurd (cc is)
+  resumes_accepted (Judged (Refused back why)) v texts before outcome texts_after after is on = absurd (cc is)
+  resumes_accepted (Judged (Accepted w)) v texts before outcome texts_after after is on =
+      (let same : w ≡ v = cc is in subst (λ (x : VerifiedPlan). ResumesLog gives log x texts before outcome texts_after after) (sym same) on)
+
+  pub resumes_told : (loaded other : Loaded) (texts : W) (before : Streams) (outcome : Result Answer CommandFault) → accepted_in loaded ≡ Err other → IsLineTold other outcome
+      → Resumes gives log (Ok loaded) texts before outcome texts before
+  resumes_told (NotShaped fault) other texts before outcome is told = (same_line (NotShaped fault) other outcome (cc is) told, refl, refl)
+  resumes_told (Judged (Refused back why)) other texts before outcome is told = (same_line (Judged (Refused back why)) other outcome (cc is) told, refl, refl)
+  resumes_told (Judged (Accepted w)) other texts before outcome is told = absurd (cc is)

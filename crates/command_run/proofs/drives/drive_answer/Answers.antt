@@ -1,0 +1,46 @@
+use Rattle.std.proofs.Common.{Ok, Err, ap, sym, ◌∙◌, refl}
+use Rattle.std.proofs.lemmas.Result.{err_from_is_err_and}
+use Rattle.command_answers.specs.Checks.{IsLineOf}
+use Rattle.command_run.proofs.Accepting.{memory_told, drives_accepted, drives_told}
+use Rattle.command_run.proofs.drives.drive_answer.Goals as goal
+
+pub returns-in_err-load_files : goal.returns-in_err-load_files
+returns-in_err-load_files g c = (let p = err_from_is_err_and c.from_residual.result c.from_residual.ensures.1 in record {
+  loaded = Err c.in_err-load_files.field-0.0;
+  loads = rw (← c.in_err-load_files.was) c.load_files.ensures;
+  drives = (p.1 ∙ ap Err p.2, refl);
+})
+
+pub returns-in-Ok : goal.returns-in-Ok
+returns-in-Ok g c = (let driven = c.drive-end.ensures in record {
+  loaded = Ok c.in_ok-load_files.field-0;
+  loads = rw (← c.in_ok-load_files.was) c.load_files.ensures;
+  drives = drives_accepted c.in_ok-load_files.field-0 c.in-Ok.verified c.args.streams.now _ c.end_answer.result (sym c.accepted.ensures ∙ c.in-Ok.is) (rw (← c.streams.view_is) (record {
+    end = c.drive-end.result;
+    is = record {
+      through = driven.through;
+      run = driven.run;
+      so_far = driven.so_far;
+      promised = driven.promised;
+      unfailed = driven.unfailed;
+      broken_off = driven.broken_off;
+      untouched = λ memory. rw ((driven.untouched memory).0, (driven.untouched memory).1) refl;
+    };
+    answer = c.end_answer.ensures;
+  }));
+})
+
+pub returns-in_err-loaded_answer-in-Err : goal.returns-in_err-loaded_answer-in-Err
+returns-in_err-loaded_answer-in-Err g c = record {
+  loaded = Ok c.in_ok-load_files.field-0;
+  loads = rw (← c.in_ok-load_files.was) c.load_files.ensures;
+  drives = drives_told c.in_ok-load_files.field-0 c.in-Err.other _ _ c.from_residual-in_err-loaded_answer-in-Err.result (sym c.accepted.ensures ∙ c.in-Err.is)
+      (memory_told (IsLineOf c.in-Err.other) _ c.from_residual-in_err-loaded_answer-in-Err.ensures.1) refl;
+}
+
+pub returns-in_ok-loaded_answer-in-Err : goal.returns-in_ok-loaded_answer-in-Err
+returns-in_ok-loaded_answer-in-Err g c = record {
+  loaded = Ok c.in_ok-load_files.field-0;
+  loads = rw (← c.in_ok-load_files.was) c.load_files.ensures;
+  drives = drives_told c.in_ok-load_files.field-0 c.in-Err.other _ _ (Ok c.in_ok-loaded_answer-in-Err.field-0) (sym c.accepted.ensures ∙ c.in-Err.is) c.in_ok-loaded_answer-in-Err.ensures refl;
+}
