@@ -33,7 +33,8 @@ pub fn load_cells<T: Texts>(
     name: Option<&[u8]>,
     plans: &[String],
 ) -> Outcome<Cells>
-    ensures { LoadsCells T.gives path.now (option_copied name.entry) (map string_bytes plans.now) texts.old result texts.new }
+    ensures { LoadsCells T.gives path.now (option_copied name.entry) (map string_bytes plans.now)
+        texts.old result texts.new }
 {
     let text = texts.text(alloc, path)?;
     load_each(alloc, texts, &text, name, plans)
@@ -47,7 +48,8 @@ fn load_each<T: Texts>(
     name: Option<&[u8]>,
     plans: &[String],
 ) -> Outcome<Cells>
-    ensures { LoadsEach T.gives text.now (option_copied name.entry) [] (map string_bytes plans.now) texts.old result texts.new }
+    ensures { LoadsEach T.gives text.now (option_copied name.entry) [] (map string_bytes plans.now)
+        texts.old result texts.new }
 {
     let mut cells = Vec::new(alloc);
     for path in plans {

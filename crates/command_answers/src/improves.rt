@@ -28,7 +28,8 @@ pub fn improve_answer<T: Texts, W: Watch>(
     rounds: u32,
     watch: &mut W,
 ) -> Answered
-    ensures { RunsImprove T.gives (λ p. AfterRounds (λ b. may b) improvers.now p rounds) rounds pair.now texts.old result texts.new }
+    ensures { RunsImprove T.gives (λ p. AfterRounds (λ b. may b) improvers.now p rounds) rounds pair.now
+        texts.old result texts.new }
 {
     match read_both(alloc, texts, pair)?.shaped() {
         Ok(start) => best_answer(alloc, start, improvers, rounds, watch),

@@ -16,7 +16,8 @@ pub fn read_whole<R: Read + Drop>(alloc: Global, reader: R) -> Outcome<Vec<u8>>
     ensures within { IfOk result (λ bytes. vec_len bytes ≤ most_bytes) }
     ensures whole { IfOk result (λ bytes. IfSome (R.remaining reader) (λ all. bytes.items ≡ all)) }
     ensures fault { IfErr result IsFileFault }
-    ensures too_long { IfErr result (λ fault. fault ≡ InputTooLong → IfSome (R.remaining reader) (λ all. most_bytes < length all)) }
+    ensures too_long { IfErr result (λ fault. fault ≡ InputTooLong
+        → IfSome (R.remaining reader) (λ all. most_bytes < length all)) }
 {
     let mut bytes = Vec::new(alloc);
     let mut limited = reader.take(MAX_INPUT as u64 + 1);

@@ -23,7 +23,8 @@ pub fn plan_answer<T: Texts>(
     proposers: &[Box<dyn Proposer>],
     rounds: u32,
 ) -> Answered
-    ensures { RunsPlan T.gives (λ shop. MayPropose (λ b. may b shop) proposers.now) rounds (length proposers.now) pair.now texts.old result texts.new }
+    ensures { RunsPlan T.gives (λ shop. MayPropose (λ b. may b shop) proposers.now) rounds (length proposers.now)
+        pair.now texts.old result texts.new }
 {
     let both = read_both(alloc, texts, pair)?;
     search_answer(alloc, both, proposers, rounds)
@@ -36,7 +37,8 @@ fn search_answer(
     proposers: &[Box<dyn Proposer>],
     rounds: u32,
 ) -> Answered
-    ensures { IsSearchAnswer (MayPropose (λ b. may b both.shop) proposers.now) rounds (length proposers.now) both result }
+    ensures { IsSearchAnswer (MayPropose (λ b. may b both.shop) proposers.now) rounds (length proposers.now)
+        both result }
 {
     let Both { shop, plan } = both;
     match seek(alloc, shop, plan.release, plan.budget, plan.clean, proposers, rounds) {

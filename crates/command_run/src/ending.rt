@@ -17,7 +17,8 @@ pub(crate) fn end<R: Source, W: Outlet, E: Sink>(
     streams: &mut Streams<R, W>,
     errors: &mut E,
 ) -> u8
-    ensures ends { Ends outcome streams.old.output streams.new.output (errors_of E.taken E.failed errors.old) (errors_of E.taken E.failed errors.new) result }
+    ensures ends { Ends outcome streams.old.output streams.new.output
+        (errors_of E.taken E.failed errors.old) (errors_of E.taken E.failed errors.new) result }
     ensures input { streams.new.input ≡ streams.old.input }
 {
     match outcome {

@@ -13,7 +13,7 @@ use command_answers::{Answered, Cells, Texts, load_cells};
 use plan_verifier::Verified;
 use std::alloc::Global;
 
-/// Loads several plans, and drives their cells if all are accepted; else the line of the first that isn't is the answer.
+/// Loads several plans, and drives their cells if all are accepted; else the line of the first that isn't is answered.
 pub(crate) fn hub_answer<T: Texts, R: Source, W: Outlet>(
     alloc: Global,
     texts: &mut T,
@@ -22,7 +22,8 @@ pub(crate) fn hub_answer<T: Texts, R: Source, W: Outlet>(
     plans: &[String],
     streams: &mut Streams<R, W>,
 ) -> Answered
-    ensures { RunsHub T.gives path.now (option_copied name.entry) (map string_bytes plans.now) texts.old streams.old result texts.new streams.new }
+    ensures { RunsHub T.gives path.now (option_copied name.entry) (map string_bytes plans.now)
+        texts.old streams.old result texts.new streams.new }
 {
     match load_cells(alloc, texts, path, name, plans) {
         Ok(Cells::Accepted(cells)) => drive_cells(alloc, cells, streams),

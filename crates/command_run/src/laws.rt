@@ -27,9 +27,9 @@ pub fn instance_first()
 {}
 
 /// Files that tell a shop and a plan are answered, unless memory runs out: by the command's line for that shop and that
-/// plan, or by the driven cell of the plan if it is accepted, which `resume` takes up from its log. `hub` drives the cells
-/// of its plans if all are accepted. Exactly these files are asked for, in this order. Without words an input that tells a
-/// shop is answered by its facts, unless a read fails or memory runs out.
+/// plan, or by the driven cell of the plan if it is accepted, which `resume` takes up from its log. `hub` drives the
+/// cells of its plans if all are accepted. Exactly these files are asked for, in this order. Without words an input
+/// that tells a shop is answered by its facts, unless a read fails or memory runs out.
 pub fn good_files_are_answered()
     ensures facts { FactsAnswerShop }
     ensures shape { ShapeAnswersPlan }
@@ -44,8 +44,8 @@ pub fn good_files_are_answered()
     ensures input { InputAnswersShop }
 {}
 
-/// A plan that isn't accepted has no cell to be driven: it is answered by the line of `check`, unless memory runs out, the
-/// log isn't asked for, and no byte is read or written.
+/// A plan that isn't accepted has no cell to be driven: it is answered by the line of `check`, unless memory runs out,
+/// the log isn't asked for, and no byte is read or written.
 pub fn no_cell_without_an_accepted_plan()
     ensures drive { DriveAnswersByCheck }
     ensures resume { ResumeAnswersByCheck }

@@ -30,8 +30,8 @@ pub(crate) fn resume_answer<T: Texts, R: Source, W: Outlet>(
     }
 }
 
-/// Asks for the log of an accepted plan, takes up its run, and drives that on to the end of the input; the first bad line of
-/// the log is an answer.
+/// Asks for the log of an accepted plan, takes up its run, and drives that on to the end of the input; the first bad
+/// line of the log is an answer.
 fn resume_log<T: Texts, R: Source, W: Outlet>(
     alloc: Global,
     texts: &mut T,
