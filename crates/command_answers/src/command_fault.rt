@@ -1,4 +1,11 @@
 ghost use Rattle.std.specs.Prelude.{◌≡◌};
+ghost use Rattle.command_answers.specs.declared.command_fault.CommandFault.TheVariants.{Memory};
+ghost use Rattle.command_answers.specs.Reading.{IsFaultOfSystem};
+ghost use Rattle.command_answers.specs.Instances.{instance_command_fault};
+ghost use Rattle.command_answers.specs.Plans.{plan_command_fault};
+ghost use Rattle.command_answers.specs.Search.{search_command_fault};
+ghost use Rattle.command_answers.specs.Improving.{improve_command_fault};
+ghost use Rattle.command_answers.specs.LogLines.{audit_command_fault};
 ghost use Rattle.command_answers.specs.Statuses.{status_of};
 
 use orlib_read::OrFault;
@@ -34,9 +41,6 @@ pub enum CommandFault {
 }
 
 impl From<AllocError> for CommandFault {
-    ghost use Rattle.std.specs.Prelude.{◌≡◌};
-    ghost use Rattle.command_answers.specs.declared.command_fault.CommandFault.TheVariants.{Memory};
-
     ghost from_gives = { λ _ fault. fault ≡ Memory };
 
     fn from(_error: AllocError) -> CommandFault {
@@ -45,8 +49,6 @@ impl From<AllocError> for CommandFault {
 }
 
 impl From<io::Error> for CommandFault {
-    ghost use Rattle.command_answers.specs.Reading.{IsFaultOfSystem};
-
     ghost from_gives = { λ error fault. IsFaultOfSystem error fault };
 
     fn from(error: io::Error) -> CommandFault {
@@ -58,9 +60,6 @@ impl From<io::Error> for CommandFault {
 }
 
 impl From<OrFault> for CommandFault {
-    ghost use Rattle.std.specs.Prelude.{◌≡◌};
-    ghost use Rattle.command_answers.specs.Instances.{instance_command_fault};
-
     ghost from_gives = { λ told fault. fault ≡ instance_command_fault told };
 
     fn from(told: OrFault) -> CommandFault {
@@ -72,9 +71,6 @@ impl From<OrFault> for CommandFault {
 }
 
 impl From<PlanFault> for CommandFault {
-    ghost use Rattle.std.specs.Prelude.{◌≡◌};
-    ghost use Rattle.command_answers.specs.Plans.{plan_command_fault};
-
     ghost from_gives = { λ told fault. fault ≡ plan_command_fault told };
 
     fn from(told: PlanFault) -> CommandFault {
@@ -90,9 +86,6 @@ impl From<PlanFault> for CommandFault {
 pub(crate) struct Unanswered(pub Option<CommandFault>);
 
 impl From<SeekFault> for Unanswered {
-    ghost use Rattle.std.specs.Prelude.{◌≡◌};
-    ghost use Rattle.command_answers.specs.Search.{search_command_fault};
-
     ghost from_gives = { λ told unanswered. unanswered.0 ≡ search_command_fault told };
 
     fn from(told: SeekFault) -> Unanswered {
@@ -104,9 +97,6 @@ impl From<SeekFault> for Unanswered {
 }
 
 impl From<ImproveFault> for Unanswered {
-    ghost use Rattle.std.specs.Prelude.{◌≡◌};
-    ghost use Rattle.command_answers.specs.Improving.{improve_command_fault};
-
     ghost from_gives = { λ told unanswered. unanswered.0 ≡ improve_command_fault told };
 
     fn from(told: ImproveFault) -> Unanswered {
@@ -118,9 +108,6 @@ impl From<ImproveFault> for Unanswered {
 }
 
 impl From<AuditFault> for Unanswered {
-    ghost use Rattle.std.specs.Prelude.{◌≡◌};
-    ghost use Rattle.command_answers.specs.LogLines.{audit_command_fault};
-
     ghost from_gives = { λ told unanswered. unanswered.0 ≡ audit_command_fault told };
 
     fn from(told: AuditFault) -> Unanswered {

@@ -1,7 +1,7 @@
 //! The command `drive`, and what the other ones that drive cells share with it.
 
 ghost use Rattle.std.specs.Prelude.{◌≡◌, []};
-ghost use Rattle.command_run.specs.Drives.{IsEndAnswer, status_at, end_of_drive};
+ghost use Rattle.command_run.specs.Drives.{IsEndAnswer, drive_command_fault, status_at, end_of_drive};
 ghost use Rattle.command_run.specs.Program.{RunsDrive};
 
 use crate::devices::Streams;
@@ -16,9 +16,6 @@ use std::alloc::Global;
 pub(crate) struct Told(pub CommandFault);
 
 impl From<DriveFault> for Told {
-    ghost use Rattle.std.specs.Prelude.{◌≡◌};
-    ghost use Rattle.command_run.specs.Drives.{drive_command_fault};
-
     ghost from_gives = { λ told fault. fault.0 ≡ drive_command_fault told };
 
     fn from(told: DriveFault) -> Told {

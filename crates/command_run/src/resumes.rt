@@ -1,7 +1,7 @@
 //! The command `resume`.
 
 ghost use Rattle.std.specs.Prelude.{◌≡◌};
-ghost use Rattle.command_run.specs.Resumes.{IsTaking, IsFaultTold, ResumesLog};
+ghost use Rattle.command_run.specs.Resumes.{IsTaking, IsFaultTold, ResumesLog, resume_command_fault};
 ghost use Rattle.command_run.specs.Program.{RunsResume};
 
 use crate::devices::Streams;
@@ -63,9 +63,6 @@ fn taken_up(alloc: Global, verified: Verified, text: Vec<u8>) -> Result<Taken, R
 struct Untaken(Option<CommandFault>);
 
 impl From<ResumeFault> for Untaken {
-    ghost use Rattle.std.specs.Prelude.{◌≡◌};
-    ghost use Rattle.command_run.specs.Resumes.{resume_command_fault};
-
     ghost from_gives = { λ told untaken. untaken.0 ≡ resume_command_fault told };
 
     fn from(told: ResumeFault) -> Untaken {
