@@ -41,7 +41,8 @@ fn search_answer(
         both result }
 {
     let Both { shop, plan } = both;
-    match seek(alloc, shop, plan.release, plan.budget, plan.clean, proposers, rounds) {
+    let (release, budget, clean) = (plan.release, plan.budget, plan.clean);
+    match seek(alloc, shop, release, budget, clean, proposers, rounds) {
         Ok(verified) => document_answer(alloc, verified.shaped().plan(), GOOD),
         Err(refused) => no_plan_answer(alloc, refused.fault),
     }

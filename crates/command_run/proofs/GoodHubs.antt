@@ -68,7 +68,7 @@ module _ (content : List ℕ → Result (List ℕ) CommandFault) (instance : Lis
   -- behind it come the others
   others_come : (path : List ℕ) (p : PlannedShop) → TellsAccepted content instance name path p → (paths : List (List ℕ)) (plans : List PlannedShop) (cells : List VerifiedPlan) (before mid : List (List ℕ))
       → ((more : List VerifiedPlan) (here : List (List ℕ)) (loaded : Result Cells CommandFault) (asked : List (List ℕ)) → LoadsEach (Shelf content) instance name more paths here loaded asked
-          → IsAnswered (AreCellsOf (plans_of more ++ plans)) (here ++ paths) loaded asked)
+      → IsAnswered (AreCellsOf (plans_of more ++ plans)) (here ++ paths) loaded asked)
       → (one : Result Loaded CommandFault) (loaded : Result Cells CommandFault) (asked : List (List ℕ)) → IsAnswered (IsLoaded p) (before ++ path ∷ []) one mid
       → GoesOn (λ l. AfterPlan cells (λ more. LoadsEach (Shelf content) instance name more paths) (accepted_in l)) one mid loaded asked
       → IsAnswered (AreCellsOf (plans_of cells ++ p ∷ plans)) (before ++ path ∷ paths) loaded asked
@@ -78,7 +78,7 @@ module _ (content : List ℕ → Result (List ℕ) CommandFault) (instance : Lis
   others_come path p good paths plans cells before mid rest (Ok (Judged (Accepted v))) loaded asked is (inr none) = wanting _ _ loaded asked none.0
   others_come path p good paths plans cells before mid rest (Ok (Judged (Accepted v))) loaded asked is (inl on) =
       let one : plans_of (cells ++ v ∷ []) ≡ plans_of cells ++ p ∷ [] =
-          map-append (λ (v : VerifiedPlan). v.planned) cells (v ∷ []) ∙ ap (λ (q : PlannedShop). plans_of cells ++ q ∷ []) is.0.accepted.0 in
+      map-append (λ (v : VerifiedPlan). v.planned) cells (v ∷ []) ∙ ap (λ (q : PlannedShop). plans_of cells ++ q ∷ []) is.0.accepted.0 in
       let all : plans_of (cells ++ v ∷ []) ++ plans ≡ plans_of cells ++ p ∷ plans = ap (λ (ps : List PlannedShop). ps ++ plans) one ∙ append_assoc (plans_of cells) (p ∷ []) plans in
       let files : mid ++ paths ≡ before ++ path ∷ paths = ap (λ (fs : List (List ℕ)). fs ++ paths) is.1 ∙ append_assoc before (path ∷ []) paths in
       subst (λ (ps : List PlannedShop). IsAnswered (AreCellsOf ps) (before ++ path ∷ paths) loaded asked) all

@@ -22,11 +22,11 @@ returns g c = elim c.match-read.branch [
     ends = w.end.ensures.ends;
   })
   | in-Err+in-Ends w ↦
-    let comes : ComesTo w.in-Err.fault w.in-Ends.outcome = subst (Comes w.in-Err.fault) w.in-Ends.is w.from.ensures in
-    rw (w.result-is, w.devices-inside-is, ← c.devices.view_is, w.in-Err.is)
-    (refused_ends g.T.Texts.gives w.in-Err.fault w.in-Ends.outcome _ _ _ comes w.end-in-Ends.ensures.ends refl w.end-in-Ends.ensures.input)
+      let comes : ComesTo w.in-Err.fault w.in-Ends.outcome = subst (Comes w.in-Err.fault) w.in-Ends.is w.from.ensures in
+      rw (w.result-is, w.devices-inside-is, ← c.devices.view_is, w.in-Err.is)
+      (refused_ends g.T.Texts.gives w.in-Err.fault w.in-Ends.outcome _ _ _ comes w.end-in-Ends.ensures.ends refl w.end-in-Ends.ensures.input)
   | in-Err+in-Usage w ↦
-    let comes : Comes w.in-Err.fault (Wrong w.in-Usage.text) = subst (Comes w.in-Err.fault) w.in-Usage.is w.from.ensures in
-    rw (w.result-is, w.devices-inside-is, ← c.devices.view_is, w.in-Err.is)
-    (refused_words g.T.Texts.gives w.in-Err.fault w.in-Usage.text _ _ _ comes (rw (← w.as_bytes.ensures.value) w.tell_line.ensures.told) w.tell_line.ensures.status refl refl)
+      let comes : Comes w.in-Err.fault (Wrong w.in-Usage.text) = subst (Comes w.in-Err.fault) w.in-Usage.is w.from.ensures in
+      rw (w.result-is, w.devices-inside-is, ← c.devices.view_is, w.in-Err.is)
+      (refused_words g.T.Texts.gives w.in-Err.fault w.in-Usage.text _ _ _ comes (rw (← w.as_bytes.ensures.value) w.tell_line.ensures.told) w.tell_line.ensures.status refl refl)
 ]
