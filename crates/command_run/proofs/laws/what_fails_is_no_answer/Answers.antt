@@ -2,4 +2,5 @@ use Rattle.command_run.proofs.Endings.{follows_no_more}
 use Rattle.command_run.proofs.laws.what_fails_is_no_answer.Goals as goal
 
 pub returns : goal.returns
-returns g c = λ words texts before told_before status texts_after after told_after high run. follows_no_more g.T.Texts.gives run.read texts before told_before status texts_after after told_after high run.follows
+returns g c = λ words texts before told_before status texts_after after told_after high run.
+    follows_no_more g.T.Texts.gives words texts before texts_after after told_before told_after status run.read run.is high run.follows
