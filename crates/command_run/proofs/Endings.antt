@@ -198,10 +198,10 @@ ended_no_more (Err fault) before after told_before told_after status low high en
 
 module _ {W : Type 0} (gives : W → List ℕ → Result (List ℕ) CommandFault → W → Type 0) (words : List (List ℕ)) (texts : W) (before : Streams) (texts_after : W) where
   -- a command that was run, as a part of the program's run
-  ran : (chosen : Chosen) → IsChoiceOf (found_in words) chosen → (outcome : Result Answer CommandFault) (mid : Streams)
+  ran : (chosen : Chosen) → reasons_in words ≡ [] → IsChoiceOf (found_in words) chosen → (outcome : Result Answer CommandFault) (mid : Streams)
       → RunsCommand gives chosen.name chosen texts before outcome texts_after mid → Ran gives words texts before outcome texts_after mid
-  ran chosen is outcome mid runs =
-      inl (record { chosen = chosen; is = is; runs = runs; driven = written gives chosen texts before mid chosen.name texts_after outcome runs })
+  ran chosen taken is outcome mid runs =
+      inl (record { chosen = chosen; taken = taken; is = is; runs = runs; driven = written gives chosen texts before mid chosen.name texts_after outcome runs })
 
   -- words that choose no command
   chose_none : (fault : WordsFault) → TellsOneOf (reasons_in words) fault → (outcome : Result Answer CommandFault) → IsOutcomeOfWords fault outcome
@@ -219,7 +219,7 @@ module _ {W : Type 0} (gives : W → List ℕ → Result (List ℕ) CommandFault
     pub follows_ends : (read : Result Chosen WordsFault) → AreWordsRead words read → Follows gives read texts before told_before status texts_after after told_after
         → EndsAsTold gives words texts before told_before status texts_after after told_after
     follows_ends (Ok chosen) are is =
-        ends_told is.outcome is.mid after told_before told_after status (ran chosen are.chosen is.outcome is.mid is.runs)
+        ends_told is.outcome is.mid after told_before told_after status (ran chosen are.taken are.chosen is.outcome is.mid is.runs)
         (outcome_ends is.outcome is.mid.output after.output told_before told_after status (low gives chosen.name chosen texts before is.outcome texts_after is.mid is.runs) is.ends)
     follows_ends (Err (Usage true text)) are is =
         ends_told (Ok is.help) before after told_before told_after status (chose_none (Usage true text) are.refused (Ok is.help) (is.help, (refl, is.text_is.0)))
@@ -245,7 +245,7 @@ module _ {W : Type 0} (gives : W → List ℕ → Result (List ℕ) CommandFault
         inr (record {
           outcome = is.outcome;
           mid = is.mid;
-          ran = ran chosen are.chosen is.outcome is.mid is.runs;
+          ran = ran chosen are.taken are.chosen is.outcome is.mid is.runs;
           unanswered = ended_no_more is.outcome is.mid.output after.output told_before told_after status (low gives chosen.name chosen texts before is.outcome texts_after is.mid is.runs) high is.ends;
         })
     follows_no_more (Err (Usage true text)) are high is =

@@ -302,6 +302,7 @@ module _ {W : Type 0} (gives : W → List ℕ → Result (List ℕ) CommandFault
   -- the command that the words choose was run to an outcome
   pub record RanCommand (words : List (List ℕ)) (texts : W) (before : Streams) (outcome : Result Answer CommandFault) (texts_after : W) (after : Streams) : Type 0 where
     pub chosen : Chosen
+    pub taken : reasons_in words ≡ []
     pub is : IsChoiceOf (found_in words) chosen
     pub runs : RunsCommand gives chosen.name chosen texts before outcome texts_after after
     pub driven : WereDriven chosen.name chosen texts before after
