@@ -1,8 +1,9 @@
 /* cellplan.h - the controller of a cell, for C, C++ and whatever calls C.
 
    A cell is begun from the text of an instance and the text of an accepted plan, told by reports what has ended, and
-   orders the moves that then keep the plan. Texts and moments are those of the program `cellplan`; docs/EMBEDDING.md
-   goes from the sources to a driven cell.
+   orders the moves that then keep the plan. Texts are those of the program `cellplan`; docs/EMBEDDING.md goes from the
+   sources to a driven cell. A moment, as `at` everywhere, is a number of whole time units from moment 0 of the run on, of
+   the unit that the instance's times have. Jobs and machines are numbered from 0.
 
    What each call answers is proved, by the clauses at its function in crates/cellplan_c. What no clause can say, and a
    caller has to keep to:
