@@ -17,7 +17,7 @@
    - `malloc`, `realloc` and `free` are those of one allocator.
 
    cellplan_check, cellplan_explain and cellplan_cell_new take memory, and so may answer CELLPLAN_NO_MEMORY. No other call
-   takes any, so no report can run out of it. cellplan_cell_free and cellplan_cell_new give it back. */
+   answers so, not even a report. cellplan_cell_free and cellplan_cell_new give memory back. */
 #ifndef CELLPLAN_H
 #define CELLPLAN_H
 
