@@ -1,6 +1,5 @@
 -- How each run of the program ends.
-use Rattle.std.proofs.Common.{◌≡◌, ℕ, ◌≤◌, List, [], true, false, Result, Ok, Err, inl, inr, ap, sym, ◌∙◌, subst, arith, refl}
-use Rattle.std.specs.String.{string_bytes}
+use Rattle.std.proofs.Common.{◌≡◌, ℕ, ◌≤◌, List, [], true, false, Result, Ok, Err, inl, inr, ◌⊎◌, ap, sym, ◌∙◌, subst, arith, refl}
 use Rattle.cell_drive.specs.declared.driving.DriveEnd.{DriveEnd}
 use Rattle.cell_drive.specs.declared.driving_cells.HubEnd.{HubEnd}
 use Rattle.cell_drive.specs.declared.drive_fault.DriveFault.{DriveFault}
@@ -222,7 +221,7 @@ module _ {W : Type 0} (gives : W → List ℕ → Result (List ℕ) CommandFault
         ends_told is.outcome is.mid after told_before told_after status (ran chosen are.taken are.chosen is.outcome is.mid is.runs)
         (outcome_ends is.outcome is.mid.output after.output told_before told_after status (low gives chosen.name chosen texts before is.outcome texts_after is.mid is.runs) is.ends)
     follows_ends (Err (Usage true text)) are is =
-        ends_told (Ok is.help) before after told_before told_after status (chose_none (Usage true text) are.refused (Ok is.help) (is.help, (refl, is.text_is.0)))
+        ends_told (Ok is.help) before after told_before told_after status (chose_none (Usage true text) are.refused (Ok is.help) (is.help, refl, is.text_is.0))
         (outcome_ends (Ok is.help) before.output after.output told_before told_after status (omega (arith, is.text_is.1)) is.ends)
     follows_ends (Err (Usage false text)) are is =
         inl (omega (arith, is.1), inl (record { fault = Usage false text; refused = are.refused; told = (is.1, is.0); same = is.3 }))
@@ -252,7 +251,7 @@ module _ {W : Type 0} (gives : W → List ℕ → Result (List ℕ) CommandFault
         inr (record {
           outcome = Ok is.help;
           mid = before;
-          ran = chose_none (Usage true text) are.refused (Ok is.help) (is.help, (refl, is.text_is.0));
+          ran = chose_none (Usage true text) are.refused (Ok is.help) (is.help, refl, is.text_is.0);
           unanswered = ended_no_more (Ok is.help) before.output after.output told_before told_after status (omega (arith, is.text_is.1)) high is.ends;
         })
     follows_no_more (Err (Usage false text)) are high is =
