@@ -1,8 +1,9 @@
 /* cellplan.h - the controller of a cell, for C, C++ and whatever calls C.
 
    A cell is begun from the text of an instance and the text of an accepted plan, told by reports what has ended, and
-   orders the moves that then keep the plan. Texts and moments are those of the program `cellplan`; docs/EMBEDDING.md
-   goes from the sources to a driven cell.
+   orders the moves that then keep the plan. Texts are those of the program `cellplan`; docs/EMBEDDING.md goes from the
+   sources to a driven cell. A moment, as `at` everywhere, is a number of whole time units from moment 0 of the run on, of
+   the unit that the instance's times have. Jobs and machines are numbered from 0.
 
    What each call answers is proved, by the clauses at its function in crates/cellplan_c. What no clause can say, and a
    caller has to keep to:
@@ -16,7 +17,7 @@
    - `malloc`, `realloc` and `free` are those of one allocator.
 
    cellplan_check, cellplan_explain and cellplan_cell_new take memory, and so may answer CELLPLAN_NO_MEMORY. No other call
-   takes any, so no report can run out of it. cellplan_cell_free and cellplan_cell_new give it back. */
+   answers so, not even a report. cellplan_cell_free and cellplan_cell_new give memory back. */
 #ifndef CELLPLAN_H
 #define CELLPLAN_H
 

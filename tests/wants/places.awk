@@ -445,6 +445,7 @@ function look_at(i, word) {
   else if (word == "Error" && token[i - 1] == "::" && token[i - 2] == "fmt") tell(i, "what an AllocError could be made of")
   else if (word == "default" && token[i - 1] == "::") tell(i, "a default value, which may be a fmt::Error")
   else if (word ~ /^(unsafe|macro_rules|include|transmute)$/ && !makes_a_box_alone(i)) tell(i, "code whose words don't tell what it makes")
+  else if (word ~ /^(forget|leak|ManuallyDrop)$/) tell(i, "a value that is never dropped")
   else if (word == "is_memory" && token[i - 1] == "fn") tell(i, "an error of ours that says that it is want of memory")
   else if (word == "Error" && using && from_fmt) tell(i, "what an AllocError could be made of")
   else if (word ~ /^(map_err|or_else)$/ && token[i + 1] == "(") look_at_mapping(i)

@@ -1,13 +1,12 @@
 -- The due moments stay tied to the cell: at the start, after a move, and after the end of an activity.
-use Rattle.std.proofs.Common.{◌≡◌, ◌≢◌, ℕ, ◌+◌, ◌<◌, ◌≤◌, List, length, length-set, get_or, get_or-set_same, get_or-set_other, set, replicate, below_more, Option, None, refl, sym, ◌∙◌, ap, subst, arith, ◌⊎◌, inl, inr}
+use Rattle.std.proofs.Common.{◌≡◌, ◌≢◌, ℕ, ◌+◌, ◌<◌, ◌≤◌, List, length, length-set, get_or, get_or-set_same, get_or-set_other, set, replicate, below_more, Option, None, sym, ◌∙◌, ap, arith, ◌⊎◌, inl, inr}
 use Rattle.std.proofs.lemmas.Bool.{cases_eq}
 use Rattle.std.proofs.lemmas.List.{length-replicate, get_or-replicate}
 use Rattle.shop_base.proofs.InShop.{start_unused}
-use Rattle.shop_base.specs.declared.job_state.JobState.{JobState}
 use Rattle.shop_base.specs.Plan.{PlannedShop, jobs, machines, machine_of}
-use Rattle.shop_base.specs.Cell.{Cell, MachineState, unused, absent, job_in, cleaning, start, IsOutside, IsOn}
+use Rattle.shop_base.specs.Cell.{Cell, MachineState, unused, job_in, cleaning, start, IsOutside, IsOn}
 use Rattle.shop_base.specs.Movers.{due_of_job, due_of_cleaning}
-use Rattle.shop_base.proofs.Changes.{IsMoved, IsReadied, IsTidied}
+use Rattle.shop_base.proofs.Changes.{IsMoved}
 use Rattle.cell_control.specs.Dues.{due_at}
 use Rattle.cell_control.specs.DueMoments.{AreDueMoments}
 
@@ -82,26 +81,6 @@ due_moments-moved p c new dues j k m t inside within due_moments moved on =
     place {n} l here =
         let same : l ≡ k = omega (arith, here.entered, on.entered) in
         sym here.visits.here ∙ ap (machine_of p j) same ∙ on.visits.here
-
--- after a job has become ready
-pub due_moments-readied : (p : PlannedShop) (c new : Cell) (dues : List (Option ℕ)) (j t : ℕ) → j < jobs p → AreDueMoments p c dues → IsReadied c j t new → AreDueMoments p new (set dues j None)
-due_moments-readied p c new dues j t inside due_moments readied =
-    let none : due_of_job p j (job_in new j) ≡ None = rw readied.ready_mine refl in
-    subst (λ due. AreDueMoments p new (set dues j due)) none
-    (due_moments_but-none p new (set dues j (due_of_job p j (job_in new j)))
-    (due_moments-renewed p c new dues j (machines p) inside due_moments readied.others
-    (λ n other. ap (λ (ms : List MachineState). (get_or ms n unused).cleaning) readied.machines_same)))
-
--- after a machine has become clean
-pub due_moments-tidied : (p : PlannedShop) (c new : Cell) (dues : List (Option ℕ)) (m t : ℕ) → m < machines p → AreDueMoments p c dues → IsTidied c m t new
-    → AreDueMoments p new (set dues (jobs p + m) None)
-due_moments-tidied p c new dues m t inside due_moments tidied =
-    subst (λ due. AreDueMoments p new (set dues (jobs p + m) due)) (ap (due_of_cleaning p m) tidied.cleaning_mine)
-    (due_moments_but-renewed p new dues m inside (record {
-      count = due_moments.count;
-      of_jobs = λ j below. due_moments.of_jobs j below ∙ ap (λ (js : List JobState). due_of_job p j (get_or js j absent)) (sym tidied.jobs_same);
-      of_others = λ n below other. due_moments.of_machines n below ∙ ap (due_of_cleaning p n) (sym (tidied.cleaning_elsewhere n other));
-    }))
 
 -- the keys of the first jobs are tied to the start, and no machine's is set
 pub record IsFilled (p : PlannedShop) (dues : List (Option ℕ)) (n : ℕ) : Type 0 where

@@ -11,9 +11,9 @@ use Rattle.cell_control.specs.declared.report.Ack.{Ack}
 use Rattle.cell_hub.specs.declared.hub_fault.HubFault.{HubFault}
 use Rattle.cell_hub.specs.declared.hub_fault.HubFault.TheVariants.{NoSuchCell, SerialsSpent, Memory, Cell}
 use Rattle.cell_hub.specs.Calls.{IsAdmitted, IsCall, Reported}
-use Rattle.cell_drive.specs.NumberedCells.{with_content, contents_of, IsNoneOf, Stands, AreNumbered, IsReportedOn}
+use Rattle.cell_drive.specs.NumberedCells.{with_content, contents_of, IsNoneOf, HasCell, AreNumbered, IsReportedOn}
 
-contents_cons : (h : HubState) (t : Ticket) (tickets : List Ticket) (s : Stands h t) → contents_of h (t ∷ tickets) ≡ s.content ∷ contents_of h tickets
+contents_cons : (h : HubState) (t : Ticket) (tickets : List Ticket) (s : HasCell h t) → contents_of h (t ∷ tickets) ≡ s.content ∷ contents_of h tickets
 contents_cons h t tickets s = ap (λ o. with_content o (contents_of h tickets)) s.there
 
 pub length_contents : (h : HubState) (tickets : List Ticket) → AreNumbered h tickets → length (contents_of h tickets) ≡ length tickets
@@ -21,7 +21,7 @@ length_contents h [] numbered = refl
 length_contents h (t ∷ tickets) (stands, apart, rest) = ap length (contents_cons h t tickets stands) ∙ ap suc (length_contents h tickets rest)
 
 -- the ticket of a number has a cell
-pub stands_at : (h : HubState) (tickets : List Ticket) (k : ℕ) (d : Ticket) → AreNumbered h tickets → k < length tickets → Stands h (get_or tickets k d)
+pub stands_at : (h : HubState) (tickets : List Ticket) (k : ℕ) (d : Ticket) → AreNumbered h tickets → k < length tickets → HasCell h (get_or tickets k d)
 stands_at h [] k d numbered below = absurd (omega arith)
 stands_at h (t ∷ tickets) zero d (stands, apart, rest) below = stands
 stands_at h (t ∷ tickets) (suc k) d (stands, apart, rest) below = stands_at h tickets k d rest (omega arith)
@@ -39,7 +39,7 @@ not_among t [] k d none below = absurd (omega arith)
 not_among t (u ∷ tickets) zero d none below = none.0
 not_among t (u ∷ tickets) (suc k) d none below = not_among t tickets k d none.1 (omega arith)
 
-other_stands : (h new : HubState) (t other : Ticket) (content : Option Control) → Puts h new t content → other ≢ t → Stands h other → Stands new other
+other_stands : (h new : HubState) (t other : Ticket) (content : Option Control) → Puts h new t content → other ≢ t → HasCell h other → HasCell new other
 other_stands h new t other content puts differ stands = record { content = stands.content; there = puts.others other differ ∙ stands.there; control = stands.control }
 
 -- a change of another ticket's cell
@@ -90,7 +90,7 @@ pub more_contents : (h : HubState) (t : Ticket) (content : Control) (tickets : L
 more_contents h t content [] there = ap (λ o. with_content o []) there
 more_contents h t content (u ∷ tickets) there = with_more (cell_at h u) (contents_of h (tickets ++ t ∷ [])) (contents_of h tickets) (content ∷ []) (more_contents h t content tickets there)
 
-pub more_numbered : (h : HubState) (t : Ticket) (tickets : List Ticket) → AreNumbered h tickets → Stands h t → IsNoneOf t tickets → AreNumbered h (tickets ++ t ∷ [])
+pub more_numbered : (h : HubState) (t : Ticket) (tickets : List Ticket) → AreNumbered h tickets → HasCell h t → IsNoneOf t tickets → AreNumbered h (tickets ++ t ∷ [])
 more_numbered h t [] numbered stands none = (stands, tt, tt)
 more_numbered h t (u ∷ tickets) (there, apart, rest) stands none =
     (there, none_of_more u t tickets apart (λ same. none.0 (sym same)), more_numbered h t tickets rest stands none.1)
@@ -120,10 +120,10 @@ content_there h tickets k t numbered found =
     let there = ticket_there tickets k t found in
     content_at h tickets k t numbered there.0 ∙ ap (cell_at h) there.1
 
-pub stands_there : (h : HubState) (tickets : List Ticket) (k : ℕ) (t : Ticket) → AreNumbered h tickets → slice_get tickets k ≡ Some t → Stands h t
+pub stands_there : (h : HubState) (tickets : List Ticket) (k : ℕ) (t : Ticket) → AreNumbered h tickets → slice_get tickets k ≡ Some t → HasCell h t
 stands_there h tickets k t numbered found =
     let there = ticket_there tickets k t found in
-    subst (Stands h) there.1 (stands_at h tickets k t numbered there.0)
+    subst (HasCell h) there.1 (stands_at h tickets k t numbered there.0)
 
 -- a report on a numbered cell
 pub reports_on : (h new : HubState) (tickets : List Ticket) (k : ℕ) (t : Ticket) (report : Report) (result : Result Ack HubFault) → AreNumbered h tickets → slice_get tickets k ≡ Some t

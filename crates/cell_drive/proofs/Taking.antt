@@ -1,16 +1,10 @@
 -- The lines that end in a piece, answered one after another.
-use Rattle.std.proofs.Common.{◌≡◌, ℕ, ◌+◌, ◌<◌, min, List, [], ◌∷◌, ◌++◌, Bool, true, Option, Some, Ok, Err, length, take, inl, inr, sym, ap, ◌∙◌, arith, append_assoc, append-nil, length-append, subst}
-use Rattle.std.proofs.lemmas.Bool.{cases_lt}
-use Rattle.std.proofs.lemmas.List.{take_all}
-use Rattle.std.specs.Io.KnownBytes.{Appends, Keeps}
-use Rattle.std.proofs.KnownBytes.{Appends-kept, Appends-trans}
+use Rattle.std.proofs.Common.{◌≡◌, ℕ, ◌+◌, List, [], ◌∷◌, ◌++◌, Bool, true, Option, Some, Ok, Err, length, sym, ap, ◌∙◌, arith, append_assoc, append-nil, length-append, subst}
+use Rattle.std.specs.Io.KnownBytes.{Appends}
+use Rattle.std.proofs.KnownBytes.{Appends-trans}
 use Rattle.text_lines.specs.Cuts.{HasNone, IsCutAt}
 use Rattle.cell_drive.specs.Holding.{joined, held_line, ended, held_after}
-use Rattle.cell_drive.specs.Answering.{AnswerAll, WasAnswered, AreAnswered, AreCutOff, AreCutShort}
-use Rattle.cell_drive.specs.declared.drive_fault.DriveFault.{DriveFault}
-use Rattle.cell_drive.specs.declared.drive_fault.DriveFault.TheVariants.{Read, Write, InputTooLong, Memory}
-use Rattle.cell_drive.specs.Streams.{IsShownAt}
-use Rattle.cell_drive.specs.Reading.{IsPieceAnswered, IsPastLimit, IsReadTaken}
+use Rattle.cell_drive.specs.Answering.{AnswerAll, WasAnswered, AreAnswered, AreCutOff}
 use Rattle.cell_drive.proofs.Held.{ended-first, held_after-first, ended-none, held_after-none}
 use Rattle.cell_drive.proofs.Told.{AnswerAll-append, AnswerAll-one, cut_behind, cut_one}
 
@@ -91,57 +85,3 @@ module _ {S : Type 0} (answers : S → ℕ → Option (List ℕ) → List ℕ �
 
   pub Taking-lines : lines_now ≡ lines + length (ended held piece)
   Taking-lines = so_far.lines_are ∙ ap (λ l. lines + length l) (sym all_done)
-
--- ---- a piece as a whole
-
--- so many bytes of a piece are within what is left
-pub take_within : (piece : List ℕ) (within left : ℕ) → within ≡ min (length piece) left → take within piece ≡ take left piece
-take_within piece within left is = elim (cases_lt left (length piece)) [
-  | inl over ↦ ap (λ (n : ℕ). take n piece) (omega (arith, is))
-  | inr whole ↦ take_all within piece (omega (arith, is)) ∙ sym (take_all left piece whole)
-]
-
--- a piece was taken as far as the limit, and then what was answered is shown, or that failed
-pub past_limit_taken : {S : Type 0} (fault : DriveFault) (answers : S → ℕ → Option (List ℕ) → List ℕ → S → Type 0) (start : S) (lines : ℕ) (held : Option (List ℕ)) (piece front : List ℕ) (left : ℕ)
-    (end : S) (lines_then : ℕ) (held_then : Option (List ℕ)) (failed_before failed_now failed : Bool) (before middle after : Option (List ℕ)) (pending : List ℕ)
-    → AreAnswered answers start (lines + 1) (ended held front) end failed_before failed_now before middle → lines_then ≡ lines + length (ended held front) → held_then ≡ held_after held front
-    → front ≡ take left piece → left < length piece → Keeps middle after → IsPastLimit fault failed_now failed pending
-    → IsReadTaken (Err fault) answers start lines held piece left end lines_then held_then failed_before failed before after
-past_limit_taken InputTooLong answers start lines held piece front left end lines_then held_then failed_before failed_now failed before middle after pending were lines_are held_is same over kept past = (
-  over,
-  subst (λ (l : List ℕ). IsPieceAnswered answers start lines held l end lines_then held_then failed_before failed before after) same
-      (record {
-        text = were.text;
-        are_answers = were.are_answers;
-        written = Appends-kept before middle after were.text were.written kept;
-        unfailed = past.0 ∙ were.unfailed;
-        lines_are = lines_are;
-        held_is = held_is;
-      }),
-)
-past_limit_taken Write answers start lines held piece front left end lines_then held_then failed_before failed_now failed before middle after pending were lines_are held_is same over kept past = (
-  past,
-  inr
-      (record {
-        text = were.text;
-        are_answers = subst (λ (l : List ℕ). AnswerAll answers start (lines + 1) (ended held l) were.text end) same were.are_answers;
-        written = Appends-kept before middle after were.text were.written kept;
-      }),
-)
-past_limit_taken Read answers start lines held piece front left end lines_then held_then failed_before failed_now failed before middle after pending were lines_are held_is same over kept past = absurd past
-past_limit_taken Memory answers start lines held piece front left end lines_then held_then failed_before failed_now failed before middle after pending were lines_are held_is same over kept past = absurd past
-
-pub past_limit_shown : (fault : DriveFault) (failed_before failed : Bool) (pending : List ℕ) → IsPastLimit fault failed_before failed pending → IsShownAt fault pending
-past_limit_shown InputTooLong failed_before failed pending past = past.1
-past_limit_shown Write failed_before failed pending past = tt
-past_limit_shown Read failed_before failed pending past = absurd past
-past_limit_shown Memory failed_before failed pending past = absurd past
-
--- a piece was taken as far as the limit, and an answer in it was cut off
-pub part_told : {S : Type 0} (answers : S → ℕ → Option (List ℕ) → List ℕ → S → Type 0) (start : S) (lines : ℕ) (held : Option (List ℕ)) (piece front : List ℕ)
-    (end : S) (failed : Bool) (before after : Option (List ℕ))
-    → (failed ≡ true) × AreCutOff answers start (lines + 1) (ended held front) end before after
-    → front ≡ piece
-    → (failed ≡ true) × AreCutShort answers start (lines + 1) (ended held piece) end before after
-part_told answers start lines held piece front end failed before after were same =
-    (were.0, inl (subst (λ (l : List ℕ). AreCutOff answers start (lines + 1) (ended held l) end before after) same were.1))

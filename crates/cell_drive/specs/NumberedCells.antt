@@ -29,7 +29,7 @@ IsNoneOf t [] = Unit {0}
 IsNoneOf t (u ∷ tickets) = (u ≢ t) × IsNoneOf t tickets
 
 -- the ticket has a cell, whose content is a controller's
-pub record Stands (h : HubState) (t : Ticket) : Type 0 where
+pub record HasCell (h : HubState) (t : Ticket) : Type 0 where
   pub content : Control
   pub there : cell_at h t ≡ Some content
   pub control : IsControl content
@@ -37,7 +37,7 @@ pub record Stands (h : HubState) (t : Ticket) : Type 0 where
 -- each of these tickets has a cell, and no two are one
 abbrev pub AreNumbered : HubState → List Ticket → Type 0
 AreNumbered h [] = Unit {0}
-AreNumbered h (t ∷ tickets) = Stands h t × IsNoneOf t tickets × AreNumbered h tickets
+AreNumbered h (t ∷ tickets) = HasCell h t × IsNoneOf t tickets × AreNumbered h tickets
 
 -- each of these cells runs by an accepted plan
 abbrev pub HaveVerified : List Control → Type 0

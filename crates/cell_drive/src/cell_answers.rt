@@ -76,7 +76,7 @@ fn put_orders<W: Sink>(
 
 /// Writes the line of the report, the line that it is late, if it is, and the lines of the orders.
 #[inline(always)]
-pub fn put_accepted<W: Sink>(
+pub(crate) fn put_accepted<W: Sink>(
     prefix: &[u8],
     report: Report,
     late: bool,

@@ -50,7 +50,7 @@ fn finish_of(words: &[u8]) -> Option<Report>
 
 /// The report that the words after `clean` are.
 #[inline(always)]
-fn clean_of(words: &[u8]) -> Option<Report>
+fn cleaning_of(words: &[u8]) -> Option<Report>
     ensures { MatchOption result (IsNoReport (codes "clean " ++ words.now)) (IsReportLine (codes "clean " ++ words.now)) }
 {
     match number_and_moment(words) {
@@ -71,7 +71,7 @@ pub fn report_of(line: &[u8]) -> Option<Report>
         return finish_of(words);
     }
     match after_prefix(line, b"clean ") {
-        Some(words) => clean_of(words),
+        Some(words) => cleaning_of(words),
         None => None,
     }
 }

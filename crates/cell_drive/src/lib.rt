@@ -24,7 +24,6 @@ mod started_cells;
 mod streaming;
 
 pub use answer_lines::{done_line, late_line, refused_line, unfinished_line};
-pub use cell_answers::put_accepted;
 pub use drive_fault::DriveFault;
 pub use driven::{Driven, take_report};
 pub use driving::{DriveEnd, drive, end_driven, start_driven};

@@ -6,7 +6,7 @@ use Rattle.command_answers.specs.declared.command_fault.CommandFault.{CommandFau
 use Rattle.command_answers.specs.declared.command_fault.CommandFault.TheVariants.{Instance, Plan, Read, Write, InputTooLong, Memory}
 use Rattle.command_answers.specs.Plans.{IsRightOfBoth, IsPlanRefusal}
 use Rattle.command_answers.specs.Statuses.{status_of}
-use Rattle.cellplan_c.specs.Calls.{IsPut, Answers, IsFaultTold}
+use Rattle.cellplan_c.specs.Calls.{IsPut, Answers, IsTextFaultTold}
 use Rattle.cellplan_c.specs.Judges.{IsUntold}
 
 pub put_told : (Is : Answer → Type 0) (told : Result Answer CommandFault) (result : ℕ) (old new : List ℕ) (needed : ℕ)
@@ -16,19 +16,19 @@ pub put_told : (Is : Answer → Type 0) (told : Result Answer CommandFault) (res
 put_told Is (Err fault) result old new needed untold put memory is = inl (untold.0 ∙ ap status_of memory, untold.1, untold.2)
 put_told Is (Ok answer) result old new needed untold put memory is = inr (answer, is, put)
 
-memory_untold : (Is : Answer → Type 0) (told : Result Answer CommandFault) → IfOk told (IsFaultTold Memory) → IfOk told Is
+memory_untold : (Is : Answer → Type 0) (told : Result Answer CommandFault) → IfOk told (IsTextFaultTold Memory) → IfOk told Is
 memory_untold Is (Err fault) line = tt
 memory_untold Is (Ok answer) line = absurd line.0
 
 pub no_line : (Is : Answer → Type 0) (fault : CommandFault) (told : Result Answer CommandFault) → fault ≡ Memory
-    → IfOk told (IsFaultTold fault) → IfOk told Is
+    → IfOk told (IsTextFaultTold fault) → IfOk told Is
 no_line Is fault told is line =
-    memory_untold Is told (subst (λ (f : CommandFault). IfOk told (IsFaultTold f)) is line)
+    memory_untold Is told (subst (λ (f : CommandFault). IfOk told (IsTextFaultTold f)) is line)
 
 pub plan_line : (fault : CommandFault) (why : PlanFault) (told : Result Answer CommandFault) → IsPlanRefusal {A = Answer} (Err fault) why
-    → IfOk told (IsFaultTold fault) → IfOk told (IsFaultTold (Plan why))
+    → IfOk told (IsTextFaultTold fault) → IfOk told (IsTextFaultTold (Plan why))
 plan_line (Plan answered) why told is line = line
-plan_line Memory why told is line = memory_untold (IsFaultTold (Plan why)) told line
+plan_line Memory why told is line = memory_untold (IsTextFaultTold (Plan why)) told line
 plan_line (Instance fault) why told is line = absurd is
 plan_line Read why told is line = absurd is
 plan_line Write why told is line = absurd is

@@ -3,7 +3,11 @@ use Rattle.std.specs.Prelude.{◌≡◌, ℕ, ◌<◌, ◌≤◌, ◌++◌, ◌�
 use Rattle.shop_base.specs.Plan.{PlannedShop}
 use Rattle.plan_verifier.specs.declared.verdict.Verdict.TheVariants.{Accepted, Refused}
 use Rattle.plan_verifier.specs.Accepted.{VerifiedPlan, IsAcceptable}
+use Rattle.cell_tables.specs.declared.report.Report.{Report}
+use Rattle.cell_tables.specs.Reports.{said}
 use Rattle.cell_control.specs.Control.{Control, at_start}
+use Rattle.cell_control.specs.Reports.{IsFirstReason, IsOnlyReason}
+use Rattle.cell_control.specs.declared.report_fault.ReportFault.{ReportFault}
 use Rattle.command_answers.specs.declared.answer.Answer.{Answer}
 use Rattle.command_answers.specs.declared.command_fault.CommandFault.{CommandFault}
 use Rattle.command_answers.specs.declared.command_fault.CommandFault.TheVariants.{Instance, Plan}
@@ -11,6 +15,7 @@ use Rattle.command_answers.specs.declared.loading.Loaded.{Loaded}
 use Rattle.command_answers.specs.declared.loading.Loaded.TheVariants.{NotShaped, Judged}
 use Rattle.command_answers.specs.Plans.{TellBoth, IsOfBoth, IsRightOfBoth}
 use Rattle.command_answers.specs.Statuses.{status_of}
+use Rattle.cellplan_c.specs.Told.{fault_number, fault_detail}
 
 -- the fault is of one of the two texts, the instance's before the plan's
 pub record IsTextFault (instance : List ℕ) (name : Option (List ℕ)) (plan : List ℕ) (fault : CommandFault) : Type 0 where
@@ -33,27 +38,27 @@ abbrev pub IsPut : List ℕ → ℕ → ℕ → List ℕ → List ℕ → ℕ �
 IsPut text status result old new needed =
     ((result ≡ status) × IsLaid text old new needed) ⊎ ((result ≡ 6) × IsTooLong text old new needed)
 
--- memory was wanting, and nothing is written; or one of these answers was put
+-- memory ran out, and nothing is written; or one of these answers was put
 abbrev pub Answers : (Answer → Type 0) → ℕ → List ℕ → List ℕ → ℕ → Type 0
 Answers Is result old new needed =
     ((result ≡ 4) × (needed ≡ 0) × (new ≡ old))
     ⊎ ((told : Answer) × Is told × IsPut told.text.items told.status result old new needed)
 
 -- the line that the program tells of the fault of a text on its standard error
-abbrev pub IsFaultLine : CommandFault → List ℕ → Type 0
-IsFaultLine (Instance fault) line = (words : List ℕ) × (line ≡ codes "cellplan: instance: " ++ words ++ codes "\n")
-IsFaultLine (Plan fault) line = (words : List ℕ) × (line ≡ codes "cellplan: plan: " ++ words ++ codes "\n")
-IsFaultLine other line = ⊥
+abbrev pub IsTextFaultLine : CommandFault → List ℕ → Type 0
+IsTextFaultLine (Instance fault) line = (words : List ℕ) × (line ≡ codes "cellplan: instance: " ++ words ++ codes "\n")
+IsTextFaultLine (Plan fault) line = (words : List ℕ) × (line ≡ codes "cellplan: plan: " ++ words ++ codes "\n")
+IsTextFaultLine other line = ⊥
 
 -- the line of this fault, with the status of a text that is refused
-abbrev pub IsFaultTold : CommandFault → Answer → Type 0
-IsFaultTold fault told = IsFaultLine fault told.text.items × (told.status ≡ 3)
+abbrev pub IsTextFaultTold : CommandFault → Answer → Type 0
+IsTextFaultTold fault told = IsTextFaultLine fault told.text.items × (told.status ≡ 3)
 
 -- an answer to the two texts of status 0 or 1, or the line of what is wrong with them
-abbrev pub IsTold : List ℕ → Option (List ℕ) → List ℕ → (PlannedShop → Answer → Type 0) → Answer → Type 0
-IsTold instance name plan Is told =
+abbrev pub IsTextsTold : List ℕ → Option (List ℕ) → List ℕ → (PlannedShop → Answer → Type 0) → Answer → Type 0
+IsTextsTold instance name plan Is told =
     (IsOfBoth instance name plan Is told × (told.status ≤ 1))
-    ⊎ ((fault : CommandFault) × IsTextFault instance name plan fault × IsFaultTold fault told)
+    ⊎ ((fault : CommandFault) × IsTextFault instance name plan fault × IsTextFaultTold fault told)
 
 -- the controller of the accepted plan that the two texts tell, before the first report
 pub record IsStarted (instance : List ℕ) (name : Option (List ℕ)) (plan : List ℕ) (control : Control) : Type 0 where
@@ -67,3 +72,8 @@ abbrev pub IsNotAccepted : Loaded → Type 0
 IsNotAccepted (NotShaped fault) = Unit {0}
 IsNotAccepted (Judged (Refused back why)) = Unit {0}
 IsNotAccepted (Judged (Accepted verified)) = ⊥
+
+-- the report is refused for its first reason, which is the only one: its number is answered, and what it names is told
+abbrev pub IsReasonTold : Control → Report → ℕ → ℕ → Type 0
+IsReasonTold control report number detail = (fault : ReportFault) × (number ≡ fault_number fault) × (detail ≡ fault_detail fault)
+    × IsFirstReason control.plan.planned control.cell (said report) fault × IsOnlyReason control.plan.planned control.cell (said report) fault

@@ -11,7 +11,7 @@ ghost use Rattle.command_answers.specs.Plans.{TellBoth, TellsAShop, IsOfBoth, Is
 ghost use Rattle.command_answers.specs.Checks.{IsCheckLine};
 ghost use Rattle.command_answers.specs.Explains.{IsExplanation};
 ghost use Rattle.cellplan_c.specs.Told.{named};
-ghost use Rattle.cellplan_c.specs.Calls.{Answers, IsTold, IsFaultTold};
+ghost use Rattle.cellplan_c.specs.Calls.{Answers, IsTextsTold, IsTextFaultTold};
 ghost use Rattle.cellplan_c.specs.Judges.{IsAnswerOf};
 
 use crate::faults::fault_answer;
@@ -32,13 +32,13 @@ pub extern "C" fn cellplan_check(
     line: &mut [u8],
     length: &mut usize,
 ) -> u32
-    ensures found { Answers (IsTold instance.now (named name.now) plan.now IsCheckLine) result line.old line.new length.new }
+    ensures found { Answers (IsTextsTold instance.now (named name.now) plan.now IsCheckLine) result line.old line.new length.new }
     ensures only { (p : PlannedShop) → TellBoth instance.now (named name.now) plan.now p
         → Answers (IsCheckLine p) result line.old line.new length.new }
     ensures first { (fault : OrFault) → IsFirstInstanceFault instance.now (named name.now) fault
-        → Answers (IsFaultTold (Instance fault)) result line.old line.new length.new }
+        → Answers (IsTextFaultTold (Instance fault)) result line.old line.new length.new }
     ensures second { (fault : PlanFault) → TellsAShop instance.now (named name.now) → IsFirstPlanFault plan.now fault
-        → Answers (IsFaultTold (Plan fault)) result line.old line.new length.new }
+        → Answers (IsTextFaultTold (Plan fault)) result line.old line.new length.new }
 {
     answer(alloc, Judge::Check, instance, name, plan, line, length)
 }
@@ -54,13 +54,13 @@ pub extern "C" fn cellplan_explain(
     text: &mut [u8],
     length: &mut usize,
 ) -> u32
-    ensures found { Answers (IsTold instance.now (named name.now) plan.now IsExplanation) result text.old text.new length.new }
+    ensures found { Answers (IsTextsTold instance.now (named name.now) plan.now IsExplanation) result text.old text.new length.new }
     ensures only { (p : PlannedShop) → TellBoth instance.now (named name.now) plan.now p
         → Answers (IsExplanation p) result text.old text.new length.new }
     ensures first { (fault : OrFault) → IsFirstInstanceFault instance.now (named name.now) fault
-        → Answers (IsFaultTold (Instance fault)) result text.old text.new length.new }
+        → Answers (IsTextFaultTold (Instance fault)) result text.old text.new length.new }
     ensures second { (fault : PlanFault) → TellsAShop instance.now (named name.now) → IsFirstPlanFault plan.now fault
-        → Answers (IsFaultTold (Plan fault)) result text.old text.new length.new }
+        → Answers (IsTextFaultTold (Plan fault)) result text.old text.new length.new }
 {
     answer(alloc, Judge::Explain, instance, name, plan, text, length)
 }
@@ -75,13 +75,13 @@ fn answer(
     text: &mut [u8],
     length: &mut usize,
 ) -> u32
-    ensures found { Answers (IsTold instance.now (named name.now) plan.now (IsAnswerOf judge)) result text.old text.new length.new }
+    ensures found { Answers (IsTextsTold instance.now (named name.now) plan.now (IsAnswerOf judge)) result text.old text.new length.new }
     ensures only { (p : PlannedShop) → TellBoth instance.now (named name.now) plan.now p
         → Answers (IsAnswerOf judge p) result text.old text.new length.new }
     ensures first { (fault : OrFault) → IsFirstInstanceFault instance.now (named name.now) fault
-        → Answers (IsFaultTold (Instance fault)) result text.old text.new length.new }
+        → Answers (IsTextFaultTold (Instance fault)) result text.old text.new length.new }
     ensures second { (fault : PlanFault) → TellsAShop instance.now (named name.now) → IsFirstPlanFault plan.now fault
-        → Answers (IsFaultTold (Plan fault)) result text.old text.new length.new }
+        → Answers (IsTextFaultTold (Plan fault)) result text.old text.new length.new }
 {
     let told = told(alloc, judge, instance, name, plan);
     put_answer(told, text, length)
@@ -95,12 +95,12 @@ fn told(
     name: &[u8],
     plan: &[u8],
 ) -> Result<Answer, CommandFault>
-    ensures found { IfOk result (IsTold instance.now (named name.now) plan.now (IsAnswerOf judge)) }
+    ensures found { IfOk result (IsTextsTold instance.now (named name.now) plan.now (IsAnswerOf judge)) }
     ensures only { (p : PlannedShop) → TellBoth instance.now (named name.now) plan.now p → IfOk result (IsAnswerOf judge p) }
     ensures first { (fault : OrFault) → IsFirstInstanceFault instance.now (named name.now) fault
-        → IfOk result (IsFaultTold (Instance fault)) }
+        → IfOk result (IsTextFaultTold (Instance fault)) }
     ensures second { (fault : PlanFault) → TellsAShop instance.now (named name.now) → IsFirstPlanFault plan.now fault
-        → IfOk result (IsFaultTold (Plan fault)) }
+        → IfOk result (IsTextFaultTold (Plan fault)) }
     ensures memory { IfErr result (λ fault. fault ≡ Memory) }
 {
     match judged(alloc, judge, instance, name, plan) {

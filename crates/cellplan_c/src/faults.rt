@@ -2,7 +2,7 @@
 
 ghost use Rattle.std.specs.Prelude.{◌≡◌, ◌++◌, ℕ, List, IfOk, IfErr, codes};
 ghost use Rattle.command_answers.specs.declared.command_fault.CommandFault.TheVariants.{Memory};
-ghost use Rattle.cellplan_c.specs.Calls.{IsFaultTold};
+ghost use Rattle.cellplan_c.specs.Calls.{IsTextFaultTold};
 ghost use Rattle.cellplan_c.specs.Judges.{IsUntold};
 
 use crate::statuses::FAULT;
@@ -12,7 +12,7 @@ use std::alloc::{AllocError, Global};
 /// The line that the program tells of a text's fault on its standard error, as an answer with its status. A fault of no
 /// text is passed on.
 pub fn fault_answer(alloc: Global, fault: CommandFault) -> Result<Answer, CommandFault>
-    ensures told { IfOk result (IsFaultTold fault) }
+    ensures told { IfOk result (IsTextFaultTold fault) }
     ensures untold { IfErr result (IsUntold fault) }
 {
     match fault {

@@ -16,7 +16,7 @@ ghost use Rattle.cellplan_c.specs.Told.{answer_of, phase_told};
 use crate::cell::Cell;
 use crate::rooms::put_found;
 use crate::statuses::{GOOD, NO_CELL, NONE};
-use crate::told::{Phase, phase_of};
+use crate::told::{Phase, phase_told};
 use std::alloc::Global;
 
 /// Where the job is; none for a number that is no job's.
@@ -42,7 +42,7 @@ pub extern "C" fn cellplan_cell_phase(
     cell.put(inner);
     match found {
         Some(place) => {
-            *phase = phase_of(place);
+            *phase = phase_told(place);
             GOOD
         }
         None => NONE,

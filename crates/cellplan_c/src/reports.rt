@@ -7,15 +7,14 @@ ghost use Rattle.shop_base.specs.Run.{Event};
 ghost use Rattle.cell_tables.specs.Reports.{said};
 ghost use Rattle.cell_control.specs.Control.{IsAnswered};
 ghost use Rattle.cell_control.specs.Promises.{IsCalled};
-ghost use Rattle.cell_control.specs.Reports.{IsFirstReason, IsOnlyReason};
-ghost use Rattle.cell_control.specs.declared.report_fault.ReportFault.{ReportFault};
-ghost use Rattle.cellplan_c.specs.Told.{report_by, fault_number, fault_detail, order_told};
+ghost use Rattle.cellplan_c.specs.Told.{report_by, order_told};
+ghost use Rattle.cellplan_c.specs.Calls.{IsReasonTold};
 
 use crate::cell::Cell;
 use crate::inner::Inner;
 use crate::rooms::put_orders;
 use crate::statuses::{GOOD, NO_CELL, NO_KIND};
-use crate::told::{Order, detail_of, number_of, report_of};
+use crate::told::{Order, fault_detail, fault_number, report_by};
 use cell_control::Report;
 use std::alloc::Global;
 
@@ -45,9 +44,7 @@ pub extern "C" fn cellplan_cell_report(
         IfSome (report_by kind job machine at) (λ report.
         result ≡ 0 → IsAnswered old.controller (said report) (record { late = late.new }) new.controller))) }
     ensures reason { IfSome cell.old.slot.held (λ old. IfSome (report_by kind job machine at) (λ report.
-        result ≢ 0 → (fault : ReportFault) × (result ≡ fault_number fault) × (detail.new ≡ fault_detail fault)
-        × IsFirstReason old.controller.plan.planned old.controller.cell (said report) fault
-        × IsOnlyReason old.controller.plan.planned old.controller.cell (said report) fault)) }
+        result ≢ 0 → IsReasonTold old.controller report result detail.new)) }
     ensures unchanged { result ≢ 0 → cell.new.slot.held ≡ cell.old.slot.held }
     ensures called { IfSome cell.old.slot.held (λ old. IfSome cell.new.slot.held (λ new.
         IfSome (report_by kind job machine at) (λ report.
@@ -67,7 +64,7 @@ pub extern "C" fn cellplan_cell_report(
     *count = 0;
     *late = false;
     *detail = 0;
-    let Some(report) = report_of(kind, job, machine, at) else {
+    let Some(report) = report_by(kind, job, machine, at) else {
         return NO_KIND;
     };
     let Some(mut inner) = cell.take(alloc) else {
@@ -118,9 +115,7 @@ fn report_to(inner: &mut Inner, report: Report, late: &mut bool, detail: &mut u6
     ensures possible { (result ≡ 0) ↔ CanReport inner.old.controller.plan.planned inner.old.controller.cell (said report) }
     ensures answered { result ≡ 0
         → IsAnswered inner.old.controller (said report) (record { late = late.new }) inner.new.controller }
-    ensures reason { result ≢ 0 → (fault : ReportFault) × (result ≡ fault_number fault) × (detail.new ≡ fault_detail fault)
-        × IsFirstReason inner.old.controller.plan.planned inner.old.controller.cell (said report) fault
-        × IsOnlyReason inner.old.controller.plan.planned inner.old.controller.cell (said report) fault }
+    ensures reason { result ≢ 0 → IsReasonTold inner.old.controller report result detail.new }
     ensures unchanged { result ≢ 0 → inner.new ≡ inner.old }
     ensures numbers { result ≢ 0 → 16 ≤ result }
     ensures not_late { result ≢ 0 → late.new ≡ late.old }
@@ -136,8 +131,8 @@ fn report_to(inner: &mut Inner, report: Report, late: &mut bool, detail: &mut u6
             GOOD
         }
         Err(fault) => {
-            *detail = detail_of(fault);
-            number_of(fault)
+            *detail = fault_detail(fault);
+            fault_number(fault)
         }
     }
 }

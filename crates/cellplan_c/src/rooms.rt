@@ -6,7 +6,7 @@ ghost use Rattle.cellplan_c.specs.Told.{order_told, answer_of};
 ghost use Rattle.cellplan_c.specs.Calls.{IsLaid, IsTooLong, IsPut};
 
 use crate::statuses::{GOOD, NO_ROOM, NONE};
-use crate::told::{Order, order_of};
+use crate::told::{Order, order_told};
 use cell_control::MoveOrder;
 use command_answers::{Answer, CommandFault};
 
@@ -19,7 +19,7 @@ pub fn put_orders(orders: &[MoveOrder], first: usize, room: &mut [Order])
 {
     let count = orders.len().saturating_sub(first).min(room.len());
     for place in 0..count {
-        room[place] = order_of(orders[first + place]);
+        room[place] = order_told(orders[first + place]);
     }
 }
 

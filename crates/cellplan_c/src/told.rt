@@ -29,7 +29,7 @@ pub struct Phase {
 }
 
 /// The report of this kind, if it is one: an arrival, the end of an operation, or of a cleaning.
-pub fn report_of(kind: u32, job: u32, machine: u32, at: u64) -> Option<Report>
+pub fn report_by(kind: u32, job: u32, machine: u32, at: u64) -> Option<Report>
     ensures { result ≡ report_by kind job machine at }
 {
     match kind {
@@ -41,7 +41,7 @@ pub fn report_of(kind: u32, job: u32, machine: u32, at: u64) -> Option<Report>
 }
 
 /// The number of a reason.
-pub fn number_of(fault: ReportFault) -> u32
+pub fn fault_number(fault: ReportFault) -> u32
     ensures { result ≡ fault_number fault }
 {
     match fault {
@@ -56,7 +56,7 @@ pub fn number_of(fault: ReportFault) -> u32
 }
 
 /// The moment or the machine that a reason names, and 0 where it names none.
-pub fn detail_of(fault: ReportFault) -> u64
+pub fn fault_detail(fault: ReportFault) -> u64
     ensures { result ≡ fault_detail fault }
 {
     match fault {
@@ -66,7 +66,7 @@ pub fn detail_of(fault: ReportFault) -> u64
     }
 }
 
-fn number_of_spot(spot: Spot) -> u32
+fn spot_number(spot: Spot) -> u32
     ensures { result ≡ spot_number spot }
 {
     match spot {
@@ -76,19 +76,19 @@ fn number_of_spot(spot: Spot) -> u32
 }
 
 /// The order as its numbers.
-pub fn order_of(order: MoveOrder) -> Order
+pub fn order_told(order: MoveOrder) -> Order
     ensures { result ≡ order_told order }
 {
     Order {
         job: order.job,
-        source: number_of_spot(order.source),
-        target: number_of_spot(order.target),
+        source: spot_number(order.source),
+        target: spot_number(order.target),
         at: order.at,
     }
 }
 
 /// Where a job is as its numbers.
-pub fn phase_of(phase: Whereabouts) -> Phase
+pub fn phase_told(phase: Whereabouts) -> Phase
     ensures { result ≡ phase_told phase }
 {
     match phase {

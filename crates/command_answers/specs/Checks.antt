@@ -9,7 +9,7 @@ use Rattle.plan_verifier.specs.declared.verdict.Verdict.TheVariants.{Accepted, R
 use Rattle.plan_verifier.specs.declared.verdict.Why.TheVariants.{Cycle, Late}
 use Rattle.plan_verifier.specs.Accepted.{VerifiedPlan, IsAcceptable}
 use Rattle.plan_verifier.specs.Verdicts.{OnAccepted, OnRefused, IsFirstLate, IsReason}
-use Rattle.plan_explain.specs.FirstLines.{accepted_line, cycle_line, late_line}
+use Rattle.plan_explain.specs.FirstLines.{accepted_line, cycle_line, refused_late_line}
 use Rattle.plan_explain.specs.Leavings.{AreLeavings}
 use Rattle.command_answers.specs.declared.answer.Answer.{Answer}
 use Rattle.command_answers.specs.declared.loading.Loaded.{Loaded}
@@ -66,7 +66,7 @@ pub record IsLateLine (p : PlannedShop) (answer : Answer) : Type 0 where
   pub leaves : ℕ
   pub chain : List Node
   pub late : IsFirstLate p job leaves chain
-  pub line : answer.text.items ≡ late_line job leaves chain
+  pub line : answer.text.items ≡ refused_late_line job leaves chain
   pub refused : answer.status ≡ 1
 
 -- the line of a verdict on a well-shaped plan
@@ -82,4 +82,4 @@ abbrev pub IsLineOf : Loaded → Answer → Type 0
 IsLineOf (NotShaped fault) answer = IsRefusedLine answer
 IsLineOf (Judged (Accepted verified)) answer = IsAcceptedLine verified.planned answer
 IsLineOf (Judged (Refused back (Cycle nodes))) answer = (answer.text.items ≡ cycle_line nodes.items) × (answer.status ≡ 1)
-IsLineOf (Judged (Refused back (Late job leaves chain))) answer = (answer.text.items ≡ late_line job leaves chain.items) × (answer.status ≡ 1)
+IsLineOf (Judged (Refused back (Late job leaves chain))) answer = (answer.text.items ≡ refused_late_line job leaves chain.items) × (answer.status ≡ 1)

@@ -1,6 +1,5 @@
 -- How each run of the program ends.
-use Rattle.std.proofs.Common.{◌≡◌, ℕ, ◌≤◌, List, [], true, false, Result, Ok, Err, inl, inr, ap, sym, ◌∙◌, subst, arith, refl}
-use Rattle.std.specs.String.{string_bytes}
+use Rattle.std.proofs.Common.{◌≡◌, ℕ, ◌≤◌, List, [], true, false, Result, Ok, Err, inl, inr, ◌⊎◌, ap, sym, ◌∙◌, subst, arith, refl}
 use Rattle.cell_drive.specs.declared.driving.DriveEnd.{DriveEnd}
 use Rattle.cell_drive.specs.declared.driving_cells.HubEnd.{HubEnd}
 use Rattle.cell_drive.specs.declared.drive_fault.DriveFault.{DriveFault}
@@ -15,6 +14,7 @@ use Rattle.command_words.specs.declared.words.CommandName.{CommandName}
 use Rattle.command_words.specs.declared.words.CommandName.TheVariants.{Input as NoWords, Facts, Shape, Check, Explain, Plan as Search, Improve, Drive, Resume, Hub, Audit, Gantt}
 use Rattle.command_words.specs.declared.words.WordsFault.{WordsFault}
 use Rattle.command_words.specs.declared.words.WordsFault.TheVariants.{Usage, Memory as NoWordsMemory}
+use Rattle.command_words.specs.Choice.{IsChoiceOf, TellsOneOf, reasons_in, found_in}
 use Rattle.command_answers.specs.declared.answer.Answer.{Answer}
 use Rattle.command_answers.specs.declared.cells.Cells.{Cells}
 use Rattle.command_answers.specs.declared.cells.Cells.TheVariants.{Accepted as AllAccepted, Line}
@@ -23,13 +23,16 @@ use Rattle.command_answers.specs.declared.command_fault.CommandFault.TheVariants
 use Rattle.command_answers.specs.declared.loading.Loaded.{Loaded}
 use Rattle.command_answers.specs.declared.loading.Loaded.TheVariants.{NotShaped, Judged}
 use Rattle.command_answers.specs.Statuses.{status_of}
+use Rattle.command_answers.specs.Texts.{Asks}
+use Rattle.command_answers.specs.Commands.{Loads}
+use Rattle.command_answers.specs.Cells.{LoadsCells}
 use Rattle.command_run.specs.Streams.{Streams, Output, Errors, Devices}
 use Rattle.command_run.specs.Drives.{Drives, IsDrive}
-use Rattle.command_run.specs.Resumes.{IsResume, ResumesTaken, ResumesText, Resumes}
+use Rattle.command_run.specs.Resumes.{IsTaking, IsResume, ResumesTaken, ResumesText, Resumes}
 use Rattle.command_run.specs.Hubs.{DrivesAll, AreDrives}
-use Rattle.command_run.specs.Ending.{Ends, IsPrinted, IsTold, IsToldAfter, IsAnswerEnd}
-use Rattle.command_run.specs.Program.{RunsCommand, Follows}
-use Rattle.command_run.specs.Laws.{EndsAsTold, HoldsNothing, WereDriven, IsUnanswered, WroteNoMore}
+use Rattle.command_run.specs.Ending.{Ends, IsPrinted, IsTold, IsToldAfter, IsOfText, IsLineOut}
+use Rattle.command_run.specs.Program.{AreWordsRead, RunsCommand, Follows, file_at, name_in, pair_in, plans_in}
+use Rattle.command_run.specs.Laws.{IsOutcomeOfWords, IsFailureOf, EndsAsTold, HoldsNothing, WereDriven, WereRefused, IsUnanswered, Ran, WroteNoMore}
 use Rattle.command_run.proofs.LowStatuses.{IsLow, low}
 
 -- ---- what is told
@@ -42,49 +45,94 @@ at_least_two Write status own = omega (arith, own)
 at_least_two InputTooLong status own = omega (arith, own)
 at_least_two Memory status own = omega (arith, own)
 
-fault_ends : (fault : CommandFault) (before after : Errors) (status : ℕ) → IsTold fault before after status → EndsAsTold before after status
-fault_ends fault before after status (inl out) = inl (at_least_two fault status out.own, inr (fault, out))
-fault_ends fault before after status (inr (text, out)) = inl (at_least_two Memory status out.own, inr (Memory, out))
+-- the fault was told, which failed, or out of memory in its place
+pub record IsFailureTold (outcome : Result Answer CommandFault) (output : Output) (before after : Errors) (status : ℕ) : Type 0 where
+  pub high : 2 ≤ status
+  pub fault : CommandFault
+  pub failed : IsFailureOf outcome output fault
+  pub told : IsLineOut fault before after status
+
+abbrev EndsWell : Result Answer CommandFault → Output → Errors → Errors → ℕ → Type 0
+EndsWell outcome output before after status = IsFailureTold outcome output before after status ⊎ ((status ≤ 1) × (after ≡ before))
+
+fault_ends : (fault : CommandFault) (output : Output) (before after : Errors) (status : ℕ) → IsTold fault before after status → IsFailureTold (Err fault) output before after status
+fault_ends fault output before after status (inl out) = record { high = at_least_two fault status out.own; fault = fault; failed = inl refl; told = out }
+fault_ends fault output before after status (inr (text, out)) = record { high = at_least_two Memory status out.own; fault = Memory; failed = inr (text, refl); told = out }
+
+unprinted_ends : (answer : Answer) (fault : CommandFault) (output_before output_after : Output) (before after : Errors) (status : ℕ)
+    → IsPrinted answer output_before output_after (Err fault) → IsTold fault before after status → IsFailureTold (Ok answer) output_after before after status
+unprinted_ends answer fault output_before output_after before after status is (inl out) =
+    record { high = at_least_two fault status out.own; fault = fault; failed = (is.0, is.2); told = out }
+unprinted_ends answer fault output_before output_after before after status is (inr (text, out)) = absurd (subst IsOfText is.0 text)
 
 printed_ends : (answer : Answer) (printed : Result ℕ CommandFault) (output_before output_after : Output) (before after : Errors) (status : ℕ) → answer.status ≤ 1
-    → IsPrinted answer output_before output_after printed → IsToldAfter printed before after status → EndsAsTold before after status
+    → IsPrinted answer output_before output_after printed → IsToldAfter printed before after status → EndsWell (Ok answer) output_after before after status
 printed_ends answer (Ok shown) output_before output_after before after status low is told =
     inr (subst (λ n. n ≤ 1) (sym (told.1 ∙ is.0)) low, told.0)
-printed_ends answer (Err fault) output_before output_after before after status low is told = fault_ends fault before after status told
-
-answer_ends : (answer : Answer) (output_before output_after : Output) (before after : Errors) (status : ℕ) → answer.status ≤ 1
-    → IsAnswerEnd answer output_before output_after before after status → EndsAsTold before after status
-answer_ends answer output_before output_after before after status low end =
-    printed_ends answer end.printed output_before output_after before after status low end.is end.told
+printed_ends answer (Err fault) output_before output_after before after status low is told =
+    inl (unprinted_ends answer fault output_before output_after before after status is told)
 
 outcome_ends : (outcome : Result Answer CommandFault) (output_before output_after : Output) (before after : Errors) (status : ℕ) → IsLow outcome
-    → Ends outcome output_before output_after before after status → EndsAsTold before after status
-outcome_ends (Ok answer) output_before output_after before after status low ends = answer_ends answer output_before output_after before after status low ends
-outcome_ends (Err fault) output_before output_after before after status low ends = fault_ends fault before after status ends.1
+    → Ends outcome output_before output_after before after status → EndsWell outcome output_after before after status
+outcome_ends (Ok answer) output_before output_after before after status low ends =
+    printed_ends answer ends.printed output_before output_after before after status low ends.is ends.told
+outcome_ends (Err fault) output_before output_after before after status low ends = inl (fault_ends fault output_after before after status ends.1)
 
 -- ---- what is written
 
-kept : (before after : Streams) → after ≡ before → WereDriven before after
-kept before after same = inl (ap (λ (s : Streams). s.output) same)
+module _ {W : Type 0} (gives : W → List ℕ → Result (List ℕ) CommandFault → W → Type 0) (chosen : Chosen) (texts : W) (before after : Streams) where
+  kept : (name : CommandName) → after ≡ before → WereDriven gives name chosen texts before after
+  kept name same = inl (ap (λ (s : Streams). s.output) same)
 
-drives_written : (loaded : Result Loaded CommandFault) (before after : Streams) (outcome : Result Answer CommandFault) → Drives loaded before after outcome → WereDriven before after
-drives_written (Err fault) before after outcome is = kept before after is.1
-drives_written (Ok (NotShaped fault)) before after outcome is = kept before after is.1
-drives_written (Ok (Judged (Refused back why))) before after outcome is = kept before after is.1
-drives_written (Ok (Judged (Accepted v))) before after outcome is = inr (inl (v, (is.end, is.is)))
+  drives_written : (loaded : Result Loaded CommandFault) (later : W) (outcome : Result Answer CommandFault) → Loads gives (pair_in chosen) texts loaded later
+      → Drives loaded before after outcome → WereDriven gives Drive chosen texts before after
+  drives_written (Err fault) later outcome loads is = kept Drive is.1
+  drives_written (Ok (NotShaped fault)) later outcome loads is = kept Drive is.1
+  drives_written (Ok (Judged (Refused back why))) later outcome loads is = kept Drive is.1
+  drives_written (Ok (Judged (Accepted v))) later outcome loads is = inr (inl (refl, record { cell = v; later = later; loads = loads; end = is.end; is = is.is }))
 
-hub_written : (loaded : Result Cells CommandFault) (before after : Streams) (outcome : Result Answer CommandFault) → DrivesAll loaded before after outcome → WereDriven before after
-hub_written (Err fault) before after outcome is = kept before after is.1
-hub_written (Ok (Line answer)) before after outcome is = kept before after is.1
-hub_written (Ok (AllAccepted cells)) before after outcome is = inr (inr (inl (cells.items, (is.end, is.are))))
+  hub_written : (loaded : Result Cells CommandFault) (later : W) (outcome : Result Answer CommandFault) → LoadsCells gives (file_at chosen 0) (name_in chosen) (plans_in chosen) texts loaded later
+      → DrivesAll loaded before after outcome → WereDriven gives Hub chosen texts before after
+  hub_written (Err fault) later outcome loads is = kept Hub is.1
+  hub_written (Ok (Line answer)) later outcome loads is = kept Hub is.1
+  hub_written (Ok (AllAccepted cells)) later outcome loads is =
+      inr (inr (inr (refl, record { cells = cells.items; loaded = Ok (AllAccepted cells); later = later; loads = loads; accepted = refl; end = is.end; are = is.are })))
 
-taken_written : (taken : Result TakenUp ResumeFault) (before after : Streams) (outcome : Result Answer CommandFault) → ResumesTaken taken before after outcome → WereDriven before after
-taken_written (Ok t) before after outcome is = inr (inr (inr (t, (is.end, is.is))))
-taken_written (Err fault) before after outcome is = kept before after is.1
+  module _ (v : VerifiedPlan) (mid : W) (loads : Loads gives (pair_in chosen) texts (Ok (Judged (Accepted v))) mid) (later : W) (outcome : Result Answer CommandFault) where
+    taken_written : (text : List ℕ) (taken : Result TakenUp ResumeFault) → Asks gives (file_at chosen 2) mid (Ok text) later → IsTaking v text taken
+        → ResumesTaken taken before after outcome → WereDriven gives Resume chosen texts before after
+    taken_written text (Ok t) asks takes is =
+        inr (inr (inl (refl, record { cell = v; mid = mid; loads = loads; text = text; later = later; asks = asks; taken = t; takes = takes; end = is.end; is = is.is })))
+    taken_written text (Err fault) asks takes is = kept Resume is.1
 
-text_written : (v : VerifiedPlan) (text : Result (List ℕ) CommandFault) (before after : Streams) (outcome : Result Answer CommandFault) → ResumesText v text before after outcome → WereDriven before after
-text_written v (Ok text) before after outcome is = taken_written is.0 before after outcome is.2
-text_written v (Err fault) before after outcome is = kept before after is.1
+    text_written : (text : Result (List ℕ) CommandFault) → Asks gives (file_at chosen 2) mid text later
+        → ResumesText v text before after outcome → WereDriven gives Resume chosen texts before after
+    text_written (Ok text) asks is = taken_written text is.0 asks is.1 is.2
+    text_written (Err fault) asks is = kept Resume is.1
+
+  resumes_written : (loaded : Result Loaded CommandFault) (mid later : W) (outcome : Result Answer CommandFault) → Loads gives (pair_in chosen) texts loaded mid
+      → Resumes gives (file_at chosen 2) loaded mid before outcome later after → WereDriven gives Resume chosen texts before after
+  resumes_written (Err fault) mid later outcome loads is = kept Resume is.1
+  resumes_written (Ok (NotShaped fault)) mid later outcome loads is = kept Resume is.1
+  resumes_written (Ok (Judged (Refused back why))) mid later outcome loads is = kept Resume is.1
+  resumes_written (Ok (Judged (Accepted v))) mid later outcome loads is = text_written v mid loads later outcome is.text is.asks is.resumes
+
+  written : (name : CommandName) (later : W) (outcome : Result Answer CommandFault)
+      → RunsCommand gives name chosen texts before outcome later after → WereDriven gives name chosen texts before after
+  written NoWords later outcome run = inl run.1
+  written Facts later outcome run = kept Facts run.1
+  written Shape later outcome run = kept Shape run.1
+  written Check later outcome run = kept Check run.1
+  written Explain later outcome run = kept Explain run.1
+  written Search later outcome run = kept Search run.1
+  written Improve later outcome run = kept Improve run.1
+  written Drive later outcome run = drives_written run.loaded later outcome run.loads run.drives
+  written Resume later outcome run = resumes_written run.loaded run.texts_mid later outcome run.loads run.resumes
+  written Hub later outcome run = hub_written run.loaded later outcome run.loads run.drives
+  written Audit later outcome run = kept Audit run.1
+  written Gantt later outcome run = kept Gantt run.1
+
+-- ---- what is shown
 
 drive_shown : (v : VerifiedPlan) (before after : Streams) (end : Result DriveEnd DriveFault) → IsDrive v before after end → before.output.pending ≡ [] → HoldsNothing after.output
 drive_shown v before after (Ok end) is none = inl is.through.shown
@@ -116,11 +164,12 @@ resume_shown : (t : TakenUp) (before after : Streams) (end : Result DriveEnd Dri
 resume_shown t before after (Ok end) is = inl is.through.shown
 resume_shown t before after (Err fault) is = broken_shown t before after fault is.broken_off
 
-driven_shown : (before after : Streams) → WereDriven before after → before.output.pending ≡ [] → HoldsNothing after.output
-driven_shown before after (inl same) none = inl (ap (λ (o : Output). o.pending) same ∙ none)
-driven_shown before after (inr (inl (v, (end, is)))) none = drive_shown v before after end is none
-driven_shown before after (inr (inr (inl (cells, (end, is))))) none = hub_shown cells before after end is none
-driven_shown before after (inr (inr (inr (t, (end, is))))) none = resume_shown t before after end is
+driven_shown : {W : Type 0} (gives : W → List ℕ → Result (List ℕ) CommandFault → W → Type 0) (chosen : Chosen) (texts : W) (before after : Streams) (name : CommandName)
+    → WereDriven gives name chosen texts before after → before.output.pending ≡ [] → HoldsNothing after.output
+driven_shown gives chosen texts before after name (inl same) none = inl (ap (λ (o : Output). o.pending) same ∙ none)
+driven_shown gives chosen texts before after name (inr (inl (is, drove))) none = drive_shown drove.cell before after drove.end drove.is none
+driven_shown gives chosen texts before after name (inr (inr (inl (is, drove)))) none = resume_shown drove.taken before after drove.end drove.is
+driven_shown gives chosen texts before after name (inr (inr (inr (is, drove)))) none = hub_shown drove.cells before after drove.end drove.are none
 
 printed_shown : (answer : Answer) (printed : Result ℕ CommandFault) (before after : Output) → IsPrinted answer before after printed → HoldsNothing after
 printed_shown answer (Ok status) before after is = inl is.3
@@ -134,72 +183,82 @@ ended_shown (Err fault) before after told_before told_after status shown ends = 
 -- ---- what isn't answered
 
 printed_no_more : (answer : Answer) (printed : Result ℕ CommandFault) (before after : Output) (told_before told_after : Errors) (status : ℕ) → answer.status ≤ 1 → 2 ≤ status
-    → IsPrinted answer before after printed → IsToldAfter printed told_before told_after status → IsUnanswered before after
+    → IsPrinted answer before after printed → IsToldAfter printed told_before told_after status → IsUnanswered (Ok answer) before after
 printed_no_more answer (Ok shown) before after told_before told_after status low high is told = absurd (omega (arith, low, high, told.1, is.0))
-printed_no_more answer (Err fault) before after told_before told_after status low high is told = inr (is.2, (answer.text.items, is.1))
+printed_no_more answer (Err fault) before after told_before told_after status low high is told = (is.2, is.1)
 
 ended_no_more : (outcome : Result Answer CommandFault) (before after : Output) (told_before told_after : Errors) (status : ℕ) → IsLow outcome → 2 ≤ status
-    → Ends outcome before after told_before told_after status → IsUnanswered before after
+    → Ends outcome before after told_before told_after status → IsUnanswered outcome before after
 ended_no_more (Ok answer) before after told_before told_after status low high ends =
     printed_no_more answer ends.printed before after told_before told_after status low high ends.is ends.told
-ended_no_more (Err fault) before after told_before told_after status low high ends = inl ends.0
+ended_no_more (Err fault) before after told_before told_after status low high ends = ends.0
 
-module _ {W : Type 0} (gives : W → List ℕ → Result (List ℕ) CommandFault → W → Type 0) where
-  resumes_written : (log : List ℕ) (loaded : Result Loaded CommandFault) (texts : W) (before : Streams) (outcome : Result Answer CommandFault) (texts_after : W) (after : Streams)
-      → Resumes gives log loaded texts before outcome texts_after after → WereDriven before after
-  resumes_written log (Err fault) texts before outcome texts_after after is = kept before after is.1
-  resumes_written log (Ok (NotShaped fault)) texts before outcome texts_after after is = kept before after is.1
-  resumes_written log (Ok (Judged (Refused back why))) texts before outcome texts_after after is = kept before after is.1
-  resumes_written log (Ok (Judged (Accepted v))) texts before outcome texts_after after is = text_written v is.text before after outcome is.resumes
+-- ---- each run of the program
 
-  written : (name : CommandName) (chosen : Chosen) (texts : W) (before : Streams) (outcome : Result Answer CommandFault) (texts_after : W) (after : Streams)
-      → RunsCommand gives name chosen texts before outcome texts_after after → WereDriven before after
-  written NoWords chosen texts before outcome texts_after after run = inl run.1
-  written Facts chosen texts before outcome texts_after after run = kept before after run.1
-  written Shape chosen texts before outcome texts_after after run = kept before after run.1
-  written Check chosen texts before outcome texts_after after run = kept before after run.1
-  written Explain chosen texts before outcome texts_after after run = kept before after run.1
-  written Search chosen texts before outcome texts_after after run = kept before after run.1
-  written Improve chosen texts before outcome texts_after after run = kept before after run.1
-  written Drive chosen texts before outcome texts_after after run = drives_written run.loaded before after outcome run.drives
-  written Resume chosen texts before outcome texts_after after run = resumes_written _ run.loaded run.texts_mid before outcome texts_after after run.resumes
-  written Hub chosen texts before outcome texts_after after run = hub_written run.loaded before after outcome run.drives
-  written Audit chosen texts before outcome texts_after after run = kept before after run.1
-  written Gantt chosen texts before outcome texts_after after run = kept before after run.1
+module _ {W : Type 0} (gives : W → List ℕ → Result (List ℕ) CommandFault → W → Type 0) (words : List (List ℕ)) where
+  -- a command that was run, as a part of the program's run
+  ran : (chosen : Chosen) → reasons_in words ≡ [] → IsChoiceOf (found_in words) chosen → (texts : W) (before : Streams) (outcome : Result Answer CommandFault) (texts_after : W) (mid : Streams)
+      → RunsCommand gives chosen.name chosen texts before outcome texts_after mid → Ran gives words texts before outcome texts_after mid
+  ran chosen taken is texts before outcome texts_after mid runs =
+      inl (record { chosen = chosen; taken = taken; is = is; runs = runs; driven = written gives chosen texts before mid chosen.name texts_after outcome runs })
 
-  pub follows_ends : (read : Result Chosen WordsFault) (before : Devices W) (status : ℕ) (after : Devices W) → Follows gives read before status after → EndsAsTold before.errors after.errors status
-  follows_ends (Ok chosen) before status after is =
-      outcome_ends is.outcome is.mid.output after.streams.output before.errors after.errors status (low gives chosen.name chosen before.texts before.streams is.outcome after.texts is.mid is.runs) is.ends
-  follows_ends (Err (Usage true text)) before status after is =
-      answer_ends is.help before.streams.output after.streams.output before.errors after.errors status (omega (arith, is.text_is.1)) is.ends
-  follows_ends (Err (Usage false text)) before status after is = inl (omega (arith, is.1), inl (is.1, (string_bytes text, is.0)))
-  follows_ends (Err NoWordsMemory) before status after is = fault_ends Memory before.errors after.errors status is.0.1
+  -- words that choose no command
+  chose_none : (fault : WordsFault) → TellsOneOf (reasons_in words) fault → (outcome : Result Answer CommandFault) → IsOutcomeOfWords fault outcome
+      → (texts : W) (before : Streams) (texts_after : W) → Ran gives words texts before outcome texts_after before
+  chose_none fault refused outcome is texts before texts_after = inr (record { fault = fault; refused = refused; is = is; same = refl })
 
-  pub follows_shown : (read : Result Chosen WordsFault) (before : Devices W) (status : ℕ) (after : Devices W) → before.streams.output.pending ≡ [] → Follows gives read before status after
-      → HoldsNothing after.streams.output
-  follows_shown (Ok chosen) before status after none is =
-      ended_shown is.outcome is.mid.output after.streams.output before.errors after.errors status
-      (driven_shown before.streams is.mid (written chosen.name chosen before.texts before.streams is.outcome after.texts is.mid is.runs) none) is.ends
-  follows_shown (Err (Usage true text)) before status after none is = printed_shown is.help is.ends.printed before.streams.output after.streams.output is.ends.is
-  follows_shown (Err (Usage false text)) before status after none is = inl (ap (λ (s : Streams). s.output.pending) is.3 ∙ none)
-  follows_shown (Err NoWordsMemory) before status after none is = inl (ap (λ (o : Output). o.pending) is.0.0 ∙ none)
+  module _ (before : Devices W) (status : ℕ) (after : Devices W) where
+    -- what was told at the end of what ran
+    ends_told : (outcome : Result Answer CommandFault) (mid : Streams) → Ran gives words before.texts before.streams outcome after.texts mid
+        → EndsWell outcome after.streams.output before.errors after.errors status → EndsAsTold gives words before status after
+    ends_told outcome mid ran (inl failure) =
+        inl (failure.high, inr (record { outcome = outcome; mid = mid; ran = ran; fault = failure.fault; failed = failure.failed; told = failure.told }))
+    ends_told outcome mid ran (inr good) = inr good
 
-  pub follows_no_more : (read : Result Chosen WordsFault) (before : Devices W) (status : ℕ) (after : Devices W) → 2 ≤ status → Follows gives read before status after
-      → WroteNoMore before.streams after.streams
-  follows_no_more (Ok chosen) before status after high is = (
-    is.mid,
-    (
-      written chosen.name chosen before.texts before.streams is.outcome after.texts is.mid is.runs,
-      ended_no_more is.outcome is.mid.output after.streams.output before.errors after.errors status
-          (low gives chosen.name chosen before.texts before.streams is.outcome after.texts is.mid is.runs) high is.ends,
-    ),
-  )
-  follows_no_more (Err (Usage true text)) before status after high is = (
-    before.streams,
-    (
-      inl refl,
-      printed_no_more is.help is.ends.printed before.streams.output after.streams.output before.errors after.errors status (omega (arith, is.text_is.1)) high is.ends.is is.ends.told,
-    ),
-  )
-  follows_no_more (Err (Usage false text)) before status after high is = (before.streams, (inl refl, inl (ap (λ (s : Streams). s.output) is.3)))
-  follows_no_more (Err NoWordsMemory) before status after high is = (before.streams, (inl refl, inl is.0.0))
+    pub follows_ends : (read : Result Chosen WordsFault) → AreWordsRead words read → Follows gives read before status after → EndsAsTold gives words before status after
+    follows_ends (Ok chosen) are is =
+        ends_told is.outcome is.mid (ran chosen are.taken are.chosen before.texts before.streams is.outcome after.texts is.mid is.runs)
+        (outcome_ends is.outcome is.mid.output after.streams.output before.errors after.errors status (low gives chosen.name chosen before.texts before.streams is.outcome after.texts is.mid is.runs) is.ends)
+    follows_ends (Err (Usage true text)) are is =
+        ends_told (Ok is.help) before.streams (chose_none (Usage true text) are.refused (Ok is.help) (is.help, refl, is.text_is.0) before.texts before.streams after.texts)
+        (outcome_ends (Ok is.help) before.streams.output after.streams.output before.errors after.errors status (omega (arith, is.text_is.1)) is.ends)
+    follows_ends (Err (Usage false text)) are is =
+        inl (omega (arith, is.1), inl (record { fault = Usage false text; refused = are.refused; told = (is.1, is.0); same = is.3 }))
+    follows_ends (Err NoWordsMemory) are is =
+        ends_told (Err Memory) before.streams (chose_none NoWordsMemory are.refused (Err Memory) refl before.texts before.streams after.texts)
+        (outcome_ends (Err Memory) before.streams.output after.streams.output before.errors after.errors status tt is.0)
+
+    pub follows_shown : (read : Result Chosen WordsFault) → before.streams.output.pending ≡ [] → Follows gives read before status after → HoldsNothing after.streams.output
+    follows_shown (Ok chosen) none is =
+        ended_shown is.outcome is.mid.output after.streams.output before.errors after.errors status
+        (driven_shown gives chosen before.texts before.streams is.mid chosen.name (written gives chosen before.texts before.streams is.mid chosen.name after.texts is.outcome is.runs) none) is.ends
+    follows_shown (Err (Usage true text)) none is = printed_shown is.help is.ends.printed before.streams.output after.streams.output is.ends.is
+    follows_shown (Err (Usage false text)) none is = inl (ap (λ (s : Streams). s.output.pending) is.3 ∙ none)
+    follows_shown (Err NoWordsMemory) none is = inl (ap (λ (o : Output). o.pending) is.0.0 ∙ none)
+
+    pub follows_no_more : (read : Result Chosen WordsFault) → AreWordsRead words read → 2 ≤ status → Follows gives read before status after
+        → WereRefused words before status after ⊎ WroteNoMore gives words before after
+    follows_no_more (Ok chosen) are high is =
+        inr (record {
+          outcome = is.outcome;
+          mid = is.mid;
+          ran = ran chosen are.taken are.chosen before.texts before.streams is.outcome after.texts is.mid is.runs;
+          unanswered = ended_no_more is.outcome is.mid.output after.streams.output before.errors after.errors status
+              (low gives chosen.name chosen before.texts before.streams is.outcome after.texts is.mid is.runs) high is.ends;
+        })
+    follows_no_more (Err (Usage true text)) are high is =
+        inr (record {
+          outcome = Ok is.help;
+          mid = before.streams;
+          ran = chose_none (Usage true text) are.refused (Ok is.help) (is.help, refl, is.text_is.0) before.texts before.streams after.texts;
+          unanswered = ended_no_more (Ok is.help) before.streams.output after.streams.output before.errors after.errors status (omega (arith, is.text_is.1)) high is.ends;
+        })
+    follows_no_more (Err (Usage false text)) are high is =
+        inl (record { fault = Usage false text; refused = are.refused; told = (is.1, is.0); same = is.3 })
+    follows_no_more (Err NoWordsMemory) are high is =
+        inr (record {
+          outcome = Err Memory;
+          mid = before.streams;
+          ran = chose_none NoWordsMemory are.refused (Err Memory) refl before.texts before.streams after.texts;
+          unanswered = is.0.0;
+        })

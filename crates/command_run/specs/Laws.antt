@@ -1,21 +1,27 @@
 -- What the program's clauses come to in plain words.
 use Rattle.std.specs.Prelude.{◌≡◌, ◌≢◌, ℕ, ◌≤◌, List, [], ◌∷◌, ◌++◌, ◌⊎◌, length, map, get_or, Option, None, Some, true, false, Result, Ok, Err}
+use Rattle.std.specs.String.{string_bytes}
 use Rattle.shop_base.specs.Shop.{JobShop}
 use Rattle.shop_base.specs.Plan.{PlannedShop, IsWellShaped}
 use Rattle.orlib_read.specs.declared.or_fault.OrFault.{OrFault}
 use Rattle.plan_verifier.specs.Accepted.{VerifiedPlan, IsAcceptable}
+use Rattle.plan_verifier.specs.declared.verdict.Verdict.TheVariants.{Accepted}
 use Rattle.run_log.specs.Sinks.{TookPart}
 use Rattle.run_resume.specs.Replays.{TakenUp}
 use Rattle.cell_drive.specs.declared.driving.DriveEnd.{DriveEnd}
 use Rattle.cell_drive.specs.declared.driving_cells.HubEnd.{HubEnd}
 use Rattle.cell_drive.specs.declared.drive_fault.DriveFault.{DriveFault}
-use Rattle.command_words.specs.declared.words.CommandName.TheVariants.{Drive}
-use Rattle.command_words.specs.Choice.{word_of, word_found, rows_found, files_in, instance_in, reasons_in, found_in}
+use Rattle.command_words.specs.declared.words.CommandName.TheVariants.{Drive, Resume, Hub}
+use Rattle.command_words.specs.Choice.{word_of, word_found, rows_found, files_in, instance_in, reasons_in, found_in, IsChoiceOf, TellsOneOf}
+use Rattle.command_words.specs.declared.words.Chosen.{Chosen}
+use Rattle.command_words.specs.declared.words.CommandName.{CommandName}
+use Rattle.command_words.specs.declared.words.WordsFault.{WordsFault}
+use Rattle.command_words.specs.declared.words.WordsFault.TheVariants.{Usage, Memory as WordsMemory}
 use Rattle.command_answers.specs.declared.answer.Answer.{Answer}
 use Rattle.command_answers.specs.declared.command_fault.CommandFault.{CommandFault}
-use Rattle.command_answers.specs.declared.command_fault.CommandFault.TheVariants.{Instance, Read, Memory}
+use Rattle.command_answers.specs.declared.command_fault.CommandFault.TheVariants.{Instance, Read, Memory, Write}
 use Rattle.command_answers.specs.declared.logs.Telling.{Telling}
-use Rattle.command_answers.specs.Texts.{most_bytes}
+use Rattle.command_answers.specs.Texts.{most_bytes, Asks}
 use Rattle.command_answers.specs.Instances.{Tells, IsFirstInstanceFault}
 use Rattle.command_answers.specs.Plans.{TellBoth}
 use Rattle.command_answers.specs.Facts.{AreFacts}
@@ -25,16 +31,19 @@ use Rattle.command_answers.specs.Explains.{IsExplanation}
 use Rattle.command_answers.specs.LogLines.{IsLogLine}
 use Rattle.command_answers.specs.Search.{IsSearchAnswer}
 use Rattle.command_answers.specs.Improving.{IsImproveAnswer}
-use Rattle.command_answers.specs.Commands.{PairOfFiles, RunsFacts, RunsShape, RunsCheck, RunsExplain, RunsLog}
+use Rattle.command_answers.specs.Commands.{PairOfFiles, RunsFacts, RunsShape, RunsCheck, RunsExplain, RunsLog, Loads}
+use Rattle.command_answers.specs.declared.loading.Loaded.TheVariants.{Judged}
+use Rattle.command_answers.specs.declared.cells.Cells.{Cells}
+use Rattle.command_answers.specs.Cells.{AreAccepted, LoadsCells}
 use Rattle.command_run.specs.Streams.{Streams, Input, Output, Errors, Devices}
 use Rattle.command_run.specs.Inputs.{RunsInput}
 use Rattle.command_run.specs.Planners.{MayPlan, SeeksPlan}
 use Rattle.command_run.specs.Improvers.{AsksOne, ImprovesPlan}
 use Rattle.command_run.specs.Drives.{IsDrive, DrivesCell}
-use Rattle.command_run.specs.Resumes.{IsResume, ResumesText}
+use Rattle.command_run.specs.Resumes.{IsResume, ResumesText, IsTaking}
 use Rattle.command_run.specs.Hubs.{AreDrives, DrivesCells}
-use Rattle.command_run.specs.Ending.{WasTold, IsLineOut}
-use Rattle.command_run.specs.Program.{RunsDrive, RunsResume, RunsHub, RunsProgram}
+use Rattle.command_run.specs.Ending.{WasTold, IsLineOut, IsOfText}
+use Rattle.command_run.specs.Program.{RunsDrive, RunsResume, RunsHub, RunsProgram, RunsCommand, file_at, name_in, pair_in, plans_in}
 
 -- ---- what is told first where the files don't change
 
@@ -246,38 +255,121 @@ DriveWritesTheSame = (content : List ℕ → Result (List ℕ) CommandFault) (wo
 
 -- ---- how the program ends
 
--- what failed was told: a line for words that are refused, with status 2, or a fault's own line with its status
-abbrev pub WasFailureTold : Errors → Errors → ℕ → Type 0
-WasFailureTold before after status =
-    ((status ≡ 2) × ((line : List ℕ) × WasTold line before after)) ⊎ ((fault : CommandFault) × IsLineOut fault before after status)
-
--- the status is 2 or more, and what failed was told; or it is 0 or 1, and nothing was told
-abbrev pub EndsAsTold : Errors → Errors → ℕ → Type 0
-EndsAsTold before after status = ((2 ≤ status) × WasFailureTold before after status) ⊎ ((status ≤ 1) × (after ≡ before))
-
 -- nothing is held back, unless a write of the output has failed
 abbrev pub HoldsNothing : Output → Type 0
 HoldsNothing output = (output.pending ≡ []) ⊎ (output.failed ≡ true)
 
--- nothing was written; or a cell was driven, or several were, or a run that was taken up was driven on, to this end or up to this fault
-abbrev pub WereDriven : Streams → Streams → Type 0
-WereDriven before after = (after.output ≡ before.output)
-    ⊎ (((v : VerifiedPlan) × ((end : Result DriveEnd DriveFault) × IsDrive v before after end))
-    ⊎ (((cells : List VerifiedPlan) × ((end : Result HubEnd DriveFault) × AreDrives cells before after end))
-    ⊎ ((t : TakenUp) × ((end : Result DriveEnd DriveFault) × IsResume t before after end))))
+-- the first bytes of an answer were written, and then a write failed; of a fault nothing was written
+abbrev pub IsUnanswered : Result Answer CommandFault → Output → Output → Type 0
+IsUnanswered (Ok answer) before after = (after.failed ≡ true) × TookPart before.taken after.taken answer.text.items
+IsUnanswered (Err fault) before after = after ≡ before
 
--- nothing was written, or the first bytes of an answer whose write failed
-abbrev pub IsUnanswered : Output → Output → Type 0
-IsUnanswered before after = (after ≡ before) ⊎ ((after.failed ≡ true) × ((text : List ℕ) × TookPart before.taken after.taken text))
+-- what is told of an outcome: its fault, or out of memory for the words of a refused text; of an answer, that a write of it failed
+abbrev pub IsFailureOf : Result Answer CommandFault → Output → CommandFault → Type 0
+IsFailureOf (Ok answer) after fault = (fault ≡ Write) × (after.failed ≡ true)
+IsFailureOf (Err own) after fault = (fault ≡ own) ⊎ (IsOfText own × (fault ≡ Memory))
 
--- nothing was written but what driven cells answered, and after it at most the first bytes of an answer whose write failed
-abbrev pub WroteNoMore : Streams → Streams → Type 0
-WroteNoMore before after = (mid : Streams) × (WereDriven before mid × IsUnanswered mid.output after.output)
+-- the outcome of words that choose no command: help that was asked for, or out of memory; what is wrong with the words is none
+abbrev pub IsOutcomeOfWords : WordsFault → Result Answer CommandFault → Type 0
+IsOutcomeOfWords (Usage true text) outcome = (help : Answer) × (outcome ≡ Ok help) × (help.text.items ≡ string_bytes text)
+IsOutcomeOfWords (Usage false text) outcome = ⊥
+IsOutcomeOfWords WordsMemory outcome = outcome ≡ Err Memory
+
+-- what is wrong with the words was told, with status 2
+abbrev pub IsUsageTold : WordsFault → Errors → Errors → ℕ → Type 0
+IsUsageTold (Usage true text) before after status = ⊥
+IsUsageTold (Usage false text) before after status = (status ≡ 2) × WasTold (string_bytes text) before after
+IsUsageTold WordsMemory before after status = ⊥
+
+-- the words choose no command, and come to this outcome
+pub record ChoseNone (words : List (List ℕ)) (before : Streams) (outcome : Result Answer CommandFault) (after : Streams) : Type 0 where
+  pub fault : WordsFault
+  pub refused : TellsOneOf (reasons_in words) fault
+  pub is : IsOutcomeOfWords fault outcome
+  pub same : after ≡ before
+
+-- the words were refused, and what is wrong with them was told
+pub record WereRefused {W : Type 0} (words : List (List ℕ)) (before : Devices W) (status : ℕ) (after : Devices W) : Type 0 where
+  pub fault : WordsFault
+  pub refused : TellsOneOf (reasons_in words) fault
+  pub told : IsUsageTold fault before.errors after.errors status
+  pub same : after.streams ≡ before.streams
 
 module _ {W : Type 0} (gives : W → List ℕ → Result (List ℕ) CommandFault → W → Type 0) where
+  -- the plan is accepted, and its cell was driven to this end or up to this fault
+  pub record DroveCell (pair : PairOfFiles) (texts : W) (before after : Streams) : Type 0 where
+    pub cell : VerifiedPlan
+    pub later : W
+    pub loads : Loads gives pair texts (Ok (Judged (Accepted cell))) later
+    pub end : Result DriveEnd DriveFault
+    pub is : IsDrive cell before after end
+
+  -- the plan is accepted, its run was taken up from the log, and driven on to this end or up to this fault
+  pub record DroveOn (pair : PairOfFiles) (log : List ℕ) (texts : W) (before after : Streams) : Type 0 where
+    pub cell : VerifiedPlan
+    pub mid : W
+    pub loads : Loads gives pair texts (Ok (Judged (Accepted cell))) mid
+    pub text : List ℕ
+    pub later : W
+    pub asks : Asks gives log mid (Ok text) later
+    pub taken : TakenUp
+    pub takes : IsTaking cell text (Ok taken)
+    pub end : Result DriveEnd DriveFault
+    pub is : IsResume taken before after end
+
+  -- all plans are accepted, and their cells were driven to this end or up to this fault
+  pub record DroveCells (path : List ℕ) (name : Option (List ℕ)) (plans : List (List ℕ)) (texts : W) (before after : Streams) : Type 0 where
+    pub cells : List VerifiedPlan
+    pub loaded : Result Cells CommandFault
+    pub later : W
+    pub loads : LoadsCells gives path name plans texts loaded later
+    pub accepted : AreAccepted cells loaded
+    pub end : Result HubEnd DriveFault
+    pub are : AreDrives cells before after end
+
+  -- nothing was written; or the command drives cells, and those of its files were driven
+  abbrev pub WereDriven : CommandName → Chosen → W → Streams → Streams → Type 0
+  WereDriven name chosen texts before after = (after.output ≡ before.output)
+      ⊎ (((name ≡ Drive) × DroveCell (pair_in chosen) texts before after)
+      ⊎ (((name ≡ Resume) × DroveOn (pair_in chosen) (file_at chosen 2) texts before after)
+      ⊎ ((name ≡ Hub) × DroveCells (file_at chosen 0) (name_in chosen) (plans_in chosen) texts before after)))
+
+  -- the command that the words choose was run to an outcome
+  pub record RanCommand (words : List (List ℕ)) (texts : W) (before : Streams) (outcome : Result Answer CommandFault) (texts_after : W) (after : Streams) : Type 0 where
+    pub chosen : Chosen
+    pub taken : reasons_in words ≡ []
+    pub is : IsChoiceOf (found_in words) chosen
+    pub runs : RunsCommand gives chosen.name chosen texts before outcome texts_after after
+    pub driven : WereDriven chosen.name chosen texts before after
+
+  -- what the words come to, before it is printed or told
+  abbrev pub Ran : List (List ℕ) → W → Streams → Result Answer CommandFault → W → Streams → Type 0
+  Ran words texts before outcome texts_after after = RanCommand words texts before outcome texts_after after ⊎ ChoseNone words before outcome after
+
+  -- what failed was told by its own line with its status
+  pub record WasFailureTold (words : List (List ℕ)) (before : Devices W) (status : ℕ) (after : Devices W) : Type 0 where
+    pub outcome : Result Answer CommandFault
+    pub mid : Streams
+    pub ran : Ran words before.texts before.streams outcome after.texts mid
+    pub fault : CommandFault
+    pub failed : IsFailureOf outcome after.streams.output fault
+    pub told : IsLineOut fault before.errors after.errors status
+
+  -- nothing was written but what driven cells answered, and after it at most the first bytes of an answer whose write failed
+  pub record WroteNoMore (words : List (List ℕ)) (before after : Devices W) : Type 0 where
+    pub outcome : Result Answer CommandFault
+    pub mid : Streams
+    pub ran : Ran words before.texts before.streams outcome after.texts mid
+    pub unanswered : IsUnanswered outcome mid.output after.streams.output
+
+  -- the status is 2 or more, and what failed was told; or it is 0 or 1, and nothing was told
+  abbrev pub EndsAsTold : List (List ℕ) → Devices W → ℕ → Devices W → Type 0
+  EndsAsTold words before status after =
+      ((2 ≤ status) × (WereRefused words before status after ⊎ WasFailureTold words before status after)) ⊎ ((status ≤ 1) × (after.errors ≡ before.errors))
+
   -- in each run of the program what fails is told on the error output with its status, and nothing else is told
   abbrev pub WhatFailsIsTold : Type 0
-  WhatFailsIsTold = (words : List (List ℕ)) (before : Devices W) (status : ℕ) (after : Devices W) → RunsProgram gives words before status after → EndsAsTold before.errors after.errors status
+  WhatFailsIsTold = (words : List (List ℕ)) (before : Devices W) (status : ℕ) (after : Devices W) → RunsProgram gives words before status after → EndsAsTold words before status after
 
   -- at the end of each run of the program nothing is held back, unless a write of the output has failed
   abbrev pub NothingIsHeldBack : Type 0
@@ -287,4 +379,4 @@ module _ {W : Type 0} (gives : W → List ℕ → Result (List ℕ) CommandFault
   -- where the status is 2 or more, nothing was written but what driven cells answered, and the first bytes of an answer whose write failed
   abbrev pub WhatFailsIsNoAnswer : Type 0
   WhatFailsIsNoAnswer = (words : List (List ℕ)) (before : Devices W) (status : ℕ) (after : Devices W) → 2 ≤ status → RunsProgram gives words before status after
-      → WroteNoMore before.streams after.streams
+      → WereRefused words before status after ⊎ WroteNoMore words before after

@@ -59,14 +59,6 @@ module _ (p : PlannedShop) (shaped : IsWellShaped p) where
   arc_time _ _ _ (blocking_arc m a i k j l one other) =
       ap time_of (told_blocking p (node i (k + 1)) (node j l) (apart m a i k j l one other)) ∙ ap (clean p) other.visits.here
 
-blocking_within : (p : PlannedShop) (u v : Node) (d : ℕ) → Arc p u v d → u.job ≢ v.job → v.place < steps p v.job
-blocking_within p _ _ _ (job_arc j k within) differ = absurd (differ refl)
-blocking_within p _ _ _ (blocking_arc m a i k j l one other) differ = other.visits.within
-
--- the arc from one job to another leads to one of its steps
-pub blocking_step : (p : PlannedShop) (u v : Node) → u.job ≢ v.job → HasArc p u v → v.place < steps p v.job
-blocking_step p u v differ arc = blocking_within p u v arc.0 arc.1 differ
-
 -- what a path to v of length n is, from its first node on
 pub record IsLed (p : PlannedShop) (u : Node) (us : List Node) (v : Node) (n : ℕ) : Type 0 where
   pub inside : u.job < jobs p

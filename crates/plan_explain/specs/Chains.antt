@@ -16,11 +16,6 @@ abbrev pub length_from : PlannedShop → ℕ → Node → List Node → ℕ
 length_from p t u [] = t
 length_from p t u (v ∷ vs) = length_from p (reached_at p t u v) v vs
 
--- the length of a path
-abbrev pub length_of : PlannedShop → List Node → ℕ
-length_of p [] = 0
-length_of p (u ∷ us) = length_from p (release p u.job) u us
-
 -- arcs lead from u along the nodes
 abbrev pub AreAlong : PlannedShop → Node → List Node → Type 0
 AreAlong p u [] = Unit {0}

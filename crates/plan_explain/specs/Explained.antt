@@ -6,7 +6,7 @@ use Rattle.shop_base.specs.Graph.{leaving, Path}
 use Rattle.plan_verifier.specs.declared.verdict.Verdict.{Verdict}
 use Rattle.plan_verifier.specs.declared.verdict.Verdict.TheVariants.{Accepted, Refused}
 use Rattle.plan_verifier.specs.declared.verdict.Why.TheVariants.{Cycle, Late}
-use Rattle.plan_explain.specs.FirstLines.{accepted_line, cycle_line, late_line}
+use Rattle.plan_explain.specs.FirstLines.{accepted_line, cycle_line, refused_late_line}
 use Rattle.plan_explain.specs.Leavings.{AreLeavings, IsLastToLeave, leaving_lines}
 use Rattle.plan_explain.specs.Cycles.{cycle_lines}
 use Rattle.plan_explain.specs.Chains.{chain_lines}
@@ -17,7 +17,7 @@ cycle_text p nodes = cycle_line nodes ++ cycle_lines p nodes
 
 -- a late job explained
 abbrev pub late_text : PlannedShop → ℕ → ℕ → List Node → List ℕ
-late_text p job leaves chain = late_line job leaves chain ++ chain_lines p chain
+late_text p job leaves chain = refused_late_line job leaves chain ++ chain_lines p chain
 
 -- an accepted plan explained, by its makespan, the jobs' leavings and a chain
 abbrev pub accepted_text : PlannedShop → ℕ → List ℕ → List Node → List ℕ

@@ -33,5 +33,5 @@ abbrev pub cycle_line : List Node → List ℕ
 cycle_line nodes = codes "refused cycle" ++ node_words nodes ++ codes "\n"
 
 -- the line of a late job
-abbrev pub late_line : ℕ → ℕ → List Node → List ℕ
-late_line job leaves chain = codes "refused late " ++ decimal job ++ codes " " ++ decimal leaves ++ node_words chain ++ codes "\n"
+abbrev pub refused_late_line : ℕ → ℕ → List Node → List ℕ
+refused_late_line job leaves chain = codes "refused late " ++ decimal job ++ codes " " ++ decimal leaves ++ node_words chain ++ codes "\n"

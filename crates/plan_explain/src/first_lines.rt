@@ -2,7 +2,7 @@
 
 ghost use Rattle.std.specs.Prelude.{◌≡◌, ◌++◌, OnOk, codes, decimal};
 ghost use Rattle.shop_base.specs.NodeText.{node_text};
-ghost use Rattle.plan_explain.specs.FirstLines.{node_words, moment_words, leavings_of, accepted_line, cycle_line, late_line};
+ghost use Rattle.plan_explain.specs.FirstLines.{node_words, moment_words, leavings_of, accepted_line, cycle_line, refused_late_line};
 
 use crate::leaving_lines::{jobs_of, leave_of};
 use crate::words::{Line, push_line, put_node};
@@ -63,7 +63,7 @@ pub fn push_late_line(
     leaves: Moment,
     chain: &[Node],
 ) -> Result<(), AllocError>
-    ensures { OnOk result (text.new.items ≡ text.old.items ++ late_line job leaves chain.now) }
+    ensures { OnOk result (text.new.items ≡ text.old.items ++ refused_late_line job leaves chain.now) }
 {
     push_late_job(text, job, leaves)?;
     push_nodes(text, chain)?;

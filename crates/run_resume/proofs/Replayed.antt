@@ -1,7 +1,7 @@
 -- A log that is replayed, entry by entry.
-use Rattle.std.proofs.Common.{◌≡◌, ℕ, suc, ◌+◌, ◌*◌, ◌<◌, ◌≤◌, ◌↔◌, Bool, false, List, [], ◌∷◌, ◌++◌, length, map, take, get_or, refl, sym, ap, ◌∙◌, subst, arith, append_assoc, append-nil, length-append, length-take-le}
+use Rattle.std.proofs.Common.{◌≡◌, ℕ, ◌+◌, ◌*◌, ◌<◌, ◌≤◌, ◌↔◌, Bool, false, List, [], ◌∷◌, ◌++◌, length, map, take, get_or, refl, sym, ap, ◌∙◌, subst, arith, append_assoc, append-nil, length-append, length-take-le}
 use Rattle.std.proofs.Math.Seq.{take-append_seam}
-use Rattle.std.proofs.lemmas.List.{take_more, length-map, append_cancel_left}
+use Rattle.std.proofs.lemmas.List.{take_more, length-map}
 use Rattle.shop_base.specs.declared.move_order.MoveOrder.{MoveOrder}
 use Rattle.shop_base.specs.Plan.{PlannedShop}
 use Rattle.shop_base.specs.Cell.{Cell, start}
@@ -17,16 +17,15 @@ use Rattle.cell_tables.specs.Reports.{said}
 use Rattle.cell_control.specs.Reports.{IsFirstReason}
 use Rattle.cell_tables.specs.declared.entry.Entry.{Entry}
 use Rattle.cell_tables.specs.declared.entry.Entry.TheVariants.{Report as ReportEntry, Order as OrderEntry}
-use Rattle.run_log.specs.LogLines.{LineTells, LinesTell}
+use Rattle.run_log.specs.LogLines.{LinesTell}
 use Rattle.cell_drive.specs.Driving.{cell_after}
 use Rattle.cell_drive.specs.Driven.{IsDriven}
 use Rattle.cell_drive.proofs.DrivenRuns.{driven-never_full}
 use Rattle.cell_drive.proofs.DrivenEnds.{run_of, cell_is}
-use Rattle.run_resume.specs.declared.resume_fault.ResumeFault.{ResumeFault}
-use Rattle.run_resume.specs.declared.resume_fault.ResumeFault.TheVariants.{BadLine, NotOrdered, NotPossible, Memory}
+use Rattle.run_resume.specs.declared.resume_fault.ResumeFault.TheVariants.{NotPossible}
 use Rattle.run_resume.specs.CutLogs.{IsOwnRun, IsTakenUp, IsFaultOf}
 use Rattle.run_resume.specs.LateEvents.{AreLate, IsLateEvent}
-use Rattle.run_resume.specs.Replays.{HasTold, told_part, IsReplayed, IsEntryFault, IsLineFault}
+use Rattle.run_resume.specs.Replays.{HasTold, told_part, IsReplayed, IsEntryFault}
 use Rattle.run_resume.proofs.OwnRuns.{own_run}
 use Rattle.run_resume.proofs.LateOnes.{late_more}
 
@@ -146,19 +145,6 @@ module _ (control : Control) (log : Noted) (late : List Bool) (replayed : IsRepl
   -- there is room for each entry
   pub room_for_late : (room : ℕ) → 2 * stated_number p ≤ room → length log.entries ≤ room
   room_for_late room enough = let full = driven-never_full (record { control = control; log = log }) replayed.driven in omega (arith, full.fits, full.reserved, enough)
-
-  -- the fault of a line is that of its entry
-  pub fault_of_line : (line : List ℕ) (entry : Entry) (fault : ResumeFault) → LineTells p line (entry ∷ []) → IsEntryFault p log.entries late entry fault → IsLineFault p log.entries late line fault
-  fault_of_line line entry (BadLine number) tells is due whole = absurd (none due entry (is due whole))
-    where
-      none : (due : List MoveOrder) (entry : Entry) → IsFaultOf p (told_part log.entries late) due entry (BadLine number) → ⊥
-      none [] (ReportEntry r) fault = fault
-      none [] (OrderEntry o) fault = fault
-      none (o ∷ os) (ReportEntry r) fault = fault
-      none (o ∷ os) (OrderEntry q) fault = fault
-  fault_of_line line entry (NotOrdered number) tells is due whole = (entry, tells, is due whole)
-  fault_of_line line entry (NotPossible number reason) tells is due whole = (entry, tells, is due whole)
-  fault_of_line line entry Memory tells is due whole = (entry, tells, is due whole)
 
   -- a report that isn't possible, where all was told
   pub report_impossible : (number : ℕ) (r : Report) (reason : ReportFault) → length log.entries ≤ length late
