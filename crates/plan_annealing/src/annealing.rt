@@ -2,9 +2,10 @@
 
 use crate::draws::Draws;
 use crate::moves::Moves;
-use crate::net::{NONE, Net};
+use crate::net::{NONE, Net, count};
 use crate::passing::Pass;
 use crate::price::{Aim, Price};
+use crate::timing::Part;
 use crate::turning::{move_left, move_right};
 use shop_base::Moment;
 
@@ -16,6 +17,9 @@ const LOOKS: u64 = 20_000_000;
 
 /// How many neighbours are tried at most, for each pair of operations.
 const NEIGHBOURS: u64 = 50;
+
+/// How many are drawn at most for each that may be tried.
+const DRAWS: u64 = 4;
 
 /// The temperature at the begin, in hundredths of the mean time of a step.
 const HOT: u64 = 80;
@@ -45,10 +49,15 @@ struct Walk {
 /// Searches from the plan of the net, and leaves the best plan that it meets in the net's kept sources. Whether that is
 /// better than the one that came in.
 pub(crate) fn anneal(net: &mut Net, pass: &mut Pass, moves: &mut Moves, draws: Draws) -> bool {
-    if !pass.run(&net.spots, 0, Moment::MAX) {
+    let all = Part {
+        first: 0,
+        last: last_place(net),
+        limit: Moment::MAX,
+    };
+    if !pass.run(&net.spots, all) {
         return false;
     }
-    pass.keep(0);
+    pass.keep();
     let price = Price::of(&net.spans, &pass.rows);
     let mut walk = Walk {
         draws,
@@ -60,6 +69,7 @@ pub(crate) fn anneal(net: &mut Net, pass: &mut Pass, moves: &mut Moves, draws: D
         tried: 0,
     };
     net.set_rests(true);
+    pass.find_tails(&net.spots, last_place(net));
     aim_anew(net, pass, &mut walk);
     let most = most_neighbours(net);
     for phase in 1..PHASES + 1 {
@@ -75,6 +85,11 @@ pub(crate) fn anneal(net: &mut Net, pass: &mut Pass, moves: &mut Moves, draws: D
         walk.heat = (walk.heat >> 8).wrapping_mul(FALL) >> 8;
     }
     walk.found
+}
+
+/// The last place in the order of the nodes.
+fn last_place(net: &Net) -> u32 {
+    count(net.spots.len()).wrapping_sub(1)
 }
 
 /// The mean time of a step, with the cleaning after it, in 1/65536.
@@ -98,7 +113,8 @@ fn most_neighbours(net: &Net) -> u64 {
         .wrapping_mul(net.steps())
 }
 
-/// Tries neighbours at one temperature until so many nodes were looked at or so many neighbours were tried.
+/// Draws neighbours at one temperature until so many nodes were looked at or so many neighbours were tried. One that is
+/// known to be past the limit isn't tried again.
 fn run_phase(
     net: &mut Net,
     pass: &mut Pass,
@@ -107,31 +123,58 @@ fn run_phase(
     looks: u64,
     neighbours: u64,
 ) {
-    for _ in walk.tried..neighbours {
-        if pass.looks.wrapping_add(moves.looks) >= looks || pass.arc_count == 0 {
+    let draws = neighbours.saturating_sub(walk.tried).wrapping_mul(DRAWS);
+    for _ in 0..draws {
+        let is_at_end = pass.looks.wrapping_add(moves.looks) >= looks || walk.tried >= neighbours;
+        if is_at_end || pass.neighbours.count() == 0 {
             return;
         }
-        walk.tried = walk.tried.wrapping_add(1);
-        try_neighbour(net, pass, moves, walk);
+        let limit = drawn_limit(walk);
+        let number = walk.draws.below(pass.neighbours.count());
+        if pass.neighbours.is_past(number, limit) {
+            pass.looks = pass.looks.wrapping_add(1);
+        } else {
+            walk.tried = walk.tried.wrapping_add(1);
+            let least = try_neighbour(net, pass, moves, walk, number, limit);
+            pass.neighbours.note(number, least);
+        }
     }
 }
 
-/// Turns one of the arcs round, and goes on from there where the plan is within a limit that is drawn.
+/// Makes a neighbour, and goes on from there where it is within the limit. Else gives what it weighs at least.
 #[inline(never)]
-fn try_neighbour(net: &mut Net, pass: &mut Pass, moves: &mut Moves, walk: &mut Walk) {
-    let limit = drawn_limit(walk);
-    turn_arc(net, pass, moves, walk);
-    if pass.run(&net.spots, moves.first, limit) {
+fn try_neighbour(
+    net: &mut Net,
+    pass: &mut Pass,
+    moves: &mut Moves,
+    walk: &mut Walk,
+    number: u32,
+    limit: u64,
+) -> u64 {
+    move_job(net, pass, moves, number, limit);
+    if moves.is_past() {
+        moves.undo(net);
+        return moves.least;
+    }
+    let part = Part {
+        first: moves.first,
+        last: moves.last,
+        limit,
+    };
+    if pass.run(&net.spots, part) {
+        pass.go_on(&net.spots);
         let price = Price::of(&net.spans, &pass.rows);
         if price.weight(walk.aim) <= limit {
-            pass.keep(moves.first);
+            pass.keep();
+            pass.find_tails(&net.spots, part.last);
             take(net, pass, walk, price);
             aim_anew(net, pass, walk);
-            return;
+            return 0;
         }
     }
     pass.undo();
     moves.undo(net);
+    limit.wrapping_add(1)
 }
 
 /// What the next plan may weigh: as much as this one, and more the less likely the more it is.
@@ -141,17 +184,13 @@ fn drawn_limit(walk: &mut Walk) -> u64 {
     walk.now.weight(walk.aim).wrapping_add(more)
 }
 
-/// Turns one of the arcs round.
-fn turn_arc(net: &mut Net, pass: &mut Pass, moves: &mut Moves, walk: &mut Walk) {
-    let picked = walk.draws.below(pass.arc_count);
-    let entry = match pass.arcs.get(picked as usize) {
-        Some(entry) => *entry,
-        None => NONE,
-    };
-    if walk.draws.coin() {
-        move_left(moves, net, &pass.rows, entry);
+/// Moves the job by which the neighbour differs.
+fn move_job(net: &mut Net, pass: &mut Pass, moves: &mut Moves, number: u32, limit: u64) {
+    let entry = pass.neighbours.entry(number);
+    if number & 1 == 0 {
+        move_left(moves, net, &pass.rows, entry, limit);
     } else {
-        move_right(moves, net, &pass.rows, entry);
+        move_right(moves, net, &pass.rows, entry, limit);
     }
 }
 
@@ -170,19 +209,20 @@ fn take(net: &mut Net, pass: &mut Pass, walk: &mut Walk, price: Price) {
 /// sooner, the makespan counts too.
 fn aim_anew(net: &mut Net, pass: &mut Pass, walk: &mut Walk) {
     if walk.least.late() == 0 {
-        aim_at_makespan(net, walk);
+        aim_at_makespan(net, pass, walk);
     }
-    pass.note_arcs(&net.spots, walk.now.leaving(walk.aim));
-    if pass.arc_count == 0 {
-        aim_at_makespan(net, walk);
-        pass.note_arcs(&net.spots, walk.now.longest);
+    pass.find_neighbours(&net.spots, walk.now.leaving(walk.aim));
+    if pass.neighbours.count() == 0 {
+        aim_at_makespan(net, pass, walk);
+        pass.find_neighbours(&net.spots, walk.now.longest);
     }
 }
 
 /// Lets the makespan count from now on.
-fn aim_at_makespan(net: &mut Net, walk: &mut Walk) {
+fn aim_at_makespan(net: &mut Net, pass: &mut Pass, walk: &mut Walk) {
     if walk.aim == Aim::Budgets {
         walk.aim = Aim::Makespan;
         net.set_rests(false);
+        pass.find_tails(&net.spots, last_place(net));
     }
 }

@@ -5,11 +5,14 @@
 mod annealed;
 mod annealing;
 mod draws;
+mod estimate;
 mod moves;
+mod neighbours;
 mod net;
 mod net_of_plan;
 mod passing;
 mod price;
+mod timing;
 mod turning;
 
 pub use annealed::annealed_orders;

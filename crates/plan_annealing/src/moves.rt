@@ -1,7 +1,9 @@
 //! What a move keeps in mind: its swaps, and the nodes that are still to be looked at.
 
-use crate::net::{NONE, Net, swap};
-use crate::passing::Row;
+use crate::estimate::weight_after_swap;
+use crate::net::{NONE, Net, spot_at, swap};
+use crate::timing::Row;
+use shop_base::Moment;
 use std::alloc::{AllocError, Global};
 
 /// How often a move looks at a node, on average, before it is cut off. The plan may have a cycle then, and where it has,
@@ -21,8 +23,12 @@ struct Mark {
 pub(crate) struct Moves {
     swaps: Vec<u32>,
     made: u32,
-    /// The first place, in the order of the nodes, of those whose arcs have changed.
+    /// The first and the last place, in the order of the nodes, between which arcs have changed.
     pub first: u32,
+    pub last: u32,
+    /// What the plan may weigh, and what it weighs at least after the swaps, by their estimates.
+    limit: Moment,
+    pub least: Moment,
     marks: Vec<Mark>,
     stamp: u32,
     stack: Vec<u32>,
@@ -41,6 +47,9 @@ impl Moves {
             swaps: vec![in alloc; NONE; nodes]?,
             made: 0,
             first: 0,
+            last: 0,
+            limit: 0,
+            least: 0,
             marks,
             stamp: 0,
             stack: vec![in alloc; NONE; nodes]?,
@@ -49,10 +58,13 @@ impl Moves {
         })
     }
 
-    /// Begins a move. Gives how many nodes it may look at.
-    pub fn begin(&mut self) -> u64 {
+    /// Begins a move that ends where the plan is past the limit. Gives how many nodes it may look at.
+    pub fn begin(&mut self, limit: Moment) -> u64 {
+        self.limit = limit;
+        self.least = 0;
         self.made = 0;
         self.first = NONE;
+        self.last = 0;
         self.height = 0;
         self.stamp = self.stamp.wrapping_add(1);
         (self.marks.len() as u64).wrapping_mul(LOOKS_A_NODE)
@@ -69,8 +81,14 @@ impl Moves {
         self.made = 0;
     }
 
-    /// Lets the job that enters here come before the one before it. Gives the entry of that one, if there is one.
+    /// Lets the job that enters here come before the one before it, if the plan isn't past the limit then. Gives the entry
+    /// of that one, if there is one.
     pub fn turn(&mut self, net: &mut Net, rows: &[Row], entry: u32) -> u32 {
+        self.looks = self.looks.wrapping_add(1);
+        self.least = self.least.max(weight_after_swap(&net.spots, rows, entry));
+        if self.is_past() {
+            return NONE;
+        }
         let Some(place) = self.swaps.get_mut(self.made as usize) else {
             return NONE;
         };
@@ -80,7 +98,15 @@ impl Moves {
             self.made = self.made.wrapping_add(1);
             self.first = self.first.min(row.place);
         }
+        if let Some(row) = rows.get(spot_at(&net.spots, entry).next as usize) {
+            self.last = self.last.max(row.place);
+        }
         other
+    }
+
+    /// Whether the plan is past the limit after the swaps.
+    pub fn is_past(&self) -> bool {
+        self.least > self.limit
     }
 
     /// The bound with which a node was met in this move.
@@ -112,7 +138,7 @@ impl Moves {
     #[inline]
     pub fn next(&mut self) -> Option<u32> {
         self.looks = self.looks.wrapping_add(1);
-        if self.height == 0 {
+        if self.height == 0 || self.is_past() {
             return None;
         }
         self.height = self.height.wrapping_sub(1);

@@ -1,5 +1,5 @@
 use crate::net::{NONE, Span};
-use crate::passing::{Row, head_in};
+use crate::timing::{Row, head_in};
 use shop_base::Moment;
 use shop_base::limits::MAX_MOMENT;
 

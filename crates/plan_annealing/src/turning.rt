@@ -2,17 +2,19 @@
 //! that moves does so on other machines too (job insertion: Groeflin and Klinkert, A new neighborhood and tabu search
 //! for the blocking job shop, Discrete Applied Mathematics 157, 2009).
 //!
-//! Of two nodes on a path the later one's moment is no less, and it comes behind in the order of the nodes. So where a
-//! node comes after the bound of a search, in the plan before the move, the search needn't go on from there.
+//! Of two nodes on a path the later one's moment is no less, what follows it is no longer, and it comes behind in the
+//! order of the nodes. So where a node comes after the bound of a search, in the plan before the move, the search needn't
+//! go on from there.
 
 use crate::moves::Moves;
 use crate::net::{NONE, Net, spot_at};
-use crate::passing::Row;
+use crate::timing::Row;
+use shop_base::Moment;
 
 /// Moves the job that enters here to the left, past the one before it, and past further ones on this machine and on
-/// others until there is no cycle.
-pub(crate) fn move_left(moves: &mut Moves, net: &mut Net, rows: &[Row], entry: u32) {
-    let most = moves.begin();
+/// others until there is no cycle, or the plan is past the limit.
+pub(crate) fn move_left(moves: &mut Moves, net: &mut Net, rows: &[Row], entry: u32, limit: Moment) {
+    let most = moves.begin(limit);
     let job = spot_at(&net.spots, entry).job;
     turn_left(moves, net, rows, entry);
     for _ in 0..most {
@@ -69,9 +71,15 @@ fn reach_left(moves: &mut Moves, rows: &[Row], at: u32, bound: u32) {
 }
 
 /// Moves the job that stands before the one that enters here to the right, past it, and past further ones on this
-/// machine and on others until there is no cycle.
-pub(crate) fn move_right(moves: &mut Moves, net: &mut Net, rows: &[Row], entry: u32) {
-    let most = moves.begin();
+/// machine and on others until there is no cycle, or the plan is past the limit.
+pub(crate) fn move_right(
+    moves: &mut Moves,
+    net: &mut Net,
+    rows: &[Row],
+    entry: u32,
+    limit: Moment,
+) {
+    let most = moves.begin(limit);
     let leave = spot_at(&net.spots, spot_at(&net.spots, entry).source);
     turn_right(moves, net, rows, leave.back);
     for _ in 0..most {
@@ -137,5 +145,5 @@ fn leads(rows: &[Row], from: u32, to: u32) -> bool {
     let Some(to) = rows.get(to as usize) else {
         return false;
     };
-    from.head <= to.head && from.place <= to.place
+    from.head <= to.head && from.tail >= to.tail && from.place <= to.place
 }

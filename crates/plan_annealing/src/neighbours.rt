@@ -1,0 +1,86 @@
+//! The neighbours of a plan, and what is known of them.
+
+use crate::net::{NONE, Spot, count, spot_at};
+use crate::timing::Row;
+use shop_base::Moment;
+use std::alloc::{AllocError, Global};
+
+/// The machine arcs on the path that is to be shortened. Each can be turned round in two ways: neighbour 2 `i` moves a
+/// job at arc `i` to the left, and neighbour 2 `i` + 1 one to the right.
+#[derive(Drop)]
+pub(crate) struct Neighbours {
+    /// The arcs by their targets, and how many they are.
+    arcs: Vec<u32>,
+    arc_count: u32,
+    /// What each neighbour weighs at least, as far as that is known.
+    leasts: Vec<Moment>,
+}
+
+impl Neighbours {
+    pub fn new(alloc: Global, nodes: usize) -> Result<Neighbours, AllocError> {
+        Ok(Neighbours {
+            arcs: vec![in alloc; NONE; nodes]?,
+            arc_count: 0,
+            leasts: vec![in alloc; 0; nodes.wrapping_mul(2)]?,
+        })
+    }
+
+    /// How many they are.
+    pub fn count(&self) -> u32 {
+        self.arc_count.wrapping_mul(2)
+    }
+
+    /// The entry that the arc of a neighbour leads to.
+    pub fn entry(&self, number: u32) -> u32 {
+        match self.arcs.get((number >> 1) as usize) {
+            Some(entry) => *entry,
+            None => NONE,
+        }
+    }
+
+    /// Whether a neighbour is known to be past the limit.
+    pub fn is_past(&self, number: u32, limit: Moment) -> bool {
+        match self.leasts.get(number as usize) {
+            Some(least) => *least > limit,
+            None => true,
+        }
+    }
+
+    /// Notes what a neighbour weighs at least.
+    pub fn note(&mut self, number: u32, weight: Moment) {
+        if let Some(least) = self.leasts.get_mut(number as usize) {
+            *least = weight;
+        }
+    }
+
+    /// Finds the machine arcs on a longest path to the node. Nothing is known of these neighbours. Gives how many nodes
+    /// were looked at.
+    pub fn find(&mut self, spots: &[Spot], rows: &[Row], node: u32) -> u32 {
+        self.arc_count = 0;
+        let mut to = node;
+        for looks in 0..rows.len() {
+            let from = match rows.get(to as usize) {
+                Some(row) => row.before,
+                None => NONE,
+            };
+            if from == NONE {
+                return count(looks);
+            }
+            if spot_at(spots, to).back != from {
+                self.add(to);
+            }
+            to = from;
+        }
+        count(rows.len())
+    }
+
+    fn add(&mut self, entry: u32) {
+        let number = self.count();
+        if let Some(place) = self.arcs.get_mut(self.arc_count as usize) {
+            *place = entry;
+            self.arc_count = self.arc_count.wrapping_add(1);
+            self.note(number, 0);
+            self.note(number.wrapping_add(1), 0);
+        }
+    }
+}

@@ -1,0 +1,152 @@
+//! A node's moment, from the moments of the nodes before it.
+
+use crate::net::{NONE, Spot, spot_at};
+use shop_base::Moment;
+
+/// Added to the place of a node that is put off: it is behind all places then.
+pub(crate) const OFF: u32 = 0x8000_0000;
+
+/// What is known of a node.
+#[derive(Clone, Copy)]
+pub(crate) struct Row {
+    /// Its moment, which is the greatest length of a path to it.
+    pub head: Moment,
+    /// The greatest length of a path from it, with what the leaving at its end counts for the aim.
+    pub tail: Moment,
+    /// The node before it on a longest path to it.
+    pub before: u32,
+    /// Its place in the order of the nodes.
+    pub place: u32,
+}
+
+/// What a node's row was before the pass.
+#[derive(Clone, Copy)]
+pub(crate) struct Old {
+    pub head: Moment,
+    pub before: u32,
+    pub node: u32,
+}
+
+/// The places between which arcs have changed, the first and the last one, and what no path there may be past.
+#[derive(Clone, Copy)]
+pub(crate) struct Part {
+    pub first: u32,
+    pub last: u32,
+    pub limit: Moment,
+}
+
+/// What came of looking at a node.
+#[derive(Clone, Copy)]
+pub(crate) enum Look {
+    /// It has its moment.
+    Timed,
+    /// An arc to it comes from a node that has none yet.
+    Waits,
+    /// Its moment is so late that the plan is past the limit.
+    Late,
+}
+
+/// The node's moment in the kept rows.
+#[inline]
+pub(crate) fn head_in(rows: &[Row], number: u32) -> Moment {
+    match rows.get(number as usize) {
+        Some(row) => row.head,
+        None => 0,
+    }
+}
+
+/// Finds the node's moment, if those before it have theirs: they stand up to this place, and aren't put off. Its row
+/// before that goes to this turn of the old ones.
+#[inline(always)]
+pub(crate) fn time(
+    spots: &[Spot],
+    rows: &mut [Row],
+    olds: &mut [Old],
+    turn: u32,
+    at: u32,
+    place: u32,
+    part: Part,
+) -> Look {
+    let Some(spot) = spots.get(at as usize) else {
+        return Look::Late;
+    };
+    let mut head = spot.lag;
+    let mut before = spot.back;
+    if let Some(row) = rows.get(spot.back as usize) {
+        if row.place > place {
+            return Look::Waits;
+        }
+        head = row.head.wrapping_add(spot.lag);
+    }
+    if let Some(row) = rows.get(spot.source as usize) {
+        if row.place > place {
+            return Look::Waits;
+        }
+        let moment = row.head.wrapping_add(spot.clean);
+        if moment > head {
+            head = moment;
+            before = spot.source;
+        }
+    }
+    let rest = known_rest(spots, rows, spot, part.last);
+    if let Some(row) = rows.get_mut(at as usize) {
+        if let Some(old) = olds.get_mut(turn as usize) {
+            *old = Old {
+                head: row.head,
+                before: row.before,
+                node: at,
+            };
+        }
+        row.head = head;
+        row.before = before;
+        row.place &= !OFF;
+    }
+    if head.wrapping_add(rest) > part.limit {
+        Look::Late
+    } else {
+        Look::Timed
+    }
+}
+
+/// The greatest length that is known of a path from a node: along its job, or on from a node behind the last place.
+#[inline(always)]
+fn known_rest(spots: &[Spot], rows: &[Row], spot: &Spot, last: u32) -> Moment {
+    let along = spot_at(spots, spot.next)
+        .lag
+        .wrapping_add(tail_behind(rows, spot.next, last));
+    let across = spot_at(spots, spot.target)
+        .clean
+        .wrapping_add(tail_behind(rows, spot.target, last));
+    spot.rest.max(along).max(across)
+}
+
+/// The greatest length of a path from a node behind the last place, 0 for another node.
+#[inline(always)]
+fn tail_behind(rows: &[Row], at: u32, last: u32) -> Moment {
+    match rows.get(at as usize) {
+        Some(row) if row.place > last && row.place < OFF => row.tail,
+        _ => 0,
+    }
+}
+
+/// The greatest length of a path from a node, by those of the nodes after it.
+#[inline(always)]
+pub(crate) fn tail_of(spots: &[Spot], rows: &[Row], at: u32) -> Moment {
+    let spot = spot_at(spots, at);
+    let along = spot_at(spots, spot.next)
+        .lag
+        .wrapping_add(tail_in(rows, spot.next));
+    let across = spot_at(spots, spot.target)
+        .clean
+        .wrapping_add(tail_in(rows, spot.target));
+    spot.rest.max(along).max(across)
+}
+
+/// The greatest length of a path from the node in the kept rows.
+#[inline(always)]
+pub(crate) fn tail_in(rows: &[Row], number: u32) -> Moment {
+    match rows.get(number as usize) {
+        Some(row) => row.tail,
+        None => 0,
+    }
+}
