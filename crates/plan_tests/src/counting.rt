@@ -10,7 +10,8 @@ use std::rc::Rc;
 /// How many planners are asked in turn.
 pub(crate) const PLANNERS: u32 = 3;
 
-/// One of the planners. It proposes that all machines take their jobs in descending order, in one round alone.
+/// One of the planners. It proposes that all machines take their jobs in descending order, in one
+/// round alone.
 #[derive(Drop)]
 pub(crate) struct CountingProposer {
     /// How often the planners were asked. A question out of turn counts as a million.

@@ -1,5 +1,6 @@
-//! The tests of texts, of shops and plans, of the alternative graph and of the search for a plan, by public
-//! items alone. They stand apart from what they test, since a crate with tests is proved once more for them.
+//! The tests of texts, of shops and plans, of the alternative graph and of the search for a plan,
+//! by public items alone. They stand apart from what they test, since a crate with tests is proved
+//! once more for them.
 #![tactic(auto)]
 
 #[cfg(test)]
@@ -20,5 +21,3 @@ mod searches;
 mod shapes;
 #[cfg(test)]
 mod solutions;
-#[cfg(test)]
-mod text_parts;
