@@ -7,7 +7,7 @@ pub enum Verdict {
     /// No arcs lead in a circle, and no path to a job's leaving is longer than its budget. So a controlled run never
     /// gets stuck, and while no report of it is late, each job is out by its budget, or its budget isn't past yet.
     Accepted(Verified),
-    /// It locks in every run, or a job can't be out by its budget where each activity takes its nominal time.
+    /// No run brings all jobs out, or a job can't be out by its budget where each activity takes its nominal time.
     /// The plan comes back with the evidence.
     Refused(Shaped, Why),
 }

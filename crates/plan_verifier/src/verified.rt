@@ -65,7 +65,7 @@ impl Verified {
     }
 
     /// A path of the greatest length to the job's leaving, from some job's first place on: each move of it
-    /// waits for the one before it. None for a number that is no job's, which takes no memory.
+    /// waits for the one before it. None for a number that is no job's, and then never an error.
     pub fn chain(&self, alloc: Global, job: JobNo) -> Result<Option<Vec<Node>>, AllocError>
         ensures outside { jobs self.now.planned ≤ job → result ≡ Ok None }
         ensures inside { job < jobs self.now.planned → IfOk result IsSome }

@@ -13,8 +13,8 @@ use alt_graph::{Solved, Times, solve};
 use shop_base::{JobNo, Shaped};
 use std::alloc::{AllocError, Global};
 
-/// Judges a plan. The cycle is looked for first, and the first late job second. Where memory is wanting the
-/// plan comes back.
+/// Judges a plan. The cycle is looked for first, and the first late job second. Out of memory, the plan comes
+/// back.
 pub fn verify(alloc: Global, shaped: Shaped) -> Result<Verdict, (AllocError, Shaped)>
     ensures accepted { IfOk result (OnAccepted (λ verified. (verified.planned ≡ shaped) × IsAcceptable shaped)) }
     ensures refused { IfOk result (OnRefused (λ back why. (back ≡ shaped) × IsReason shaped why)) }
