@@ -70,7 +70,7 @@ impl Times {
     }
 
     /// A path of the greatest length to the node, from a job's first place on; none for a node that isn't
-    /// of the shop, which takes no memory.
+    /// of the shop, and then never an error.
     pub fn chain(&self, alloc: Global, node: Node) -> Result<Option<Vec<Node>>, AllocError>
         ensures outside { (IsTimed self.now node → ⊥) → result ≡ Ok None }
         ensures inside { IsTimed self.now node → IfOk result IsSome }
