@@ -55,7 +55,7 @@ impl<D: Dues> Model for Controller<D> {
 
 impl<D: Dues> Controller<D> {
     /// The controller of an accepted plan before the first report: all jobs outside, no machine entered.
-    /// It takes all memory that later calls need, so that none of them answers with a want of it. Where a request for
+    /// It takes all memory that later calls need, and none of them can answer that it is out of memory. Where a request for
     /// memory is refused, the plan comes back with that error; when one is, no clause says.
     pub fn new(alloc: Global, verified: Verified) -> Result<Controller<D>, (AllocError, Verified)>
         ensures start { IfOk result (λ controller. controller ≡ at_start verified) }
@@ -75,7 +75,7 @@ impl<D: Dues> Controller<D> {
 
     /// Takes a report. Where it is possible, its activity has ended, and the moves are made that then
     /// keep the plan, until no further one can be made: they stand in [`Controller::orders`]. Where it
-    /// isn't possible, the first reason is told, of which there is just one, and nothing changes.
+    /// isn't possible, the first reason is told, of which there is exactly one, and nothing changes.
     pub fn report(&mut self, report: Report) -> Result<Ack, ReportFault>
         ensures possible { IsOk result ↔ CanReport self.old.plan.planned self.old.cell (said report) }
         ensures answered { IfOk result (λ ack. IsAnswered self.old (said report) ack self.new) }

@@ -1,6 +1,6 @@
 //! The control of a cell by an accepted plan: it is told what ends, and orders the moves that keep the plan.
 //!
-//! A [`Controller`] is made of a `Verified` plan and takes one [`Report`] at a time. It accepts just the
+//! A [`Controller`] is made of a `Verified` plan and takes one [`Report`] at a time. It accepts exactly the
 //! reports that are possible, and answers each with the moves that it releases.
 //!
 //! Moments are whole time units, counted from moment 0. Only [`Controller::new`] and [`Dues::sized`] take memory.
