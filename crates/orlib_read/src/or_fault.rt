@@ -30,7 +30,7 @@ pub enum OrFault {
     /// The numbers make no shop.
     #[error("Shop {0}")]
     Shop(ShopFault),
-    /// Memory was wanting.
+    /// Out of memory.
     #[error("Memory")]
     Memory,
 }
