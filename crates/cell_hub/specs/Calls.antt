@@ -25,7 +25,7 @@ pub record IsAdmitted (old : HubState) (plan : VerifiedPlan) (t : Ticket) (new :
   pub cells : Puts old new t (Some (at_start plan))
   pub next_serial : new.next_serial ≡ old.next_serial + 1
 
--- why no cell is made: the serials are spent, or else memory is wanting
+-- why no cell is made: the serials are spent, or else out of memory
 abbrev pub IsNotAdmitted : HubState → HubFault → Type 0
 IsNotAdmitted h NoSuchCell = ⊥
 IsNotAdmitted h SerialsSpent = h.next_serial ≡ last_number

@@ -57,7 +57,7 @@ impl<D: Dues> Hub<D> {
     }
 
     /// Makes a cell that is run by the plan, and gives its ticket. On an error the plan comes back and nothing
-    /// changes, so a serial that wasn't given is the next one's. It is `SerialsSpent` just where no serial is left,
+    /// changes, so a serial that wasn't given is the next one's. It is `SerialsSpent` exactly where no serial is left,
     /// else `Memory`, of a request for memory that was refused; when one is, no clause says.
     pub fn admit(&mut self, verified: Verified) -> Result<Ticket, (HubFault, Verified)>
         ensures admitted { IfOk result (λ ticket. IsAdmitted self.old verified ticket self.new) }
@@ -83,7 +83,7 @@ impl<D: Dues> Hub<D> {
         }
     }
 
-    /// Takes a report on the ticket's cell, which answers it as a controller alone does: it is accepted just where it is
+    /// Takes a report on the ticket's cell, which answers it as a controller alone does: it is accepted exactly where it is
     /// possible in that cell.
     pub fn report(&mut self, ticket: Ticket, report: Report) -> Result<Ack, HubFault>
         ensures reported { IfOk result (λ ack. IsReported self.old ticket report ack self.new) }

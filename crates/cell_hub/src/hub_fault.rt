@@ -14,7 +14,7 @@ pub enum HubFault {
     /// All serials were given; `u64::MAX` is none.
     #[error("SerialsSpent")]
     SerialsSpent,
-    /// Memory was wanting.
+    /// Out of memory.
     #[error("Memory")]
     Memory,
     /// The cell refuses the report.
