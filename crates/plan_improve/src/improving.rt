@@ -20,10 +20,10 @@ use shop_base::Shaped;
 use std::alloc::{AllocError, Global};
 
 /// Improves a plan. The search begins at the plan itself or, where that has a cycle, at the serial plan. In each round
-/// from 0 on each improver is asked in order with the best plan so far, and its answer is kept just where the plan
+/// from 0 on each improver is asked in order with the best plan so far, and its answer is kept exactly where the plan
 /// with these orders fits the shop, has no cycle and is less late, or as late with a shorter makespan. The best plan
-/// is judged at the end. Too many rounds are answered before an improver is asked and before memory is taken. On a
-/// fault the plan comes back as it was.
+/// is judged at the end. Too many rounds are answered first, and no improver is asked then, which no clause says.
+/// On a fault the plan comes back as it was.
 pub fn improve<W: Watch>(
     alloc: Global,
     start: Shaped,
