@@ -13,7 +13,7 @@ use std::alloc::{AllocError, Global};
 /// the best. In a neighbour of a plan two jobs that meet on a critical path have changed places, and one of the two has
 /// moved on other machines where it had to. It looks at some 20 million nodes at most, and tries no more neighbours than
 /// 50 times the square of the number of operations. Another seed or round searches elsewhere, and the same ones do the
-/// same again.
+/// same again. It is proved only that there are as many orders as machines, or none.
 pub fn annealed_orders(
     alloc: Global,
     shaped: &Shaped,
