@@ -66,7 +66,7 @@ pub fn end_driven(driven: Driven<TourneyDues>) -> DriveEnd
 /// The lines are `arrive JOB MOMENT`, `finish JOB MACHINE MOMENT` and `clean MACHINE MOMENT`. What isn't possible is
 /// refused by a line of its own, and changes nothing. A run that is done goes on to the end of its input.
 ///
-/// All memory is taken before the first byte is read. A closing line is written only where nothing has failed before it;
+/// `Memory` is answered before the first byte is read. A closing line is written only where nothing has failed before it;
 /// of one whose own write fails the first bytes may be out. After a fault the plan is gone.
 pub fn drive<R: Source, W: Outlet>(
     alloc: Global,

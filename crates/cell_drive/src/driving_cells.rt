@@ -25,8 +25,8 @@ pub struct HubEnd {
 /// Drives a cell for each accepted plan, numbered from 0 in their order: takes a report on a cell from each line
 /// of input, and writes the moves that it releases before the next line is answered.
 ///
-/// Each cell is answered as by a controller alone that is given the reports on it, and so never goes wrong. All
-/// memory is taken before the first byte is read. After a fault the plans are gone.
+/// Each cell is answered as by a controller alone that is given the reports on it, and so never goes wrong.
+/// `Memory` is answered before the first byte is read. After a fault the plans are gone.
 pub fn drive_hub<R: Source, W: Outlet>(
     alloc: Global,
     cells: Vec<Verified>,

@@ -4,7 +4,7 @@ use crate::outlet::Outlet;
 use crate::source::{ReadFault, Source};
 use std::io::Read;
 
-/// Any of std's readers as a giver of bytes.
+/// Any of std's readers as a source.
 #[derive(Debug, Drop)]
 pub struct FromRead<R> {
     device: R,

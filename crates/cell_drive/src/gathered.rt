@@ -7,7 +7,7 @@ use run_log::{Sink, WriteFault};
 use std::alloc::Global;
 use std::io::{self, BufWriter, ErrorKind, Write};
 
-/// Any of std's writers as a taker of bytes, which are gathered until they are to be shown or don't fit.
+/// Any of std's writers as an outlet of bytes, which are gathered until they are to be shown or don't fit.
 #[derive(Drop)]
 pub struct Gathered<W: Write + Drop> {
     writer: BufWriter<W>,

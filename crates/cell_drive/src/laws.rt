@@ -28,7 +28,7 @@ pub fn one_answer_text_of_cells()
     ensures lines { OneCellsTextForLines }
 {}
 
-/// What a driven cell writes is a log: its lines tell just what was accepted and ordered, in order, which is a run of
+/// What a driven cell writes is a log: its lines tell exactly what was accepted and ordered, in order, which is a run of
 /// the plan that leads to the driven cell.
 pub fn an_answer_text_is_a_log()
     ensures { AnAnswerTextIsALog }

@@ -1,4 +1,4 @@
-//! Cells driven by lines of text: reports in, move orders out, over any giver and any taker of bytes.
+//! Cells driven by lines of text: reports in, move orders out, over any reader and any writer of bytes.
 #![tactic(auto)]
 
 mod answer_lines;

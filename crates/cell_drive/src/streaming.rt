@@ -133,8 +133,8 @@ fn finish<H: LineHandler, W: Outlet>(
 ///
 /// A line is answered once its line feed is read, or at the end of the input if bytes are left. One carriage
 /// return before the line feed, or at the end, isn't part of the line. All that was answered is shown before the reader
-/// is asked for more, and at the end. Behind a failed write no line is taken. No memory is taken: one line is held at a
-/// time.
+/// is asked for more, and at the end. Behind a failed write no line is taken. `Memory` is never answered: one line is held
+/// at a time.
 pub fn stream<H: LineHandler, R: Source, W: Outlet>(
     handler: &mut H,
     reader: &mut R,
