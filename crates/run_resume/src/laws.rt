@@ -26,7 +26,7 @@ pub fn one_resumed_text()
 {}
 
 /// What a run that was taken up writes is by itself a log of the whole run; and an audit of that, with the same plan, has no
-/// fault but that it is out of memory, and finds what driving came to. It is complete just where the run is done.
+/// fault but that it is out of memory, and finds what driving came to. It is complete exactly where the run is done.
 pub fn an_audit_keeps_what_was_resumed()
     ensures log { AResumedTextIsALog }
     ensures audit { AnAuditKeepsWhatWasResumed }

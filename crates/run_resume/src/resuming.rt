@@ -42,7 +42,7 @@ fn put_taken<D: Dues, W: Sink>(
 /// Goes on with a run that was taken up: writes its events once more, with an empty line, the mark, before the orders that
 /// the log didn't tell, and then drives it on as `drive` does. What is written is by itself a log of the whole run.
 ///
-/// No memory is taken. A closing line is written only where nothing has failed before it. After a fault the plan is gone.
+/// `Memory` is never answered. A closing line is written only where nothing has failed before it. After a fault the plan is gone.
 pub fn resume<R: Source, W: Outlet>(
     taken: Taken,
     reader: &mut R,
