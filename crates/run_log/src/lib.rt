@@ -1,4 +1,4 @@
-//! The log of a cell's run, the lines in which it is written to any taker of bytes, and the audit of such lines.
+//! The log of a cell's run, the lines in which it is written to any writer of bytes, and the audit of such lines.
 #![tactic(auto)]
 
 mod audit_fault;
