@@ -58,7 +58,7 @@ pub fn never_stuck()
 {}
 
 /// Ends on the stated number: after every list of reports no more were accepted than the stated number,
-/// and the run has ended just where as many were. In every run, by any controller, the reports so far and those
+/// and the run has ended exactly where as many were. In every run, by any controller, the reports so far and those
 /// still to come are together that number.
 pub fn ends_on_the_stated_number()
     ensures controlled { EndsOnTheStatedNumber }
@@ -87,7 +87,7 @@ pub fn a_cycle_stops_every_run()
     ensures { ACycleStopsEveryRun }
 {}
 
-/// No exact run is faster: where each report comes just when its activity is due, by any controller, no
+/// No exact run is faster: where each report comes exactly when its activity is due, by any controller, no
 /// job is gone since before the length of any path to its leaving.
 pub fn no_exact_run_is_faster()
     ensures { NoExactRunIsFaster }
@@ -98,9 +98,9 @@ pub fn no_exact_move_is_earlier()
     ensures { NoExactMoveIsEarlier }
 {}
 
-/// Just in time: where moments are kept as for `in_time`, each report comes just when its activity is
+/// Just in time: where moments are kept as for `in_time`, each report comes exactly when its activity is
 /// due, and a path to a job's leaving is as long as the moment kept for it, the job, once it is gone, is
-/// gone since just that moment.
+/// gone since exactly that moment.
 pub fn just_in_time()
     ensures { JustInTime }
 {}

@@ -1,7 +1,7 @@
 //! The blocking job shop: what an instance, a plan and a cell are, and the laws that hold of every run.
 //!
 //! Jobs, machines, steps and places are numbered from 0. Moments are whole time units, counted from
-//! moment 0. No call of this crate takes memory.
+//! moment 0. No call of this crate can answer that it is out of memory.
 #![tactic(auto)]
 
 mod job_state;
