@@ -11,6 +11,7 @@ pub struct AnnealingImprover {
 }
 
 impl AnnealingImprover {
+    /// The annealing whose random numbers begin from this seed.
     pub fn new(seed: u32) -> AnnealingImprover {
         AnnealingImprover { seed }
     }

@@ -18,6 +18,7 @@ const MAX_CHOICES: u32 = 100_000;
 pub struct GreedyProposer;
 
 impl GreedyProposer {
+    /// The planner, which keeps nothing between its rounds.
     pub fn new() -> GreedyProposer {
         GreedyProposer
     }

@@ -12,6 +12,7 @@ use std::alloc::{AllocError, Global};
 pub struct ShiftProposer;
 
 impl ShiftProposer {
+    /// The planner, which keeps nothing between its rounds.
     pub fn new() -> ShiftProposer {
         ShiftProposer
     }

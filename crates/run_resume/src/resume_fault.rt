@@ -18,7 +18,7 @@ pub enum ResumeFault {
     /// The report isn't possible, for this reason.
     #[error("{} line {line}", .reason.name())]
     NotPossible { line: usize, reason: ReportFault },
-    /// Out of memory, before the first line was looked at.
+    /// Out of memory.
     #[error("Memory")]
     Memory,
 }
