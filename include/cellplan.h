@@ -12,6 +12,8 @@
      never copied, and none of its members is read or written. A copy would free the same controller twice.
    - Pointers aren't null, also to a room of 0 bytes, and point to as much as is said. What a call writes overlaps
      nothing else that it is given.
+   - A `bool` that a call writes into holds true or false before the call, and so does that of a phase:
+     `bool late = false;`, `struct cellplan_phase phase = {0};`.
    - A cell stays on the thread that began it, and one call at a time is in it. Cells are apart: each thread may have
      cells of its own. No call is made from a signal handler, or in the child of a fork of a process with threads.
    - `malloc`, `realloc` and `free` are those of one allocator.
@@ -104,7 +106,7 @@ uint32_t cellplan_reason(uint32_t number, uint8_t *name, size_t room, size_t *le
 /* Judges a plan: writes the line that `cellplan check` prints, and its length, with its line feed and no zero byte.
    With a name the first text is a collection with an instance of this name; with a name of length 0 it is one instance.
    GOOD where the plan is accepted, REFUSED where it isn't, each with the line; FAULT with the line that the program
-   tells on its standard error; NO_ROOM with the length of the line, which isn't written; NO_MEMORY. */
+   tells on its standard error; NO_ROOM with the length of the line, which isn't written; NO_MEMORY with the length 0. */
 uint32_t cellplan_check(const uint8_t *instance, size_t instance_length, const uint8_t *name, size_t name_length,
                         const uint8_t *plan, size_t plan_length, uint8_t *line, size_t room, size_t *length);
 
@@ -125,13 +127,14 @@ void cellplan_cell_free(struct cellplan_cell *cell);
 /* Reports that something has ended, at a moment that isn't before that of the last report. Makes the moves that the plan
    has then: writes as many of their orders as there is room for, in the order in which they are made, and the number of
    them all. `late` says whether the report came past the due moment of something that was going on.
-   GOOD; NO_CELL; NO_KIND; or the number of the reason for which the report isn't possible, with the moment or the machine
-   that it names in `detail` (0 where it names none). A report that isn't GOOD changes nothing, and its count is 0. */
+   GOOD; NO_KIND, and else NO_CELL; or else the number of the reason for which the report isn't possible, with the moment or
+   the machine that it names in `detail` (0 where it names none). A report that isn't GOOD changes nothing, its count is 0,
+   and `late` is false. */
 uint32_t cellplan_cell_report(struct cellplan_cell *cell, uint32_t kind, uint32_t job, uint32_t machine, uint64_t at,
                               struct cellplan_order *orders, size_t room, size_t *count, bool *late, uint64_t *detail);
 
 /* Writes the orders of the last accepted report from number `first` on, as many as there is room for, and the number of
-   them all. A report releases at most one for each job. GOOD or NO_CELL. */
+   them all. A report releases at most one for each job. GOOD; or NO_CELL, and then their number is 0. */
 uint32_t cellplan_cell_orders(struct cellplan_cell *cell, size_t first, struct cellplan_order *orders, size_t room,
                               size_t *count);
 

@@ -1,12 +1,15 @@
 /* The statuses of the calls of the library for C, each seen once; by tests/c-library, also with memory that is refused.
 
-     c-calls once                              makes the calls that take memory once, and says how they ended
+     c-calls once                              makes the calls that take memory, and says how they ended
+     c-calls asked                             makes those that take none, between a line `asked` and the next one on the standard error
      c-calls check|explain INSTANCE PLAN NAME  prints what this call answers to the two files, and ends with its status */
+#define _POSIX_C_SOURCE 200809L
 #include "cellplan.h"
 
 #include <stdio.h>
 #include <stdlib.h>
 #include <string.h>
+#include <unistd.h>
 
 static const char two[] = "two\n2 2\n0 3 1 2\n1 4 0 1\n";
 static const char in_time[] = "release = [0, 0]\nbudget = [5, 10]\norder = [[0, 1], [0, 1]]\n";
@@ -67,20 +70,39 @@ static int printed(judge *call, char **words) {
   return (int)status;
 }
 
+/* Where a cell has a report behind it and memory is refused for another one, it is what it was. */
+static int begun_again(struct cellplan_cell *cell, uint32_t ended[2]) {
+  struct cellplan_order orders[2];
+  uint64_t at = 9, detail = 0, wanted = 0;
+  size_t count = 0;
+  bool late = false;
+  ended[0] = cellplan_cell_new(TEXT(two), NO_NAME, TEXT(in_time), cell);
+  uint32_t told = ended[0] == CELLPLAN_GOOD ? CELLPLAN_GOOD : CELLPLAN_NO_CELL;
+  int bad = cellplan_cell_report(cell, CELLPLAN_ARRIVE, 0, 0, 3, orders, 2, &count, &late, &detail) != told;
+  ended[1] = cellplan_cell_new(TEXT(two), NO_NAME, TEXT(in_time), cell);
+  if (ended[1] == CELLPLAN_GOOD)
+    told = CELLPLAN_GOOD;
+  else
+    wanted = told == CELLPLAN_GOOD ? 3 : 9;
+  bad |= cellplan_cell_now(cell, &at) != told || at != wanted;
+  return bad;
+}
+
 static int once(void) {
   struct cellplan_cell cell = {0};
   uint8_t text[512];
   size_t length = 0;
-  uint32_t ended[3];
+  uint32_t ended[4];
   int bad = 0;
   ended[0] = cellplan_check(TEXT(two), NO_NAME, TEXT(in_time), text, sizeof text, &length);
   bad |= ended[0] == CELLPLAN_NO_MEMORY && length != 0;
   ended[1] = cellplan_explain(TEXT(two), NO_NAME, TEXT(in_time), text, sizeof text, &length);
   bad |= ended[1] == CELLPLAN_NO_MEMORY && length != 0;
-  ended[2] = cellplan_cell_new(TEXT(two), NO_NAME, TEXT(in_time), &cell);
+  bad |= begun_again(&cell, ended + 2);
   cellplan_cell_free(&cell);
-  fprintf(stderr, "check %u explain %u new %u\n", (unsigned)ended[0], (unsigned)ended[1], (unsigned)ended[2]);
-  for (int i = 0; i < 3; i++) bad |= ended[i] != CELLPLAN_GOOD && ended[i] != CELLPLAN_NO_MEMORY;
+  fprintf(stderr, "check %u explain %u new %u again %u\n", (unsigned)ended[0], (unsigned)ended[1], (unsigned)ended[2],
+          (unsigned)ended[3]);
+  for (int i = 0; i < 4; i++) bad |= ended[i] != CELLPLAN_GOOD && ended[i] != CELLPLAN_NO_MEMORY;
   return bad;
 }
 
@@ -96,13 +118,9 @@ static void reported(struct cellplan_cell *cell, uint32_t kind, uint32_t job, ui
   same("late", was_late, late);
 }
 
-static void driven(struct cellplan_cell *cell) {
-  uint64_t at = 0;
-  uint32_t number = 0;
-  bool yes = true;
-  size_t count = 9;
-  struct cellplan_phase phase;
-  struct cellplan_order orders[4];
+/* Each reason for which a report is refused, and the reports before them. */
+static void refused(struct cellplan_cell *cell) {
+  struct cellplan_phase phase = {0};
   reported(cell, 3, 0, 0, 0, CELLPLAN_NO_KIND, 0, 0, false);
   reported(cell, CELLPLAN_ARRIVE, 2, 0, 0, CELLPLAN_JOB_OUT_OF_RANGE, 0, 0, false);
   reported(cell, CELLPLAN_CLEAN, 0, 2, 0, CELLPLAN_MACHINE_OUT_OF_RANGE, 0, 0, false);
@@ -113,6 +131,15 @@ static void driven(struct cellplan_cell *cell) {
   reported(cell, CELLPLAN_ARRIVE, 1, 0, 2, CELLPLAN_BACKWARDS, 3, 0, false);
   reported(cell, CELLPLAN_FINISH, 0, 1, 6, CELLPLAN_WRONG_MACHINE, 0, 0, false);
   reported(cell, CELLPLAN_CLEAN, 0, 0, 6, CELLPLAN_NOT_EXPECTED, 0, 0, false);
+}
+
+/* What is read of a cell in which job 0 has entered machine 0 at moment 3, late. */
+static void read_of_a_job(struct cellplan_cell *cell) {
+  uint64_t at = 0;
+  uint32_t number = 0;
+  size_t count = 9;
+  struct cellplan_phase phase = {0};
+  struct cellplan_order orders[4];
   same("orders", cellplan_cell_orders(cell, 0, orders, 4, &count), CELLPLAN_GOOD);
   same("of them", count, 1);
   same("the job", orders[0].job, 0);
@@ -132,6 +159,12 @@ static void driven(struct cellplan_cell *cell) {
   same("the due moment", at, 6);
   same("no due", cellplan_cell_due(cell, 2, &at), CELLPLAN_NONE);
   same("no cleaning", cellplan_cell_clean_due(cell, 0, &at), CELLPLAN_NONE);
+}
+
+static void read_of_all(struct cellplan_cell *cell) {
+  uint64_t at = 0;
+  uint32_t number = 0;
+  bool yes = true;
   same("now", cellplan_cell_now(cell, &at), CELLPLAN_GOOD);
   same("the moment now", at, 3);
   same("left", cellplan_cell_reports_left(cell, &at), CELLPLAN_GOOD);
@@ -146,6 +179,12 @@ static void driven(struct cellplan_cell *cell) {
   same("leaves of no job", cellplan_cell_leaves(cell, 2, &at), CELLPLAN_NONE);
 }
 
+static void driven(struct cellplan_cell *cell) {
+  refused(cell);
+  read_of_a_job(cell);
+  read_of_all(cell);
+}
+
 /* A report is taken whatever the room, and its other orders are had afterwards. */
 static void beyond_the_room(struct cellplan_cell *cell) {
   struct cellplan_order orders[2];
@@ -155,6 +194,7 @@ static void beyond_the_room(struct cellplan_cell *cell) {
   memset(orders, '#', sizeof orders);
   reported(cell, CELLPLAN_ARRIVE, 1, 0, 0, CELLPLAN_GOOD, 0, 0, false);
   reported(cell, CELLPLAN_FINISH, 0, 0, 3, CELLPLAN_GOOD, 0, 1, false);
+  reported(cell, CELLPLAN_FINISH, 0, 0, 3, CELLPLAN_WRONG_MACHINE, 1, 0, false);
   same("a report", cellplan_cell_report(cell, CELLPLAN_FINISH, 0, 1, 5, orders, 1, &count, &late, &detail), CELLPLAN_GOOD);
   same("all orders", count, 2);
   same("the first job", orders[0].job, 0);
@@ -172,7 +212,7 @@ static void beyond_the_room(struct cellplan_cell *cell) {
 
 /* A job that is gone, and the machine that is being cleaned behind it. */
 static void gone(struct cellplan_cell *cell) {
-  struct cellplan_phase phase;
+  struct cellplan_phase phase = {0};
   uint64_t at = 0;
   uint32_t number = 9;
   reported(cell, CELLPLAN_ARRIVE, 0, 0, 0, CELLPLAN_GOOD, 0, 1, false);
@@ -213,9 +253,11 @@ static void without_a_cell(struct cellplan_cell *cell) {
   bool yes = true;
   size_t count = 7;
   struct cellplan_order orders[4];
-  struct cellplan_phase phase;
+  struct cellplan_phase phase = {0};
+  reported(cell, 3, 0, 0, 0, CELLPLAN_NO_KIND, 0, 0, false);
   reported(cell, CELLPLAN_ARRIVE, 0, 0, 0, CELLPLAN_NO_CELL, 0, 0, false);
   same("no orders", cellplan_cell_orders(cell, 0, orders, 4, &count), CELLPLAN_NO_CELL);
+  same("their number", count, 0);
   same("no phase", cellplan_cell_phase(cell, 0, &phase), CELLPLAN_NO_CELL);
   same("no holder", cellplan_cell_holder(cell, 0, &number), CELLPLAN_NO_CELL);
   same("no due", cellplan_cell_due(cell, 0, &at), CELLPLAN_NO_CELL);
@@ -239,12 +281,44 @@ static void named(uint32_t number, const char *wanted) {
   same("too little room", cellplan_reason(number, name, length - 1, &length), CELLPLAN_NO_ROOM);
 }
 
-int main(int argc, char **argv) {
-  struct cellplan_cell cell = {0};
-  bool punctual = false;
-  if (argc == 2) return once();
-  if (argc == 5) return printed(strcmp(argv[1], "check") == 0 ? cellplan_check : cellplan_explain, argv + 2);
+static void names(void) {
+  uint8_t name[8];
+  size_t length = 7;
+  named(CELLPLAN_JOB_OUT_OF_RANGE, "JobOutOfRange");
+  named(CELLPLAN_MACHINE_OUT_OF_RANGE, "MachineOutOfRange");
+  named(CELLPLAN_MOMENT_TOO_LARGE, "MomentTooLarge");
+  named(CELLPLAN_BACKWARDS, "Backwards");
+  named(CELLPLAN_NOT_EXPECTED, "NotExpected");
+  named(CELLPLAN_WRONG_KIND, "WrongKind");
+  named(CELLPLAN_WRONG_MACHINE, "WrongMachine");
+  same("no reason", cellplan_reason(15, name, sizeof name, &length) + length, CELLPLAN_NONE);
+  same("no reason behind them", cellplan_reason(23, name, sizeof name, &length) + length, CELLPLAN_NONE);
+}
+
+static void said(const char *line) {
+  if (write(STDERR_FILENO, line, strlen(line)) != (ssize_t)strlen(line)) exit(9);
+}
+
+/* The calls that take no memory. */
+static int asked(void) {
+  struct cellplan_cell cells[3] = {{0}, {0}, {0}}, none = {0};
+  same("begun", cellplan_cell_new(TEXT(two), NO_NAME, TEXT(in_time), &cells[0]), CELLPLAN_GOOD);
+  same("another", cellplan_cell_new(TEXT(two), NO_NAME, TEXT(in_time), &cells[1]), CELLPLAN_GOOD);
+  same("one with cleaning", cellplan_cell_new(TEXT(two), NO_NAME, TEXT(cleaned), &cells[2]), CELLPLAN_GOOD);
+  said("asked\n");
   same("version", cellplan_version(), CELLPLAN_VERSION);
+  driven(&cells[0]);
+  reported(&cells[1], CELLPLAN_ARRIVE, 0, 0, 0, CELLPLAN_GOOD, 0, 1, false);
+  beyond_the_room(&cells[1]);
+  gone(&cells[2]);
+  without_a_cell(&none);
+  names();
+  said("told\n");
+  for (int i = 0; i < 3; i++) cellplan_cell_free(&cells[i]);
+  return missed != 0;
+}
+
+static void judged_all(void) {
   judged(cellplan_check, in_time, CELLPLAN_GOOD, "accepted makespan 10 leaves 5 10\n");
   judged(cellplan_check, late, CELLPLAN_REFUSED, "refused late 1 10 0.0 0.1 0.2 1.0 1.1 1.2\n");
   judged(cellplan_explain, in_time, CELLPLAN_GOOD,
@@ -255,6 +329,15 @@ int main(int argc, char **argv) {
          "refused late 1 10 0.0 0.1 0.2 1.0 1.1 1.2\n"
          "0 0.0 release of job 0\n3 0.1 job 0 on machine 0 for 3\n5 0.2 job 0 on machine 1 for 2\n"
          "5 1.0 machine 1 from job 0 to job 1\n9 1.1 job 1 on machine 1 for 4\n10 1.2 job 1 on machine 0 for 1\n");
+}
+
+int main(int argc, char **argv) {
+  struct cellplan_cell cell = {0};
+  bool punctual = false;
+  if (argc == 2) return strcmp(argv[1], "asked") == 0 ? asked() : once();
+  if (argc == 5) return printed(strcmp(argv[1], "check") == 0 ? cellplan_check : cellplan_explain, argv + 2);
+  same("version", cellplan_version(), CELLPLAN_VERSION);
+  judged_all();
   without_a_cell(&cell);
   same("refused", cellplan_cell_new(TEXT(two), NO_NAME, TEXT(late), &cell), CELLPLAN_REFUSED);
   same("no instance", cellplan_cell_new(TEXT("x"), NO_NAME, TEXT(late), &cell), CELLPLAN_FAULT);
@@ -272,15 +355,6 @@ int main(int argc, char **argv) {
   cellplan_cell_free(&cell);
   cellplan_cell_free(&cell);
   without_a_cell(&cell);
-  named(CELLPLAN_JOB_OUT_OF_RANGE, "JobOutOfRange");
-  named(CELLPLAN_MACHINE_OUT_OF_RANGE, "MachineOutOfRange");
-  named(CELLPLAN_MOMENT_TOO_LARGE, "MomentTooLarge");
-  named(CELLPLAN_BACKWARDS, "Backwards");
-  named(CELLPLAN_NOT_EXPECTED, "NotExpected");
-  named(CELLPLAN_WRONG_KIND, "WrongKind");
-  named(CELLPLAN_WRONG_MACHINE, "WrongMachine");
-  uint8_t name[8];
-  size_t length = 7;
-  same("no reason", cellplan_reason(15, name, sizeof name, &length) + length, CELLPLAN_NONE);
+  names();
   return missed != 0;
 }

@@ -1,5 +1,5 @@
-/* Preloaded under the program and the tests. By tests/refused-memory: refuses the request for memory with the number in
-   REFUSE, counted from 1, and says on the descriptor in REFUSE_TELL that it has met it. Where REFUSE_ASKED is set, it
+/* Preloaded under the program and the tests. By tests/refused-memory and tests/c-library: refuses the request for memory with
+   the number in REFUSE, counted from 1, and says on the descriptor in REFUSE_TELL that it has met it. Where REFUSE_ASKED is set, it
    counts those requests alone that come between a line `asked` on the standard error and the next line there.
    By tests/failed-writes: refuses the write to the standard output with the number in REFUSE_WRITE, counted from 1, and
    none after it. */

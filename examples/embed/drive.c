@@ -5,7 +5,8 @@
    Without a seed, or with 0, each activity ends when it is due; with another one each ends early, in time or late, as
    the seed has it. With a log, which may have been cut anywhere, the run is taken up: the reports that stand whole in it
    are reported again, and it goes on from there. Ends with status 0 where the run has ended in time, with 1 where it
-   was late, with the status of cellplan_check where there is no cell, and with 5 where a file can't be read. */
+   was late, with the status of cellplan_check where there is no cell, and with 5 where a file can't be read, or the log
+   can't be written. */
 #include "cellplan.h"
 
 #include <inttypes.h>
@@ -66,6 +67,11 @@ static void begin(struct floor *floor, struct text instance, struct text plan) {
   exit((int)status);
 }
 
+/* What is printed so far stands in the log, before anything on the floor follows from it. */
+static void keep(void) {
+  if (fflush(stdout) != 0) stop("the log can't be written", 5);
+}
+
 /* When an activity that begins now and is due then will have ended. */
 static uint64_t drawn(struct floor *floor, uint64_t now, uint64_t due) {
   if (floor->seed == 0 || due <= now) return due;
@@ -87,7 +93,7 @@ static void print_spot(uint32_t machine) {
 
 /* A move is made: it is printed, and what begins with it. */
 static void move(struct floor *floor, struct cellplan_order order) {
-  uint64_t due;
+  uint64_t due = 0;
   printf("order %" PRIu64 " %" PRIu32, order.at, order.job);
   print_spot(order.source);
   print_spot(order.target);
@@ -116,6 +122,7 @@ static void report(struct floor *floor, uint32_t kind, uint32_t job, uint32_t ma
   if (kind == CELLPLAN_FINISH) printf(" finish %" PRIu32 " %" PRIu32 "\n", job, machine);
   if (kind == CELLPLAN_CLEAN) printf(" clean %" PRIu32 "\n", machine);
   if (late) printf("late %" PRIu64 "\n", at);
+  keep();
   if (kind == CELLPLAN_CLEAN)
     floor->clean_ends[machine] = NEVER;
   else
@@ -164,9 +171,31 @@ static void go_on(struct floor *floor) {
     report(floor, CELLPLAN_CLEAN, 0, next, soonest);
     return;
   }
-  struct cellplan_phase phase;
+  struct cellplan_phase phase = {0};
   cellplan_cell_phase(&floor->cell, next, &phase);
   report(floor, phase.place == CELLPLAN_OUTSIDE ? CELLPLAN_ARRIVE : CELLPLAN_FINISH, next, phase.machine, soonest);
+}
+
+/* The floor before the first report: each job arrives when it is due, or as the seed has it. */
+static void open_floor(struct floor *floor) {
+  cellplan_cell_jobs(&floor->cell, &floor->jobs);
+  cellplan_cell_machines(&floor->cell, &floor->machines);
+  floor->job_ends = room_for(floor->jobs, sizeof *floor->job_ends);
+  floor->clean_ends = room_for(floor->machines, sizeof *floor->clean_ends);
+  floor->orders = room_for(floor->jobs, sizeof *floor->orders);
+  for (uint32_t m = 0; m < floor->machines; m++) floor->clean_ends[m] = NEVER;
+  for (uint32_t j = 0; j < floor->jobs; j++) {
+    uint64_t due = 0;
+    cellplan_cell_due(&floor->cell, j, &due);
+    floor->job_ends[j] = drawn(floor, 0, due);
+  }
+}
+
+static void close_floor(struct floor *floor) {
+  cellplan_cell_free(&floor->cell);
+  free(floor->job_ends);
+  free(floor->clean_ends);
+  free(floor->orders);
 }
 
 int main(int argc, char **argv) {
@@ -177,18 +206,7 @@ int main(int argc, char **argv) {
   begin(&floor, instance, plan);
   free(instance.bytes);
   free(plan.bytes);
-  cellplan_cell_jobs(&floor.cell, &floor.jobs);
-  cellplan_cell_machines(&floor.cell, &floor.machines);
-  floor.job_ends = room_for(floor.jobs, sizeof *floor.job_ends);
-  floor.clean_ends = room_for(floor.machines, sizeof *floor.clean_ends);
-  floor.orders = room_for(floor.jobs, sizeof *floor.orders);
-  for (uint32_t m = 0; m < floor.machines; m++) floor.clean_ends[m] = NEVER;
-  for (uint32_t j = 0; j < floor.jobs; j++) {
-    uint64_t due = 0;
-    cellplan_cell_due(&floor.cell, j, &due);
-    floor.job_ends[j] = drawn(&floor, 0, due);
-  }
-
+  open_floor(&floor);
   if (argc > 4) {
     struct text log = whole(argv[4]);
     take_up(&floor, log);
@@ -200,9 +218,7 @@ int main(int argc, char **argv) {
   cellplan_cell_now(&floor.cell, &now);
   cellplan_cell_punctual(&floor.cell, &punctual);
   printf("done %" PRIu64 "\n", now);
-  cellplan_cell_free(&floor.cell);
-  free(floor.job_ends);
-  free(floor.clean_ends);
-  free(floor.orders);
+  keep();
+  close_floor(&floor);
   return punctual ? 0 : 1;
 }

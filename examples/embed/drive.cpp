@@ -20,50 +20,56 @@ struct Text {
   std::size_t size() const { return bytes.size(); }
 };
 
-// A cell, freed with its owner. It stays where it is made.
+// What the library holds of a cell, freed with its owner. It stays where it is made.
+struct Held {
+  cellplan_cell cell{};
+  Held() = default;
+  ~Held() { cellplan_cell_free(&cell); }
+  Held(const Held &) = delete;
+  Held &operator=(const Held &) = delete;
+};
+
+// A cell. It can't be copied, as what it holds can't.
 class Cell {
 public:
   Cell(const Text &instance, const Text &plan) {
     const Text name;
-    const auto status = cellplan_cell_new(instance.data(), instance.size(), name.data(), 0, plan.data(), plan.size(), &cell);
+    const auto status = cellplan_cell_new(instance.data(), instance.size(), name.data(), 0, plan.data(), plan.size(), &held.cell);
     if (status != CELLPLAN_GOOD) throw std::runtime_error("no cell: status " + std::to_string(status));
     std::uint32_t jobs = 0;
-    cellplan_cell_jobs(&cell, &jobs);
+    cellplan_cell_jobs(&held.cell, &jobs);
     room.resize(jobs);
   }
-  ~Cell() { cellplan_cell_free(&cell); }
-  Cell(const Cell &) = delete;
-  Cell &operator=(const Cell &) = delete;
 
   // The orders of an accepted report.
   std::vector<cellplan_order> report(std::uint32_t kind, std::uint32_t job, std::uint32_t machine, std::uint64_t at, bool &late) {
     std::size_t count = 0;
     std::uint64_t detail = 0;
-    const auto status = cellplan_cell_report(&cell, kind, job, machine, at, room.data(), room.size(), &count, &late, &detail);
+    const auto status = cellplan_cell_report(&held.cell, kind, job, machine, at, room.data(), room.size(), &count, &late, &detail);
     if (status != CELLPLAN_GOOD) throw std::runtime_error("a report is refused: reason " + std::to_string(status));
     return {room.begin(), room.begin() + static_cast<std::ptrdiff_t>(count)};
   }
   std::uint32_t jobs() const { return static_cast<std::uint32_t>(room.size()); }
   bool is_done() {
     bool done = false;
-    cellplan_cell_is_done(&cell, &done);
+    cellplan_cell_is_done(&held.cell, &done);
     return done;
   }
   std::uint64_t now() {
     std::uint64_t at = 0;
-    cellplan_cell_now(&cell, &at);
+    cellplan_cell_now(&held.cell, &at);
     return at;
   }
-  bool due(std::uint32_t job, std::uint64_t &at) { return cellplan_cell_due(&cell, job, &at) == CELLPLAN_GOOD; }
-  bool clean_due(std::uint32_t machine, std::uint64_t &at) { return cellplan_cell_clean_due(&cell, machine, &at) == CELLPLAN_GOOD; }
+  bool due(std::uint32_t job, std::uint64_t &at) { return cellplan_cell_due(&held.cell, job, &at) == CELLPLAN_GOOD; }
+  bool clean_due(std::uint32_t machine, std::uint64_t &at) { return cellplan_cell_clean_due(&held.cell, machine, &at) == CELLPLAN_GOOD; }
   cellplan_phase phase(std::uint32_t job) {
     cellplan_phase phase{};
-    cellplan_cell_phase(&cell, job, &phase);
+    cellplan_cell_phase(&held.cell, job, &phase);
     return phase;
   }
 
 private:
-  cellplan_cell cell{};
+  Held held;
   std::vector<cellplan_order> room;
 };
 

@@ -6,3 +6,11 @@ pub of_both : {A B : Type 0} (P : A → B → Type 0) (held : Option A) (told : 
 of_both {A} {B} P held told a b e f p =
     subst (λ (h : Option A). IfSome h (λ old. IfSome told (λ report. P old report))) (sym e)
     (subst (λ (t : Option B). IfSome t (λ report. P a report)) (sym f) p)
+
+-- and of the cell afterwards
+pub of_three : {A B : Type 0} (P : A → A → B → Type 0) (held after : Option A) (told : Option B) (a new : A) (b : B)
+    → held ≡ Some a → after ≡ Some new → told ≡ Some b → P a new b
+    → IfSome held (λ old. IfSome after (λ new. IfSome told (λ report. P old new report)))
+of_three {A} {B} P held after told a new b e g f p =
+    subst (λ (h : Option A). IfSome h (λ old. IfSome after (λ new. IfSome told (λ report. P old new report)))) (sym e)
+    (of_both (P a) after told new b g f p)

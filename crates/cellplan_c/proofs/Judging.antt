@@ -13,7 +13,7 @@ use Rattle.cellplan_c.specs.declared.judges.Judge.{Judge}
 use Rattle.cellplan_c.specs.declared.judges.Judge.TheVariants.{Check, Explain}
 use Rattle.cellplan_c.specs.Judges.{IsAnswerOf}
 
-verdict_bound : (verdict : Verdict) → verdict_status verdict ≤ 1
+pub verdict_bound : (verdict : Verdict) → verdict_status verdict ≤ 1
 verdict_bound (Accepted verified) = omega arith
 verdict_bound (Refused back why) = omega arith
 

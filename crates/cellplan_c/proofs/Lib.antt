@@ -1,3 +1,4 @@
+mod Beginning
 mod Found
 mod Judging
 mod Laying

@@ -1,18 +1,24 @@
--- An answer that is told, and the line of a fault, unless memory ran out.
-use Rattle.std.proofs.Common.{◌≡◌, ℕ, List, Option, Result, Ok, Err, IfOk, IfErr, inl, inr, ap, ◌∙◌, subst}
+-- An answer to two texts that is told, or the line of their fault, unless memory ran out.
+use Rattle.std.proofs.Common.{◌≡◌, ℕ, List, Option, Result, Ok, Err, IfOk, IfErr, inl, inr, ap, ◌∙◌, subst, refl}
+use Rattle.shop_base.specs.Plan.{PlannedShop}
+use Rattle.orlib_read.specs.declared.or_fault.OrFault.{OrFault}
 use Rattle.plan_text.specs.declared.plan_fault.PlanFault.{PlanFault}
 use Rattle.command_answers.specs.declared.answer.Answer.{Answer}
 use Rattle.command_answers.specs.declared.command_fault.CommandFault.{CommandFault}
 use Rattle.command_answers.specs.declared.command_fault.CommandFault.TheVariants.{Instance, Plan, Read, Write, InputTooLong, Memory}
+use Rattle.command_answers.specs.Instances.{IsInstanceRefusal}
 use Rattle.command_answers.specs.Plans.{IsRightOfBoth, IsPlanRefusal}
+use Rattle.command_answers.specs.Readings.{AreTextsAnswered}
 use Rattle.command_answers.specs.Statuses.{status_of}
-use Rattle.cellplan_c.specs.Calls.{IsPut, Answers, IsTextFaultTold}
-use Rattle.cellplan_c.specs.Judges.{IsUntold}
+use Rattle.cellplan_c.specs.declared.judges.Judge.{Judge}
+use Rattle.cellplan_c.specs.Calls.{IsPut, Answers, IsTextFault, IsTextFaultTold, IsTextsTold, AreTextsTold}
+use Rattle.cellplan_c.specs.Judges.{IsAnswerOf, IsUntold}
+use Rattle.cellplan_c.proofs.Judging.{status_bound}
 
-pub put_told : (Is : Answer → Type 0) (told : Result Answer CommandFault) (result : ℕ) (old new : List ℕ) (needed : ℕ)
+put_told : (Is : Answer → Type 0) (told : Result Answer CommandFault) (result : ℕ) (old new : List ℕ) (needed : ℕ)
     → IfErr told (λ fault. (result ≡ status_of fault) × (needed ≡ 0) × (new ≡ old))
     → IfOk told (λ answer. IsPut answer.text.items answer.status result old new needed)
-    → IfErr told (λ fault. fault ≡ Memory) → IfOk told Is → Answers Is result old new needed
+    → IfErr told (λ fault. fault ≡ Memory) → IfOk told Is → Answers result old new needed Is
 put_told Is (Err fault) result old new needed untold put memory is = inl (untold.0 ∙ ap status_of memory, untold.1, untold.2)
 put_told Is (Ok answer) result old new needed untold put memory is = inr (answer, is, put)
 
@@ -20,12 +26,21 @@ memory_untold : (Is : Answer → Type 0) (told : Result Answer CommandFault) →
 memory_untold Is (Err fault) line = tt
 memory_untold Is (Ok answer) line = absurd line.0
 
-pub no_line : (Is : Answer → Type 0) (fault : CommandFault) (told : Result Answer CommandFault) → fault ≡ Memory
+no_line : (Is : Answer → Type 0) (fault : CommandFault) (told : Result Answer CommandFault) → fault ≡ Memory
     → IfOk told (IsTextFaultTold fault) → IfOk told Is
 no_line Is fault told is line =
     memory_untold Is told (subst (λ (f : CommandFault). IfOk told (IsTextFaultTold f)) is line)
 
-pub plan_line : (fault : CommandFault) (why : PlanFault) (told : Result Answer CommandFault) → IsPlanRefusal {A = Answer} (Err fault) why
+instance_line : (fault : CommandFault) (why : OrFault) (told : Result Answer CommandFault) → IsInstanceRefusal {A = Answer} (Err fault) why
+    → IfOk told (IsTextFaultTold fault) → IfOk told (IsTextFaultTold (Instance why))
+instance_line (Instance answered) why told is line = line
+instance_line Memory why told is line = memory_untold (IsTextFaultTold (Instance why)) told line
+instance_line (Plan fault) why told is line = absurd is
+instance_line Read why told is line = absurd is
+instance_line Write why told is line = absurd is
+instance_line InputTooLong why told is line = absurd is
+
+plan_line : (fault : CommandFault) (why : PlanFault) (told : Result Answer CommandFault) → IsPlanRefusal {A = Answer} (Err fault) why
     → IfOk told (IsTextFaultTold fault) → IfOk told (IsTextFaultTold (Plan why))
 plan_line (Plan answered) why told is line = line
 plan_line Memory why told is line = memory_untold (IsTextFaultTold (Plan why)) told line
@@ -33,6 +48,15 @@ plan_line (Instance fault) why told is line = absurd is
 plan_line Read why told is line = absurd is
 plan_line Write why told is line = absurd is
 plan_line InputTooLong why told is line = absurd is
+
+-- a fault that has a line is of a text
+of_text : (fault : CommandFault) (answer : Answer) → IsTextFaultTold fault answer → status_of fault ≡ 3
+of_text (Instance why) answer line = refl
+of_text (Plan why) answer line = refl
+of_text Memory answer line = absurd line.0
+of_text Read answer line = absurd line.0
+of_text Write answer line = absurd line.0
+of_text InputTooLong answer line = absurd line.0
 
 -- of the faults that two texts may have, none but want of memory is told by no line
 memory_alone : (instance : List ℕ) (name : Option (List ℕ)) (plan : List ℕ) (fault other : CommandFault)
@@ -44,8 +68,49 @@ memory_alone instance name plan Read other is untold = absurd is
 memory_alone instance name plan Write other is untold = absurd is
 memory_alone instance name plan InputTooLong other is untold = absurd is
 
-pub memory_told : (instance : List ℕ) (name : Option (List ℕ)) (plan : List ℕ) (fault : CommandFault)
-    (told : Result Answer CommandFault) → IsRightOfBoth instance name plan fault → IfErr told (IsUntold fault)
-    → IfErr told (λ other. other ≡ Memory)
-memory_told instance name plan fault (Ok answer) is untold = tt
-memory_told instance name plan fault (Err other) is untold = memory_alone instance name plan fault other is untold
+module _ (instance : List ℕ) (name : Option (List ℕ)) (plan : List ℕ) where
+  pub memory_told : (fault : CommandFault) (told : Result Answer CommandFault) → IsRightOfBoth instance name plan fault
+      → IfErr told (IsUntold fault) → IfErr told (λ other. other ≡ Memory)
+  memory_told fault (Ok answer) is untold = tt
+  memory_told fault (Err other) is untold = memory_alone instance name plan fault other is untold
+
+  module _ (judge : Judge) where
+    pub answer_told : (answer : Answer) → AreTextsAnswered instance name plan (IsAnswerOf judge) (Ok answer)
+        → AreTextsTold instance name plan (IsAnswerOf judge) (IfOk {E = CommandFault} (Ok answer))
+    answer_told answer are = record {
+      found = inl (are.found, status_bound judge are.found.planned answer are.found.is);
+      only = are.only;
+      first = λ fault is. absurd (are.first fault is);
+      second = λ fault tells is. absurd (are.second fault tells is);
+    }
+
+    fault_found : (fault : CommandFault) (told : Result Answer CommandFault) → IsRightOfBoth instance name plan fault
+        → IfOk told (IsTextFaultTold fault) → IfOk told (IsTextsTold instance name plan (IsAnswerOf judge))
+    fault_found fault (Err other) right line = tt
+    fault_found fault (Ok answer) right line = inr (fault, record { right = right; status = of_text fault answer line }, line)
+
+    pub fault_told : (fault : CommandFault) (told : Result Answer CommandFault)
+        → AreTextsAnswered instance name plan (IsAnswerOf judge) (Err fault)
+        → IfOk told (IsTextFaultTold fault) → AreTextsTold instance name plan (IsAnswerOf judge) (IfOk told)
+    fault_told fault told are line = record {
+      found = fault_found fault told are.fault line;
+      only = λ p tell. no_line (IsAnswerOf judge p) fault told (are.only p tell) line;
+      first = λ why is. instance_line fault why told (are.first why is) line;
+      second = λ why tells is. plan_line fault why told (are.second why tells is) line;
+    }
+
+    pub put_texts : (told : Result Answer CommandFault) (result : ℕ) (old new : List ℕ) (needed : ℕ)
+        → IfErr told (λ fault. (result ≡ status_of fault) × (needed ≡ 0) × (new ≡ old))
+        → IfOk told (λ answer. IsPut answer.text.items answer.status result old new needed)
+        → IfErr told (λ fault. fault ≡ Memory)
+        → AreTextsTold instance name plan (IsAnswerOf judge) (IfOk told)
+        → AreTextsTold instance name plan (IsAnswerOf judge) (Answers result old new needed)
+    put_texts told result old new needed untold put memory are = record {
+      found = answers _ are.found;
+      only = λ p tell. answers _ (are.only p tell);
+      first = λ fault is. answers _ (are.first fault is);
+      second = λ fault tells is. answers _ (are.second fault tells is);
+    }
+      where
+        answers : (Is : Answer → Type 0) → IfOk told Is → Answers result old new needed Is
+        answers Is is = put_told Is told result old new needed untold put memory is

@@ -1,8 +1,10 @@
 -- What the calls from C do.
 use Rattle.std.specs.Prelude.{◌≡◌, ℕ, ◌<◌, ◌≤◌, ◌++◌, ◌⊎◌, List, Option, length, drop, codes}
-use Rattle.shop_base.specs.Plan.{PlannedShop}
-use Rattle.plan_verifier.specs.declared.verdict.Verdict.TheVariants.{Accepted, Refused}
-use Rattle.plan_verifier.specs.Accepted.{VerifiedPlan, IsAcceptable}
+use Rattle.shop_base.specs.Plan.{PlannedShop, IsWellShaped}
+use Rattle.orlib_read.specs.declared.or_fault.OrFault.{OrFault}
+use Rattle.plan_text.specs.declared.plan_fault.PlanFault.{PlanFault}
+use Rattle.plan_text.specs.Documents.{IsFirstPlanFault}
+use Rattle.plan_verifier.specs.Accepted.{VerifiedPlan, IsVerified, IsAcceptable}
 use Rattle.cell_tables.specs.declared.report.Report.{Report}
 use Rattle.cell_tables.specs.Reports.{said}
 use Rattle.cell_control.specs.Control.{Control, at_start}
@@ -13,7 +15,9 @@ use Rattle.command_answers.specs.declared.command_fault.CommandFault.{CommandFau
 use Rattle.command_answers.specs.declared.command_fault.CommandFault.TheVariants.{Instance, Plan}
 use Rattle.command_answers.specs.declared.loading.Loaded.{Loaded}
 use Rattle.command_answers.specs.declared.loading.Loaded.TheVariants.{NotShaped, Judged}
-use Rattle.command_answers.specs.Plans.{TellBoth, IsOfBoth, IsRightOfBoth}
+use Rattle.command_answers.specs.Instances.{IsFirstInstanceFault}
+use Rattle.command_answers.specs.Plans.{TellBoth, TellsAShop, IsOfBoth, IsRightOfBoth}
+use Rattle.command_answers.specs.Checks.{IsLoaded, verdict_status}
 use Rattle.command_answers.specs.Statuses.{status_of}
 use Rattle.cellplan_c.specs.Told.{fault_number, fault_detail}
 
@@ -39,8 +43,8 @@ IsPut text status result old new needed =
     ((result ≡ status) × IsLaid text old new needed) ⊎ ((result ≡ 6) × IsTooLong text old new needed)
 
 -- memory ran out, and nothing is written; or one of these answers was put
-abbrev pub Answers : (Answer → Type 0) → ℕ → List ℕ → List ℕ → ℕ → Type 0
-Answers Is result old new needed =
+abbrev pub Answers : ℕ → List ℕ → List ℕ → ℕ → (Answer → Type 0) → Type 0
+Answers result old new needed Is =
     ((result ≡ 4) × (needed ≡ 0) × (new ≡ old))
     ⊎ ((told : Answer) × Is told × IsPut told.text.items told.status result old new needed)
 
@@ -60,18 +64,37 @@ IsTextsTold instance name plan Is told =
     (IsOfBoth instance name plan Is told × (told.status ≤ 1))
     ⊎ ((fault : CommandFault) × IsTextFault instance name plan fault × IsTextFaultTold fault told)
 
+-- an answer to the two texts is told, or the line of what is wrong with them: that of their shop and plan wherever they tell them, else the line of the first fault of the instance, or of the plan's
+pub record AreTextsTold (instance : List ℕ) (name : Option (List ℕ)) (plan : List ℕ) (Is : PlannedShop → Answer → Type 0)
+    (Tells : (Answer → Type 0) → Type 0) : Type 0 where
+  pub found : Tells (IsTextsTold instance name plan Is)
+  pub only : (p : PlannedShop) → TellBoth instance name plan p → Tells (Is p)
+  pub first : (fault : OrFault) → IsFirstInstanceFault instance name fault → Tells (IsTextFaultTold (Instance fault))
+  pub second : (fault : PlanFault) → TellsAShop instance name → IsFirstPlanFault plan fault → Tells (IsTextFaultTold (Plan fault))
+
 -- the controller of the accepted plan that the two texts tell, before the first report
 pub record IsStarted (instance : List ℕ) (name : Option (List ℕ)) (plan : List ℕ) (control : Control) : Type 0 where
-  pub verified : VerifiedPlan
-  pub tell : TellBoth instance name plan verified.planned
-  pub acceptable : IsAcceptable verified.planned
-  pub start : control ≡ at_start verified
+  pub accepted : VerifiedPlan
+  pub tell : TellBoth instance name plan accepted.planned
+  pub well_shaped : IsWellShaped accepted.planned
+  pub acceptable : IsAcceptable accepted.planned
+  pub verified : IsVerified accepted
+  pub start : control ≡ at_start accepted
 
--- it isn't well shaped, or refused
-abbrev pub IsNotAccepted : Loaded → Type 0
-IsNotAccepted (NotShaped fault) = Unit {0}
-IsNotAccepted (Judged (Refused back why)) = Unit {0}
-IsNotAccepted (Judged (Accepted verified)) = ⊥
+-- the status of what is said of a plan: 0 where it is accepted, else 1
+abbrev pub loaded_status : Loaded → ℕ
+loaded_status (NotShaped fault) = 1
+loaded_status (Judged verdict) = verdict_status verdict
+
+-- what is said of the plan that the two texts tell has this status
+pub record IsStatusOfBoth (instance : List ℕ) (name : Option (List ℕ)) (plan : List ℕ) (status : ℕ) : Type 0 where
+  pub loaded : Loaded
+  pub both : IsOfBoth instance name plan IsLoaded loaded
+  pub status_is : status ≡ loaded_status loaded
+
+-- memory ran out, or this is the status of what is said of the plan
+abbrev pub IsStatusOfPlan : PlannedShop → ℕ → Type 0
+IsStatusOfPlan p status = (status ≡ 4) ⊎ ((loaded : Loaded) × IsLoaded p loaded × (status ≡ loaded_status loaded))
 
 -- the report is refused for its first reason, which is the only one: its number is answered, and what it names is told
 abbrev pub IsReasonTold : Control → Report → ℕ → ℕ → Type 0

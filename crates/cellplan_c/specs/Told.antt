@@ -1,5 +1,5 @@
 -- Reports, reasons, orders and phases as numbers.
-use Rattle.std.specs.Prelude.{ℕ, List, [], ◌∷◌, Option, None, Some, false, nat_eq, if◌then◌else◌, codes}
+use Rattle.std.specs.Prelude.{ℕ, List, [], ◌∷◌, Option, None, Some, false, nat_eq, if◌then◌else◌}
 use Rattle.shop_base.specs.declared.move_order.Spot.{Spot}
 use Rattle.shop_base.specs.declared.move_order.Spot.TheVariants.{Out, At}
 use Rattle.shop_base.specs.declared.move_order.MoveOrder.{MoveOrder}
@@ -56,11 +56,3 @@ answer_of status written = if nat_eq status 0 then Some written else None
 abbrev pub named : List ℕ → Option (List ℕ)
 named [] = None
 named (c ∷ cs) = Some (c ∷ cs)
-
--- the name of the reason with this number
-abbrev pub reason_name_of : ℕ → Option (List ℕ)
-reason_name_of number =
-    if nat_eq number 16 then Some (codes "JobOutOfRange") else (if nat_eq number 17 then Some (codes "MachineOutOfRange")
-    else (if nat_eq number 18 then Some (codes "MomentTooLarge") else (if nat_eq number 19 then Some (codes "Backwards")
-    else (if nat_eq number 20 then Some (codes "NotExpected") else (if nat_eq number 21 then Some (codes "WrongKind")
-    else (if nat_eq number 22 then Some (codes "WrongMachine") else None))))))

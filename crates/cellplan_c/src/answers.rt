@@ -1,17 +1,12 @@
 //! The answers of the commands that judge a plan, called from C.
 
 ghost use Rattle.std.specs.Prelude.{◌≡◌, IfOk, IfErr};
-ghost use Rattle.shop_base.specs.Plan.{PlannedShop};
-ghost use Rattle.orlib_read.specs.declared.or_fault.OrFault.{OrFault};
-ghost use Rattle.plan_text.specs.declared.plan_fault.PlanFault.{PlanFault};
-ghost use Rattle.plan_text.specs.Documents.{IsFirstPlanFault};
-ghost use Rattle.command_answers.specs.declared.command_fault.CommandFault.TheVariants.{Instance, Plan, Memory};
-ghost use Rattle.command_answers.specs.Instances.{IsFirstInstanceFault, Holds, IsInstanceRefusal};
-ghost use Rattle.command_answers.specs.Plans.{TellBoth, TellsAShop, IsOfBoth, IsRightOfBoth, IsPlanRefusal};
+ghost use Rattle.command_answers.specs.declared.command_fault.CommandFault.TheVariants.{Memory};
+ghost use Rattle.command_answers.specs.Readings.{AreTextsAnswered};
 ghost use Rattle.command_answers.specs.Checks.{IsCheckLine};
 ghost use Rattle.command_answers.specs.Explains.{IsExplanation};
 ghost use Rattle.cellplan_c.specs.Told.{named};
-ghost use Rattle.cellplan_c.specs.Calls.{Answers, IsTextsTold, IsTextFaultTold};
+ghost use Rattle.cellplan_c.specs.Calls.{Answers, AreTextsTold};
 ghost use Rattle.cellplan_c.specs.Judges.{IsAnswerOf};
 
 use crate::faults::fault_answer;
@@ -32,13 +27,8 @@ pub extern "C" fn cellplan_check(
     line: &mut [u8],
     length: &mut usize,
 ) -> u32
-    ensures found { Answers (IsTextsTold instance.now (named name.now) plan.now IsCheckLine) result line.old line.new length.new }
-    ensures only { (p : PlannedShop) → TellBoth instance.now (named name.now) plan.now p
-        → Answers (IsCheckLine p) result line.old line.new length.new }
-    ensures first { (fault : OrFault) → IsFirstInstanceFault instance.now (named name.now) fault
-        → Answers (IsTextFaultTold (Instance fault)) result line.old line.new length.new }
-    ensures second { (fault : PlanFault) → TellsAShop instance.now (named name.now) → IsFirstPlanFault plan.now fault
-        → Answers (IsTextFaultTold (Plan fault)) result line.old line.new length.new }
+    ensures { AreTextsTold instance.now (named name.now) plan.now IsCheckLine
+        (Answers result line.old line.new length.new) }
 {
     answer(alloc, Judge::Check, instance, name, plan, line, length)
 }
@@ -54,13 +44,8 @@ pub extern "C" fn cellplan_explain(
     text: &mut [u8],
     length: &mut usize,
 ) -> u32
-    ensures found { Answers (IsTextsTold instance.now (named name.now) plan.now IsExplanation) result text.old text.new length.new }
-    ensures only { (p : PlannedShop) → TellBoth instance.now (named name.now) plan.now p
-        → Answers (IsExplanation p) result text.old text.new length.new }
-    ensures first { (fault : OrFault) → IsFirstInstanceFault instance.now (named name.now) fault
-        → Answers (IsTextFaultTold (Instance fault)) result text.old text.new length.new }
-    ensures second { (fault : PlanFault) → TellsAShop instance.now (named name.now) → IsFirstPlanFault plan.now fault
-        → Answers (IsTextFaultTold (Plan fault)) result text.old text.new length.new }
+    ensures { AreTextsTold instance.now (named name.now) plan.now IsExplanation
+        (Answers result text.old text.new length.new) }
 {
     answer(alloc, Judge::Explain, instance, name, plan, text, length)
 }
@@ -75,13 +60,8 @@ fn answer(
     text: &mut [u8],
     length: &mut usize,
 ) -> u32
-    ensures found { Answers (IsTextsTold instance.now (named name.now) plan.now (IsAnswerOf judge)) result text.old text.new length.new }
-    ensures only { (p : PlannedShop) → TellBoth instance.now (named name.now) plan.now p
-        → Answers (IsAnswerOf judge p) result text.old text.new length.new }
-    ensures first { (fault : OrFault) → IsFirstInstanceFault instance.now (named name.now) fault
-        → Answers (IsTextFaultTold (Instance fault)) result text.old text.new length.new }
-    ensures second { (fault : PlanFault) → TellsAShop instance.now (named name.now) → IsFirstPlanFault plan.now fault
-        → Answers (IsTextFaultTold (Plan fault)) result text.old text.new length.new }
+    ensures { AreTextsTold instance.now (named name.now) plan.now (IsAnswerOf judge)
+        (Answers result text.old text.new length.new) }
 {
     let told = told(alloc, judge, instance, name, plan);
     put_answer(told, text, length)
@@ -95,12 +75,7 @@ fn told(
     name: &[u8],
     plan: &[u8],
 ) -> Result<Answer, CommandFault>
-    ensures found { IfOk result (IsTextsTold instance.now (named name.now) plan.now (IsAnswerOf judge)) }
-    ensures only { (p : PlannedShop) → TellBoth instance.now (named name.now) plan.now p → IfOk result (IsAnswerOf judge p) }
-    ensures first { (fault : OrFault) → IsFirstInstanceFault instance.now (named name.now) fault
-        → IfOk result (IsTextFaultTold (Instance fault)) }
-    ensures second { (fault : PlanFault) → TellsAShop instance.now (named name.now) → IsFirstPlanFault plan.now fault
-        → IfOk result (IsTextFaultTold (Plan fault)) }
+    ensures texts { AreTextsTold instance.now (named name.now) plan.now (IsAnswerOf judge) (IfOk result) }
     ensures memory { IfErr result (λ fault. fault ≡ Memory) }
 {
     match judged(alloc, judge, instance, name, plan) {
@@ -117,12 +92,7 @@ fn judged(
     name: &[u8],
     plan: &[u8],
 ) -> Result<Answer, CommandFault>
-    ensures found { IfOk result (IsOfBoth instance.now (named name.now) plan.now (IsAnswerOf judge)) }
-    ensures only { (p : PlannedShop) → TellBoth instance.now (named name.now) plan.now p → Holds result (IsAnswerOf judge p) }
-    ensures fault { IfErr result (IsRightOfBoth instance.now (named name.now) plan.now) }
-    ensures first { (fault : OrFault) → IsFirstInstanceFault instance.now (named name.now) fault → IsInstanceRefusal result fault }
-    ensures second { (fault : PlanFault) → TellsAShop instance.now (named name.now) → IsFirstPlanFault plan.now fault
-        → IsPlanRefusal result fault }
+    ensures { AreTextsAnswered instance.now (named name.now) plan.now (IsAnswerOf judge) result }
 {
     match judge {
         Judge::Check => check(alloc, instance, name_in(name), plan),

@@ -1,26 +1,28 @@
 //! A cell begun and freed, called from C.
 
-ghost use Rattle.std.specs.Prelude.{◌≡◌, ◌≢◌, ◌≤◌, None, IfOk, IfSome, IsSome};
+ghost use Rattle.std.specs.Prelude.{◌≡◌, ◌≢◌, ◌≤◌, ◌⊎◌, None, IfOk, IfSome, IsSome};
 ghost use Rattle.shop_base.specs.Plan.{PlannedShop};
 ghost use Rattle.orlib_read.specs.declared.or_fault.OrFault.{OrFault};
 ghost use Rattle.plan_text.specs.declared.plan_fault.PlanFault.{PlanFault};
 ghost use Rattle.plan_text.specs.Documents.{IsFirstPlanFault};
+ghost use Rattle.plan_verifier.specs.Accepted.{IsVerified};
 ghost use Rattle.cell_control.specs.Control.{at_start};
+ghost use Rattle.cell_control.specs.Promises.{NeverGoesWrong};
 ghost use Rattle.command_answers.specs.declared.command_fault.CommandFault.{CommandFault};
-ghost use Rattle.command_answers.specs.declared.loading.Loaded.{Loaded};
 ghost use Rattle.command_answers.specs.Instances.{IsFirstInstanceFault};
-ghost use Rattle.command_answers.specs.Plans.{TellBoth, TellsAShop, IsOfBoth};
-ghost use Rattle.command_answers.specs.Checks.{IsLoaded};
+ghost use Rattle.command_answers.specs.Plans.{TellBoth, TellsAShop};
 ghost use Rattle.cellplan_c.specs.Told.{named};
-ghost use Rattle.cellplan_c.specs.Calls.{IsTextFault, IsStarted, IsNotAccepted};
+ghost use Rattle.cellplan_c.specs.Calls.{IsTextFault, IsStarted, loaded_status, IsStatusOfBoth, IsStatusOfPlan};
+ghost use Rattle.cellplan_c.specs.Begun.{IsControllerOf};
 
 use crate::cell::Cell;
 use crate::inner::Inner;
 use crate::instances::name_in;
 use crate::statuses::{GOOD, REFUSED, status_of_refused};
 use cell_control::Controller;
+use cell_control::laws::never_goes_wrong;
 use command_answers::{Loaded, load};
-use plan_verifier::{Verdict, Verified};
+use plan_verifier::Verified;
 use std::alloc::{AllocError, Global};
 
 /// Makes the controller of an accepted plan, and puts it in the place of what the cell held. The line of a plan that
@@ -36,25 +38,19 @@ pub extern "C" fn cellplan_cell_new(
     ensures started { result ≡ 0 → IfSome cell.new.slot.held
         (λ new. IsStarted instance.now (named name.now) plan.now new.controller) }
     ensures full { result ≡ 0 → IsSome cell.new.slot.held }
-    ensures refused { result ≡ 1 → (loaded : Loaded)
-        × IsOfBoth instance.now (named name.now) plan.now IsLoaded loaded × IsNotAccepted loaded }
+    ensures never_wrong { result ≡ 0 → IfSome cell.new.slot.held (λ new. NeverGoesWrong new.controller) }
+    ensures judged { result ≤ 1 → IsStatusOfBoth instance.now (named name.now) plan.now result }
     ensures fault { result ≡ 3 → (fault : CommandFault) × IsTextFault instance.now (named name.now) plan.now fault }
-    ensures only { (p : PlannedShop) → TellBoth instance.now (named name.now) plan.now p → result ≢ 3 }
+    ensures only { (p : PlannedShop) → TellBoth instance.now (named name.now) plan.now p → IsStatusOfPlan p result }
+    ensures same { (p : PlannedShop) → TellBoth instance.now (named name.now) plan.now p → result ≡ 0
+        → IfSome cell.new.slot.held (λ new. new.controller.plan.planned ≡ p) }
     ensures first { (fault : OrFault) → IsFirstInstanceFault instance.now (named name.now) fault → 3 ≤ result }
     ensures second { (fault : PlanFault) → TellsAShop instance.now (named name.now) → IsFirstPlanFault plan.now fault → 3 ≤ result }
     ensures unchanged { result ≢ 0 → cell.new.slot.held ≡ cell.old.slot.held }
     ensures statuses { (result ≤ 4) × (result ≢ 2) }
 {
     match load(alloc, instance, name_in(name), plan) {
-        Ok(Loaded::Judged(Verdict::Accepted(verified))) => match boxed(alloc, verified) {
-            Ok(inner) => {
-                cellplan_cell_free(alloc, cell);
-                cell.put(inner);
-                GOOD
-            }
-            Err(error) => status_of_refused(error),
-        },
-        Ok(_) => REFUSED,
+        Ok(loaded) => begun(alloc, loaded, cell),
         Err(fault) => u32::from(fault.status()),
     }
 }
@@ -67,12 +63,40 @@ pub extern "C" fn cellplan_cell_free(alloc: Global, cell: &mut Cell)
     drop(cell.take(alloc));
 }
 
+/// Puts the controller of an accepted plan in the place of what the cell held. The answer is the status of what is said
+/// of the plan, or that of the request for memory that was refused.
+fn begun(alloc: Global, loaded: Loaded, cell: &mut Cell) -> u32
+    ensures status { (result ≡ 4) ⊎ (result ≡ loaded_status loaded) }
+    ensures started { result ≡ 0 → IfSome cell.new.slot.held (λ new. IsControllerOf loaded new.controller) }
+    ensures full { result ≡ 0 → IsSome cell.new.slot.held }
+    ensures never_wrong { result ≡ 0 → IfSome cell.new.slot.held (λ new. NeverGoesWrong new.controller) }
+    ensures unchanged { result ≢ 0 → cell.new.slot.held ≡ cell.old.slot.held }
+{
+    match loaded.accepted() {
+        Ok(verified) => match boxed(alloc, verified) {
+            Ok(inner) => {
+                cellplan_cell_free(alloc, cell);
+                cell.put(inner);
+                GOOD
+            }
+            Err(error) => status_of_refused(error),
+        },
+        Err(_other) => REFUSED,
+    }
+}
+
 /// The box of the controller of an accepted plan, or the error of the request for memory that was refused.
 fn boxed(alloc: Global, verified: Verified) -> Result<Box<Inner>, AllocError>
-    ensures { IfOk result (λ inner. inner.value.controller ≡ at_start verified) }
+    ensures verified { IsVerified verified }
+    ensures start { IfOk result (λ inner. inner.value.controller ≡ at_start verified) }
+    ensures never_wrong { IfOk result (λ inner. NeverGoesWrong inner.value.controller) }
 {
+    let _plan = verified.shaped();
     match Controller::new(alloc, verified) {
-        Ok(controller) => Ok(Box::new(alloc, Inner { controller })?),
+        Ok(controller) => {
+            never_goes_wrong(&controller);
+            Ok(Box::new(alloc, Inner { controller })?)
+        }
         Err((error, _verified)) => Err(error),
     }
 }

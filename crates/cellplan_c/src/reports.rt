@@ -6,7 +6,7 @@ ghost use Rattle.shop_base.specs.Activity.{GoesOn};
 ghost use Rattle.shop_base.specs.Run.{Event};
 ghost use Rattle.cell_tables.specs.Reports.{said};
 ghost use Rattle.cell_control.specs.Control.{IsAnswered};
-ghost use Rattle.cell_control.specs.Promises.{IsCalled};
+ghost use Rattle.cell_control.specs.Promises.{IsCalled, NeverGoesWrong};
 ghost use Rattle.cellplan_c.specs.Told.{report_by, order_told};
 ghost use Rattle.cellplan_c.specs.Calls.{IsReasonTold};
 
@@ -16,6 +16,7 @@ use crate::rooms::put_orders;
 use crate::statuses::{GOOD, NO_CELL, NO_KIND};
 use crate::told::{Order, fault_detail, fault_number, report_by};
 use cell_control::Report;
+use cell_control::laws::never_goes_wrong;
 use std::alloc::Global;
 
 /// Takes a report: of kind 0, that the job has arrived, 1, that its operation on the machine has ended, or 2, that the
@@ -49,6 +50,7 @@ pub extern "C" fn cellplan_cell_report(
     ensures called { IfSome cell.old.slot.held (λ old. IfSome cell.new.slot.held (λ new.
         IfSome (report_by kind job machine at) (λ report.
         (es : List Event) × IsCalled old.controller (said report) es new.controller))) }
+    ensures never_wrong { result ≢ 9 → IfSome cell.new.slot.held (λ new. NeverGoesWrong new.controller) }
     ensures never_refused { IfSome cell.old.slot.held (λ old. IfSome (report_by kind job machine at) (λ report.
         (due : ℕ) → GoesOn old.controller.plan.planned old.controller.cell (said report).ended due
         → (said report).at ≡ old.controller.cell.last → result ≡ 0)) }
@@ -121,11 +123,14 @@ fn report_to(inner: &mut Inner, report: Report, late: &mut bool, detail: &mut u6
     ensures not_late { result ≢ 0 → late.new ≡ late.old }
     ensures no_detail { result ≡ 0 → detail.new ≡ detail.old }
     ensures called { (es : List Event) × IsCalled inner.old.controller (said report) es inner.new.controller }
+    ensures never_wrong { NeverGoesWrong inner.new.controller }
     ensures never_refused { (due : ℕ)
         → GoesOn inner.old.controller.plan.planned inner.old.controller.cell (said report).ended due
         → (said report).at ≡ inner.old.controller.cell.last → result ≡ 0 }
 {
-    match inner.controller.report(report) {
+    let told = inner.controller.report(report);
+    never_goes_wrong(&inner.controller);
+    match told {
         Ok(ack) => {
             *late = ack.late;
             GOOD

@@ -3,7 +3,7 @@
 ghost use Rattle.std.specs.Prelude.{◌≡◌, ◌≢◌, ℕ, ◌+◌, ◌<◌, ◌≤◌, ◌⊎◌, IfOk, IfErr, length, slice_get, option_map};
 ghost use Rattle.command_answers.specs.Statuses.{status_of};
 ghost use Rattle.cellplan_c.specs.Told.{order_told, answer_of};
-ghost use Rattle.cellplan_c.specs.Calls.{IsLaid, IsTooLong, IsPut};
+ghost use Rattle.cellplan_c.specs.Calls.{IsPut};
 
 use crate::statuses::{GOOD, NO_ROOM, NONE};
 use crate::told::{Order, order_told};
@@ -26,10 +26,7 @@ pub fn put_orders(orders: &[MoveOrder], first: usize, room: &mut [Order])
 /// Writes the text, if there is room for it, and its length in any case. The answer is the status, or that there is
 /// no room.
 pub fn put_text(text: &[u8], status: u32, room: &mut [u8], needed: &mut usize) -> u32
-    ensures needed { needed.new ≡ length text.now }
-    ensures put { IsPut text.now status result room.old room.new needed.new }
-    ensures fits { length text.now ≤ length room.old → (result ≡ status) × IsLaid text.now room.old room.new needed.new }
-    ensures too_long { length room.old < length text.now → (result ≡ 6) × IsTooLong text.now room.old room.new needed.new }
+    ensures { IsPut text.now status result room.old room.new needed.new }
 {
     *needed = text.len();
     if room.len() < text.len() {

@@ -1,12 +1,13 @@
 //! Reports, reasons, orders and phases as numbers.
 
-ghost use Rattle.std.specs.Prelude.{◌≡◌};
+ghost use Rattle.std.specs.Prelude.{◌≡◌, ◌≢◌, MatchOption};
+ghost use Rattle.cell_control.specs.declared.report_fault.ReportFault.{ReportFault};
 ghost use Rattle.cellplan_c.specs.Told.{report_by, fault_number, fault_detail, order_told, spot_number, phase_told};
 
 use cell_control::{MoveOrder, Phase as Whereabouts, Report, ReportFault, Spot};
 
-/// The number in place of a machine that stands for outside.
-pub const OUTSIDE: u32 = u32::MAX;
+/// The number in place of a machine that stands for outside the cell.
+pub const OUT: u32 = u32::MAX;
 
 /// A move to be made: the job, the machine that it leaves and the one that it enters, and the moment.
 #[repr(C)]
@@ -55,6 +56,22 @@ pub fn fault_number(fault: ReportFault) -> u32
     }
 }
 
+/// A reason with this number, if there is one. What it names is 0.
+pub fn reason_by(number: u32) -> Option<ReportFault>
+    ensures { MatchOption result ((fault : ReportFault) → fault_number fault ≢ number) (λ fault. fault_number fault ≡ number) }
+{
+    match number {
+        16 => Some(ReportFault::JobOutOfRange),
+        17 => Some(ReportFault::MachineOutOfRange),
+        18 => Some(ReportFault::MomentTooLarge),
+        19 => Some(ReportFault::Backwards { last: 0 }),
+        20 => Some(ReportFault::NotExpected),
+        21 => Some(ReportFault::WrongKind),
+        22 => Some(ReportFault::WrongMachine { actual: 0 }),
+        _ => None,
+    }
+}
+
 /// The moment or the machine that a reason names, and 0 where it names none.
 pub fn fault_detail(fault: ReportFault) -> u64
     ensures { result ≡ fault_detail fault }
@@ -70,7 +87,7 @@ fn spot_number(spot: Spot) -> u32
     ensures { result ≡ spot_number spot }
 {
     match spot {
-        Spot::Out => OUTSIDE,
+        Spot::Out => OUT,
         Spot::At(machine) => machine,
     }
 }

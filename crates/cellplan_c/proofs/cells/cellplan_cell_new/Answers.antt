@@ -1,27 +1,41 @@
-use Rattle.std.proofs.Common.{ap, arith, rules}
+use Rattle.std.proofs.Common.{◌≡◌, arith, inl, ap, sym, ◌∙◌, refl}
 use Rattle.command_answers.specs.Statuses.{status_of}
 use Rattle.cellplan_c.proofs.Judging.{fault_bounds}
+use Rattle.cellplan_c.proofs.Beginning.{held_so, under, started, of_plan, judged, only, statuses, no_fault}
 use Rattle.cellplan_c.proofs.cells.cellplan_cell_new.Goals as goal
 
-pub returns-in-Ok-boxed-clause-second : goal.returns-in-Ok-boxed-clause-second
-returns-in-Ok-boxed-clause-second c = λ fault tells is. absurd (c.in-Ok-Judged-Accepted.ensures.second fault (rw c.name_in.ensures tells) is)
-
 pub returns-in-Ok : goal.returns-in-Ok
-returns-in-Ok c = record {
-  started = λ e. absurd (omega (arith, e));
-  full = λ e. absurd (omega (arith, e));
-  refused = search rules;
-  fault = λ e. absurd (omega (arith, e));
-  only = λ p tell e. omega (arith, e);
-  first = λ fault is. absurd (c.in-Ok.ensures.first fault (rw c.name_in.ensures is));
-  second = λ fault tells is. absurd (c.in-Ok.ensures.second fault (rw c.name_in.ensures tells) is);
-  unchanged = search rules;
-  statuses = search rules;
-}
+returns-in-Ok c =
+    let are = under c.args.instance.now _ c.args.plan.now _ _ c.name_in.ensures c.in-Ok.ensures in
+    record {
+      started = λ good. held_so _ _ _ (λ inner is. started _ _ _ c.in-Ok.loaded are inner.controller is) (c.begun.ensures.started good);
+      full = c.begun.ensures.full;
+      never_wrong = c.begun.ensures.never_wrong;
+      judged = judged _ _ _ c.in-Ok.loaded are _ c.begun.ensures.status;
+      fault = no_fault _ _ _ c.in-Ok.loaded are _ c.begun.ensures.status;
+      only = only _ _ _ c.in-Ok.loaded are _ c.begun.ensures.status;
+      same = λ p tell good. held_so _ _ _ (λ inner is. of_plan _ _ _ c.in-Ok.loaded are p tell inner.controller is) (c.begun.ensures.started good);
+      first = λ fault is. absurd (are.first fault is);
+      second = λ fault tells is. absurd (are.second fault tells is);
+      unchanged = c.begun.ensures.unchanged;
+      statuses = statuses _ _ _ c.in-Ok.loaded are _ c.begun.ensures.status;
+    }
 
-pub returns-clause-only : goal.returns-clause-only
-returns-clause-only c = λ p tell three. let four = ap status_of (c.in-Err.ensures.only p (rw c.name_in.ensures tell)) in omega (arith, four, three, c.status.ensures, c.from.ensures)
-
-pub returns-clause-statuses : goal.returns-clause-statuses
-returns-clause-statuses c = let bounds = fault_bounds c.args.instance.now _ c.args.plan.now c.in-Err.fault c.in-Err.ensures.fault in
-    (omega (arith, bounds.1, c.status.ensures, c.from.ensures), λ two. omega (arith, bounds.0, two, c.status.ensures, c.from.ensures))
+pub returns-in-Err : goal.returns-in-Err
+returns-in-Err c =
+    let are = under c.args.instance.now _ c.args.plan.now _ _ c.name_in.ensures c.in-Err.ensures in
+    let status_is : c.from.result ≡ status_of c.in-Err.fault = c.from.ensures ∙ c.status.ensures in
+    let bounds = fault_bounds c.args.instance.now _ c.args.plan.now c.in-Err.fault are.fault in
+    record {
+      started = λ good. absurd (omega (arith, good, status_is, bounds.0));
+      full = λ good. absurd (omega (arith, good, status_is, bounds.0));
+      never_wrong = λ good. absurd (omega (arith, good, status_is, bounds.0));
+      judged = λ small. absurd (omega (arith, small, status_is, bounds.0));
+      fault = λ three. (c.in-Err.fault, record { right = are.fault; status = sym status_is ∙ three });
+      only = λ p tell. inl (status_is ∙ ap status_of (are.only p tell));
+      same = λ p tell good. absurd (omega (arith, good, status_is, bounds.0));
+      first = λ fault is. omega (arith, status_is, bounds.0);
+      second = λ fault tells is. omega (arith, status_is, bounds.0);
+      unchanged = λ no. refl;
+      statuses = (omega (arith, status_is, bounds.1), λ two. omega (arith, two, status_is, bounds.0));
+    }

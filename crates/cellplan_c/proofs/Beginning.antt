@@ -1,0 +1,91 @@
+-- What beginning a cell comes to, by what is said of the plan that the two texts tell.
+use Rattle.std.proofs.Common.{◌≡◌, ◌≢◌, ℕ, ◌≤◌, ◌⊎◌, inl, inr, List, Option, None, Some, IfSome, Result, Ok, Err, refl, sym, ap, ◌∙◌, subst, arith}
+use Rattle.shop_base.specs.Plan.{PlannedShop}
+use Rattle.plan_verifier.specs.declared.verdict.Verdict.{Verdict}
+use Rattle.plan_verifier.specs.declared.verdict.Verdict.TheVariants.{Accepted, Refused}
+use Rattle.plan_verifier.specs.Accepted.{VerifiedPlan, IsVerified, IsAcceptable}
+use Rattle.cell_control.specs.Control.{Control, at_start}
+use Rattle.command_answers.specs.declared.command_fault.CommandFault.{CommandFault}
+use Rattle.command_answers.specs.declared.loading.Loaded.{Loaded}
+use Rattle.command_answers.specs.declared.loading.Loaded.TheVariants.{NotShaped, Judged}
+use Rattle.command_answers.specs.Checks.{IsLoaded, accepted_in}
+use Rattle.command_answers.specs.Plans.{TellBoth}
+use Rattle.command_answers.specs.Readings.{AreTextsAnswered}
+use Rattle.command_answers.specs.Statuses.{status_of}
+use Rattle.cellplan_c.specs.Calls.{IsStarted, loaded_status, IsStatusOfBoth, IsStatusOfPlan, IsTextFault}
+use Rattle.cellplan_c.specs.Begun.{IsControllerOf}
+use Rattle.cellplan_c.specs.Held.{Held}
+use Rattle.cellplan_c.specs.contracts.inner.Inner as Inner
+use Rattle.cellplan_c.proofs.Judging.{verdict_bound}
+
+-- what is taken out of an accepted plan is its controller's, and its status is 0
+pub controller_of : (loaded : Loaded) (verified : VerifiedPlan) (control : Control) → Ok verified ≡ accepted_in loaded → IsVerified verified
+    → control ≡ at_start verified → IsControllerOf loaded control
+controller_of (Judged (Accepted v)) verified control out is start =
+    let same : verified ≡ v = cc in (subst IsVerified same is, start ∙ ap at_start same)
+controller_of (Judged (Refused back why)) verified control out is start = absurd (cc)
+controller_of (NotShaped fault) verified control out is start = absurd (cc)
+
+pub accepted_status : (loaded : Loaded) (verified : VerifiedPlan) → Ok verified ≡ accepted_in loaded → 0 ≡ loaded_status loaded
+accepted_status (Judged (Accepted v)) verified out = refl
+accepted_status (Judged (Refused back why)) verified out = absurd (cc)
+accepted_status (NotShaped fault) verified out = absurd (cc)
+
+pub refused_status : (loaded other : Loaded) → Err other ≡ accepted_in loaded → 1 ≡ loaded_status loaded
+refused_status (Judged (Accepted v)) other out = absurd (cc)
+refused_status (Judged (Refused back why)) other out = refl
+refused_status (NotShaped fault) other out = refl
+
+status_bound : (loaded : Loaded) → loaded_status loaded ≤ 1
+status_bound (Judged verdict) = verdict_bound verdict
+status_bound (NotShaped fault) = omega arith
+
+-- the same of what is held
+pub held_so : (P Q : Inner.the_row.Denot → Type 0) (held : Held) → ((inner : Inner.the_row.Denot) → P inner → Q inner) → IfSome held P → IfSome held Q
+held_so P Q None more is = tt
+held_so P Q (Some inner) more is = more inner is
+
+module _ (instance : List ℕ) (name : Option (List ℕ)) (plan : List ℕ) where
+  -- the name as it is called and as it is meant
+  pub under : (other : Option (List ℕ)) (outcome : Result Loaded CommandFault) → other ≡ name
+      → AreTextsAnswered instance other plan IsLoaded outcome → AreTextsAnswered instance name plan IsLoaded outcome
+  under other outcome same are = subst (λ (n : Option (List ℕ)). AreTextsAnswered instance n plan IsLoaded outcome) same are
+
+  pub started : (loaded : Loaded) → AreTextsAnswered instance name plan IsLoaded (Ok loaded) → (control : Control)
+      → IsControllerOf loaded control → IsStarted instance name plan control
+  started (NotShaped fault) are control is = absurd is
+  started (Judged (Refused back why)) are control is = absurd is
+  started (Judged (Accepted verified)) are control is =
+      let judged = are.found.is.accepted in
+      record {
+        accepted = verified;
+        tell = subst (λ (p : PlannedShop). TellBoth instance name plan p) (sym judged.0) are.found.tell;
+        well_shaped = is.0.schedule.shaped;
+        acceptable = subst IsAcceptable (sym judged.0) judged.1;
+        verified = is.0;
+        start = is.1;
+      }
+
+  pub of_plan : (loaded : Loaded) → AreTextsAnswered instance name plan IsLoaded (Ok loaded) → (p : PlannedShop) → TellBoth instance name plan p
+      → (control : Control) → IsControllerOf loaded control → control.plan.planned ≡ p
+  of_plan (NotShaped fault) are p tell control is = absurd is
+  of_plan (Judged (Refused back why)) are p tell control is = absurd is
+  of_plan (Judged (Accepted verified)) are p tell control is =
+      ap (λ (c : Control). c.plan.planned) is.1 ∙ (are.only p tell).accepted.0
+
+  module _ (loaded : Loaded) (are : AreTextsAnswered instance name plan IsLoaded (Ok loaded)) (result : ℕ)
+      (status : (result ≡ 4) ⊎ (result ≡ loaded_status loaded)) where
+    pub judged : result ≤ 1 → IsStatusOfBoth instance name plan result
+    judged small = elim status [ inl four ↦ absurd (omega (arith, four, small)) | inr is ↦ record { loaded = loaded; both = are.found; status_is = is } ]
+
+    pub only : (p : PlannedShop) → TellBoth instance name plan p → IsStatusOfPlan p result
+    only p tell = elim status [ inl four ↦ inl four | inr is ↦ inr (loaded, are.only p tell, is) ]
+
+    pub statuses : (result ≤ 4) × (result ≢ 2)
+    statuses = elim status [
+      | inl four ↦ (omega (arith, four), λ two. omega (arith, four, two))
+      | inr is ↦ (omega (arith, is, status_bound loaded), λ two. omega (arith, is, two, status_bound loaded))
+    ]
+
+    pub no_fault : {A : Type 0} → result ≡ 3 → A
+    no_fault three = elim status [ inl four ↦ absurd (omega (arith, four, three)) | inr is ↦ absurd (omega (arith, is, three, status_bound loaded)) ]
