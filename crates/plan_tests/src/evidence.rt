@@ -15,7 +15,7 @@ const LATER: &[u8] = b"release = [7, 0]\nbudget = [5, 10]\norder = [[0, 1], [0, 
 
 const THROUGH: &[(JobNo, u32)] = &[(0, 0), (0, 1), (0, 2), (1, 0), (1, 1), (1, 2)];
 
-const EVIDENCE: [Evidence; 16] = [
+const EVIDENCE: &[Evidence] = &[
     (IN_SERIES, THROUGH, Some(10), false),
     (IN_SERIES, &[(0, 0)], Some(0), false),
     (LATER, THROUGH, Some(17), false),
@@ -57,7 +57,7 @@ fn nodes(alloc: Global, places: &[(JobNo, u32)]) -> Result<Vec<Node>, AllocError
 
 #[test]
 fn chains_and_cycles_are_told_from_other_nodes(rt: HostRuntime) -> Result<(), Fail> {
-    for (plan, places, length, cycle) in EVIDENCE {
+    for &(plan, places, length, cycle) in EVIDENCE {
         let shaped = planned(rt.alloc(), TWO, plan)?;
         let nodes = nodes(rt.alloc(), places)?;
         assert_eq!(rt;

@@ -1,7 +1,7 @@
 //! What is read of instance texts and no command shows: their descriptions. The other texts stand
 //! in `tests/command-lines`.
 
-use crate::plans::{FT06, TWO};
+use crate::plans::TWO;
 use orlib_read::{OrFault, read_from_collection, read_instance};
 use shop_base::Step;
 use std::test::Fail;
@@ -9,9 +9,8 @@ use std::test::Fail;
 /// A text, its description, and the work of its shop.
 type Described = (&'static [u8], &'static [u8], u64);
 
-const DESCRIBED: [Described; 7] = [
+const DESCRIBED: &[Described] = &[
     (TWO, b"two", 10),
-    (b"two\r\n2 2\r\n0 3 1 2\r\n1 4 0 1\r\n", b"two", 10),
     (b"2 2\n0 3 1 2\n1 4 0 1\n", b"", 10),
     (b" two\t\n1 1\n0 5\n", b" two\t", 5),
     (b"instance a b\n1 1\n0 5\n", b"instance a b", 5),
@@ -21,12 +20,11 @@ const DESCRIBED: [Described; 7] = [
         b"\xff\x00 +\r\x80\r",
         1,
     ),
-    (FT06, b"ft06", 197),
 ];
 
 #[test]
 fn descriptions_are_read_as_they_stand(rt: HostRuntime) -> Result<(), Fail> {
-    for (text, description, work) in DESCRIBED {
+    for &(text, description, work) in DESCRIBED {
         let named = read_instance(rt.alloc(), text)?;
         assert_eq!(rt; named.description.as_slice(), description);
         assert_eq!(rt; named.shop.work(), work);

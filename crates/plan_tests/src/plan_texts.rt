@@ -1,31 +1,30 @@
 //! Plans that are read and written again. Texts that are no plans, the spellings of TOML and the
-//! greatest plan stand in `tests/command-lines`.
+//! greatest plan stand in `tests/command-lines`; usual plans are read and written in `wants.rt` of `command_tests`.
 
-use crate::plans::{CLEANED, IN_SERIES};
+use crate::plans::IN_SERIES;
 use plan_text::{PlanFault, plan_document, read_plan};
 use std::test::Fail;
 
 /// Texts as they are written. The counts aren't looked at here.
-const WRITTEN: [&[u8]; 8] = [
-    IN_SERIES,
-    CLEANED,
-    b"release = []\nbudget = []\norder = []\n",
+const WRITTEN: &[&[u8]] = &[
     // A plan of version 2 stays one without any cleaning time above 0.
     b"version = 2\nrelease = []\nbudget = []\norder = []\nclean = []\n",
-    b"release = [7]\nbudget = []\norder = [[], [3, 3], []]\n",
-    b"release = [9223372036854775807]\nbudget = [0, 1, 2]\norder = [[], [4294967295], []]\n",
-    b"release = [9223372036854775807]\nbudget = []\norder = [[4294967295]]\n",
-    b"version = 2\nrelease = [4294967296]\nbudget = [4294967297]\norder = [[4294967295]]\nclean = [4294967298]\n",
+    b"release = [9223372036854775807]\nbudget = [0, 1, 2]\norder = [[], [4294967295], [3, 3]]\n",
+    GREATER,
 ];
+
+/// Each number is greater than the kind of number before it takes.
+const GREATER: &[u8] =
+    b"version = 2\nrelease = [4294967296]\nbudget = [4294967297]\norder = [[4294967295]]\nclean = [4294967298]\n";
 
 #[test]
 fn plans_are_read_and_written_again(rt: HostRuntime) -> Result<(), Fail> {
-    for text in WRITTEN {
+    for &text in WRITTEN {
         let plan = read_plan(rt.alloc(), text)?;
         let written = plan_document(rt.alloc(), &plan)?;
         assert!(rt; written.as_bytes() == text, "{written}");
     }
-    let plan = read_plan(rt.alloc(), WRITTEN[7])?;
+    let plan = read_plan(rt.alloc(), GREATER)?;
     let told = format!(in rt.alloc(); "{plan:?}")?;
     assert_eq!(rt;
         told.as_str(),

@@ -1,20 +1,10 @@
 //! Shops and shaped plans, as far as no command shows them. What is no shop, and what doesn't fit
 //! one, stands in `tests/command-lines`.
 
-use crate::plans::{CLEANED, CROSSED, TWO, planned, two_jobs};
+use crate::plans::{CLEANED, TWO, planned, two_jobs};
 use plan_text::{plan_document, read_plan};
 use shop_base::{Shop, Step, shape};
 use std::test::Fail;
-
-#[test]
-fn a_shop_tells_its_size_its_work_and_its_routes(rt: HostRuntime) -> Result<(), Fail> {
-    let shop = two_jobs(rt.alloc())?;
-    assert!(rt; shop.jobs() == 2 && shop.machines() == 2);
-    assert!(rt; shop.operations() == 4 && shop.work() == 10);
-    assert_eq!(rt; shop.route(1).unwrap_or(&[]).len(), 2);
-    assert!(rt; shop.route(2).is_none());
-    Ok(())
-}
 
 #[test]
 fn a_job_without_a_step_makes_no_shop(rt: HostRuntime) -> Result<(), Fail> {
@@ -35,7 +25,7 @@ fn a_job_without_a_step_makes_no_shop(rt: HostRuntime) -> Result<(), Fail> {
 }
 
 /// Plans that aren't well shaped for the two jobs, each with its first fault.
-const NOT_SHAPED: [(&[u8], &str); 2] = [
+const NOT_SHAPED: &[(&[u8], &str)] = &[
     (
         b"release = [0, 0]\nbudget = [5, 10]\norder = [[0, 1], [0]]\n",
         "JobMissing machine 1 job 1",
@@ -48,7 +38,7 @@ const NOT_SHAPED: [(&[u8], &str); 2] = [
 
 #[test]
 fn the_shop_and_the_plan_come_back(rt: HostRuntime) -> Result<(), Fail> {
-    for (plan, text) in NOT_SHAPED {
+    for &(plan, text) in NOT_SHAPED {
         match shape(two_jobs(rt.alloc())?, read_plan(rt.alloc(), plan)?) {
             Ok(_) => panic!(rt; "a plan that isn't well shaped is taken"),
             Err(refused) => {
@@ -59,12 +49,8 @@ fn the_shop_and_the_plan_come_back(rt: HostRuntime) -> Result<(), Fail> {
             }
         }
     }
-    for (plan, reports) in [(CROSSED, 6), (CLEANED, 8)] {
-        let shaped = planned(rt.alloc(), TWO, plan)?;
-        assert_eq!(rt; shaped.report_count(), reports);
-        let (shop, parts) = shaped.into_parts();
-        assert_eq!(rt; shop.work(), 10);
-        assert_eq!(rt; plan_document(rt.alloc(), &parts)?.as_bytes(), plan);
-    }
+    let (shop, parts) = planned(rt.alloc(), TWO, CLEANED)?.into_parts();
+    assert_eq!(rt; shop.work(), 10);
+    assert_eq!(rt; plan_document(rt.alloc(), &parts)?.as_bytes(), CLEANED);
     Ok(())
 }

@@ -9,7 +9,7 @@ use std::test::Fail;
 /// A plan for the two jobs, a job and a place, and the earliest moment of that node, if it is one.
 type Time = (&'static [u8], JobNo, u32, Option<Moment>);
 
-const TIMES: [Time; 10] = [
+const TIMES: &[Time] = &[
     (IN_SERIES, 0, 0, Some(0)),
     (IN_SERIES, 0, 1, Some(3)),
     (IN_SERIES, 0, 2, Some(5)),
@@ -25,7 +25,7 @@ const TIMES: [Time; 10] = [
 
 #[test]
 fn just_nodes_have_times_ranks_and_chains(rt: HostRuntime) -> Result<(), Fail> {
-    for (plan, job, place, moment) in TIMES {
+    for &(plan, job, place, moment) in TIMES {
         let node = Node { job, place };
         match solve(rt.alloc(), &planned(rt.alloc(), TWO, plan)?)? {
             Solved::Ordered(times) => {
@@ -37,12 +37,5 @@ fn just_nodes_have_times_ranks_and_chains(rt: HostRuntime) -> Result<(), Fail> {
             Solved::Cyclic(_) => panic!(rt; "a cycle"),
         }
     }
-    Ok(())
-}
-
-#[test]
-fn a_node_is_written_as_its_job_and_place(rt: HostRuntime) -> Result<(), Fail> {
-    let node = Node { job: 1, place: 2 };
-    assert_eq!(rt; format!(in rt.alloc(); "{node}")?.as_str(), "1.2");
     Ok(())
 }
