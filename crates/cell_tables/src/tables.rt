@@ -1,6 +1,6 @@
 //! The tables of a cell: a row for each job and for each machine, and the writes of one row.
 
-ghost use Rattle.std.specs.Prelude.{◌≡◌, ◌<◌, ◌≤◌, length, replicate, vec_capacity, slice_index_or, true, false, None, Some, IfOk};
+ghost use Rattle.std.specs.Prelude.{◌≡◌, ◌<◌, ◌≤◌, length, replicate, vec_capacity, slice_index_or, true, false, IfOk};
 ghost use Rattle.shop_base.specs.declared.limits.TheConstants.{MAX_MOMENT};
 ghost use Rattle.shop_base.specs.Cell.{absent, start};
 ghost use Rattle.shop_base.specs.Move.{after_leaving};
