@@ -1,7 +1,6 @@
 //! Which reports are possible, and the first reason of those that aren't.
 
 ghost use Rattle.std.specs.Prelude.{OnOk, IfErr};
-ghost use Rattle.shop_base.specs.Activity.{Arrival, Operation, Cleaning};
 ghost use Rattle.shop_base.specs.Report.{CanReport, IsNextMoment};
 ghost use Rattle.cell_tables.specs.Reports.{said};
 ghost use Rattle.cell_control.specs.Reports.{IsFirstReason, IsMomentReason, IsJobReason, IsBusyInTurn};
@@ -27,8 +26,8 @@ pub(crate) fn check_report<P: Planned>(
 }
 
 fn check_arrival<P: Planned>(cell: &WorkCell<P>, job: JobNo, at: Moment) -> Result<(), ReportFault>
-    ensures possible { OnOk result (CanReport cell.now.plan cell.now.cell (record { ended = Arrival job; at = at })) }
-    ensures first { IfErr result (IsFirstReason cell.now.plan cell.now.cell (record { ended = Arrival job; at = at })) }
+    ensures possible { OnOk result (CanReport cell.now.plan cell.now.cell (said (Report.Arrive job at))) }
+    ensures first { IfErr result (IsFirstReason cell.now.plan cell.now.cell (said (Report.Arrive job at))) }
 {
     check_job(cell, job, at)?;
     match cell.machine_of(job) {
@@ -43,8 +42,8 @@ fn check_finish<P: Planned>(
     machine: MachineNo,
     at: Moment,
 ) -> Result<(), ReportFault>
-    ensures possible { OnOk result (CanReport cell.now.plan cell.now.cell (record { ended = Operation job machine; at = at })) }
-    ensures first { IfErr result (IsFirstReason cell.now.plan cell.now.cell (record { ended = Operation job machine; at = at })) }
+    ensures possible { OnOk result (CanReport cell.now.plan cell.now.cell (said (Report.Finish job machine at))) }
+    ensures first { IfErr result (IsFirstReason cell.now.plan cell.now.cell (said (Report.Finish job machine at))) }
 {
     check_job(cell, job, at)?;
     let Some(actual) = cell.machine_of(job) else {
@@ -61,8 +60,8 @@ fn check_cleaning<P: Planned>(
     machine: MachineNo,
     at: Moment,
 ) -> Result<(), ReportFault>
-    ensures possible { OnOk result (CanReport cell.now.plan cell.now.cell (record { ended = Cleaning machine; at = at })) }
-    ensures first { IfErr result (IsFirstReason cell.now.plan cell.now.cell (record { ended = Cleaning machine; at = at })) }
+    ensures possible { OnOk result (CanReport cell.now.plan cell.now.cell (said (Report.Clean machine at))) }
+    ensures first { IfErr result (IsFirstReason cell.now.plan cell.now.cell (said (Report.Clean machine at))) }
 {
     if machine >= cell.machine_count() {
         return Err(ReportFault::MachineOutOfRange);

@@ -1,16 +1,13 @@
-ghost use Rattle.std.specs.Prelude.{◌≡◌, ℕ, List, ◌+◌, ◌<◌, ◌≤◌, ◌↔◌, MatchOption, IfOk, IfErr, IsOk, IsTrue};
-ghost use Rattle.shop_base.specs.Plan.{jobs};
-ghost use Rattle.shop_base.specs.Cell.{cleaning, IsOn, IsFree};
-ghost use Rattle.shop_base.specs.Activity.{Cleaning, GoesOn};
+ghost use Rattle.std.specs.Prelude.{◌≡◌, List, ◌+◌, ◌↔◌, IfOk, IfErr, IsOk, IsTrue};
 ghost use Rattle.shop_base.specs.Report.{CanReport};
 ghost use Rattle.shop_base.specs.Run.{Event};
 ghost use Rattle.shop_base.specs.Ends.{stated_number, HasEnded};
 ghost use Rattle.shop_base.specs.ReportsLeft.{reports_left};
-ghost use Rattle.cell_control.specs.Control.{Control, at_start, IsAnswered, IsControl};
+ghost use Rattle.cell_control.specs.Control.{Control, at_start, IsAnswered, IfEndsNow, IsControl};
 ghost use Rattle.cell_control.specs.Reports.{IsFirstReason, IsOnlyReason};
 ghost use Rattle.cell_tables.specs.Reports.{said};
 ghost use Rattle.cell_control.specs.Promises.{IsCalled};
-ghost use Rattle.cell_control.specs.Readings.{IsPhase, IsDueOf};
+ghost use Rattle.cell_control.specs.Readings.{IsPhaseOf, IsJobOn, IsDueOf, IsDueOfCleaning};
 
 use crate::checking::check_report;
 use crate::due_moments::cleaning_key;
@@ -83,7 +80,7 @@ impl<D: Dues> Controller<D> {
         ensures only_reason { IfErr result (IsOnlyReason self.old.plan.planned self.old.cell (said report)) }
         ensures unchanged { IfErr result (λ fault. self.new ≡ self.old) }
         ensures called { (es : List Event) × IsCalled self.old (said report) es self.new }
-        ensures never_refused { (due : ℕ) → GoesOn self.old.plan.planned self.old.cell (said report).ended due → (said report).at ≡ self.old.cell.last → IsOk result }
+        ensures never_refused { IfEndsNow self.old (said report) (IsOk result) }
     {
         check_report(&self.cell, report)?;
         let ack = make_step(&mut self.cell, &mut self.dues, &mut self.orders, report);
@@ -103,8 +100,7 @@ impl<D: Dues> Controller<D> {
 
     /// Where the job is; none for a number that is no job's.
     pub fn phase(&self, job: JobNo) -> Option<Phase>
-        ensures { let p = self.now.plan.planned in
-            MatchOption result (jobs p ≤ job) (λ phase. (job < jobs p) × IsPhase p self.now.cell job phase) }
+        ensures { IsPhaseOf self.now.plan.planned self.now.cell job result }
     {
         if job < self.cell.job_count() {
             Some(phase_of(&self.cell, job))
@@ -115,8 +111,7 @@ impl<D: Dues> Controller<D> {
 
     /// The job that is on the machine, if one is; none for a number that is no machine's.
     pub fn holder(&self, machine: MachineNo) -> Option<JobNo>
-        ensures { let p = self.now.plan.planned in
-            MatchOption result (IsFree p self.now.cell machine) (λ job. (k : ℕ) × IsOn p self.now.cell job k machine) }
+        ensures { IsJobOn self.now.plan.planned self.now.cell machine result }
     {
         if machine < self.cell.machine_count() {
             self.cell.holder(machine)
@@ -138,7 +133,7 @@ impl<D: Dues> Controller<D> {
 
     /// When the machine's cleaning is due; none where it isn't being cleaned.
     pub fn clean_due(&self, machine: MachineNo) -> Option<Moment>
-        ensures { MatchOption result (cleaning self.now.cell machine ≡ None) (λ due. GoesOn self.now.plan.planned self.now.cell (Cleaning machine) due) }
+        ensures { IsDueOfCleaning self.now.plan.planned self.now.cell machine result }
     {
         if machine < self.cell.machine_count() {
             self.dues.get(cleaning_key(&self.cell, machine))

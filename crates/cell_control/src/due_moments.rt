@@ -5,6 +5,7 @@ ghost use Rattle.std.specs.Prelude.{◌≡◌, ◌+◌, ◌<◌, slice_set, leng
 ghost use Rattle.shop_base.specs.Plan.{jobs, machines};
 ghost use Rattle.shop_base.specs.Cell.{job_in, cleaning};
 ghost use Rattle.shop_base.specs.Movers.{due_of_job, due_of_cleaning};
+ghost use Rattle.cell_control.specs.Steps.{IsJobRenewed, IsMachineRenewed};
 
 use crate::dues::Dues;
 use cell_tables::WorkCell;
@@ -58,8 +59,7 @@ fn renew<D: Dues>(dues: &mut D, key: u32, due: Option<Moment>)
 pub(crate) fn renew_job<P: Planned, D: Dues>(cell: &WorkCell<P>, dues: &mut D, job: JobNo)
     requires job { job < jobs cell.now.plan }
     requires count { length (D.dues dues.old) ≡ jobs cell.now.plan + machines cell.now.plan }
-    ensures { let c = cell.now.cell in
-        D.dues dues.new ≡ slice_set (D.dues dues.old) job (due_of_job cell.now.plan job (job_in c job)) }
+    ensures { IsJobRenewed cell.now.plan cell.now.cell (D.dues dues.old) job (D.dues dues.new) }
 {
     let due = job_due(cell, job);
     renew(dues, job, due);
@@ -73,8 +73,7 @@ pub(crate) fn renew_machine<P: Planned, D: Dues>(
 )
     requires machine { machine < machines cell.now.plan }
     requires count { length (D.dues dues.old) ≡ jobs cell.now.plan + machines cell.now.plan }
-    ensures { let c = cell.now.cell in
-        D.dues dues.new ≡ slice_set (D.dues dues.old) (jobs cell.now.plan + machine) (due_of_cleaning cell.now.plan machine (cleaning c machine)) }
+    ensures { IsMachineRenewed cell.now.plan cell.now.cell (D.dues dues.old) machine (D.dues dues.new) }
 {
     let due = cleaning_due(cell, machine);
     renew(dues, cleaning_key(cell, machine), due);

@@ -1,10 +1,13 @@
 -- How the cells of a hub stand in its slots.
-use Rattle.std.specs.Prelude.{ℕ, map}
+use Rattle.std.specs.Prelude.{ℕ, map, IfSome}
 use Rattle.slab.specs.Slab.{Slab, entries}
+use Rattle.cell_tables.specs.declared.report.Report.{Report}
+use Rattle.cell_control.specs.declared.report.Ack.{Ack}
 use Rattle.cell_control.specs.Control.{Control}
 use Rattle.cell_hub.specs.declared.ticket.Ticket.{Ticket}
 use Rattle.cell_hub.specs.declared.slots.Placed.{Placed}
-use Rattle.cell_hub.specs.Hub.{HubState}
+use Rattle.cell_hub.specs.Hub.{HubState, cell_at}
+use Rattle.cell_hub.specs.Calls.{IsReported, IsDismissed}
 
 module _ {D : Type 0} where
   -- a cell of a slot with its ticket
@@ -14,3 +17,15 @@ module _ {D : Type 0} where
   -- what the fields of a hub stand for
   abbrev pub hub_of : Slab (Placed D) → ℕ → HubState
   hub_of cells next = record { held = map under_ticket (entries cells); next_serial = next }
+
+  -- this holds of the content of the ticket's cell, if it has one
+  abbrev pub IfCell : Slab (Placed D) → Ticket → (Control → Type 0) → Type 0
+  IfCell cells t Holds = (next : ℕ) → IfSome (cell_at (hub_of cells next) t) Holds
+
+  -- the controller of the ticket's cell answers the report, and the other cells stay as they are
+  abbrev pub IsReportedIn : Slab (Placed D) → Ticket → Report → Ack → Slab (Placed D) → Type 0
+  IsReportedIn old t r ack new = (next : ℕ) → IsReported (hub_of old next) t r ack (hub_of new next)
+
+  -- the ticket's cell is taken out with this content
+  abbrev pub IsDismissedFrom : Slab (Placed D) → Ticket → Control → Slab (Placed D) → Type 0
+  IsDismissedFrom old t content new = (next : ℕ) → IsDismissed (hub_of old next) t content (hub_of new next)

@@ -1,12 +1,12 @@
 //! The cells in their slots, each with the serial of its ticket.
 
-ghost use Rattle.std.specs.Prelude.{◌≡◌, ◌↔◌, ℕ, None, option_copied, IfOk, IfErr, IfSome, IsOk, OnOk, OnErr};
+ghost use Rattle.std.specs.Prelude.{◌≡◌, ◌↔◌, ℕ, None, option_copied, IfOk, IfErr, IsOk, OnOk, OnErr};
 ghost use Rattle.slab.specs.Slab.{HasRoomFor};
 ghost use Rattle.shop_base.specs.Report.{CanReport};
 ghost use Rattle.cell_tables.specs.Reports.{said};
 ghost use Rattle.cell_hub.specs.Hub.{cell_at};
-ghost use Rattle.cell_hub.specs.Slots.{hub_of};
-ghost use Rattle.cell_hub.specs.Calls.{IsReported, IsNotReported, EndsNow, IsDismissed};
+ghost use Rattle.cell_hub.specs.Slots.{hub_of, IfCell, IsReportedIn, IsDismissedFrom};
+ghost use Rattle.cell_hub.specs.Calls.{IsNotReported, EndsNow};
 
 use crate::hub_fault::HubFault;
 use crate::ticket::Ticket;
@@ -46,10 +46,10 @@ pub(crate) fn report_in<D: Dues>(
     ticket: Ticket,
     report: Report,
 ) -> Result<Ack, HubFault>
-    ensures reported { IfOk result (λ ack. (next : ℕ) → IsReported (hub_of cells.old next) ticket report ack (hub_of cells.new next)) }
+    ensures reported { IfOk result (λ ack. IsReportedIn cells.old ticket report ack cells.new) }
     ensures refused { IfErr result (λ fault. (next : ℕ) → IsNotReported (hub_of cells.old next) ticket report fault) }
-    ensures possible { (next : ℕ) → IfSome (cell_at (hub_of cells.old next) ticket) (λ c. IsOk result ↔ CanReport c.plan.planned c.cell (said report)) }
-    ensures never_refused { (next : ℕ) → IfSome (cell_at (hub_of cells.old next) ticket) (λ c. EndsNow c report → IsOk result) }
+    ensures possible { IfCell cells.old ticket (λ c. IsOk result ↔ CanReport c.plan.planned c.cell (said report)) }
+    ensures never_refused { IfCell cells.old ticket (λ c. EndsNow c report → IsOk result) }
     ensures unchanged { OnErr result (cells.new ≡ cells.old) }
 {
     if let Some(placed) = cells.get_mut(ticket.slot) {
@@ -68,7 +68,7 @@ pub(crate) fn take_from<D: Dues>(
     cells: &mut Slab<Placed<D>>,
     ticket: Ticket,
 ) -> Result<Controller<D>, HubFault>
-    ensures dismissed { IfOk result (λ content. (next : ℕ) → IsDismissed (hub_of cells.old next) ticket content (hub_of cells.new next)) }
+    ensures dismissed { IfOk result (λ content. IsDismissedFrom cells.old ticket content cells.new) }
     ensures none { OnErr result ((next : ℕ) → cell_at (hub_of cells.old next) ticket ≡ None) }
     ensures fault { IfErr result (λ fault. fault ≡ HubFault.NoSuchCell) }
     ensures unchanged { OnErr result (cells.new ≡ cells.old) }

@@ -2,5 +2,6 @@
 pub mod Events
 pub mod Moving
 pub mod PlannedCell
+pub mod Readings
 pub mod Reports
 pub mod Tables

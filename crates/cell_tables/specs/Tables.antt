@@ -1,5 +1,5 @@
 -- The cell in tables: what the rows stand for, and what a write of one row is.
-use Rattle.std.specs.Prelude.{◌≡◌, ℕ, suc, ◌<◌, ◌≤◌, List, [], ◌∷◌, length, take, slice_index_or, slice_set, None, Some}
+use Rattle.std.specs.Prelude.{◌≡◌, ℕ, suc, ◌<◌, ◌≤◌, List, [], ◌∷◌, length, take, slice_index_or, slice_set, Option, None, Some}
 use Rattle.shop_base.specs.declared.limits.TheConstants.{MAX_MOMENT}
 use Rattle.shop_base.specs.declared.job_state.JobState.{JobState}
 use Rattle.shop_base.specs.Plan.{PlannedShop, jobs, machines, order, IsWellShaped}
@@ -59,3 +59,7 @@ pub record IsMachinePut (old : Tables) (m : ℕ) (row : MachineRow) (at : ℕ) (
   pub jobs : new.jobs.items ≡ old.jobs.items
   pub machines : new.machines.items ≡ slice_set old.machines.items m row
   pub last : new.last ≡ at
+
+-- so was the cleaning of machine m: since when it is being cleaned, if it is
+abbrev pub IsCleaningPut : Tables → ℕ → Option ℕ → ℕ → Tables → Type 0
+IsCleaningPut old m from at new = IsMachinePut old m (record { entered = entered_at old m; cleaning = from }) at new

@@ -1,9 +1,9 @@
 //! Where the jobs of the cell are, and which can move.
 
-ghost use Rattle.std.specs.Prelude.{◌≡◌, ◌-◌, ◌<◌, ◌≤◌, ◌↔◌, ◌⊎◌, length, MatchOption, IsTrue, None};
-ghost use Rattle.shop_base.specs.Plan.{jobs, machines, order, job_at, Visits, Stands};
-ghost use Rattle.shop_base.specs.Cell.{made, entries, cleaning, IsOutside, IsOn, IsGone, IsFree};
-ghost use Rattle.shop_base.specs.Move.{CanEnter, CanMove, KeepsPlan};
+ghost use Rattle.std.specs.Prelude.{◌≡◌, ◌-◌, ◌<◌, ◌≤◌, ◌↔◌, length, IsTrue, None};
+ghost use Rattle.shop_base.specs.Plan.{jobs, machines, order, Visits};
+ghost use Rattle.shop_base.specs.Cell.{made, entries, cleaning, IsOn, IsFree};
+ghost use Rattle.cell_tables.specs.Readings.{IsMachineOf, IsHolder, IsNextOn, EntersNext, CanMoveNow};
 
 use crate::work_cell::WorkCell;
 use shop_base::{JobNo, MachineNo, Planned};
@@ -12,8 +12,7 @@ impl<P: Planned> WorkCell<P> {
     /// The machine that the job is on; none where it is outside or gone.
     pub fn machine_of(&self, job: JobNo) -> Option<MachineNo>
         requires { job < jobs self.now.plan }
-        ensures { let c = self.now.cell in
-            MatchOption result (IsOutside c job ⊎ IsGone self.now.plan c job) (IsOn self.now.plan c job (made c job - 1)) }
+        ensures { IsMachineOf self.now.plan self.now.cell job result }
     {
         let made = self.job_state(job).made;
         if made == 0 {
@@ -25,8 +24,7 @@ impl<P: Planned> WorkCell<P> {
     /// The job that is on the machine.
     pub fn holder(&self, machine: MachineNo) -> Option<JobNo>
         requires { machine < machines self.now.plan }
-        ensures { let c = self.now.cell in
-            MatchOption result (IsFree self.now.plan c machine) (λ job. IsOn self.now.plan c job (made c job - 1) machine) }
+        ensures { IsHolder self.now.plan self.now.cell machine result }
     {
         let _plan = self.shaped();
         let entered = self.entered(machine);
@@ -64,8 +62,7 @@ impl<P: Planned> WorkCell<P> {
     /// The job that is to enter the machine next, none where all jobs of its order have entered it.
     pub fn next_on(&self, machine: MachineNo) -> Option<JobNo>
         requires { machine < machines self.now.plan }
-        ensures { let n = length (entries self.now.cell machine) in let o = order self.now.plan machine in
-            MatchOption result (length o ≤ n) (λ job. (n < length o) × (job_at self.now.plan machine n ≡ job)) }
+        ensures { IsNextOn self.now.plan self.now.cell machine result }
     {
         let entered = self.entered(machine);
         self.order_of(machine).get(entered as usize).copied()
@@ -74,8 +71,7 @@ impl<P: Planned> WorkCell<P> {
     /// Whether the job, which visits the machine next, can enter it and keep the plan.
     fn admits(&self, job: JobNo, machine: MachineNo) -> bool
         requires { Visits self.now.plan job (made self.now.cell job) machine }
-        ensures { let c = self.now.cell in
-            IsTrue result ↔ (CanEnter self.now.plan c job machine × Stands self.now.plan machine (length (entries c machine)) job (made c job)) }
+        ensures { IsTrue result ↔ EntersNext self.now.plan self.now.cell job machine }
     {
         let _plan = self.shaped();
         self.is_clear(machine) && self.next_on(machine) == Some(job)
@@ -95,7 +91,7 @@ impl<P: Planned> WorkCell<P> {
     /// Whether the job can move at the last moment and keep the plan.
     pub fn can_move(&self, job: JobNo) -> bool
         requires { job < jobs self.now.plan }
-        ensures { let c = self.now.cell in IsTrue result ↔ (CanMove self.now.plan c job c.last × KeepsPlan self.now.plan c job) }
+        ensures { IsTrue result ↔ CanMoveNow self.now.plan self.now.cell job }
     {
         let _plan = self.shaped();
         let state = self.job_state(job);

@@ -1,10 +1,10 @@
 //! The tables of a cell: a row for each job and for each machine, and the writes of one row.
 
-ghost use Rattle.std.specs.Prelude.{◌≡◌, ◌+◌, ◌<◌, ◌≤◌, length, replicate, vec_capacity, slice_index_or, true, false, None, Some, IfOk};
+ghost use Rattle.std.specs.Prelude.{◌≡◌, ◌<◌, ◌≤◌, length, replicate, vec_capacity, slice_index_or, true, false, IfOk};
 ghost use Rattle.shop_base.specs.declared.limits.TheConstants.{MAX_MOMENT};
 ghost use Rattle.shop_base.specs.Cell.{absent, start};
 ghost use Rattle.shop_base.specs.Move.{after_leaving};
-ghost use Rattle.cell_tables.specs.Tables.{cell_of, no_row, row_at, entered_at, AreTables, IsJobPut, IsMachinePut};
+ghost use Rattle.cell_tables.specs.Tables.{cell_of, no_row, AreTables, IsJobPut, IsCleaningPut};
 ghost use Rattle.cell_tables.specs.Moving.{IsSpotOf, HasRoom, IsEntered};
 
 use shop_base::limits::MAX_JOBS;
@@ -68,7 +68,7 @@ impl Tables {
         last: Moment,
     )
         requires { machine < length self.old.machines.items }
-        ensures { IsMachinePut self.old machine (record { entered = entered_at self.old machine; cleaning = cleaning }) last self.new }
+        ensures { IsCleaningPut self.old machine cleaning last self.new }
     {
         self.machines[machine as usize].cleaning = cleaning;
         self.last = last;

@@ -1,5 +1,5 @@
 -- What loading the plans of several cells comes to.
-use Rattle.std.specs.Prelude.{◌≡◌, ◌⊎◌, ◌++◌, ◌∷◌, [], ℕ, List, Option, Result, Ok, Err, length, codes, decimal}
+use Rattle.std.specs.Prelude.{◌≡◌, ◌⊎◌, ◌++◌, ◌∷◌, [], ℕ, List, map, Option, Result, Ok, Err, String, string_bytes, length, codes, decimal}
 use Rattle.plan_verifier.specs.Accepted.{VerifiedPlan}
 use Rattle.command_answers.specs.declared.answer.Answer.{Answer}
 use Rattle.command_answers.specs.declared.cells.Cells.{Cells}
@@ -30,6 +30,10 @@ AreAccepted cells (Err fault) = ⊥
 abbrev pub AfterPlan : {W : Type 0} → List VerifiedPlan → (List VerifiedPlan → W → Result Cells CommandFault → W → Type 0) → Result VerifiedPlan Loaded → W → Result Cells CommandFault → W → Type 0
 AfterPlan cells rest (Ok v) before outcome after = rest (cells ++ v ∷ []) before outcome after ⊎ ((outcome ≡ Err Memory) × (after ≡ before))
 AfterPlan cells rest (Err other) before outcome after = IsCellLine (length cells) other outcome × (after ≡ before)
+
+-- the paths, each as its bytes
+abbrev pub paths_of : {A : Type 0} → List (String A) → List (List ℕ)
+paths_of paths = map string_bytes paths
 
 module _ {W : Type 0} (gives : W → List ℕ → Result (List ℕ) CommandFault → W → Type 0) where
   -- the instance is read from its text, and then the plan's file is asked for

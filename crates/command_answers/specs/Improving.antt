@@ -1,15 +1,16 @@
 -- The answers of the command `improve`.
-use Rattle.std.specs.Prelude.{◌≡◌, ◌<◌, ◌≤◌, ◌⊎◌, ℕ, Option, Some, None, Result, Ok, Err, codes}
+use Rattle.std.specs.Prelude.{◌≡◌, ◌<◌, ◌≤◌, ◌⊎◌, ℕ, List, Option, Some, None, Result, Ok, Err, codes}
 use Rattle.shop_base.specs.Plan.{PlannedShop, IsWellShaped}
 use Rattle.plan_text.specs.declared.plan_fault.PlanFault.TheVariants.{NotReadBack}
 use Rattle.plan_text.specs.Lines.{plan_lines}
 use Rattle.plan_text.specs.Documents.{IsPlanText}
 use Rattle.plan_verifier.specs.Accepted.{HasNoCycle, IsAcceptable}
+use Rattle.plan_seek.specs.Orders.{Proposal}
 use Rattle.plan_seek.specs.declared.search.TheConstants.{MAX_ROUNDS}
 use Rattle.plan_improve.specs.declared.improve_fault.ImproveFault.{ImproveFault}
 use Rattle.plan_improve.specs.declared.improve_fault.ImproveFault.TheVariants.{TooManyRounds, Memory as WantOfMemory}
 use Rattle.plan_improve.specs.Reordered.{IsReordered}
-use Rattle.plan_improve.specs.Runs.{Asked}
+use Rattle.plan_improve.specs.Runs.{Asked, AfterRounds}
 use Rattle.plan_improve.specs.Improved.{IsFound, IsNeverWorse}
 use Rattle.command_answers.specs.declared.answer.Answer.{Answer}
 use Rattle.command_answers.specs.declared.command_fault.CommandFault.{CommandFault}
@@ -17,6 +18,10 @@ use Rattle.command_answers.specs.declared.command_fault.CommandFault.TheVariants
 use Rattle.command_answers.specs.Documents.{IsDocumentOf}
 use Rattle.command_answers.specs.Shapes.{IsNotShapedLine}
 use Rattle.command_answers.specs.Steps.{IsOrMemory}
+
+-- what so many rounds of questions to these improvers make of a plan
+abbrev pub RoundsOf : {B : Type 0} → ℕ → (B → PlannedShop → ℕ → Proposal → Type 0) → List B → Asked
+RoundsOf rounds may improvers = λ p. AfterRounds may improvers p rounds
 
 -- the best plan that is met: only the orders may differ, no cycle, never worse, just what the questions make of the start, and accepted if the start is
 pub record IsBest (made : Asked) (start best : PlannedShop) : Type 0 where

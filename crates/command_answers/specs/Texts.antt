@@ -1,5 +1,5 @@
 -- Files that are asked for.
-use Rattle.std.specs.Prelude.{ℕ, List, Result, Ok, Err, Vec}
+use Rattle.std.specs.Prelude.{ℕ, ◌<◌, List, length, Result, Ok, Err, Vec}
 use Rattle.std.specs.declared.alloc.Global.{Global}
 use Rattle.command_answers.specs.declared.command_fault.CommandFault.{CommandFault}
 use Rattle.command_answers.specs.declared.command_fault.CommandFault.TheVariants.{Read, InputTooLong, Memory}
@@ -7,6 +7,10 @@ use Rattle.command_answers.specs.declared.command_fault.CommandFault.TheVariants
 -- the most bytes of a file or of the input: 64 MiB
 abbrev pub most_bytes : ℕ
 most_bytes = 67108864
+
+-- more bytes than that
+abbrev pub AreTooMany : List ℕ → Type 0
+AreTooMany bytes = most_bytes < length bytes
 
 -- the bytes of a text that came, or why there are none
 abbrev pub text_of : {F : Type 0} → Result (Vec ℕ Global) F → Result (List ℕ) F

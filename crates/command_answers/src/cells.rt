@@ -1,9 +1,8 @@
 //! The plans of the command `hub`.
 
-ghost use Rattle.std.specs.Prelude.{[], map};
+ghost use Rattle.std.specs.Prelude.{[]};
 ghost use Rattle.std.specs.Option.{option_copied};
-ghost use Rattle.std.specs.String.{string_bytes};
-ghost use Rattle.command_answers.specs.Cells.{IsCellLine, LoadsOne, LoadsEach, LoadsCells};
+ghost use Rattle.command_answers.specs.Cells.{IsCellLine, paths_of, LoadsOne, LoadsEach, LoadsCells};
 
 use crate::answer::{Answer, Outcome};
 use crate::both::Both;
@@ -33,8 +32,7 @@ pub fn load_cells<T: Texts>(
     name: Option<&[u8]>,
     plans: &[String],
 ) -> Outcome<Cells>
-    ensures { LoadsCells T.gives path.now (option_copied name.entry) (map string_bytes plans.now)
-        texts.old result texts.new }
+    ensures { LoadsCells T.gives path.now (option_copied name.entry) (paths_of plans.now) texts.old result texts.new }
 {
     let text = texts.text(alloc, path)?;
     load_each(alloc, texts, &text, name, plans)
@@ -48,8 +46,7 @@ fn load_each<T: Texts>(
     name: Option<&[u8]>,
     plans: &[String],
 ) -> Outcome<Cells>
-    ensures { LoadsEach T.gives text.now (option_copied name.entry) [] (map string_bytes plans.now)
-        texts.old result texts.new }
+    ensures { LoadsEach T.gives text.now (option_copied name.entry) [] (paths_of plans.now) texts.old result texts.new }
 {
     let mut cells = Vec::new(alloc);
     for path in plans {

@@ -1,6 +1,6 @@
 //! The command `facts`.
 
-ghost use Rattle.std.specs.Prelude.{◌≡◌, ◌+◌, IfOk};
+ghost use Rattle.std.specs.Prelude.{◌≡◌, IfOk};
 ghost use Rattle.std.specs.Option.{option_copied};
 ghost use Rattle.command_answers.specs.Facts.{facts_line};
 ghost use Rattle.command_answers.specs.Readings.{AreFactsAnswered};

@@ -1,10 +1,9 @@
 //! The command `improve`.
 
-ghost use Rattle.plan_improve.specs.Runs.{AfterRounds};
 ghost use Rattle.plan_improve.specs.Improved.{judged};
 ghost use Rattle.command_answers.specs.Checks.{verdict_status};
 ghost use Rattle.command_answers.specs.Documents.{IsDocumentAnswer};
-ghost use Rattle.command_answers.specs.Improving.{IsBestAnswer, IsUnimprovedAnswer};
+ghost use Rattle.command_answers.specs.Improving.{RoundsOf, IsBestAnswer, IsUnimprovedAnswer};
 ghost use Rattle.command_answers.specs.Commands.{RunsImprove};
 
 use crate::answer::{Answered, GOOD, REFUSED};
@@ -28,8 +27,7 @@ pub fn improve_answer<T: Texts, W: Watch>(
     rounds: u32,
     watch: &mut W,
 ) -> Answered
-    ensures { RunsImprove T.gives (λ p. AfterRounds (λ b. may b) improvers.now p rounds) rounds pair.now
-        texts.old result texts.new }
+    ensures { RunsImprove T.gives (RoundsOf rounds (λ b. may b) improvers.now) rounds pair.now texts.old result texts.new }
 {
     match read_both(alloc, texts, pair)?.shaped() {
         Ok(start) => best_answer(alloc, start, improvers, rounds, watch),
@@ -45,7 +43,7 @@ fn best_answer<W: Watch>(
     rounds: u32,
     watch: &mut W,
 ) -> Answered
-    ensures { IsBestAnswer (λ p. AfterRounds (λ b. may b) improvers.now p rounds) rounds start result }
+    ensures { IsBestAnswer (RoundsOf rounds (λ b. may b) improvers.now) rounds start result }
 {
     match improve(alloc, start, improvers, rounds, watch) {
         Ok(verdict) => verdict_answer(alloc, &verdict),

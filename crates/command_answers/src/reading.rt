@@ -1,9 +1,9 @@
 //! Files, read whole.
 
-ghost use Rattle.std.specs.Prelude.{◌≡◌, ◌<◌, ◌≤◌, IfOk, IfErr, IfSome, IsErrAnd, length, vec_len};
+ghost use Rattle.std.specs.Prelude.{◌≡◌, ◌<◌, ◌≤◌, IfOk, IfErr, IfSome, IsErrAnd, vec_len};
 ghost use Rattle.command_answers.specs.declared.command_fault.CommandFault.TheVariants.{InputTooLong};
 ghost use Rattle.command_answers.specs.Reading.{IsFaultOfSystem};
-ghost use Rattle.command_answers.specs.Texts.{most_bytes, IsFileFault};
+ghost use Rattle.command_answers.specs.Texts.{most_bytes, AreTooMany, IsFileFault};
 
 use crate::answer::Outcome;
 use crate::command_fault::CommandFault;
@@ -16,8 +16,7 @@ pub fn read_whole<R: Read + Drop>(alloc: Global, reader: R) -> Outcome<Vec<u8>>
     ensures within { IfOk result (λ bytes. vec_len bytes ≤ most_bytes) }
     ensures whole { IfOk result (λ bytes. IfSome (R.remaining reader) (λ all. bytes.items ≡ all)) }
     ensures fault { IfErr result IsFileFault }
-    ensures too_long { IfErr result (λ fault. fault ≡ InputTooLong
-        → IfSome (R.remaining reader) (λ all. most_bytes < length all)) }
+    ensures too_long { IfErr result (λ fault. fault ≡ InputTooLong → IfSome (R.remaining reader) AreTooMany) }
 {
     let mut bytes = Vec::new(alloc);
     let mut limited = reader.take(MAX_INPUT as u64 + 1);

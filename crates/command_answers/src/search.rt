@@ -3,7 +3,7 @@
 ghost use Rattle.std.specs.Prelude.{length};
 ghost use Rattle.plan_seek.specs.Turns.{MayPropose};
 ghost use Rattle.command_answers.specs.Search.{IsSearchAnswer, IsNoPlanAnswer};
-ghost use Rattle.command_answers.specs.Commands.{RunsPlan};
+ghost use Rattle.command_answers.specs.Commands.{RunsPlanWith};
 
 use crate::answer::{Answered, GOOD, REFUSED};
 use crate::both::{Both, Pair, read_both};
@@ -23,8 +23,7 @@ pub fn plan_answer<T: Texts>(
     proposers: &[Box<dyn Proposer>],
     rounds: u32,
 ) -> Answered
-    ensures { RunsPlan T.gives (λ shop. MayPropose (λ b. may b shop) proposers.now) rounds (length proposers.now)
-        pair.now texts.old result texts.new }
+    ensures { RunsPlanWith T.gives (λ b. may b) proposers.now rounds pair.now texts.old result texts.new }
 {
     let both = read_both(alloc, texts, pair)?;
     search_answer(alloc, both, proposers, rounds)

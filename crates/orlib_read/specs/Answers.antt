@@ -13,6 +13,10 @@ abbrev pub IsRead : Result Named OrFault → List ℕ → JobShop → Type 0
 IsRead (Ok named) description shop = (named.description.items ≡ description) × (named.shop ≡ shop)
 IsRead (Err fault) description shop = fault ≡ Memory
 
+-- each description and shop of which this holds is the answer, unless memory ran out
+abbrev pub ReadsEach : Result Named OrFault → (List ℕ → JobShop → Type 0) → Type 0
+ReadsEach answer Is = (description : List ℕ) (shop : JobShop) → Is description shop → IsRead answer description shop
+
 -- the answer is this fault, unless memory ran out
 abbrev pub IsRefused : Result Named OrFault → OrFault → Type 0
 IsRefused (Ok named) fault = ⊥

@@ -21,3 +21,7 @@ raw_left lines = numbered_from (lines.before + 1) (lines_of lines.rest.now)
 -- the lines that are left, without filler
 unfoldable pub lines_left : Lines → List NumberedLine
 lines_left lines = left_of lines.in_section (raw_left lines)
+
+-- what was read, seen by view, and the lines that are left behind it
+abbrev pub with_left : {X Y : Type 0} → (X → Y) → X × Lines → Y × List NumberedLine
+with_left view read = (view read.0, lines_left read.1)

@@ -1,5 +1,5 @@
 -- Reading the lines of an instance from the front, with the first fault that is met.
-use Rattle.std.specs.Prelude.{◌≡◌, ◌≢◌, ℕ, zero, suc, ◌+◌, Bool, false, if◌then◌else◌, List, [], ◌∷◌, length, codes, Option, Some, None, option_map, option_and_then, is_some, Result, Ok, Err}
+use Rattle.std.specs.Prelude.{◌≡◌, ◌≢◌, ℕ, zero, suc, ◌+◌, Bool, false, if◌then◌else◌, List, [], ◌∷◌, length, codes, Option, Some, None, option_map, option_and_then, is_some, MatchOption, Result, Ok, Err}
 use Rattle.std.specs.Str.{bytes_eq}
 use Rattle.shop_base.specs.declared.shop.Step.{Step}
 use Rattle.orlib_read.specs.declared.or_fault.OrFault.{OrFault}
@@ -16,6 +16,10 @@ abbrev pub ◌>>=◌ : {A B : Type 0} → Result A OrFault → (A → Result B O
 abbrev pub GivesExactly : {X Y : Type 0} → (X → Y) → Result X OrFault → Result Y OrFault → Type 0
 GivesExactly view (Ok x) reading = reading ≡ Ok (view x)
 GivesExactly view (Err fault) reading = reading ≡ Err fault
+
+-- what was found, seen by view, is what there is
+abbrev pub Finds : {X Y : Type 0} → (X → Y) → Option X → Option Y → Type 0
+Finds view found there = MatchOption found (there ≡ None) (λ x. there ≡ Some (view x))
 
 -- the fault that a function answered is the one that reading meets, unless memory ran out
 abbrev pub Fails : {Y : Type 0} → OrFault → Result Y OrFault → Type 0

@@ -1,15 +1,14 @@
 //! The kinds of lines that are told apart: instance lines and size lines.
 
-ghost use Rattle.std.specs.Prelude.{◌≡◌, Some, None, is_some, MatchOption};
+ghost use Rattle.std.specs.Prelude.{◌≡◌, is_some};
 ghost use Rattle.orlib_read.specs.Words.{words_of};
-ghost use Rattle.orlib_read.specs.Reading.{name_of, is_name, sizes_of};
+ghost use Rattle.orlib_read.specs.Reading.{Finds, name_of, is_name, sizes_of};
 
 use crate::words::{next_word, number_of};
 
 /// The name on an instance line, none on another line.
 pub(crate) fn name_of(line: &[u8]) -> Option<&[u8]>
-    ensures { MatchOption result (name_of (words_of line.now) ≡ None)
-        (λ name. name_of (words_of line.now) ≡ Some name.now) }
+    ensures { Finds (λ name. name.now) result (name_of (words_of line.now)) }
 {
     let (word, rest) = next_word(line)?;
     let (name, rest) = next_word(rest)?;

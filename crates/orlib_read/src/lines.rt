@@ -1,8 +1,9 @@
 //! The lines of a text, from the front.
 
-ghost use Rattle.std.specs.Prelude.{◌≡◌, ◌∷◌, [], ◌+◌, ◌<◌, ◌^◌, false, Some, None, length, IfSome, MatchOption};
+ghost use Rattle.std.specs.Prelude.{◌≡◌, ◌+◌, ◌<◌, ◌^◌, false, length, IfSome};
+ghost use Rattle.text_lines.specs.Searches.{GivesFirst};
 ghost use Rattle.orlib_read.specs.Kinds.{told_lines};
-ghost use Rattle.orlib_read.specs.Reading.{before_title, section_of};
+ghost use Rattle.orlib_read.specs.Reading.{Finds, before_title, section_of};
 
 use crate::kinds::{is_instance_line, is_named};
 use crate::words::is_filler;
@@ -42,8 +43,7 @@ impl<'a> Lines<'a> {
 
     /// The lines of the section that begins after the first instance line of this name.
     pub(crate) fn of_section(text: &'a [u8], name: &[u8]) -> Option<Lines<'a>>
-        ensures { MatchOption result (section_of name.now (told_lines text.now) ≡ None)
-            (λ lines. section_of name.now (told_lines text.now) ≡ Some (lines_left lines)) }
+        ensures { Finds lines_left result (section_of name.now (told_lines text.now)) }
     {
         let mut lines = Lines::of(text);
         while let Some((line, rest)) = lines.next_told() {
@@ -68,8 +68,7 @@ impl<'a> Lines<'a> {
     }
 
     fn next_line(self) -> Option<(Line<'a>, Lines<'a>)>
-        ensures line { MatchOption result (raw_left self.entry ≡ [])
-            (λ found. raw_left self.entry ≡ numbered_line found.0 ∷ raw_left found.1) }
+        ensures line { GivesFirst numbered_line raw_left result (raw_left self.entry) }
         ensures same { IfSome result (λ found. found.1.in_section ≡ self.entry.in_section) }
     {
         let (bytes, rest) = next_line(self.rest)?;
@@ -87,8 +86,7 @@ impl<'a> Lines<'a> {
 
     /// The next line that isn't filler, and the lines after it.
     pub(crate) fn next_told(self) -> Option<(Line<'a>, Lines<'a>)>
-        ensures line { MatchOption result (lines_left self.entry ≡ [])
-            (λ found. lines_left self.entry ≡ numbered_line found.0 ∷ lines_left found.1) }
+        ensures line { GivesFirst numbered_line lines_left result (lines_left self.entry) }
         ensures same { IfSome result (λ found. found.1.in_section ≡ self.entry.in_section) }
     {
         let mut lines = self;

@@ -1,13 +1,13 @@
 //! The readers of instance texts.
 
-ghost use Rattle.std.specs.Prelude.{◌≡◌, ◌≢◌, List, ℕ, Result, IfOk, IfErr, OnOk};
-ghost use Rattle.shop_base.specs.Shop.{JobShop, IsShop};
+ghost use Rattle.std.specs.Prelude.{◌≡◌, ◌≢◌, Result, IfOk, IfErr, OnOk};
+ghost use Rattle.shop_base.specs.Shop.{IsShop};
 ghost use Rattle.shop_base.specs.Vectors.{lists_of};
 ghost use Rattle.orlib_read.specs.declared.or_fault.OrFault.{OrFault};
 ghost use Rattle.orlib_read.specs.Kinds.{told_lines};
 ghost use Rattle.orlib_read.specs.Instance.{IsInstance, IsInstanceOf};
 ghost use Rattle.orlib_read.specs.Faults.{IsInstanceFault, IsInstanceOfFault};
-ghost use Rattle.orlib_read.specs.Answers.{IsRead, IsRefused, Answers};
+ghost use Rattle.orlib_read.specs.Answers.{ReadsEach, IsRefused, Answers};
 ghost use Rattle.orlib_read.specs.Reading.{Content, Gives, instance_at, section_at};
 ghost use Rattle.orlib_read.specs.Views.{content_of, IsShopFault};
 
@@ -26,7 +26,7 @@ use std::alloc::Global;
 pub fn read_instance(alloc: Global, text: &[u8]) -> Result<Named, OrFault>
     // What is read is the text's instance, and the text's instance is read.
     ensures found { IfOk result (λ named. IsInstance text.now named.description.items named.shop) }
-    ensures only { (description : List ℕ) (shop : JobShop) → IsInstance text.now description shop → IsRead result description shop }
+    ensures only { ReadsEach result (IsInstance text.now) }
 
     // A fault is what is wrong first, and what is wrong first is the fault.
     ensures fault { IfErr result (λ fault. fault ≢ OrFault.Memory → IsInstanceFault text.now fault) }
@@ -40,7 +40,7 @@ pub fn read_instance(alloc: Global, text: &[u8]) -> Result<Named, OrFault>
 pub fn read_from_collection(alloc: Global, text: &[u8], name: &[u8]) -> Result<Named, OrFault>
     // What is read is the instance of that name, and the instance of that name is read.
     ensures found { IfOk result (λ named. IsInstanceOf text.now name.now named.description.items named.shop) }
-    ensures only { (description : List ℕ) (shop : JobShop) → IsInstanceOf text.now name.now description shop → IsRead result description shop }
+    ensures only { ReadsEach result (IsInstanceOf text.now name.now) }
 
     // A fault is what is wrong first, and what is wrong first is the fault.
     ensures fault { IfErr result (λ fault. fault ≢ OrFault.Memory → IsInstanceOfFault text.now name.now fault) }

@@ -1,9 +1,10 @@
 //! One instance, line by line.
 
-ghost use Rattle.std.specs.Prelude.{◌≡◌, ◌∷◌, [], ◌+◌, ◌<◌, ◌^◌, MatchOption};
+ghost use Rattle.std.specs.Prelude.{◌+◌, ◌<◌, ◌^◌};
 ghost use Rattle.shop_base.specs.Vectors.{lists_of};
+ghost use Rattle.text_lines.specs.Searches.{GivesFirst};
 ghost use Rattle.orlib_read.specs.Words.{words_of};
-ghost use Rattle.orlib_read.specs.Cursor.{numbered_line, lines_left};
+ghost use Rattle.orlib_read.specs.Cursor.{numbered_line, lines_left, with_left};
 ghost use Rattle.orlib_read.specs.Reading.{Gives, GivesExactly, without_titles, head_at, step_at, steps_at, route_at, jobs_at, draft_at};
 ghost use Rattle.orlib_read.specs.Views.{head_of, content_of};
 
@@ -17,8 +18,7 @@ use std::alloc::{AllocError, Global};
 
 /// The next line that isn't an instance line, and the lines after it.
 fn first_line<'a>(lines: Lines<'a>) -> Option<(Line<'a>, Lines<'a>)>
-    ensures { MatchOption result (without_titles (lines_left lines.entry) ≡ [])
-        (λ found. without_titles (lines_left lines.entry) ≡ numbered_line found.0 ∷ lines_left found.1) }
+    ensures { GivesFirst numbered_line lines_left result (without_titles (lines_left lines.entry)) }
 {
     let mut left = lines;
     while let Some((line, rest)) = left.next_told() {
@@ -32,7 +32,7 @@ fn first_line<'a>(lines: Lines<'a>) -> Option<(Line<'a>, Lines<'a>)>
 
 #[tactic(auto, unfolding(crate::specs::Reading::head_at))]
 fn read_head<'a>(lines: Lines<'a>) -> Result<(Head<'a>, Lines<'a>), OrFault>
-    ensures { GivesExactly (λ read. (head_of read.0, lines_left read.1)) result (head_at (without_titles (lines_left lines.entry))) }
+    ensures { GivesExactly (with_left head_of) result (head_at (without_titles (lines_left lines.entry))) }
 {
     let Some((first, lines)) = first_line(lines) else {
         return Err(OrFault::NoSizes);
@@ -118,7 +118,7 @@ fn read_jobs<'a>(
     jobs: u32,
     lines: Lines<'a>,
 ) -> Result<(Vec<Vec<Step>>, Lines<'a>), OrFault>
-    ensures { Gives (λ read. (lists_of read.0.items, lines_left read.1)) result (jobs_at 0 jobs (lines_left lines.entry)) }
+    ensures { Gives (with_left (λ routes. lists_of routes.items)) result (jobs_at 0 jobs (lines_left lines.entry)) }
 {
     let mut routes = Vec::new(alloc);
     let mut left = lines;
@@ -138,7 +138,7 @@ pub(crate) fn read_draft<'a>(
     alloc: Global,
     lines: Lines<'a>,
 ) -> Result<(Draft<'a>, Lines<'a>), OrFault>
-    ensures { Gives (λ read. (content_of read.0, lines_left read.1)) result (draft_at (lines_left lines.entry)) }
+    ensures { Gives (with_left content_of) result (draft_at (lines_left lines.entry)) }
 {
     let (head, lines) = read_head(lines)?;
     let (routes, lines) = read_jobs(alloc, head.jobs, lines)?;

@@ -1,7 +1,8 @@
 //! The words of a line, and the numbers among them.
 
-ghost use Rattle.std.specs.Prelude.{◌≡◌, ◌∷◌, [], ◌<◌, ℕ, Bool, Some, length, not, ◌||◌, position, IfSome, MatchOption};
+ghost use Rattle.std.specs.Prelude.{◌≡◌, ◌<◌, ℕ, Bool, length, not, ◌||◌, position, IfSome};
 ghost use Rattle.std.specs.List.{before_first, after_first, list_all};
+ghost use Rattle.text_lines.specs.Searches.{GivesFirst};
 ghost use Rattle.orlib_read.specs.Words.{is_blank, words_of, number_of};
 ghost use Rattle.orlib_read.specs.Kinds.{is_plus};
 
@@ -41,8 +42,7 @@ fn split_around(bytes: &[u8], place: Option<usize>) -> (&[u8], &[u8])
 
 /// The next word and the bytes after it, none where only blanks are left.
 pub(crate) fn next_word(line: &[u8]) -> Option<(&[u8], &[u8])>
-    ensures word { MatchOption result (words_of line.now ≡ [])
-        (λ found. words_of line.now ≡ found.0.now ∷ words_of found.1.now) }
+    ensures word { GivesFirst (λ word. word.now) (λ rest. words_of rest.now) result (words_of line.now) }
     ensures shorter { IfSome result (λ found. length found.1.now < length line.now) }
 {
     let start = word_start(line)?;

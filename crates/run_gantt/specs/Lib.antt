@@ -4,3 +4,4 @@ pub mod GanttText
 -- Of proofs and private contracts alone.
 pub mod VisitEnds
 pub mod LinkedVisits
+pub mod Pushing

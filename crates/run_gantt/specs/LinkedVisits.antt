@@ -1,7 +1,9 @@
 -- The visits to all machines in one table, in which those to a machine follow each other.
 use Rattle.std.specs.Prelude.{◌≡◌, ℕ, zero, suc, ◌<◌, List, [], ◌∷◌, length, map, slice_index_or, Option, None, Some}
+use Rattle.cell_tables.specs.declared.entry.Entry.{Entry}
 use Rattle.run_gantt.specs.declared.visit.Visit.{Visit}
 use Rattle.run_gantt.specs.declared.visits.LinkedVisit.{LinkedVisit}
+use Rattle.run_gantt.specs.Visits.{machine_visits}
 
 -- a visit that has no other behind it
 abbrev pub no_visit : LinkedVisit
@@ -34,3 +36,7 @@ AreLinked table first (visit ∷ visits) =
 pub record AreAllLinked (table : List LinkedVisit) (first : List (Option ℕ)) : Type 0 where
   pub chains : (m : ℕ) → m < length first
       → AreLinked table (slice_index_or first m None) (linked_from table (length table) (slice_index_or first m None))
+
+-- if the one rows are the visits that the later entries tell, the others are those that the entry tells with them
+abbrev pub AreVisitsBefore : List (List Visit) → Entry → List Entry → List (List Visit) → Type 0
+AreVisitsBefore old entry later new = (n : ℕ) → old ≡ machine_visits n later → new ≡ machine_visits n (entry ∷ later)

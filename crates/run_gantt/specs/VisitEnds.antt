@@ -15,6 +15,10 @@ pub record IsPlace (size j m place : ℕ) : Type 0 where
   pub index : place ≡ j * MAX_MACHINES + m
   pub within : place < size
 
+-- a table of this size has none
+abbrev pub HasNoPlace : ℕ → ℕ → ℕ → Type 0
+HasNoPlace size j m = m < MAX_MACHINES → j * MAX_MACHINES + m < size → ⊥
+
 -- each place of the table has what the entries tell of its job and machine
 pub record AreVisitEnds (ends : List VisitEnd) (entries : List Entry) : Type 0 where
   pub told : (j m place : ℕ) → IsPlace (length ends) j m place → slice_index_or ends place no_end ≡ visit_end j m entries

@@ -1,9 +1,10 @@
 //! The bar of a machine: which job is on it, in columns of equal length.
 
-ghost use Rattle.std.specs.Prelude.{◌≡◌, ◌≢◌, ℕ, ◌*◌, ◌<◌, ◌≤◌, if◌then◌else◌, slice_index_or, None, Some};
+ghost use Rattle.std.specs.Prelude.{◌≡◌, ◌≢◌, ℕ, ◌<◌, ◌≤◌, if◌then◌else◌, slice_index_or, None, Some};
 ghost use Rattle.run_gantt.specs.declared.bar.TheConstants.{MAX_COLUMNS, MAX_SCALE};
 ghost use Rattle.std.specs.Option.{option_or};
 ghost use Rattle.run_gantt.specs.GanttText.{is_before, digit_of, sign_of};
+ghost use Rattle.run_gantt.specs.Pushing.{ShowsToo};
 
 use crate::visit::Visit;
 use shop_base::Moment;
@@ -21,7 +22,7 @@ pub(crate) type Bar = [Option<char>; MAX_COLUMNS];
 pub(crate) fn show_visit(bar: &mut Bar, scale: Moment, visit: Visit)
     requires above { 0 < scale }
     requires below { scale ≤ MAX_SCALE }
-    ensures { (c : ℕ) → c < MAX_COLUMNS → slice_index_or bar.new c None ≡ option_or (slice_index_or bar.old c None) (sign_of (c * scale) visit) }
+    ensures { ShowsToo scale (λ t. sign_of t visit) bar.old bar.new }
 {
     let mut column = visit.enter.div_ceil(scale);
     while column < MAX_COLUMNS as u64 {

@@ -1,11 +1,11 @@
 //! The Gantt text of a run's events: each machine's visits, and a bar of which job is on it when.
 
-ghost use Rattle.std.specs.Prelude.{◌≡◌, ℕ, ◌*◌, ◌<◌, ◌≤◌, ◌++◌, [], length, map, flat_map, slice_index_or, None, Some, decimal, string_bytes, IfOk, OnOk};
+ghost use Rattle.std.specs.Prelude.{◌≡◌, ℕ, ◌<◌, ◌≤◌, length, map, flat_map, slice_index_or, None, Some, decimal, string_bytes, IfOk, OnOk};
 ghost use Rattle.std.specs.List.{range_with_len};
 ghost use Rattle.shop_base.specs.Plan.{machines};
-ghost use Rattle.std.specs.Option.{option_or};
 ghost use Rattle.run_gantt.specs.Visits.{first_of, last_of, entry_moment};
 ghost use Rattle.run_gantt.specs.GanttText.{gantt_text, scale_for, columns_for, row_lines, visit_word, moment_word, sign_of, column_sign};
+ghost use Rattle.run_gantt.specs.Pushing.{IsPushed, row_at, ShowsToo};
 ghost use Rattle.run_gantt.specs.declared.bar.TheConstants.{MAX_COLUMNS, MAX_SCALE};
 
 use crate::bar::{Bar, MAX_COLUMNS, show_visit};
@@ -88,7 +88,7 @@ impl Visits {
         requires above { 0 < scale }
         requires below { scale ≤ MAX_SCALE }
         requires columns { columns ≤ MAX_COLUMNS }
-        ensures { OnOk result (string_bytes text.new ≡ string_bytes text.old ++ flat_map (row_lines scale columns self.now) (range_with_len 0 machines)) }
+        ensures { OnOk result (IsPushed text.old text.new (flat_map (row_lines scale columns self.now) (range_with_len 0 machines))) }
     {
         for machine in 0..machines {
             self.push_machine(text, machine, scale, columns)?;
@@ -108,7 +108,7 @@ impl Visits {
         requires above { 0 < scale }
         requires below { scale ≤ MAX_SCALE }
         requires columns { columns ≤ MAX_COLUMNS }
-        ensures { OnOk result (string_bytes text.new ≡ string_bytes text.old ++ row_lines scale columns self.now machine) }
+        ensures { OnOk result (IsPushed text.old text.new (row_lines scale columns self.now machine)) }
     {
         text.push_str("machine ")?;
         push_number(text, u64::from(machine))?;
@@ -131,9 +131,8 @@ impl Visits {
         requires machine { machine < length self.now }
         requires above { 0 < scale }
         requires below { scale ≤ MAX_SCALE }
-        ensures text { OnOk result (string_bytes text.new ≡ string_bytes text.old ++ flat_map visit_word (slice_index_or self.now machine [])) }
-        ensures bar { OnOk result ((c : ℕ) → c < MAX_COLUMNS
-            → slice_index_or bar.new c None ≡ option_or (slice_index_or bar.old c None) (first_of (sign_of (c * scale)) (slice_index_or self.now machine []))) }
+        ensures text { OnOk result (IsPushed text.old text.new (flat_map visit_word (row_at self.now machine))) }
+        ensures bar { OnOk result (ShowsToo scale (λ t. first_of (sign_of t) (row_at self.now machine)) bar.old bar.new) }
     {
         let mut next = self.first[machine as usize];
         while let Some(place) = next {
@@ -147,7 +146,7 @@ impl Visits {
 }
 
 fn push_visit(text: &mut String, visit: Visit) -> Result<(), AllocError>
-    ensures { OnOk result (string_bytes text.new ≡ string_bytes text.old ++ visit_word visit) }
+    ensures { OnOk result (IsPushed text.old text.new (visit_word visit)) }
 {
     text.push_str(" ")?;
     push_number(text, u64::from(visit.job))?;
@@ -160,7 +159,7 @@ fn push_visit(text: &mut String, visit: Visit) -> Result<(), AllocError>
 }
 
 fn push_moment(text: &mut String, moment: Option<Moment>) -> Result<(), AllocError>
-    ensures { OnOk result (string_bytes text.new ≡ string_bytes text.old ++ moment_word moment) }
+    ensures { OnOk result (IsPushed text.old text.new (moment_word moment)) }
 {
     match moment {
         Some(moment) => push_number(text, moment),
@@ -170,7 +169,7 @@ fn push_moment(text: &mut String, moment: Option<Moment>) -> Result<(), AllocErr
 
 #[inline(always)]
 fn push_number(text: &mut String, number: u64) -> Result<(), AllocError>
-    ensures { OnOk result (string_bytes text.new ≡ string_bytes text.old ++ decimal number) }
+    ensures { OnOk result (IsPushed text.old text.new (decimal number)) }
 {
     let mut buffer = Buffer::new();
     text.push_str(buffer.format(number))
@@ -178,7 +177,7 @@ fn push_number(text: &mut String, number: u64) -> Result<(), AllocError>
 
 fn push_columns(text: &mut String, columns: &[Option<char>]) -> Result<(), AllocError>
     requires { (c sign : ℕ) → slice_index_or columns.now c None ≡ Some sign → sign < 128 }
-    ensures { OnOk result (string_bytes text.new ≡ string_bytes text.old ++ map column_sign columns.now) }
+    ensures { OnOk result (IsPushed text.old text.new (map column_sign columns.now)) }
 {
     for column in columns {
         text.push(column_sign(*column))?;

@@ -1,11 +1,11 @@
 //! What the later entries tell of each job on each machine, kept in a table.
 
-ghost use Rattle.std.specs.Prelude.{◌≡◌, ◌<◌, ◌≤◌, ◌+◌, ◌*◌, List, [], ◌∷◌, length, IfOk, MatchOption};
-ghost use Rattle.shop_base.specs.declared.limits.TheConstants.{MAX_JOBS, MAX_MACHINES};
+ghost use Rattle.std.specs.Prelude.{◌≡◌, ◌≤◌, List, [], ◌∷◌, length, IfOk, MatchOption};
+ghost use Rattle.shop_base.specs.declared.limits.TheConstants.{MAX_JOBS};
 ghost use Rattle.cell_tables.specs.declared.entry.Entry.{Entry};
 ghost use Rattle.std.specs.Option.{option_or};
 ghost use Rattle.run_gantt.specs.Visits.{finish_told, leave_told, visit_end};
-ghost use Rattle.run_gantt.specs.VisitEnds.{IsPlace, AreVisitEnds};
+ghost use Rattle.run_gantt.specs.VisitEnds.{IsPlace, HasNoPlace, AreVisitEnds};
 
 use cell_tables::{Entry, Report};
 use shop_base::limits::MAX_MACHINES;
@@ -37,9 +37,7 @@ pub(crate) fn no_visit_ends(alloc: Global, jobs: u32) -> Result<Vec<VisitEnd>, A
 
 /// The place of a job on a machine; none where the table has none.
 fn place_of(ends: &[VisitEnd], job: JobNo, machine: MachineNo) -> Option<usize>
-    ensures { MatchOption result
-        (machine < MAX_MACHINES → job * MAX_MACHINES + machine < length ends.now → ⊥)
-        (IsPlace (length ends.now) job machine) }
+    ensures { MatchOption result (HasNoPlace (length ends.now) job machine) (IsPlace (length ends.now) job machine) }
 {
     if machine >= MAX_MACHINES {
         return None;

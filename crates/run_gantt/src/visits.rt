@@ -1,9 +1,10 @@
 //! The visits to each machine, found in one pass over the entries, from the last to the first.
 
-ghost use Rattle.std.specs.Prelude.{◌≡◌, ℕ, ◌<◌, [], ◌∷◌, length, slice_set, slice_index_or, IfOk, OnOk};
+ghost use Rattle.std.specs.Prelude.{◌≡◌, ◌<◌, [], ◌∷◌, length, slice_set, slice_index_or, IfOk, OnOk};
 ghost use Rattle.shop_base.specs.Plan.{machines};
 ghost use Rattle.run_gantt.specs.Visits.{machine_visits};
 ghost use Rattle.run_gantt.specs.VisitEnds.{AreVisitEnds};
+ghost use Rattle.run_gantt.specs.LinkedVisits.{AreVisitsBefore};
 
 use crate::visit::Visit;
 use crate::visit_ends::{VisitEnd, no_visit_ends, note_visit_end, visit_end_at};
@@ -81,7 +82,7 @@ impl Visits {
     /// Notes the visit that an entry begins, if it begins one, before all those noted so far.
     fn note(&mut self, ends: &[VisitEnd], entry: Entry, later: &[Entry]) -> Result<(), AllocError>
         requires { AreVisitEnds ends.now later.now }
-        ensures { OnOk result ((n : ℕ) → self.old ≡ machine_visits n later.now → self.new ≡ machine_visits n (entry ∷ later.now)) }
+        ensures { OnOk result (AreVisitsBefore self.old entry later.now self.new) }
     {
         let Entry::Order(order) = entry else {
             return Ok(());

@@ -1,8 +1,9 @@
 -- How far a log has been audited.
-use Rattle.std.specs.Prelude.{◌≡◌, ℕ, List, ◌++◌}
+use Rattle.std.specs.Prelude.{◌≡◌, ℕ, ◌*◌, ◌<◌, List, ◌++◌}
 use Rattle.shop_base.specs.Plan.{PlannedShop}
 use Rattle.shop_base.specs.Cell.{Cell}
 use Rattle.shop_base.specs.Run.{IsRun, ends_in}
+use Rattle.shop_base.specs.Ends.{stated_number}
 use Rattle.cell_tables.specs.declared.entry.Entry.{Entry}
 use Rattle.cell_tables.specs.Events.{events_of}
 use Rattle.run_log.specs.LogLines.{LineTells}
@@ -15,3 +16,7 @@ pub record IsTold (p : PlannedShop) (c : Cell) (told : List Entry) : Type 0 wher
 -- the entries that a line tells were put behind those before
 abbrev pub IsLineTaken : PlannedShop → List ℕ → List Entry → List Entry → Type 0
 IsLineTaken p line before after = (own : List Entry) × LineTells p line own × (after ≡ before ++ own)
+
+-- while a run can have more entries than were told, there is room for one more
+abbrev pub HasRoomForNext : PlannedShop → ℕ → ℕ → Type 0
+HasRoomForNext p told capacity = told < 2 * stated_number p → told < capacity

@@ -16,7 +16,7 @@ use Rattle.run_log.specs.declared.audit_fault.AuditFault.{AuditFault}
 use Rattle.run_log.specs.declared.audit_fault.AuditFault.TheVariants.{BadLine, NotExpected, Backwards, NotReady, Occupied, OutOfOrder, WrongPlace, NotClean, Memory}
 use Rattle.run_log.specs.declared.audit_result.Audit.{Audit}
 use Rattle.cell_tables.specs.Events.{events_of}
-use Rattle.run_log.specs.LogLines.{is_passed_over, IsEntryLine, IsEntryOf, LineTells, LinesTell}
+use Rattle.run_log.specs.LogLines.{is_passed_over, TellsNoEntry, LineTells, LinesTell}
 
 -- the activity is going on
 abbrev pub IsGoingOn : PlannedShop → Cell → Activity → Type 0
@@ -78,7 +78,7 @@ IsFaultOf p c entry fault = ⊥
 -- the line isn't passed over, and tells no event of the shop
 pub record IsBadLine (p : PlannedShop) (line : List ℕ) : Type 0 where
   pub told : is_passed_over line ≡ false
-  pub untold : (entry : Entry) → IsEntryLine line entry → IsEntryOf p entry → ⊥
+  pub untold : TellsNoEntry p line
 
 -- the first fault of a line in a cell
 abbrev pub IsLineFault : PlannedShop → Cell → List ℕ → AuditFault → Type 0

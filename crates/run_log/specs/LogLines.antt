@@ -58,6 +58,10 @@ abbrev pub IsEntryOf : PlannedShop → Entry → Type 0
 IsEntryOf p (ReportEntry report) = AreEndsOf p report × ((said report).at ≤ MAX_MOMENT)
 IsEntryOf p (OrderEntry order) = (order.job < jobs p) × IsSpotOf p order.source × IsSpotOf p order.target × (order.at ≤ MAX_MOMENT)
 
+-- the line is that of no entry of the shop
+abbrev pub TellsNoEntry : PlannedShop → List ℕ → Type 0
+TellsNoEntry p line = (entry : Entry) → IsEntryLine line entry → IsEntryOf p entry → ⊥
+
 -- a line that tells no event, whatever follows its first word: empty, or begun as the other answers are
 abbrev pub is_passed_over : List ℕ → Bool
 is_passed_over line = length line == 0

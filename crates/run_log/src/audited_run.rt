@@ -1,11 +1,10 @@
 //! A run as far as the lines of a log have told it.
 
-ghost use Rattle.std.specs.Prelude.{◌≡◌, ◌*◌, ◌<◌, [], length, min, vec_capacity, IfOk, OnOk, IfErr};
-ghost use Rattle.shop_base.specs.Ends.{stated_number};
+ghost use Rattle.std.specs.Prelude.{◌≡◌, [], length, vec_capacity, IfOk, OnOk, IfErr};
 ghost use Rattle.text_lines.specs.Lines.{lines_of};
 ghost use Rattle.run_log.specs.LogLines.{LinesTell};
 ghost use Rattle.run_log.specs.Audits.{IsLineFault, IsFirstBad, fault_line, room_for};
-ghost use Rattle.run_log.specs.Auditing.{IsTold, IsLineTaken};
+ghost use Rattle.run_log.specs.Auditing.{IsTold, IsLineTaken, HasRoomForNext};
 
 use crate::audit_fault::AuditFault;
 use crate::entry_check::{check_entry, follow_entry};
@@ -65,8 +64,7 @@ impl<P: Planned> AuditedRun<P> {
     /// Takes the entry that the line of this number tells, if it isn't passed over.
     fn take_line(&mut self, line: &[u8], number: usize) -> Result<(), AuditFault>
         requires told { IsTold self.old.cell.plan self.old.cell.cell self.old.entries.items }
-        requires room { length self.old.entries.items < 2 * stated_number self.old.cell.plan
-            → length self.old.entries.items < vec_capacity self.old.entries }
+        requires room { HasRoomForNext self.old.cell.plan (length self.old.entries.items) (vec_capacity self.old.entries) }
         ensures same_plan { OnOk result (self.new.cell.plan ≡ self.old.cell.plan) }
         ensures told { OnOk result (IsTold self.old.cell.plan self.new.cell.cell self.new.entries.items) }
         ensures tells { OnOk result

@@ -4,7 +4,6 @@ ghost use Rattle.std.specs.Prelude.{◌≡◌, ◌<◌, ◌≤◌, ◌↔◌, Is
 ghost use Rattle.shop_base.specs.Plan.{jobs, steps};
 ghost use Rattle.shop_base.specs.Cell.{made};
 ghost use Rattle.shop_base.specs.Activity.{Arrival, Operation};
-ghost use Rattle.shop_base.specs.Report.{CanReport};
 ghost use Rattle.shop_base.specs.Run.{CanHappen, after};
 ghost use Rattle.cell_tables.specs.Moving.{IsSpotOf};
 ghost use Rattle.cell_tables.specs.Reports.{said};

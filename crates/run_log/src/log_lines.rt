@@ -1,10 +1,11 @@
 //! The entries that the lines of a log tell.
 
 ghost use Rattle.std.specs.Prelude.{◌≡◌, ◌^◌, ◌<◌, ◌≤◌, ◌↔◌, [], ◌∷◌, codes, MatchOption, IfSome, IsTrue};
+ghost use Rattle.text_lines.specs.Searches.{SomeIfAny, SomePairIfAny};
 ghost use Rattle.cell_tables.specs.Moving.{IsSpotOf};
 ghost use Rattle.run_log.specs.LogLines.{spaced_words, is_passed_over, IsSpotWord, AreSpotWords, AreReportWords, AreOrderWords};
-ghost use Rattle.run_log.specs.LogLines.{IsEntryLine, AreEndsOf, IsEntryOf, LineTells};
-ghost use Rattle.run_log.specs.LogWords.{IsNumberFirst, HasNoNumberFirst, IsSpotFirst, HasNoSpotFirst, AreEndWordsAt, AreNoEndWords};
+ghost use Rattle.run_log.specs.LogLines.{IsEntryLine, AreEndsOf, IsEntryOf, TellsNoEntry, LineTells};
+ghost use Rattle.run_log.specs.LogWords.{TakesNumber, TakesSpot, AreEndWordsAt};
 
 use cell_tables::{Entry, Report};
 use shop_base::limits::MAX_MOMENT;
@@ -24,7 +25,7 @@ pub fn is_passed_over(line: &[u8]) -> bool
 
 /// The spot that the word is.
 fn spot_of(word: &[u8]) -> Option<Spot>
-    ensures { MatchOption result ((spot : Spot) → IsSpotWord word.now spot → ⊥) (IsSpotWord word.now) }
+    ensures { SomeIfAny result (IsSpotWord word.now) }
 {
     if word == b"out".as_slice() {
         return Some(Spot::Out);
@@ -38,8 +39,7 @@ fn spot_of(word: &[u8]) -> Option<Spot>
 /// The number before the first space, and the words behind it.
 fn number_first(words: &[u8], most: usize) -> Option<(u64, &[u8])>
     requires { most ≤ 18 }
-    ensures number { MatchOption result (HasNoNumberFirst most (spaced_words words.now))
-        (λ found. IsNumberFirst most (spaced_words words.now) found.0 (spaced_words found.1.now)) }
+    ensures number { TakesNumber most words.now result }
     ensures small { IfSome result (λ found. found.0 < 10 ^ most) }
 {
     let (number, rest) = number_before_space(words, most)?;
@@ -48,8 +48,7 @@ fn number_first(words: &[u8], most: usize) -> Option<(u64, &[u8])>
 
 /// The arrival that the word behind `arrive` tells.
 fn arrival_of(words: &[u8], at: Moment) -> Option<Report>
-    ensures { MatchOption result (AreNoEndWords (codes "arrive" ∷ spaced_words words.now) at)
-        (AreEndWordsAt (codes "arrive" ∷ spaced_words words.now) at) }
+    ensures { SomeIfAny result (AreEndWordsAt (codes "arrive" ∷ spaced_words words.now) at) }
 {
     match short_number_of(words) {
         Some(job) => Some(Report::Arrive { job, at }),
@@ -59,8 +58,7 @@ fn arrival_of(words: &[u8], at: Moment) -> Option<Report>
 
 /// The end of an operation that the words behind `finish` tell.
 fn finish_of(words: &[u8], at: Moment) -> Option<Report>
-    ensures { MatchOption result (AreNoEndWords (codes "finish" ∷ spaced_words words.now) at)
-        (AreEndWordsAt (codes "finish" ∷ spaced_words words.now) at) }
+    ensures { SomeIfAny result (AreEndWordsAt (codes "finish" ∷ spaced_words words.now) at) }
 {
     let (job, rest) = number_first(words, 9)?;
     let machine = short_number_of(rest)?;
@@ -73,8 +71,7 @@ fn finish_of(words: &[u8], at: Moment) -> Option<Report>
 
 /// The end of a cleaning that the word behind `clean` tells.
 fn cleaning_end_of(words: &[u8], at: Moment) -> Option<Report>
-    ensures { MatchOption result (AreNoEndWords (codes "clean" ∷ spaced_words words.now) at)
-        (AreEndWordsAt (codes "clean" ∷ spaced_words words.now) at) }
+    ensures { SomeIfAny result (AreEndWordsAt (codes "clean" ∷ spaced_words words.now) at) }
 {
     match short_number_of(words) {
         Some(machine) => Some(Report::Clean { machine, at }),
@@ -84,8 +81,7 @@ fn cleaning_end_of(words: &[u8], at: Moment) -> Option<Report>
 
 /// What has ended at this moment, as the words tell.
 fn ended_of(words: &[u8], at: Moment) -> Option<Report>
-    ensures { MatchOption result (AreNoEndWords (spaced_words words.now) at)
-        (AreEndWordsAt (spaced_words words.now) at) }
+    ensures { SomeIfAny result (AreEndWordsAt (spaced_words words.now) at) }
 {
     if let Some(rest) = after_prefix(words, b"arrive ") {
         return arrival_of(rest, at);
@@ -101,8 +97,7 @@ fn ended_of(words: &[u8], at: Moment) -> Option<Report>
 
 /// The report that the words behind `report` tell.
 fn report_of(words: &[u8]) -> Option<Report>
-    ensures { MatchOption result ((report : Report) → AreReportWords (spaced_words words.now) report → ⊥)
-        (AreReportWords (spaced_words words.now)) }
+    ensures { SomeIfAny result (AreReportWords (spaced_words words.now)) }
 {
     let (at, rest) = number_first(words, 13)?;
     ended_of(rest, at)
@@ -110,8 +105,7 @@ fn report_of(words: &[u8]) -> Option<Report>
 
 /// The spot that the word before the first space is, and the words behind it.
 fn spot_first(words: &[u8]) -> Option<(Spot, &[u8])>
-    ensures { MatchOption result (HasNoSpotFirst (spaced_words words.now))
-        (λ found. IsSpotFirst (spaced_words words.now) found.0 (spaced_words found.1.now)) }
+    ensures { TakesSpot words.now result }
 {
     if let Some((machine, rest)) = number_first(words, 9) {
         return Some((Spot::At(machine as MachineNo), rest));
@@ -124,8 +118,7 @@ fn spot_first(words: &[u8]) -> Option<(Spot, &[u8])>
 
 /// The spots that two words are.
 fn spots_of(words: &[u8]) -> Option<(Spot, Spot)>
-    ensures { MatchOption result ((source target : Spot) → AreSpotWords (spaced_words words.now) source target → ⊥)
-        (λ found. AreSpotWords (spaced_words words.now) found.0 found.1) }
+    ensures { SomePairIfAny result (AreSpotWords (spaced_words words.now)) }
 {
     let (source, rest) = spot_first(words)?;
     let target = spot_of(rest)?;
@@ -134,8 +127,7 @@ fn spots_of(words: &[u8]) -> Option<(Spot, Spot)>
 
 /// The order that the words behind `order` tell.
 fn move_order_of(words: &[u8]) -> Option<MoveOrder>
-    ensures { MatchOption result ((order : MoveOrder) → AreOrderWords (spaced_words words.now) order → ⊥)
-        (AreOrderWords (spaced_words words.now)) }
+    ensures { SomeIfAny result (AreOrderWords (spaced_words words.now)) }
 {
     let (at, rest) = number_first(words, 13)?;
     let (job, spots) = number_first(rest, 9)?;
@@ -151,7 +143,7 @@ fn move_order_of(words: &[u8]) -> Option<MoveOrder>
 /// The report or the order that the line is.
 #[inline(always)]
 fn entry_of(line: &[u8]) -> Option<Entry>
-    ensures { MatchOption result ((entry : Entry) → IsEntryLine line.now entry → ⊥) (IsEntryLine line.now) }
+    ensures { SomeIfAny result (IsEntryLine line.now) }
 {
     if line.starts_with(b"o") {
         let order = move_order_of(after_prefix(line, b"order ")?)?;
@@ -206,8 +198,7 @@ fn is_entry_of(shaped: &Shaped, entry: Entry) -> bool
 /// The entry of the shop that the line tells; no such line is passed over. It is read for each line of a log.
 #[inline(always)]
 pub fn told_entry(shaped: &Shaped, line: &[u8]) -> Option<Entry>
-    ensures { MatchOption result ((entry : Entry) → IsEntryLine line.now entry → IsEntryOf shaped.now entry → ⊥)
-        (λ entry. LineTells shaped.now line.now (entry ∷ [])) }
+    ensures { MatchOption result (TellsNoEntry shaped.now line.now) (λ entry. LineTells shaped.now line.now (entry ∷ [])) }
 {
     let entry = entry_of(line)?;
     if is_entry_of(shaped, entry) {

@@ -1,5 +1,5 @@
 -- Where a byte stands first among others.
-use Rattle.std.specs.Prelude.{◌≡◌, ℕ, ◌==◌, false, List, [], ◌∷◌, ◌++◌}
+use Rattle.std.specs.Prelude.{◌≡◌, ◌≢◌, ℕ, ◌==◌, false, List, [], ◌∷◌, ◌++◌}
 
 -- the byte isn't among these
 abbrev pub HasNone : ℕ → List ℕ → Type 0
@@ -10,3 +10,7 @@ HasNone byte (b ∷ bytes) = ((b == byte) ≡ false) × HasNone byte bytes
 pub record IsCutAt (byte : ℕ) (bytes front rest : List ℕ) : Type 0 where
   pub before : HasNone byte front
   pub split : bytes ≡ front ++ byte ∷ rest
+
+-- the bytes don't begin with the prefix
+abbrev pub LacksPrefix : List ℕ → List ℕ → Type 0
+LacksPrefix prefix bytes = (rest : List ℕ) → bytes ≢ prefix ++ rest

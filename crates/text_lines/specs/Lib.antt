@@ -2,3 +2,4 @@
 pub mod Lines
 pub mod Cuts
 pub mod Numbers
+pub mod Searches

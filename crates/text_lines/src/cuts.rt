@@ -1,5 +1,5 @@
-ghost use Rattle.std.specs.Prelude.{◌≡◌, ◌≢◌, ℕ, ◌<◌, ◌==◌, ◌++◌, List, length, position, IfSome, MatchOption};
-ghost use Rattle.text_lines.specs.Cuts.{HasNone, IsCutAt};
+ghost use Rattle.std.specs.Prelude.{◌≡◌, ◌<◌, ◌==◌, ◌++◌, length, position, IfSome, MatchOption};
+ghost use Rattle.text_lines.specs.Cuts.{HasNone, IsCutAt, LacksPrefix};
 
 use memchr::memchr;
 
@@ -37,7 +37,7 @@ pub fn cut_word(line: &[u8]) -> Option<(&[u8], &[u8])>
 
 /// The bytes after such a prefix, none where the line doesn't begin with it.
 pub fn after_prefix<'a>(line: &'a [u8], prefix: &[u8]) -> Option<&'a [u8]>
-    ensures { MatchOption result ((rest : List ℕ) → line.now ≢ prefix.now ++ rest) (λ rest. line.now ≡ prefix.now ++ rest.now) }
+    ensures { MatchOption result (LacksPrefix prefix.now line.now) (λ rest. line.now ≡ prefix.now ++ rest.now) }
 {
     line.strip_prefix(prefix)
 }

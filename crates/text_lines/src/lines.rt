@@ -1,5 +1,6 @@
-ghost use Rattle.std.specs.Prelude.{◌≡◌, [], ◌∷◌, ◌<◌, length, MatchOption, IfSome};
+ghost use Rattle.std.specs.Prelude.{◌≡◌, ◌<◌, length, IfSome};
 ghost use Rattle.text_lines.specs.Lines.{without_return, lines_of};
+ghost use Rattle.text_lines.specs.Searches.{GivesFirst};
 
 use crate::cuts::cut_line;
 use memchr::memchr;
@@ -13,8 +14,7 @@ pub fn without_return(line: &[u8]) -> &[u8]
 
 /// The first line of a text, and the text behind it; none where nothing is left.
 pub fn next_line(text: &[u8]) -> Option<(&[u8], &[u8])>
-    ensures line { MatchOption result (lines_of text.now ≡ [])
-        (λ found. lines_of text.now ≡ found.0.now ∷ lines_of found.1.now) }
+    ensures line { GivesFirst (λ line. line.now) (λ rest. lines_of rest.now) result (lines_of text.now) }
     ensures shorter { IfSome result (λ found. length found.1.now < length text.now) }
 {
     if text.is_empty() {

@@ -1,6 +1,7 @@
-ghost use Rattle.std.specs.Prelude.{◌≡◌, ℕ, ◌^◌, ◌<◌, ◌≤◌, List, length, take, slice_index, true, false, IfSome, MatchOption};
+ghost use Rattle.std.specs.Prelude.{◌≡◌, ℕ, ◌^◌, ◌<◌, ◌≤◌, length, take, slice_index, true, false, IfSome};
 ghost use Rattle.std.specs.List.{list_all};
 ghost use Rattle.text_lines.specs.Numbers.{is_digit, value_of, IsNumeral, IsNumberBefore};
+ghost use Rattle.text_lines.specs.Searches.{SomeIfAny, SomeWithRestIfAny};
 
 fn is_digit(byte: u8) -> bool
     ensures { result ≡ is_digit byte }
@@ -11,7 +12,7 @@ fn is_digit(byte: u8) -> bool
 /// The number that the word is, in decimal with at most so many digits, leading zeros among them.
 pub fn number_of(word: &[u8], most: usize) -> Option<u64>
     requires { most ≤ 18 }
-    ensures number { MatchOption result ((n : ℕ) → IsNumeral most word.now n → ⊥) (IsNumeral most word.now) }
+    ensures number { SomeIfAny result (IsNumeral most word.now) }
     ensures small { IfSome result (λ n. n < 10 ^ most) }
 {
     if word.is_empty() || word.len() > most {
@@ -29,7 +30,7 @@ pub fn number_of(word: &[u8], most: usize) -> Option<u64>
 
 /// The number that the word is, with at most 9 digits.
 pub fn short_number_of(word: &[u8]) -> Option<u32>
-    ensures { MatchOption result ((n : ℕ) → IsNumeral 9 word.now n → ⊥) (IsNumeral 9 word.now) }
+    ensures { SomeIfAny result (IsNumeral 9 word.now) }
 {
     match number_of(word, 9) {
         Some(number) => Some(number as u32),
@@ -40,8 +41,7 @@ pub fn short_number_of(word: &[u8]) -> Option<u32>
 /// The number before the first space, in decimal with at most so many digits, and the bytes behind that space.
 pub fn number_before_space(bytes: &[u8], most: usize) -> Option<(u64, &[u8])>
     requires { most ≤ 18 }
-    ensures number { MatchOption result ((n : ℕ) (rest : List ℕ) → IsNumberBefore most bytes.now n rest → ⊥)
-        (λ found. IsNumberBefore most bytes.now found.0 found.1.now) }
+    ensures number { SomeWithRestIfAny result (IsNumberBefore most bytes.now) }
     ensures small { IfSome result (λ found. found.0 < 10 ^ most) }
 {
     let mut value = 0;
@@ -61,9 +61,7 @@ fn ended_number(bytes: &[u8], end: usize, value: u64) -> Option<(u64, &[u8])>
     requires digits { list_all is_digit (take end bytes.now) ≡ true }
     requires ended { is_digit (slice_index bytes.now end) ≡ false }
     requires value { value ≡ value_of (take end bytes.now) }
-    ensures number { (most : ℕ) → end ≤ most
-        → MatchOption result ((n : ℕ) (rest : List ℕ) → IsNumberBefore most bytes.now n rest → ⊥)
-        (λ found. IsNumberBefore most bytes.now found.0 found.1.now) }
+    ensures number { (most : ℕ) → end ≤ most → SomeWithRestIfAny result (IsNumberBefore most bytes.now) }
     ensures same { IfSome result (λ found. found.0 ≡ value) }
 {
     if end == 0 {

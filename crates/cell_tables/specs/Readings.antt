@@ -1,0 +1,26 @@
+-- What the readers of a cell tell: who is where, and who can move.
+use Rattle.std.specs.Prelude.{◌≡◌, ℕ, ◌-◌, ◌<◌, ◌≤◌, ◌⊎◌, length, Option, MatchOption}
+use Rattle.shop_base.specs.Plan.{PlannedShop, order, job_at, Stands}
+use Rattle.shop_base.specs.Cell.{Cell, made, entries, IsOutside, IsOn, IsGone, IsFree}
+use Rattle.shop_base.specs.Move.{CanEnter, CanMove, KeepsPlan}
+
+-- this is the machine that job j is on, by its last move; none where j is outside or gone
+abbrev pub IsMachineOf : PlannedShop → Cell → ℕ → Option ℕ → Type 0
+IsMachineOf p c j machine = MatchOption machine (IsOutside c j ⊎ IsGone p c j) (IsOn p c j (made c j - 1))
+
+-- this is the job that is on machine m, by the job's last move; none where m is free
+abbrev pub IsHolder : PlannedShop → Cell → ℕ → Option ℕ → Type 0
+IsHolder p c m holder = MatchOption holder (IsFree p c m) (λ j. IsOn p c j (made c j - 1) m)
+
+-- this is the job that is to enter machine m next; none where all jobs of its order have entered it
+abbrev pub IsNextOn : PlannedShop → Cell → ℕ → Option ℕ → Type 0
+IsNextOn p c m next =
+    MatchOption next (length (order p m) ≤ length (entries c m)) (λ j. (length (entries c m) < length (order p m)) × (job_at p m (length (entries c m)) ≡ j))
+
+-- job j can enter machine m, in whose order it is the next
+abbrev pub EntersNext : PlannedShop → Cell → ℕ → ℕ → Type 0
+EntersNext p c j m = CanEnter p c j m × Stands p m (length (entries c m)) j (made c j)
+
+-- job j can move at the last moment and keep the plan
+abbrev pub CanMoveNow : PlannedShop → Cell → ℕ → Type 0
+CanMoveNow p c j = CanMove p c j c.last × KeepsPlan p c j

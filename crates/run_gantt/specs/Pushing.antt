@@ -1,0 +1,17 @@
+-- The Gantt text while it is written: what was pushed onto it, and what a bar shows so far.
+use Rattle.std.specs.Prelude.{◌≡◌, ℕ, ◌*◌, ◌<◌, ◌++◌, List, [], slice_index_or, Option, None, String, string_bytes}
+use Rattle.std.specs.Option.{option_or}
+use Rattle.run_gantt.specs.declared.bar.TheConstants.{MAX_COLUMNS}
+use Rattle.run_gantt.specs.declared.visit.Visit.{Visit}
+
+-- these bytes were put behind those of the text
+abbrev pub IsPushed : {A : Type 0} → String A → String A → List ℕ → Type 0
+IsPushed before after bytes = string_bytes after ≡ string_bytes before ++ bytes
+
+-- the row of machine m among the rows of visits
+abbrev pub row_at : List (List Visit) → ℕ → List Visit
+row_at rows m = slice_index_or rows m []
+
+-- each column of a bar shows what it showed, or else what there is to show at the column's first moment
+abbrev pub ShowsToo : ℕ → (ℕ → Option ℕ) → List (Option ℕ) → List (Option ℕ) → Type 0
+ShowsToo scale sign before after = (c : ℕ) → c < MAX_COLUMNS → slice_index_or after c None ≡ option_or (slice_index_or before c None) (sign (c * scale))
