@@ -1,18 +1,17 @@
 -- What driving a cell comes to.
-use Rattle.std.specs.Prelude.{◌≡◌, ℕ, ◌+◌, ◌*◌, ◌<◌, ◌≤◌, ◌↔◌, ◌⊎◌, List, [], ◌∷◌, ◌++◌, length, take, Option, Bool, true, IsTrue}
+use Rattle.std.specs.Prelude.{◌≡◌, ℕ, ◌+◌, ◌*◌, ◌<◌, ◌≤◌, ◌↔◌, List, [], ◌∷◌, ◌++◌, length, take, Option, Bool, true, IsTrue}
 use Rattle.std.specs.Io.KnownBytes.{Appends, Consumes, IsAtEnd}
 use Rattle.shop_base.specs.Plan.{PlannedShop, jobs}
 use Rattle.shop_base.specs.Cell.{Cell, start}
 use Rattle.shop_base.specs.Report.{Report}
-use Rattle.shop_base.specs.Run.{Event, Reported, Moved, ends_in, IsRun, IsAtRest, IsStuck}
+use Rattle.shop_base.specs.Run.{Event, Reported, Moved, ends_in, IsRun}
 use Rattle.shop_base.specs.Controlled.{IsControlledRun}
 use Rattle.shop_base.specs.Punctual.{ArePunctual}
-use Rattle.shop_base.specs.StepLaw.{AreJobsApart}
-use Rattle.shop_base.specs.NeverStuckLaw.{CanGoOn}
 use Rattle.shop_base.specs.Ends.{stated_number, reports_in, HasEnded, IsInTime}
 use Rattle.shop_base.specs.KeptMoments.{KeepsLeaving}
 use Rattle.text_lines.specs.declared.limits.TheConstants.{MAX_INPUT}
 use Rattle.plan_verifier.specs.Accepted.{VerifiedPlan, kept_at}
+use Rattle.cell_control.specs.Promises.{RestsUnstuck}
 use Rattle.cell_tables.specs.declared.entry.Entry.{Entry}
 use Rattle.run_log.specs.Log.{Noted}
 use Rattle.cell_tables.specs.Events.{events_of}
@@ -79,13 +78,10 @@ IsBeforeReport [] = Unit {0}
 IsBeforeReport (Reported r ∷ es) = Unit {0}
 IsBeforeReport (Moved o ∷ es) = ⊥
 
--- what an accepted plan promises after these events: they are a run, the cell is at rest with no two jobs on one machine, it isn't stuck, and while all reports were punctual each job is in time
+-- what an accepted plan promises after these events: they are a run, the cell rests and isn't stuck, and while all reports were punctual each job is in time
 pub record IsAsPromised (v : VerifiedPlan) (es : List Event) : Type 0 where
   pub run : IsRun v.planned es
-  pub at_rest : IsAtRest v.planned (ends_in v.planned es)
-  pub apart : AreJobsApart v.planned (ends_in v.planned es)
-  pub not_stuck : IsStuck v.planned (ends_in v.planned es) → ⊥
-  pub goes_on : HasEnded v.planned (ends_in v.planned es) ⊎ CanGoOn v.planned (ends_in v.planned es)
+  pub rests : RestsUnstuck v.planned (ends_in v.planned es)
   pub in_time : ArePunctual v.planned (start v.planned) es → (j : ℕ) → j < jobs v.planned
       → KeepsLeaving v.planned (kept_at v) (ends_in v.planned es) j × IsInTime v.planned (ends_in v.planned es) j
 
