@@ -18,6 +18,7 @@ use Rattle.cell_tables.specs.Events.{events_of}
 use Rattle.cell_drive.specs.declared.drive_fault.DriveFault.{DriveFault}
 use Rattle.cell_drive.specs.declared.drive_fault.DriveFault.TheVariants.{Read, Write, InputTooLong, Memory}
 use Rattle.cell_drive.specs.declared.rooms.TheConstants.{MAX_PIECE}
+use Rattle.cell_drive.specs.Lent.{Output, Streams}
 use Rattle.cell_drive.specs.Lines.{complete_lines}
 use Rattle.cell_drive.specs.Streams.{IsCutOff}
 use Rattle.cell_drive.specs.AnswerText.{DrivenCell, undriven, CellAnswers, CellCloses, AreAnswersTo, IsAnswerText}
@@ -27,34 +28,39 @@ abbrev pub cell_after : PlannedShop → List Entry → Cell
 cell_after p entries = ends_in p (events_of entries)
 
 -- the whole input was read, and its answer text was written and shown; these are the events in it
-pub record IsDrivenThrough (p : PlannedShop) (entries : List Entry) (left_before left_after before after : Option (List ℕ)) (pending : List ℕ) : Type 0 where
+pub record IsDrivenThrough (p : PlannedShop) (entries : List Entry) (before after : Streams) : Type 0 where
   pub input : List ℕ
-  pub was_read : Consumes left_before left_after input
-  pub at_end : IsAtEnd left_after
+  pub was_read : Consumes before.input.left after.input.left input
+  pub at_end : IsAtEnd after.input.left
   pub within : length input ≤ MAX_INPUT
   pub text : List ℕ
   pub is_answer_text : IsAnswerText p input text (record { cell = cell_after p entries; entries = entries })
-  pub written : Appends before after text
-  pub shown : pending ≡ []
+  pub written : Appends before.output.taken after.output.taken text
+  pub shown : after.output.pending ≡ []
 
 -- the answers to these lines were written, and nothing else
-abbrev pub WereAnswersWritten : PlannedShop → List (Option (List ℕ)) → Option (List ℕ) → Option (List ℕ) → Type 0
-WereAnswersWritten p lines before after = (text : List ℕ) × (end : DrivenCell) × AreAnswersTo p lines text end × Appends before after text
+abbrev pub WereAnswersWritten : PlannedShop → List (Option (List ℕ)) → Output → Output → Type 0
+WereAnswersWritten p lines before after = (text : List ℕ) × (end : DrivenCell) × AreAnswersTo p lines text end × Appends before.taken after.taken text
 
 -- an answer or the closing line was cut off by a write that failed, or couldn't be shown, and no line behind it was taken
-abbrev pub WasCutOff : PlannedShop → List ℕ → Option (List ℕ) → Option (List ℕ) → Option (List ℕ) → Type 0
-WasCutOff p input left before after = (end : DrivenCell) × IsCutOff (CellAnswers p) (CellCloses p) (undriven p) input end left before after
+abbrev pub WasCutOff : PlannedShop → List ℕ → Streams → Streams → Type 0
+WasCutOff p input before after = (end : DrivenCell) × IsCutOff (CellAnswers p) (CellCloses p) (undriven p) input end before after
 
--- where driving was broken off: after a failed read, and where too much came, of which no piece was read behind the one that went past the limit, the answers to the complete lines within the limit were written and shown; after a failed write the answers up to that at which it failed, of which the first bytes were written; and without memory nothing. A device has failed only where it is the fault, or it had failed before
-abbrev pub IsBrokenOff : DriveFault → PlannedShop → List ℕ → Bool → Bool → Option (List ℕ) → Bool → Bool → Option (List ℕ) → Option (List ℕ) → List ℕ → Type 0
-IsBrokenOff Read p input read_failed_before read_failed left write_failed_before write_failed before after pending =
-    (read_failed ≡ true) × (length input ≤ MAX_INPUT) × WereAnswersWritten p (complete_lines input) before after × (write_failed ≡ write_failed_before) × (pending ≡ [])
-IsBrokenOff Write p input read_failed_before read_failed left write_failed_before write_failed before after pending =
-    (write_failed ≡ true) × WasCutOff p input left before after × (read_failed ≡ read_failed_before)
-IsBrokenOff InputTooLong p input read_failed_before read_failed left write_failed_before write_failed before after pending =
-    (MAX_INPUT < length input) × (length input ≤ MAX_INPUT + MAX_PIECE) × WereAnswersWritten p (complete_lines (take MAX_INPUT input)) before after × (read_failed ≡ read_failed_before) × (write_failed ≡ write_failed_before) × (pending ≡ [])
-IsBrokenOff Memory p input read_failed_before read_failed left write_failed_before write_failed before after pending =
-    (input ≡ []) × (after ≡ before) × (read_failed ≡ read_failed_before) × (write_failed ≡ write_failed_before)
+-- what came of an input once this much of it was read: after a failed read, and where too much came, of which no piece was read behind the one that went past the limit, the answers to the complete lines within the limit were written and shown; after a failed write the answers up to that at which it failed, of which the first bytes were written; and without memory nothing. A device has failed only where it is the fault, or it had failed before
+abbrev pub BreaksOff : DriveFault → PlannedShop → List ℕ → Streams → Streams → Type 0
+BreaksOff Read p input before after =
+    (after.input.failed ≡ true) × (length input ≤ MAX_INPUT) × WereAnswersWritten p (complete_lines input) before.output after.output × (after.output.failed ≡ before.output.failed) × (after.output.pending ≡ [])
+BreaksOff Write p input before after =
+    (after.output.failed ≡ true) × WasCutOff p input before after × (after.input.failed ≡ before.input.failed)
+BreaksOff InputTooLong p input before after =
+    (MAX_INPUT < length input) × (length input ≤ MAX_INPUT + MAX_PIECE) × WereAnswersWritten p (complete_lines (take MAX_INPUT input)) before.output after.output
+    × (after.input.failed ≡ before.input.failed) × (after.output.failed ≡ before.output.failed) × (after.output.pending ≡ [])
+BreaksOff Memory p input before after =
+    (input ≡ []) × (after.output.taken ≡ before.output.taken) × (after.input.failed ≡ before.input.failed) × (after.output.failed ≡ before.output.failed)
+
+-- driving was broken off by this fault, once so much of the input was read
+abbrev pub IsBrokenOff : DriveFault → PlannedShop → Streams → Streams → Type 0
+IsBrokenOff fault p before after = (input : List ℕ) × Consumes before.input.left after.input.left input × BreaksOff fault p input before after
 
 -- the events are the controlled run of some reports by the plan, which leads to the cell after them
 abbrev pub IsRunOf : PlannedShop → List Entry → Type 0
