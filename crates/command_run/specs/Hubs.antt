@@ -1,5 +1,5 @@
 -- What driving the cells of several plans comes to.
-use Rattle.std.specs.Prelude.{◌≡◌, ℕ, List, Bool, Result, Ok, Err, IfOk, IfErr, OnOk}
+use Rattle.std.specs.Prelude.{◌≡◌, List, Bool, Result, Ok, Err, IfOk, IfErr, OnOk}
 use Rattle.plan_verifier.specs.Accepted.{VerifiedPlan}
 use Rattle.cell_drive.specs.declared.driving_cells.HubEnd.{HubEnd}
 use Rattle.cell_drive.specs.declared.drive_fault.DriveFault.{DriveFault}
