@@ -1,6 +1,7 @@
 -- An audit keeps what a driven cell wrote.
-use Rattle.std.proofs.Common.{◌≡◌, ℕ, List, Bool, true, false, Result, Ok, Err, ◌↔◌, refl, sym, ap, ◌∙◌, arith, subst}
+use Rattle.std.proofs.Common.{◌≡◌, ℕ, List, ◌++◌, Option, Some, Bool, true, false, Result, Ok, Err, ◌↔◌, refl, sym, ap, ◌∙◌, arith, subst}
 use Rattle.std.specs.Prelude.{IsTrue, IfOk, IfErr, MatchResult}
+use Rattle.std.specs.Io.KnownBytes.{Appends}
 use Rattle.std.proofs.lemmas.Bool.{false≢true}
 use Rattle.std.proofs.lemmas.List.{append_cancel_left}
 use Rattle.shop_base.specs.Plan.{PlannedShop}
@@ -47,9 +48,13 @@ pub found_where : (p : PlannedShop) (entries : List Entry) (done : Bool) (last l
 found_where p entries done last left text (Ok audit) is_log so_far kept only = found_again p entries done last left text audit is_log so_far kept
 found_where p entries done last left text (Err fault) is_log so_far kept only = only
 
+-- what was appended to bytes that are told
+pub appended : (before after : Option (List ℕ)) (start text out : List ℕ) → before ≡ Some start → after ≡ Some (start ++ text) → Appends before after out → start ++ text ≡ start ++ out
+appended before after start text out from to wrote = subst (λ o. Appends o (Some (start ++ text)) out) from (subst (λ o. Appends before o out) to wrote)
+
 pub an_audit_keeps_what_was_driven : AnAuditKeepsWhatWasDriven
-an_audit_keeps_what_was_driven p entries done last left left_before left_after before text pending outcome shaped through so_far kept only =
-    let same : through.text ≡ text = append_cancel_left before through.text text (sym through.written) in
+an_audit_keeps_what_was_driven p entries done last left before after start text outcome shaped through from to so_far kept only =
+    let same : through.text ≡ text = append_cancel_left start through.text text (sym (appended before.output.taken after.output.taken start text through.text from to through.written)) in
     let is_log : IsLogOf p text (record { cell = cell_after p entries; entries = entries }) =
     subst (λ (t : List ℕ). IsLogOf p t (record { cell = cell_after p entries; entries = entries })) same
     (an_answer_text_is_a_log p through.input through.text (record { cell = cell_after p entries; entries = entries }) shaped through.is_answer_text) in

@@ -9,17 +9,18 @@ use Rattle.cell_control.specs.Control.{Control}
 use Rattle.cell_hub.specs.declared.hub_fault.HubFault.{HubFault}
 use Rattle.cell_hub.specs.declared.hub_fault.HubFault.TheVariants.{NoSuchCell, SerialsSpent, Memory, Cell}
 use Rattle.cell_hub.specs.RefusalNames.{refusal_name}
-use Rattle.cell_drive.specs.Answering.{WasAnswered}
+use Rattle.cell_drive.specs.Lent.{Taker, WroteOne}
 use Rattle.cell_drive.specs.AnswerLines.{refused_line}
 use Rattle.cell_drive.specs.CellLines.{IsCellReport, IsNoCellReport, cell_prefix}
 use Rattle.cell_drive.specs.ManyCells.{CellsAnswer, accepted_lines}
 use Rattle.cell_drive.specs.ManyCells as answer
 use Rattle.cell_drive.specs.NumberedCells.{IsReportedOn}
 
-pub cells_answered : {T E : Type 0} (start end : List Control) (number : ℕ) (line : Option (List ℕ)) (text : List ℕ) (outcome : Result T E) (failed_before failed : Bool) (before after : Option (List ℕ))
-    → CellsAnswer start number line text end → Wrote outcome failed before after text → OnOk outcome (failed ≡ failed_before) → WasAnswered CellsAnswer start number line end outcome failed_before failed before after
-cells_answered start end number line text outcome failed_before failed before after answer wrote unfailed =
-    record { text = text; is_answer = answer; wrote = wrote; unfailed = unfailed }
+pub cells_answered : {T E : Type 0} (start end : List Control) (number : ℕ) (line : Option (List ℕ)) (text : List ℕ) (outcome : Result T E) (before after : Taker)
+    → CellsAnswer start number line text end → Wrote outcome after.failed before.taken after.taken text → OnOk outcome (after.failed ≡ before.failed)
+    → WroteOne (λ told. CellsAnswer start number line told end) outcome before after
+cells_answered start end number line text outcome before after answer wrote unfailed =
+    record { text = text; is_text = answer; wrote = wrote; unfailed = unfailed }
 
 pub answer_empty : (cells : List Control) (number : ℕ) (line : List ℕ) → line ≡ [] → CellsAnswer cells number (Some line) [] cells
 answer_empty cells number line none = subst (λ (l : List ℕ). CellsAnswer cells number (Some l) [] cells) (sym none) answer.empty

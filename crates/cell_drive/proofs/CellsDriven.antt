@@ -8,6 +8,7 @@ use Rattle.cell_hub.specs.declared.ticket.Ticket.{Ticket}
 use Rattle.cell_hub.specs.Hub.{HubState}
 use Rattle.cell_drive.specs.declared.drive_fault.DriveFault.{DriveFault}
 use Rattle.cell_drive.specs.declared.drive_fault.DriveFault.TheVariants.{Read, Write, InputTooLong, Memory}
+use Rattle.cell_drive.specs.Lent.{Output, Streams, taker}
 use Rattle.cell_drive.specs.Lines.{input_lines}
 use Rattle.cell_drive.specs.Answering.{AreAnswered}
 use Rattle.cell_drive.specs.Streams.{IsStreamed}
@@ -36,14 +37,13 @@ starts_verified plans cells at_first all = plans_verified plans (subst HaveVerif
 -- ---- at the end
 
 -- the whole input was read and answered
-pub cells_through : {T : Type 0} {room : ℕ} (plans : List VerifiedPlan) (x : T) (start end : List Control) (all_done : Bool)
-    (read_failed_before read_failed write_failed_before write_failed : Bool) (left_before left_after before after : Option (List ℕ)) (pending : List ℕ) → start ≡ map at_start plans → AreVerified plans
-    → IsStreamed {T = T} (Ok x) room CellsAnswer (CellsClose 0) start end read_failed_before read_failed left_before left_after write_failed_before write_failed before after pending
+pub cells_through : {T : Type 0} {room : ℕ} (plans : List VerifiedPlan) (x : T) (start end : List Control) (all_done : Bool) (before after : Streams) → start ≡ map at_start plans → AreVerified plans
+    → IsStreamed {T = T} (Ok x) room CellsAnswer (CellsClose 0) start end before after
     → IsTrue all_done ↔ AreAllDone end
-    → AreDrivenThrough plans all_done left_before left_after before after pending
-cells_through {T} {room} plans x start end all_done read_failed_before read_failed write_failed_before write_failed left_before left_after before after pending at_first verified streamed_from done =
-    let streamed : IsStreamed {T = T} (Ok x) room CellsAnswer (CellsClose 0) (map at_start plans) end read_failed_before read_failed left_before left_after write_failed_before write_failed before after pending =
-    subst (λ (cells : List Control). IsStreamed {T = T} (Ok x) room CellsAnswer (CellsClose 0) cells end read_failed_before read_failed left_before left_after write_failed_before write_failed before after pending)
+    → AreDrivenThrough plans all_done before after
+cells_through {T} {room} plans x start end all_done before after at_first verified streamed_from done =
+    let streamed : IsStreamed {T = T} (Ok x) room CellsAnswer (CellsClose 0) (map at_start plans) end before after =
+    subst (λ (cells : List Control). IsStreamed {T = T} (Ok x) room CellsAnswer (CellsClose 0) cells end before after)
     at_first streamed_from in
     let all = streamed.comes_to in
     record {
@@ -60,34 +60,32 @@ cells_through {T} {room} plans x start end all_done read_failed_before read_fail
       promised = as_alone plans (input_lines streamed.input) all.text end verified all.are_answers;
     }
 
-written_from : (plans : List VerifiedPlan) (lines : List (Option (List ℕ))) (end : List Control) (failed_before failed : Bool) (before after : Option (List ℕ))
-    → AreAnswered CellsAnswer (map at_start plans) 1 lines end failed_before failed before after → WereCellsAnswersWritten plans lines before after
-written_from plans lines end failed_before failed before after all = (all.text, end, all.are_answers, all.written)
+written_from : (plans : List VerifiedPlan) (lines : List (Option (List ℕ))) (end : List Control) (before after : Output)
+    → AreAnswered CellsAnswer (map at_start plans) 1 lines end (taker before) (taker after) → WereCellsAnswersWritten plans lines before after
+written_from plans lines end before after all = (all.text, end, all.are_answers, all.written)
 
 -- it was broken off
-off : {T : Type 0} {room : ℕ} (plans : List VerifiedPlan) (fault : DriveFault) (end : List Control)
-    (read_failed_before read_failed write_failed_before write_failed : Bool) (left_before left_after before after : Option (List ℕ)) (pending : List ℕ)
-    → IsStreamed {T = T} (Err fault) room CellsAnswer (CellsClose 0) (map at_start plans) end read_failed_before read_failed left_before left_after write_failed_before write_failed before after pending → room ≡ 65536
-    → (input : List ℕ) × Consumes left_before left_after input × AreBrokenOff fault plans input read_failed_before read_failed left_after write_failed_before write_failed before after pending
-off plans Read end read_failed_before read_failed write_failed_before write_failed left_before left_after before after pending streamed room_is =
-    let told = streamed.comes_to in (streamed.input, streamed.was_read, (told.0, told.1, written_from plans _ end write_failed_before write_failed before after told.2, told.2.unfailed, streamed.shown))
-off plans Write end read_failed_before read_failed write_failed_before write_failed left_before left_after before after pending streamed room_is =
+off : {T : Type 0} {room : ℕ} (plans : List VerifiedPlan) (fault : DriveFault) (end : List Control) (before after : Streams)
+    → IsStreamed {T = T} (Err fault) room CellsAnswer (CellsClose 0) (map at_start plans) end before after → room ≡ 65536
+    → AreBrokenOff fault plans before after
+off plans Read end before after streamed room_is =
+    let told = streamed.comes_to in (streamed.input, streamed.was_read, (told.0, told.1, written_from plans _ end before.output after.output told.2, told.2.unfailed, streamed.shown))
+off plans Write end before after streamed room_is =
     let told = streamed.comes_to in (streamed.input, streamed.was_read, (told.0, (end, told.1), told.2))
-off plans InputTooLong end read_failed_before read_failed write_failed_before write_failed left_before left_after before after pending streamed room_is =
+off plans InputTooLong end before after streamed room_is =
     let told = streamed.comes_to in
     let most = told.1 in (
       streamed.input,
       streamed.was_read,
-      (told.0, omega (arith, most, room_is), written_from plans _ end write_failed_before write_failed before after told.2, told.3, told.2.unfailed, streamed.shown),
+      (told.0, omega (arith, most, room_is), written_from plans _ end before.output after.output told.2, told.3, told.2.unfailed, streamed.shown),
     )
-off plans Memory end read_failed_before read_failed write_failed_before write_failed left_before left_after before after pending streamed room_is = absurd streamed.comes_to
+off plans Memory end before after streamed room_is = absurd streamed.comes_to
 
-pub cells_broken_off : {T : Type 0} {room : ℕ} (plans : List VerifiedPlan) (fault : DriveFault) (start end : List Control)
-    (read_failed_before read_failed write_failed_before write_failed : Bool) (left_before left_after before after : Option (List ℕ)) (pending : List ℕ) → start ≡ map at_start plans
-    → IsStreamed {T = T} (Err fault) room CellsAnswer (CellsClose 0) start end read_failed_before read_failed left_before left_after write_failed_before write_failed before after pending → room ≡ 65536
-    → (input : List ℕ) × Consumes left_before left_after input × AreBrokenOff fault plans input read_failed_before read_failed left_after write_failed_before write_failed before after pending
-cells_broken_off {T} {room} plans fault start end read_failed_before read_failed write_failed_before write_failed left_before left_after before after pending at_first streamed room_is =
-    off plans fault end read_failed_before read_failed write_failed_before write_failed left_before left_after before after pending
-    (subst (λ (cells : List Control). IsStreamed {T = T} (Err fault) room CellsAnswer (CellsClose 0) cells end read_failed_before read_failed left_before left_after write_failed_before write_failed before after pending)
+pub cells_broken_off : {T : Type 0} {room : ℕ} (plans : List VerifiedPlan) (fault : DriveFault) (start end : List Control) (before after : Streams) → start ≡ map at_start plans
+    → IsStreamed {T = T} (Err fault) room CellsAnswer (CellsClose 0) start end before after → room ≡ 65536
+    → AreBrokenOff fault plans before after
+cells_broken_off {T} {room} plans fault start end before after at_first streamed room_is =
+    off plans fault end before after
+    (subst (λ (cells : List Control). IsStreamed {T = T} (Err fault) room CellsAnswer (CellsClose 0) cells end before after)
     at_first streamed)
     room_is

@@ -17,17 +17,18 @@ use Rattle.cell_tables.specs.Reports.{said}
 use Rattle.cell_control.specs.Reports.{IsFirstReason}
 use Rattle.cell_tables.specs.declared.entry.Entry.TheVariants.{Report as ReportEntry, Order as OrderEntry}
 use Rattle.run_log.specs.Log.{Noted, Notes}
-use Rattle.cell_drive.specs.Answering.{WasAnswered}
+use Rattle.cell_drive.specs.Lent.{Taker, WroteOne}
 use Rattle.cell_drive.specs.AnswerLines.{late_line, refused_line}
 use Rattle.cell_drive.specs.InputLines.{IsReportLine, IsNoReport}
 use Rattle.cell_drive.specs.DrivenLines.{LineAnswer, IsLateText, too_long, empty, no_report, refused, accepted}
 use Rattle.cell_drive.specs.ManyCells.{accepted_lines}
 use Rattle.cell_drive.specs.Driven.{DriveState, DriveAnswer}
 
-pub was_answered : {T E : Type 0} (start end : DriveState) (number : ℕ) (line : Option (List ℕ)) (text : List ℕ) (outcome : Result T E) (failed_before failed : Bool) (before after : Option (List ℕ))
-    → DriveAnswer start number line text end → Wrote outcome failed before after text → OnOk outcome (failed ≡ failed_before) → WasAnswered DriveAnswer start number line end outcome failed_before failed before after
-was_answered start end number line text outcome failed_before failed before after answer wrote unfailed =
-    record { text = text; is_answer = answer; wrote = wrote; unfailed = unfailed }
+pub was_answered : {T E : Type 0} (start end : DriveState) (number : ℕ) (line : Option (List ℕ)) (text : List ℕ) (outcome : Result T E) (before after : Taker)
+    → DriveAnswer start number line text end → Wrote outcome after.failed before.taken after.taken text → OnOk outcome (after.failed ≡ before.failed)
+    → WroteOne (λ told. DriveAnswer start number line told end) outcome before after
+was_answered start end number line text outcome before after answer wrote unfailed =
+    record { text = text; is_text = answer; wrote = wrote; unfailed = unfailed }
 
 -- an answer that changes nothing
 pub answer_unchanged : (start end : DriveState) (number : ℕ) (line : Option (List ℕ)) (text : List ℕ) → end.control ≡ start.control → end.log ≡ start.log

@@ -13,6 +13,7 @@ use Rattle.cell_tables.specs.declared.entry.Entry.{Entry}
 use Rattle.cell_tables.specs.Events.{events_of}
 use Rattle.cell_drive.specs.declared.drive_fault.DriveFault.{DriveFault}
 use Rattle.cell_drive.specs.declared.drive_fault.DriveFault.TheVariants.{Read, Write, InputTooLong, Memory}
+use Rattle.cell_drive.specs.Lent.{Output, Streams, taker}
 use Rattle.cell_drive.specs.Answering.{AnswerAll, AreAnswered, AreCutOff, AreCutShort, IsClosingCut}
 use Rattle.cell_drive.specs.Streams.{IsCutOff, IsStreamed}
 use Rattle.cell_drive.specs.DrivenLines.{LineAnswer, closing_line}
@@ -82,10 +83,10 @@ module _ (s : DriveState) (driven : IsDriven s) where
       }
 
 -- the whole input was read and answered
-through : {T : Type 0} {room : ℕ} (v : VerifiedPlan) (x : T) (e : DriveState) (read_failed_before read_failed write_failed_before write_failed : Bool) (left_before left_after before after : Option (List ℕ)) (pending : List ℕ)
-    → IsStreamed {T = T} (Ok x) room DriveAnswer the_closing (drive_start v) e read_failed_before read_failed left_before left_after write_failed_before write_failed before after pending → IsDriven e
-    → IsDrivenThrough v.planned e.log.entries left_before left_after before after pending × (e.control.plan ≡ v)
-through v x e read_failed_before read_failed write_failed_before write_failed left_before left_after before after pending streamed driven =
+through : {T : Type 0} {room : ℕ} (v : VerifiedPlan) (x : T) (e : DriveState) (before after : Streams)
+    → IsStreamed {T = T} (Ok x) room DriveAnswer the_closing (drive_start v) e before after → IsDriven e
+    → IsDrivenThrough v.planned e.log.entries before after × (e.control.plan ≡ v)
+through v x e before after streamed driven =
     let all = streamed.comes_to in
     let answers = seen_answers v.planned _ (drive_start v) e 1 all.text refl all.are_answers in
     let plan_is = answers.1 in
@@ -111,12 +112,12 @@ through v x e read_failed_before read_failed write_failed_before write_failed le
       plan_is,
     )
 
-pub driven_through : {T : Type 0} {room : ℕ} (v : VerifiedPlan) (x : T) (s e : DriveState) (read_failed_before read_failed write_failed_before write_failed : Bool) (left_before left_after before after : Option (List ℕ)) (pending : List ℕ) → s ≡ drive_start v
-    → IsStreamed {T = T} (Ok x) room DriveAnswer the_closing s e read_failed_before read_failed left_before left_after write_failed_before write_failed before after pending → IsDriven e
-    → IsDrivenThrough v.planned e.log.entries left_before left_after before after pending × (e.control.plan ≡ v)
-driven_through {T} {room} v x s e read_failed_before read_failed write_failed_before write_failed left_before left_after before after pending at_first streamed driven =
-    through v x e read_failed_before read_failed write_failed_before write_failed left_before left_after before after pending
-    (subst (λ d. IsStreamed {T = T} (Ok x) room DriveAnswer the_closing d e read_failed_before read_failed left_before left_after write_failed_before write_failed before after pending) at_first streamed) driven
+pub driven_through : {T : Type 0} {room : ℕ} (v : VerifiedPlan) (x : T) (s e : DriveState) (before after : Streams) → s ≡ drive_start v
+    → IsStreamed {T = T} (Ok x) room DriveAnswer the_closing s e before after → IsDriven e
+    → IsDrivenThrough v.planned e.log.entries before after × (e.control.plan ≡ v)
+driven_through {T} {room} v x s e before after at_first streamed driven =
+    through v x e before after
+    (subst (λ d. IsStreamed {T = T} (Ok x) room DriveAnswer the_closing d e before after) at_first streamed) driven
 
 -- an answer that was cut off is one of the cell's
 seen_cut_off : (p : PlannedShop) (lines : List (Option (List ℕ))) (s e : DriveState) (number : ℕ) (before after : Option (List ℕ)) → s.control.plan.planned ≡ p
@@ -163,45 +164,45 @@ seen_cut_short p lines s e number before after of_plan (inr off) = inr (record {
   written = off.written;
 })
 
-pub seen_cut : (p : PlannedShop) (input : List ℕ) (s e : DriveState) (left before after : Option (List ℕ)) → s.control.plan.planned ≡ p
-    → IsCutOff DriveAnswer the_closing s input e left before after → IsCutOff (CellAnswers p) (CellCloses p) (seen s) input (seen e) left before after
-seen_cut p input s e left before after of_plan (inl off) = inl (seen_cut_short p _ s e 1 before after of_plan off)
-seen_cut p input s e left before after of_plan (inr (at_end, within, inl off)) = inr (at_end, within, inl (seen_cut_off p _ s e 1 before after of_plan off))
-seen_cut p input s e left before after of_plan (inr (at_end, within, inr off)) = inr (at_end, within, inr (seen_closing_cut p _ s e 1 before after of_plan off))
+pub seen_cut : (p : PlannedShop) (input : List ℕ) (s e : DriveState) (before after : Streams) → s.control.plan.planned ≡ p
+    → IsCutOff DriveAnswer the_closing s input e before after → IsCutOff (CellAnswers p) (CellCloses p) (seen s) input (seen e) before after
+seen_cut p input s e before after of_plan (inl off) = inl (seen_cut_short p _ s e 1 before.output.taken after.output.taken of_plan off)
+seen_cut p input s e before after of_plan (inr (at_end, within, inl off)) = inr (at_end, within, inl (seen_cut_off p _ s e 1 before.output.taken after.output.taken of_plan off))
+seen_cut p input s e before after of_plan (inr (at_end, within, inr off)) = inr (at_end, within, inr (seen_closing_cut p _ s e 1 before.output.taken after.output.taken of_plan off))
 
 -- the answers to these lines were written
-pub seen_written : (p : PlannedShop) (lines : List (Option (List ℕ))) (s e : DriveState) (failed_before failed : Bool) (before after : Option (List ℕ)) → s.control.plan.planned ≡ p
-    → AreAnswered DriveAnswer s 1 lines e failed_before failed before after → (text : List ℕ) × AnswerAll (CellAnswers p) (seen s) 1 lines text (seen e) × Appends before after text
-seen_written p lines s e failed_before failed before after of_plan all = (all.text, (seen_answers p lines s e 1 all.text of_plan all.are_answers).0, all.written)
+pub seen_written : (p : PlannedShop) (lines : List (Option (List ℕ))) (s e : DriveState) (before after : Output) → s.control.plan.planned ≡ p
+    → AreAnswered DriveAnswer s 1 lines e (taker before) (taker after) → (text : List ℕ) × AnswerAll (CellAnswers p) (seen s) 1 lines text (seen e) × Appends before.taken after.taken text
+seen_written p lines s e before after of_plan all = (all.text, (seen_answers p lines s e 1 all.text of_plan all.are_answers).0, all.written)
 
-written : (v : VerifiedPlan) (lines : List (Option (List ℕ))) (e : DriveState) (failed_before failed : Bool) (before after : Option (List ℕ))
-    → AreAnswered DriveAnswer (drive_start v) 1 lines e failed_before failed before after → WereAnswersWritten v.planned lines before after
-written v lines e failed_before failed before after all =
-    let (text, are_answers, appended) = seen_written v.planned lines (drive_start v) e failed_before failed before after refl all in (text, seen e, are_answers, appended)
+written : (v : VerifiedPlan) (lines : List (Option (List ℕ))) (e : DriveState) (before after : Output)
+    → AreAnswered DriveAnswer (drive_start v) 1 lines e (taker before) (taker after) → WereAnswersWritten v.planned lines before after
+written v lines e before after all =
+    let (text, are_answers, appended) = seen_written v.planned lines (drive_start v) e before after refl all in (text, seen e, are_answers, appended)
 
 -- it was broken off
-off : {T : Type 0} {room : ℕ} (v : VerifiedPlan) (fault : DriveFault) (e : DriveState) (read_failed_before read_failed write_failed_before write_failed : Bool) (left_before left_after before after : Option (List ℕ)) (pending : List ℕ)
-    → IsStreamed {T = T} (Err fault) room DriveAnswer the_closing (drive_start v) e read_failed_before read_failed left_before left_after write_failed_before write_failed before after pending → room ≡ 65536
-    → (input : List ℕ) × Consumes left_before left_after input × IsBrokenOff fault v.planned input read_failed_before read_failed left_after write_failed_before write_failed before after pending
-off v Read e read_failed_before read_failed write_failed_before write_failed left_before left_after before after pending streamed room_is =
-    let told = streamed.comes_to in (streamed.input, streamed.was_read, (told.0, told.1, written v _ e write_failed_before write_failed before after told.2, told.2.unfailed, streamed.shown))
-off v Write e read_failed_before read_failed write_failed_before write_failed left_before left_after before after pending streamed room_is =
-    let told = streamed.comes_to in (streamed.input, streamed.was_read, (told.0, (seen e, seen_cut v.planned streamed.input (drive_start v) e left_after before after refl told.1), told.2))
-off v InputTooLong e read_failed_before read_failed write_failed_before write_failed left_before left_after before after pending streamed room_is =
+off : {T : Type 0} {room : ℕ} (v : VerifiedPlan) (fault : DriveFault) (e : DriveState) (before after : Streams)
+    → IsStreamed {T = T} (Err fault) room DriveAnswer the_closing (drive_start v) e before after → room ≡ 65536
+    → IsBrokenOff fault v.planned before after
+off v Read e before after streamed room_is =
+    let told = streamed.comes_to in (streamed.input, streamed.was_read, (told.0, told.1, written v _ e before.output after.output told.2, told.2.unfailed, streamed.shown))
+off v Write e before after streamed room_is =
+    let told = streamed.comes_to in (streamed.input, streamed.was_read, (told.0, (seen e, seen_cut v.planned streamed.input (drive_start v) e before after refl told.1), told.2))
+off v InputTooLong e before after streamed room_is =
     let told = streamed.comes_to in
     let most = told.1 in (
       streamed.input,
       streamed.was_read,
-      (told.0, omega (arith, most, room_is), written v _ e write_failed_before write_failed before after told.2, told.3, told.2.unfailed, streamed.shown),
+      (told.0, omega (arith, most, room_is), written v _ e before.output after.output told.2, told.3, told.2.unfailed, streamed.shown),
     )
-off v Memory e read_failed_before read_failed write_failed_before write_failed left_before left_after before after pending streamed room_is = absurd streamed.comes_to
+off v Memory e before after streamed room_is = absurd streamed.comes_to
 
-pub broken_off : {T : Type 0} {room : ℕ} (v : VerifiedPlan) (fault : DriveFault) (s e : DriveState) (read_failed_before read_failed write_failed_before write_failed : Bool) (left_before left_after before after : Option (List ℕ)) (pending : List ℕ) → s ≡ drive_start v
-    → IsStreamed {T = T} (Err fault) room DriveAnswer the_closing s e read_failed_before read_failed left_before left_after write_failed_before write_failed before after pending → room ≡ 65536
-    → (input : List ℕ) × Consumes left_before left_after input × IsBrokenOff fault v.planned input read_failed_before read_failed left_after write_failed_before write_failed before after pending
-broken_off {T} {room} v fault s e read_failed_before read_failed write_failed_before write_failed left_before left_after before after pending at_first streamed room_is =
-    off v fault e read_failed_before read_failed write_failed_before write_failed left_before left_after before after pending
-    (subst (λ d. IsStreamed {T = T} (Err fault) room DriveAnswer the_closing d e read_failed_before read_failed left_before left_after write_failed_before write_failed before after pending) at_first streamed)
+pub broken_off : {T : Type 0} {room : ℕ} (v : VerifiedPlan) (fault : DriveFault) (s e : DriveState) (before after : Streams) → s ≡ drive_start v
+    → IsStreamed {T = T} (Err fault) room DriveAnswer the_closing s e before after → room ≡ 65536
+    → IsBrokenOff fault v.planned before after
+broken_off {T} {room} v fault s e before after at_first streamed room_is =
+    off v fault e before after
+    (subst (λ d. IsStreamed {T = T} (Err fault) room DriveAnswer the_closing d e before after) at_first streamed)
     room_is
 
 -- what is said of a driven cell is said of the plan that it was made of

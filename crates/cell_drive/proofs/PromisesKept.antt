@@ -6,11 +6,10 @@ use Rattle.shop_base.specs.Cell.{Cell, start}
 use Rattle.shop_base.specs.Report.{Report}
 use Rattle.shop_base.specs.Run.{Event, Reported, Moved, ends_in}
 use Rattle.shop_base.specs.Controlled.{moved, step_orders, after_step, Leads, done, accepted, refused, IsControlledRun}
-use Rattle.shop_base.proofs.Keeping.{alone_on}
 use Rattle.shop_base.proofs.ControlledRuns.{controlled_to_run}
-use Rattle.shop_base.proofs.NeverStuck.{ended-or-goes_on, rest-not_stuck}
 use Rattle.shop_base.proofs.InTime.{controlled-leavings_kept, leaving-in_time}
 use Rattle.plan_verifier.specs.Accepted.{VerifiedPlan, IsVerified, kept_at, rank_in}
+use Rattle.cell_control.proofs.Promises.{rests_unstuck}
 use Rattle.cell_drive.specs.Driving.{IsBeforeReport, IsAsPromised, StaysAsPromised}
 
 -- moves and events after them, cut before a report: the cut comes after the moves
@@ -51,10 +50,7 @@ as_promised v rs es end verified controlled =
     let (again, same, sound_there, at_rest) = controlled_to_run p rs es (ends_in p es) shaped controlled_to in
     record {
       run = run;
-      at_rest = at_rest;
-      apart = λ i k j l m one other. alone_on p (ends_in p es) i k j l m shaped sound_there one other;
-      not_stuck = rest-not_stuck p (rank_in v) (ends_in p es) shaped verified.schedule.ranks sound_there at_rest;
-      goes_on = ended-or-goes_on p (rank_in v) (ends_in p es) shaped verified.schedule.ranks sound_there at_rest;
+      rests = rests_unstuck p (rank_in v) (ends_in p es) shaped verified.schedule.ranks sound_there at_rest;
       in_time = λ punctual j inside.
           let kept = controlled-leavings_kept p (rank_in v) (kept_at v) rs es (ends_in p es) verified.schedule controlled_to punctual j inside in
           (kept, leaving-in_time p (kept_at v) (ends_in p es) j (verified.budgets j inside) kept);

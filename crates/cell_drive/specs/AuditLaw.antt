@@ -1,5 +1,5 @@
 -- The law that what a driven cell writes is a log, which an audit keeps.
-use Rattle.std.specs.Prelude.{◌≡◌, ℕ, ◌+◌, List, ◌++◌, Option, Some, Bool, Result, IfOk, IfErr, MatchResult}
+use Rattle.std.specs.Prelude.{◌≡◌, ℕ, ◌+◌, List, ◌++◌, Some, Bool, Result, IfOk, IfErr, MatchResult}
 use Rattle.shop_base.specs.Plan.{PlannedShop, IsWellShaped}
 use Rattle.shop_base.specs.Run.{IsRun}
 use Rattle.shop_base.specs.Ends.{stated_number, moves_in}
@@ -11,6 +11,7 @@ use Rattle.run_log.specs.declared.audit_fault.AuditFault.TheVariants.{Memory}
 use Rattle.cell_tables.specs.Events.{events_of}
 use Rattle.run_log.specs.LogLines.{LinesTell}
 use Rattle.run_log.specs.Audits.{IsAudit, TellRun}
+use Rattle.cell_drive.specs.Lent.{Streams}
 use Rattle.cell_drive.specs.AnswerText.{DrivenCell, IsAnswerText}
 use Rattle.cell_drive.specs.Driving.{cell_after, IsDrivenThrough, IsSoFar}
 
@@ -32,12 +33,12 @@ pub record IsFoundAgain (p : PlannedShop) (entries : List Entry) (done : Bool) (
   pub moment : audit.last ≡ last
   pub complete : audit.complete ≡ done
 
--- an audit of what was written finds what driving came to, and its only fault is that it is out of memory. The premises are what is promised of success in driving, into a taker that tells its bytes, and of an audit
+-- an audit of what was written finds what driving came to, and its only fault is that it is out of memory. The premises are what is promised of success in driving, into an output that tells its bytes, and of an audit
 abbrev pub AnAuditKeepsWhatWasDriven : Type 0
 AnAuditKeepsWhatWasDriven =
-    (p : PlannedShop) (entries : List Entry) (done : Bool) (last left : ℕ) (left_before left_after : Option (List ℕ)) (before text pending : List ℕ) (outcome : Result Audit AuditFault)
+    (p : PlannedShop) (entries : List Entry) (done : Bool) (last left : ℕ) (before after : Streams) (start text : List ℕ) (outcome : Result Audit AuditFault)
     → IsWellShaped p
-    → IsDrivenThrough p entries left_before left_after (Some before) (Some (before ++ text)) pending
+    → IsDrivenThrough p entries before after → before.output.taken ≡ Some start → after.output.taken ≡ Some (start ++ text)
     → IsSoFar p entries done last left
     → IfOk outcome (IsAudit p (lines_of text))
     → (TellRun p (lines_of text) → IfErr outcome (λ fault. fault ≡ Memory))

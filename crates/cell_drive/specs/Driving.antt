@@ -1,24 +1,24 @@
 -- What driving a cell comes to.
-use Rattle.std.specs.Prelude.{◌≡◌, ℕ, ◌+◌, ◌*◌, ◌<◌, ◌≤◌, ◌↔◌, ◌⊎◌, List, [], ◌∷◌, ◌++◌, length, take, Option, Bool, true, IsTrue}
+use Rattle.std.specs.Prelude.{◌≡◌, ℕ, ◌+◌, ◌*◌, ◌<◌, ◌≤◌, ◌↔◌, List, [], ◌∷◌, ◌++◌, length, take, Option, Bool, true, IsTrue}
 use Rattle.std.specs.Io.KnownBytes.{Appends, Consumes, IsAtEnd}
 use Rattle.shop_base.specs.Plan.{PlannedShop, jobs}
 use Rattle.shop_base.specs.Cell.{Cell, start}
 use Rattle.shop_base.specs.Report.{Report}
-use Rattle.shop_base.specs.Run.{Event, Reported, Moved, ends_in, IsRun, IsAtRest, IsStuck}
+use Rattle.shop_base.specs.Run.{Event, Reported, Moved, ends_in, IsRun}
 use Rattle.shop_base.specs.Controlled.{IsControlledRun}
 use Rattle.shop_base.specs.Punctual.{ArePunctual}
-use Rattle.shop_base.specs.StepLaw.{AreJobsApart}
-use Rattle.shop_base.specs.NeverStuckLaw.{CanGoOn}
 use Rattle.shop_base.specs.Ends.{stated_number, reports_in, HasEnded, IsInTime}
 use Rattle.shop_base.specs.KeptMoments.{KeepsLeaving}
 use Rattle.text_lines.specs.declared.limits.TheConstants.{MAX_INPUT}
 use Rattle.plan_verifier.specs.Accepted.{VerifiedPlan, kept_at}
+use Rattle.cell_control.specs.Promises.{RestsUnstuck}
 use Rattle.cell_tables.specs.declared.entry.Entry.{Entry}
 use Rattle.run_log.specs.Log.{Noted}
 use Rattle.cell_tables.specs.Events.{events_of}
 use Rattle.cell_drive.specs.declared.drive_fault.DriveFault.{DriveFault}
 use Rattle.cell_drive.specs.declared.drive_fault.DriveFault.TheVariants.{Read, Write, InputTooLong, Memory}
 use Rattle.cell_drive.specs.declared.rooms.TheConstants.{MAX_PIECE}
+use Rattle.cell_drive.specs.Lent.{Output, Streams}
 use Rattle.cell_drive.specs.Lines.{complete_lines}
 use Rattle.cell_drive.specs.Streams.{IsCutOff}
 use Rattle.cell_drive.specs.AnswerText.{DrivenCell, undriven, CellAnswers, CellCloses, AreAnswersTo, IsAnswerText}
@@ -28,34 +28,39 @@ abbrev pub cell_after : PlannedShop → List Entry → Cell
 cell_after p entries = ends_in p (events_of entries)
 
 -- the whole input was read, and its answer text was written and shown; these are the events in it
-pub record IsDrivenThrough (p : PlannedShop) (entries : List Entry) (left_before left_after before after : Option (List ℕ)) (pending : List ℕ) : Type 0 where
+pub record IsDrivenThrough (p : PlannedShop) (entries : List Entry) (before after : Streams) : Type 0 where
   pub input : List ℕ
-  pub was_read : Consumes left_before left_after input
-  pub at_end : IsAtEnd left_after
+  pub was_read : Consumes before.input.left after.input.left input
+  pub at_end : IsAtEnd after.input.left
   pub within : length input ≤ MAX_INPUT
   pub text : List ℕ
   pub is_answer_text : IsAnswerText p input text (record { cell = cell_after p entries; entries = entries })
-  pub written : Appends before after text
-  pub shown : pending ≡ []
+  pub written : Appends before.output.taken after.output.taken text
+  pub shown : after.output.pending ≡ []
 
 -- the answers to these lines were written, and nothing else
-abbrev pub WereAnswersWritten : PlannedShop → List (Option (List ℕ)) → Option (List ℕ) → Option (List ℕ) → Type 0
-WereAnswersWritten p lines before after = (text : List ℕ) × (end : DrivenCell) × AreAnswersTo p lines text end × Appends before after text
+abbrev pub WereAnswersWritten : PlannedShop → List (Option (List ℕ)) → Output → Output → Type 0
+WereAnswersWritten p lines before after = (text : List ℕ) × (end : DrivenCell) × AreAnswersTo p lines text end × Appends before.taken after.taken text
 
 -- an answer or the closing line was cut off by a write that failed, or couldn't be shown, and no line behind it was taken
-abbrev pub WasCutOff : PlannedShop → List ℕ → Option (List ℕ) → Option (List ℕ) → Option (List ℕ) → Type 0
-WasCutOff p input left before after = (end : DrivenCell) × IsCutOff (CellAnswers p) (CellCloses p) (undriven p) input end left before after
+abbrev pub WasCutOff : PlannedShop → List ℕ → Streams → Streams → Type 0
+WasCutOff p input before after = (end : DrivenCell) × IsCutOff (CellAnswers p) (CellCloses p) (undriven p) input end before after
 
--- where driving was broken off: after a failed read, and where too much came, of which no piece was read behind the one that went past the limit, the answers to the complete lines within the limit were written and shown; after a failed write the answers up to that at which it failed, of which the first bytes were written; and without memory nothing. A device has failed only where it is the fault, or it had failed before
-abbrev pub IsBrokenOff : DriveFault → PlannedShop → List ℕ → Bool → Bool → Option (List ℕ) → Bool → Bool → Option (List ℕ) → Option (List ℕ) → List ℕ → Type 0
-IsBrokenOff Read p input read_failed_before read_failed left write_failed_before write_failed before after pending =
-    (read_failed ≡ true) × (length input ≤ MAX_INPUT) × WereAnswersWritten p (complete_lines input) before after × (write_failed ≡ write_failed_before) × (pending ≡ [])
-IsBrokenOff Write p input read_failed_before read_failed left write_failed_before write_failed before after pending =
-    (write_failed ≡ true) × WasCutOff p input left before after × (read_failed ≡ read_failed_before)
-IsBrokenOff InputTooLong p input read_failed_before read_failed left write_failed_before write_failed before after pending =
-    (MAX_INPUT < length input) × (length input ≤ MAX_INPUT + MAX_PIECE) × WereAnswersWritten p (complete_lines (take MAX_INPUT input)) before after × (read_failed ≡ read_failed_before) × (write_failed ≡ write_failed_before) × (pending ≡ [])
-IsBrokenOff Memory p input read_failed_before read_failed left write_failed_before write_failed before after pending =
-    (input ≡ []) × (after ≡ before) × (read_failed ≡ read_failed_before) × (write_failed ≡ write_failed_before)
+-- what came of an input once this much of it was read: after a failed read, and where too much came, of which no piece was read behind the one that went past the limit, the answers to the complete lines within the limit were written and shown; after a failed write the answers up to that at which it failed, of which the first bytes were written; and without memory nothing. A device has failed only where it is the fault, or it had failed before
+abbrev pub BreaksOff : DriveFault → PlannedShop → List ℕ → Streams → Streams → Type 0
+BreaksOff Read p input before after =
+    (after.input.failed ≡ true) × (length input ≤ MAX_INPUT) × WereAnswersWritten p (complete_lines input) before.output after.output × (after.output.failed ≡ before.output.failed) × (after.output.pending ≡ [])
+BreaksOff Write p input before after =
+    (after.output.failed ≡ true) × WasCutOff p input before after × (after.input.failed ≡ before.input.failed)
+BreaksOff InputTooLong p input before after =
+    (MAX_INPUT < length input) × (length input ≤ MAX_INPUT + MAX_PIECE) × WereAnswersWritten p (complete_lines (take MAX_INPUT input)) before.output after.output
+    × (after.input.failed ≡ before.input.failed) × (after.output.failed ≡ before.output.failed) × (after.output.pending ≡ [])
+BreaksOff Memory p input before after =
+    (input ≡ []) × (after.output.taken ≡ before.output.taken) × (after.input.failed ≡ before.input.failed) × (after.output.failed ≡ before.output.failed)
+
+-- driving was broken off by this fault, once so much of the input was read
+abbrev pub IsBrokenOff : DriveFault → PlannedShop → Streams → Streams → Type 0
+IsBrokenOff fault p before after = (input : List ℕ) × Consumes before.input.left after.input.left input × BreaksOff fault p input before after
 
 -- the events are the controlled run of some reports by the plan, which leads to the cell after them
 abbrev pub IsRunOf : PlannedShop → List Entry → Type 0
@@ -79,13 +84,10 @@ IsBeforeReport [] = Unit {0}
 IsBeforeReport (Reported r ∷ es) = Unit {0}
 IsBeforeReport (Moved o ∷ es) = ⊥
 
--- what an accepted plan promises after these events: they are a run, the cell is at rest with no two jobs on one machine, it isn't stuck, and while all reports were punctual each job is in time
+-- what an accepted plan promises after these events: they are a run, the cell rests and isn't stuck, and while all reports were punctual each job is in time
 pub record IsAsPromised (v : VerifiedPlan) (es : List Event) : Type 0 where
   pub run : IsRun v.planned es
-  pub at_rest : IsAtRest v.planned (ends_in v.planned es)
-  pub apart : AreJobsApart v.planned (ends_in v.planned es)
-  pub not_stuck : IsStuck v.planned (ends_in v.planned es) → ⊥
-  pub goes_on : HasEnded v.planned (ends_in v.planned es) ⊎ CanGoOn v.planned (ends_in v.planned es)
+  pub rests : RestsUnstuck v.planned (ends_in v.planned es)
   pub in_time : ArePunctual v.planned (start v.planned) es → (j : ℕ) → j < jobs v.planned
       → KeepsLeaving v.planned (kept_at v) (ends_in v.planned es) j × IsInTime v.planned (ends_in v.planned es) j
 

@@ -7,6 +7,7 @@ use Rattle.cell_control.specs.Control.{Control, at_start}
 use Rattle.cell_drive.specs.declared.drive_fault.DriveFault.{DriveFault}
 use Rattle.cell_drive.specs.declared.drive_fault.DriveFault.TheVariants.{Read, Write, InputTooLong, Memory}
 use Rattle.cell_drive.specs.declared.rooms.TheConstants.{MAX_PIECE}
+use Rattle.cell_drive.specs.Lent.{Output, Streams}
 use Rattle.cell_drive.specs.Lines.{input_lines, complete_lines}
 use Rattle.cell_drive.specs.Streams.{IsCutOff}
 use Rattle.cell_drive.specs.ManyCells.{CellsAnswer, CellsClose, AreAllDone}
@@ -14,34 +15,39 @@ use Rattle.cell_drive.specs.CellsTextLaw.{AreCellsAnswersTo, IsCellsAnswerText}
 use Rattle.cell_drive.specs.CellsAlone.{AreAsAlone}
 
 -- the whole input was read, and its answer text was written and shown. It leads to cells each of which is as with a controller alone, and stayed as its plan promises; all are done just where the run of each has ended
-pub record AreDrivenThrough (plans : List VerifiedPlan) (all_done : Bool) (left_before left_after before after : Option (List ℕ)) (pending : List ℕ) : Type 0 where
+pub record AreDrivenThrough (plans : List VerifiedPlan) (all_done : Bool) (before after : Streams) : Type 0 where
   pub input : List ℕ
-  pub was_read : Consumes left_before left_after input
-  pub at_end : IsAtEnd left_after
+  pub was_read : Consumes before.input.left after.input.left input
+  pub at_end : IsAtEnd after.input.left
   pub within : length input ≤ MAX_INPUT
   pub text : List ℕ
   pub end : List Control
   pub is_answer_text : IsCellsAnswerText plans input text end
-  pub written : Appends before after text
-  pub shown : pending ≡ []
+  pub written : Appends before.output.taken after.output.taken text
+  pub shown : after.output.pending ≡ []
   pub done : IsTrue all_done ↔ AreAllDone end
   pub promised : AreAsAlone plans (input_lines input) end
 
 -- the answers to these lines were written, and nothing else
-abbrev pub WereCellsAnswersWritten : List VerifiedPlan → List (Option (List ℕ)) → Option (List ℕ) → Option (List ℕ) → Type 0
-WereCellsAnswersWritten plans lines before after = (text : List ℕ) × (end : List Control) × AreCellsAnswersTo plans lines text end × Appends before after text
+abbrev pub WereCellsAnswersWritten : List VerifiedPlan → List (Option (List ℕ)) → Output → Output → Type 0
+WereCellsAnswersWritten plans lines before after = (text : List ℕ) × (end : List Control) × AreCellsAnswersTo plans lines text end × Appends before.taken after.taken text
 
 -- an answer or the closing lines were cut off by a write that failed, or couldn't be shown, and no line behind that was taken
-abbrev pub WereCellsCutOff : List VerifiedPlan → List ℕ → Option (List ℕ) → Option (List ℕ) → Option (List ℕ) → Type 0
-WereCellsCutOff plans input left before after = (end : List Control) × IsCutOff CellsAnswer (CellsClose 0) (map at_start plans) input end left before after
+abbrev pub WereCellsCutOff : List VerifiedPlan → List ℕ → Streams → Streams → Type 0
+WereCellsCutOff plans input before after = (end : List Control) × IsCutOff CellsAnswer (CellsClose 0) (map at_start plans) input end before after
 
--- where driving was broken off, as with one cell
-abbrev pub AreBrokenOff : DriveFault → List VerifiedPlan → List ℕ → Bool → Bool → Option (List ℕ) → Bool → Bool → Option (List ℕ) → Option (List ℕ) → List ℕ → Type 0
-AreBrokenOff Read plans input read_failed_before read_failed left write_failed_before write_failed before after pending =
-    (read_failed ≡ true) × (length input ≤ MAX_INPUT) × WereCellsAnswersWritten plans (complete_lines input) before after × (write_failed ≡ write_failed_before) × (pending ≡ [])
-AreBrokenOff Write plans input read_failed_before read_failed left write_failed_before write_failed before after pending =
-    (write_failed ≡ true) × WereCellsCutOff plans input left before after × (read_failed ≡ read_failed_before)
-AreBrokenOff InputTooLong plans input read_failed_before read_failed left write_failed_before write_failed before after pending =
-    (MAX_INPUT < length input) × (length input ≤ MAX_INPUT + MAX_PIECE) × WereCellsAnswersWritten plans (complete_lines (take MAX_INPUT input)) before after × (read_failed ≡ read_failed_before) × (write_failed ≡ write_failed_before) × (pending ≡ [])
-AreBrokenOff Memory plans input read_failed_before read_failed left write_failed_before write_failed before after pending =
-    (input ≡ []) × (after ≡ before) × (read_failed ≡ read_failed_before) × (write_failed ≡ write_failed_before)
+-- what came of an input once this much of it was read, as with one cell
+abbrev pub BreakOff : DriveFault → List VerifiedPlan → List ℕ → Streams → Streams → Type 0
+BreakOff Read plans input before after =
+    (after.input.failed ≡ true) × (length input ≤ MAX_INPUT) × WereCellsAnswersWritten plans (complete_lines input) before.output after.output × (after.output.failed ≡ before.output.failed) × (after.output.pending ≡ [])
+BreakOff Write plans input before after =
+    (after.output.failed ≡ true) × WereCellsCutOff plans input before after × (after.input.failed ≡ before.input.failed)
+BreakOff InputTooLong plans input before after =
+    (MAX_INPUT < length input) × (length input ≤ MAX_INPUT + MAX_PIECE) × WereCellsAnswersWritten plans (complete_lines (take MAX_INPUT input)) before.output after.output
+    × (after.input.failed ≡ before.input.failed) × (after.output.failed ≡ before.output.failed) × (after.output.pending ≡ [])
+BreakOff Memory plans input before after =
+    (input ≡ []) × (after.output.taken ≡ before.output.taken) × (after.input.failed ≡ before.input.failed) × (after.output.failed ≡ before.output.failed)
+
+-- driving was broken off by this fault, once so much of the input was read
+abbrev pub AreBrokenOff : DriveFault → List VerifiedPlan → Streams → Streams → Type 0
+AreBrokenOff fault plans before after = (input : List ℕ) × Consumes before.input.left after.input.left input × BreakOff fault plans input before after

@@ -1,5 +1,6 @@
 -- Reached by public clauses: to be read and believed.
 pub mod Lines
+pub mod Lent
 pub mod Answering
 pub mod Streams
 pub mod Devices

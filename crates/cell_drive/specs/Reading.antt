@@ -1,68 +1,78 @@
 -- How far an input has been read and answered.
-use Rattle.std.specs.Prelude.{◌≡◌, ℕ, ◌+◌, ◌<◌, ◌≤◌, List, [], ◌∷◌, ◌++◌, length, take, Option, Some, None, Bool, true, Result, Ok, Err, ◌⊎◌}
+use Rattle.std.specs.Prelude.{◌≡◌, ℕ, ◌+◌, ◌<◌, ◌≤◌, List, [], ◌∷◌, ◌++◌, length, take, Option, Some, None, true, Result, Ok, Err, ◌⊎◌}
 use Rattle.std.specs.Io.KnownBytes.{Appends, Consumes, IsAtEnd}
 use Rattle.text_lines.specs.declared.limits.TheConstants.{MAX_INPUT}
 use Rattle.cell_drive.specs.declared.drive_fault.DriveFault.{DriveFault}
 use Rattle.cell_drive.specs.declared.drive_fault.DriveFault.TheVariants.{Read, Write, InputTooLong, Memory}
+use Rattle.cell_drive.specs.declared.pieces.Input.{Input as Held}
+use Rattle.cell_drive.specs.Lent.{Taker, Output, Streams, taker}
 use Rattle.cell_drive.specs.Holding.{ended, held_after, held_line}
 use Rattle.cell_drive.specs.Answering.{AnswerAll, AreAnswered, AreCutOff, AreCutShort, IsClosingCut}
 
--- the lines that end in a piece were answered and no write failed, where so many lines had ended and this was held before it
-pub record IsPieceAnswered {S : Type 0} (answers : S → ℕ → Option (List ℕ) → List ℕ → S → Type 0) (start : S) (lines : ℕ) (held : Option (List ℕ)) (piece : List ℕ)
-    (end : S) (lines_then : ℕ) (held_then : Option (List ℕ)) (failed_before failed : Bool) (before after : Option (List ℕ)) : Type 0 where
+-- how far an input is answered: the state that its lines lead to, how many have ended, and what is held of the next
+pub record Reached (S : Type 0) : Type 0 where
+  pub state : S
+  pub lines : ℕ
+  pub held : Option (List ℕ)
+
+abbrev pub reached : {S : Type 0} → S → Held → Reached S
+reached handler input = record { state = handler; lines = input.lines; held = input.held }
+
+-- before the first byte
+abbrev pub at_first : {S : Type 0} → S → Reached S
+at_first start = record { state = start; lines = 0; held = Some [] }
+
+-- the lines that end in a piece were answered and no write failed
+pub record IsPieceAnswered {S : Type 0} (answers : S → ℕ → Option (List ℕ) → List ℕ → S → Type 0) (now : Reached S) (piece : List ℕ) (next : Reached S) (before after : Taker) : Type 0 where
   pub text : List ℕ
-  pub are_answers : AnswerAll answers start (lines + 1) (ended held piece) text end
-  pub written : Appends before after text
-  pub unfailed : failed ≡ failed_before
-  pub lines_are : lines_then ≡ lines + length (ended held piece)
-  pub held_is : held_then ≡ held_after held piece
+  pub are_answers : AnswerAll answers now.state (now.lines + 1) (ended now.held piece) text next.state
+  pub written : Appends before.taken after.taken text
+  pub unfailed : after.failed ≡ before.failed
+  pub lines_are : next.lines ≡ now.lines + length (ended now.held piece)
+  pub held_is : next.held ≡ held_after now.held piece
 
 -- the fault where more came than the limit: what was answered is shown, or that failed
-abbrev pub IsPastLimit : DriveFault → Bool → Bool → List ℕ → Type 0
-IsPastLimit InputTooLong failed_before failed pending = (failed ≡ failed_before) × (pending ≡ [])
-IsPastLimit Write failed_before failed pending = failed ≡ true
-IsPastLimit Read failed_before failed pending = ⊥
-IsPastLimit Memory failed_before failed pending = ⊥
+abbrev pub IsPastLimit : DriveFault → Output → Output → Type 0
+IsPastLimit InputTooLong before after = (after.failed ≡ before.failed) × (after.pending ≡ [])
+IsPastLimit Write before after = after.failed ≡ true
+IsPastLimit Read before after = ⊥
+IsPastLimit Memory before after = ⊥
 
 -- what was read was taken, as far as so many bytes were left of the limit
-abbrev pub IsReadTaken : {S : Type 0} → Result ℕ DriveFault → (S → ℕ → Option (List ℕ) → List ℕ → S → Type 0) → S → ℕ → Option (List ℕ) → List ℕ → ℕ
-    → S → ℕ → Option (List ℕ) → Bool → Bool → Option (List ℕ) → Option (List ℕ) → Type 0
-IsReadTaken (Ok rest) answers start lines held piece left end lines_then held_then failed_before failed before after =
-    (rest + length piece ≡ left) × IsPieceAnswered answers start lines held piece end lines_then held_then failed_before failed before after
-IsReadTaken (Err InputTooLong) answers start lines held piece left end lines_then held_then failed_before failed before after =
-    (left < length piece) × IsPieceAnswered answers start lines held (take left piece) end lines_then held_then failed_before failed before after
-IsReadTaken (Err Write) answers start lines held piece left end lines_then held_then failed_before failed before after =
-    (failed ≡ true) × AreCutShort answers start (lines + 1) (ended held (take left piece)) end before after
-IsReadTaken (Err Read) answers start lines held piece left end lines_then held_then failed_before failed before after = ⊥
-IsReadTaken (Err Memory) answers start lines held piece left end lines_then held_then failed_before failed before after = ⊥
+abbrev pub IsReadTaken : {S : Type 0} → Result ℕ DriveFault → (S → ℕ → Option (List ℕ) → List ℕ → S → Type 0) → Reached S → List ℕ → ℕ → Reached S → Taker → Taker → Type 0
+IsReadTaken (Ok rest) answers now piece left next before after = (rest + length piece ≡ left) × IsPieceAnswered answers now piece next before after
+IsReadTaken (Err InputTooLong) answers now piece left next before after = (left < length piece) × IsPieceAnswered answers now (take left piece) next before after
+IsReadTaken (Err Write) answers now piece left next before after =
+    (after.failed ≡ true) × AreCutShort answers now.state (now.lines + 1) (ended now.held (take left piece)) next.state before.taken after.taken
+IsReadTaken (Err Read) answers now piece left next before after = ⊥
+IsReadTaken (Err Memory) answers now piece left next before after = ⊥
 
 -- which device has failed once more was asked for
-abbrev pub IsReadOn : {T : Type 0} → Result T DriveFault → Bool → Bool → Bool → Bool → Type 0
-IsReadOn (Ok x) read_failed_before read_failed write_failed_before write_failed = (read_failed ≡ read_failed_before) × (write_failed ≡ write_failed_before)
-IsReadOn (Err Read) read_failed_before read_failed write_failed_before write_failed = (read_failed ≡ true) × (write_failed ≡ write_failed_before)
-IsReadOn (Err Write) read_failed_before read_failed write_failed_before write_failed = (read_failed ≡ read_failed_before) × (write_failed ≡ true)
-IsReadOn (Err InputTooLong) read_failed_before read_failed write_failed_before write_failed = ⊥
-IsReadOn (Err Memory) read_failed_before read_failed write_failed_before write_failed = ⊥
+abbrev pub IsReadOn : {T : Type 0} → Result T DriveFault → Streams → Streams → Type 0
+IsReadOn (Ok x) before after = (after.input.failed ≡ before.input.failed) × (after.output.failed ≡ before.output.failed)
+IsReadOn (Err Read) before after = (after.input.failed ≡ true) × (after.output.failed ≡ before.output.failed)
+IsReadOn (Err Write) before after = (after.input.failed ≡ before.input.failed) × (after.output.failed ≡ true)
+IsReadOn (Err InputTooLong) before after = ⊥
+IsReadOn (Err Memory) before after = ⊥
 
 -- what reading comes to once these bytes were read into a room of so many, piece by piece, the last line apart, and which device has failed
-abbrev pub ReadsTo : {S T : Type 0} → Result T DriveFault → ℕ → (S → ℕ → Option (List ℕ) → List ℕ → S → Type 0) → S → List ℕ
-    → S → ℕ → Option (List ℕ) → Bool → Bool → Option (List ℕ) → Bool → Bool → Option (List ℕ) → Option (List ℕ) → Type 0
-ReadsTo (Ok x) room answers start bytes end lines held read_failed_before read_failed left write_failed_before write_failed before after =
-    IsAtEnd left × (length bytes ≤ MAX_INPUT) × IsPieceAnswered answers start 0 (Some []) bytes end lines held write_failed_before write_failed before after × (read_failed ≡ read_failed_before)
-ReadsTo (Err Read) room answers start bytes end lines held read_failed_before read_failed left write_failed_before write_failed before after =
-    (read_failed ≡ true) × (length bytes ≤ MAX_INPUT) × AreAnswered answers start 1 (ended (Some []) bytes) end write_failed_before write_failed before after
-ReadsTo (Err Write) room answers start bytes end lines held read_failed_before read_failed left write_failed_before write_failed before after =
-    (write_failed ≡ true) × AreCutShort answers start 1 (ended (Some []) (take MAX_INPUT bytes)) end before after × (read_failed ≡ read_failed_before)
-ReadsTo (Err InputTooLong) room answers start bytes end lines held read_failed_before read_failed left write_failed_before write_failed before after =
-    (MAX_INPUT < length bytes) × (length bytes ≤ MAX_INPUT + room) × AreAnswered answers start 1 (ended (Some []) (take MAX_INPUT bytes)) end write_failed_before write_failed before after × (read_failed ≡ read_failed_before)
-ReadsTo (Err Memory) room answers start bytes end lines held read_failed_before read_failed left write_failed_before write_failed before after = ⊥
+abbrev pub ReadsTo : {S T : Type 0} → Result T DriveFault → ℕ → (S → ℕ → Option (List ℕ) → List ℕ → S → Type 0) → S → List ℕ → Reached S → Streams → Streams → Type 0
+ReadsTo (Ok x) room answers start bytes next before after =
+    IsAtEnd after.input.left × (length bytes ≤ MAX_INPUT) × IsPieceAnswered answers (at_first start) bytes next (taker before.output) (taker after.output) × (after.input.failed ≡ before.input.failed)
+ReadsTo (Err Read) room answers start bytes next before after =
+    (after.input.failed ≡ true) × (length bytes ≤ MAX_INPUT) × AreAnswered answers start 1 (ended (Some []) bytes) next.state (taker before.output) (taker after.output)
+ReadsTo (Err Write) room answers start bytes next before after =
+    (after.output.failed ≡ true) × AreCutShort answers start 1 (ended (Some []) (take MAX_INPUT bytes)) next.state before.output.taken after.output.taken × (after.input.failed ≡ before.input.failed)
+ReadsTo (Err InputTooLong) room answers start bytes next before after =
+    (MAX_INPUT < length bytes) × (length bytes ≤ MAX_INPUT + room) × AreAnswered answers start 1 (ended (Some []) (take MAX_INPUT bytes)) next.state (taker before.output) (taker after.output)
+    × (after.input.failed ≡ before.input.failed)
+ReadsTo (Err Memory) room answers start bytes next before after = ⊥
 
 -- these bytes were read into a room of so many, and this is what reading comes to
-pub record IsDrained {S T : Type 0} (outcome : Result T DriveFault) (room : ℕ) (answers : S → ℕ → Option (List ℕ) → List ℕ → S → Type 0) (start end : S) (lines : ℕ) (held : Option (List ℕ))
-    (read_failed_before read_failed : Bool) (left_before left_after : Option (List ℕ)) (write_failed_before write_failed : Bool) (before after : Option (List ℕ)) : Type 0 where
+pub record IsDrained {S T : Type 0} (outcome : Result T DriveFault) (room : ℕ) (answers : S → ℕ → Option (List ℕ) → List ℕ → S → Type 0) (start : S) (next : Reached S) (before after : Streams) : Type 0 where
   pub bytes : List ℕ
-  pub was_read : Consumes left_before left_after bytes
-  pub comes_to : ReadsTo outcome room answers start bytes end lines held read_failed_before read_failed left_after write_failed_before write_failed before after
+  pub was_read : Consumes before.input.left after.input.left bytes
+  pub comes_to : ReadsTo outcome room answers start bytes next before after
 
 -- the last line, if it has bytes and no line feed
 abbrev pub last_line : Option (List ℕ) → List (Option (List ℕ))
@@ -71,18 +81,17 @@ last_line (Some []) = []
 last_line (Some (b ∷ bytes)) = held_line (Some (b ∷ bytes)) ∷ []
 
 -- the last line was answered, the closing text was written behind it, and no write failed
-pub record IsWhollyFinished {S : Type 0} (answers : S → ℕ → Option (List ℕ) → List ℕ → S → Type 0) (closes : S → List ℕ → Type 0) (start : S) (lines : ℕ) (held : Option (List ℕ))
-    (end : S) (failed_before failed : Bool) (before after : Option (List ℕ)) : Type 0 where
+pub record IsWhollyFinished {S : Type 0} (answers : S → ℕ → Option (List ℕ) → List ℕ → S → Type 0) (closes : S → List ℕ → Type 0) (now : Reached S) (end : S) (before after : Taker) : Type 0 where
   pub text : List ℕ
-  pub are_answers : AnswerAll answers start (lines + 1) (last_line held) text end
+  pub are_answers : AnswerAll answers now.state (now.lines + 1) (last_line now.held) text end
   pub closing : List ℕ
   pub is_closing : closes end closing
-  pub written : Appends before after (text ++ closing)
-  pub unfailed : failed ≡ failed_before
+  pub written : Appends before.taken after.taken (text ++ closing)
+  pub unfailed : after.failed ≡ before.failed
 
 -- so it was finished, or a write failed at the last answer, at the closing text, or at showing them
-abbrev pub IsFinished : {S T E : Type 0} → Result T E → (S → ℕ → Option (List ℕ) → List ℕ → S → Type 0) → (S → List ℕ → Type 0) → S → ℕ → Option (List ℕ)
-    → S → Bool → Bool → Option (List ℕ) → Option (List ℕ) → Type 0
-IsFinished (Ok x) answers closes start lines held end failed_before failed before after = IsWhollyFinished answers closes start lines held end failed_before failed before after
-IsFinished (Err e) answers closes start lines held end failed_before failed before after =
-    (failed ≡ true) × (AreCutOff answers start (lines + 1) (last_line held) end before after ⊎ IsClosingCut answers closes start (lines + 1) (last_line held) end before after)
+abbrev pub IsFinished : {S T E : Type 0} → Result T E → (S → ℕ → Option (List ℕ) → List ℕ → S → Type 0) → (S → List ℕ → Type 0) → Reached S → S → Taker → Taker → Type 0
+IsFinished (Ok x) answers closes now end before after = IsWhollyFinished answers closes now end before after
+IsFinished (Err e) answers closes now end before after =
+    (after.failed ≡ true) × (AreCutOff answers now.state (now.lines + 1) (last_line now.held) end before.taken after.taken
+    ⊎ IsClosingCut answers closes now.state (now.lines + 1) (last_line now.held) end before.taken after.taken)

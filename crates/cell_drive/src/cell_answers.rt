@@ -3,8 +3,8 @@
 ghost use Rattle.std.specs.Prelude.{◌≡◌, [], ◌++◌, if◌then◌else◌, OnOk};
 ghost use Rattle.std.specs.List.{flat_map};
 ghost use Rattle.cell_tables.specs.Reports.{said};
-ghost use Rattle.run_log.specs.Sinks.{Wrote};
 ghost use Rattle.run_log.specs.EventLines.{report_line, order_line};
+ghost use Rattle.cell_drive.specs.Lent.{WroteTo};
 ghost use Rattle.cell_drive.specs.AnswerLines.{late_line};
 ghost use Rattle.cell_drive.specs.DrivenLines.{closing_line};
 ghost use Rattle.cell_drive.specs.ManyCells.{accepted_lines};
@@ -21,7 +21,7 @@ pub(crate) fn put_behind<W: Sink>(
     line: &[u8],
     writer: &mut W,
 ) -> Result<(), WriteFault>
-    ensures wrote { Wrote result (W.failed writer.new) (W.taken writer.old) (W.taken writer.new) (prefix.now ++ line.now) }
+    ensures wrote { WroteTo W.Sink result writer.old writer.new (prefix.now ++ line.now) }
     ensures unfailed { OnOk result (W.failed writer.new ≡ W.failed writer.old) }
 {
     if prefix.is_empty() {
@@ -33,7 +33,7 @@ pub(crate) fn put_behind<W: Sink>(
 
 #[inline(always)]
 fn put_report_line<W: Sink>(prefix: &[u8], report: Report, writer: &mut W) -> Result<(), WriteFault>
-    ensures wrote { Wrote result (W.failed writer.new) (W.taken writer.old) (W.taken writer.new) (prefix.now ++ report_line report) }
+    ensures wrote { WroteTo W.Sink result writer.old writer.new (prefix.now ++ report_line report) }
     ensures unfailed { OnOk result (W.failed writer.new ≡ W.failed writer.old) }
 {
     let mut line = LineText::ended();
@@ -48,7 +48,7 @@ fn put_late<W: Sink>(
     late: bool,
     writer: &mut W,
 ) -> Result<(), WriteFault>
-    ensures wrote { Wrote result (W.failed writer.new) (W.taken writer.old) (W.taken writer.new) (if late then prefix.now ++ late_line (said report).at else []) }
+    ensures wrote { WroteTo W.Sink result writer.old writer.new (if late then prefix.now ++ late_line (said report).at else []) }
     ensures unfailed { OnOk result (W.failed writer.new ≡ W.failed writer.old) }
 {
     if !late {
@@ -63,7 +63,7 @@ fn put_orders<W: Sink>(
     orders: &[MoveOrder],
     writer: &mut W,
 ) -> Result<(), WriteFault>
-    ensures wrote { Wrote result (W.failed writer.new) (W.taken writer.old) (W.taken writer.new) (flat_map (λ o. prefix.now ++ order_line o) orders.now) }
+    ensures wrote { WroteTo W.Sink result writer.old writer.new (flat_map (λ o. prefix.now ++ order_line o) orders.now) }
     ensures unfailed { OnOk result (W.failed writer.new ≡ W.failed writer.old) }
 {
     for order in orders {
@@ -83,7 +83,7 @@ pub(crate) fn put_accepted<W: Sink>(
     orders: &[MoveOrder],
     writer: &mut W,
 ) -> Result<(), WriteFault>
-    ensures wrote { Wrote result (W.failed writer.new) (W.taken writer.old) (W.taken writer.new) (accepted_lines prefix.now report late orders.now) }
+    ensures wrote { WroteTo W.Sink result writer.old writer.new (accepted_lines prefix.now report late orders.now) }
     ensures unfailed { OnOk result (W.failed writer.new ≡ W.failed writer.old) }
 {
     put_report_line(prefix, report, writer)?;
@@ -97,7 +97,7 @@ pub(crate) fn put_closing<D: Dues, W: Sink>(
     controller: &Controller<D>,
     writer: &mut W,
 ) -> Result<(), WriteFault>
-    ensures wrote { Wrote result (W.failed writer.new) (W.taken writer.old) (W.taken writer.new) (prefix.now ++ closing_line controller.now.plan.planned controller.now.cell) }
+    ensures wrote { WroteTo W.Sink result writer.old writer.new (prefix.now ++ closing_line controller.now.plan.planned controller.now.cell) }
     ensures unfailed { OnOk result (W.failed writer.new ≡ W.failed writer.old) }
 {
     let left = controller.reports_left();

@@ -5,9 +5,8 @@ ghost use Rattle.cell_control.specs.Control.{IsAnswered};
 ghost use Rattle.cell_tables.specs.Reports.{said};
 ghost use Rattle.cell_control.specs.Reports.{IsFirstReason};
 ghost use Rattle.run_log.specs.Log.{Notes};
-ghost use Rattle.run_log.specs.Sinks.{Wrote};
+ghost use Rattle.cell_drive.specs.Lent.{WroteTo, WroteOneTo};
 ghost use Rattle.cell_drive.specs.AnswerLines.{refused_line};
-ghost use Rattle.cell_drive.specs.Answering.{WasAnswered};
 ghost use Rattle.cell_drive.specs.Driven.{IsDriven, DriveAnswer};
 
 use crate::answer_lines::refused_line;
@@ -73,7 +72,7 @@ pub(crate) fn put_refused<W: Sink>(
     writer: &mut W,
 ) -> Result<(), WriteFault>
     requires { length name.now ≤ 20 }
-    ensures wrote { Wrote result (W.failed writer.new) (W.taken writer.old) (W.taken writer.new) (refused_line number name.now) }
+    ensures wrote { WroteTo W.Sink result writer.old writer.new (refused_line number name.now) }
     ensures unfailed { OnOk result (W.failed writer.new ≡ W.failed writer.old) }
 {
     put_all(writer, refused_line(number, name).bytes())
@@ -91,8 +90,8 @@ fn answer_told<D: Dues, W: Sink>(
     requires driven { IsDriven (record { control = controller.old; log = log.old }) }
     requires told { line.now ≢ [] }
     ensures driven { IsDriven (record { control = controller.new; log = log.new }) }
-    ensures answered { WasAnswered DriveAnswer (record { control = controller.old; log = log.old }) number (Some line.now)
-        (record { control = controller.new; log = log.new }) result (W.failed writer.old) (W.failed writer.new) (W.taken writer.old) (W.taken writer.new) }
+    ensures answered { WroteOneTo W.Sink result writer.old writer.new (λ text. DriveAnswer
+        (record { control = controller.old; log = log.old }) number (Some line.now) text (record { control = controller.new; log = log.new })) }
 {
     let Some(report) = report_of(line) else {
         return put_refused(number, b"BadLine", writer);
@@ -113,8 +112,8 @@ fn answer_line<D: Dues, W: Sink>(
 ) -> Result<(), WriteFault>
     requires { IsDriven (record { control = controller.old; log = log.old }) }
     ensures driven { IsDriven (record { control = controller.new; log = log.new }) }
-    ensures answered { WasAnswered DriveAnswer (record { control = controller.old; log = log.old }) number (Some line.now)
-        (record { control = controller.new; log = log.new }) result (W.failed writer.old) (W.failed writer.new) (W.taken writer.old) (W.taken writer.new) }
+    ensures answered { WroteOneTo W.Sink result writer.old writer.new (λ text. DriveAnswer
+        (record { control = controller.old; log = log.old }) number (Some line.now) text (record { control = controller.new; log = log.new })) }
 {
     if line.is_empty() {
         return Ok(());

@@ -3,8 +3,7 @@
 ghost use Rattle.std.specs.Prelude.{◌≡◌, ◌↔◌, ◌++◌, slice_get, [], ◌∷◌, Some, IsTrue, IfErr, OnOk};
 ghost use Rattle.shop_base.specs.Ends.{HasEnded};
 ghost use Rattle.cell_control.specs.Control.{Control};
-ghost use Rattle.run_log.specs.Sinks.{Wrote};
-ghost use Rattle.cell_drive.specs.Answering.{WasAnswered};
+ghost use Rattle.cell_drive.specs.Lent.{WroteTo, WroteOneTo};
 ghost use Rattle.cell_drive.specs.CellLines.{cell_prefix};
 ghost use Rattle.cell_drive.specs.DrivenLines.{closing_line};
 ghost use Rattle.cell_drive.specs.ManyCells.{CellsAnswer, AreAllDone, accepted_lines};
@@ -57,7 +56,7 @@ fn put_cell_answer<W: Sink>(
     orders: &[MoveOrder],
     writer: &mut W,
 ) -> Result<(), WriteFault>
-    ensures wrote { Wrote result (W.failed writer.new) (W.taken writer.old) (W.taken writer.new) (accepted_lines (cell_prefix cell) report late orders.now) }
+    ensures wrote { WroteTo W.Sink result writer.old writer.new (accepted_lines (cell_prefix cell) report late orders.now) }
     ensures unfailed { OnOk result (W.failed writer.new ≡ W.failed writer.old) }
 {
     let prefix = prefix_of(u64::from(cell));
@@ -73,8 +72,8 @@ fn answer_line<D: Dues, W: Sink>(
 ) -> Result<(), WriteFault>
     requires { AreNumbered hub.old tickets.now }
     ensures numbered { AreNumbered hub.new tickets.now }
-    ensures answered { WasAnswered CellsAnswer (contents_of hub.old tickets.now) number (Some line.now) (contents_of hub.new tickets.now)
-        result (W.failed writer.old) (W.failed writer.new) (W.taken writer.old) (W.taken writer.new) }
+    ensures answered { WroteOneTo W.Sink result writer.old writer.new (λ text.
+        CellsAnswer (contents_of hub.old tickets.now) number (Some line.now) text (contents_of hub.new tickets.now)) }
 {
     if line.is_empty() {
         return Ok(());
@@ -99,7 +98,7 @@ fn put_numbered_closing<D: Dues, W: Sink>(
 ) -> Result<(), WriteFault>
     requires { AreNumbered hub.now tickets.now }
     ensures wrote { (content : Control) → slice_get (contents_of hub.now tickets.now) cell ≡ Some content
-        → Wrote result (W.failed writer.new) (W.taken writer.old) (W.taken writer.new) (cell_prefix cell ++ closing_line content.plan.planned content.cell) }
+        → WroteTo W.Sink result writer.old writer.new (cell_prefix cell ++ closing_line content.plan.planned content.cell) }
     ensures unfailed { OnOk result (W.failed writer.new ≡ W.failed writer.old) }
 {
     match numbered_cell(hub, tickets, cell) {
@@ -115,7 +114,7 @@ fn put_closings<D: Dues, W: Sink>(
     writer: &mut W,
 ) -> Result<(), WriteFault>
     requires { AreNumbered hub.now tickets.now }
-    ensures wrote { Wrote result (W.failed writer.new) (W.taken writer.old) (W.taken writer.new) (closing_text 0 (contents_of hub.now tickets.now)) }
+    ensures wrote { WroteTo W.Sink result writer.old writer.new (closing_text 0 (contents_of hub.now tickets.now)) }
     ensures unfailed { OnOk result (W.failed writer.new ≡ W.failed writer.old) }
 {
     for cell in 0..tickets.len() {

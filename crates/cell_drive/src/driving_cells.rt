@@ -1,7 +1,7 @@
 //! Several runs that are driven from their starts to the end of one input.
 
-ghost use Rattle.std.specs.Prelude.{◌≡◌, ℕ, List, IfOk, IfErr, OnOk, Err};
-ghost use Rattle.std.specs.Io.KnownBytes.{Consumes};
+ghost use Rattle.std.specs.Prelude.{◌≡◌, IfOk, IfErr, OnOk, Err};
+ghost use Rattle.cell_drive.specs.Lent.{streams_of};
 ghost use Rattle.cell_drive.specs.DrivingCells.{AreDrivenThrough, AreBrokenOff};
 
 use crate::drive_fault::DriveFault;
@@ -33,10 +33,11 @@ pub fn drive_hub<R: Source, W: Outlet>(
     reader: &mut R,
     writer: &mut W,
 ) -> Result<HubEnd, DriveFault>
-    ensures through { IfOk result (λ end. AreDrivenThrough cells.items end.all_done (R.left reader.old) (R.left reader.new) (W.taken writer.old) (W.taken writer.new) (W.pending writer.new)) }
+    ensures through { IfOk result (λ end. AreDrivenThrough cells.items end.all_done
+        (streams_of R.Source W.Sink W.pending reader.old writer.old) (streams_of R.Source W.Sink W.pending reader.new writer.new)) }
     ensures unfailed { OnOk result ((R.failed reader.new ≡ R.failed reader.old) × (W.failed writer.new ≡ W.failed writer.old)) }
-    ensures broken_off { IfErr result (λ fault. (input : List ℕ) × Consumes (R.left reader.old) (R.left reader.new) input
-        × AreBrokenOff fault cells.items input (R.failed reader.old) (R.failed reader.new) (R.left reader.new) (W.failed writer.old) (W.failed writer.new) (W.taken writer.old) (W.taken writer.new) (W.pending writer.new)) }
+    ensures broken_off { IfErr result (λ fault. AreBrokenOff fault cells.items
+        (streams_of R.Source W.Sink W.pending reader.old writer.old) (streams_of R.Source W.Sink W.pending reader.new writer.new)) }
     ensures untouched { result ≡ Err DriveFault.Memory → (reader.new ≡ reader.old) × (writer.new ≡ writer.old) }
 {
     let mut room = reading_room(alloc)?;

@@ -1,5 +1,5 @@
 ghost use Rattle.std.specs.Prelude.{ℕ, ◌≤◌, List, length, Option, Some, None};
-ghost use Rattle.cell_drive.specs.Answering.{WasAnswered, WasClosed};
+ghost use Rattle.cell_drive.specs.Lent.{WroteOneTo};
 
 use crate::held_line::MAX_LINE;
 use run_log::{Sink, WriteFault};
@@ -21,13 +21,13 @@ pub trait LineHandler {
         writer: &mut W,
     ) -> Result<(), WriteFault>
         requires { length line.now ≤ MAX_LINE }
-        ensures { WasAnswered answers self.old number (Some line.now) self.new result (W.failed writer.old) (W.failed writer.new) (W.taken writer.old) (W.taken writer.new) };
+        ensures { WroteOneTo W.Sink result writer.old writer.new (λ text. answers self.old number (Some line.now) text self.new) };
 
     /// Answers the line of this number, which has too many bytes.
     fn answer_long<W: Sink>(&mut self, number: u64, writer: &mut W) -> Result<(), WriteFault>
-        ensures { WasAnswered answers self.old number None self.new result (W.failed writer.old) (W.failed writer.new) (W.taken writer.old) (W.taken writer.new) };
+        ensures { WroteOneTo W.Sink result writer.old writer.new (λ text. answers self.old number None text self.new) };
 
     /// Writes the closing text, which stands behind the last answer.
     fn put_closing<W: Sink>(&self, writer: &mut W) -> Result<(), WriteFault>
-        ensures { WasClosed closes self.now result (W.failed writer.old) (W.failed writer.new) (W.taken writer.old) (W.taken writer.new) };
+        ensures { WroteOneTo W.Sink result writer.old writer.new (closes self.now) };
 }

@@ -4,7 +4,8 @@ ghost use Rattle.std.specs.Prelude.{◌≡◌, ◌+◌, ◌^◌, ◌<◌, [], le
 ghost use Rattle.text_lines.specs.Lines.{without_return};
 ghost use Rattle.cell_drive.specs.Lines.{within_limit};
 ghost use Rattle.cell_drive.specs.Holding.{joined, held_line, ended, held_after};
-ghost use Rattle.cell_drive.specs.Answering.{WasAnswered, WereAnswered};
+ghost use Rattle.cell_drive.specs.Lent.{WroteOneTo, taker_of};
+ghost use Rattle.cell_drive.specs.Answering.{WereAnswered};
 
 use crate::held_line::{HeldLine, MAX_LINE};
 use crate::line_handler::LineHandler;
@@ -24,8 +25,8 @@ fn answer_bytes<H: LineHandler, W: Sink>(
     bytes: &[u8],
     writer: &mut W,
 ) -> Result<(), WriteFault>
-    ensures { WasAnswered H.answers handler.old number (within_limit (without_return bytes.now)) handler.new result
-        (W.failed writer.old) (W.failed writer.new) (W.taken writer.old) (W.taken writer.new) }
+    ensures { WroteOneTo W.Sink result writer.old writer.new (λ text.
+        H.answers handler.old number (within_limit (without_return bytes.now)) text handler.new) }
 {
     let line = without_return(bytes);
     if line.len() <= MAX_LINE {
@@ -42,8 +43,7 @@ pub(crate) fn answer_held<H: LineHandler, W: Sink>(
     held: &HeldLine,
     writer: &mut W,
 ) -> Result<(), WriteFault>
-    ensures { WasAnswered H.answers handler.old number (held_line held.now) handler.new result
-        (W.failed writer.old) (W.failed writer.new) (W.taken writer.old) (W.taken writer.new) }
+    ensures { WroteOneTo W.Sink result writer.old writer.new (λ text. H.answers handler.old number (held_line held.now) text handler.new) }
 {
     match held.bytes() {
         Some(bytes) => answer_bytes(handler, number, bytes, writer),
@@ -59,8 +59,8 @@ fn answer_ended<H: LineHandler, W: Sink>(
     bytes: &[u8],
     writer: &mut W,
 ) -> Result<(), WriteFault>
-    ensures answered { WasAnswered H.answers handler.old number (held_line (joined held.old bytes.now)) handler.new result
-        (W.failed writer.old) (W.failed writer.new) (W.taken writer.old) (W.taken writer.new) }
+    ensures answered { WroteOneTo W.Sink result writer.old writer.new (λ text.
+        H.answers handler.old number (held_line (joined held.old bytes.now)) text handler.new) }
     ensures cleared { held.new ≡ Some [] }
 {
     if held.is_empty() {
@@ -81,7 +81,7 @@ pub(crate) fn take_piece<H: LineHandler, W: Sink>(
 ) -> Result<(), WriteFault>
     requires { input.old.lines + length piece.now < 2 ^ 64 }
     ensures answered { WereAnswered H.answers handler.old (input.old.lines + 1) (ended input.old.held piece.now) handler.new result
-        (W.failed writer.old) (W.failed writer.new) (W.taken writer.old) (W.taken writer.new) }
+        (taker_of W.Sink writer.old) (taker_of W.Sink writer.new) }
     ensures held { OnOk result (input.new.held ≡ held_after input.old.held piece.now) }
     ensures lines { OnOk result (input.new.lines ≡ input.old.lines + length (ended input.old.held piece.now)) }
 {

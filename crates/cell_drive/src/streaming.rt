@@ -2,8 +2,9 @@
 
 ghost use Rattle.std.specs.Prelude.{◌≡◌, ◌+◌, ◌^◌, ◌<◌, ◌≤◌, [], length, Some, IfOk, IfErr, OnOk};
 ghost use Rattle.std.specs.Io.KnownBytes.{Keeps, ReadConsumes};
+ghost use Rattle.cell_drive.specs.Lent.{taker_of, output_of, streams_of};
 ghost use Rattle.cell_drive.specs.Answering.{WereAnswered};
-ghost use Rattle.cell_drive.specs.Reading.{IsReadOn, IsPastLimit, IsReadTaken, IsDrained, IsFinished, last_line};
+ghost use Rattle.cell_drive.specs.Reading.{IsReadOn, IsPastLimit, IsReadTaken, IsDrained, IsFinished, last_line, reached};
 ghost use Rattle.cell_drive.specs.Streams.{IsShown, IsShownAt, IsStreamed};
 
 use crate::drive_fault::DriveFault;
@@ -18,7 +19,7 @@ use text_lines::MAX_INPUT;
 /// Shows what was answered within the limit. Then the fault is that more came.
 fn past_limit<W: Outlet>(writer: &mut W) -> DriveFault
     ensures taken { Keeps (W.taken writer.old) (W.taken writer.new) }
-    ensures fault { IsPastLimit result (W.failed writer.old) (W.failed writer.new) (W.pending writer.new) }
+    ensures fault { IsPastLimit result (output_of W.Sink W.pending writer.old) (output_of W.Sink W.pending writer.new) }
 {
     match writer.show() {
         Ok(()) => DriveFault::InputTooLong,
@@ -35,8 +36,8 @@ fn take_read<H: LineHandler, W: Outlet>(
     writer: &mut W,
 ) -> Result<usize, DriveFault>
     requires { input.old.lines + left < 2 ^ 64 }
-    ensures taken { IsReadTaken result H.answers handler.old input.old.lines input.old.held piece.now left handler.new input.new.lines input.new.held
-        (W.failed writer.old) (W.failed writer.new) (W.taken writer.old) (W.taken writer.new) }
+    ensures taken { IsReadTaken result H.answers (reached handler.old input.old) piece.now left (reached handler.new input.new)
+        (taker_of W.Sink writer.old) (taker_of W.Sink writer.new) }
     ensures shown { IfErr result (λ fault. IsShownAt fault (W.pending writer.new)) }
 {
     let within = piece.len().min(left);
@@ -59,7 +60,8 @@ fn read_on<R: Source, W: Outlet>(
     ensures count { IfOk result (λ count. count ≤ length room.new) }
     ensures given { ReadConsumes (R.left reader.old) (R.left reader.new) result room.new }
     ensures taken { Keeps (W.taken writer.old) (W.taken writer.new) }
-    ensures failed { IsReadOn result (R.failed reader.old) (R.failed reader.new) (W.failed writer.old) (W.failed writer.new) }
+    ensures failed { IsReadOn result (streams_of R.Source W.Sink W.pending reader.old writer.old)
+        (streams_of R.Source W.Sink W.pending reader.new writer.new) }
     ensures shown { IsShown result (W.pending writer.new) }
 {
     if writer.show().is_err() {
@@ -82,8 +84,8 @@ fn drain<H: LineHandler, R: Source, W: Outlet>(
     requires none_held { input.old.held ≡ Some [] }
     requires no_lines { input.old.lines ≡ 0 }
     requires room { 0 < length room.old }
-    ensures drained { IsDrained result (length room.old) H.answers handler.old handler.new input.new.lines input.new.held
-        (R.failed reader.old) (R.failed reader.new) (R.left reader.old) (R.left reader.new) (W.failed writer.old) (W.failed writer.new) (W.taken writer.old) (W.taken writer.new) }
+    ensures drained { IsDrained result (length room.old) H.answers handler.old (reached handler.new input.new)
+        (streams_of R.Source W.Sink W.pending reader.old writer.old) (streams_of R.Source W.Sink W.pending reader.new writer.new) }
     ensures shown { IsShown result (W.pending writer.new) }
 {
     let mut left = MAX_INPUT;
@@ -104,7 +106,7 @@ fn answer_last<H: LineHandler, W: Sink>(
 ) -> Result<(), WriteFault>
     requires { input.now.lines + 1 < 2 ^ 64 }
     ensures { WereAnswered H.answers handler.old (input.now.lines + 1) (last_line input.now.held) handler.new result
-        (W.failed writer.old) (W.failed writer.new) (W.taken writer.old) (W.taken writer.new) }
+        (taker_of W.Sink writer.old) (taker_of W.Sink writer.new) }
 {
     if input.held.is_empty() {
         return Ok(());
@@ -119,8 +121,8 @@ fn finish<H: LineHandler, W: Outlet>(
     writer: &mut W,
 ) -> Result<(), WriteFault>
     requires { input.now.lines + 1 < 2 ^ 64 }
-    ensures finished { IsFinished result H.answers H.closes handler.old input.now.lines input.now.held handler.new
-        (W.failed writer.old) (W.failed writer.new) (W.taken writer.old) (W.taken writer.new) }
+    ensures finished { IsFinished result H.answers H.closes (reached handler.old input.now) handler.new
+        (taker_of W.Sink writer.old) (taker_of W.Sink writer.new) }
     ensures shown { OnOk result (W.pending writer.new ≡ []) }
 {
     answer_last(handler, input, writer)?;
@@ -143,7 +145,7 @@ pub fn stream<H: LineHandler, R: Source, W: Outlet>(
 ) -> Result<(), DriveFault>
     requires { 0 < length room.old }
     ensures { IsStreamed result (length room.old) H.answers H.closes handler.old handler.new
-        (R.failed reader.old) (R.failed reader.new) (R.left reader.old) (R.left reader.new) (W.failed writer.old) (W.failed writer.new) (W.taken writer.old) (W.taken writer.new) (W.pending writer.new) }
+        (streams_of R.Source W.Sink W.pending reader.old writer.old) (streams_of R.Source W.Sink W.pending reader.new writer.new) }
 {
     let mut input = Input {
         held: HeldLine::new(),

@@ -148,17 +148,15 @@ hub_shown cells before after (Err NotWritten) is none = inr is.broken_off.2.0
 hub_shown cells before after (Err TooLong) is none = inl is.broken_off.2.5
 hub_shown cells before after (Err WantOfMemory) is none = inl (ap (λ (s : Streams). s.output.pending) (is.untouched refl) ∙ none)
 
-broken_shown : (t : TakenUp) (before after : Streams) (fault : DriveFault) → IsBrokenOff fault t.driven.control.plan.planned t.driven.log.entries t.late
-    before.input.failed after.input.failed before.input.left after.input.left
-    before.output.failed after.output.failed before.output.taken after.output.taken after.output.pending → HoldsNothing after.output
+broken_shown : (t : TakenUp) (before after : Streams) (fault : DriveFault) → IsBrokenOff fault t before after → HoldsNothing after.output
 broken_shown t before after NotRead (inl again) = inr again.1
-broken_shown t before after NotRead (inr on) = inl on.3.shown
+broken_shown t before after NotRead (inr on) = inl on.4.shown
 broken_shown t before after NotWritten (inl again) = inr again.1
-broken_shown t before after NotWritten (inr on) = inr on.3.comes_to.0
+broken_shown t before after NotWritten (inr on) = inr on.4.comes_to.0
 broken_shown t before after TooLong (inl again) = inr again.1
-broken_shown t before after TooLong (inr on) = inl on.3.shown
+broken_shown t before after TooLong (inr on) = inl on.4.shown
 broken_shown t before after WantOfMemory (inl again) = inr again.1
-broken_shown t before after WantOfMemory (inr on) = inl on.3.shown
+broken_shown t before after WantOfMemory (inr on) = inl on.4.shown
 
 resume_shown : (t : TakenUp) (before after : Streams) (end : Result DriveEnd DriveFault) → IsResume t before after end → HoldsNothing after.output
 resume_shown t before after (Ok end) is = inl is.through.shown

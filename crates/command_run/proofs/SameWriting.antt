@@ -127,7 +127,7 @@ module _ (content : List ℕ → Result (List ℕ) CommandFault) (words : List (
   drive_wrote : (v : VerifiedPlan) (mid : Streams) (outcome : Result Answer CommandFault) (end : Result DriveEnd DriveFault) → v.planned ≡ p → IsDrive v well.before.streams mid end
       → IsEndAnswer (end_of_drive end) outcome → well.after.streams.input ≡ mid.input → Ends outcome mid.output well.after.streams.output well.before.errors well.after.errors status → Wrote p input status written
   drive_wrote v mid outcome (Ok end) same is answer same_input ends =
-      let through = subst (λ q. IsDrivenThrough q end.log.entries well.before.streams.input.left mid.input.left well.before.streams.output.taken mid.output.taken mid.output.pending) same is.through in
+      let through = subst (λ q. IsDrivenThrough q end.log.entries well.before.streams mid) same is.through in
       let came : through.input ≡ input = all_read well.before.streams.input.left mid.input.left input through.input well.given through.was_read through.at_end in
       let last = ended_as end.done outcome mid.output well.after.streams.output well.before.errors well.after.errors status well.was_written answer ends in
       let text : written ≡ through.text = written_is well.before.streams.output.taken mid.output.taken well.after.streams.output.taken well.start written through.text last.1.0 well.empty well.wrote through.written last.1.2 last.1.1 in

@@ -1,6 +1,5 @@
 -- What driving the cell of an accepted plan comes to.
-use Rattle.std.specs.Prelude.{◌≡◌, ℕ, List, [], Bool, true, false, Result, Ok, Err, IfOk, IfErr, OnOk}
-use Rattle.std.specs.Io.KnownBytes.{Consumes}
+use Rattle.std.specs.Prelude.{◌≡◌, ℕ, [], Bool, true, false, Result, Ok, Err, IfOk, IfErr, OnOk}
 use Rattle.plan_verifier.specs.declared.verdict.Verdict.TheVariants.{Accepted, Refused}
 use Rattle.plan_verifier.specs.Accepted.{VerifiedPlan}
 use Rattle.cell_drive.specs.declared.driving.DriveEnd.{DriveEnd}
@@ -25,13 +24,12 @@ drive_command_fault WantOfMemory = Memory
 
 -- the cell of the plan was driven to this end, and all that was answered is shown; or it was broken off by this fault
 pub record IsDrive (v : VerifiedPlan) (before after : Streams) (end : Result DriveEnd DriveFault) : Type 0 where
-  pub through : IfOk end (λ e. IsDrivenThrough v.planned e.log.entries before.input.left after.input.left before.output.taken after.output.taken after.output.pending)
+  pub through : IfOk end (λ e. IsDrivenThrough v.planned e.log.entries before after)
   pub run : IfOk end (λ e. IsRunOf v.planned e.log.entries)
   pub so_far : IfOk end (λ e. IsSoFar v.planned e.log.entries e.done e.last e.left)
   pub promised : IfOk end (λ e. NeverWentWrong v e.log.entries)
   pub unfailed : OnOk end ((after.input.failed ≡ before.input.failed) × (after.output.failed ≡ before.output.failed))
-  pub broken_off : IfErr end (λ fault. (input : List ℕ) × Consumes before.input.left after.input.left input
-      × IsBrokenOff fault v.planned input before.input.failed after.input.failed after.input.left before.output.failed after.output.failed before.output.taken after.output.taken after.output.pending)
+  pub broken_off : IfErr end (λ fault. IsBrokenOff fault v.planned before after)
   pub untouched : end ≡ Err WantOfMemory → after ≡ before
 
 -- the status of a run: whether it has ended

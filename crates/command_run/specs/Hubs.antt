@@ -1,6 +1,5 @@
 -- What driving the cells of several plans comes to.
-use Rattle.std.specs.Prelude.{◌≡◌, ℕ, List, Bool, Result, Ok, Err, IfOk, IfErr, OnOk}
-use Rattle.std.specs.Io.KnownBytes.{Consumes}
+use Rattle.std.specs.Prelude.{◌≡◌, List, Bool, Result, Ok, Err, IfOk, IfErr, OnOk}
 use Rattle.plan_verifier.specs.Accepted.{VerifiedPlan}
 use Rattle.cell_drive.specs.declared.driving_cells.HubEnd.{HubEnd}
 use Rattle.cell_drive.specs.declared.drive_fault.DriveFault.{DriveFault}
@@ -15,10 +14,9 @@ use Rattle.command_run.specs.Drives.{IsEndAnswer}
 
 -- the cells of the plans were driven to this end, and all that was answered is shown; or they were broken off by this fault
 pub record AreDrives (cells : List VerifiedPlan) (before after : Streams) (end : Result HubEnd DriveFault) : Type 0 where
-  pub through : IfOk end (λ e. AreDrivenThrough cells e.all_done before.input.left after.input.left before.output.taken after.output.taken after.output.pending)
+  pub through : IfOk end (λ e. AreDrivenThrough cells e.all_done before after)
   pub unfailed : OnOk end ((after.input.failed ≡ before.input.failed) × (after.output.failed ≡ before.output.failed))
-  pub broken_off : IfErr end (λ fault. (input : List ℕ) × Consumes before.input.left after.input.left input
-      × AreBrokenOff fault cells input before.input.failed after.input.failed after.input.left before.output.failed after.output.failed before.output.taken after.output.taken after.output.pending)
+  pub broken_off : IfErr end (λ fault. AreBrokenOff fault cells before after)
   pub untouched : end ≡ Err WantOfMemory → after ≡ before
 
 -- whether all runs have ended

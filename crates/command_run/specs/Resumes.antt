@@ -1,5 +1,5 @@
 -- What taking up the run of an accepted plan comes to.
-use Rattle.std.specs.Prelude.{◌≡◌, List, ℕ, length, take, Option, Some, None, Result, Ok, Err, IfOk, IfErr, OnOk}
+use Rattle.std.specs.Prelude.{◌≡◌, List, ℕ, length, Option, Some, None, Result, Ok, Err, IfOk, IfErr, OnOk}
 use Rattle.shop_base.specs.Cell.{start}
 use Rattle.plan_verifier.specs.Accepted.{VerifiedPlan}
 use Rattle.plan_verifier.specs.declared.verdict.Verdict.TheVariants.{Accepted, Refused}
@@ -11,7 +11,7 @@ use Rattle.run_resume.specs.declared.resume_fault.ResumeFault.TheVariants.{Memor
 use Rattle.run_resume.specs.ResumeNames.{fault_name}
 use Rattle.run_resume.specs.CutLogs.{ended_lines, IsTakenUp, IsResumeFault, IsOnlyFault, fault_line}
 use Rattle.run_resume.specs.LateEvents.{AreLate}
-use Rattle.run_resume.specs.Replays.{TakenUp}
+use Rattle.run_resume.specs.Replays.{TakenUp, told_in, shop_of}
 use Rattle.run_resume.specs.Resuming.{IsResumedThrough, IsBrokenOff}
 use Rattle.command_answers.specs.declared.answer.Answer.{Answer}
 use Rattle.command_answers.specs.declared.command_fault.CommandFault.{CommandFault}
@@ -28,21 +28,18 @@ use Rattle.command_run.specs.Drives.{IsEndAnswer, IsLineTold, end_of_drive}
 pub record IsTaking (v : VerifiedPlan) (text : List ℕ) (taken : Result TakenUp ResumeFault) : Type 0 where
   pub is : IfOk taken (λ t. IsTakenUp v.planned (ended_lines text) t.driven.log.entries (length t.late))
   pub plan : IfOk taken (λ t. t.driven.control.plan ≡ v)
-  pub late : IfOk taken (λ t. AreLate v.planned (start v.planned) (take (length t.late) t.driven.log.entries) t.late)
+  pub late : IfOk taken (λ t. AreLate v.planned (start v.planned) (told_in t) t.late)
   pub fault : IfErr taken (IsResumeFault v.planned (ended_lines text))
   pub only : IfErr taken (IsOnlyFault v.planned (ended_lines text))
 
 -- what was taken up was driven on to this end, and all that was answered is shown; or it was broken off by this fault
 pub record IsResume (t : TakenUp) (before after : Streams) (end : Result DriveEnd DriveFault) : Type 0 where
-  pub through : IfOk end (λ e. IsResumedThrough t.driven.control.plan.planned t.driven.log.entries t.late e.log.entries
-      before.input.left after.input.left before.output.taken after.output.taken after.output.pending)
-  pub run : IfOk end (λ e. IsRunOf t.driven.control.plan.planned e.log.entries)
-  pub so_far : IfOk end (λ e. IsSoFar t.driven.control.plan.planned e.log.entries e.done e.last e.left)
+  pub through : IfOk end (λ e. IsResumedThrough t e.log.entries before after)
+  pub run : IfOk end (λ e. IsRunOf (shop_of t) e.log.entries)
+  pub so_far : IfOk end (λ e. IsSoFar (shop_of t) e.log.entries e.done e.last e.left)
   pub promised : IfOk end (λ e. NeverWentWrong t.driven.control.plan e.log.entries)
   pub unfailed : OnOk end ((after.input.failed ≡ before.input.failed) × (after.output.failed ≡ before.output.failed))
-  pub broken_off : IfErr end (λ fault. IsBrokenOff fault t.driven.control.plan.planned t.driven.log.entries t.late
-      before.input.failed after.input.failed before.input.left after.input.left
-      before.output.failed after.output.failed before.output.taken after.output.taken after.output.pending)
+  pub broken_off : IfErr end (λ fault. IsBrokenOff fault t before after)
 
 -- the fault of a command that a fault of taking up is, if memory ran out
 abbrev pub resume_command_fault : ResumeFault → Option CommandFault

@@ -17,8 +17,7 @@ pub(crate) fn end<R: Source, W: Outlet, E: Sink>(
     streams: &mut Streams<R, W>,
     errors: &mut E,
 ) -> u8
-    ensures ends { Ends outcome streams.old.output streams.new.output
-        (errors_of E.taken E.failed errors.old) (errors_of E.taken E.failed errors.new) result }
+    ensures ends { Ends outcome streams.old.output streams.new.output (errors_of E.Sink errors.old) (errors_of E.Sink errors.new) result }
     ensures input { streams.new.input ≡ streams.old.input }
 {
     match outcome {
@@ -32,8 +31,7 @@ pub(crate) fn end<R: Source, W: Outlet, E: Sink>(
 
 /// Prints an answer, and shows it.
 fn print<W: Outlet>(answer: &Answer, output: &mut W) -> Outcome<u8>
-    ensures { IsPrinted answer.now (output_of W.taken W.failed W.pending output.old)
-        (output_of W.taken W.failed W.pending output.new) result }
+    ensures { IsPrinted answer.now (output_of W.Sink W.pending output.old) (output_of W.Sink W.pending output.new) result }
 {
     match put_all(output, &answer.text) {
         Ok(()) => match output.show() {
@@ -47,7 +45,7 @@ fn print<W: Outlet>(answer: &Answer, output: &mut W) -> Outcome<u8>
 /// Says on the standard error why there is no answer, and gives the status that the program ends with. Nothing is left
 /// to do where that can't be written. Where memory runs out for the line of a refused text, that is told.
 pub fn tell<E: Sink>(alloc: Global, fault: &CommandFault, errors: &mut E) -> u8
-    ensures { IsTold fault.now (errors_of E.taken E.failed errors.old) (errors_of E.taken E.failed errors.new) result }
+    ensures { IsTold fault.now (errors_of E.Sink errors.old) (errors_of E.Sink errors.new) result }
 {
     match text_line(alloc, fault) {
         Ok(line) => tell_line(errors, fault_line(fault, &line), fault.status()),
@@ -106,7 +104,7 @@ fn fault_line<'a>(fault: &CommandFault, line: &'a [u8]) -> &'a [u8]
 
 /// Writes as much of a line as can be written, and gives the status.
 pub(crate) fn tell_line<E: Sink>(errors: &mut E, line: &[u8], status: u8) -> u8
-    ensures told { WasTold line.now (errors_of E.taken E.failed errors.old) (errors_of E.taken E.failed errors.new) }
+    ensures told { WasTold line.now (errors_of E.Sink errors.old) (errors_of E.Sink errors.new) }
     ensures status { result ≡ status }
 {
     let _ = put_all(errors, line);

@@ -34,7 +34,7 @@ fn read_pieces<R: Source, W: Outlet>(
 ) -> Outcome<Vec<u8>>
     requires room { (0 < length room.old) × (length room.old ≤ MAX_PIECE) }
     requires shown { W.pending output.now ≡ [] }
-    ensures { IsInputRead (input_of R.left R.failed input.old) (text_of result) (input_of R.left R.failed input.new) }
+    ensures { IsInputRead (input_of R.Source input.old) (text_of result) (input_of R.Source input.new) }
 {
     let mut text = Vec::new(alloc);
     let mut left = MAX_INPUT;

@@ -148,7 +148,7 @@ module _ (control : Control) (log : Noted) (late : List Bool) (replayed : IsRepl
 
   -- a report that isn't possible, where all was told
   pub report_impossible : (number : ℕ) (r : Report) (reason : ReportFault) → length log.entries ≤ length late
-      → IsFirstReason p control.cell (said r) reason → IsEntryFault p log.entries late (ReportEntry r) (NotPossible number reason)
+      → IsFirstReason p control.cell (said r) reason → IsEntryFault (record { driven = record { control = control; log = log }; late = late }) (ReportEntry r) (NotPossible number reason)
   report_impossible number r reason all first due whole = go due (none_due log.entries (length late) due replayed.told.within whole all)
     where
       here : IsFirstReason p (cell_after p (told_part log.entries late)) (said r) reason

@@ -24,6 +24,7 @@ use Rattle.cell_drive.specs.AnswerLines.{late_line}
 use Rattle.run_resume.specs.ToldLines.{told_line, told_lines}
 use Rattle.run_log.specs.LogLines.{IsEntryOf, LinesTell}
 use Rattle.run_log.proofs.Audits.{events-join}
+use Rattle.cell_drive.specs.Lent.{Taker, Output, Streams, taker}
 use Rattle.cell_drive.specs.Lines.{input_lines}
 use Rattle.cell_drive.specs.Answering.{AnswerAll, AreAnswered}
 use Rattle.cell_drive.specs.Streams.{IsStreamed, ComesTo}
@@ -33,11 +34,12 @@ use Rattle.cell_drive.specs.AnswerText.{DrivenCell, CellAnswers, CellCloses}
 use Rattle.cell_drive.specs.Driven.{DriveState, IsDriven, DriveAnswer, ControlCloses}
 use Rattle.cell_drive.specs.Driving.{cell_after, IsRunOf}
 use Rattle.cell_drive.specs.AuditLaw.{IsLogOf}
-use Rattle.cell_drive.proofs.AuditKeeps.{found_where}
+use Rattle.cell_drive.proofs.AuditKeeps.{appended, found_where}
 use Rattle.cell_drive.proofs.DrivenEnds.{seen, seen_answers, seen_closes, seen_cut, the_closing, cell_is}
 use Rattle.cell_drive.proofs.OneText.{one_text, one_closing}
 use Rattle.cell_drive.proofs.ReadBack.{answers_told, AreTold, TellsFirst, tells_none, tells_both, tells_report, tells_order, tells_late}
 use Rattle.cell_drive.proofs.ShopEntries.{report_of_shop, order_of_shop}
+use Rattle.run_resume.specs.Replays.{shop_of}
 use Rattle.run_resume.specs.Resuming.{again_text, driven_so_far, IsResumedText, IsResumedThrough, IsBrokenOff, AResumedTextIsALog, OneResumedText, AnAuditKeepsWhatWasResumed}
 use Rattle.run_resume.specs.CutLaw.{WhatWasResumedIsTakenUp}
 use Rattle.run_resume.proofs.CutLogs.{run_of_leads, answers_lead, closing_part, a_cut_log_is_taken_up}
@@ -141,10 +143,11 @@ one_resumed_text p entries late input text other end last shaped run is also =
     (also.whole ∙ ap (λ (t : List ℕ). again_text entries late ++ t) behind ∙ sym is.whole, one.1)
 
 pub an_audit_keeps_what_was_resumed : AnAuditKeepsWhatWasResumed
-an_audit_keeps_what_was_resumed p entries late all is_done last left left_before left_after before text pending outcome shaped run few through so_far kept only =
-    let same : through.text ≡ text = append_cancel_left before through.text text (sym through.written) in
+an_audit_keeps_what_was_resumed taken all is_done last left before after start text outcome shaped run few through from to so_far kept only =
+    let p = shop_of taken in
+    let same : through.text ≡ text = append_cancel_left start through.text text (sym (appended before.output.taken after.output.taken start text through.text from to through.written)) in
     let is_log : IsLogOf p text (driven_so_far p all) = subst (λ (t : List ℕ). IsLogOf p t (driven_so_far p all)) same
-    (a_resumed_text_is_a_log p entries late through.input through.text (driven_so_far p all) shaped run few through.is_text).0 in
+    (a_resumed_text_is_a_log p taken.driven.log.entries taken.late through.input through.text (driven_so_far p all) shaped run few through.is_text).0 in
     found_where p all is_done last left text outcome is_log so_far kept (only (all, is_log.tells, is_log.run))
 
 -- ---- the stream behind what was taken up
@@ -156,11 +159,10 @@ module _ (s : DriveState) (driven : IsDriven s) where
   from : seen s ≡ driven_so_far p s.log.entries
   from = ap (λ (c : Cell). let d : DrivenCell = record { cell = c; entries = s.log.entries } in d) (cell_is s driven)
 
-  pub resumed_through : {T : Type 0} {room : ℕ} (x : T) (e : DriveState) (late : List Bool) (read_failed_before read_failed write_failed_before write_failed : Bool) (left_before left_after before middle after : Option (List ℕ)) (pending : List ℕ)
-      → Appends before middle (again_text s.log.entries late)
-      → IsStreamed {T = T} (Ok x) room DriveAnswer the_closing s e read_failed_before read_failed left_before left_after write_failed_before write_failed middle after pending → IsDriven e
-      → IsResumedThrough p s.log.entries late e.log.entries left_before left_after before after pending × (e.control.plan ≡ s.control.plan)
-  resumed_through x e late read_failed_before read_failed write_failed_before write_failed left_before left_after before middle after pending again streamed driven_then =
+  pub resumed_through : {T : Type 0} {room : ℕ} (x : T) (e : DriveState) (late : List Bool) (before : Streams) (middle : Output) (after : Streams) → Appends before.output.taken middle.taken (again_text s.log.entries late)
+      → IsStreamed {T = T} (Ok x) room DriveAnswer the_closing s e (record { input = before.input; output = middle }) after → IsDriven e
+      → IsResumedThrough (record { driven = s; late = late }) e.log.entries before after × (e.control.plan ≡ s.control.plan)
+  resumed_through x e late before middle after again streamed driven_then =
       let all = streamed.comes_to in
       let answers = seen_answers p _ s e 1 all.text refl all.are_answers in
       let plan_is = answers.1 in
@@ -181,42 +183,43 @@ module _ (s : DriveState) (driven : IsDriven s) where
             is_closing = subst (λ d. CellCloses p d all.closing) end_is (seen_closes p e all.closing same_plan all.is_closing);
             whole = refl;
           };
-          written = Appends-trans before middle after (again_text s.log.entries late) (all.text ++ all.closing) again all.written;
+          written = Appends-trans before.output.taken middle.taken after.output.taken (again_text s.log.entries late) (all.text ++ all.closing) again all.written;
           shown = streamed.shown;
         },
         plan_is,
       )
 
-  seen_answered : (lines : List (Option (List ℕ))) (e : DriveState) (failed_before failed : Bool) (before after : Option (List ℕ))
-      → AreAnswered DriveAnswer s 1 lines e failed_before failed before after → AreAnswered (CellAnswers p) (seen s) 1 lines (seen e) failed_before failed before after
-  seen_answered lines e failed_before failed before after all =
+  seen_answered : (lines : List (Option (List ℕ))) (e : DriveState) (before after : Taker)
+      → AreAnswered DriveAnswer s 1 lines e before after → AreAnswered (CellAnswers p) (seen s) 1 lines (seen e) before after
+  seen_answered lines e before after all =
       record { text = all.text; are_answers = (seen_answers p lines s e 1 all.text refl all.are_answers).0; written = all.written; unfailed = all.unfailed }
 
-  seen_fault : (T : Type 0) (room : ℕ) (fault : DriveFault) (input : List ℕ) (e : DriveState) (read_failed_before read_failed write_failed_before write_failed : Bool) (left before after : Option (List ℕ))
-      → ComesTo {T = T} (Err fault) room DriveAnswer the_closing s input e read_failed_before read_failed left write_failed_before write_failed before after
-      → ComesTo {T = Unit {0}} (Err fault) room (CellAnswers p) (CellCloses p) (seen s) input (seen e) read_failed_before read_failed left write_failed_before write_failed before after
-  seen_fault T room Read input e read_failed_before read_failed write_failed_before write_failed left before after told = (told.0, told.1, seen_answered _ e write_failed_before write_failed before after told.2)
-  seen_fault T room Write input e read_failed_before read_failed write_failed_before write_failed left before after told = (told.0, seen_cut p input s e left before after refl told.1, told.2)
-  seen_fault T room InputTooLong input e read_failed_before read_failed write_failed_before write_failed left before after told =
-      (told.0, told.1, seen_answered _ e write_failed_before write_failed before after told.2, told.3)
-  seen_fault T room Memory input e read_failed_before read_failed write_failed_before write_failed left before after told = told
+  seen_fault : (T : Type 0) (room : ℕ) (fault : DriveFault) (input : List ℕ) (e : DriveState) (before after : Streams)
+      → ComesTo {T = T} (Err fault) room DriveAnswer the_closing s input e before after
+      → ComesTo {T = Unit {0}} (Err fault) room (CellAnswers p) (CellCloses p) (seen s) input (seen e) before after
+  seen_fault T room Read input e before after told = (told.0, told.1, seen_answered _ e (taker before.output) (taker after.output) told.2)
+  seen_fault T room Write input e before after told = (told.0, seen_cut p input s e before after refl told.1, told.2)
+  seen_fault T room InputTooLong input e before after told =
+      (told.0, told.1, seen_answered _ e (taker before.output) (taker after.output) told.2, told.3)
+  seen_fault T room Memory input e before after told = told
 
-  pub resumed_off : {T : Type 0} {room : ℕ} (fault : DriveFault) (e : DriveState) (late : List Bool) (failed_first read_failed_before read_failed write_failed_before write_failed : Bool) (left_before left_after before middle after : Option (List ℕ)) (pending : List ℕ)
-      → write_failed_before ≡ failed_first → Appends before middle (again_text s.log.entries late)
-      → IsStreamed {T = T} (Err fault) room DriveAnswer the_closing s e read_failed_before read_failed left_before left_after write_failed_before write_failed middle after pending → room ≡ 65536
-      → IsBrokenOff fault p s.log.entries late read_failed_before read_failed left_before left_after failed_first write_failed before after pending
-  resumed_off {T} {room} fault e late failed_first read_failed_before read_failed write_failed_before write_failed left_before left_after before middle after pending unfailed again streamed room_is =
-      subst (λ (failed : Bool). IsBrokenOff fault p s.log.entries late read_failed_before read_failed left_before left_after failed write_failed before after pending) unfailed
-      (inr (
+  pub resumed_off : {T : Type 0} {room : ℕ} (fault : DriveFault) (e : DriveState) (late : List Bool) (before : Streams) (middle : Output) (after : Streams)
+      → middle.failed ≡ before.output.failed → Appends before.output.taken middle.taken (again_text s.log.entries late)
+      → IsStreamed {T = T} (Err fault) room DriveAnswer the_closing s e (record { input = before.input; output = middle }) after → room ≡ 65536
+      → IsBrokenOff fault (record { driven = s; late = late }) before after
+  resumed_off {T} {room} fault e late before middle after unfailed again streamed room_is =
+      let between : Streams = record { input = before.input; output = middle } in
+      inr (
         middle,
         seen e,
         again,
-        subst (λ (most : ℕ). IsStreamed {T = Unit {0}} (Err fault) most (CellAnswers p) (CellCloses p) (driven_so_far p s.log.entries) (seen e) read_failed_before read_failed left_before left_after write_failed_before write_failed middle after pending) room_is
-            (subst (λ (d : DrivenCell). IsStreamed {T = Unit {0}} (Err fault) room (CellAnswers p) (CellCloses p) d (seen e) read_failed_before read_failed left_before left_after write_failed_before write_failed middle after pending) from
+        unfailed,
+        subst (λ (most : ℕ). IsStreamed {T = Unit {0}} (Err fault) most (CellAnswers p) (CellCloses p) (driven_so_far p s.log.entries) (seen e) between after) room_is
+            (subst (λ (d : DrivenCell). IsStreamed {T = Unit {0}} (Err fault) room (CellAnswers p) (CellCloses p) d (seen e) between after) from
             (record {
               input = streamed.input;
               was_read = streamed.was_read;
-              comes_to = seen_fault T room fault streamed.input e read_failed_before read_failed write_failed_before write_failed left_after middle after streamed.comes_to;
+              comes_to = seen_fault T room fault streamed.input e between after streamed.comes_to;
               shown = streamed.shown;
             })),
-      ))
+      )

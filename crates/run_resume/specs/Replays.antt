@@ -8,6 +8,7 @@ use Rattle.cell_tables.specs.declared.entry.Entry.TheVariants.{Order as OrderEnt
 use Rattle.cell_control.specs.Control.{Control}
 use Rattle.run_log.specs.Log.{Noted}
 use Rattle.cell_drive.specs.Driven.{DriveState, IsDriven}
+use Rattle.run_resume.specs.declared.replay.Replay.{Replay}
 use Rattle.run_resume.specs.declared.resume_fault.ResumeFault.{ResumeFault}
 use Rattle.run_resume.specs.CutLogs.{IsFaultOf, IsFaultOfLine}
 use Rattle.run_resume.specs.LateEvents.{AreLate}
@@ -27,16 +28,27 @@ pub record HasTold (entries : List Entry) (told : ℕ) : Type 0 where
 abbrev pub told_part : List Entry → List Bool → List Entry
 told_part entries late = take (length late) entries
 
+abbrev pub told_in : TakenUp → List Entry
+told_in taken = told_part taken.driven.log.entries taken.late
+
+-- the shop of the plan
+abbrev pub shop_of : TakenUp → PlannedShop
+shop_of taken = taken.driven.control.plan.planned
+
+-- what the lines of a log have told so far, as a run that was taken up
+abbrev pub taken_so_far : {D : Type 0} → Replay D → TakenUp
+taken_so_far replay = record { driven = record { control = replay.controller; log = replay.log }; late = replay.late.items }
+
 -- a driven cell, and which of the entries that were told are late reports
 pub record IsReplayed (control : Control) (log : Noted) (late : List Bool) : Type 0 where
   pub driven : IsDriven (record { control = control; log = log })
   pub told : HasTold log.entries (length late)
   pub are_late : AreLate control.plan.planned (start control.plan.planned) (told_part log.entries late) late
 
--- the fault of an entry, where so many were told
-abbrev pub IsEntryFault : PlannedShop → List Entry → List Bool → Entry → ResumeFault → Type 0
-IsEntryFault p entries late entry fault = (due : List MoveOrder) → entries ≡ told_part entries late ++ map OrderEntry due → IsFaultOf p (told_part entries late) due entry fault
+-- the fault of an entry behind those that were told
+abbrev pub IsEntryFault : TakenUp → Entry → ResumeFault → Type 0
+IsEntryFault taken entry fault = (due : List MoveOrder) → taken.driven.log.entries ≡ told_in taken ++ map OrderEntry due → IsFaultOf (shop_of taken) (told_in taken) due entry fault
 
--- the fault of a line, where so many were told
-abbrev pub IsLineFault : PlannedShop → List Entry → List Bool → List ℕ → ResumeFault → Type 0
-IsLineFault p entries late line fault = (due : List MoveOrder) → entries ≡ told_part entries late ++ map OrderEntry due → IsFaultOfLine p (told_part entries late) due line fault
+-- the fault of a line behind them
+abbrev pub IsLineFault : TakenUp → List ℕ → ResumeFault → Type 0
+IsLineFault taken line fault = (due : List MoveOrder) → taken.driven.log.entries ≡ told_in taken ++ map OrderEntry due → IsFaultOfLine (shop_of taken) (told_in taken) due line fault

@@ -1,5 +1,5 @@
 -- What a run that is taken up goes on to write.
-use Rattle.std.specs.Prelude.{◌≡◌, ℕ, ◌≤◌, List, [], ◌∷◌, ◌++◌, length, take, drop, Option, Some, Bool, true, Result, Err, IfOk, IfErr, MatchResult, ◌⊎◌}
+use Rattle.std.specs.Prelude.{◌≡◌, ℕ, ◌≤◌, List, [], ◌∷◌, ◌++◌, length, take, drop, Some, Bool, true, Result, Err, IfOk, IfErr, MatchResult, ◌⊎◌}
 use Rattle.std.specs.Io.KnownBytes.{Appends, Consumes, IsAtEnd}
 use Rattle.shop_base.specs.Plan.{PlannedShop, IsWellShaped}
 use Rattle.text_lines.specs.declared.limits.TheConstants.{MAX_INPUT}
@@ -14,12 +14,14 @@ use Rattle.run_log.specs.Sinks.{TookPart}
 use Rattle.cell_drive.specs.declared.drive_fault.DriveFault.{DriveFault}
 use Rattle.cell_drive.specs.declared.drive_fault.DriveFault.TheVariants.{Write}
 use Rattle.cell_drive.specs.declared.rooms.TheConstants.{MAX_PIECE}
+use Rattle.cell_drive.specs.Lent.{Output, Streams}
 use Rattle.cell_drive.specs.Lines.{input_lines}
 use Rattle.cell_drive.specs.Streams.{IsStreamed}
 use Rattle.cell_drive.specs.Answering.{AnswerAll}
 use Rattle.cell_drive.specs.AnswerText.{DrivenCell, CellAnswers, CellCloses}
 use Rattle.cell_drive.specs.Driving.{cell_after, IsRunOf, IsSoFar}
 use Rattle.cell_drive.specs.AuditLaw.{IsLogOf, IsFoundAgain}
+use Rattle.run_resume.specs.Replays.{TakenUp, shop_of}
 use Rattle.run_resume.specs.ToldLines.{told_lines}
 
 -- the events that were told, an empty line, and the orders that were due
@@ -38,23 +40,28 @@ pub record IsResumedText (p : PlannedShop) (entries : List Entry) (late : List B
   pub is_closing : CellCloses p end closing
   pub whole : text ≡ again_text entries late ++ (answers ++ closing)
 
+-- the events of a run that was taken up, once more
+abbrev pub again_of : TakenUp → List ℕ
+again_of taken = again_text taken.driven.log.entries taken.late
+
 -- the whole input was read, and such a text was written and shown; these are the events in it
-pub record IsResumedThrough (p : PlannedShop) (entries : List Entry) (late : List Bool) (all : List Entry) (left_before left_after before after : Option (List ℕ)) (pending : List ℕ) : Type 0 where
+pub record IsResumedThrough (taken : TakenUp) (all : List Entry) (before after : Streams) : Type 0 where
   pub input : List ℕ
-  pub was_read : Consumes left_before left_after input
-  pub at_end : IsAtEnd left_after
+  pub was_read : Consumes before.input.left after.input.left input
+  pub at_end : IsAtEnd after.input.left
   pub within : length input ≤ MAX_INPUT
   pub text : List ℕ
-  pub is_text : IsResumedText p entries late input text (driven_so_far p all)
-  pub written : Appends before after text
-  pub shown : pending ≡ []
+  pub is_text : IsResumedText (shop_of taken) taken.driven.log.entries taken.late input text (driven_so_far (shop_of taken) all)
+  pub written : Appends before.output.taken after.output.taken text
+  pub shown : after.output.pending ≡ []
 
 -- driving on was broken off: not all of the events was written again, and nothing was read; or the stream of the answers, read into a room of 65,536 bytes, came to this fault
-abbrev pub IsBrokenOff : DriveFault → PlannedShop → List Entry → List Bool → Bool → Bool → Option (List ℕ) → Option (List ℕ) → Bool → Bool → Option (List ℕ) → Option (List ℕ) → List ℕ → Type 0
-IsBrokenOff fault p entries late read_failed_before read_failed left_before left_after write_failed_before write_failed before after pending =
-    ((fault ≡ Write) × (write_failed ≡ true) × (read_failed ≡ read_failed_before) × (left_after ≡ left_before) × TookPart before after (again_text entries late))
-    ⊎ ((middle : Option (List ℕ)) × (end : DrivenCell) × Appends before middle (again_text entries late)
-    × IsStreamed {T = Unit {0}} (Err fault) MAX_PIECE (CellAnswers p) (CellCloses p) (driven_so_far p entries) end read_failed_before read_failed left_before left_after write_failed_before write_failed middle after pending)
+abbrev pub IsBrokenOff : DriveFault → TakenUp → Streams → Streams → Type 0
+IsBrokenOff fault taken before after =
+    ((fault ≡ Write) × (after.output.failed ≡ true) × (after.input ≡ before.input) × TookPart before.output.taken after.output.taken (again_of taken))
+    ⊎ ((middle : Output) × (end : DrivenCell) × Appends before.output.taken middle.taken (again_of taken) × (middle.failed ≡ before.output.failed)
+    × IsStreamed {T = Unit {0}} (Err fault) MAX_PIECE (CellAnswers (shop_of taken)) (CellCloses (shop_of taken)) (driven_so_far (shop_of taken) taken.driven.log.entries) end
+    (record { input = before.input; output = middle }) after)
 
 -- such a text is by itself a log of the whole run
 abbrev pub AResumedTextIsALog : Type 0
@@ -69,10 +76,10 @@ OneResumedText = (p : PlannedShop) (entries : List Entry) (late : List Bool) (in
 -- an audit of such a text finds what driving came to, and its only fault is that it is out of memory
 abbrev pub AnAuditKeepsWhatWasResumed : Type 0
 AnAuditKeepsWhatWasResumed =
-    (p : PlannedShop) (entries : List Entry) (late : List Bool) (all : List Entry) (done : Bool) (last left : ℕ) (left_before left_after : Option (List ℕ)) (before text pending : List ℕ) (outcome : Result Audit AuditFault)
-    → IsWellShaped p → IsRunOf p entries → length late ≤ length entries
-    → IsResumedThrough p entries late all left_before left_after (Some before) (Some (before ++ text)) pending
-    → IsSoFar p all done last left
-    → IfOk outcome (IsAudit p (lines_of text))
-    → (TellRun p (lines_of text) → IfErr outcome (λ fault. fault ≡ Memory))
-    → MatchResult outcome (IsFoundAgain p all done last left) (λ fault. fault ≡ Memory)
+    (taken : TakenUp) (all : List Entry) (done : Bool) (last left : ℕ) (before after : Streams) (start text : List ℕ) (outcome : Result Audit AuditFault)
+    → IsWellShaped (shop_of taken) → IsRunOf (shop_of taken) taken.driven.log.entries → length taken.late ≤ length taken.driven.log.entries
+    → IsResumedThrough taken all before after → before.output.taken ≡ Some start → after.output.taken ≡ Some (start ++ text)
+    → IsSoFar (shop_of taken) all done last left
+    → IfOk outcome (IsAudit (shop_of taken) (lines_of text))
+    → (TellRun (shop_of taken) (lines_of text) → IfErr outcome (λ fault. fault ≡ Memory))
+    → MatchResult outcome (IsFoundAgain (shop_of taken) all done last left) (λ fault. fault ≡ Memory)

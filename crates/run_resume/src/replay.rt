@@ -5,7 +5,7 @@ ghost use Rattle.shop_base.specs.Ends.{stated_number};
 ghost use Rattle.run_log.specs.Auditing.{IsLineTaken};
 ghost use Rattle.run_log.specs.LogLines.{LinesTell};
 ghost use Rattle.run_resume.specs.CutLogs.{ended_lines, fault_line, IsFirstBad};
-ghost use Rattle.run_resume.specs.Replays.{IsReplayed, told_part, IsEntryFault, IsLineFault};
+ghost use Rattle.run_resume.specs.Replays.{IsReplayed, IsEntryFault, IsLineFault, taken_so_far, told_in};
 
 use crate::resume_fault::ResumeFault;
 use crate::same_order::is_same_order;
@@ -62,8 +62,7 @@ impl<D: Dues> Replay<D> {
         requires room { 2 * stated_number self.old.controller.plan.planned ≤ vec_capacity self.old.late }
         ensures replayed { OnOk result (IsReplayed self.new.controller self.new.log self.new.late.items) }
         ensures plan { OnOk result (self.new.controller.plan ≡ self.old.controller.plan) }
-        ensures tells { OnOk result (LinesTell self.old.controller.plan.planned (ended_lines text.now)
-            (told_part self.new.log.entries self.new.late.items)) }
+        ensures tells { OnOk result (LinesTell self.old.controller.plan.planned (ended_lines text.now) (told_in (taken_so_far self.new))) }
         ensures fault { IfErr result (IsFirstBad self.old.controller.plan.planned (ended_lines text.now)) }
     {
         let mut number = 0;
@@ -85,11 +84,10 @@ impl<D: Dues> Replay<D> {
         ensures replayed { OnOk result (IsReplayed self.new.controller self.new.log self.new.late.items) }
         ensures plan { OnOk result (self.new.controller.plan ≡ self.old.controller.plan) }
         ensures tells { OnOk result (IsLineTaken self.old.controller.plan.planned line.now
-            (told_part self.old.log.entries self.old.late.items) (told_part self.new.log.entries self.new.late.items)) }
+            (told_in (taken_so_far self.old)) (told_in (taken_so_far self.new))) }
         ensures capacity { OnOk result (vec_capacity self.new.late ≡ vec_capacity self.old.late) }
         ensures number { IfErr result (λ fault. fault_line fault ≡ number) }
-        ensures fault { IfErr result
-            (IsLineFault self.old.controller.plan.planned self.old.log.entries self.old.late.items line.now) }
+        ensures fault { IfErr result (IsLineFault (taken_so_far self.old) line.now) }
     {
         let Some(entry) = told_entry(self.controller.verified().shaped(), line) else {
             if is_passed_over(line) {
@@ -109,12 +107,10 @@ impl<D: Dues> Replay<D> {
         requires room { 2 * stated_number self.old.controller.plan.planned ≤ vec_capacity self.old.late }
         ensures replayed { OnOk result (IsReplayed self.new.controller self.new.log self.new.late.items) }
         ensures plan { OnOk result (self.new.controller.plan ≡ self.old.controller.plan) }
-        ensures told { OnOk result (told_part self.new.log.entries self.new.late.items
-            ≡ told_part self.old.log.entries self.old.late.items ++ Entry.Report report ∷ []) }
+        ensures told { OnOk result (told_in (taken_so_far self.new) ≡ told_in (taken_so_far self.old) ++ Entry.Report report ∷ []) }
         ensures capacity { OnOk result (vec_capacity self.new.late ≡ vec_capacity self.old.late) }
         ensures number { IfErr result (λ fault. fault_line fault ≡ number) }
-        ensures fault { IfErr result
-            (IsEntryFault self.old.controller.plan.planned self.old.log.entries self.old.late.items (Entry.Report report)) }
+        ensures fault { IfErr result (IsEntryFault (taken_so_far self.old) (Entry.Report report)) }
     {
         if self.late.len() < self.log.entries().len() {
             return Err(ResumeFault::NotOrdered { line: number });
@@ -137,12 +133,10 @@ impl<D: Dues> Replay<D> {
         requires room { 2 * stated_number self.old.controller.plan.planned ≤ vec_capacity self.old.late }
         ensures replayed { OnOk result (IsReplayed self.new.controller self.new.log self.new.late.items) }
         ensures plan { OnOk result (self.new.controller.plan ≡ self.old.controller.plan) }
-        ensures told { OnOk result (told_part self.new.log.entries self.new.late.items
-            ≡ told_part self.old.log.entries self.old.late.items ++ Entry.Order order ∷ []) }
+        ensures told { OnOk result (told_in (taken_so_far self.new) ≡ told_in (taken_so_far self.old) ++ Entry.Order order ∷ []) }
         ensures capacity { OnOk result (vec_capacity self.new.late ≡ vec_capacity self.old.late) }
         ensures number { IfErr result (λ fault. fault_line fault ≡ number) }
-        ensures fault { IfErr result
-            (IsEntryFault self.old.controller.plan.planned self.old.log.entries self.old.late.items (Entry.Order order)) }
+        ensures fault { IfErr result (IsEntryFault (taken_so_far self.old) (Entry.Order order)) }
     {
         match self.log.entries().get(self.late.len()) {
             Some(Entry::Order(next)) if is_same_order(order, *next) => {

@@ -1,8 +1,9 @@
 //! A run that was taken up and goes on.
 
 ghost use Rattle.std.specs.Prelude.{◌≡◌, ◌≤◌, length, IfOk, IfErr, OnOk};
-ghost use Rattle.run_log.specs.Sinks.{Wrote};
+ghost use Rattle.cell_drive.specs.Lent.{WroteTo, streams_of};
 ghost use Rattle.cell_drive.specs.Driving.{IsRunOf, IsSoFar, IsNeverFull, NeverWentWrong};
+ghost use Rattle.run_resume.specs.Replays.{shop_of};
 ghost use Rattle.run_resume.specs.Resuming.{again_text, IsResumedThrough, IsBrokenOff};
 
 use crate::taking_up::Taken;
@@ -15,8 +16,7 @@ use run_log::{Sink, WriteFault, put_all, write_lines};
 /// Writes the events that were told, an empty line, and the orders that are due.
 fn put_again<W: Sink>(entries: &[Entry], late: &[bool], writer: &mut W) -> Result<(), WriteFault>
     requires { length late.now ≤ length entries.now }
-    ensures wrote { Wrote result (W.failed writer.new) (W.taken writer.old) (W.taken writer.new)
-        (again_text entries.now late.now) }
+    ensures wrote { WroteTo W.Sink result writer.old writer.new (again_text entries.now late.now) }
     ensures unfailed { OnOk result (W.failed writer.new ≡ W.failed writer.old) }
 {
     let told = late.len();
@@ -32,8 +32,7 @@ fn put_taken<D: Dues, W: Sink>(
     writer: &mut W,
 ) -> Result<(), WriteFault>
     requires { length late.now ≤ length driven.now.log.entries }
-    ensures wrote { Wrote result (W.failed writer.new) (W.taken writer.old) (W.taken writer.new)
-        (again_text driven.now.log.entries late.now) }
+    ensures wrote { WroteTo W.Sink result writer.old writer.new (again_text driven.now.log.entries late.now) }
     ensures unfailed { OnOk result (W.failed writer.new ≡ W.failed writer.old) }
 {
     put_again(driven.log.entries(), late, writer)
@@ -48,19 +47,17 @@ pub fn resume<R: Source, W: Outlet>(
     reader: &mut R,
     writer: &mut W,
 ) -> Result<DriveEnd, DriveFault>
-    ensures through { IfOk result (λ end. IsResumedThrough taken.driven.control.plan.planned taken.driven.log.entries taken.late
-        end.log.entries (R.left reader.old) (R.left reader.new) (W.taken writer.old) (W.taken writer.new) (W.pending writer.new)) }
-    ensures run { IfOk result (λ end. IsRunOf taken.driven.control.plan.planned end.log.entries) }
-    ensures so_far { IfOk result (λ end.
-        IsSoFar taken.driven.control.plan.planned end.log.entries end.done end.last end.left) }
-    ensures never_full { IfOk result (λ end. IsNeverFull taken.driven.control.plan.planned end.log) }
+    ensures through { IfOk result (λ end. IsResumedThrough taken end.log.entries
+        (streams_of R.Source W.Sink W.pending reader.old writer.old) (streams_of R.Source W.Sink W.pending reader.new writer.new)) }
+    ensures run { IfOk result (λ end. IsRunOf (shop_of taken) end.log.entries) }
+    ensures so_far { IfOk result (λ end. IsSoFar (shop_of taken) end.log.entries end.done end.last end.left) }
+    ensures never_full { IfOk result (λ end. IsNeverFull (shop_of taken) end.log) }
     ensures promised { IfOk result (λ end. NeverWentWrong taken.driven.control.plan end.log.entries) }
     ensures plan { IfOk result (λ end. end.verified ≡ taken.driven.control.plan) }
     ensures unfailed { OnOk result
         ((R.failed reader.new ≡ R.failed reader.old) × (W.failed writer.new ≡ W.failed writer.old)) }
-    ensures broken_off { IfErr result (λ fault. IsBrokenOff fault taken.driven.control.plan.planned taken.driven.log.entries taken.late
-        (R.failed reader.old) (R.failed reader.new) (R.left reader.old) (R.left reader.new)
-        (W.failed writer.old) (W.failed writer.new) (W.taken writer.old) (W.taken writer.new) (W.pending writer.new)) }
+    ensures broken_off { IfErr result (λ fault. IsBrokenOff fault taken
+        (streams_of R.Source W.Sink W.pending reader.old writer.old) (streams_of R.Source W.Sink W.pending reader.new writer.new)) }
 {
     let Taken {
         mut driven,

@@ -1,9 +1,10 @@
 //! A log that is taken up.
 
-ghost use Rattle.std.specs.Prelude.{◌≡◌, take, length, IfOk, IfErr};
+ghost use Rattle.std.specs.Prelude.{◌≡◌, length, IfOk, IfErr};
 ghost use Rattle.shop_base.specs.Cell.{start};
 ghost use Rattle.run_resume.specs.CutLogs.{ended_lines, IsTakenUp, IsResumeFault, IsOnlyFault, IsCutLogText};
 ghost use Rattle.run_resume.specs.LateEvents.{AreLate};
+ghost use Rattle.run_resume.specs.Replays.{told_in};
 
 use crate::replay::{Replay, start_replay};
 use crate::resume_fault::ResumeFault;
@@ -45,8 +46,7 @@ pub fn take_up(alloc: Global, verified: Verified, text: &[u8]) -> Result<Taken, 
     ensures taken { IfOk result (λ taken.
         IsTakenUp verified.planned (ended_lines text.now) taken.driven.log.entries (length taken.late)) }
     ensures plan { IfOk result (λ taken. taken.driven.control.plan ≡ verified) }
-    ensures late { IfOk result (λ taken. AreLate verified.planned (start verified.planned)
-        (take (length taken.late) taken.driven.log.entries) taken.late) }
+    ensures late { IfOk result (λ taken. AreLate verified.planned (start verified.planned) (told_in taken) taken.late) }
     ensures fault { IfErr result (IsResumeFault verified.planned (ended_lines text.now)) }
     ensures only_fault { IfErr result (IsOnlyFault verified.planned (ended_lines text.now)) }
     ensures only { IsCutLogText verified.planned text.now → IfErr result (λ fault. fault ≡ ResumeFault.Memory) }

@@ -2,7 +2,7 @@
 
 ghost use Rattle.std.specs.Prelude.{◌≡◌, ◌+◌, ◌≤◌, ◌++◌, length, OnOk};
 ghost use Rattle.run_log.specs.EventLines.{report_line, order_line};
-ghost use Rattle.run_log.specs.Sinks.{Wrote};
+ghost use Rattle.cell_drive.specs.Lent.{WroteTo};
 ghost use Rattle.cell_drive.specs.AnswerLines.{late_line};
 ghost use Rattle.run_resume.specs.ToldLines.{told_line, told_lines};
 
@@ -72,8 +72,7 @@ fn put_told_line(lines: &mut Lines, entry: Entry, late: bool)
 fn put_few<W: Sink>(entries: &[Entry], late: &[bool], writer: &mut W) -> Result<(), WriteFault>
     requires same { length entries.now ≡ length late.now }
     requires few { length entries.now ≤ 20 }
-    ensures wrote { Wrote result (W.failed writer.new) (W.taken writer.old) (W.taken writer.new)
-        (told_lines entries.now late.now) }
+    ensures wrote { WroteTo W.Sink result writer.old writer.new (told_lines entries.now late.now) }
     ensures unfailed { OnOk result (W.failed writer.new ≡ W.failed writer.old) }
 {
     let mut lines = Lines::empty();
@@ -92,8 +91,7 @@ pub(crate) fn put_told<W: Sink>(
     writer: &mut W,
 ) -> Result<(), WriteFault>
     requires { length entries.now ≡ length late.now }
-    ensures wrote { Wrote result (W.failed writer.new) (W.taken writer.old) (W.taken writer.new)
-        (told_lines entries.now late.now) }
+    ensures wrote { WroteTo W.Sink result writer.old writer.new (told_lines entries.now late.now) }
     ensures unfailed { OnOk result (W.failed writer.new ≡ W.failed writer.old) }
 {
     let mut rest = entries;

@@ -1,13 +1,13 @@
 use Rattle.std.proofs.Common.{◌++◌, subst, sym}
 use Rattle.std.proofs.lemmas.Result.{err_from_is_err_and}
-use Rattle.run_log.specs.Sinks.{Wrote}
+use Rattle.cell_drive.specs.Lent.{WroteTo}
 use Rattle.cell_drive.proofs.CellTexts.{wrote_next, took_first}
 use Rattle.cell_drive.proofs.DrivenAnswers.{no_bytes}
 use Rattle.cell_drive.proofs.cell_answers.put_behind.Goals as goal
 
 pub returns-then-is_empty-clause-wrote : goal.returns-then-is_empty-clause-wrote
 returns-then-is_empty-clause-wrote g c =
-    subst (λ p. Wrote c.put_all.result (g.W.Sink.failed c.put_all.new.writer) (g.W.Sink.taken c.args.writer.now) (g.W.Sink.taken c.put_all.new.writer) (p ++ c.args.line.now))
+    subst (λ p. WroteTo g.W.Sink c.put_all.result c.args.writer.now c.put_all.new.writer (p ++ c.args.line.now))
     (sym (no_bytes _ _ c.is_empty.ensures c.if-is_empty.true)) c.put_all.ensures.wrote
 
 pub returns-in_err-put_all-clause-wrote : goal.returns-in_err-put_all-clause-wrote

@@ -1,4 +1,5 @@
 use Rattle.std.proofs.Common.{◌+◌, ◌^◌, ◌<◌, length}
+use Rattle.cell_drive.specs.Lent.{taker_of}
 use Rattle.cell_drive.proofs.Taking.{Taking}
 use Rattle.cell_drive.proofs.pieces.take_piece.Given as goal
 
@@ -6,7 +7,7 @@ abbrev pub invariant-loop-line : goal.invariant-loop-line
 invariant-loop-line g l = record {
   so_far : Taking g.H.LineHandler.answers l.initial.handler l.initial.input.lines l.initial.input.held l.piece
       l.handler l.lines l.input.held l.rest
-      (g.W.Sink.failed l.initial.writer) (g.W.Sink.failed l.writer) (g.W.Sink.taken l.initial.writer) (g.W.Sink.taken l.writer);
+      (taker_of g.W.Sink l.initial.writer) (taker_of g.W.Sink l.writer);
   room : l.lines + length l.rest < 2 ^ 64;
 }
 

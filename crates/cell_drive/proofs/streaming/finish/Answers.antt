@@ -1,5 +1,7 @@
 use Rattle.std.proofs.Common.{inl}
 use Rattle.std.proofs.lemmas.Result.{err_from_is_err_and}
+use Rattle.cell_drive.specs.Lent.{taker_of}
+use Rattle.cell_drive.specs.Reading.{reached}
 use Rattle.cell_drive.proofs.Streamed.{finish_cut, finish_shown}
 use Rattle.cell_drive.proofs.streaming.finish.Goals as goal
 
@@ -11,7 +13,7 @@ returns-in_err-answer_last-clause-finished g c =
 pub returns-in_err-put_closing-clause-finished : goal.returns-in_err-put_closing-clause-finished
 returns-in_err-put_closing-clause-finished g c =
     let p = err_from_is_err_and c.from_residual-in_err-put_closing.result c.from_residual-in_err-put_closing.ensures.1 in
-    rw p.1 (finish_cut _ _ _ _ _ _ _ _ _ _ _ _ _ c.in_ok-answer_last.ensures c.in_err-put_closing.ensures)
+    rw p.1 (finish_cut _ _ _ (reached c.args.handler.now c.args.input.now) _ _ _ _ c.in_ok-answer_last.ensures c.in_err-put_closing.ensures)
 
 pub returns-clause-finished : goal.returns-clause-finished
-returns-clause-finished g c = finish_shown _ _ _ _ _ _ _ _ _ _ _ _ _ _ _ _ c.in_ok-answer_last.ensures c.in_ok-put_closing.ensures c.show.ensures.taken c.show.ensures.unfailed c.show.ensures.failed
+returns-clause-finished g c = finish_shown _ _ _ _ (reached c.args.handler.now c.args.input.now) _ _ _ _ (taker_of g.W.Sink c.show.new.self) c.in_ok-answer_last.ensures c.in_ok-put_closing.ensures c.show.ensures.taken c.show.ensures.unfailed c.show.ensures.failed

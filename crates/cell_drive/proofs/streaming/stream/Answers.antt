@@ -1,5 +1,6 @@
 use Rattle.std.proofs.Common.{[], Some, arith}
 use Rattle.std.proofs.lemmas.Result.{err_from_is_err_and}
+use Rattle.cell_drive.specs.Lent.{output_of}
 use Rattle.cell_drive.proofs.Held.{length-ended}
 use Rattle.cell_drive.proofs.Streamed.{stream_drained, stream_done, stream_failed}
 use Rattle.cell_drive.proofs.streaming.stream.Goals as goal
@@ -7,7 +8,7 @@ use Rattle.cell_drive.proofs.streaming.stream.Goals as goal
 pub returns-in_err-drain : goal.returns-in_err-drain
 returns-in_err-drain g c =
     let p = err_from_is_err_and c.from_residual.result c.from_residual.ensures.1 in
-    rw (p.1, p.2) (stream_drained _ _ _ _ _ _ _ _ _ _ _ _ _ _ _ _ c.in_err-drain.ensures.drained c.in_err-drain.ensures.shown)
+    rw (p.1, p.2) (stream_drained _ _ _ _ _ _ _ c.in_err-drain.ensures.drained c.in_err-drain.ensures.shown)
 
 pub finish-requires : goal.finish-requires
 finish-requires g c =
@@ -17,7 +18,7 @@ finish-requires g c =
     omega (arith, within, lines_are, length-ended drained.bytes (Some []))
 
 pub returns-in-Ok : goal.returns-in-Ok
-returns-in-Ok g c = stream_done _ _ _ _ _ _ _ _ _ _ _ _ _ _ _ _ _ _ c.in_ok-drain.ensures.drained _ _ c.in-Ok.ensures.finished c.in-Ok.ensures.shown
+returns-in-Ok g c = stream_done _ _ _ _ _ _ _ _ (output_of g.W.Sink g.W.Outlet.pending c.finish.new.writer) c.in_ok-drain.ensures.drained _ c.in-Ok.ensures.finished c.in-Ok.ensures.shown
 
 pub returns-in-Err : goal.returns-in-Err
-returns-in-Err g c = stream_failed _ _ _ _ _ _ _ _ _ _ _ _ _ _ _ _ _ _ c.in_ok-drain.ensures.drained _ c.in-Err.ensures.finished
+returns-in-Err g c = stream_failed _ _ _ _ _ _ _ _ (output_of g.W.Sink g.W.Outlet.pending c.finish.new.writer) c.in_ok-drain.ensures.drained c.in-Err.ensures.finished

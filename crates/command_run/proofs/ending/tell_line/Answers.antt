@@ -4,5 +4,5 @@ use Rattle.command_run.proofs.ending.tell_line.Goals as goal
 
 pub returns-clause-told : goal.returns-clause-told
 returns-clause-told g c =
-    let seen = errors_of g.E.Sink.taken g.E.Sink.failed in
+    let seen = errors_of g.E.Sink in
     told_by c.put_all.result _ (seen c.args.errors.now) (seen c.put_all.new.writer) c.put_all.ensures.wrote c.put_all.ensures.unfailed

@@ -3,7 +3,7 @@ use Rattle.std.proofs.Math.Seq.{take-length}
 use Rattle.std.proofs.lemmas.Result.{err_from_is_err_and}
 use Rattle.cell_tables.specs.declared.entry.Entry.{Entry}
 use Rattle.run_log.specs.EventLines.{entry_lines}
-use Rattle.run_log.specs.Sinks.{Wrote}
+use Rattle.cell_drive.specs.Lent.{WroteTo}
 use Rattle.cell_drive.proofs.CellTexts.{wrote_next, took_first, took_second}
 use Rattle.run_resume.proofs.resuming.put_again.Goals as goal
 
@@ -26,7 +26,7 @@ returns-in_err-put_all-clause-wrote g c =
 pub returns-clause-wrote : goal.returns-clause-wrote
 returns-clause-wrote g c =
     let entries = c.args.entries.now in
-    let last = subst (λ (es : List Entry). Wrote c.write_lines.result (g.W.Sink.failed c.write_lines.new.writer) (g.W.Sink.taken c.put_all.new.writer) (g.W.Sink.taken c.write_lines.new.writer) (entry_lines es))
+    let last = subst (λ (es : List Entry). WroteTo g.W.Sink c.write_lines.result c.put_all.new.writer c.write_lines.new.writer (entry_lines es))
     (rest_whole (length c.args.late.now) entries) c.write_lines.ensures.wrote in
     wrote_next c.write_lines.result _ _ _ _ _ _ c.in_ok-put_told.ensures.wrote
     (wrote_next c.write_lines.result _ _ _ _ (10 ∷ []) _ c.in_ok-put_all.ensures.wrote last)

@@ -1,5 +1,5 @@
 use Rattle.std.proofs.Common.{◌≡◌, ℕ, ◌+◌, ◌-◌, List, length, drop, sym, ap, ◌∙◌, subst, arith}
-use Rattle.run_log.specs.Sinks.{Wrote}
+use Rattle.cell_drive.specs.Lent.{WroteTo}
 use Rattle.run_resume.specs.ToldLines.{told_lines}
 use Rattle.run_resume.proofs.ToldAgain.{told_before, none_told}
 use Rattle.run_resume.proofs.told_again.put_few.Goals as goal
@@ -32,4 +32,4 @@ returns-clause-wrote g c =
     let late = c.args.late.now in
     let none : c.places.place ≡ 0 = omega (arith, c.places-test.false) in
     let all = c.bytes.ensures ∙ c.places.invariant.written ∙ ap (λ (n : ℕ). told_lines (drop n entries) (drop n late)) none in
-    subst (λ (text : List ℕ). Wrote c.put_all.result (g.W.Sink.failed c.put_all.new.writer) (g.W.Sink.taken c.args.writer.now) (g.W.Sink.taken c.put_all.new.writer) text) all c.put_all.ensures.wrote
+    subst (λ (text : List ℕ). WroteTo g.W.Sink c.put_all.result c.args.writer.now c.put_all.new.writer text) all c.put_all.ensures.wrote

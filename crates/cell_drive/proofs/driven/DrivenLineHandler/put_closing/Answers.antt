@@ -1,5 +1,5 @@
 use Rattle.std.proofs.Common.{subst}
-use Rattle.cell_drive.specs.Answering.{WasClosed}
+use Rattle.cell_drive.specs.Lent.{WroteOneTo}
 use Rattle.cell_drive.specs.Driven.{DriveState, ControlCloses}
 use Rattle.cell_drive.specs.DrivenLines.{closing_line}
 use Rattle.cell_drive.proofs.DrivenEnds.{closes}
@@ -7,10 +7,10 @@ use Rattle.cell_drive.proofs.driven.DrivenLineHandler.put_closing.Goals as goal
 
 pub returns : goal.returns
 returns g c =
-    subst (λ (s : DriveState). WasClosed (λ (d : DriveState). ControlCloses d.control) s c.put_closing.result (g.W.Sink.failed c.args.writer.now) (g.W.Sink.failed c.put_closing.new.writer) (g.W.Sink.taken c.args.writer.now) (g.W.Sink.taken c.put_closing.new.writer)) c.self.view_is
+    subst (λ (s : DriveState). WroteOneTo g.W.Sink c.put_closing.result c.args.writer.now c.put_closing.new.writer (ControlCloses s.control)) c.self.view_is
     (record {
       text = closing_line c.self.inside.controller.plan.planned c.self.inside.controller.cell;
-      is_closing = closes (record { control = c.self.inside.controller; log = c.self.inside.log }) c.self.invariant;
+      is_text = closes (record { control = c.self.inside.controller; log = c.self.inside.log }) c.self.invariant;
       wrote = c.put_closing.ensures.wrote;
       unfailed = c.put_closing.ensures.unfailed;
     })
