@@ -1,5 +1,5 @@
 -- What several driven cells answer to a line.
-use Rattle.std.proofs.Common.{◌≡◌, ℕ, zero, suc, List, [], ◌∷◌, set, Option, Some, None, Result, Ok, Err, OnOk, Bool, codes, refl, sym, ap, ◌∙◌, subst}
+use Rattle.std.proofs.Common.{◌≡◌, ℕ, zero, suc, List, [], ◌∷◌, set, Option, Some, None, Result, Ok, Err, OnOk, codes, refl, sym, ap, ◌∙◌, subst}
 use Rattle.std.specs.Prelude.{slice_get}
 use Rattle.run_log.specs.Sinks.{Wrote}
 use Rattle.shop_base.specs.declared.move_order.MoveOrder.{MoveOrder}

@@ -1,7 +1,6 @@
 -- What several driven cells come to.
 use Rattle.std.proofs.Common.{◌≡◌, ◌↔◌, ℕ, arith, List, [], ◌∷◌, ◌++◌, Option, Bool, Ok, Err, map, refl, sym, subst}
 use Rattle.std.specs.Prelude.{IsTrue}
-use Rattle.std.specs.Io.KnownBytes.{Consumes}
 use Rattle.plan_verifier.specs.Accepted.{VerifiedPlan}
 use Rattle.cell_control.specs.Control.{Control, at_start}
 use Rattle.cell_hub.specs.declared.ticket.Ticket.{Ticket}

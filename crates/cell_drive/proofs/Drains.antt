@@ -1,5 +1,5 @@
 -- An input that is read piece by piece.
-use Rattle.std.proofs.Common.{◌≡◌, ℕ, ◌+◌, ◌≤◌, List, [], ◌++◌, true, Option, Some, Ok, Err, length, take, refl, sym, ap, ◌∙◌, arith, append-nil, length-append, subst, inl, inr}
+use Rattle.std.proofs.Common.{◌≡◌, ℕ, ◌+◌, ◌≤◌, List, [], ◌++◌, Option, Some, Ok, Err, length, take, refl, sym, ap, ◌∙◌, arith, append-nil, length-append, subst, inl, inr}
 use Rattle.std.proofs.lemmas.List.{take_all}
 use Rattle.std.proofs.Math.Seq.{take-append-add}
 use Rattle.std.specs.Io.KnownBytes.{Consumes, Keeps, IsAtEnd}

@@ -15,6 +15,10 @@ pub record DriveState : Type 0 where
   pub control : Control
   pub log : Noted
 
+-- a controller and a log, as one cell
+abbrev pub driven_by : Control → Noted → DriveState
+driven_by control log = record { control = control; log = log }
+
 -- before the first line
 abbrev pub drive_start : VerifiedPlan → DriveState
 drive_start v = record { control = at_start v; log = record { entries = []; reserved = 2 * stated_number v.planned } }

@@ -7,7 +7,7 @@ ghost use Rattle.cell_control.specs.Reports.{IsFirstReason};
 ghost use Rattle.run_log.specs.Log.{Notes};
 ghost use Rattle.cell_drive.specs.Lent.{WroteTo, WroteOneTo};
 ghost use Rattle.cell_drive.specs.AnswerLines.{refused_line};
-ghost use Rattle.cell_drive.specs.Driven.{IsDriven, DriveAnswer};
+ghost use Rattle.cell_drive.specs.Driven.{IsDriven, DriveAnswer, driven_by};
 
 use crate::answer_lines::refused_line;
 use crate::cell_answers::{put_accepted, put_closing};
@@ -27,13 +27,13 @@ pub struct Driven<D: Dues> {
 }
 
 impl<D: Dues> Model for Driven<D> {
-    ghost use Rattle.cell_drive.specs.Driven.{DriveState, IsDriven};
+    ghost use Rattle.cell_drive.specs.Driven.{DriveState, IsDriven, driven_by};
 
     ghost Value = { DriveState };
 
-    ghost view = { λ d. record { control = d.controller; log = d.log } };
+    ghost view = { λ d. driven_by d.controller d.log };
 
-    ghost invariant = { λ d. IsDriven (record { control = d.controller; log = d.log }) };
+    ghost invariant = { λ d. IsDriven (driven_by d.controller d.log) };
 }
 
 /// Notes an accepted report and the moves that it released.
@@ -51,8 +51,8 @@ pub fn take_report<D: Dues>(
     log: &mut RunLog,
     report: Report,
 ) -> Result<Ack, ReportFault>
-    requires { IsDriven (record { control = controller.old; log = log.old }) }
-    ensures driven { IsDriven (record { control = controller.new; log = log.new }) }
+    requires { IsDriven (driven_by controller.old log.old) }
+    ensures driven { IsDriven (driven_by controller.new log.new) }
     ensures accepted { IfOk result (λ ack. IsAnswered controller.old (said report) ack controller.new
         × Notes log.old log.new (Entry.Report report ∷ map Entry.Order controller.new.orders)) }
     ensures refused { IfErr result (λ reason. IsFirstReason controller.old.plan.planned controller.old.cell (said report) reason
@@ -87,11 +87,11 @@ fn answer_told<D: Dues, W: Sink>(
     line: &[u8],
     writer: &mut W,
 ) -> Result<(), WriteFault>
-    requires driven { IsDriven (record { control = controller.old; log = log.old }) }
+    requires driven { IsDriven (driven_by controller.old log.old) }
     requires told { line.now ≢ [] }
-    ensures driven { IsDriven (record { control = controller.new; log = log.new }) }
-    ensures answered { WroteOneTo W.Sink result writer.old writer.new (λ text. DriveAnswer
-        (record { control = controller.old; log = log.old }) number (Some line.now) text (record { control = controller.new; log = log.new })) }
+    ensures driven { IsDriven (driven_by controller.new log.new) }
+    ensures answered { WroteOneTo W.Sink result writer.old writer.new (λ text.
+        DriveAnswer (driven_by controller.old log.old) number (Some line.now) text (driven_by controller.new log.new)) }
 {
     let Some(report) = report_of(line) else {
         return put_refused(number, b"BadLine", writer);
@@ -110,10 +110,10 @@ fn answer_line<D: Dues, W: Sink>(
     line: &[u8],
     writer: &mut W,
 ) -> Result<(), WriteFault>
-    requires { IsDriven (record { control = controller.old; log = log.old }) }
-    ensures driven { IsDriven (record { control = controller.new; log = log.new }) }
-    ensures answered { WroteOneTo W.Sink result writer.old writer.new (λ text. DriveAnswer
-        (record { control = controller.old; log = log.old }) number (Some line.now) text (record { control = controller.new; log = log.new })) }
+    requires { IsDriven (driven_by controller.old log.old) }
+    ensures driven { IsDriven (driven_by controller.new log.new) }
+    ensures answered { WroteOneTo W.Sink result writer.old writer.new (λ text.
+        DriveAnswer (driven_by controller.old log.old) number (Some line.now) text (driven_by controller.new log.new)) }
 {
     if line.is_empty() {
         return Ok(());
