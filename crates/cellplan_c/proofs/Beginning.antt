@@ -1,7 +1,6 @@
 -- What beginning a cell comes to, by what is said of the plan that the two texts tell.
 use Rattle.std.proofs.Common.{◌≡◌, ◌≢◌, ℕ, ◌≤◌, ◌⊎◌, inl, inr, List, Option, None, Some, IfSome, Result, Ok, Err, refl, sym, ap, ◌∙◌, subst, arith}
 use Rattle.shop_base.specs.Plan.{PlannedShop}
-use Rattle.plan_verifier.specs.declared.verdict.Verdict.{Verdict}
 use Rattle.plan_verifier.specs.declared.verdict.Verdict.TheVariants.{Accepted, Refused}
 use Rattle.plan_verifier.specs.Accepted.{VerifiedPlan, IsVerified, IsAcceptable}
 use Rattle.cell_control.specs.Control.{Control, at_start}
@@ -11,8 +10,7 @@ use Rattle.command_answers.specs.declared.loading.Loaded.TheVariants.{NotShaped,
 use Rattle.command_answers.specs.Checks.{IsLoaded, accepted_in}
 use Rattle.command_answers.specs.Plans.{TellBoth}
 use Rattle.command_answers.specs.Readings.{AreTextsAnswered}
-use Rattle.command_answers.specs.Statuses.{status_of}
-use Rattle.cellplan_c.specs.Calls.{IsStarted, loaded_status, IsStatusOfBoth, IsStatusOfPlan, IsTextFault}
+use Rattle.cellplan_c.specs.Calls.{IsStarted, loaded_status, IsStatusOfBoth, IsStatusOfPlan}
 use Rattle.cellplan_c.specs.Begun.{IsControllerOf}
 use Rattle.cellplan_c.specs.Held.{Held}
 use Rattle.cellplan_c.specs.contracts.inner.Inner as Inner
@@ -64,14 +62,8 @@ module _ (instance : List ℕ) (name : Option (List ℕ)) (plan : List ℕ) wher
         acceptable = subst IsAcceptable (sym judged.0) judged.1;
         verified = is.0;
         start = is.1;
+        same = λ p told. ap (λ (c : Control). c.plan.planned) is.1 ∙ (are.only p told).accepted.0;
       }
-
-  pub of_plan : (loaded : Loaded) → AreTextsAnswered instance name plan IsLoaded (Ok loaded) → (p : PlannedShop) → TellBoth instance name plan p
-      → (control : Control) → IsControllerOf loaded control → control.plan.planned ≡ p
-  of_plan (NotShaped fault) are p tell control is = absurd is
-  of_plan (Judged (Refused back why)) are p tell control is = absurd is
-  of_plan (Judged (Accepted verified)) are p tell control is =
-      ap (λ (c : Control). c.plan.planned) is.1 ∙ (are.only p tell).accepted.0
 
   module _ (loaded : Loaded) (are : AreTextsAnswered instance name plan IsLoaded (Ok loaded)) (result : ℕ)
       (status : (result ≡ 4) ⊎ (result ≡ loaded_status loaded)) where

@@ -1,7 +1,7 @@
 -- What holds of a cell and a report that are there.
 use Rattle.std.proofs.Common.{◌≡◌, Option, Some, IfSome, sym, subst}
 
-pub of_both : {A B : Type 0} (P : A → B → Type 0) (held : Option A) (told : Option B) (a : A) (b : B)
+of_both : {A B : Type 0} (P : A → B → Type 0) (held : Option A) (told : Option B) (a : A) (b : B)
     → held ≡ Some a → told ≡ Some b → P a b → IfSome held (λ old. IfSome told (λ report. P old report))
 of_both {A} {B} P held told a b e f p =
     subst (λ (h : Option A). IfSome h (λ old. IfSome told (λ report. P old report))) (sym e)

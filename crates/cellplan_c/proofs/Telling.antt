@@ -1,6 +1,5 @@
 -- An answer to two texts that is told, or the line of their fault, unless memory ran out.
 use Rattle.std.proofs.Common.{◌≡◌, ℕ, List, Option, Result, Ok, Err, IfOk, IfErr, inl, inr, ap, ◌∙◌, subst, refl}
-use Rattle.shop_base.specs.Plan.{PlannedShop}
 use Rattle.orlib_read.specs.declared.or_fault.OrFault.{OrFault}
 use Rattle.plan_text.specs.declared.plan_fault.PlanFault.{PlanFault}
 use Rattle.command_answers.specs.declared.answer.Answer.{Answer}
@@ -11,7 +10,7 @@ use Rattle.command_answers.specs.Plans.{IsRightOfBoth, IsPlanRefusal}
 use Rattle.command_answers.specs.Readings.{AreTextsAnswered}
 use Rattle.command_answers.specs.Statuses.{status_of}
 use Rattle.cellplan_c.specs.declared.judges.Judge.{Judge}
-use Rattle.cellplan_c.specs.Calls.{IsPut, Answers, IsTextFault, IsTextFaultTold, IsTextsTold, AreTextsTold}
+use Rattle.cellplan_c.specs.Calls.{IsPut, Answers, IsTextFaultTold, IsTextsTold, AreTextsTold}
 use Rattle.cellplan_c.specs.Judges.{IsAnswerOf, IsUntold}
 use Rattle.cellplan_c.proofs.Judging.{status_bound}
 

@@ -5,11 +5,7 @@ use Rattle.orlib_read.specs.declared.or_fault.OrFault.{OrFault}
 use Rattle.plan_text.specs.declared.plan_fault.PlanFault.{PlanFault}
 use Rattle.plan_text.specs.Documents.{IsFirstPlanFault}
 use Rattle.plan_verifier.specs.Accepted.{VerifiedPlan, IsVerified, IsAcceptable}
-use Rattle.cell_tables.specs.declared.report.Report.{Report}
-use Rattle.cell_tables.specs.Reports.{said}
 use Rattle.cell_control.specs.Control.{Control, at_start}
-use Rattle.cell_control.specs.Reports.{IsFirstReason, IsOnlyReason}
-use Rattle.cell_control.specs.declared.report_fault.ReportFault.{ReportFault}
 use Rattle.command_answers.specs.declared.answer.Answer.{Answer}
 use Rattle.command_answers.specs.declared.command_fault.CommandFault.{CommandFault}
 use Rattle.command_answers.specs.declared.command_fault.CommandFault.TheVariants.{Instance, Plan}
@@ -19,7 +15,6 @@ use Rattle.command_answers.specs.Instances.{IsFirstInstanceFault}
 use Rattle.command_answers.specs.Plans.{TellBoth, TellsAShop, IsOfBoth, IsRightOfBoth}
 use Rattle.command_answers.specs.Checks.{IsLoaded, verdict_status}
 use Rattle.command_answers.specs.Statuses.{status_of}
-use Rattle.cellplan_c.specs.Told.{fault_number, fault_detail}
 
 -- the fault is of one of the two texts, the instance's before the plan's
 pub record IsTextFault (instance : List ℕ) (name : Option (List ℕ)) (plan : List ℕ) (fault : CommandFault) : Type 0 where
@@ -80,6 +75,7 @@ pub record IsStarted (instance : List ℕ) (name : Option (List ℕ)) (plan : Li
   pub acceptable : IsAcceptable accepted.planned
   pub verified : IsVerified accepted
   pub start : control ≡ at_start accepted
+  pub same : (p : PlannedShop) → TellBoth instance name plan p → control.plan.planned ≡ p
 
 -- the status of what is said of a plan: 0 where it is accepted, else 1
 abbrev pub loaded_status : Loaded → ℕ
@@ -95,8 +91,3 @@ pub record IsStatusOfBoth (instance : List ℕ) (name : Option (List ℕ)) (plan
 -- memory ran out, or this is the status of what is said of the plan
 abbrev pub IsStatusOfPlan : PlannedShop → ℕ → Type 0
 IsStatusOfPlan p status = (status ≡ 4) ⊎ ((loaded : Loaded) × IsLoaded p loaded × (status ≡ loaded_status loaded))
-
--- the report is refused for its first reason, which is the only one: its number is answered, and what it names is told
-abbrev pub IsReasonTold : Control → Report → ℕ → ℕ → Type 0
-IsReasonTold control report number detail = (fault : ReportFault) × (number ≡ fault_number fault) × (detail ≡ fault_detail fault)
-    × IsFirstReason control.plan.planned control.cell (said report) fault × IsOnlyReason control.plan.planned control.cell (said report) fault

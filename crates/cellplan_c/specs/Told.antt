@@ -1,5 +1,5 @@
 -- Reports, reasons, orders and phases as numbers.
-use Rattle.std.specs.Prelude.{ℕ, List, [], ◌∷◌, Option, None, Some, false, nat_eq, if◌then◌else◌}
+use Rattle.std.specs.Prelude.{◌≢◌, ℕ, List, [], ◌∷◌, Option, None, Some, false, nat_eq, if◌then◌else◌}
 use Rattle.shop_base.specs.declared.move_order.Spot.{Spot}
 use Rattle.shop_base.specs.declared.move_order.Spot.TheVariants.{Out, At}
 use Rattle.shop_base.specs.declared.move_order.MoveOrder.{MoveOrder}
@@ -26,6 +26,10 @@ fault_number (Backwards last) = 19
 fault_number NotExpected = 20
 fault_number WrongKind = 21
 fault_number (WrongMachine actual) = 22
+
+-- no reason has this number
+abbrev pub NoReason : ℕ → Type 0
+NoReason number = (fault : ReportFault) → fault_number fault ≢ number
 
 -- the moment or the machine that a reason names, and 0 where it names none
 abbrev pub fault_detail : ReportFault → ℕ

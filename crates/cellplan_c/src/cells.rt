@@ -1,6 +1,6 @@
 //! A cell begun and freed, called from C.
 
-ghost use Rattle.std.specs.Prelude.{◌≡◌, ◌≢◌, ◌≤◌, ◌⊎◌, None, IfOk, IfSome, IsSome};
+ghost use Rattle.std.specs.Prelude.{◌≡◌, ◌≢◌, ◌≤◌, ◌⊎◌, None, IfOk, IsSome};
 ghost use Rattle.shop_base.specs.Plan.{PlannedShop};
 ghost use Rattle.orlib_read.specs.declared.or_fault.OrFault.{OrFault};
 ghost use Rattle.plan_text.specs.declared.plan_fault.PlanFault.{PlanFault};
@@ -13,6 +13,7 @@ ghost use Rattle.command_answers.specs.Instances.{IsFirstInstanceFault};
 ghost use Rattle.command_answers.specs.Plans.{TellBoth, TellsAShop};
 ghost use Rattle.cellplan_c.specs.Told.{named};
 ghost use Rattle.cellplan_c.specs.Calls.{IsTextFault, IsStarted, loaded_status, IsStatusOfBoth, IsStatusOfPlan};
+ghost use Rattle.cellplan_c.specs.Cells.{Holding};
 ghost use Rattle.cellplan_c.specs.Begun.{IsControllerOf};
 
 use crate::cell::Cell;
@@ -35,15 +36,12 @@ pub extern "C" fn cellplan_cell_new(
     plan: &[u8],
     cell: &mut Cell,
 ) -> u32
-    ensures started { result ≡ 0 → IfSome cell.new.slot.held
-        (λ new. IsStarted instance.now (named name.now) plan.now new.controller) }
+    ensures started { result ≡ 0 → Holding cell.new (IsStarted instance.now (named name.now) plan.now) }
     ensures full { result ≡ 0 → IsSome cell.new.slot.held }
-    ensures never_wrong { result ≡ 0 → IfSome cell.new.slot.held (λ new. NeverGoesWrong new.controller) }
+    ensures never_wrong { result ≡ 0 → Holding cell.new NeverGoesWrong }
     ensures judged { result ≤ 1 → IsStatusOfBoth instance.now (named name.now) plan.now result }
     ensures fault { result ≡ 3 → (fault : CommandFault) × IsTextFault instance.now (named name.now) plan.now fault }
     ensures only { (p : PlannedShop) → TellBoth instance.now (named name.now) plan.now p → IsStatusOfPlan p result }
-    ensures same { (p : PlannedShop) → TellBoth instance.now (named name.now) plan.now p → result ≡ 0
-        → IfSome cell.new.slot.held (λ new. new.controller.plan.planned ≡ p) }
     ensures first { (fault : OrFault) → IsFirstInstanceFault instance.now (named name.now) fault → 3 ≤ result }
     ensures second { (fault : PlanFault) → TellsAShop instance.now (named name.now) → IsFirstPlanFault plan.now fault → 3 ≤ result }
     ensures unchanged { result ≢ 0 → cell.new.slot.held ≡ cell.old.slot.held }
@@ -67,9 +65,9 @@ pub extern "C" fn cellplan_cell_free(alloc: Global, cell: &mut Cell)
 /// of the plan, or that of the request for memory that was refused.
 fn begun(alloc: Global, loaded: Loaded, cell: &mut Cell) -> u32
     ensures status { (result ≡ 4) ⊎ (result ≡ loaded_status loaded) }
-    ensures started { result ≡ 0 → IfSome cell.new.slot.held (λ new. IsControllerOf loaded new.controller) }
+    ensures started { result ≡ 0 → Holding cell.new (IsControllerOf loaded) }
     ensures full { result ≡ 0 → IsSome cell.new.slot.held }
-    ensures never_wrong { result ≡ 0 → IfSome cell.new.slot.held (λ new. NeverGoesWrong new.controller) }
+    ensures never_wrong { result ≡ 0 → Holding cell.new NeverGoesWrong }
     ensures unchanged { result ≢ 0 → cell.new.slot.held ≡ cell.old.slot.held }
 {
     match loaded.accepted() {

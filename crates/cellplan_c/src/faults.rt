@@ -33,7 +33,8 @@ fn refusal(
     what: &[u8],
     words: Result<String, AllocError>,
 ) -> Result<Answer, CommandFault>
-    ensures told { IfOk result (λ told. ((words : List ℕ) × (told.text.items ≡ what.now ++ words ++ codes "\n")) × (told.status ≡ 3)) }
+    ensures told { IfOk result (λ told. (words : List ℕ) × (told.text.items ≡ what.now ++ words ++ codes "\n")) }
+    ensures status { IfOk result (λ told. told.status ≡ 3) }
     ensures memory { IfErr result (λ fault. fault ≡ Memory) }
 {
     let text = refusal_line(alloc, what, words)?;

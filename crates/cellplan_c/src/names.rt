@@ -1,9 +1,9 @@
 //! The names of the reasons, and the version of the calls.
 
-ghost use Rattle.std.specs.Prelude.{◌≡◌, ◌≢◌, ◌↔◌};
+ghost use Rattle.std.specs.Prelude.{◌≡◌, ◌↔◌};
 ghost use Rattle.cell_control.specs.declared.report_fault.ReportFault.{ReportFault};
 ghost use Rattle.cell_control.specs.ReasonNames.{reason_name};
-ghost use Rattle.cellplan_c.specs.Told.{fault_number};
+ghost use Rattle.cellplan_c.specs.Told.{fault_number, NoReason};
 ghost use Rattle.cellplan_c.specs.Calls.{IsPut};
 
 use crate::rooms::put_text;
@@ -26,7 +26,7 @@ pub extern "C" fn cellplan_version() -> u32
 pub extern "C" fn cellplan_reason(number: u32, name: &mut [u8], length: &mut usize) -> u32
     ensures each { (fault : ReportFault) → fault_number fault ≡ number
         → IsPut (reason_name fault) 0 result name.old name.new length.new }
-    ensures none { (result ≡ 7) ↔ ((fault : ReportFault) → fault_number fault ≢ number) }
+    ensures none { (result ≡ 7) ↔ NoReason number }
     ensures unwritten { result ≡ 7 → (length.new ≡ 0) × (name.new ≡ name.old) }
 {
     *length = 0;

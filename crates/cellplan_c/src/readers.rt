@@ -1,17 +1,12 @@
 //! What C reads of a cell.
 
-ghost use Rattle.std.specs.Prelude.{◌≡◌, ◌≢◌, ℕ, ◌+◌, ◌<◌, ◌≤◌, ◌↔◌, ◌⊎◌, None, IfSome, MatchOption, IsTrue};
+ghost use Rattle.std.specs.Prelude.{◌≡◌, ◌≢◌, ◌+◌, ◌↔◌, ◌⊎◌, None, IsTrue};
 ghost use Rattle.shop_base.specs.Plan.{jobs, machines};
-ghost use Rattle.shop_base.specs.Graph.{leaving};
-ghost use Rattle.shop_base.specs.Cell.{cleaning, IsOn, IsFree};
-ghost use Rattle.shop_base.specs.Activity.{Cleaning, GoesOn};
 ghost use Rattle.shop_base.specs.Ends.{stated_number, HasEnded};
-ghost use Rattle.shop_base.specs.ExactLaw.{IsNeverGoneBefore};
 ghost use Rattle.shop_base.specs.ReportsLeft.{reports_left};
-ghost use Rattle.plan_verifier.specs.Accepted.{kept_at, IsGreatest, IsNeverGoneAfter, IsGoneJustAt};
-ghost use Rattle.cell_control.specs.Readings.{IsPhase, IsDueOf};
-ghost use Rattle.cell_control.specs.declared.report.Phase.{Phase as Whereabouts};
-ghost use Rattle.cellplan_c.specs.Told.{answer_of, phase_told};
+ghost use Rattle.cell_control.specs.Readings.{IsDueOf};
+ghost use Rattle.cellplan_c.specs.Told.{answer_of};
+ghost use Rattle.cellplan_c.specs.Cells.{Holding, IsPhaseOf, IsHolderOf, IsCleanDueOf, IsLeaveOf};
 
 use crate::cell::Cell;
 use crate::rooms::put_found;
@@ -27,10 +22,8 @@ pub extern "C" fn cellplan_cell_phase(
     job: u32,
     phase: &mut Phase,
 ) -> u32
-    ensures phase { IfSome cell.old.slot.held (λ held. let p = held.controller.plan.planned in
-        MatchOption (answer_of result phase.new) (jobs p ≤ job) (λ told. (job < jobs p)
-        × ((place : Whereabouts) × (told ≡ phase_told place) × IsPhase p held.controller.cell job place))) }
-    ensures statuses { IfSome cell.old.slot.held (λ held. (result ≡ 0) ⊎ (result ≡ 7)) }
+    ensures phase { Holding cell.old (λ held. IsPhaseOf held job (answer_of result phase.new)) }
+    ensures statuses { Holding cell.old (λ held. (result ≡ 0) ⊎ (result ≡ 7)) }
     ensures no_cell { (cell.old.slot.held ≡ None) ↔ (result ≡ 8) }
     ensures unchanged { cell.new.slot.held ≡ cell.old.slot.held }
     ensures unwritten { result ≢ 0 → phase.new ≡ phase.old }
@@ -57,10 +50,8 @@ pub extern "C" fn cellplan_cell_holder(
     machine: u32,
     job: &mut u32,
 ) -> u32
-    ensures holder { IfSome cell.old.slot.held (λ held. let p = held.controller.plan.planned in
-        MatchOption (answer_of result job.new) (IsFree p held.controller.cell machine)
-        (λ holder. (k : ℕ) × IsOn p held.controller.cell holder k machine)) }
-    ensures statuses { IfSome cell.old.slot.held (λ held. (result ≡ 0) ⊎ (result ≡ 7)) }
+    ensures holder { Holding cell.old (λ held. IsHolderOf held machine (answer_of result job.new)) }
+    ensures statuses { Holding cell.old (λ held. (result ≡ 0) ⊎ (result ≡ 7)) }
     ensures no_cell { (cell.old.slot.held ≡ None) ↔ (result ≡ 8) }
     ensures unchanged { cell.new.slot.held ≡ cell.old.slot.held }
     ensures unwritten { result ≢ 0 → job.new ≡ job.old }
@@ -76,9 +67,8 @@ pub extern "C" fn cellplan_cell_holder(
 /// When the job's activity is due; none where it has none, since it is ready or gone or no job.
 #[unsafe(no_mangle)]
 pub extern "C" fn cellplan_cell_due(alloc: Global, cell: &mut Cell, job: u32, at: &mut u64) -> u32
-    ensures due { IfSome cell.old.slot.held (λ held.
-        IsDueOf held.controller.plan.planned held.controller.cell job (answer_of result at.new)) }
-    ensures statuses { IfSome cell.old.slot.held (λ held. (result ≡ 0) ⊎ (result ≡ 7)) }
+    ensures due { Holding cell.old (λ held. IsDueOf held.plan.planned held.cell job (answer_of result at.new)) }
+    ensures statuses { Holding cell.old (λ held. (result ≡ 0) ⊎ (result ≡ 7)) }
     ensures no_cell { (cell.old.slot.held ≡ None) ↔ (result ≡ 8) }
     ensures unchanged { cell.new.slot.held ≡ cell.old.slot.held }
     ensures unwritten { result ≢ 0 → at.new ≡ at.old }
@@ -99,10 +89,8 @@ pub extern "C" fn cellplan_cell_clean_due(
     machine: u32,
     at: &mut u64,
 ) -> u32
-    ensures clean_due { IfSome cell.old.slot.held (λ held.
-        MatchOption (answer_of result at.new) (cleaning held.controller.cell machine ≡ None)
-        (λ due. GoesOn held.controller.plan.planned held.controller.cell (Cleaning machine) due)) }
-    ensures statuses { IfSome cell.old.slot.held (λ held. (result ≡ 0) ⊎ (result ≡ 7)) }
+    ensures clean_due { Holding cell.old (λ held. IsCleanDueOf held machine (answer_of result at.new)) }
+    ensures statuses { Holding cell.old (λ held. (result ≡ 0) ⊎ (result ≡ 7)) }
     ensures no_cell { (cell.old.slot.held ≡ None) ↔ (result ≡ 8) }
     ensures unchanged { cell.new.slot.held ≡ cell.old.slot.held }
     ensures unwritten { result ≢ 0 → at.new ≡ at.old }
@@ -118,7 +106,7 @@ pub extern "C" fn cellplan_cell_clean_due(
 /// The moment of the last accepted report, 0 before the first.
 #[unsafe(no_mangle)]
 pub extern "C" fn cellplan_cell_now(alloc: Global, cell: &mut Cell, at: &mut u64) -> u32
-    ensures now { IfSome cell.old.slot.held (λ held. (result ≡ 0) × (at.new ≡ held.controller.cell.last)) }
+    ensures now { Holding cell.old (λ held. (result ≡ 0) × (at.new ≡ held.cell.last)) }
     ensures no_cell { (cell.old.slot.held ≡ None) ↔ (result ≡ 8) }
     ensures unchanged { cell.new.slot.held ≡ cell.old.slot.held }
     ensures unwritten { result ≢ 0 → at.new ≡ at.old }
@@ -134,7 +122,7 @@ pub extern "C" fn cellplan_cell_now(alloc: Global, cell: &mut Cell, at: &mut u64
 /// Whether no accepted report was late.
 #[unsafe(no_mangle)]
 pub extern "C" fn cellplan_cell_punctual(alloc: Global, cell: &mut Cell, punctual: &mut bool) -> u32
-    ensures punctual { IfSome cell.old.slot.held (λ held. (result ≡ 0) × (punctual.new ≡ held.controller.punctual)) }
+    ensures punctual { Holding cell.old (λ held. (result ≡ 0) × (punctual.new ≡ held.punctual)) }
     ensures no_cell { (cell.old.slot.held ≡ None) ↔ (result ≡ 8) }
     ensures unchanged { cell.new.slot.held ≡ cell.old.slot.held }
     ensures unwritten { result ≢ 0 → punctual.new ≡ punctual.old }
@@ -150,12 +138,9 @@ pub extern "C" fn cellplan_cell_punctual(alloc: Global, cell: &mut Cell, punctua
 /// How many reports are still to come.
 #[unsafe(no_mangle)]
 pub extern "C" fn cellplan_cell_reports_left(alloc: Global, cell: &mut Cell, left: &mut u64) -> u32
-    ensures left { IfSome cell.old.slot.held (λ held. (result ≡ 0)
-        × (left.new ≡ reports_left held.controller.plan.planned held.controller.cell)) }
-    ensures count { IfSome cell.old.slot.held (λ held.
-        held.controller.accepted + left.new ≡ stated_number held.controller.plan.planned) }
-    ensures ended { IfSome cell.old.slot.held (λ held.
-        HasEnded held.controller.plan.planned held.controller.cell ↔ (left.new ≡ 0)) }
+    ensures left { Holding cell.old (λ held. (result ≡ 0) × (left.new ≡ reports_left held.plan.planned held.cell)) }
+    ensures count { Holding cell.old (λ held. held.accepted + left.new ≡ stated_number held.plan.planned) }
+    ensures ended { Holding cell.old (λ held. HasEnded held.plan.planned held.cell ↔ (left.new ≡ 0)) }
     ensures no_cell { (cell.old.slot.held ≡ None) ↔ (result ≡ 8) }
     ensures unchanged { cell.new.slot.held ≡ cell.old.slot.held }
     ensures unwritten { result ≢ 0 → left.new ≡ left.old }
@@ -171,9 +156,8 @@ pub extern "C" fn cellplan_cell_reports_left(alloc: Global, cell: &mut Cell, lef
 /// Whether the run has ended: all jobs are gone, and no machine is being cleaned.
 #[unsafe(no_mangle)]
 pub extern "C" fn cellplan_cell_is_done(alloc: Global, cell: &mut Cell, done: &mut bool) -> u32
-    ensures good { IfSome cell.old.slot.held (λ held. result ≡ 0) }
-    ensures done { IfSome cell.old.slot.held (λ held.
-        IsTrue done.new ↔ HasEnded held.controller.plan.planned held.controller.cell) }
+    ensures good { Holding cell.old (λ held. result ≡ 0) }
+    ensures done { Holding cell.old (λ held. IsTrue done.new ↔ HasEnded held.plan.planned held.cell) }
     ensures no_cell { (cell.old.slot.held ≡ None) ↔ (result ≡ 8) }
     ensures unchanged { cell.new.slot.held ≡ cell.old.slot.held }
     ensures unwritten { result ≢ 0 → done.new ≡ done.old }
@@ -189,7 +173,7 @@ pub extern "C" fn cellplan_cell_is_done(alloc: Global, cell: &mut Cell, done: &m
 /// How many jobs the shop has.
 #[unsafe(no_mangle)]
 pub extern "C" fn cellplan_cell_jobs(alloc: Global, cell: &mut Cell, count: &mut u32) -> u32
-    ensures count { IfSome cell.old.slot.held (λ held. (result ≡ 0) × (count.new ≡ jobs held.controller.plan.planned)) }
+    ensures count { Holding cell.old (λ held. (result ≡ 0) × (count.new ≡ jobs held.plan.planned)) }
     ensures no_cell { (cell.old.slot.held ≡ None) ↔ (result ≡ 8) }
     ensures unchanged { cell.new.slot.held ≡ cell.old.slot.held }
     ensures unwritten { result ≢ 0 → count.new ≡ count.old }
@@ -205,7 +189,7 @@ pub extern "C" fn cellplan_cell_jobs(alloc: Global, cell: &mut Cell, count: &mut
 /// How many machines the shop has.
 #[unsafe(no_mangle)]
 pub extern "C" fn cellplan_cell_machines(alloc: Global, cell: &mut Cell, count: &mut u32) -> u32
-    ensures count { IfSome cell.old.slot.held (λ held. (result ≡ 0) × (count.new ≡ machines held.controller.plan.planned)) }
+    ensures count { Holding cell.old (λ held. (result ≡ 0) × (count.new ≡ machines held.plan.planned)) }
     ensures no_cell { (cell.old.slot.held ≡ None) ↔ (result ≡ 8) }
     ensures unchanged { cell.new.slot.held ≡ cell.old.slot.held }
     ensures unwritten { result ≢ 0 → count.new ≡ count.old }
@@ -226,18 +210,8 @@ pub extern "C" fn cellplan_cell_leaves(
     job: u32,
     at: &mut u64,
 ) -> u32
-    ensures greatest { IfSome cell.old.slot.held (λ held. let p = held.controller.plan.planned in
-        MatchOption (answer_of result at.new) (jobs p ≤ job)
-        (λ moment. (job < jobs p) × IsGreatest p (leaving p job) moment)) }
-    ensures kept { IfSome cell.old.slot.held (λ held. IfSome (answer_of result at.new)
-        (λ moment. moment ≡ kept_at held.controller.plan (leaving held.controller.plan.planned job))) }
-    ensures no_faster { IfSome cell.old.slot.held (λ held. IfSome (answer_of result at.new)
-        (IsNeverGoneBefore held.controller.plan.planned job)) }
-    ensures no_later { IfSome cell.old.slot.held (λ held. IfSome (answer_of result at.new)
-        (IsNeverGoneAfter held.controller.plan.planned job)) }
-    ensures just_in_time { IfSome cell.old.slot.held (λ held. IfSome (answer_of result at.new)
-        (IsGoneJustAt held.controller.plan.planned job)) }
-    ensures statuses { IfSome cell.old.slot.held (λ held. (result ≡ 0) ⊎ (result ≡ 7)) }
+    ensures leaves { Holding cell.old (λ held. IsLeaveOf held.plan job (answer_of result at.new)) }
+    ensures statuses { Holding cell.old (λ held. (result ≡ 0) ⊎ (result ≡ 7)) }
     ensures no_cell { (cell.old.slot.held ≡ None) ↔ (result ≡ 8) }
     ensures unchanged { cell.new.slot.held ≡ cell.old.slot.held }
     ensures unwritten { result ≢ 0 → at.new ≡ at.old }

@@ -1,9 +1,10 @@
 //! What is written into the caller's room.
 
-ghost use Rattle.std.specs.Prelude.{◌≡◌, ◌≢◌, ℕ, ◌+◌, ◌<◌, ◌≤◌, ◌⊎◌, IfOk, IfErr, length, slice_get, option_map};
+ghost use Rattle.std.specs.Prelude.{◌≡◌, ◌≢◌, ◌⊎◌, IfOk, IfErr, length};
 ghost use Rattle.command_answers.specs.Statuses.{status_of};
-ghost use Rattle.cellplan_c.specs.Told.{order_told, answer_of};
+ghost use Rattle.cellplan_c.specs.Told.{answer_of};
 ghost use Rattle.cellplan_c.specs.Calls.{IsPut};
+ghost use Rattle.cellplan_c.specs.Cells.{AreOrdersPut, IsKeptBehind};
 
 use crate::statuses::{GOOD, NO_ROOM, NONE};
 use crate::told::{Order, order_told};
@@ -13,9 +14,8 @@ use command_answers::{Answer, CommandFault};
 /// Writes as many of the orders from a first one on as there is room for.
 pub fn put_orders(orders: &[MoveOrder], first: usize, room: &mut [Order])
     ensures room { length room.new ≡ length room.old }
-    ensures put { (i : ℕ) → first + i < length orders.now → i < length room.old
-        → slice_get room.new i ≡ option_map order_told (slice_get orders.now (first + i)) }
-    ensures kept { (i : ℕ) → length orders.now ≤ first + i → slice_get room.new i ≡ slice_get room.old i }
+    ensures put { AreOrdersPut orders.now first room.old room.new }
+    ensures kept { IsKeptBehind orders.now first room.old room.new }
 {
     let count = orders.len().saturating_sub(first).min(room.len());
     for place in 0..count {

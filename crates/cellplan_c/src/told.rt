@@ -1,8 +1,7 @@
 //! Reports, reasons, orders and phases as numbers.
 
-ghost use Rattle.std.specs.Prelude.{◌≡◌, ◌≢◌, MatchOption};
-ghost use Rattle.cell_control.specs.declared.report_fault.ReportFault.{ReportFault};
-ghost use Rattle.cellplan_c.specs.Told.{report_by, fault_number, fault_detail, order_told, spot_number, phase_told};
+ghost use Rattle.std.specs.Prelude.{◌≡◌, MatchOption};
+ghost use Rattle.cellplan_c.specs.Told.{report_by, fault_number, NoReason, fault_detail, order_told, spot_number, phase_told};
 
 use cell_control::{MoveOrder, Phase as Whereabouts, Report, ReportFault, Spot};
 
@@ -58,7 +57,7 @@ pub fn fault_number(fault: ReportFault) -> u32
 
 /// A reason with this number, if there is one. What it names is 0.
 pub fn reason_by(number: u32) -> Option<ReportFault>
-    ensures { MatchOption result ((fault : ReportFault) → fault_number fault ≢ number) (λ fault. fault_number fault ≡ number) }
+    ensures { MatchOption result (NoReason number) (λ fault. fault_number fault ≡ number) }
 {
     match number {
         16 => Some(ReportFault::JobOutOfRange),

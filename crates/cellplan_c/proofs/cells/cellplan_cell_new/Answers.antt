@@ -1,7 +1,7 @@
 use Rattle.std.proofs.Common.{◌≡◌, arith, inl, ap, sym, ◌∙◌, refl}
 use Rattle.command_answers.specs.Statuses.{status_of}
 use Rattle.cellplan_c.proofs.Judging.{fault_bounds}
-use Rattle.cellplan_c.proofs.Beginning.{held_so, under, started, of_plan, judged, only, statuses, no_fault}
+use Rattle.cellplan_c.proofs.Beginning.{held_so, under, started, judged, only, statuses, no_fault}
 use Rattle.cellplan_c.proofs.cells.cellplan_cell_new.Goals as goal
 
 pub returns-in-Ok : goal.returns-in-Ok
@@ -14,7 +14,6 @@ returns-in-Ok c =
       judged = judged _ _ _ c.in-Ok.loaded are _ c.begun.ensures.status;
       fault = no_fault _ _ _ c.in-Ok.loaded are _ c.begun.ensures.status;
       only = only _ _ _ c.in-Ok.loaded are _ c.begun.ensures.status;
-      same = λ p tell good. held_so _ _ _ (λ inner is. of_plan _ _ _ c.in-Ok.loaded are p tell inner.controller is) (c.begun.ensures.started good);
       first = λ fault is. absurd (are.first fault is);
       second = λ fault tells is. absurd (are.second fault tells is);
       unchanged = c.begun.ensures.unchanged;
@@ -33,7 +32,6 @@ returns-in-Err c =
       judged = λ small. absurd (omega (arith, small, status_is, bounds.0));
       fault = λ three. (c.in-Err.fault, record { right = are.fault; status = sym status_is ∙ three });
       only = λ p tell. inl (status_is ∙ ap status_of (are.only p tell));
-      same = λ p tell good. absurd (omega (arith, good, status_is, bounds.0));
       first = λ fault is. omega (arith, status_is, bounds.0);
       second = λ fault tells is. omega (arith, status_is, bounds.0);
       unchanged = λ no. refl;

@@ -1,0 +1,76 @@
+-- What is said of the controller that a cell holds, and what the calls that report to it or read it answer.
+use Rattle.std.specs.Prelude.{◌≡◌, ◌≢◌, ℕ, ◌+◌, ◌<◌, ◌≤◌, ◌↔◌, Bool, List, Option, None, IfSome, MatchOption, length, slice_get, option_map}
+use Rattle.shop_base.specs.declared.move_order.MoveOrder.{MoveOrder}
+use Rattle.shop_base.specs.Plan.{jobs}
+use Rattle.shop_base.specs.Cell.{cleaning, IsOn, IsFree}
+use Rattle.shop_base.specs.Activity.{Cleaning, GoesOn}
+use Rattle.shop_base.specs.Graph.{leaving}
+use Rattle.shop_base.specs.Report.{Report as Ended, CanReport}
+use Rattle.shop_base.specs.Run.{Event}
+use Rattle.shop_base.specs.ExactLaw.{IsNeverGoneBefore}
+use Rattle.plan_verifier.specs.Accepted.{VerifiedPlan, kept_at, IsGreatest, IsNeverGoneAfter, IsGoneJustAt}
+use Rattle.cell_tables.specs.Reports.{said}
+use Rattle.cell_control.specs.Control.{Control, IsAnswered}
+use Rattle.cell_control.specs.Promises.{IsCalled}
+use Rattle.cell_control.specs.Readings.{IsPhase}
+use Rattle.cell_control.specs.Reports.{IsFirstReason, IsOnlyReason}
+use Rattle.cell_control.specs.declared.report.Phase.{Phase as Whereabouts}
+use Rattle.cell_control.specs.declared.report_fault.ReportFault.{ReportFault}
+use Rattle.cellplan_c.specs.declared.cell.Cell.{Cell}
+use Rattle.cellplan_c.specs.declared.told.Order.{Order}
+use Rattle.cellplan_c.specs.declared.told.Phase.{Phase}
+use Rattle.cellplan_c.specs.Told.{report_by, order_told, phase_told, fault_number, fault_detail}
+
+-- of the controller that the cell holds, if it holds one
+abbrev pub Holding : Cell → (Control → Type 0) → Type 0
+Holding cell Is = IfSome cell.slot.held (λ held. Is held.controller)
+
+-- of the controller before, the report of this kind and these numbers, and the controller after, if there are all three
+abbrev pub Reporting : Cell → Cell → ℕ → ℕ → ℕ → ℕ → (Control → Ended → Control → Type 0) → Type 0
+Reporting old new kind job machine at Is =
+    Holding old (λ before. Holding new (λ after. IfSome (report_by kind job machine at) (λ report. Is before (said report) after)))
+
+-- the report is refused for its first reason, which is the only one: its number is answered, and what it names is told
+abbrev pub IsReasonTold : Control → Ended → ℕ → ℕ → Type 0
+IsReasonTold control report number detail = (fault : ReportFault) × (number ≡ fault_number fault) × (detail ≡ fault_detail fault)
+    × IsFirstReason control.plan.planned control.cell report fault × IsOnlyReason control.plan.planned control.cell report fault
+
+-- what a report comes to, by its status, whether it was late, and what is told of its reason
+pub record IsReported (status : ℕ) (late : Bool) (detail : ℕ) (old : Control) (report : Ended) (new : Control) : Type 0 where
+  pub possible : (status ≡ 0) ↔ CanReport old.plan.planned old.cell report
+  pub answered : status ≡ 0 → IsAnswered old report (record { late = late }) new
+  pub reason : status ≢ 0 → IsReasonTold old report status detail
+  pub called : (es : List Event) × IsCalled old report es new
+  pub never_refused : (due : ℕ) → GoesOn old.plan.planned old.cell report.ended due → report.at ≡ old.cell.last → status ≡ 0
+
+-- each order from a first one on, for which there is room, stands in its place as its numbers
+abbrev pub AreOrdersPut : List MoveOrder → ℕ → List Order → List Order → Type 0
+AreOrdersPut orders first old new =
+    (i : ℕ) → first + i < length orders → i < length old → slice_get new i ≡ option_map order_told (slice_get orders (first + i))
+
+-- behind the orders from a first one on the room stays as it was
+abbrev pub IsKeptBehind : List MoveOrder → ℕ → List Order → List Order → Type 0
+IsKeptBehind orders first old new = (i : ℕ) → length orders ≤ first + i → slice_get new i ≡ slice_get old i
+
+-- where the job is, as numbers; none for a number that is no job's
+abbrev pub IsPhaseOf : Control → ℕ → Option Phase → Type 0
+IsPhaseOf held job answer = MatchOption answer (jobs held.plan.planned ≤ job) (λ told. (job < jobs held.plan.planned)
+    × ((place : Whereabouts) × (told ≡ phase_told place) × IsPhase held.plan.planned held.cell job place))
+
+-- the job that is on the machine; none where it is free
+abbrev pub IsHolderOf : Control → ℕ → Option ℕ → Type 0
+IsHolderOf held machine answer = MatchOption answer (IsFree held.plan.planned held.cell machine)
+    (λ job. (k : ℕ) × IsOn held.plan.planned held.cell job k machine)
+
+-- when the machine's cleaning is due; none where it isn't being cleaned
+abbrev pub IsCleanDueOf : Control → ℕ → Option ℕ → Type 0
+IsCleanDueOf held machine answer = MatchOption answer (cleaning held.cell machine ≡ None)
+    (λ due. GoesOn held.plan.planned held.cell (Cleaning machine) due)
+
+-- the job's earliest leaving by the plan; none for a number that is no job's
+pub record IsLeaveOf (v : VerifiedPlan) (job : ℕ) (answer : Option ℕ) : Type 0 where
+  pub greatest : MatchOption answer (jobs v.planned ≤ job) (λ moment. (job < jobs v.planned) × IsGreatest v.planned (leaving v.planned job) moment)
+  pub kept : IfSome answer (λ moment. moment ≡ kept_at v (leaving v.planned job))
+  pub no_faster : IfSome answer (IsNeverGoneBefore v.planned job)
+  pub no_later : IfSome answer (IsNeverGoneAfter v.planned job)
+  pub just_in_time : IfSome answer (IsGoneJustAt v.planned job)
