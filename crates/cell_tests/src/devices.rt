@@ -1,12 +1,15 @@
 //! A reader and a writer that fail once, and what comes of a call over them.
 
-use super::one_byte_writer::{OneByteWriter, ROOM, is_text};
+use super::cells::{Texts, accepted};
+use super::driven_inputs::{Driven, Driver, End};
+use super::echo::Echo;
+use super::one_byte_writer::OneByteWriter;
 use super::piece_reader::PieceReader;
-use cell_drive::{DriveFault, FromRead, Gathered};
+use cell_drive::{DriveFault, FromRead, Gathered, drive, drive_hub, stream};
+use plan_verifier::Verified;
+use std::alloc::Global;
 use std::cell::Cell;
-use std::fmt::Debug;
-use std::io;
-use std::process::Abort;
+use std::test::Fail;
 
 /// How much the reader gives a call at most, how much is gathered before it is written, after how many calls the next
 /// read, write or flush fails, and whether a write that fails takes nothing.
@@ -30,118 +33,100 @@ pub(super) const GOOD: Limits = Limits {
     takes_nothing: false,
 };
 
-/// A reader of the input and a writer, which counts in `written` what it has taken.
-pub(super) fn devices<'a>(
-    rt: &impl AllocGlobal,
-    input: &'a [u8],
-    limits: Limits,
-    written: &'a Cell<usize>,
-) -> io::Result<(FromRead<PieceReader<'a>>, Gathered<OneByteWriter<'a>>)> {
-    let reader = PieceReader {
-        bytes: input,
-        most: limits.piece,
-        calls_left: limits.reads,
-        written,
-        calls: 0,
-        written_at_last: 0,
-    };
-    let mut writer = OneByteWriter::new(written, limits.writes, limits.takes_nothing);
-    writer.shows_left = limits.shows;
-    Ok((
-        FromRead::new(reader),
-        Gathered::new(rt.alloc(), limits.gathered, writer)?,
-    ))
-}
+type Reader<'a> = FromRead<PieceReader<'a>>;
 
-/// What came of a call: its answer, what was written, how much of that before the last read, and how many reads were
-/// made.
-#[derive(Drop)]
-pub(super) struct Outcome<E> {
-    pub(super) end: Result<E, DriveFault>,
-    pub(super) bytes: [u8; ROOM],
+type Writer<'a> = Gathered<OneByteWriter<'a>>;
+
+/// What came of a call: its answer, whether all that was written is the beginning of the answers, how much that is and how
+/// much of it was out before the last read, and how many reads were made.
+#[derive(Clone, Copy)]
+pub(super) struct Outcome {
+    pub(super) end: Result<End, DriveFault>,
+    pub(super) alike: bool,
     pub(super) count: usize,
     pub(super) before_last_read: usize,
     pub(super) reads: usize,
 }
 
-/// How many bytes are out once so many were read: `answered` tells how many bytes of the input end each line, and how many
-/// are out once it is answered.
-fn answered_within(answered: &[(usize, usize)], read: usize) -> usize {
-    let mut out = 0;
-    for &(complete, written) in answered {
-        if complete <= read {
-            out = written;
-        }
+impl Outcome {
+    /// Whether the call has answered this, and just so many bytes of the answers are out.
+    pub(super) fn is(self, end: Result<End, DriveFault>, count: usize) -> bool {
+        self.end == end && self.alike && self.count == count
     }
-    out
 }
 
-impl<E: Debug + PartialEq> Outcome<E> {
-    pub(super) fn new(
-        end: Result<E, DriveFault>,
-        reader: FromRead<PieceReader<'_>>,
-        writer: Gathered<OneByteWriter<'_>>,
-    ) -> Outcome<E> {
-        let device = writer.into_inner();
-        let giver = reader.into_inner();
-        Outcome {
-            end,
-            bytes: device.bytes,
-            count: device.written.get(),
-            before_last_read: giver.written_at_last,
-            reads: giver.calls,
+fn verified(alloc: Global, plans: &[Texts]) -> Result<Vec<Verified>, Fail> {
+    let mut cells = Vec::new(alloc);
+    for &texts in plans {
+        cells.push(accepted(alloc, texts)?)?;
+    }
+    Ok(cells)
+}
+
+fn driven_cell(
+    alloc: Global,
+    verified: Verified,
+    reader: &mut Reader<'_>,
+    writer: &mut Writer<'_>,
+) -> Result<End, DriveFault> {
+    match drive(alloc, verified, reader, writer) {
+        Ok(end) => Ok((end.done, end.last, end.left)),
+        Err(fault) => Err(fault),
+    }
+}
+
+fn driven_cells(
+    alloc: Global,
+    cells: Vec<Verified>,
+    reader: &mut Reader<'_>,
+    writer: &mut Writer<'_>,
+) -> Result<End, DriveFault> {
+    match drive_hub(alloc, cells, reader, writer) {
+        Ok(end) => Ok((end.all_done, 0, 0)),
+        Err(fault) => Err(fault),
+    }
+}
+
+fn echoed(reader: &mut Reader<'_>, writer: &mut Writer<'_>) -> Result<End, DriveFault> {
+    let mut room = [0; 80];
+    match stream(&mut Echo, reader, &mut room, writer) {
+        Ok(()) => Ok((true, 0, 0)),
+        Err(fault) => Err(fault),
+    }
+}
+
+/// Drives what is to be driven over devices with these limits.
+pub(super) fn driven_over(alloc: Global, driven: &Driven, limits: Limits) -> Result<Outcome, Fail> {
+    let written = Cell::new(0);
+    let mut reader = FromRead::new(PieceReader::new(
+        driven.input,
+        &written,
+        limits.piece,
+        limits.reads,
+    ));
+    let device = OneByteWriter::new(
+        driven.text,
+        &written,
+        limits.writes,
+        limits.shows,
+        limits.takes_nothing,
+    );
+    let mut writer = Gathered::new(alloc, limits.gathered, device)?;
+    let end = match driven.driver {
+        Driver::Cell(texts) => {
+            driven_cell(alloc, accepted(alloc, texts)?, &mut reader, &mut writer)
         }
-    }
-
-    /// Whether just this text was written.
-    pub(super) fn has(&self, text: &[u8]) -> bool {
-        is_text(&self.bytes, self.count, text)
-    }
-
-    /// A write has failed, and these first bytes are out.
-    pub(super) fn is_of_failed_write(&self, rt: &impl Abort, text: &[u8]) {
-        let writes = text.len();
-        assert_eq!(rt; self.end, Err(DriveFault::Write), "after {writes} writes");
-        assert!(rt; self.has(text), "after {writes} writes");
-    }
-
-    /// The flush after so many has failed, of which there is one before each read of a byte, and one at the end. What was
-    /// answered is out, and nothing was read behind it.
-    pub(super) fn is_of_failed_show(
-        &self,
-        rt: &impl Abort,
-        text: &[u8],
-        answered: &[(usize, usize)],
-        shows: usize,
-        reads: usize,
-    ) {
-        let out = if shows < reads {
-            answered_within(answered, shows)
-        } else {
-            text.len()
-        };
-        assert_eq!(rt; self.end, Err(DriveFault::Write), "after {shows} flushes");
-        assert_eq!(rt; self.reads, shows, "after {shows} flushes");
-        assert!(rt;
-            out <= text.len() && self.has(&text[..out]),
-            "after {shows} flushes"
-        );
-    }
-
-    /// The read after so many bytes has failed. The answers of the lines that are complete were out before it.
-    pub(super) fn is_of_failed_read(
-        &self,
-        rt: &impl Abort,
-        text: &[u8],
-        answered: &[(usize, usize)],
-        reads: usize,
-    ) {
-        let out = answered_within(answered, reads);
-        assert_eq!(rt; self.end, Err(DriveFault::Read), "after {reads} reads");
-        assert_eq!(rt; self.before_last_read, out, "before the read after {reads}");
-        assert!(rt;
-            out <= text.len() && self.has(&text[..out]),
-            "after {reads} reads"
-        );
-    }
+        Driver::Cells(plans) => {
+            driven_cells(alloc, verified(alloc, plans)?, &mut reader, &mut writer)
+        }
+        Driver::Echo => echoed(&mut reader, &mut writer),
+    };
+    let giver = reader.into_inner();
+    Ok(Outcome {
+        end,
+        alike: writer.into_inner().alike,
+        count: written.get(),
+        before_last_read: giver.written_at_last,
+        reads: giver.calls,
+    })
 }

@@ -1,43 +1,59 @@
-//! Cells under tickets.
+//! Cells under tickets. How cells under numbers run apart is shown by `tests/runs`.
 
-use super::cells::{controller, crossing, instant};
+use super::cells::{CROSSING, INSTANT, Texts, accepted};
 use super::events::arrive;
-use super::worked_runs::in_time;
-use cell_control::{Ack, Controller, Dues, Report, ReportFault, ScanDues, TourneyDues};
+use cell_control::{Ack, Dues, ScanDues, TourneyDues};
 use cell_hub::{Hub, HubFault, Ticket};
+use std::alloc::Global;
 use std::process::Abort;
 use std::test::Fail;
 
-/// The ticket of a cell with the plan of the two jobs.
-fn admitted<D: Dues>(rt: &(impl Abort + AllocGlobal), hub: &mut Hub<D>) -> Result<Ticket, Fail> {
-    match hub.admit(crossing(rt, None)?) {
+/// The ticket of one more cell, with this plan.
+fn admitted<D: Dues>(alloc: Global, hub: &mut Hub<D>, texts: Texts) -> Result<Ticket, Fail> {
+    match hub.admit(accepted(alloc, texts)?) {
         Ok(ticket) => Ok(ticket),
-        Err(_) => panic!(rt; "not admitted"),
+        Err((fault, _)) => Err(fault.into()),
     }
+}
+
+/// Whether the cell of the ticket is there and waits for so many reports.
+fn waits_for<D: Dues>(hub: &Hub<D>, ticket: Ticket, left: u64) -> bool {
+    match hub.cell(ticket) {
+        Some(cell) => cell.reports_left() == left,
+        None => false,
+    }
+}
+
+/// Dismisses the ticket, and tells for how many reports its cell waits.
+fn dismissed<D: Dues>(hub: &mut Hub<D>, ticket: Ticket) -> Option<u64> {
+    match hub.dismiss(ticket) {
+        Ok(cell) => Some(cell.reports_left()),
+        Err(_) => None,
+    }
+}
+
+/// Gives the first cell its first report, and dismisses it.
+fn leaves<D: Dues>(rt: &impl Abort, hub: &mut Hub<D>, first: Ticket) {
+    assert!(rt; first == Ticket { slot: 0, serial: 0 });
+    assert!(rt; hub.report(first, arrive(0, 0)).is_ok());
+    assert!(rt; dismissed(hub, first) == Some(5));
+}
+
+/// The second cell answers in its place, and not under its ticket.
+fn follows<D: Dues>(rt: &impl Abort, hub: &mut Hub<D>, first: Ticket, second: Ticket) {
+    assert!(rt; second == Ticket { slot: 0, serial: 1 });
+    assert!(rt; hub.report(first, arrive(1, 0)) == Err(HubFault::NoSuchCell));
+    assert!(rt; hub.cell(first).is_none() && dismissed(hub, first).is_none());
+    assert!(rt; hub.report(second, arrive(0, 0)) == Ok(Ack { late: false }));
+    assert!(rt; waits_for(hub, second, 5));
 }
 
 fn a_dismissed_ticket_is_silent<D: Dues>(rt: &(impl Abort + AllocGlobal)) -> Result<(), Fail> {
     let mut hub: Hub<D> = Hub::new(rt.alloc());
-    let first = admitted(rt, &mut hub)?;
-    assert_eq!(rt; first, Ticket { slot: 0, serial: 0 });
-    assert!(rt; hub.report(first, in_time()[0].0).is_ok());
-    assert!(rt;
-        hub.dismiss(first)
-            .is_ok_and(|cell| cell.reports_left() == 5)
-    );
-    let second = admitted(rt, &mut hub)?;
-    assert_eq!(rt; second, Ticket { slot: 0, serial: 1 });
-    assert_eq!(rt;
-        hub.report(first, in_time()[1].0),
-        Err(HubFault::NoSuchCell)
-    );
-    assert!(rt; hub.cell(first).is_none());
-    assert!(rt; hub.dismiss(first).is_err());
-    assert_eq!(rt; hub.report(second, in_time()[0].0), Ok(Ack { late: false }));
-    assert!(rt;
-        hub.cell(second)
-            .is_some_and(|cell| cell.reports_left() == 5)
-    );
+    let first = admitted(rt.alloc(), &mut hub, CROSSING)?;
+    leaves(rt, &mut hub, first);
+    let second = admitted(rt.alloc(), &mut hub, CROSSING)?;
+    follows(rt, &mut hub, first, second);
     Ok(())
 }
 
@@ -49,23 +65,23 @@ fn dismissed_tickets_never_answer(rt: HostRuntime) -> Result<(), Fail> {
 
 #[test]
 fn spent_serials_hand_the_plan_back(rt: HostRuntime) -> Result<(), Fail> {
-    let mut hub: Hub<TourneyDues> = Hub::with_serial(rt.alloc(), u64::MAX - 1);
-    let ticket = admitted(&rt, &mut hub)?;
-    assert_eq!(rt;
-        ticket,
-        Ticket {
-            slot: 0,
-            serial: u64::MAX - 1
-        }
-    );
-    match hub.admit(crossing(&rt, None)?) {
+    let serial = u64::MAX - 1;
+    let mut hub: Hub<TourneyDues> = Hub::with_serial(rt.alloc(), serial);
+    assert!(rt; admitted(rt.alloc(), &mut hub, CROSSING)? == Ticket { slot: 0, serial });
+    match hub.admit(accepted(rt.alloc(), CROSSING)?) {
         Ok(_) => panic!(rt; "a serial too many"),
         Err((fault, verified)) => {
-            assert_eq!(rt; fault, HubFault::SerialsSpent);
-            assert_eq!(rt; verified.makespan(), 10);
+            assert!(rt; fault == HubFault::SerialsSpent && verified.makespan() == 10);
         }
     }
     Ok(())
+}
+
+/// Whether the ticket has a cell or none, as it should.
+fn stays<D: Dues>(hub: &mut Hub<D>, ticket: Ticket, stays: bool) -> bool {
+    hub.cell(ticket).is_some() == stays
+        && hub.report(ticket, arrive(0, 0)).is_ok() == stays
+        && dismissed(hub, ticket).is_some() == stays
 }
 
 #[test]
@@ -73,74 +89,20 @@ fn slots_are_taken_again_and_again(rt: HostRuntime) -> Result<(), Fail> {
     let mut hub: Hub<ScanDues> = Hub::new(rt.alloc());
     let mut tickets: Vec<Ticket> = Vec::new(rt.alloc());
     for serial in 0..1_101 {
-        let ticket = hub.admit(instant(&rt)?).map_err(|refused| refused.0)?;
-        assert_eq!(rt; ticket.serial, serial);
+        let ticket = admitted(rt.alloc(), &mut hub, INSTANT)?;
+        assert!(rt; ticket.serial == serial);
         if serial % 3 == 2 {
-            let left = tickets.last().copied().ok_or("no ticket before")?;
-            assert!(rt; hub.dismiss(left).is_ok(), "the cell before {serial}");
+            let before = tickets.last().copied().ok_or("no ticket before")?;
+            assert!(rt;
+                dismissed(&mut hub, before).is_some(),
+                "the cell before {serial}"
+            );
         }
         tickets.push(ticket)?;
     }
-    for ticket in &tickets {
+    for &ticket in &tickets {
         let serial = ticket.serial;
-        let stays = serial % 3 != 1;
-        assert_eq!(rt; hub.cell(*ticket).is_some(), stays, "{serial}");
-        assert_eq!(rt;
-            hub.report(*ticket, arrive(0, 0)).is_ok(),
-            stays,
-            "{serial}"
-        );
-        assert_eq!(rt; hub.dismiss(*ticket).is_ok(), stays, "{serial}");
-    }
-    Ok(())
-}
-
-/// Whether the cell of the ticket answers the report as the controller alone does, and is then like it.
-fn answers_alike<D: Dues>(
-    hub: &mut Hub<D>,
-    ticket: Ticket,
-    alone: &mut Controller<D>,
-    report: Report,
-) -> bool {
-    let answer = hub.report(ticket, report);
-    let wanted = alone.report(report).map_err(HubFault::Cell);
-    match hub.cell(ticket) {
-        Some(cell) => answer == wanted && cell.orders() == alone.orders(),
-        None => false,
-    }
-}
-
-#[test]
-fn cells_run_apart(rt: HostRuntime) -> Result<(), Fail> {
-    let mut hub: Hub<TourneyDues> = Hub::new(rt.alloc());
-    let one = admitted(&rt, &mut hub)?;
-    let other = admitted(&rt, &mut hub)?;
-    let mut alone = controller(&rt, crossing(&rt, None)?)?;
-    for (report, _) in in_time() {
-        assert!(rt; answers_alike(&mut hub, one, &mut alone, report));
-    }
-    assert_eq!(rt;
-        hub.report(one, in_time()[5].0),
-        Err(HubFault::Cell(ReportFault::NotExpected))
-    );
-    assert!(rt; hub.cell(one).is_some_and(|cell| cell.is_done()));
-    assert!(rt; hub.cell(other).is_some_and(|cell| cell.reports_left() == 6));
-    Ok(())
-}
-
-#[test]
-fn each_fault_of_a_hub_has_a_text(rt: HostRuntime) -> Result<(), Fail> {
-    let faults = [
-        (HubFault::NoSuchCell, "NoSuchCell"),
-        (HubFault::SerialsSpent, "SerialsSpent"),
-        (HubFault::Memory, "Memory"),
-        (
-            HubFault::Cell(ReportFault::WrongMachine { actual: 1 }),
-            "Cell WrongMachine actual 1",
-        ),
-    ];
-    for (fault, text) in faults {
-        assert_eq!(rt; fault.to_string(rt.alloc())?.as_str(), text);
+        assert!(rt; stays(&mut hub, ticket, serial % 3 != 1), "{serial}");
     }
     Ok(())
 }

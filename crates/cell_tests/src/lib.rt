@@ -5,8 +5,6 @@
 #![tactic(auto)]
 
 #[cfg(test)]
-mod audits;
-#[cfg(test)]
 mod calling;
 #[cfg(test)]
 mod cells;
@@ -15,13 +13,17 @@ mod controller_runs;
 #[cfg(test)]
 mod devices;
 #[cfg(test)]
-mod driven_cells;
+mod driven_devices;
 #[cfg(test)]
-mod driven_runs;
+mod driven_inputs;
 #[cfg(test)]
 mod dues;
 #[cfg(test)]
+mod echo;
+#[cfg(test)]
 mod events;
+#[cfg(test)]
+mod faults;
 #[cfg(test)]
 mod full_logs;
 #[cfg(test)]
@@ -36,11 +38,5 @@ mod many_orders;
 mod one_byte_writer;
 #[cfg(test)]
 mod piece_reader;
-#[cfg(test)]
-mod report_reasons;
-#[cfg(test)]
-mod same_bytes;
-#[cfg(test)]
-mod streams;
 #[cfg(test)]
 mod worked_runs;

@@ -1,26 +1,93 @@
 //! The reports of a run in many orders.
 
-use super::cells::{controller, crossing, following};
+use super::cells::{CLEANED, CROSSING, FOLLOWING, Texts, controller};
 use super::events::{arrive, clean, finish};
-use super::worked_runs::{followed, in_time};
 use cell_control::{Controller, Dues, Report, ScanDues, TourneyDues};
-use plan_verifier::Verified;
 use shop_base::Moment;
-use std::alloc::{AllocError, Global};
 use std::process::Abort;
 use std::test::Fail;
 
-fn reports_of(alloc: Global, run: &[(Report, &str)]) -> Result<Vec<Report>, AllocError> {
-    let mut reports = Vec::new(alloc);
-    for &(report, _) in run {
-        reports.push(report)?;
-    }
-    Ok(reports)
-}
+/// The reports of the two jobs that cross, and of a cleaning.
+const CROSSED: &[Report] = &[
+    Report::Arrive { job: 0, at: 0 },
+    Report::Arrive { job: 1, at: 0 },
+    Report::Finish {
+        job: 0,
+        machine: 0,
+        at: 0,
+    },
+    Report::Finish {
+        job: 0,
+        machine: 1,
+        at: 0,
+    },
+    Report::Finish {
+        job: 1,
+        machine: 1,
+        at: 0,
+    },
+    Report::Finish {
+        job: 1,
+        machine: 0,
+        at: 0,
+    },
+    Report::Clean { machine: 1, at: 0 },
+];
 
-/// The report, so long after the last moment.
-fn later<D: Dues>(cell: &Controller<D>, report: Report, pace: Moment) -> Report {
-    let at = cell.now().saturating_add(pace);
+/// The reports of the three jobs that follow one another.
+const FOLLOWED: &[Report] = &[
+    Report::Arrive { job: 0, at: 0 },
+    Report::Arrive { job: 1, at: 0 },
+    Report::Arrive { job: 2, at: 0 },
+    Report::Finish {
+        job: 0,
+        machine: 0,
+        at: 0,
+    },
+    Report::Finish {
+        job: 0,
+        machine: 1,
+        at: 0,
+    },
+    Report::Finish {
+        job: 1,
+        machine: 0,
+        at: 0,
+    },
+    Report::Finish {
+        job: 1,
+        machine: 1,
+        at: 0,
+    },
+    Report::Finish {
+        job: 2,
+        machine: 0,
+        at: 0,
+    },
+    Report::Finish {
+        job: 0,
+        machine: 2,
+        at: 0,
+    },
+    Report::Finish {
+        job: 1,
+        machine: 2,
+        at: 0,
+    },
+    Report::Finish {
+        job: 2,
+        machine: 1,
+        at: 0,
+    },
+    Report::Finish {
+        job: 2,
+        machine: 2,
+        at: 0,
+    },
+];
+
+/// The report at this moment.
+fn moved(report: Report, at: Moment) -> Report {
     match report {
         Report::Arrive { job, at: _ } => arrive(job, at),
         Report::Finish {
@@ -34,87 +101,66 @@ fn later<D: Dues>(cell: &Controller<D>, report: Report, pace: Moment) -> Report 
 
 /// Whether something is due, of three jobs and machines at the most.
 fn is_due<D: Dues>(cell: &Controller<D>) -> bool {
-    let mut due = false;
     for number in 0..3 {
-        due = due || cell.due(number).is_some() || cell.clean_due(number).is_some();
+        if cell.due(number).is_some() || cell.clean_due(number).is_some() {
+            return true;
+        }
     }
-    due
+    false
 }
 
-/// Gives a report: one fewer is left where it is accepted, and as many where it is refused; and then something is due,
-/// or else the run has ended.
-fn goes_on<D: Dues>(rt: &impl Abort, cell: &mut Controller<D>, report: Report) {
-    let left = cell.reports_left();
-    let fall = if cell.report(report).is_ok() { 1 } else { 0 };
-    assert!(rt; left.checked_sub(fall) == Some(cell.reports_left()));
-    assert!(rt; is_due(cell) != cell.is_done());
-}
-
-/// Gives each of the reports, from a first one on and then from the beginning.
-fn goes_round<D: Dues>(
-    rt: &impl Abort,
-    cell: &mut Controller<D>,
-    reports: &[Report],
-    first: usize,
-    pace: Moment,
-) {
-    for report in reports.iter().skip(first).chain(reports.iter().take(first)) {
-        let report = later(cell, *report, pace);
-        goes_on(rt, cell, report);
+/// Gives the reports, each so long after the last moment. One fewer is left where a report is accepted, and as many where it
+/// is refused; and then something is due, or else the run has ended.
+fn goes_on<D: Dues>(rt: &impl Abort, cell: &mut Controller<D>, reports: &[Report], pace: Moment) {
+    for &report in reports {
+        let left = cell.reports_left();
+        let at = cell.now().saturating_add(pace);
+        let fall = if cell.report(moved(report, at)).is_ok() {
+            1
+        } else {
+            0
+        };
+        assert!(rt; left.checked_sub(fall) == Some(cell.reports_left()));
+        assert!(rt; is_due(cell) != cell.is_done());
     }
 }
 
-/// Gives the reports round after round: each round has one that is accepted, so the run ends.
+/// Gives a new controller of the plan the reports from this one on, and then all of them again and again: each round has one
+/// that is accepted, so the run ends.
 fn ends<D: Dues>(
-    rt: &impl Abort,
-    cell: &mut Controller<D>,
-    reports: &[Report],
-    first: usize,
-    pace: Moment,
-) {
-    for _round in 0..cell.reports_left() {
-        goes_round(rt, cell, reports, first, pace);
-    }
-    assert!(rt; cell.is_done());
-    assert!(rt; cell.punctual() == (pace == 0));
-}
-
-/// The same for new controllers of the plan: at once, a bit later and much later after each report.
-fn ends_at_each_pace<D: Dues>(
     rt: &(impl Abort + AllocGlobal),
-    verified: Verified,
+    texts: Texts,
+    first: &[Report],
     reports: &[Report],
-    first: usize,
-) -> Result<Verified, Fail> {
-    let mut verified = verified;
-    for pace in [0, 1, 9] {
-        let mut cell = controller::<D>(rt, verified)?;
-        ends(rt, &mut cell, reports, first, pace);
-        verified = cell.into_verified();
+    pace: Moment,
+) -> Result<(), Fail> {
+    let mut cell: Controller<D> = controller(rt.alloc(), texts)?;
+    goes_on(rt, &mut cell, first, pace);
+    for _round in 0..cell.reports_left() {
+        goes_on(rt, &mut cell, reports, pace);
     }
-    Ok(verified)
+    assert!(rt; cell.is_done() && cell.punctual() == (pace == 0));
+    Ok(())
 }
 
-/// The same from each of the reports on.
+/// From each of the reports on, at once, a bit later and much later after each report.
 fn ends_from_each<D: Dues>(
     rt: &(impl Abort + AllocGlobal),
-    verified: Verified,
+    texts: Texts,
     reports: &[Report],
 ) -> Result<(), Fail> {
-    let mut verified = verified;
     for first in 0..reports.len() {
-        verified = ends_at_each_pace::<D>(rt, verified, reports, first)?;
+        for pace in [0, 1, 9] {
+            ends::<D>(rt, texts, &reports[first..], reports, pace)?;
+        }
     }
     Ok(())
 }
 
 #[test]
 fn an_accepted_plan_goes_on_in_many_orders(rt: HostRuntime) -> Result<(), Fail> {
-    let mut crossed = reports_of(rt.alloc(), &in_time())?;
-    crossed.push(clean(1, 0))?;
-    ends_from_each::<TourneyDues>(&rt, crossing(&rt, None)?, &crossed)?;
-    ends_from_each::<TourneyDues>(&rt, crossing(&rt, Some(2))?, &crossed)?;
-    let following_reports = reports_of(rt.alloc(), &followed())?;
-    ends_from_each::<TourneyDues>(&rt, following(&rt)?, &following_reports)?;
-    ends_from_each::<ScanDues>(&rt, following(&rt)?, &following_reports)
+    ends_from_each::<TourneyDues>(&rt, CROSSING, CROSSED)?;
+    ends_from_each::<TourneyDues>(&rt, CLEANED, CROSSED)?;
+    ends_from_each::<TourneyDues>(&rt, FOLLOWING, FOLLOWED)?;
+    ends_from_each::<ScanDues>(&rt, FOLLOWING, FOLLOWED)
 }

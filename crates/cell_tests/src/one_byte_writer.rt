@@ -3,42 +3,42 @@
 use std::cell::Cell;
 use std::io::{self, ErrorKind, Write};
 
-/// How much the writer takes at most.
-pub(super) const ROOM: usize = 512;
-
-/// Whether the first bytes, so many, are this text.
-pub(super) fn is_text(written: &[u8; ROOM], count: usize, text: &[u8]) -> bool {
-    count <= ROOM && &written[..count] == text
-}
-
 /// Takes one byte a call, but fails at the call that comes after so many: with an error, or by taking nothing. So does
-/// a flush. The calls after that one succeed again, so that a byte which is written nevertheless is seen.
+/// a flush. The calls after that one succeed again, so that a byte which is written nevertheless is seen. It tells whether
+/// all that it took is the beginning of a text.
 #[derive(Drop)]
 pub(super) struct OneByteWriter<'a> {
-    pub(super) bytes: [u8; ROOM],
-    pub(super) written: &'a Cell<usize>,
-    pub(super) calls_left: usize,
-    pub(super) takes_nothing: bool,
-    pub(super) shows_left: usize,
+    text: &'a [u8],
+    pub(super) alike: bool,
+    written: &'a Cell<usize>,
+    calls_left: usize,
+    shows_left: usize,
+    takes_nothing: bool,
 }
 
 impl<'a> OneByteWriter<'a> {
-    /// Counts in `written` how many bytes it has taken.
-    pub(super) fn new(written: &'a Cell<usize>, calls: usize, takes_nothing: bool) -> Self {
+    /// Compares what it takes with the text, and counts it in `written`.
+    pub(super) fn new(
+        text: &'a [u8],
+        written: &'a Cell<usize>,
+        calls: usize,
+        shows: usize,
+        takes_nothing: bool,
+    ) -> Self {
         OneByteWriter {
-            bytes: [0; ROOM],
+            text,
+            alike: true,
             written,
             calls_left: calls,
+            shows_left: shows,
             takes_nothing,
-            shows_left: usize::MAX,
         }
     }
 }
 
 impl Write for OneByteWriter<'_> {
     fn write(&mut self, buf: &[u8]) -> io::Result<usize> {
-        let count = self.written.get();
-        if self.calls_left == 0 || count >= ROOM || buf.is_empty() {
+        if self.calls_left == 0 || buf.is_empty() {
             self.calls_left = usize::MAX;
             if self.takes_nothing {
                 return Ok(0);
@@ -46,8 +46,9 @@ impl Write for OneByteWriter<'_> {
             return Err(io::Error::from(ErrorKind::Other));
         }
         self.calls_left -= 1;
-        self.bytes[count] = buf[0];
-        self.written.set(count + 1);
+        let count = self.written.get();
+        self.alike = self.alike && self.text.get(count) == Some(&buf[0]);
+        self.written.set(count.saturating_add(1));
         Ok(1)
     }
 

@@ -8,12 +8,31 @@ use std::io::{self, ErrorKind, Read};
 /// were written when the last one was.
 #[derive(Drop)]
 pub(super) struct PieceReader<'a> {
-    pub(super) bytes: &'a [u8],
-    pub(super) most: usize,
-    pub(super) calls_left: usize,
+    bytes: &'a [u8],
+    most: usize,
+    calls_left: usize,
     pub(super) calls: usize,
-    pub(super) written: &'a Cell<usize>,
+    written: &'a Cell<usize>,
     pub(super) written_at_last: usize,
+}
+
+impl<'a> PieceReader<'a> {
+    /// Takes from `written` how many bytes were written.
+    pub(super) fn new(
+        bytes: &'a [u8],
+        written: &'a Cell<usize>,
+        most: usize,
+        calls: usize,
+    ) -> Self {
+        PieceReader {
+            bytes,
+            most,
+            calls_left: calls,
+            calls: 0,
+            written,
+            written_at_last: 0,
+        }
+    }
 }
 
 impl Read for PieceReader<'_> {
