@@ -1,14 +1,15 @@
 -- Where all nodes are ranked: greatest lengths, and no cycle.
 use Rattle.std.proofs.Common.{◌≡◌, ℕ, zero, suc, ◌<◌, ◌≤◌, ◌++◌, ◌∷◌, [], List, Option, None, Some, arith, refl, sym, subst}
 use Rattle.shop_base.specs.declared.node.Node.{Node}
-use Rattle.shop_base.specs.Plan.{PlannedShop, release, IsWellShaped}
+use Rattle.shop_base.specs.Plan.{PlannedShop, release}
 use Rattle.shop_base.specs.Graph.{node, IsNode, Path, begins, follows}
 use Rattle.shop_base.proofs.Cycles.{source_node}
 use Rattle.alt_graph.specs.declared.times.NodeTime.{NodeTime}
 use Rattle.alt_graph.specs.Lookups.{AreFirsts}
 use Rattle.alt_graph.specs.Times.{NodeTimes, rank_of, earliest_of, before_of, IsAttained, AreTimes, AreOrdered}
 use Rattle.alt_graph.specs.Layout.{by_job, LeadsBack, AreLinked}
-use Rattle.alt_graph.specs.Ranking.{IsRanked, AreRanked}
+use Rattle.alt_graph.specs.PlanGraph.{PlanGraph}
+use Rattle.alt_graph.specs.Ranking.{AreRanked, AreAllRanked, ranking_of, IsRanking}
 use Rattle.alt_graph.proofs.NodeNumbers.{numbers_count, next_first, timed_node, node_timed}
 use Rattle.alt_graph.proofs.ArcKinds.{target_node}
 use Rattle.alt_graph.proofs.Paths.{first_path}
@@ -35,7 +36,7 @@ module _ (p : PlannedShop) (t : NodeTimes) (are : AreTimes p t) where
   none_longer nodes v n (begins j inside) = are.schedule.moments.releases j inside
   none_longer nodes v n (follows front u w m d path arc) = omega (arith, none_longer front u m path, are.schedule.moments.arcs u w d arc)
 
-  pub ordered : AreOrdered p t
+  ordered : AreOrdered p t
   ordered = record {
     times = are;
     lengths = record {
@@ -44,24 +45,36 @@ module _ (p : PlannedShop) (t : NodeTimes) (are : AreTimes p t) where
     };
   }
 
-module _ (p : PlannedShop) (shaped : IsWellShaped p) (firsts : List ℕ) (are : AreFirsts p firsts) (rows : List NodeTime) (done : List Node)
-    (sound : AreRanked p firsts rows done) (all : (v : Node) → IsNode p v → IsRanked (by_job firsts rows) v) where
+module _ (graph : PlanGraph) (done : List Node) (rows : List NodeTime) (room : ℕ) (is_ranking : IsRanking graph done rows room)
+    (all : AreAllRanked (ranking_of graph done rows)) where
+  abbrev p : PlannedShop
+  p = graph.plan
+
+  abbrev firsts : List ℕ
+  firsts = graph.firsts
+
   abbrev times : NodeTimes
   times = by_job firsts rows
 
+  are : AreFirsts p firsts
+  are = is_ranking.sound.firsts
+
+  sound : AreRanked (ranking_of graph done rows)
+  sound = is_ranking.ranked
+
   -- ranked nodes have their times
-  pub all_times : AreTimes p times
+  all_times : AreTimes p times
   all_times = record {
-    nodes = λ v. (node_timed p firsts are rows v sound.size, timed_node p firsts are rows v);
+    nodes = λ v. (node_timed p firsts are rows v is_ranking.size, timed_node p firsts are rows v);
     schedule = record {
-      shaped = shaped;
+      shaped = is_ranking.sound.shaped;
       ranks = λ u v d arc. (let is = target_node p u v d arc in (sound.placed v is (all v is)).rises u d arc);
       moments = record {
         releases = λ j inside. (let is : IsNode p (node j 0) = record { job = inside; place = omega arith } in (sound.placed (node j 0) is (all (node j 0) is)).released refl);
         arcs = λ u v d arc. (let is = target_node p u v d arc in (sound.placed v is (all v is)).fits u d arc);
       };
     };
-    few = λ v is. omega (arith, sound.within v is (all v is), sound.count, sound.size, numbers_count p firsts are);
+    few = λ v is. omega (arith, sound.within v is (all v is), is_ranking.count, is_ranking.size, numbers_count p firsts are);
     attained = λ v is. (sound.placed v is (all v is)).attained;
   }
 
@@ -69,10 +82,14 @@ module _ (p : PlannedShop) (shaped : IsWellShaped p) (firsts : List ℕ) (are : 
   pub all_linked : AreLinked firsts rows
   all_linked = record {
     rises = λ j lt. omega (arith, are.follows j (omega (arith, are.size)));
-    within = λ j lt. omega (arith, sound.size, next_first p firsts are j (omega (arith, are.size)));
+    within = λ j lt. omega (arith, is_ranking.size, next_first p firsts are j (omega (arith, are.size)));
     back = λ v timed. (let is = timed_node p firsts are rows v timed in leads v (before_of times v) (all_times.attained v is));
   }
     where
       leads : (v : Node) (o : Option Node) → IsAttained p times v (earliest_of times v) o → LeadsBack times v o
       leads v None attained = tt
-      leads v (Some u) (d, arc, at) = (node_timed p firsts are rows u sound.size (source_node p u v d arc), all_times.schedule.ranks u v d arc)
+      leads v (Some u) (d, arc, at) = (node_timed p firsts are rows u is_ranking.size (source_node p u v d arc), all_times.schedule.ranks u v d arc)
+
+  -- they are ordered
+  pub all_ordered : AreOrdered p times
+  all_ordered = ordered p times all_times

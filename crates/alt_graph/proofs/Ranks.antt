@@ -1,22 +1,24 @@
 -- One more ranked node.
-use Rattle.std.proofs.Common.{◌≡◌, ◌≢◌, ℕ, zero, suc, replicate, ◌+◌, ◌<◌, ◌++◌, ◌∷◌, [], List, length, get_or, set, sum_by, Option, None, Some, arith, refl, sym, ap, ◌∙◌, subst, ◌⊎◌, inl, inr}
+use Rattle.std.proofs.Common.{◌≡◌, ◌≢◌, ℕ, zero, suc, replicate, ◌+◌, ◌<◌, ◌≤◌, ◌++◌, ◌∷◌, [], List, length, get_or, set, sum_by, Option, None, Some, arith, refl, sym, ap, ◌∙◌, subst, ◌⊎◌, inl, inr}
 use Rattle.std.proofs.lemmas.Bool.{cases_lt}
 use Rattle.std.proofs.lemmas.Bool.Decides.{eqb_tells}
 use Rattle.std.proofs.lemmas.List.{get_or_append_left, get_or_push, length_push, length-set, get_or_past, get_or-replicate, length-replicate}
 use Rattle.std.proofs.lemmas.List.Sums.{sum_by-set, sum_by-cons}
 use Rattle.shop_base.specs.declared.node.Node.{Node}
-use Rattle.shop_base.specs.Plan.{PlannedShop, jobs}
+use Rattle.shop_base.specs.Plan.{PlannedShop, jobs, IsWellShaped}
 use Rattle.shop_base.specs.Graph.{node, IsNode, Arc}
 use Rattle.shop_base.proofs.Cycles.{source_node}
 use Rattle.alt_graph.specs.declared.times.NodeTime.{NodeTime}
 use Rattle.alt_graph.specs.declared.times.TheConstants.{UNRANKED}
 use Rattle.alt_graph.specs.declared.ranking.Longest.{Longest}
+use Rattle.alt_graph.specs.Evidence.{node_count}
 use Rattle.alt_graph.specs.Lookups.{AreFirsts}
 use Rattle.alt_graph.specs.Times.{NodeTimes, no_time, time_at, rank_of, earliest_of, before_of, IsAttained}
 use Rattle.alt_graph.specs.Layout.{number_of, by_job}
-use Rattle.alt_graph.specs.Ranking.{IsRanked, IsPlaced, IsLongest, AreRanked, Grows, blank}
+use Rattle.alt_graph.specs.PlanGraph.{PlanGraph, IsSoundGraph}
+use Rattle.alt_graph.specs.Ranking.{PlanRanking, IsRanked, IsUnranked, IsPlaced, IsLongest, AreRanked, ranking_of, IsRanking, Grows, blank}
 use Rattle.alt_graph.specs.Places.{node_at}
-use Rattle.alt_graph.proofs.NodeNumbers.{number_inside, node_time, time_same, time_other, cases_node}
+use Rattle.alt_graph.proofs.NodeNumbers.{numbers_count, number_inside, node_time, time_same, time_other, cases_node}
 
 pub blank_unranked : (row : NodeTime) → row.rank ≡ UNRANKED → blank row ≡ 1
 blank_unranked row is = elim (eqb_tells row.rank UNRANKED) [
@@ -59,67 +61,90 @@ no_rank n i = elim (cases_lt i n) [
   | inr past ↦ ap (λ (row : NodeTime). row.rank) (get_or_past (replicate n no_time) i no_time (omega (arith, length-replicate n no_time)))
 ]
 
-pub none_ranked : (p : PlannedShop) (firsts : List ℕ) (n : ℕ) → AreFirsts p firsts → n ≡ get_or firsts (jobs p) 0 → AreRanked p firsts (replicate n no_time) []
-none_ranked p firsts n are is = record {
-  listed = λ i lt. absurd (omega arith);
-  ranks = λ i lt. absurd (omega arith);
-  within = λ v is ranked. absurd (ranked (free v is));
-  places = λ v is ranked. absurd (ranked (free v is));
-  placed = λ v is ranked. absurd (ranked (free v is));
+-- at first
+pub none_ranked : (graph : PlanGraph) (n room : ℕ) → IsSoundGraph graph → n ≡ get_or graph.firsts (jobs graph.plan) 0 → n ≤ room → IsRanking graph [] (replicate n no_time) room
+none_ranked graph n room sound is le = record {
+  sound = sound;
+  ranked = record {
+    few = omega arith;
+    listed = λ i lt. absurd (omega arith);
+    ranks = λ i lt. absurd (omega arith);
+    within = λ v is ranked. absurd (ranked (free v is));
+    places = λ v is ranked. absurd (ranked (free v is));
+    placed = λ v is ranked. absurd (ranked (free v is));
+  };
   count = omega (arith, sum_blank n, length-replicate n no_time);
   size = length-replicate n no_time ∙ is;
+  fits = omega (arith, length-replicate n no_time);
 }
   where
-    free : (v : Node) → IsNode p v → rank_of (by_job firsts (replicate n no_time)) v ≡ UNRANKED
-    free v is = ap (λ (row : NodeTime). row.rank) (node_time p firsts are (replicate n no_time) v is) ∙ no_rank n (number_of firsts v)
+    free : (v : Node) → IsNode graph.plan v → rank_of (by_job graph.firsts (replicate n no_time)) v ≡ UNRANKED
+    free v is = ap (λ (row : NodeTime). row.rank) (node_time graph.plan graph.firsts sound.firsts (replicate n no_time) v is) ∙ no_rank n (number_of graph.firsts v)
 
 -- ---- one more
 
-module _ (p : PlannedShop) (firsts : List ℕ) (are : AreFirsts p firsts) (rows : List NodeTime) (done : List Node)
-    (sound : AreRanked p firsts rows done) where
+module _ (graph : PlanGraph) (done : List Node) (rows : List NodeTime) (room : ℕ) (is_ranking : IsRanking graph done rows room) where
+  abbrev p : PlannedShop
+  p = graph.plan
+
+  abbrev firsts : List ℕ
+  firsts = graph.firsts
+
   abbrev now : NodeTimes
   now = by_job firsts rows
 
-  -- there are fewer ranked nodes than numbers for ranks
-  pub few_done : length done < UNRANKED
-  few_done = omega (arith, sound.count, sound.size, are.few)
+  are : AreFirsts p firsts
+  are = is_ranking.sound.firsts
 
-  module _ (v : Node) (is : IsNode p v) (unranked : rank_of now v ≡ UNRANKED) (longest : Longest)
-      (best : IsLongest p now (length done) (Arc p) v longest) where
+  sound : AreRanked (ranking_of graph done rows)
+  sound = is_ranking.ranked
+
+  module _ (v : Node) (unranked : IsUnranked (ranking_of graph done rows) v) (longest : Longest)
+      (best : IsLongest (ranking_of graph done rows) (Arc p) v longest) where
     abbrev pub next_row : NodeTime
     next_row = record { rank = length done; earliest = longest.length; before = longest.before }
 
-    abbrev pub next_times : NodeTimes
-    next_times = by_job firsts (set rows (number_of firsts v) next_row)
+    abbrev pub next_rows : List NodeTime
+    next_rows = set rows (number_of firsts v) next_row
+
+    abbrev next_times : NodeTimes
+    next_times = by_job firsts next_rows
+
+    is : IsNode p v
+    is = unranked.node
 
     at_new : time_at next_times v ≡ next_row
-    at_new = time_same p firsts are rows sound.size v is next_row
+    at_new = time_same p firsts are rows is_ranking.size v is next_row
 
     at_other : (u : Node) → IsNode p u → u ≢ v → time_at next_times u ≡ time_at now u
-    at_other u other apart = time_other p firsts are rows sound.size v is next_row u other apart
+    at_other u other apart = time_other p firsts are rows is_ranking.size v is next_row u other apart
 
     -- a ranked node keeps its row
     keeps : (u : Node) → IsNode p u → IsRanked now u → time_at next_times u ≡ time_at now u
-    keeps u other ranked = at_other u other (λ same. ranked (ap (rank_of now) same ∙ unranked))
+    keeps u other ranked = at_other u other (λ same. ranked (ap (rank_of now) same ∙ unranked.free))
 
     rank_new : rank_of next_times v ≡ length done
     rank_new = ap (λ (row : NodeTime). row.rank) at_new
 
     pub new_ranked : IsRanked next_times v
-    new_ranked same = omega (arith, few_done, rank_new, same)
+    new_ranked same = omega (arith, sound.few, rank_new, same)
 
     -- all other nodes keep their rows
-    pub grows : Grows p now next_times (length done)
-    grows u other = elim (cases_node p firsts are u v other is) [
-      | inl same ↦ inr (ap (rank_of now) same ∙ unranked, omega (arith, ap (rank_of next_times) same, rank_new))
-      | inr apart ↦ inl (at_other u other apart)
-    ]
+    pub grows : Grows (ranking_of graph done rows) (ranking_of graph (done ++ v ∷ []) next_rows)
+    grows = record {
+      plan = refl;
+      longer = omega (arith, length_push done v);
+      known = λ u other. elim (cases_node p firsts are u v other is) [
+        | inl same ↦ inr (ap (rank_of now) same ∙ unranked.free, omega (arith, ap (rank_of next_times) same, rank_new))
+        | inr apart ↦ inl (at_other u other apart)
+      ];
+    }
 
     sources_keep : (w u : Node) (d : ℕ) → IsPlaced p now w → rank_of now w < UNRANKED → Arc p u w d → time_at next_times u ≡ time_at now u
     sources_keep w u d placed few arc = keeps u (source_node p u w d arc) (λ same. omega (arith, placed.rises u d arc, same))
 
     ranked_few : (u : Node) → IsNode p u → IsRanked now u → rank_of now u < UNRANKED
-    ranked_few u other ranked = omega (arith, sound.within u other ranked, few_done)
+    ranked_few u other ranked = omega (arith, sound.within u other ranked, sound.few)
 
     last_is : (o : Option Node) → IsAttained p now v longest.length o → ((u : Node) (d : ℕ) → Arc p u v d → time_at next_times u ≡ time_at now u) → IsAttained p next_times v longest.length o
     last_is None attained sources = attained
@@ -154,7 +179,7 @@ module _ (p : PlannedShop) (firsts : List ℕ) (are : AreFirsts p firsts) (rows 
 
     ranks_more : (i : ℕ) → (i < length done) ⊎ (length done ≡ i) → rank_of next_times (node_at (done ++ v ∷ []) i) ≡ i
     ranks_more i (inl lower) =
-        let ranked : IsRanked now (node_at done i) = λ same. omega (arith, few_done, sound.ranks i lower, same) in
+        let ranked : IsRanked now (node_at done i) = λ same. omega (arith, sound.few, sound.ranks i lower, same) in
         ap (rank_of next_times) (earlier i lower) ∙ ap (λ (row : NodeTime). row.rank) (keeps (node_at done i) (sound.listed i lower) ranked) ∙ sound.ranks i lower
     ranks_more i (inr same) = ap (rank_of next_times) (newest i same) ∙ rank_new ∙ same
 
@@ -181,24 +206,52 @@ module _ (p : PlannedShop) (firsts : List ℕ) (are : AreFirsts p firsts) (rows 
         let placed = sound.placed u other ranked_now in
         placed_still p now next_times u (at_other u other apart) (λ w d arc. sources_keep u w d placed (ranked_few u other ranked_now) arc) placed
 
+    -- one of the rows is still blank
+    count_more : length (done ++ v ∷ []) + sum_by blank next_rows ≡ length next_rows
+    count_more =
+        let inside : number_of firsts v < length rows = omega (arith, is_ranking.size, number_inside p firsts are v is) in
+        omega (
+          arith,
+          length_push done v,
+          length-set rows (number_of firsts v) next_row,
+          sum_by-set blank rows (number_of firsts v) next_row no_time inside,
+          blank_unranked (get_or rows (number_of firsts v) no_time) (ap (λ (row : NodeTime). row.rank) (sym (node_time p firsts are rows v is)) ∙ unranked.free),
+          blank_ranked next_row (λ same. omega (arith, sound.few, same)),
+          is_ranking.count,
+        )
+
+    size_more : length next_rows ≡ get_or firsts (jobs p) 0
+    size_more = length-set rows (number_of firsts v) next_row ∙ is_ranking.size
+
     -- the node is ranked next
-    pub ranked_more : AreRanked p firsts (set rows (number_of firsts v) next_row) (done ++ v ∷ [])
+    pub ranked_more : IsRanking graph (done ++ v ∷ []) next_rows room
     ranked_more = record {
-      listed = λ i lt. listed_more i (cases_place i lt);
-      ranks = λ i lt. ranks_more i (cases_place i lt);
-      within = λ u other ranked. within_more u other (cases_node p firsts are u v other is) ranked;
-      places = λ u other ranked. places_more u other (cases_node p firsts are u v other is) ranked;
-      placed = λ u other ranked. placed_more u other (cases_node p firsts are u v other is) ranked;
-      count =
-          let inside : number_of firsts v < length rows = omega (arith, sound.size, number_inside p firsts are v is) in
-          omega (
-            arith,
-            length_push done v,
-            length-set rows (number_of firsts v) next_row,
-            sum_by-set blank rows (number_of firsts v) next_row no_time inside,
-            blank_unranked (get_or rows (number_of firsts v) no_time) (ap (λ (row : NodeTime). row.rank) (sym (node_time p firsts are rows v is)) ∙ unranked),
-            blank_ranked next_row (λ same. omega (arith, few_done, same)),
-            sound.count,
-          );
-      size = length-set rows (number_of firsts v) next_row ∙ sound.size;
+      sound = is_ranking.sound;
+      ranked = record {
+        few = omega (arith, count_more, size_more, are.few);
+        listed = λ i lt. listed_more i (cases_place i lt);
+        ranks = λ i lt. ranks_more i (cases_place i lt);
+        within = λ u other ranked. within_more u other (cases_node p firsts are u v other is) ranked;
+        places = λ u other ranked. places_more u other (cases_node p firsts are u v other is) ranked;
+        placed = λ u other ranked. placed_more u other (cases_node p firsts are u v other is) ranked;
+      };
+      count = count_more;
+      size = size_more;
+      fits = omega (arith, length-set rows (number_of firsts v) next_row, is_ranking.fits);
     }
+
+    -- there is room for it
+    pub room_left : length done < room
+    room_left = omega (arith, count_more, length_push done v, length-set rows (number_of firsts v) next_row, is_ranking.fits)
+
+-- what holds of a ranking's fields holds of the ranking that they are seen as
+module _ (graph : PlanGraph) (done : List Node) (rows : List NodeTime) (room : ℕ) (r : PlanRanking) (is : ranking_of graph done rows ≡ r) (is_ranking : IsRanking graph done rows room) where
+  pub shaped_of : IsWellShaped r.plan
+  shaped_of = subst (λ (s : PlanRanking). IsWellShaped s.plan) is is_ranking.sound.shaped
+
+  pub ranks_of : AreRanked r
+  ranks_of = subst AreRanked is is_ranking.ranked
+
+  -- there are no more ranked nodes than nodes
+  pub most_ranked : length r.done ≤ node_count r.plan
+  most_ranked = subst (λ (s : PlanRanking). length s.done ≤ node_count s.plan) is (omega (arith, is_ranking.count, is_ranking.size, numbers_count graph.plan graph.firsts is_ranking.sound.firsts))

@@ -2,44 +2,58 @@
 use Rattle.std.specs.Prelude.{◌≡◌, ◌≢◌, ◌==◌, ℕ, ◌+◌, ◌*◌, ◌<◌, ◌≤◌, ◌⊎◌, if◌then◌else◌, List, length, slice_index, sum_by, Some}
 use Rattle.shop_base.specs.declared.node.Node.{Node}
 use Rattle.shop_base.specs.declared.limits.TheConstants.{MAX_RELEASE, MAX_NOMINAL}
-use Rattle.shop_base.specs.Plan.{PlannedShop, jobs, release}
-use Rattle.shop_base.specs.Graph.{Arc, IsNode}
+use Rattle.shop_base.specs.Plan.{PlannedShop, jobs, steps, release}
+use Rattle.shop_base.specs.Graph.{node, Arc, IsNode}
 use Rattle.alt_graph.specs.declared.times.NodeTime.{NodeTime}
 use Rattle.alt_graph.specs.declared.times.TheConstants.{UNRANKED}
-use Rattle.alt_graph.specs.declared.ranking.Ranking.{Ranking}
 use Rattle.alt_graph.specs.declared.ranking.Longest.{Longest}
 use Rattle.alt_graph.specs.declared.sources.ArcIn.{ArcIn}
 use Rattle.alt_graph.specs.Times.{NodeTimes, time_at, rank_of, earliest_of, before_of, IsAttained}
 use Rattle.alt_graph.specs.Layout.{by_job}
-use Rattle.alt_graph.specs.PlanGraph.{PlanGraph}
+use Rattle.alt_graph.specs.PlanGraph.{PlanGraph, IsSoundGraph}
 use Rattle.alt_graph.specs.Places.{node_at}
 
--- what is known of the nodes in the midst of the ranking
-abbrev pub so_far : PlanGraph → Ranking → NodeTimes
-so_far graph ranking = by_job graph.firsts ranking.rows.items
+-- a ranking as contracts see it: the plan, the ranked nodes in the order of their ranks, and what is known of all nodes
+pub record PlanRanking : Type 0 where
+  pub plan : PlannedShop
+  pub done : List Node
+  pub times : NodeTimes
 
 -- the node has a rank
 abbrev pub IsRanked : NodeTimes → Node → Type 0
 IsRanked t v = rank_of t v ≢ UNRANKED
 
--- an arc leads to v from a node that has no rank below n
-abbrev pub WaitsFor : PlannedShop → NodeTimes → ℕ → Node → Type 0
-WaitsFor p t n v = (u : Node) × (d : ℕ) × Arc p u v d × (n ≤ rank_of t u)
+-- it is a node of the plan, and has none
+pub record IsUnranked (r : PlanRanking) (v : Node) : Type 0 where
+  pub node : IsNode r.plan v
+  pub free : rank_of r.times v ≡ UNRANKED
 
--- a node of which it is known that it may come directly after the sources of the arcs to it of some kinds: the greatest length of a path to it, and the node before it; n is the next rank
-pub record IsLongest (p : PlannedShop) (t : NodeTimes) (n : ℕ) (Into : Node → Node → ℕ → Type 0) (v : Node) (longest : Longest) : Type 0 where
-  pub ranked : (u : Node) (d : ℕ) → Into u v d → IsRanked t u
-  pub fits : (u : Node) (d : ℕ) → Into u v d → earliest_of t u + d ≤ longest.length
-  pub released : v.place ≡ 0 → release p v.job ≤ longest.length
-  pub attained : IsAttained p t v longest.length longest.before
-  pub bounded : longest.length ≤ MAX_RELEASE + MAX_NOMINAL * n
+-- all nodes have ranks
+abbrev pub AreAllRanked : PlanRanking → Type 0
+AreAllRanked r = (v : Node) → IsNode r.plan v → IsRanked r.times v
+
+-- all nodes of job j have ranks
+abbrev pub IsJobRanked : PlanRanking → ℕ → Type 0
+IsJobRanked r j = (k : ℕ) → k ≤ steps r.plan j → IsRanked r.times (node j k)
+
+-- an arc leads to v from a node that has no rank below n
+abbrev pub WaitsFor : PlanRanking → ℕ → Node → Type 0
+WaitsFor r n v = (u : Node) × (d : ℕ) × Arc r.plan u v d × (n ≤ rank_of r.times u)
+
+-- v may come directly after the sources of the arcs to it of some kinds: the greatest length of a path to it, and the node before it
+pub record IsLongest (r : PlanRanking) (Into : Node → Node → ℕ → Type 0) (v : Node) (longest : Longest) : Type 0 where
+  pub ranked : (u : Node) (d : ℕ) → Into u v d → IsRanked r.times u
+  pub fits : (u : Node) (d : ℕ) → Into u v d → earliest_of r.times u + d ≤ longest.length
+  pub released : v.place ≡ 0 → release r.plan v.job ≤ longest.length
+  pub attained : IsAttained r.plan r.times v longest.length longest.before
+  pub bounded : longest.length ≤ MAX_RELEASE + MAX_NOMINAL * length r.done
 
 -- what one arc allows
-pub record IsOver (p : PlannedShop) (t : NodeTimes) (n : ℕ) (source : ArcIn) (longest : Longest) : Type 0 where
-  pub ranked : IsRanked t source.node
-  pub length : longest.length ≡ earliest_of t source.node + source.length
+pub record IsOver (r : PlanRanking) (source : ArcIn) (longest : Longest) : Type 0 where
+  pub ranked : IsRanked r.times source.node
+  pub bounded : longest.length ≤ MAX_RELEASE + MAX_NOMINAL * length r.done
+  pub length : longest.length ≡ earliest_of r.times source.node + source.length
   pub before : longest.before ≡ Some source.node
-  pub bounded : longest.length ≤ MAX_RELEASE + MAX_NOMINAL * n
 
 -- a ranked node comes after the nodes before it, and has the greatest moment that they allow
 pub record IsPlaced (p : PlannedShop) (t : NodeTimes) (v : Node) : Type 0 where
@@ -49,32 +63,41 @@ pub record IsPlaced (p : PlannedShop) (t : NodeTimes) (v : Node) : Type 0 where
   pub attained : IsAttained p t v (earliest_of t v) (before_of t v)
   pub bounded : earliest_of t v ≤ MAX_RELEASE + MAX_NOMINAL * rank_of t v
 
+-- the ranked nodes are those done, and their ranks the places there
+pub record AreRanked (r : PlanRanking) : Type 0 where
+  pub few : length r.done < UNRANKED
+  pub listed : (i : ℕ) → i < length r.done → IsNode r.plan (node_at r.done i)
+  pub ranks : (i : ℕ) → i < length r.done → rank_of r.times (node_at r.done i) ≡ i
+  pub within : (v : Node) → IsNode r.plan v → IsRanked r.times v → rank_of r.times v < length r.done
+  pub places : (v : Node) → IsNode r.plan v → IsRanked r.times v → node_at r.done (rank_of r.times v) ≡ v
+  pub placed : (v : Node) → IsNode r.plan v → IsRanked r.times v → IsPlaced r.plan r.times v
+
+-- the ranking of a graph with these nodes done and these rows
+abbrev pub ranking_of : PlanGraph → List Node → List NodeTime → PlanRanking
+ranking_of graph done rows = record { plan = graph.plan; done = done; times = by_job graph.firsts rows }
+
 -- 1 for the row of a node without a rank
 abbrev pub blank : NodeTime → ℕ
 blank row = if row.rank == UNRANKED then 1 else 0
 
--- the ranked nodes are those done, and their ranks the places there
-pub record AreRanked (p : PlannedShop) (firsts : List ℕ) (rows : List NodeTime) (done : List Node) : Type 0 where
-  pub listed : (i : ℕ) → i < length done → IsNode p (node_at done i)
-  pub ranks : (i : ℕ) → i < length done → rank_of (by_job firsts rows) (node_at done i) ≡ i
-  pub within : (v : Node) → IsNode p v → IsRanked (by_job firsts rows) v → rank_of (by_job firsts rows) v < length done
-  pub places : (v : Node) → IsNode p v → IsRanked (by_job firsts rows) v → node_at done (rank_of (by_job firsts rows) v) ≡ v
-  pub placed : (v : Node) → IsNode p v → IsRanked (by_job firsts rows) v → IsPlaced p (by_job firsts rows) v
+-- the nodes done and the rows rank nodes of the graph; each node has a row, and there is room for all of them among those done
+pub record IsRanking (graph : PlanGraph) (done : List Node) (rows : List NodeTime) (room : ℕ) : Type 0 where
+  pub sound : IsSoundGraph graph
+  pub ranked : AreRanked (ranking_of graph done rows)
   pub count : length done + sum_by blank rows ≡ length rows
-  pub size : length rows ≡ slice_index firsts (jobs p)
+  pub size : length rows ≡ slice_index graph.firsts (jobs graph.plan)
+  pub fits : length rows ≤ room
 
--- the same of a ranking of the graph
-abbrev pub IsRanking : PlanGraph → Ranking → Type 0
-IsRanking graph ranking = AreRanked graph.plan graph.firsts ranking.rows.items ranking.done.items
-
--- nodes without a rank may have got one from n on, and nothing else has changed
-abbrev pub Grows : PlannedShop → NodeTimes → NodeTimes → ℕ → Type 0
-Grows p old new n = (v : Node) → IsNode p v → (time_at new v ≡ time_at old v) ⊎ ((rank_of old v ≡ UNRANKED) × (n ≤ rank_of new v))
+-- a ranking has become another: nodes without a rank may have got one behind those done, and nothing else has changed
+pub record Grows (old new : PlanRanking) : Type 0 where
+  pub plan : new.plan ≡ old.plan
+  pub longer : length old.done ≤ length new.done
+  pub known : (v : Node) → IsNode old.plan v → (time_at new.times v ≡ time_at old.times v) ⊎ ((rank_of old.times v ≡ UNRANKED) × (length old.done ≤ rank_of new.times v))
 
 -- the node has a rank, or waits for one that has none below n
-abbrev pub IsSettled : PlannedShop → NodeTimes → ℕ → Node → Type 0
-IsSettled p t n v = IsRanked t v ⊎ WaitsFor p t n v
+abbrev pub IsSettled : PlanRanking → ℕ → Node → Type 0
+IsSettled r n v = IsRanked r.times v ⊎ WaitsFor r n v
 
 -- all nodes do
-abbrev pub AreSettled : PlannedShop → NodeTimes → ℕ → Type 0
-AreSettled p t n = (v : Node) → IsNode p v → IsSettled p t n v
+abbrev pub AreSettled : PlanRanking → ℕ → Type 0
+AreSettled r n = (v : Node) → IsNode r.plan v → IsSettled r n v

@@ -9,9 +9,9 @@ use Rattle.alt_graph.specs.declared.sources.ArcIn.{ArcIn}
 use Rattle.alt_graph.specs.declared.cycles.Trail.{Trail}
 use Rattle.alt_graph.specs.declared.times.NodeTime.{NodeTime}
 use Rattle.alt_graph.specs.Evidence.{IsNodeBefore}
-use Rattle.alt_graph.specs.Times.{NodeTimes, rank_of}
+use Rattle.alt_graph.specs.Times.{rank_of}
 use Rattle.alt_graph.specs.Layout.{by_job, number_of}
-use Rattle.alt_graph.specs.Ranking.{IsRanked}
+use Rattle.alt_graph.specs.Ranking.{PlanRanking, IsRanked, IsUnranked}
 use Rattle.alt_graph.specs.Places.{node_at}
 
 -- the node at a place of a trail
@@ -63,5 +63,5 @@ pub record IsWalk (p : PlannedShop) (firsts : List ℕ) (rows : List NodeTime) (
   pub count : length nodes + unseen seen ≡ length seen
 
 -- the source of an arc, if there is one, that has no rank
-abbrev pub IsFreeSource : NodeTimes → Option ArcIn → Option Node → Type 0
-IsFreeSource t source found = MatchOption found (ForSome source (λ s. IsRanked t s.node)) (λ u. (d : ℕ) × (source ≡ Some (record { node = u; length = d })) × (rank_of t u ≡ UNRANKED))
+abbrev pub IsFreeSource : PlanRanking → Option ArcIn → Option Node → Type 0
+IsFreeSource r source found = MatchOption found (ForSome source (λ s. IsRanked r.times s.node)) (λ u. (d : ℕ) × (source ≡ Some (record { node = u; length = d })) × IsUnranked r u)

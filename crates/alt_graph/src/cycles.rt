@@ -1,14 +1,12 @@
 //! A cycle, where nodes are left without a rank.
 
-ghost use Rattle.std.specs.Prelude.{◌≡◌, ◌+◌, ◌<◌, ◌≤◌, IfOk};
+ghost use Rattle.std.specs.Prelude.{◌+◌, ◌<◌, ◌≤◌, IfOk};
 ghost use Rattle.std.specs.Option.{ForSome};
 ghost use Rattle.shop_base.specs.Graph.{IsNode, HasArc};
 ghost use Rattle.alt_graph.specs.Evidence.{IsCycle};
-ghost use Rattle.alt_graph.specs.Times.{rank_of};
-ghost use Rattle.alt_graph.specs.Ranking.{so_far, IsRanking, AreSettled};
+ghost use Rattle.alt_graph.specs.Ranking.{IsUnranked, AreSettled};
 ghost use Rattle.alt_graph.specs.Trails.{IsTrail, IsPlaceAfter, IsLeastPlace, AreFrom, IsFreeSource, trail_length};
 
-use crate::graph::Graph;
 use crate::node_order::is_before;
 use crate::ranking::Ranking;
 use crate::sources::{ArcIn, job_source};
@@ -23,78 +21,65 @@ pub(crate) struct Trail {
     pub start: usize,
 }
 
-impl Graph<'_> {
+impl Ranking<'_> {
     /// A cycle, its least node first, from a node without a rank.
-    pub(crate) fn cycle_from(
-        &self,
-        alloc: Global,
-        ranking: &Ranking,
-        node: Node,
-    ) -> Result<Vec<Node>, AllocError>
-        requires node { IsNode self.now.plan node }
-        requires unranked { rank_of (so_far self.now ranking.now) node ≡ UNRANKED }
-        requires ranked { IsRanking self.now ranking.now }
-        requires settled { AreSettled self.now.plan (so_far self.now ranking.now) UNRANKED }
+    pub(crate) fn cycle_from(&self, alloc: Global, node: Node) -> Result<Vec<Node>, AllocError>
+        requires node { IsUnranked self.now node }
+        requires settled { AreSettled self.now UNRANKED }
         ensures { IfOk result (λ nodes. IsCycle self.now.plan nodes.items) }
     {
-        let trail = self.follow(alloc, ranking, node)?;
+        let trail = self.follow(alloc, node)?;
         let least = trail.least_place();
         let nodes = trail.turned(alloc, least)?;
         Ok(nodes)
     }
 
     /// Follows arcs backwards among the nodes without a rank, until a node comes again.
-    fn follow(&self, alloc: Global, ranking: &Ranking, node: Node) -> Result<Trail, AllocError>
-        requires node { IsNode self.now.plan node }
-        requires unranked { rank_of (so_far self.now ranking.now) node ≡ UNRANKED }
-        requires ranked { IsRanking self.now ranking.now }
-        requires settled { AreSettled self.now.plan (so_far self.now ranking.now) UNRANKED }
+    fn follow(&self, alloc: Global, node: Node) -> Result<Trail, AllocError>
+        requires node { IsUnranked self.now node }
+        requires settled { AreSettled self.now UNRANKED }
         ensures { IfOk result (IsTrail self.now.plan) }
     {
         // There is a row for each node, and none is followed twice.
-        let mut seen = vec![in alloc; UNRANKED; ranking.rows.len()]?;
-        let mut nodes = Vec::with_capacity(alloc, ranking.rows.len())?;
+        let mut seen = vec![in alloc; UNRANKED; self.rows.len()]?;
+        let mut nodes = Vec::with_capacity(alloc, self.rows.len())?;
         let mut next = node;
-        let mut at = self.number(next);
+        let mut at = self.graph.number(next);
         'back: while seen[at] == UNRANKED {
             seen[at] = nodes.len() as u32;
             nodes.push(next)?;
-            next = self.free_source(ranking, next);
-            at = self.number(next);
+            next = self.free_source(next);
+            at = self.graph.number(next);
         }
         let start = seen[at] as usize;
         Ok(Trail { nodes, start })
     }
 
     /// A node without a rank from which an arc leads to the node.
-    fn free_source(&self, ranking: &Ranking, node: Node) -> Node
-        requires node { IsNode self.now.plan node }
-        requires unranked { rank_of (so_far self.now ranking.now) node ≡ UNRANKED }
-        requires ranked { IsRanking self.now ranking.now }
-        requires settled { AreSettled self.now.plan (so_far self.now ranking.now) UNRANKED }
-        ensures node { IsNode self.now.plan result }
-        ensures unranked { rank_of (so_far self.now ranking.now) result ≡ UNRANKED }
+    fn free_source(&self, node: Node) -> Node
+        requires node { IsUnranked self.now node }
+        requires settled { AreSettled self.now UNRANKED }
+        ensures node { IsUnranked self.now result }
         ensures arc { HasArc self.now.plan result node }
     {
         let source = job_source(self.shaped(), node);
-        if let Some(free) = self.free_of(ranking, source) {
+        if let Some(free) = self.free_of(source) {
             return free;
         }
-        let source = self.blocking_source(node);
-        match self.free_of(ranking, source) {
+        let source = self.graph.blocking_source(node);
+        match self.free_of(source) {
             Some(free) => free,
             None => unreachable!(),
         }
     }
 
     /// The node from which the arc comes, if there is one and it has no rank.
-    fn free_of(&self, ranking: &Ranking, source: Option<ArcIn>) -> Option<Node>
-        requires node { ForSome source (λ s. IsNode self.now.plan s.node) }
-        requires ranked { IsRanking self.now ranking.now }
-        ensures { IsFreeSource (so_far self.now ranking.now) source result }
+    fn free_of(&self, source: Option<ArcIn>) -> Option<Node>
+        requires { ForSome source (λ s. IsNode self.now.plan s.node) }
+        ensures { IsFreeSource self.now source result }
     {
         match source {
-            Some(source) if !self.is_ranked(ranking, source.node) => Some(source.node),
+            Some(source) if !self.is_ranked(source.node) => Some(source.node),
             _ => None,
         }
     }

@@ -1,26 +1,38 @@
 //! Ranks and greatest lengths, by a worklist of the nodes whose arcs from before are all ranked.
 
-ghost use Rattle.std.specs.Prelude.{◌≡◌, ℕ, ◌+◌, ◌<◌, ◌≤◌, IfOk, OnOk, MatchOption, MatchBool, ◌⊎◌, length, replicate};
+ghost use Rattle.std.specs.Prelude.{◌≡◌, ℕ, ◌+◌, ◌<◌, ◌≤◌, [], IfOk, MatchOption, MatchBool, ◌⊎◌, length, replicate};
 ghost use Rattle.std.specs.Option.{ForSome};
 ghost use Rattle.shop_base.specs.declared.limits.TheConstants.{MAX_NOMINAL};
-ghost use Rattle.shop_base.specs.declared.node.Node.{Node};
-ghost use Rattle.shop_base.specs.Plan.{jobs, steps};
-ghost use Rattle.shop_base.specs.Graph.{Arc, IsNode, node};
+ghost use Rattle.shop_base.specs.Plan.{jobs, IsWellShaped};
+ghost use Rattle.shop_base.specs.Graph.{Arc, IsNode};
 ghost use Rattle.alt_graph.specs.Sources.{IsJobArc};
-ghost use Rattle.alt_graph.specs.Times.{rank_of, time_at, no_time};
-ghost use Rattle.alt_graph.specs.Ranking.{so_far, IsRanked, IsLongest, IsOver, WaitsFor, IsRanking, Grows, IsSettled, AreSettled};
+ghost use Rattle.alt_graph.specs.Times.{AreOrdered, rank_of, time_at, no_time};
+ghost use Rattle.alt_graph.specs.Ranking.{IsRanked, IsUnranked, AreRanked, AreAllRanked, IsJobRanked, IsLongest, IsOver, WaitsFor, Grows, IsSettled, AreSettled};
 
 use crate::graph::Graph;
 use crate::sources::{ArcIn, job_source, job_target};
-use crate::times::{NodeTime, UNRANKED};
-use shop_base::{JobNo, Moment, Node};
+use crate::times::{NodeTime, Times, UNRANKED};
+use shop_base::{JobNo, Moment, Node, Shaped};
 use std::alloc::{AllocError, Global};
+use std::marker::Model;
 
-/// The nodes ranked so far, in the order of their ranks, and what is known of each node.
+/// A graph, the nodes ranked so far, in the order of their ranks, and what is known of each node.
 #[derive(Drop)]
-pub(crate) struct Ranking {
+pub(crate) struct Ranking<'a> {
+    pub graph: Graph<'a>,
     pub done: Vec<Node>,
     pub rows: Vec<NodeTime>,
+}
+
+impl<'a> Model for Ranking<'a> {
+    ghost use Rattle.std.specs.Prelude.{vec_capacity};
+    ghost use Rattle.alt_graph.specs.Ranking.{PlanRanking, ranking_of, IsRanking};
+
+    ghost Value = { PlanRanking };
+
+    ghost view = { λ r. ranking_of r.graph r.done.items r.rows.items };
+
+    ghost invariant = { λ r. IsRanking r.graph r.done.items r.rows.items (vec_capacity r.done) };
 }
 
 /// The greatest length of a path to a node, and the node before it on such a path.
@@ -55,147 +67,132 @@ fn longer(one: Longest, other: Longest) -> Longest
     }
 }
 
-impl Graph<'_> {
-    /// Ranks all nodes that can be.
-    pub(crate) fn rank_all(&self, alloc: Global) -> Result<Ranking, AllocError>
-        ensures ranked { IfOk result (λ ranking. IsRanking self.now ranking) }
-        ensures settled { IfOk result (λ ranking. AreSettled self.now.plan (so_far self.now ranking) UNRANKED) }
+impl<'a> Ranking<'a> {
+    /// Ranks all nodes of a graph that can be.
+    pub(crate) fn of(alloc: Global, graph: Graph<'a>) -> Result<Ranking<'a>, AllocError>
+        ensures plan { IfOk result (λ ranking. ranking.plan ≡ graph.entry.plan) }
+        ensures settled { IfOk result (λ ranking. AreSettled ranking UNRANKED) }
     {
-        let mut ranking = self.rank_first(alloc)?;
+        let mut ranking = Ranking::none(alloc, graph)?;
+        ranking.rank_first();
         let mut next = 0;
         while next < ranking.done.len() {
-            self.rank_after(&mut ranking, next)?;
+            ranking.rank_after(next);
             next += 1;
         }
         Ok(ranking)
     }
 
-    /// Ranks the nodes that no arc leads to.
-    fn rank_first(&self, alloc: Global) -> Result<Ranking, AllocError>
-        ensures ranked { IfOk result (λ ranking. IsRanking self.now ranking) }
-        ensures settled { IfOk result (λ ranking. AreSettled self.now.plan (so_far self.now ranking) 0) }
+    /// No node is ranked.
+    fn none(alloc: Global, graph: Graph<'a>) -> Result<Ranking<'a>, AllocError>
+        ensures plan { IfOk result (λ ranking. ranking.plan ≡ graph.entry.plan) }
+        ensures none { IfOk result (λ ranking. ranking.done ≡ []) }
     {
-        let mut ranking = self.none_ranked(alloc)?;
-        for job in 0..self.shaped().job_count() {
-            self.try_rank(&mut ranking, Node { job, place: 0 })?;
-        }
-        Ok(ranking)
-    }
-
-    fn none_ranked(&self, alloc: Global) -> Result<Ranking, AllocError>
-        ensures { IfOk result (λ ranking. IsRanking self.now ranking) }
-    {
-        let nodes = self.node_count();
+        let nodes = graph.node_count();
         let done = Vec::with_capacity(alloc, nodes)?;
         let rows = no_times(alloc, nodes)?;
-        Ok(Ranking { done, rows })
+        Ok(Ranking { graph, done, rows })
+    }
+
+    /// The planned shop.
+    pub(crate) fn shaped(&self) -> &'a Shaped
+        ensures plan { result.now ≡ self.now.plan }
+        ensures sound { IsWellShaped self.now.plan }
+    {
+        self.graph.shaped()
+    }
+
+    /// Ranks the nodes that no arc leads to.
+    fn rank_first(&mut self)
+        ensures grows { Grows self.old self.new }
+        ensures settled { AreSettled self.new 0 }
+    {
+        for job in 0..self.shaped().job_count() {
+            self.try_rank(Node { job, place: 0 });
+        }
     }
 
     /// Ranks those nodes after the next ranked one that can be ranked now.
-    fn rank_after(&self, ranking: &mut Ranking, next: usize) -> Result<(), AllocError>
-        requires next { next < length ranking.old.done.items }
-        requires ranked { IsRanking self.now ranking.old }
-        requires settled { AreSettled self.now.plan (so_far self.now ranking.old) next }
-        ensures ranked { OnOk result (IsRanking self.now ranking.new) }
-        ensures settled { OnOk result (AreSettled self.now.plan (so_far self.now ranking.new) (next + 1)) }
-        ensures longer { OnOk result (length ranking.old.done.items ≤ length ranking.new.done.items) }
+    fn rank_after(&mut self, next: usize)
+        requires next { next < length self.old.done }
+        requires settled { AreSettled self.old next }
+        ensures grows { Grows self.old self.new }
+        ensures settled { AreSettled self.new (next + 1) }
     {
-        let node = ranking.done[next];
+        let node = self.done[next];
         let target = job_target(self.shaped(), node);
-        self.try_target(ranking, target)?;
-        let target = self.blocking_target(node);
-        self.try_target(ranking, target)?;
-        Ok(())
+        self.try_target(target);
+        let target = self.graph.blocking_target(node);
+        self.try_target(target);
     }
 
     /// Ranks the node, if there is one, and if it can be ranked now.
-    fn try_target(&self, ranking: &mut Ranking, target: Option<Node>) -> Result<(), AllocError>
-        requires node { ForSome target (IsNode self.now.plan) }
-        requires ranked { IsRanking self.now ranking.old }
-        ensures ranked { OnOk result (IsRanking self.now ranking.new) }
-        ensures grows { OnOk result (Grows self.now.plan (so_far self.now ranking.old) (so_far self.now ranking.new) (length ranking.old.done.items)) }
-        ensures longer { OnOk result (length ranking.old.done.items ≤ length ranking.new.done.items) }
-        ensures settled { OnOk result (ForSome target (IsSettled self.now.plan (so_far self.now ranking.new) UNRANKED)) }
+    fn try_target(&mut self, target: Option<Node>)
+        requires { ForSome target (IsNode self.old.plan) }
+        ensures grows { Grows self.old self.new }
+        ensures settled { ForSome target (IsSettled self.new UNRANKED) }
     {
-        match target {
-            Some(node) => self.try_rank(ranking, node),
-            None => Ok(()),
+        if let Some(node) = target {
+            self.try_rank(node);
         }
     }
 
     /// Ranks the node if it isn't ranked and all arcs to it come from ranked nodes.
-    fn try_rank(&self, ranking: &mut Ranking, node: Node) -> Result<(), AllocError>
-        requires node { IsNode self.now.plan node }
-        requires ranked { IsRanking self.now ranking.old }
-        ensures ranked { OnOk result (IsRanking self.now ranking.new) }
-        ensures grows { OnOk result (Grows self.now.plan (so_far self.now ranking.old) (so_far self.now ranking.new) (length ranking.old.done.items)) }
-        ensures longer { OnOk result (length ranking.old.done.items ≤ length ranking.new.done.items) }
-        ensures settled { OnOk result (IsSettled self.now.plan (so_far self.now ranking.new) UNRANKED node) }
+    fn try_rank(&mut self, node: Node)
+        requires { IsNode self.old.plan node }
+        ensures grows { Grows self.old self.new }
+        ensures settled { IsSettled self.new UNRANKED node }
     {
-        if self.is_ranked(ranking, node) {
-            return Ok(());
+        if self.is_ranked(node) {
+            return;
         }
-        match self.longest_to(ranking, node) {
-            Some(longest) => self.rank_next(ranking, node, longest),
-            None => Ok(()),
+        if let Some(longest) = self.longest_to(node) {
+            self.rank_next(node, longest);
         }
     }
 
     /// Gives the node the next rank.
-    fn rank_next(
-        &self,
-        ranking: &mut Ranking,
-        node: Node,
-        longest: Longest,
-    ) -> Result<(), AllocError>
-        requires node { IsNode self.now.plan node }
-        requires ranked { IsRanking self.now ranking.old }
-        requires unranked { rank_of (so_far self.now ranking.old) node ≡ UNRANKED }
-        requires longest { IsLongest self.now.plan (so_far self.now ranking.old) (length ranking.old.done.items) (Arc self.now.plan) node longest }
-        ensures ranked { OnOk result (IsRanking self.now ranking.new) }
-        ensures grows { OnOk result (Grows self.now.plan (so_far self.now ranking.old) (so_far self.now ranking.new) (length ranking.old.done.items)) }
-        ensures longer { OnOk result (length ranking.old.done.items ≤ length ranking.new.done.items) }
-        ensures now_ranked { OnOk result (IsRanked (so_far self.now ranking.new) node) }
+    fn rank_next(&mut self, node: Node, longest: Longest)
+        requires unranked { IsUnranked self.old node }
+        requires longest { IsLongest self.old (Arc self.old.plan) node longest }
+        ensures grows { Grows self.old self.new }
+        ensures ranked { IsRanked self.new.times node }
     {
-        let at = self.number(node);
-        ranking.rows[at] = NodeTime {
-            rank: ranking.done.len() as u32,
+        let at = self.graph.number(node);
+        self.rows[at] = NodeTime {
+            rank: self.done.len() as u32,
             earliest: longest.length,
             before: longest.before,
         };
-        ranking.done.push(node)?;
-        Ok(())
+        self.done.push_reserved(node);
     }
 
     /// Whether the node has a rank.
-    pub(crate) fn is_ranked(&self, ranking: &Ranking, node: Node) -> bool
-        requires node { IsNode self.now.plan node }
-        requires ranked { IsRanking self.now ranking.now }
-        ensures { MatchBool result (IsRanked (so_far self.now ranking.now) node) (rank_of (so_far self.now ranking.now) node ≡ UNRANKED) }
+    pub(crate) fn is_ranked(&self, node: Node) -> bool
+        requires { IsNode self.now.plan node }
+        ensures { MatchBool result (IsRanked self.now.times node) (IsUnranked self.now node) }
     {
-        self.row_of(ranking, node).rank != UNRANKED
+        self.row_of(node).rank != UNRANKED
     }
 
     /// What is known of the node.
-    fn row_of(&self, ranking: &Ranking, node: Node) -> NodeTime
-        requires node { IsNode self.now.plan node }
-        requires ranked { IsRanking self.now ranking.now }
-        ensures { result ≡ time_at (so_far self.now ranking.now) node }
+    fn row_of(&self, node: Node) -> NodeTime
+        requires { IsNode self.now.plan node }
+        ensures row { result ≡ time_at self.now.times node }
+        ensures sound { AreRanked self.now }
     {
-        ranking.rows[self.number(node)]
+        self.rows[self.graph.number(node)]
     }
 
     /// The longest path to the node, none where an arc to it comes from a node without a rank.
-    fn longest_to(&self, ranking: &Ranking, node: Node) -> Option<Longest>
-        requires node { IsNode self.now.plan node }
-        requires ranked { IsRanking self.now ranking.now }
-        ensures { let t = so_far self.now ranking.now in
-            MatchOption result (WaitsFor self.now.plan t UNRANKED node) (IsLongest self.now.plan t (length ranking.now.done.items) (Arc self.now.plan) node) }
+    fn longest_to(&self, node: Node) -> Option<Longest>
+        requires { IsNode self.now.plan node }
+        ensures { MatchOption result (WaitsFor self.now UNRANKED node) (IsLongest self.now (Arc self.now.plan) node) }
     {
-        let along = self.longest_in_job(ranking, node)?;
-        match self.blocking_source(node) {
+        let along = self.longest_in_job(node)?;
+        match self.graph.blocking_source(node) {
             Some(source) => {
-                let freed = self.longest_over(ranking, source)?;
+                let freed = self.longest_over(source)?;
                 Some(longer(along, freed))
             }
             None => Some(along),
@@ -204,15 +201,13 @@ impl Graph<'_> {
 
     /// The longest path to the node over the place before it in its job, or its job's release where it is the
     /// first; none where the place before has no rank.
-    fn longest_in_job(&self, ranking: &Ranking, node: Node) -> Option<Longest>
-        requires node { IsNode self.now.plan node }
-        requires ranked { IsRanking self.now ranking.now }
-        ensures { let t = so_far self.now ranking.now in
-            MatchOption result (WaitsFor self.now.plan t UNRANKED node) (IsLongest self.now.plan t (length ranking.now.done.items) (IsJobArc self.now.plan) node) }
+    fn longest_in_job(&self, node: Node) -> Option<Longest>
+        requires { IsNode self.now.plan node }
+        ensures { MatchOption result (WaitsFor self.now UNRANKED node) (IsLongest self.now (IsJobArc self.now.plan) node) }
     {
         let shaped = self.shaped();
         match job_source(shaped, node) {
-            Some(source) => self.longest_over(ranking, source),
+            Some(source) => self.longest_over(source),
             None => Some(Longest {
                 length: shaped.release_of(node.job),
                 before: None,
@@ -221,14 +216,12 @@ impl Graph<'_> {
     }
 
     /// The longest path over an arc, none where it comes from a node without a rank.
-    fn longest_over(&self, ranking: &Ranking, source: ArcIn) -> Option<Longest>
+    fn longest_over(&self, source: ArcIn) -> Option<Longest>
         requires node { IsNode self.now.plan source.node }
         requires short { source.length ≤ MAX_NOMINAL }
-        requires ranked { IsRanking self.now ranking.now }
-        ensures { let t = so_far self.now ranking.now in
-            MatchOption result (rank_of t source.node ≡ UNRANKED) (IsOver self.now.plan t (length ranking.now.done.items) source) }
+        ensures { MatchOption result (rank_of self.now.times source.node ≡ UNRANKED) (IsOver self.now source) }
     {
-        let row = self.row_of(ranking, source.node);
+        let row = self.row_of(source.node);
         if row.rank == UNRANKED {
             return None;
         }
@@ -239,13 +232,11 @@ impl Graph<'_> {
     }
 
     /// A node without a rank, if there is one.
-    pub(crate) fn first_unranked(&self, ranking: &Ranking) -> Option<Node>
-        requires { IsRanking self.now ranking.now }
-        ensures { let t = so_far self.now ranking.now in
-            MatchOption result ((v : Node) → IsNode self.now.plan v → IsRanked t v) (λ v. IsNode self.now.plan v × (rank_of t v ≡ UNRANKED)) }
+    pub(crate) fn first_unranked(&self) -> Option<Node>
+        ensures { MatchOption result (AreAllRanked self.now) (IsUnranked self.now) }
     {
         for job in 0..self.shaped().job_count() {
-            if let Some(node) = self.first_unranked_of(ranking, job) {
+            if let Some(node) = self.first_unranked_of(job) {
                 return Some(node);
             }
         }
@@ -253,18 +244,25 @@ impl Graph<'_> {
     }
 
     /// A node of the job without a rank, if there is one.
-    fn first_unranked_of(&self, ranking: &Ranking, job: JobNo) -> Option<Node>
-        requires job { job < jobs self.now.plan }
-        requires ranked { IsRanking self.now ranking.now }
-        ensures { let t = so_far self.now ranking.now in
-            MatchOption result ((k : ℕ) → k ≤ steps self.now.plan job → IsRanked t (node job k)) (λ v. IsNode self.now.plan v × (rank_of t v ≡ UNRANKED)) }
+    fn first_unranked_of(&self, job: JobNo) -> Option<Node>
+        requires { job < jobs self.now.plan }
+        ensures { MatchOption result (IsJobRanked self.now job) (IsUnranked self.now) }
     {
         for place in 0..self.shaped().step_count(job) + 1 {
             let node = Node { job, place };
-            if !self.is_ranked(ranking, node) {
+            if !self.is_ranked(node) {
                 return Some(node);
             }
         }
         None
+    }
+
+    /// What is known of the nodes, where all are ranked.
+    pub(crate) fn into_times(self) -> Times
+        requires { AreAllRanked self }
+        ensures { AreOrdered self.entry.plan result }
+    {
+        let Ranking { graph, rows, .. } = self;
+        Times::of(graph.into_firsts(), rows)
     }
 }

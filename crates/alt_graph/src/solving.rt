@@ -3,6 +3,7 @@ ghost use Rattle.shop_base.specs.Plan.{IsWellShaped};
 ghost use Rattle.alt_graph.specs.Solved.{OnOrdered, OnCyclic, IsCyclic, HasCycle};
 
 use crate::graph::Graph;
+use crate::ranking::Ranking;
 use crate::times::Times;
 use shop_base::{Node, Shaped};
 use std::alloc::{AllocError, Global};
@@ -26,12 +27,12 @@ pub fn solve(alloc: Global, shaped: &Shaped) -> Result<Solved, AllocError>
     ensures well_shaped { IsWellShaped shaped.now }
 {
     let graph = Graph::new(alloc, shaped)?;
-    let ranking = graph.rank_all(alloc)?;
-    match graph.first_unranked(&ranking) {
+    let ranking = Ranking::of(alloc, graph)?;
+    match ranking.first_unranked() {
         Some(node) => {
-            let nodes = graph.cycle_from(alloc, &ranking, node)?;
+            let nodes = ranking.cycle_from(alloc, node)?;
             Ok(Solved::Cyclic(nodes))
         }
-        None => Ok(Solved::Ordered(Times::of(graph.into_firsts(), ranking.rows))),
+        None => Ok(Solved::Ordered(ranking.into_times())),
     }
 }

@@ -1,8 +1,0 @@
-use Rattle.std.proofs.Common.{ℕ, ◌<◌}
-use Rattle.shop_base.specs.Graph.{node}
-use Rattle.alt_graph.specs.Ranking.{so_far, IsRanked}
-use Rattle.alt_graph.proofs.graph.Graph.first_unranked_of.Given as goal
-
--- the places looked at have ranks
-abbrev pub invariant-loop-place : goal.invariant-loop-place
-invariant-loop-place l = (k : ℕ) → k < l.place → IsRanked (so_far l.self l.ranking) (node l.job k)
