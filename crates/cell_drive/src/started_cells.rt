@@ -2,7 +2,7 @@
 
 ghost use Rattle.std.specs.Prelude.{◌≡◌, ◌+◌, ◌<◌, ◌++◌, ◌∷◌, [], map, IfOk, IfErr, OnOk};
 ghost use Rattle.cell_control.specs.Control.{at_start};
-ghost use Rattle.cell_hub.specs.Calls.{last_number};
+ghost use Rattle.cell_hub.specs.Calls.{no_serial};
 ghost use Rattle.cell_drive.specs.NumberedCells.{contents_of, AreNumbered, HaveVerified};
 
 use crate::drive_fault::DriveFault;
@@ -52,7 +52,7 @@ fn admit_cell<D: Dues>(
     verified: Verified,
 ) -> Result<(), DriveFault>
     requires numbered { AreNumbered hub.old tickets.old.items }
-    requires left { hub.old.next_serial < last_number }
+    requires left { hub.old.next_serial < no_serial }
     ensures numbered { AreNumbered hub.new tickets.new.items }
     ensures added { OnOk result (contents_of hub.new tickets.new.items ≡ contents_of hub.old tickets.old.items ++ at_start verified ∷ []) }
     ensures serial { OnOk result (hub.new.next_serial ≡ hub.old.next_serial + 1) }

@@ -16,7 +16,7 @@ use Rattle.cell_hub.specs.declared.hub_fault.HubFault.{HubFault}
 use Rattle.cell_hub.specs.declared.hub_fault.HubFault.TheVariants.{NoSuchCell, SerialsSpent, Memory, Cell}
 use Rattle.cell_hub.specs.Hub.{HubState, cell_at, Puts}
 use Rattle.cell_hub.specs.Slots.{hub_of}
-use Rattle.cell_hub.specs.Calls.{Reported, Dismissed, last_number, IsAdmitted, IsReported, IsNotReported, IsOnlyRefusal, IsDismissed, IsCall}
+use Rattle.cell_hub.specs.Calls.{Reported, Dismissed, no_serial, IsAdmitted, IsReported, IsNotReported, IsOnlyRefusal, IsDismissed, IsCall}
 use Rattle.cell_hub.proofs.Puts.{HasSerial}
 use Rattle.cell_hub.proofs.Hubs.{none_there, puts_there}
 
@@ -31,7 +31,7 @@ module _ {D : Type 0} (s new : Slab (Placed D)) (next : ℕ) (now : HubState) (s
 
 module _ {D : Type 0} (s reserved new : Slab (Placed D)) (next : ℕ) (now : HubState) (seen : hub_of s next ≡ now) where
   -- a cell is put into a slot that was reserved
-  pub is_admitted : (slot : ℕ) (plan : VerifiedPlan) (controller : Control) → reserved ≡ record s { capacity = reserved.capacity } → get reserved slot ≡ None → Updates reserved new slot (Some (record { serial = next; controller = controller })) → controller ≡ at_start plan → next < last_number → IsAdmitted now plan (record { slot = slot; serial = next }) (hub_of new (next + 1))
+  pub is_admitted : (slot : ℕ) (plan : VerifiedPlan) (controller : Control) → reserved ≡ record s { capacity = reserved.capacity } → get reserved slot ≡ None → Updates reserved new slot (Some (record { serial = next; controller = controller })) → controller ≡ at_start plan → next < no_serial → IsAdmitted now plan (record { slot = slot; serial = next }) (hub_of new (next + 1))
   is_admitted slot plan controller room vacant updates start left =
       subst (λ h. IsAdmitted h plan t (hub_of new (next + 1))) seen (record {
         left = left;

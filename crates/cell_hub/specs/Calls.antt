@@ -14,12 +14,12 @@ use Rattle.cell_hub.specs.declared.hub_fault.HubFault.TheVariants.{NoSuchCell, S
 use Rattle.cell_hub.specs.Hub.{HubState, cell_at, Puts}
 
 -- this number is never a serial
-abbrev pub last_number : ℕ
-last_number = 2 ^ 64 - 1
+abbrev pub no_serial : ℕ
+no_serial = 2 ^ 64 - 1
 
 -- a cell is made of the plan: it has a controller before the first report, and a ticket with the next serial
 pub record IsAdmitted (old : HubState) (plan : VerifiedPlan) (t : Ticket) (new : HubState) : Type 0 where
-  pub left : old.next_serial < last_number
+  pub left : old.next_serial < no_serial
   pub serial : t.serial ≡ old.next_serial
   pub vacant : cell_at old t ≡ None
   pub cells : Puts old new t (Some (at_start plan))
@@ -28,8 +28,8 @@ pub record IsAdmitted (old : HubState) (plan : VerifiedPlan) (t : Ticket) (new :
 -- why no cell is made: the serials are spent, or else out of memory
 abbrev pub IsNotAdmitted : HubState → HubFault → Type 0
 IsNotAdmitted h NoSuchCell = ⊥
-IsNotAdmitted h SerialsSpent = h.next_serial ≡ last_number
-IsNotAdmitted h Memory = h.next_serial < last_number
+IsNotAdmitted h SerialsSpent = h.next_serial ≡ no_serial
+IsNotAdmitted h Memory = h.next_serial < no_serial
 IsNotAdmitted h (Cell reason) = ⊥
 
 -- the controller of the ticket's cell answers the report, and the other cells stay as they are

@@ -18,13 +18,13 @@ abbrev pub IsRefusalLine : List ℕ → List ℕ → Type 0
 IsRefusalLine what line = (words : List ℕ) × (line ≡ what ++ words ++ codes "\n")
 
 -- what is said of a fault
-abbrev pub IsFaultLine : CommandFault → List ℕ → Type 0
-IsFaultLine (Instance fault) line = IsRefusalLine (codes "cellplan: instance: ") line
-IsFaultLine (Plan fault) line = IsRefusalLine (codes "cellplan: plan: ") line
-IsFaultLine Read line = line ≡ codes "cellplan: read\n"
-IsFaultLine Write line = line ≡ codes "cellplan: write\n"
-IsFaultLine InputTooLong line = line ≡ codes "cellplan: input too long\n"
-IsFaultLine Memory line = line ≡ codes "cellplan: out of memory\n"
+abbrev pub IsErrorLine : CommandFault → List ℕ → Type 0
+IsErrorLine (Instance fault) line = IsRefusalLine (codes "cellplan: instance: ") line
+IsErrorLine (Plan fault) line = IsRefusalLine (codes "cellplan: plan: ") line
+IsErrorLine Read line = line ≡ codes "cellplan: read\n"
+IsErrorLine Write line = line ≡ codes "cellplan: write\n"
+IsErrorLine InputTooLong line = line ≡ codes "cellplan: input too long\n"
+IsErrorLine Memory line = line ≡ codes "cellplan: out of memory\n"
 
 -- a text is refused, whose words take memory
 abbrev pub IsOfText : CommandFault → Type 0
@@ -34,14 +34,14 @@ IsOfText other = ⊥
 
 -- the line of a refused text; of another fault anything
 abbrev pub IsTextLine : CommandFault → List ℕ → Type 0
-IsTextLine (Instance fault) line = IsFaultLine (Instance fault) line
-IsTextLine (Plan fault) line = IsFaultLine (Plan fault) line
+IsTextLine (Instance fault) line = IsErrorLine (Instance fault) line
+IsTextLine (Plan fault) line = IsErrorLine (Plan fault) line
 IsTextLine other line = Unit {0}
 
 -- the line of the fault was told on the standard error, and the status is its own
 pub record IsLineOut (fault : CommandFault) (before after : Errors) (status : ℕ) : Type 0 where
   pub line : List ℕ
-  pub is : IsFaultLine fault line
+  pub is : IsErrorLine fault line
   pub told : WasTold line before after
   pub own : status ≡ status_of fault
 

@@ -2,7 +2,7 @@
 
 ghost use Rattle.std.specs.Prelude.{◌≡◌, IfOk, IfErr};
 ghost use Rattle.command_run.specs.Streams.{errors_of, output_of};
-ghost use Rattle.command_run.specs.Ending.{WasTold, IsRefusalLine, IsFaultLine, IsOfText, IsTextLine, IsTold, IsPrinted, Ends};
+ghost use Rattle.command_run.specs.Ending.{WasTold, IsRefusalLine, IsErrorLine, IsOfText, IsTextLine, IsTold, IsPrinted, Ends};
 
 use crate::devices::Streams;
 use cell_drive::{Outlet, Source};
@@ -48,10 +48,10 @@ pub fn tell<E: Sink>(alloc: Global, fault: &CommandFault, errors: &mut E) -> u8
     ensures { IsTold fault.now (errors_of E.Sink errors.old) (errors_of E.Sink errors.new) result }
 {
     match text_line(alloc, fault) {
-        Ok(line) => tell_line(errors, fault_line(fault, &line), fault.status()),
+        Ok(line) => tell_line(errors, error_line(fault, &line), fault.status()),
         Err(error) => {
             let wanting = CommandFault::from(error);
-            tell_line(errors, fault_line(&wanting, b""), wanting.status())
+            tell_line(errors, error_line(&wanting, b""), wanting.status())
         }
     }
 }
@@ -89,9 +89,9 @@ fn refusal_line(
 }
 
 /// What is said of a fault. The line is that of a refused text.
-fn fault_line<'a>(fault: &CommandFault, line: &'a [u8]) -> &'a [u8]
+fn error_line<'a>(fault: &CommandFault, line: &'a [u8]) -> &'a [u8]
     requires { IsTextLine fault.now line.now }
-    ensures { IsFaultLine fault.now result.now }
+    ensures { IsErrorLine fault.now result.now }
 {
     match fault {
         CommandFault::Instance(_) | CommandFault::Plan(_) => line,

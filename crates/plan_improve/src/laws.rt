@@ -9,7 +9,7 @@ pub fn accepted_plans_stay_accepted()
     ensures makespan { TheirMakespansNeverGrow }
 {}
 
-/// What a second search gives is no worse than what the first one gave, nor than what that one began with.
+/// What a search gives of a plan without a cycle is no worse than that plan, nor than what that one was no worse than.
 pub fn second_searches_are_no_worse()
     ensures second { ASecondSearchIsNoWorse }
     ensures passed_on { NoWorseIsPassedOn }

@@ -1,4 +1,4 @@
--- When a planner's times are within their limits, and which of them is the first that isn't.
+-- When a plan's times are within their limits, and which of them is the first that isn't.
 use Rattle.std.specs.Prelude.{ℕ, ◌<◌, List, Option, None, Some, length, slice_index}
 use Rattle.shop_base.specs.declared.limits.TheConstants.{MAX_RELEASE, MAX_MOMENT, MAX_CLEAN}
 use Rattle.shop_base.specs.declared.shape_fault.ShapeFault.{ShapeFault}
