@@ -15,6 +15,8 @@ mod statuses;
 #[cfg(test)]
 mod texts;
 #[cfg(test)]
+mod verdicts;
+#[cfg(test)]
 mod wants;
 #[cfg(test)]
 mod words;

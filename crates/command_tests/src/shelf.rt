@@ -1,3 +1,5 @@
+//! The files of a command, in memory.
+
 use command_answers::{CommandFault, Pair, Texts};
 use std::alloc::Global;
 
@@ -9,25 +11,12 @@ pub(super) struct Shelf {
     pub(super) log: &'static [u8],
 }
 
-impl Shelf {
-    /// An instance and a plan.
-    pub(super) fn of(instance: &'static [u8], plan: &'static [u8]) -> Shelf {
-        Shelf {
-            instance,
-            plan,
-            log: b"",
-        }
-    }
-}
-
-/// The files of the instance, of this name, and of the plan.
-pub(super) fn pair(name: Option<&'static [u8]>) -> Pair<'static> {
-    Pair {
-        instance: "instance",
-        name,
-        plan: "plan",
-    }
-}
+/// The files of the instance and of the plan.
+pub(super) const PAIR: Pair<'static> = Pair {
+    instance: "instance",
+    name: None,
+    plan: "plan",
+};
 
 impl Texts for Shelf {
     ghost gives = { λ _ _ _ _. Unit {0} };

@@ -7,49 +7,53 @@ use plan_seek::SeekFault;
 use plan_text::PlanFault;
 use run_resume::ResumeFault;
 use shop_base::ShopFault;
+use std::alloc::{AllocError, Global};
+use std::fmt::Display;
 use std::test::Fail;
 
-#[test]
-fn faults_of_commands_have_a_status(rt: HostRuntime) -> Result<(), Fail> {
-    for (fault, status) in [
-        (CommandFault::Instance(OrFault::NoInstance), 3),
-        (CommandFault::Instance(OrFault::Shop(ShopFault::NoJobs)), 3),
-        (CommandFault::Plan(PlanFault::NotToml), 3),
-        (CommandFault::Plan(PlanFault::NotReadBack), 3),
-        (CommandFault::Memory, 4),
-        (CommandFault::Read, 5),
-        (CommandFault::Write, 5),
-        (CommandFault::InputTooLong, 5),
-    ] {
-        assert_eq!(rt; fault.status(), status);
-    }
-    Ok(())
+/// Whether this is the text of the fault.
+fn says(alloc: Global, fault: &impl Display, text: &str) -> Result<bool, AllocError> {
+    Ok(fault.to_string(alloc)?.as_str() == text)
 }
 
-#[test]
-fn want_of_memory_is_told_as_memory(rt: HostRuntime) -> Result<(), Fail> {
-    let alloc = rt.alloc();
-    for text in [
-        CommandFault::Memory.to_string(alloc)?,
-        WordsFault::Memory.to_string(alloc)?,
-        SeekFault::Memory.to_string(alloc)?,
-        ResumeFault::Memory.to_string(alloc)?,
-    ] {
-        assert_eq!(rt; text.as_str(), "Memory");
-    }
-    Ok(())
-}
+/// Faults, their texts and their statuses.
+const FAULTS: &[(CommandFault, &str, u8)] = &[
+    (
+        CommandFault::Instance(OrFault::BadSizes { line: 5 }),
+        "Instance BadSizes line 5",
+        3,
+    ),
+    (
+        CommandFault::Instance(OrFault::Shop(ShopFault::NoJobs)),
+        "Instance Shop NoJobs",
+        3,
+    ),
+    (
+        CommandFault::Plan(PlanFault::UnknownKey),
+        "Plan UnknownKey",
+        3,
+    ),
+    (
+        CommandFault::Plan(PlanFault::NotReadBack),
+        "Plan NotReadBack",
+        3,
+    ),
+    (CommandFault::Memory, "Memory", 4),
+    (CommandFault::Read, "Read", 5),
+    (CommandFault::Write, "Write", 5),
+    (CommandFault::InputTooLong, "InputTooLong", 5),
+];
 
 #[test]
-fn a_text_that_is_refused_is_told_by_its_fault(rt: HostRuntime) -> Result<(), Fail> {
-    for (fault, text) in [
-        (
-            CommandFault::Instance(OrFault::BadSizes { line: 5 }),
-            "Instance BadSizes line 5",
-        ),
-        (CommandFault::Plan(PlanFault::UnknownKey), "Plan UnknownKey"),
-    ] {
-        assert_eq!(rt; fault.to_string(rt.alloc())?.as_str(), text);
+fn faults_have_a_text_and_a_status(rt: HostRuntime) -> Result<(), Fail> {
+    for (fault, text, status) in FAULTS {
+        assert!(rt;
+            says(rt.alloc(), fault, text)? && fault.status() == *status,
+            "{text}"
+        );
     }
+    assert!(rt; says(rt.alloc(), &WordsFault::Memory, "Memory")?);
+    assert!(rt; says(rt.alloc(), &SeekFault::Memory, "Memory")?);
+    assert!(rt; says(rt.alloc(), &ResumeFault::Memory, "Memory")?);
     Ok(())
 }

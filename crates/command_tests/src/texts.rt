@@ -16,23 +16,3 @@ pub(super) const CLEANED: &[u8] =
 /// Each of the two jobs waits for the machine that the other one is on.
 pub(super) const CROSSED: &[u8] =
     b"release = [0, 0]\nbudget = [100, 100]\norder = [[0, 1], [1, 0]]\n";
-
-/// Plans that aren't well shaped for the two jobs, each with its line.
-pub(super) const NOT_SHAPED: [(&'static [u8], &[u8]); 4] = [
-    (
-        b"release = [0, 0]\nbudget = [5, 10]\norder = [[0, 1], [0]]\n",
-        b"not shaped JobMissing machine 1 job 1\n",
-    ),
-    (
-        b"release = [0, 0]\nbudget = [5, 10]\norder = [[0, 2], [0, 1]]\n",
-        b"not shaped JobOutOfRange machine 0 place 1\n",
-    ),
-    (
-        b"release = [0, 0]\nbudget = [5, 10]\norder = [[0, 0], [0, 1]]\n",
-        b"not shaped JobTwice machine 0 place 1\n",
-    ),
-    (
-        b"release = [0, 0]\nbudget = [5, 1000000000001]\norder = [[0, 1], [0, 1]]\n",
-        b"not shaped BudgetTooLarge job 1\n",
-    ),
-];

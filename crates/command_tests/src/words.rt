@@ -1,65 +1,120 @@
-//! What the words of command lines choose, as far as no command shows it: the rounds and seeds to their limits. The other words
-//! stand in `tests/command-lines`.
+//! What the words of a command line choose, with ample memory. How each command takes its words, and what is said of others,
+//! is shown on the built program, by `tests/command-lines` and `tests/golden`.
 
-use command_words::{WordsFault, read_words};
-use std::alloc::Global;
+use command_words::{CommandName, read_words};
+use std::test::Fail;
 
-// What the words of a line choose, as text.
-fn read(alloc: Global, line: &str) -> Result<String, WordsFault> {
-    let words: Vec<&str> = line.split_whitespace().collect(alloc)?;
-    let chosen = read_words(alloc, words.as_slice())?;
-    let (name, files, instance) = (chosen.name, &chosen.files, &chosen.instance);
-    Ok(format!(in alloc;
-        "{name:?} {files:?} {instance:?} {} {}",
-        chosen.rounds, chosen.seed
-    )?)
-}
-
-#[test]
-fn words_are_read_with_their_rounds_and_seeds(rt: HostRuntime) {
-    let alloc = rt.alloc();
-    for (line, wanted) in [
-        ("cellplan facts two.txt", r#"Facts ["two.txt"] None 20 0"#),
-        (
-            "cellplan plan two.txt day.toml",
-            r#"Plan ["two.txt", "day.toml"] None 20 0"#,
-        ),
-        (
-            "cellplan plan --rounds 1000 two.txt day.toml --instance x",
-            r#"Plan ["two.txt", "day.toml"] Some("x") 1000 0"#,
-        ),
-        (
-            "cellplan improve two.txt day.toml",
-            r#"Improve ["two.txt", "day.toml"] None 20 0"#,
-        ),
-        (
-            "cellplan improve two.txt day.toml --rounds 1000 --seed 1000000",
-            r#"Improve ["two.txt", "day.toml"] None 1000 1000000"#,
-        ),
-        (
-            "cellplan improve --seed=7 two.txt --instance x day.toml --rounds 0",
-            r#"Improve ["two.txt", "day.toml"] Some("x") 0 7"#,
-        ),
-    ] {
-        let chosen = read(alloc, line).expect(&rt, line);
-        assert!(rt; chosen.as_str() == wanted, "{line} gives {chosen}");
+/// Whether the names are these.
+fn are(names: &[String], wanted: &[&str]) -> bool {
+    if names.len() != wanted.len() {
+        return false;
     }
-}
-
-#[test]
-fn other_words_get_a_usage_text(rt: HostRuntime) {
-    let alloc = rt.alloc();
-    for (line, wants_help, part) in [
-        ("cellplan facts", false, "<FILE>"),
-        ("cellplan --help", true, "Usage: cellplan [COMMAND]"),
-    ] {
-        match read(alloc, line) {
-            Err(WordsFault::Usage { help, text }) => {
-                assert!(rt; help == wants_help, "the stream of {line}");
-                assert!(rt; text.as_str().contains(part), "the text of {line}: {text}");
-            }
-            Err(WordsFault::Memory) => assert!(rt; false, "memory at {line}"),
-            Ok(chosen) => assert!(rt; false, "{line} gives {chosen}"),
+    for (name, &other) in names.iter().zip(wanted) {
+        if name.as_str() != other {
+            return false;
         }
     }
+    true
+}
+
+/// Whether the name is this one, or there is none.
+fn is_named(name: &Option<String>, wanted: Option<&str>) -> bool {
+    match (name, wanted) {
+        (Some(name), Some(other)) => name.as_str() == other,
+        (None, None) => true,
+        _ => false,
+    }
+}
+
+/// The words of a line, the command, its files, the name of the instance, the rounds and the seed.
+type Line = (
+    &'static [&'static str],
+    CommandName,
+    &'static [&'static str],
+    Option<&'static str>,
+    u32,
+    u32,
+);
+
+const LINES: &[Line] = &[
+    (
+        &["cellplan", "facts", "two.txt"],
+        CommandName::Facts,
+        &["two.txt"],
+        None,
+        20,
+        0,
+    ),
+    (
+        &["cellplan", "plan", "two.txt", "day.toml"],
+        CommandName::Plan,
+        &["two.txt", "day.toml"],
+        None,
+        20,
+        0,
+    ),
+    (
+        &[
+            "cellplan",
+            "plan",
+            "--rounds",
+            "1000",
+            "two.txt",
+            "day.toml",
+            "--instance",
+            "x",
+        ],
+        CommandName::Plan,
+        &["two.txt", "day.toml"],
+        Some("x"),
+        1000,
+        0,
+    ),
+    (
+        &["cellplan", "improve", "two.txt", "day.toml"],
+        CommandName::Improve,
+        &["two.txt", "day.toml"],
+        None,
+        20,
+        0,
+    ),
+    (
+        &[
+            "cellplan", "improve", "two.txt", "day.toml", "--rounds", "1000", "--seed", "1000000",
+        ],
+        CommandName::Improve,
+        &["two.txt", "day.toml"],
+        None,
+        1000,
+        1_000_000,
+    ),
+    (
+        &[
+            "cellplan",
+            "improve",
+            "--seed=7",
+            "two.txt",
+            "--instance",
+            "x",
+            "day.toml",
+            "--rounds",
+            "0",
+        ],
+        CommandName::Improve,
+        &["two.txt", "day.toml"],
+        Some("x"),
+        0,
+        7,
+    ),
+];
+
+#[test]
+fn words_choose_a_command_with_its_files_and_numbers(rt: HostRuntime) -> Result<(), Fail> {
+    for &(words, name, files, instance, rounds, seed) in LINES {
+        let chosen = read_words(rt.alloc(), words)?;
+        assert!(rt; chosen.name == name && are(&chosen.files, files));
+        assert!(rt; is_named(&chosen.instance, instance));
+        assert!(rt; chosen.rounds == rounds && chosen.seed == seed);
+    }
+    Ok(())
 }
