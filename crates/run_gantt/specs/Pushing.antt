@@ -1,12 +1,18 @@
 -- The Gantt text while it is written: what was pushed onto it, and what a bar shows so far.
-use Rattle.std.specs.Prelude.{◌≡◌, ℕ, ◌*◌, ◌<◌, ◌++◌, List, [], slice_index_or, Option, None, String, string_bytes}
+use Rattle.std.specs.Prelude.{◌≡◌, ℕ, ◌*◌, ◌<◌, ◌++◌, List, [], flat_map, slice_index_or, Option, None, String, string_bytes}
 use Rattle.std.specs.Option.{option_or}
+use Rattle.std.specs.List.{range_with_len}
 use Rattle.run_gantt.specs.declared.bar.TheConstants.{MAX_COLUMNS}
 use Rattle.run_gantt.specs.declared.visit.Visit.{Visit}
+use Rattle.run_gantt.specs.GanttText.{row_lines}
 
 -- these bytes were put behind those of the text
 abbrev pub IsPushed : {A : Type 0} → String A → String A → List ℕ → Type 0
 IsPushed before after bytes = string_bytes after ≡ string_bytes before ++ bytes
+
+-- the lines of so many machines, one after another, of whose visits these are the rows
+abbrev pub all_lines : ℕ → ℕ → List (List Visit) → ℕ → List ℕ
+all_lines scale columns rows machines = flat_map (row_lines scale columns rows) (range_with_len 0 machines)
 
 -- the row of machine m among the rows of visits
 abbrev pub row_at : List (List Visit) → ℕ → List Visit

@@ -1,11 +1,10 @@
 //! The Gantt text of a run's events: each machine's visits, and a bar of which job is on it when.
 
 ghost use Rattle.std.specs.Prelude.{◌≡◌, ℕ, ◌<◌, ◌≤◌, length, map, flat_map, slice_index_or, None, Some, decimal, string_bytes, IfOk, OnOk};
-ghost use Rattle.std.specs.List.{range_with_len};
 ghost use Rattle.shop_base.specs.Plan.{machines};
 ghost use Rattle.run_gantt.specs.Visits.{first_of, last_of, entry_moment};
 ghost use Rattle.run_gantt.specs.GanttText.{gantt_text, scale_for, columns_for, row_lines, visit_word, moment_word, sign_of, column_sign};
-ghost use Rattle.run_gantt.specs.Pushing.{IsPushed, row_at, ShowsToo};
+ghost use Rattle.run_gantt.specs.Pushing.{IsPushed, all_lines, row_at, ShowsToo};
 ghost use Rattle.run_gantt.specs.declared.bar.TheConstants.{MAX_COLUMNS, MAX_SCALE};
 
 use crate::bar::{Bar, MAX_COLUMNS, show_visit};
@@ -88,7 +87,7 @@ impl Visits {
         requires above { 0 < scale }
         requires below { scale ≤ MAX_SCALE }
         requires columns { columns ≤ MAX_COLUMNS }
-        ensures { OnOk result (IsPushed text.old text.new (flat_map (row_lines scale columns self.now) (range_with_len 0 machines))) }
+        ensures { OnOk result (IsPushed text.old text.new (all_lines scale columns self.now machines)) }
     {
         for machine in 0..machines {
             self.push_machine(text, machine, scale, columns)?;
