@@ -8,12 +8,13 @@
    What each call answers is proved, by the clauses at its function in crates/cellplan_c. What no clause can say, and a
    caller has to keep to:
 
-   - A cell begins as zero bytes (`struct cellplan_cell cell = {0};`) and lies at one place until it is freed: it is
-     never copied, and none of its members is read or written. A copy would free the same controller twice.
+   - A cell begins as zero bytes (`struct cellplan_cell cell = {0};`, in C++ `cellplan_cell cell{};`) and lies at one place
+     until it is freed: it is never copied, and none of its members is read or written. A copy would free the same
+     controller twice.
    - Pointers aren't null, also to a room of 0 bytes, and point to as much as is said. What a call writes overlaps
      nothing else that it is given.
    - A `bool` that a call writes into holds true or false before the call, and so does that of a phase:
-     `bool late = false;`, `struct cellplan_phase phase = {0};`.
+     `bool late = false;`, `struct cellplan_phase phase = {0};`, in C++ `cellplan_phase phase{};`.
    - A cell stays on the thread that began it, and one call at a time is in it. Cells are apart: each thread may have
      cells of its own. No call is made from a signal handler, or in the child of a fork of a process with threads.
    - `malloc`, `realloc` and `free` are those of one allocator.
@@ -49,12 +50,12 @@ enum {
 /* The reasons for which a report isn't possible; the first that holds, in this order, is the status. */
 enum {
   CELLPLAN_JOB_OUT_OF_RANGE = 16,
-  CELLPLAN_MACHINE_OUT_OF_RANGE = 17,
-  CELLPLAN_MOMENT_TOO_LARGE = 18,
-  CELLPLAN_BACKWARDS = 19,         /* with the moment of the last report */
-  CELLPLAN_NOT_EXPECTED = 20,
-  CELLPLAN_WRONG_KIND = 21,
-  CELLPLAN_WRONG_MACHINE = 22      /* with the machine on which the job is */
+  CELLPLAN_MACHINE_OUT_OF_RANGE = 17, /* of CELLPLAN_CLEAN; a wrong machine of CELLPLAN_FINISH has one of the last three */
+  CELLPLAN_MOMENT_TOO_LARGE = 18,     /* over 1000000000000 */
+  CELLPLAN_BACKWARDS = 19,            /* with the moment of the last accepted report */
+  CELLPLAN_NOT_EXPECTED = 20,         /* the job waits for its move or is gone; the machine isn't being cleaned */
+  CELLPLAN_WRONG_KIND = 21,           /* an arrival of a job that is inside, or a finish of one that is outside */
+  CELLPLAN_WRONG_MACHINE = 22         /* with the machine on which the job is */
 };
 
 /* The kinds of reports. */
@@ -99,14 +100,16 @@ struct cellplan_phase {
 /* The version of the library. */
 uint32_t cellplan_version(void);
 
-/* Writes the name of the reason with this number, as `JobOutOfRange`, and its length; no zero byte ends it.
+/* Writes the name of the reason with this number, as `JobOutOfRange`, and its length, which is 17 at most; no zero byte
+   ends it.
    GOOD, NO_ROOM (the length alone is written), or NONE for a number that is no reason's (the length is 0). */
 uint32_t cellplan_reason(uint32_t number, uint8_t *name, size_t room, size_t *length);
 
 /* Judges a plan: writes the line that `cellplan check` prints, and its length, with its line feed and no zero byte.
    With a name the first text is a collection with an instance of this name; with a name of length 0 it is one instance.
    GOOD where the plan is accepted, REFUSED where it isn't, each with the line; FAULT with the line that the program
-   tells on its standard error; NO_ROOM with the length of the line, which isn't written; NO_MEMORY with the length 0. */
+   tells on its standard error, which begins with `cellplan: `; NO_ROOM with the length of the line, which isn't written;
+   NO_MEMORY with the length 0. */
 uint32_t cellplan_check(const uint8_t *instance, size_t instance_length, const uint8_t *name, size_t name_length,
                         const uint8_t *plan, size_t plan_length, uint8_t *line, size_t room, size_t *length);
 
@@ -124,17 +127,19 @@ uint32_t cellplan_cell_new(const uint8_t *instance, size_t instance_length, cons
 /* Frees what the cell holds, and leaves a cell that holds none; one that holds none stays as it is. */
 void cellplan_cell_free(struct cellplan_cell *cell);
 
-/* Reports that something has ended, at a moment that isn't before that of the last report. Makes the moves that the plan
-   has then: writes as many of their orders as there is room for, in the order in which they are made, and the number of
-   them all. `late` says whether the report came past the due moment of something that was going on.
+/* Reports that something has ended, at a moment that isn't before that of the last report; it may have ended early, also
+   an arrival before the job's release. Makes the moves that the plan has then: writes as many of their orders as there is
+   room for, in the order in which they are made, and the number of them all. `late` says whether the report came past the
+   due moment of something that was going on.
    GOOD; NO_KIND, and else NO_CELL; or else the number of the reason for which the report isn't possible, with the moment or
-   the machine that it names in `detail` (0 where it names none). A report that isn't GOOD changes nothing, its count is 0,
-   and `late` is false. */
+   the machine that it names in `detail` (0 with every other status). A report that isn't GOOD changes nothing, its count is
+   0, and `late` is false. */
 uint32_t cellplan_cell_report(struct cellplan_cell *cell, uint32_t kind, uint32_t job, uint32_t machine, uint64_t at,
                               struct cellplan_order *orders, size_t room, size_t *count, bool *late, uint64_t *detail);
 
 /* Writes the orders of the last accepted report from number `first` on, as many as there is room for, and the number of
-   them all. A report releases at most one for each job. GOOD; or NO_CELL, and then their number is 0. */
+   all its orders, whatever `first` is: 0 before the first report. A report releases at most one for each job. GOOD; or
+   NO_CELL, and then the number is 0. */
 uint32_t cellplan_cell_orders(struct cellplan_cell *cell, size_t first, struct cellplan_order *orders, size_t room,
                               size_t *count);
 
@@ -147,10 +152,12 @@ uint32_t cellplan_cell_phase(struct cellplan_cell *cell, uint32_t job, struct ce
 /* The job that is on the machine; NONE where it is free, or no machine. */
 uint32_t cellplan_cell_holder(struct cellplan_cell *cell, uint32_t machine, uint32_t *job);
 
-/* When the job's arrival or operation is due; NONE where it has none going on. */
+/* When the job's arrival is due, which is at its release, or its operation: at the moment of the order by which it entered
+   the machine and its nominal time. NONE where neither goes on. */
 uint32_t cellplan_cell_due(struct cellplan_cell *cell, uint32_t job, uint64_t *at);
 
-/* When the machine's cleaning is due; NONE where it isn't being cleaned. */
+/* When the machine's cleaning is due: at the moment of the order by which the last job left it and its cleaning time. NONE
+   where it isn't being cleaned. */
 uint32_t cellplan_cell_clean_due(struct cellplan_cell *cell, uint32_t machine, uint64_t *at);
 
 /* The moment of the last accepted report, 0 before the first. */

@@ -5,11 +5,13 @@
    Without a seed, or with 0, each activity ends when it is due; with another one each ends early, in time or late, as
    the seed has it. With a log, which may have been cut anywhere, the run is taken up: the reports that stand whole in it
    are reported again, and it goes on from there. Ends with status 0 where the run has ended in time, with 1 where it
-   was late, with the status of cellplan_check where there is no cell, and with 5 where a file can't be read, or the log
-   can't be written. */
+   was late, with 2 where the words are wrong, with the status of cellplan_check where there is no cell, with 5 where a
+   file can't be read or the log can't be written, and with the number of the reason where a report of the log isn't
+   possible. */
 #include "cellplan.h"
 
 #include <inttypes.h>
+#include <limits.h>
 #include <stdio.h>
 #include <stdlib.h>
 #include <string.h>
@@ -45,7 +47,7 @@ static struct text whole(const char *path) {
   FILE *file = fopen(path, "rb");
   long size = -1;
   if (file && fseek(file, 0, SEEK_END) == 0) size = ftell(file);
-  if (size < 0) stop(path, 5);
+  if (size < 0 || size == LONG_MAX) stop(path, 5);
   rewind(file);
   struct text text = {room_for((size_t)size, 1), (size_t)size};
   if (fread(text.bytes, 1, text.length, file) != text.length) stop(path, 5);
