@@ -87,7 +87,8 @@ fn note_places(shaped: &Shaped, machine: MachineNo, places: &mut [u32])
     requires machine { machine < machines shaped.now }
     requires slots { HasSlots shaped.now places.old }
     ensures noted { ArePlacesOf shaped.now places.new machine }
-    ensures others { (m j : ℕ) → j < jobs shaped.now → m ≢ machine → slice_index places.new (slot_of m j) ≡ slice_index places.old (slot_of m j) }
+    ensures others { (m j : ℕ) → j < jobs shaped.now → m ≢ machine
+        → slice_index places.new (slot_of m j) ≡ slice_index places.old (slot_of m j) }
 {
     let order = shaped.order_of(machine);
     for place in 0..order.len() {

@@ -1,6 +1,6 @@
 //! Ranks and greatest lengths, by a worklist of the nodes whose arcs from before are all ranked.
 
-ghost use Rattle.std.specs.Prelude.{◌≡◌, ℕ, ◌+◌, ◌<◌, ◌≤◌, [], IfOk, MatchOption, MatchBool, ◌⊎◌, length, replicate};
+ghost use Rattle.std.specs.Prelude.{◌≡◌, ◌+◌, ◌<◌, ◌≤◌, [], IfOk, MatchOption, MatchBool, ◌⊎◌, length, replicate};
 ghost use Rattle.std.specs.Option.{ForSome};
 ghost use Rattle.shop_base.specs.declared.limits.TheConstants.{MAX_NOMINAL};
 ghost use Rattle.shop_base.specs.Plan.{jobs, IsWellShaped};

@@ -61,7 +61,8 @@ impl Times {
     /// The greatest length of a path to the node, in time units: the moment at which it is reached at the
     /// earliest. None for a node that isn't of the shop.
     pub fn earliest(&self, node: Node) -> Option<Moment>
-        ensures { MatchOption result (IsTimed self.now node → ⊥) (λ earliest. IsTimed self.now node × (earliest ≡ earliest_of self.now node)) }
+        ensures { MatchOption result (IsTimed self.now node → ⊥)
+            (λ earliest. IsTimed self.now node × (earliest ≡ earliest_of self.now node)) }
     {
         match self.time(node) {
             Some(time) => Some(time.earliest),
@@ -74,7 +75,8 @@ impl Times {
     pub fn chain(&self, alloc: Global, node: Node) -> Result<Option<Vec<Node>>, AllocError>
         ensures outside { (IsTimed self.now node → ⊥) → result ≡ Ok None }
         ensures inside { IsTimed self.now node → IfOk result IsSome }
-        ensures path { IfOk result (λ found. IfSome found (λ nodes. (p : PlannedShop) → AreTimes p self.now → Path p nodes.items node (earliest_of self.now node))) }
+        ensures path { IfOk result (λ found. IfSome found (λ nodes.
+            (p : PlannedShop) → AreTimes p self.now → Path p nodes.items node (earliest_of self.now node))) }
     {
         match self.time(node) {
             Some(time) => {

@@ -15,6 +15,7 @@ pub record Reached (S : Type 0) : Type 0 where
   pub lines : ℕ
   pub held : Option (List ℕ)
 
+-- this state, behind so many lines and what is held of the next
 abbrev pub reached : {S : Type 0} → S → Held → Reached S
 reached handler input = record { state = handler; lines = input.lines; held = input.held }
 

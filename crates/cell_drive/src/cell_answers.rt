@@ -97,7 +97,8 @@ pub(crate) fn put_closing<D: Dues, W: Sink>(
     controller: &Controller<D>,
     writer: &mut W,
 ) -> Result<(), WriteFault>
-    ensures wrote { WroteTo W.Sink result writer.old writer.new (prefix.now ++ closing_line controller.now.plan.planned controller.now.cell) }
+    ensures wrote { WroteTo W.Sink result writer.old writer.new
+        (prefix.now ++ closing_line controller.now.plan.planned controller.now.cell) }
     ensures unfailed { OnOk result (W.failed writer.new ≡ W.failed writer.old) }
 {
     let left = controller.reports_left();

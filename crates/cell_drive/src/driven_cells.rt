@@ -1,6 +1,6 @@
 //! Several cells that are driven by lines.
 
-ghost use Rattle.std.specs.Prelude.{◌≡◌, ◌↔◌, ◌++◌, slice_get, [], ◌∷◌, Some, IsTrue, IfErr, OnOk};
+ghost use Rattle.std.specs.Prelude.{◌≡◌, ◌↔◌, ◌++◌, slice_get, Some, IsTrue, OnOk};
 ghost use Rattle.shop_base.specs.Ends.{HasEnded};
 ghost use Rattle.cell_control.specs.Control.{Control};
 ghost use Rattle.cell_drive.specs.Lent.{WroteTo, WroteOneTo};
@@ -29,7 +29,7 @@ pub(crate) struct DrivenCells<D: Dues> {
 
 impl<D: Dues> Model for DrivenCells<D> {
     ghost use Rattle.std.specs.Prelude.{List};
-    ghost use Rattle.cell_control.specs.Control.{Control, at_start};
+    ghost use Rattle.cell_control.specs.Control.{Control};
     ghost use Rattle.cell_drive.specs.NumberedCells.{contents_of, AreNumbered};
 
     ghost Value = { List Control };
@@ -138,7 +138,8 @@ fn all_done<D: Dues>(hub: &Hub<D>, tickets: &[Ticket]) -> bool
 
 fn is_done<D: Dues>(hub: &Hub<D>, tickets: &[Ticket], cell: usize) -> bool
     requires { AreNumbered hub.now tickets.now }
-    ensures { (content : Control) → slice_get (contents_of hub.now tickets.now) cell ≡ Some content → IsTrue result ↔ HasEnded content.plan.planned content.cell }
+    ensures { (content : Control) → slice_get (contents_of hub.now tickets.now) cell ≡ Some content
+        → IsTrue result ↔ HasEnded content.plan.planned content.cell }
 {
     match numbered_cell(hub, tickets, cell) {
         Some(controller) => controller.is_done(),

@@ -1,6 +1,7 @@
 //! The reports that lines of input are.
 
-ghost use Rattle.std.specs.Prelude.{ℕ, ◌<◌, ◌++◌, codes, MatchOption};
+ghost use Rattle.std.specs.Prelude.{ℕ, ◌++◌, codes, MatchOption};
+ghost use Rattle.text_lines.specs.Searches.{SomePairIfAny};
 ghost use Rattle.cell_drive.specs.InputLines.{IsNumberAndMoment, IsFinishLine, IsReportLine, IsNoReport};
 
 use cell_control::Report;
@@ -9,7 +10,7 @@ use text_lines::{after_prefix, cut_word, number_of, short_number_of};
 
 #[inline(always)]
 fn number_and_moment(words: &[u8]) -> Option<(u32, Moment)>
-    ensures { MatchOption result ((n at : ℕ) → IsNumberAndMoment words.now n at → ⊥) (λ found. IsNumberAndMoment words.now found.0 found.1) }
+    ensures { SomePairIfAny result (IsNumberAndMoment words.now) }
 {
     let (first, second) = cut_word(words)?;
     Some((short_number_of(first)?, number_of(second, 13)?))

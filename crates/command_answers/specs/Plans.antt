@@ -44,12 +44,6 @@ IsRightOfBoth instance name text (Plan fault) = TellsAShop instance name × IsRi
 IsRightOfBoth instance name text Memory = Unit {0}
 IsRightOfBoth instance name text other = ⊥
 
--- the answer is one that belongs to the plan that the text tells for this shop
-pub record IsOfPlan {A : Type 0} (shop : JobShop) (text : List ℕ) (Is : PlannedShop → A → Type 0) (answer : A) : Type 0 where
-  pub plan : ShopPlan
-  pub tells : IsPlanText text plan
-  pub is : Is (record { shop = shop; plan = plan }) answer
-
 -- the answer is one that belongs to the shop and the plan that the two texts tell
 pub record IsOfBoth {A : Type 0} (instance : List ℕ) (name : Option (List ℕ)) (text : List ℕ) (Is : PlannedShop → A → Type 0) (answer : A) : Type 0 where
   pub planned : PlannedShop

@@ -48,7 +48,8 @@ fn try_round(alloc: Global, mut task: Task, proposers: &[Box<dyn Proposer>], rou
 
 /// Asks one proposer, and puts its proposal to the test.
 fn try_proposer(alloc: Global, task: Task, proposer: &Box<dyn Proposer>, round: u32) -> Attempt
-    ensures { IsOutcome task (λ order. may proposer.now task.shop round (Some order)) (MayFail task (may proposer.now task.shop round)) result }
+    ensures { IsOutcome task (λ order. may proposer.now task.shop round (Some order))
+        (MayFail task (may proposer.now task.shop round)) result }
 {
     match ask(alloc, proposer, &task.shop, round) {
         Ok(Some(order)) => try_orders(alloc, task, order),

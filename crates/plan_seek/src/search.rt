@@ -39,9 +39,11 @@ pub fn seek(
     ensures accepted { IfOk result (λ verified. IsAccepted verified.planned) }
     ensures few_rounds { OnOk result (rounds ≤ MAX_ROUNDS) }
     ensures sought { IfOk result (λ verified.
-        IsSought (task_of shop release budget clean) (MayPropose (λ b. may b shop) proposers.now) rounds (length proposers.now) verified.planned.plan.order) }
+        IsSought (task_of shop release budget clean) (MayPropose (λ b. may b shop) proposers.now) rounds (length proposers.now)
+            verified.planned.plan.order) }
     ensures refused { IfErr result (λ refused.
-        IsSeekFault (task_of shop release budget clean) (MayPropose (λ b. may b shop) proposers.now) rounds (length proposers.now) refused.fault) }
+        IsSeekFault (task_of shop release budget clean) (MayPropose (λ b. may b shop) proposers.now) rounds (length proposers.now)
+            refused.fault) }
     ensures given_back { IfErr result (λ refused.
         task_of refused.shop refused.release refused.budget refused.clean ≡ task_of shop release budget clean) }
 {

@@ -44,7 +44,8 @@ fn rows_at(alloc: Global, table: &Table) -> Result<Vec<Vec<JobNo>>, PlanFault>
 
 /// The cleaning times, where the table's version has some.
 fn clean_at(alloc: Global, table: &Table, cleaning: bool) -> Result<Option<Vec<Moment>>, PlanFault>
-    ensures faults { Passes (if_cleaning cleaning (faults_at (list_faults PlanKey.Clean None) (value_at (table_view table.now) PlanKey.Clean))) result }
+    ensures faults { Passes
+        (if_cleaning cleaning (faults_at (list_faults PlanKey.Clean None) (value_at (table_view table.now) PlanKey.Clean))) result }
     ensures value { IfOk result (λ times. list_of times ≡ clean_in cleaning (table_view table.now)) }
 {
     if !cleaning {

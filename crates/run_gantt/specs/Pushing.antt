@@ -14,9 +14,9 @@ IsPushed before after bytes = string_bytes after ≡ string_bytes before ++ byte
 abbrev pub all_lines : ℕ → ℕ → List (List Visit) → ℕ → List ℕ
 all_lines scale columns rows machines = flat_map (row_lines scale columns rows) (range_with_len 0 machines)
 
--- the row of machine m among the rows of visits
-abbrev pub row_at : List (List Visit) → ℕ → List Visit
-row_at rows m = slice_index_or rows m []
+-- the visits to machine m, among the rows of visits
+abbrev pub visits_to : List (List Visit) → ℕ → List Visit
+visits_to rows m = slice_index_or rows m []
 
 -- each column of a bar shows what it showed, or else what there is to show at the column's first moment
 abbrev pub ShowsToo : ℕ → (ℕ → Option ℕ) → List (Option ℕ) → List (Option ℕ) → Type 0

@@ -4,7 +4,7 @@ ghost use Rattle.std.specs.Prelude.{◌≡◌, ℕ, ◌<◌, ◌≤◌, length, 
 ghost use Rattle.shop_base.specs.Plan.{machines};
 ghost use Rattle.run_gantt.specs.Visits.{first_of, last_of, entry_moment};
 ghost use Rattle.run_gantt.specs.GanttText.{gantt_text, scale_for, columns_for, row_lines, visit_word, moment_word, sign_of, column_sign};
-ghost use Rattle.run_gantt.specs.Pushing.{IsPushed, all_lines, row_at, ShowsToo};
+ghost use Rattle.run_gantt.specs.Pushing.{IsPushed, all_lines, visits_to, ShowsToo};
 ghost use Rattle.run_gantt.specs.declared.bar.TheConstants.{MAX_COLUMNS, MAX_SCALE};
 
 use crate::bar::{Bar, MAX_COLUMNS, show_visit};
@@ -130,8 +130,8 @@ impl Visits {
         requires machine { machine < length self.now }
         requires above { 0 < scale }
         requires below { scale ≤ MAX_SCALE }
-        ensures text { OnOk result (IsPushed text.old text.new (flat_map visit_word (row_at self.now machine))) }
-        ensures bar { OnOk result (ShowsToo scale (λ t. first_of (sign_of t) (row_at self.now machine)) bar.old bar.new) }
+        ensures text { OnOk result (IsPushed text.old text.new (flat_map visit_word (visits_to self.now machine))) }
+        ensures bar { OnOk result (ShowsToo scale (λ t. first_of (sign_of t) (visits_to self.now machine)) bar.old bar.new) }
     {
         let mut next = self.first[machine as usize];
         while let Some(place) = next {

@@ -7,7 +7,7 @@ use Rattle.cell_tables.specs.declared.entry.Entry.{Entry}
 use Rattle.cell_tables.specs.declared.entry.Entry.TheVariants.{Order as OrderEntry}
 use Rattle.cell_control.specs.Control.{Control}
 use Rattle.run_log.specs.Log.{Noted}
-use Rattle.cell_drive.specs.Driven.{DriveState, IsDriven}
+use Rattle.cell_drive.specs.Driven.{DriveState, driven_by, IsDriven}
 use Rattle.run_resume.specs.declared.replay.Replay.{Replay}
 use Rattle.run_resume.specs.declared.resume_fault.ResumeFault.{ResumeFault}
 use Rattle.run_resume.specs.CutLogs.{IsFaultOf, IsFaultOfLine}
@@ -28,6 +28,7 @@ pub record HasTold (entries : List Entry) (told : ℕ) : Type 0 where
 abbrev pub told_part : List Entry → List Bool → List Entry
 told_part entries late = take (length late) entries
 
+-- the entries that were told of a run that was taken up
 abbrev pub told_in : TakenUp → List Entry
 told_in taken = told_part taken.driven.log.entries taken.late
 
@@ -37,11 +38,11 @@ shop_of taken = taken.driven.control.plan.planned
 
 -- what the lines of a log have told so far, as a run that was taken up
 abbrev pub taken_so_far : {D : Type 0} → Replay D → TakenUp
-taken_so_far replay = record { driven = record { control = replay.controller; log = replay.log }; late = replay.late.items }
+taken_so_far replay = record { driven = driven_by replay.controller replay.log; late = replay.late.items }
 
 -- a driven cell, and which of the entries that were told are late reports
 pub record IsReplayed (control : Control) (log : Noted) (late : List Bool) : Type 0 where
-  pub driven : IsDriven (record { control = control; log = log })
+  pub driven : IsDriven (driven_by control log)
   pub told : HasTold log.entries (length late)
   pub are_late : AreLate control.plan.planned (start control.plan.planned) (told_part log.entries late) late
 

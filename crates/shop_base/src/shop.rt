@@ -53,7 +53,8 @@ impl Shop {
         ensures sound { OnOk result (IsShop (record { machines = machines; routes = lists_of routes.items })) }
         ensures exact { IsOk result ↔ IsShop (record { machines = machines; routes = lists_of routes.items }) }
         ensures first_fault { IfErr result (IsFirstFault machines (lists_of routes.items)) }
-        ensures only_fault { IfErr result (λ fault. (other : ShopFault) → IsFirstFault machines (lists_of routes.items) other → other ≡ fault) }
+        ensures only_fault { IfErr result (λ fault.
+            (other : ShopFault) → IsFirstFault machines (lists_of routes.items) other → other ≡ fault) }
     {
         check_size(machines, &routes)?;
         check_routes(machines, &routes)?;

@@ -1,4 +1,4 @@
--- Where a byte stands first among others.
+-- Where a byte stands first among others, and when bytes don't begin with others.
 use Rattle.std.specs.Prelude.{◌≡◌, ◌≢◌, ℕ, ◌==◌, false, List, [], ◌∷◌, ◌++◌}
 
 -- the byte isn't among these
