@@ -74,6 +74,13 @@ const RUNS: &[Run] = &[
     },
     Run {
         texts: CROSSING,
+        parts: &[FIRST, EARLY, EARLY_END],
+        end: (0, 9, true),
+        jobs: &[],
+        machines: &[],
+    },
+    Run {
+        texts: CROSSING,
         parts: &[FIRST, EARLY, REFUSED, EARLY_END],
         end: (0, 9, true),
         jobs: &[
@@ -131,7 +138,11 @@ const RUNS: &[Run] = &[
         texts: FOLLOWING,
         parts: &[FIRST, FOLLOWED, FOLLOWED_END],
         end: (0, 9, true),
-        jobs: &[],
+        jobs: &[
+            (0, Some(Phase::Gone { at: 7 }), None),
+            (1, Some(Phase::Gone { at: 8 }), None),
+            (2, Some(Phase::Gone { at: 9 }), None),
+        ],
         machines: &[],
     },
     // A job is gone since it left, whatever comes late.
@@ -296,8 +307,9 @@ fn tourney_dues_serve_a_controller(rt: HostRuntime) -> Result<(), Fail> {
 
 #[test]
 fn a_controller_keeps_its_plan(rt: HostRuntime) -> Result<(), Fail> {
-    let cell = controller::<TourneyDues>(rt.alloc(), CLEANED)?;
+    let mut cell = controller::<TourneyDues>(rt.alloc(), CLEANED)?;
     assert!(rt; cell.orders().is_empty());
+    gives(&rt, &mut cell, FIRST);
     assert!(rt; cell.verified().makespan() == 12);
     assert!(rt; cell.into_verified().makespan() == 12);
     Ok(())

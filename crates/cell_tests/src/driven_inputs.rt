@@ -113,7 +113,7 @@ pub(super) const DRIVEN: &[Driven] = &[
         end: (true, 0, 0),
         writers: &[(1000, 1000, false), (1000, 1000, true)],
     },
-    // One of two cells is left, and there is none.
+    // Both of two cells are left.
     Driven {
         driver: Driver::Cells(&[CROSSING, CROSSING]),
         input: b"1 arrive 0 0\n",
@@ -122,6 +122,7 @@ pub(super) const DRIVEN: &[Driven] = &[
         end: (false, 0, 0),
         writers: &[],
     },
+    // No cells.
     Driven {
         driver: Driver::Cells(&[]),
         input: b"",
@@ -138,5 +139,15 @@ pub(super) const DRIVEN: &[Driven] = &[
         answered: &[(3, 4), (8, 8), (12, 12)],
         end: (true, 0, 0),
         writers: &[(1, 0, false), (1, 0, true), (1, 3, false), (1, 1000, true)],
+    },
+    // A line of 63 bytes, which is taken, and one of 64.
+    Driven {
+        driver: Driver::Echo,
+        input: b"777777777777777777777777777777777777777777777777777777777777777\n\
+            7777777777777777777777777777777777777777777777777777777777777777\n",
+        text: b"1777777777777777777777777777777777777777777777777777777777777777|long|.",
+        answered: &[(64, 65), (129, 70)],
+        end: (true, 0, 0),
+        writers: &[],
     },
 ];

@@ -1,5 +1,7 @@
 //! The reports of a run in many orders.
 
+ghost use Rattle.std.specs.Prelude.{◌<◌, length};
+
 use super::cells::{CLEANED, CROSSING, FOLLOWING, Texts, controller};
 use super::events::{arrive, clean, finish};
 use cell_control::{Controller, Dues, Report, ScanDues, TourneyDues};
@@ -125,17 +127,18 @@ fn goes_on<D: Dues>(rt: &impl Abort, cell: &mut Controller<D>, reports: &[Report
     }
 }
 
-/// Gives a new controller of the plan the reports from this one on, and then all of them again and again: each round has one
-/// that is accepted, so the run ends.
+/// Gives a new controller of the plan these reports, and then all of them again and again: each round has one that is
+/// accepted, so the run ends.
 fn ends<D: Dues>(
     rt: &(impl Abort + AllocGlobal),
     texts: Texts,
-    first: &[Report],
+    first: [&[Report]; 2],
     reports: &[Report],
     pace: Moment,
 ) -> Result<(), Fail> {
     let mut cell: Controller<D> = controller(rt.alloc(), texts)?;
-    goes_on(rt, &mut cell, first, pace);
+    goes_on(rt, &mut cell, first[0], pace);
+    goes_on(rt, &mut cell, first[1], pace);
     for _round in 0..cell.reports_left() {
         goes_on(rt, &mut cell, reports, pace);
     }
@@ -143,24 +146,41 @@ fn ends<D: Dues>(
     Ok(())
 }
 
-/// From each of the reports on, at once, a bit later and much later after each report.
-fn ends_from_each<D: Dues>(
+/// With one report held back until so many of those behind it have come, at once, a bit later and much later after each other.
+fn ends_without<D: Dues>(
+    rt: &(impl Abort + AllocGlobal),
+    texts: Texts,
+    reports: &[Report],
+    held_back: usize,
+) -> Result<(), Fail>
+    requires { held_back < length reports.now }
+{
+    let behind = &reports[held_back + 1..];
+    for passed_by in 0..reports.len() - held_back {
+        let first = [&reports[..held_back], &behind[..passed_by]];
+        for pace in [0, 1, 9] {
+            ends::<D>(rt, texts, first, reports, pace)?;
+        }
+    }
+    Ok(())
+}
+
+/// With each of the reports held back.
+fn ends_without_each<D: Dues>(
     rt: &(impl Abort + AllocGlobal),
     texts: Texts,
     reports: &[Report],
 ) -> Result<(), Fail> {
-    for first in 0..reports.len() {
-        for pace in [0, 1, 9] {
-            ends::<D>(rt, texts, &reports[first..], reports, pace)?;
-        }
+    for held_back in 0..reports.len() {
+        ends_without::<D>(rt, texts, reports, held_back)?;
     }
     Ok(())
 }
 
 #[test]
 fn an_accepted_plan_goes_on_in_many_orders(rt: HostRuntime) -> Result<(), Fail> {
-    ends_from_each::<TourneyDues>(&rt, CROSSING, CROSSED)?;
-    ends_from_each::<TourneyDues>(&rt, CLEANED, CROSSED)?;
-    ends_from_each::<TourneyDues>(&rt, FOLLOWING, FOLLOWED)?;
-    ends_from_each::<ScanDues>(&rt, FOLLOWING, FOLLOWED)
+    ends_without_each::<TourneyDues>(&rt, CROSSING, CROSSED)?;
+    ends_without_each::<TourneyDues>(&rt, CLEANED, CROSSED)?;
+    ends_without_each::<TourneyDues>(&rt, FOLLOWING, FOLLOWED)?;
+    ends_without_each::<ScanDues>(&rt, FOLLOWING, FOLLOWED)
 }

@@ -1,7 +1,7 @@
 -- A plan as a command reads it, and the command's fault where it can't.
 use Rattle.std.specs.Prelude.{◌≡◌, ◌≢◌, ℕ, List, Option, Result, Ok, Err}
 use Rattle.shop_base.specs.Shop.{JobShop}
-use Rattle.shop_base.specs.Plan.{ShopPlan, PlannedShop}
+use Rattle.shop_base.specs.Plan.{PlannedShop}
 use Rattle.plan_text.specs.declared.plan_fault.PlanFault.{PlanFault}
 use Rattle.plan_text.specs.declared.plan_fault.PlanFault.TheVariants.{Memory as WantOfMemory}
 use Rattle.plan_text.specs.Documents.{IsPlanText, IsFirstPlanFault}

@@ -4,8 +4,8 @@
 use super::shelf::{PAIR, Shelf};
 use super::texts::{IN_TIME, TWO};
 use command_answers::{
-    Answer, CommandFault, Telling, check_answer, explain_answer, facts_answer, log_answer,
-    plan_answer, shape_answer,
+    Answer, CommandFault, Telling, check, check_answer, explain, explain_answer, facts_answer,
+    log_answer, plan_answer, shape_answer,
 };
 use plan_seek::{GreedyProposer, Proposer, ShiftProposer};
 use std::alloc::{AllocError, Global};
@@ -56,6 +56,9 @@ fn each_command_answers_over_a_shelf(rt: HostRuntime) {
     let checked = check_answer(alloc, &mut shelf, &PAIR);
     assert!(rt; tells(checked, b"accepted makespan 10 leaves 5 10\n", 0));
     assert!(rt; tells(explain_answer(alloc, &mut shelf, &PAIR), EXPLAINED, 0));
+    let checked = check(alloc, TWO, None, IN_TIME);
+    assert!(rt; tells(checked, b"accepted makespan 10 leaves 5 10\n", 0));
+    assert!(rt; tells(explain(alloc, TWO, None, IN_TIME), EXPLAINED, 0));
     let numbers = log_answer(alloc, &mut shelf, &PAIR, "log", Telling::Numbers);
     assert!(rt; tells(numbers, b"log kept reports 6 orders 6 last 9 complete\n", 0));
     let drawing = log_answer(alloc, &mut shelf, &PAIR, "log", Telling::Drawing);
