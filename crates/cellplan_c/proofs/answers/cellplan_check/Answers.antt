@@ -1,0 +1,4 @@
+use Rattle.cellplan_c.proofs.answers.cellplan_check.Goals as goal
+
+pub returns : goal.returns
+returns c = c.answer.ensures
