@@ -73,7 +73,7 @@ fn append(bytes: &mut [u8], count: Option<usize>, more: &[u8]) -> Option<usize>
     ensures within { IfSome result (λ end. end ≤ length bytes.new) }
     ensures joined { MatchOption count (result ≡ None) (λ count.
         (length more.now ≤ length bytes.old - count
-            → (result ≡ Some (count + length more.now)) × (take (count + length more.now) bytes.new ≡ take count bytes.old ++ more.now))
+        → (result ≡ Some (count + length more.now)) × (take (count + length more.now) bytes.new ≡ take count bytes.old ++ more.now))
         × (length bytes.old - count < length more.now → result ≡ None)) }
 {
     let count = count?;

@@ -40,10 +40,10 @@ pub fn seek(
     ensures few_rounds { OnOk result (rounds ≤ MAX_ROUNDS) }
     ensures sought { IfOk result (λ verified.
         IsSought (task_of shop release budget clean) (MayPropose (λ b. may b shop) proposers.now) rounds (length proposers.now)
-            verified.planned.plan.order) }
+        verified.planned.plan.order) }
     ensures refused { IfErr result (λ refused.
         IsSeekFault (task_of shop release budget clean) (MayPropose (λ b. may b shop) proposers.now) rounds (length proposers.now)
-            refused.fault) }
+        refused.fault) }
     ensures given_back { IfErr result (λ refused.
         task_of refused.shop refused.release refused.budget refused.clean ≡ task_of shop release budget clean) }
 {
