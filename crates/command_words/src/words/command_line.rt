@@ -1,6 +1,6 @@
 //! The command line as `clap` is told of it, one command in each function.
 
-ghost use Rattle.std.specs.Prelude.{◌≡◌, IfOk, [], false};
+ghost use Rattle.std.specs.Prelude.{◌≡◌, IfOk, [], false, codes};
 ghost use Rattle.clap.specs.Words.{rule_of};
 ghost use Rattle.command_words.specs.CommandLine.{Describes, bare_program, command, command_line, described, file_rule, leaf, log_command, option_rule, plan_command, plans_rule, program_with, rounds_rule, seed_rule};
 
@@ -58,25 +58,27 @@ fn seed<'a>(alloc: Global) -> Arg<'a>
         .default_value("0")
 }
 
+/// The name of an instance in a collection.
+fn instance<'a>(alloc: Global) -> Arg<'a>
+    ensures rule { rule_of result ≡ option_rule (codes "instance") }
+    ensures local { result.global ≡ false }
+{
+    let help = "The instance of this name in a collection";
+    option(alloc, "instance", "NAME", help)
+}
+
 /// A command on an instance.
 fn on_instance<'a>(alloc: Global, name: &'a str, about: &'a str) -> Result<Command<'a>, AllocError>
     ensures { IfOk result (Describes (leaf (command name.entry.now []))) }
 {
-    let instance = option(
-        alloc,
-        "instance",
-        "NAME",
-        "The instance of this name in a collection",
-    );
-    let file = file(
-        alloc,
-        "FILE",
-        "The instance of the job shop, in OR-Library's form",
-    );
     Command::new(alloc, name)
         .about(about)
-        .arg(instance)?
-        .arg(file)
+        .arg(instance(alloc))?
+        .arg(file(
+            alloc,
+            "FILE",
+            "The instance of the job shop, in OR-Library's form",
+        ))
 }
 
 /// A command on an instance and a plan.
