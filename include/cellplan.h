@@ -13,6 +13,8 @@
      controller twice.
    - Pointers aren't null, also to a room of 0 bytes, and point to as much as is said. What a call writes overlaps
      nothing else that it is given.
+   - Lengths and rooms of texts are in bytes. No zero byte ends a text, and none is counted: of a literal, `sizeof` is one
+     too many.
    - A `bool` that a call writes into holds true or false before the call, and so does that of a phase:
      `bool late = false;`, `struct cellplan_phase phase = {0};`, in C++ `cellplan_phase phase{};`.
    - A cell stays on the thread that began it, and one call at a time is in it. Cells are apart: each thread may have
@@ -20,7 +22,7 @@
    - `malloc`, `realloc` and `free` are those of one allocator.
 
    cellplan_check, cellplan_explain and cellplan_cell_new take memory, and so may answer CELLPLAN_NO_MEMORY. No other call
-   answers so, not even a report. cellplan_cell_free and cellplan_cell_new give memory back. */
+   answers so, not even a report. Only these three and cellplan_cell_free call malloc, realloc or free. */
 #ifndef CELLPLAN_H
 #define CELLPLAN_H
 
@@ -114,13 +116,13 @@ uint32_t cellplan_check(const uint8_t *instance, size_t instance_length, const u
                         const uint8_t *plan, size_t plan_length, uint8_t *line, size_t room, size_t *length);
 
 /* Says why: writes the text that `cellplan explain` prints, of one line or many, and its length. All else is as above; with
-   a room of 0 bytes either call tells how many its answer needs. */
+   a room of 0 bytes either call tells how many its answer needs, and then has judged the plan once more. */
 uint32_t cellplan_explain(const uint8_t *instance, size_t instance_length, const uint8_t *name, size_t name_length,
                           const uint8_t *plan, size_t plan_length, uint8_t *text, size_t room, size_t *length);
 
 /* Begins a cell with the plan, before the first report; what the cell held before is freed. The texts are as above, and
    aren't read any more when the call has ended.
-   GOOD; REFUSED, FAULT or NO_MEMORY, and then the cell holds what it held. */
+   GOOD; REFUSED, FAULT or NO_MEMORY, and then the cell holds what it held. cellplan_check tells why. */
 uint32_t cellplan_cell_new(const uint8_t *instance, size_t instance_length, const uint8_t *name, size_t name_length,
                            const uint8_t *plan, size_t plan_length, struct cellplan_cell *cell);
 

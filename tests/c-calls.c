@@ -15,6 +15,8 @@ static const char two[] = "two\n2 2\n0 3 1 2\n1 4 0 1\n";
 static const char in_time[] = "release = [0, 0]\nbudget = [5, 10]\norder = [[0, 1], [0, 1]]\n";
 static const char late[] = "release = [0, 0]\nbudget = [5, 9]\norder = [[0, 1], [0, 1]]\n";
 static const char cleaned[] = "version = 2\nrelease = [0, 0]\nbudget = [5, 12]\norder = [[0, 1], [0, 1]]\nclean = [0, 2]\n";
+static const char chain[] = "chain\n5 5\n0 1 1 1\n1 1 2 1\n2 1 3 1\n3 1 4 1\n4 1\n";
+static const char chained[] = "release = [0, 0, 0, 0, 0]\nbudget = [9, 9, 9, 9, 9]\norder = [[0], [1, 0], [2, 1], [3, 2], [4, 3]]\n";
 static const char alone[] = "release = [0]\nbudget = [7]\norder = [[0]]\n";
 static const char collection[] = "instance one\none\n1 1\n0 7\n\ninstance two\ntwo\n2 2\n0 3 1 2\n1 4 0 1\n";
 static const uint8_t nothing[1];
@@ -88,21 +90,54 @@ static int begun_again(struct cellplan_cell *cell, uint32_t ended[2]) {
   return bad;
 }
 
+/* Two texts, and the status that the calls over them have unless memory runs out. */
+static const struct {
+  const char *instance, *plan;
+  uint32_t status;
+} texts[] = {{two, in_time, CELLPLAN_GOOD},
+             {two, late, CELLPLAN_REFUSED},
+             {two, alone, CELLPLAN_REFUSED},
+             {"x", in_time, CELLPLAN_FAULT},
+             {two, "x", CELLPLAN_FAULT}};
+
+/* Makes a call over each two texts, and says how it ended. */
+static int each_judged(const char *name, judge *call) {
+  int bad = 0;
+  fprintf(stderr, "%s", name);
+  for (size_t i = 0; i < sizeof texts / sizeof *texts; i++) {
+    uint8_t text[512];
+    size_t length = 7;
+    uint32_t ended = call(TEXT(texts[i].instance), NO_NAME, TEXT(texts[i].plan), text, sizeof text, &length);
+    bad |= ended == CELLPLAN_NO_MEMORY ? length != 0 : ended != texts[i].status || length == 0;
+    fprintf(stderr, " %u", (unsigned)ended);
+  }
+  return bad;
+}
+
+static int each_begun(void) {
+  int bad = 0;
+  fprintf(stderr, " new");
+  for (size_t i = 0; i < sizeof texts / sizeof *texts; i++) {
+    struct cellplan_cell cell = {0};
+    uint32_t ended = cellplan_cell_new(TEXT(texts[i].instance), NO_NAME, TEXT(texts[i].plan), &cell);
+    bad |= ended != CELLPLAN_NO_MEMORY && ended != texts[i].status;
+    bad |= (ended == CELLPLAN_GOOD) != (cellplan_cell_now(&cell, &(uint64_t){0}) == CELLPLAN_GOOD);
+    cellplan_cell_free(&cell);
+    fprintf(stderr, " %u", (unsigned)ended);
+  }
+  return bad;
+}
+
 static int once(void) {
   struct cellplan_cell cell = {0};
-  uint8_t text[512];
-  size_t length = 0;
-  uint32_t ended[4];
-  int bad = 0;
-  ended[0] = cellplan_check(TEXT(two), NO_NAME, TEXT(in_time), text, sizeof text, &length);
-  bad |= ended[0] == CELLPLAN_NO_MEMORY && length != 0;
-  ended[1] = cellplan_explain(TEXT(two), NO_NAME, TEXT(in_time), text, sizeof text, &length);
-  bad |= ended[1] == CELLPLAN_NO_MEMORY && length != 0;
-  bad |= begun_again(&cell, ended + 2);
+  uint32_t ended[2];
+  int bad = each_judged("check", cellplan_check);
+  bad |= each_judged(" explain", cellplan_explain);
+  bad |= each_begun();
+  bad |= begun_again(&cell, ended);
   cellplan_cell_free(&cell);
-  fprintf(stderr, "check %u explain %u new %u again %u\n", (unsigned)ended[0], (unsigned)ended[1], (unsigned)ended[2],
-          (unsigned)ended[3]);
-  for (int i = 0; i < 4; i++) bad |= ended[i] != CELLPLAN_GOOD && ended[i] != CELLPLAN_NO_MEMORY;
+  fprintf(stderr, " again %u %u\n", (unsigned)ended[0], (unsigned)ended[1]);
+  for (int i = 0; i < 2; i++) bad |= ended[i] != CELLPLAN_GOOD && ended[i] != CELLPLAN_NO_MEMORY;
   return bad;
 }
 
@@ -299,22 +334,39 @@ static void said(const char *line) {
   if (write(STDERR_FILENO, line, strlen(line)) != (ssize_t)strlen(line)) exit(9);
 }
 
+/* A report that frees one machine after the other: its orders are more than the four that a controller holds in itself. */
+static void all_move(struct cellplan_cell *cell) {
+  struct cellplan_order orders[5];
+  size_t count = 9;
+  for (uint32_t j = 0; j < 5; j++) reported(cell, CELLPLAN_ARRIVE, j, 0, 0, CELLPLAN_GOOD, 0, 1, false);
+  for (uint32_t j = 0; j < 4; j++) reported(cell, CELLPLAN_FINISH, j, j, 1, CELLPLAN_GOOD, 0, 0, false);
+  reported(cell, CELLPLAN_FINISH, 4, 4, 1, CELLPLAN_GOOD, 0, 5, false);
+  same("their orders", cellplan_cell_orders(cell, 0, orders, 5, &count), CELLPLAN_GOOD);
+  for (uint32_t i = 0; i < 5; i++) {
+    same("the job that moves", orders[i].job, 4 - i);
+    same("where from", orders[i].source, 4 - i);
+    same("where to", orders[i].target, i == 0 ? CELLPLAN_OUT : 5 - i);
+  }
+}
+
 /* The calls that take no memory. */
 static int asked(void) {
-  struct cellplan_cell cells[3] = {{0}, {0}, {0}}, none = {0};
+  struct cellplan_cell cells[4] = {{0}, {0}, {0}, {0}}, none = {0};
   same("begun", cellplan_cell_new(TEXT(two), NO_NAME, TEXT(in_time), &cells[0]), CELLPLAN_GOOD);
   same("another", cellplan_cell_new(TEXT(two), NO_NAME, TEXT(in_time), &cells[1]), CELLPLAN_GOOD);
   same("one with cleaning", cellplan_cell_new(TEXT(two), NO_NAME, TEXT(cleaned), &cells[2]), CELLPLAN_GOOD);
+  same("one in which all move", cellplan_cell_new(TEXT(chain), NO_NAME, TEXT(chained), &cells[3]), CELLPLAN_GOOD);
   said("asked\n");
   same("version", cellplan_version(), CELLPLAN_VERSION);
   driven(&cells[0]);
   reported(&cells[1], CELLPLAN_ARRIVE, 0, 0, 0, CELLPLAN_GOOD, 0, 1, false);
   beyond_the_room(&cells[1]);
   gone(&cells[2]);
+  all_move(&cells[3]);
   without_a_cell(&none);
   names();
   said("told\n");
-  for (int i = 0; i < 3; i++) cellplan_cell_free(&cells[i]);
+  for (int i = 0; i < 4; i++) cellplan_cell_free(&cells[i]);
   return missed != 0;
 }
 

@@ -1,6 +1,7 @@
 /* Drives a cell of two jobs and two machines, whose floor tells what has ended and is told what to move. */
 #include "cellplan.h"
 
+#include <inttypes.h>
 #include <stdio.h>
 #include <string.h>
 
@@ -16,11 +17,11 @@ static const struct {
              {CELLPLAN_FINISH, 0, 1, 5}, {CELLPLAN_FINISH, 1, 1, 9}, {CELLPLAN_FINISH, 1, 0, 10}};
 
 static void move(struct cellplan_order order) {
-  printf("at %u job %u goes ", (unsigned)order.at, (unsigned)order.job);
+  printf("at %" PRIu64 " job %" PRIu32 " goes ", order.at, order.job);
   if (order.target == CELLPLAN_OUT)
     printf("out\n");
   else
-    printf("onto machine %u\n", (unsigned)order.target);
+    printf("onto machine %" PRIu32 "\n", order.target);
 }
 
 int main(void) {

@@ -5,9 +5,9 @@
    Without a seed, or with 0, each activity ends when it is due; with another one each ends early, in time or late, as
    the seed has it. With a log, which may have been cut anywhere, the run is taken up: the reports that stand whole in it
    are reported again, and it goes on from there. Ends with status 0 where the run has ended in time, with 1 where it
-   was late, with 2 where the words are wrong, with the status of cellplan_check where there is no cell, with 5 where a
-   file can't be read or the log can't be written, and with the number of the reason where a report of the log isn't
-   possible. */
+   was late, with 2 where the words are wrong, with the status of cellplan_cell_new where there is no cell, with 5 where a
+   file can't be read, a line of the log is damaged or the log can't be written, and with the number of the reason where a
+   report of the log isn't possible. */
 #include "cellplan.h"
 
 #include <inttypes.h>
@@ -43,28 +43,31 @@ static void *room_for(size_t count, size_t size) {
   return room;
 }
 
+/* The bytes of a file, with a zero byte behind them. */
 static struct text whole(const char *path) {
   FILE *file = fopen(path, "rb");
   long size = -1;
   if (file && fseek(file, 0, SEEK_END) == 0) size = ftell(file);
   if (size < 0 || size == LONG_MAX) stop(path, 5);
   rewind(file);
-  struct text text = {room_for((size_t)size, 1), (size_t)size};
+  struct text text = {room_for((size_t)size + 1, 1), (size_t)size};
   if (fread(text.bytes, 1, text.length, file) != text.length) stop(path, 5);
   fclose(file);
   return text;
 }
 
-/* The cell of the plan; where there is none, the line that says why is printed. */
+/* The cell of the plan; where there is none, the line that says why is printed. Memory may run out in any of the calls. */
 static void begin(struct floor *floor, struct text instance, struct text plan) {
   static const uint8_t no_name[1];
   uint32_t status = cellplan_cell_new(instance.bytes, instance.length, no_name, 0, plan.bytes, plan.length, &floor->cell);
   if (status == CELLPLAN_GOOD) return;
+  if (status == CELLPLAN_NO_MEMORY) stop("out of memory", CELLPLAN_NO_MEMORY);
   size_t length = 0;
   uint8_t nothing[1];
   cellplan_check(instance.bytes, instance.length, no_name, 0, plan.bytes, plan.length, nothing, 0, &length);
   uint8_t *line = room_for(length, 1);
-  cellplan_check(instance.bytes, instance.length, no_name, 0, plan.bytes, plan.length, line, length, &length);
+  if (cellplan_check(instance.bytes, instance.length, no_name, 0, plan.bytes, plan.length, line, length, &length) != status)
+    stop("out of memory", CELLPLAN_NO_MEMORY);
   fwrite(line, 1, length, status == CELLPLAN_REFUSED ? stdout : stderr);
   exit((int)status);
 }
@@ -132,26 +135,43 @@ static void report(struct floor *floor, uint32_t kind, uint32_t job, uint32_t ma
   for (size_t i = 0; i < count; i++) move(floor, floor->orders[i]);
 }
 
+/* The text behind the word, or NULL where it doesn't begin with it. */
+static const char *after_word(const char *text, const char *word) {
+  return text && strncmp(text, word, strlen(word)) == 0 ? text + strlen(word) : NULL;
+}
+
+/* The text behind the number, or NULL where it doesn't begin with one that is at most `most`. */
+static const char *after_number(const char *text, uint64_t most, uint64_t *number) {
+  if (!text || *text < '0' || *text > '9') return NULL;
+  for (*number = 0; *text >= '0' && *text <= '9'; text++) {
+    uint64_t digit = (uint64_t)(*text - '0');
+    if (digit > most || *number > (most - digit) / 10) return NULL;
+    *number = 10 * *number + digit;
+  }
+  return text;
+}
+
+/* Reports again what a line of the log tells. */
+static void report_again(struct floor *floor, const char *line, const char *end) {
+  uint64_t at = 0, job = 0, machine = 0;
+  const char *told = after_number(after_word(line, "report "), UINT64_MAX, &at);
+  const char *finish = after_number(after_word(told, " finish "), UINT32_MAX, &job);
+  if (after_number(after_word(finish, " "), UINT32_MAX, &machine) == end)
+    report(floor, CELLPLAN_FINISH, (uint32_t)job, (uint32_t)machine, at);
+  else if (after_number(after_word(told, " arrive "), UINT32_MAX, &job) == end)
+    report(floor, CELLPLAN_ARRIVE, (uint32_t)job, 0, at);
+  else if (after_number(after_word(told, " clean "), UINT32_MAX, &machine) == end)
+    report(floor, CELLPLAN_CLEAN, 0, (uint32_t)machine, at);
+  else
+    stop("a line of the log is damaged", 5);
+}
+
 /* Reports again what stands whole in the log. */
 static void take_up(struct floor *floor, struct text log) {
-  char line[64];
-  size_t begun = 0;
-  for (size_t i = 0; i < log.length; i++) {
-    if (log.bytes[i] != '\n') continue;
-    size_t length = i - begun;
-    if (length < sizeof line) {
-      uint32_t job = 0, machine = 0;
-      uint64_t at;
-      memcpy(line, log.bytes + begun, length);
-      line[length] = 0;
-      if (sscanf(line, "report %" SCNu64 " arrive %" SCNu32, &at, &job) == 2)
-        report(floor, CELLPLAN_ARRIVE, job, 0, at);
-      else if (sscanf(line, "report %" SCNu64 " finish %" SCNu32 " %" SCNu32, &at, &job, &machine) == 3)
-        report(floor, CELLPLAN_FINISH, job, machine, at);
-      else if (sscanf(line, "report %" SCNu64 " clean %" SCNu32, &at, &machine) == 2)
-        report(floor, CELLPLAN_CLEAN, 0, machine, at);
-    }
-    begun = i + 1;
+  const char *line = (const char *)log.bytes, *behind = line + log.length, *end;
+  while ((end = memchr(line, '\n', (size_t)(behind - line)))) {
+    if (after_word(line, "report")) report_again(floor, line, end);
+    line = end + 1;
   }
 }
 

@@ -121,6 +121,7 @@ void drive(Cell &cell) {
 int main(int argc, char **argv) {
   try {
     if (argc != 3) throw std::runtime_error("wants INSTANCE PLAN");
+    if (cellplan_version() != CELLPLAN_VERSION) throw std::runtime_error("the header is of another version than the library");
     const Text instance = whole(argv[1]), plan = whole(argv[2]);
     Cell cell(instance, plan);
     drive(cell);
