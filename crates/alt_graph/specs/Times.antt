@@ -52,6 +52,14 @@ pub record AreTimes (p : PlannedShop) (t : NodeTimes) : Type 0 where
   pub few : (v : Node) → IsNode p v → rank_of t v < node_count p
   pub attained : (v : Node) → IsNode p v → IsAttained p t v (earliest_of t v) (before_of t v)
 
+-- the nodes are a path to v, as long as the moment of v
+abbrev pub IsPathInTime : PlannedShop → NodeTimes → Node → List Node → Type 0
+IsPathInTime p t v nodes = Path p nodes v (earliest_of t v)
+
+-- they are so in the shop of these times
+abbrev pub IsPathBy : NodeTimes → Node → List Node → Type 0
+IsPathBy t v nodes = (p : PlannedShop) → AreTimes p t → IsPathInTime p t v nodes
+
 -- the moment of each node is the length of a path to it, and no path to it is longer
 pub record AreGreatest (p : PlannedShop) (t : NodeTimes) : Type 0 where
   pub reached : (v : Node) → IsNode p v → (nodes : List Node) × Path p nodes v (earliest_of t v)

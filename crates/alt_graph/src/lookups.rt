@@ -1,8 +1,8 @@
 //! Where each machine stands on the jobs' routes, and each job in the machines' orders, to be looked up.
 
-ghost use Rattle.std.specs.Prelude.{◌≡◌, ℕ, ◌+◌, ◌*◌, ◌<◌, ◌≢◌, IfOk, slice_index};
+ghost use Rattle.std.specs.Prelude.{◌≡◌, ℕ, ◌+◌, ◌*◌, ◌<◌, ◌≢◌, IfOk};
 ghost use Rattle.shop_base.specs.Plan.{jobs, machines, route, order, IsWellShaped};
-ghost use Rattle.alt_graph.specs.Lookups.{AreLookups, AreStepsOf, ArePlacesOf, HasSlots, slot_of};
+ghost use Rattle.alt_graph.specs.Lookups.{AreLookups, AreStepsOf, ArePlacesOf, HasSlots, slot_of, entry_at};
 
 use crate::numbers::first_numbers;
 use shop_base::limits::MAX_JOBS;
@@ -64,7 +64,7 @@ fn note_steps(shaped: &Shaped, job: JobNo, steps: &mut [u32])
     requires job { job < jobs shaped.now }
     requires slots { HasSlots shaped.now steps.old }
     ensures noted { AreStepsOf shaped.now steps.new job }
-    ensures others { (m j : ℕ) → j < jobs shaped.now → j ≢ job → slice_index steps.new (slot_of m j) ≡ slice_index steps.old (slot_of m j) }
+    ensures others { (m j : ℕ) → j < jobs shaped.now → j ≢ job → entry_at steps.new m j ≡ entry_at steps.old m j }
 {
     let route = shaped.route_of(job);
     for step in 0..route.len() {
@@ -87,8 +87,7 @@ fn note_places(shaped: &Shaped, machine: MachineNo, places: &mut [u32])
     requires machine { machine < machines shaped.now }
     requires slots { HasSlots shaped.now places.old }
     ensures noted { ArePlacesOf shaped.now places.new machine }
-    ensures others { (m j : ℕ) → j < jobs shaped.now → m ≢ machine
-        → slice_index places.new (slot_of m j) ≡ slice_index places.old (slot_of m j) }
+    ensures others { (m j : ℕ) → j < jobs shaped.now → m ≢ machine → entry_at places.new m j ≡ entry_at places.old m j }
 {
     let order = shaped.order_of(machine);
     for place in 0..order.len() {

@@ -1,7 +1,5 @@
 ghost use Rattle.std.specs.Prelude.{◌≡◌, IfOk, MatchOption, IsSome, IfSome, reverse};
-ghost use Rattle.shop_base.specs.Plan.{PlannedShop};
-ghost use Rattle.shop_base.specs.Graph.{Path};
-ghost use Rattle.alt_graph.specs.Times.{IsTimed, AreTimes, rank_of, earliest_of, before_of, time_at};
+ghost use Rattle.alt_graph.specs.Times.{IsTimed, IsPathBy, rank_of, earliest_of, before_of, time_at};
 ghost use Rattle.alt_graph.specs.Layout.{AreLinked, LeadsBack, by_job};
 
 use crate::numbers::number;
@@ -62,7 +60,7 @@ impl Times {
     /// earliest. None for a node that isn't of the shop.
     pub fn earliest(&self, node: Node) -> Option<Moment>
         ensures { MatchOption result (IsTimed self.now node → ⊥)
-            (λ earliest. IsTimed self.now node × (earliest ≡ earliest_of self.now node)) }
+            (λ moment. IsTimed self.now node × (moment ≡ earliest_of self.now node)) }
     {
         match self.time(node) {
             Some(time) => Some(time.earliest),
@@ -75,8 +73,7 @@ impl Times {
     pub fn chain(&self, alloc: Global, node: Node) -> Result<Option<Vec<Node>>, AllocError>
         ensures outside { (IsTimed self.now node → ⊥) → result ≡ Ok None }
         ensures inside { IsTimed self.now node → IfOk result IsSome }
-        ensures path { IfOk result (λ found. IfSome found (λ nodes.
-            (p : PlannedShop) → AreTimes p self.now → Path p nodes.items node (earliest_of self.now node))) }
+        ensures path { IfOk result (λ found. IfSome found (λ nodes. IsPathBy self.now node nodes.items)) }
     {
         match self.time(node) {
             Some(time) => {
@@ -122,8 +119,7 @@ impl Times {
     /// The nodes of a longest path to a known node, backwards; it has no more than its rank and one.
     fn walk_back(&self, alloc: Global, node: Node, rank: u32) -> Result<Vec<Node>, AllocError>
         requires { IsTimed self.now node }
-        ensures { let t = self.now in
-            IfOk result (λ nodes. (p : PlannedShop) → AreTimes p t → Path p (reverse nodes.items) node (earliest_of t node)) }
+        ensures { IfOk result (λ nodes. IsPathBy self.now node (reverse nodes.items)) }
     {
         let mut nodes = Vec::with_capacity(alloc, rank as usize + 1)?;
         let mut last = node;

@@ -1,7 +1,8 @@
 -- What the words of a command line ask for, by the matches that `clap` finds in them.
-use Rattle.std.specs.Prelude.{◌≡◌, ◌≢◌, ◌≤◌, ◌++◌, ℕ, Bool, true, false, List, [], Option, Some, None, length, map, option_map, unwrap_or, pos, codes}
+use Rattle.std.specs.Prelude.{◌≡◌, ◌≢◌, ◌≤◌, ◌++◌, ℕ, Bool, true, false, List, [], Option, Some, None, String, length, map, option_map, unwrap_or, pos, codes}
 use Rattle.std.specs.Option.{option_map_or}
 use Rattle.std.specs.String.{string_bytes}
+use Rattle.std.specs.declared.alloc.Global.{Global}
 use Rattle.std.specs.Str.Parse.{digits_value, without_leading_plus}
 use Rattle.clap.specs.Words.{IsAmong, IsSignedIn, Kinds, Row, Text, all_of, fault_of, first_of, one_of, subcommand_of, without_minus}
 use Rattle.clap.specs.declared.error.kind.ErrorKind.{ErrorKind}
@@ -63,6 +64,10 @@ rows_found found = option_map_or (λ p. p.1) found []
 abbrev pub values_of : Text → List Row → List Text
 values_of name rows = unwrap_or (all_of name rows) []
 
+-- the bytes of each text
+abbrev pub texts_of : List (String Global) → List Text
+texts_of texts = map string_bytes texts
+
 -- the files: the instance's, those of the plans, the log's
 abbrev pub files_in : List Row → List Text
 files_in rows = values_of (codes "FILE") rows
@@ -89,7 +94,7 @@ seed_in = number_in (codes "seed") 0
 -- the choice holds the command, the files, the instance's name, the rounds and the seed that were found
 pub record IsChoiceOf (found : Found) (chosen : Chosen) : Type 0 where
   pub name : word_of chosen.name ≡ word_found found
-  pub files : map string_bytes chosen.files.items ≡ files_in (rows_found found)
+  pub files : texts_of chosen.files.items ≡ files_in (rows_found found)
   pub instance : option_map string_bytes chosen.instance ≡ instance_in (rows_found found)
   pub rounds : chosen.rounds ≡ rounds_in (rows_found found)
   pub seed : chosen.seed ≡ seed_in (rows_found found)

@@ -5,7 +5,7 @@ ghost use Rattle.std.specs.String.{string_bytes};
 ghost use Rattle.clap.specs.Words.{found_of, kind_of, rows_of, subcommand_rows_of, one_of};
 ghost use Rattle.command_words.specs.declared.words.CommandName.{CommandName};
 ghost use Rattle.command_words.specs.CommandLine.{most_rounds, greatest_seed};
-ghost use Rattle.command_words.specs.Choice.{FitsUpTo, IsChoiceOf, IsFit, IsWithin, TellsOneOf, TellsReason, files_in, found_in, instance_in, reasons_in, rounds_in, seed_in, values_of, word_of};
+ghost use Rattle.command_words.specs.Choice.{FitsUpTo, IsChoiceOf, IsFit, IsWithin, TellsOneOf, TellsReason, files_in, found_in, instance_in, reasons_in, rounds_in, seed_in, texts_of, values_of, word_of};
 
 mod command_line;
 
@@ -190,7 +190,7 @@ fn name_of(word: &str) -> CommandName
 
 /// The files, in the order given.
 fn files_of(alloc: Global, matches: &ArgMatches<'_>) -> Result<Vec<String>, AllocError>
-    ensures { IfOk result (λ files. map string_bytes files.items ≡ files_in (rows_of (found_of matches.now))) }
+    ensures { IfOk result (λ files. texts_of files.items ≡ files_in (rows_of (found_of matches.now))) }
 {
     let mut files = Vec::new(alloc);
     add_values(alloc, &mut files, matches, "FILE")?;
@@ -206,8 +206,8 @@ fn add_values(
     matches: &ArgMatches<'_>,
     name: &str,
 ) -> Result<(), AllocError>
-    ensures { OnOk result (map string_bytes files.new.items ≡ map string_bytes files.old.items
-        ++ values_of name.now (rows_of (found_of matches.now))) }
+    ensures { OnOk result
+        (texts_of files.new.items ≡ texts_of files.old.items ++ values_of name.now (rows_of (found_of matches.now))) }
 {
     let Some(values) = matches.get_raw(name) else {
         return Ok(());

@@ -32,6 +32,10 @@ accepted_line makespan leaves = codes "accepted makespan " ++ decimal makespan +
 abbrev pub cycle_line : List Node → List ℕ
 cycle_line nodes = codes "refused cycle" ++ node_words nodes ++ codes "\n"
 
--- the line of a late job
+-- the words of a late job and its leaving
+abbrev pub late_words : ℕ → ℕ → List ℕ
+late_words job leaves = codes "refused late " ++ decimal job ++ codes " " ++ decimal leaves
+
+-- the line of a late job: these words, and then the nodes
 abbrev pub refused_late_line : ℕ → ℕ → List Node → List ℕ
 refused_late_line job leaves chain = codes "refused late " ++ decimal job ++ codes " " ++ decimal leaves ++ node_words chain ++ codes "\n"

@@ -2,9 +2,8 @@
 
 ghost use Rattle.std.specs.Prelude.{◌≡◌, ◌<◌, IfOk};
 ghost use Rattle.shop_base.specs.Plan.{jobs};
-ghost use Rattle.shop_base.specs.Graph.{leaving, Path};
 ghost use Rattle.alt_graph.specs.Evidence.{IsCycle};
-ghost use Rattle.plan_verifier.specs.Accepted.{kept_at};
+ghost use Rattle.plan_verifier.specs.Accepted.{IsPathToLeaving};
 ghost use Rattle.plan_verifier.specs.Verdicts.{OnRefused, IsReason, IsFirstLate};
 ghost use Rattle.plan_explain.specs.Explained.{cycle_text, late_text, IsAcceptedText, IsExplained};
 
@@ -73,9 +72,7 @@ fn explain_accepted(alloc: Global, verified: &Verified) -> Result<Vec<u8>, Alloc
 /// A longest chain to the job's leaving.
 fn chain_of(alloc: Global, verified: &Verified, job: JobNo) -> Result<Vec<Node>, AllocError>
     requires { job < jobs verified.now.planned }
-    ensures { let v = verified.now in
-        let last = leaving v.planned job in
-        IfOk result (λ nodes. Path v.planned nodes.items last (kept_at v last)) }
+    ensures { IfOk result (λ nodes. IsPathToLeaving verified.now job nodes.items) }
 {
     match verified.chain(alloc, job)? {
         Some(chain) => Ok(chain),

@@ -2,7 +2,7 @@
 
 ghost use Rattle.std.specs.Prelude.{◌≡◌, ◌++◌, OnOk, codes, decimal};
 ghost use Rattle.shop_base.specs.NodeText.{node_text};
-ghost use Rattle.plan_explain.specs.FirstLines.{node_words, moment_words, leavings_of, accepted_line, cycle_line, refused_late_line};
+ghost use Rattle.plan_explain.specs.FirstLines.{node_words, moment_words, leavings_of, accepted_line, cycle_line, late_words, refused_late_line};
 
 use crate::leaving_lines::{jobs_of, leave_of};
 use crate::words::{Line, push_line, put_node};
@@ -71,8 +71,7 @@ pub fn push_late_line(
 }
 
 fn push_late_job(text: &mut Vec<u8>, job: JobNo, leaves: Moment) -> Result<(), AllocError>
-    ensures { let words = codes "refused late " ++ decimal job ++ codes " " ++ decimal leaves in
-        OnOk result (text.new.items ≡ text.old.items ++ words) }
+    ensures { OnOk result (text.new.items ≡ text.old.items ++ late_words job leaves) }
 {
     let mut line = Line::empty();
     line.put_number(leaves);

@@ -86,12 +86,16 @@ missing_keys cleaning table = missing_faults Release (value_at table Release)
     ++ (missing_faults Order (value_at table Order)
     ++ if_cleaning cleaning (missing_faults Clean (value_at table Clean))))
 
+-- the cleaning times have to be right, where the version has some
+abbrev pub clean_faults : Bool → Members → List PlanFault
+clean_faults cleaning table = if_cleaning cleaning (faults_at (list_faults Clean None) (value_at table Clean))
+
 -- the lists have to be right
 abbrev pub list_values : Bool → Members → List PlanFault
 list_values cleaning table = faults_at (list_faults Release None) (value_at table Release)
     ++ (faults_at (list_faults Budget None) (value_at table Budget)
     ++ (faults_at order_faults (value_at table Order)
-    ++ if_cleaning cleaning (faults_at (list_faults Clean None) (value_at table Clean))))
+    ++ clean_faults cleaning table))
 
 -- the faults of a table whose version has cleaning, or hasn't: keys that aren't known, missing keys, and then the lists
 abbrev pub content_faults : Bool → Members → List PlanFault

@@ -9,7 +9,7 @@ ghost use Rattle.plan_text.specs.Keys.{value_at};
 ghost use Rattle.plan_text.specs.Documents.{IsDocument, IsNoDocument, IsPlanText, IsFirstPlanFault};
 ghost use Rattle.plan_text.specs.Answers.{IsRead, IsRefused, Passes};
 ghost use Rattle.plan_text.specs.Reading.{numbers_in, rows_in, list_at, clean_in, plan_with, plan_in};
-ghost use Rattle.plan_text.specs.Listing.{list_faults, order_faults, faults_at, if_cleaning, list_values, faults_of};
+ghost use Rattle.plan_text.specs.Listing.{list_faults, order_faults, faults_at, clean_faults, list_values, faults_of};
 
 use crate::keys::{check_known, check_missing, check_version, value_of};
 use crate::plan_fault::PlanFault;
@@ -44,8 +44,7 @@ fn rows_at(alloc: Global, table: &Table) -> Result<Vec<Vec<JobNo>>, PlanFault>
 
 /// The cleaning times, where the table's version has some.
 fn clean_at(alloc: Global, table: &Table, cleaning: bool) -> Result<Option<Vec<Moment>>, PlanFault>
-    ensures faults { Passes
-        (if_cleaning cleaning (faults_at (list_faults PlanKey.Clean None) (value_at (table_view table.now) PlanKey.Clean))) result }
+    ensures faults { Passes (clean_faults cleaning (table_view table.now)) result }
     ensures value { IfOk result (λ times. list_of times ≡ clean_in cleaning (table_view table.now)) }
 {
     if !cleaning {

@@ -8,7 +8,7 @@ use Rattle.shop_base.specs.Run.{Event}
 use Rattle.shop_base.specs.Controlled.{IsControlledRun}
 use Rattle.shop_base.specs.Punctual.{ArePunctual, AreExact}
 use Rattle.shop_base.specs.Graph.{leaving, IsSimpleCycle, Path, IsSchedule, MeetBudgets}
-use Rattle.alt_graph.specs.Times.{NodeTimes, rank_of, earliest_of, AreOrdered}
+use Rattle.alt_graph.specs.Times.{NodeTimes, rank_of, earliest_of, IsPathInTime, AreOrdered}
 
 -- no arcs lead in a circle
 abbrev pub HasNoCycle : PlannedShop → Type 0
@@ -54,6 +54,10 @@ kept_at v = earliest_of v.times
 -- the rank of a node of an accepted plan
 abbrev pub rank_in : VerifiedPlan → Node → ℕ
 rank_in v = rank_of v.times
+
+-- the nodes are a path to the leaving of job j, as long as the moment kept for it
+abbrev pub IsPathToLeaving : VerifiedPlan → ℕ → List Node → Type 0
+IsPathToLeaving v j = IsPathInTime v.planned v.times (leaving v.planned j)
 
 -- what an accepted plan comes with: a schedule, whose moments are the greatest lengths of paths, with each leaving within its budget
 pub record IsVerified (v : VerifiedPlan) : Type 0 where

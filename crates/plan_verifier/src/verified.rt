@@ -1,8 +1,8 @@
 ghost use Rattle.std.specs.Prelude.{◌≡◌, ◌<◌, ◌≤◌, max, Ok, None, IfOk, IsSome, MatchOption, IfSome};
 ghost use Rattle.shop_base.specs.Plan.{jobs};
-ghost use Rattle.shop_base.specs.Graph.{leaving, Path};
+ghost use Rattle.shop_base.specs.Graph.{leaving};
 ghost use Rattle.shop_base.specs.ExactLaw.{IsNeverGoneBefore};
-ghost use Rattle.plan_verifier.specs.Accepted.{IsVerified, IsGreatest, IsLongestTo, IsMakespan, IsNeverGoneAfter, IsGoneJustAt, kept_at};
+ghost use Rattle.plan_verifier.specs.Accepted.{IsVerified, IsGreatest, IsLongestTo, IsMakespan, IsNeverGoneAfter, IsGoneJustAt, IsPathToLeaving, kept_at};
 
 use crate::leavings::{leave_time, leaving_of};
 use alt_graph::Times;
@@ -40,7 +40,7 @@ impl Verified {
     /// takes its full time; none for a number that is no job's.
     pub fn earliest_leave(&self, job: JobNo) -> Option<Moment>
         ensures greatest { let p = self.now.planned in
-            MatchOption result (jobs p ≤ job) (λ moment. (job < jobs p) × IsGreatest p (leaving p job) moment) }
+            MatchOption result (jobs p ≤ job) (λ n. (job < jobs p) × IsGreatest p (leaving p job) n) }
         ensures kept { IfSome result (λ moment. moment ≡ kept_at self.now (leaving self.now.planned job)) }
         ensures no_faster { IfSome result (IsNeverGoneBefore self.now.planned job) }
         ensures no_later { IfSome result (IsNeverGoneAfter self.now.planned job) }
@@ -69,9 +69,7 @@ impl Verified {
     pub fn chain(&self, alloc: Global, job: JobNo) -> Result<Option<Vec<Node>>, AllocError>
         ensures outside { jobs self.now.planned ≤ job → result ≡ Ok None }
         ensures inside { job < jobs self.now.planned → IfOk result IsSome }
-        ensures path { let v = self.now in
-            let last = leaving v.planned job in
-            IfOk result (λ found. IfSome found (λ nodes. Path v.planned nodes.items last (kept_at v last))) }
+        ensures path { IfOk result (λ found. IfSome found (λ nodes. IsPathToLeaving self.now job nodes.items)) }
         ensures longest { let p = self.now.planned in
             IfOk result (λ found. IfSome found (λ nodes. IsLongestTo p (leaving p job) nodes.items)) }
     {

@@ -10,6 +10,7 @@ use Rattle.shop_base.specs.Report.{Report}
 use Rattle.shop_base.specs.declared.move_order.MoveOrder.{MoveOrder}
 use Rattle.shop_base.specs.declared.move_order.Spot.{Spot}
 use Rattle.shop_base.specs.declared.move_order.Spot.TheVariants.{Out, At}
+use Rattle.shop_base.specs.Graph.{node}
 use Rattle.shop_base.specs.Run.{Event, Reported, Moved, ends_in}
 
 -- a step on a machine, with its nominal time
@@ -233,6 +234,10 @@ flow_after n = ends_in in_flow (take n flow_log)
 -- the cell at the end of that run
 abbrev pub flow_end : Cell
 flow_end = ends_in in_flow flow_log
+
+-- a path of that plan: the first job up to its leaving, and then each other job from the last machine on
+abbrev pub flow_path : List Node
+flow_path = node 0 0 ∷ node 0 1 ∷ node 0 2 ∷ node 0 3 ∷ node 1 2 ∷ node 1 3 ∷ node 2 2 ∷ node 2 3 ∷ []
 
 -- each activity ends when it is due, the cleanings too
 abbrev pub cleaned_reports : List Report

@@ -13,6 +13,10 @@ AreMarks marks P = (j : ℕ) → j < length marks → MatchBool (slice_index_or 
 abbrev pub IsVisitedBefore : List Step → ℕ → ℕ → Type 0
 IsVisitedBefore route n m = (i : ℕ) × (i < n) × ((step_at route i).machine ≡ m)
 
+-- the route of job j visits machine m
+abbrev pub IsOnRoute : List (List Step) → ℕ → ℕ → Type 0
+IsOnRoute routes j m = IsVisitedBefore (route_at routes j) (length (route_at routes j)) m
+
 -- the machines that the route visits are marked
 pub record AreVisited (row : List Bool) (route : List Step) : Type 0 where
   pub marks : AreMarks row (IsVisitedBefore route (length route))

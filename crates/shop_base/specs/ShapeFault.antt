@@ -22,6 +22,10 @@ pub record IsGoodPlace (p : PlannedShop) (m a : ℕ) : Type 0 where
   pub visitor : IsVisitor p m (job_at p m a)
   pub first : IsFirstPlace p m a
 
+-- so does the job at each place of that order
+abbrev pub AreGoodPlaces : PlannedShop → ℕ → Type 0
+AreGoodPlaces p m = (a : ℕ) → a < length (order p m) → IsGoodPlace p m a
+
 -- the counts, the limits and the orders before machine m are sound
 pub record IsMachineReached (p : PlannedShop) (m : ℕ) : Type 0 where
   pub in_range : m < machines p
@@ -38,7 +42,7 @@ pub record IsPlaceReached (p : PlannedShop) (m a : ℕ) : Type 0 where
 -- so are all places, and no job before job j is missing
 pub record IsJobReached (p : PlannedShop) (m j : ℕ) : Type 0 where
   pub reached : IsMachineReached p m
-  pub places : (a : ℕ) → a < length (order p m) → IsGoodPlace p m a
+  pub places : AreGoodPlaces p m
   pub before : (i : ℕ) → i < j → IsVisitor p m i → IsListed p m i
 
 -- each of the first n numbers is within the limit
@@ -82,3 +86,7 @@ IsFirstShapeFault p (JobTwice machine place) =
     × (earlier : ℕ) × (earlier < place) × (job_at p machine earlier ≡ job_at p machine place)
 IsFirstShapeFault p (JobMissing machine job) =
     IsJobReached p machine job × IsVisitor p machine job × (IsListed p machine job → ⊥)
+
+-- nothing but this is what is wrong first
+abbrev pub IsOnlyShapeFault : PlannedShop → ShapeFault → Type 0
+IsOnlyShapeFault p fault = (other : ShapeFault) → IsFirstShapeFault p other → other ≡ fault

@@ -1,11 +1,11 @@
 //! The checks of a plan's shape, in the order of their faults.
 
 ghost use Rattle.std.specs.Prelude.{◌≡◌, ℕ, ◌<◌, IfOk, OnOk, IfErr, MatchBool, length, slice_index_or, []};
-ghost use Rattle.shop_base.specs.Shop.{route_at, step_at};
-ghost use Rattle.shop_base.specs.Plan.{PlannedShop, IsWellShaped, HasCounts, IsOrder, order};
+ghost use Rattle.shop_base.specs.Shop.{step_at};
+ghost use Rattle.shop_base.specs.Plan.{IsWellShaped, HasCounts, IsOrder};
 ghost use Rattle.shop_base.specs.declared.limits.TheConstants.{MAX_MACHINES};
-ghost use Rattle.shop_base.specs.ShapeFault.{IsFirstShapeFault, IsMachineReached, IsGoodPlace, IsListed};
-ghost use Rattle.shop_base.specs.Marks.{AreMarks, AreVisits, AreVisited, IsVisitedBefore};
+ghost use Rattle.shop_base.specs.ShapeFault.{IsFirstShapeFault, IsMachineReached, AreGoodPlaces, IsListed};
+ghost use Rattle.shop_base.specs.Marks.{AreMarks, AreVisits, AreVisited, IsOnRoute};
 
 use crate::limit_check::check_limits;
 use crate::limits::{MAX_JOBS, MAX_MACHINES};
@@ -81,8 +81,7 @@ fn check_places(
 ) -> Result<[bool; MAX_JOBS], ShapeFault>
     requires reached { IsMachineReached (record { shop = shop.now; plan = plan.now }) machine }
     requires marked { AreVisits visits.now shop.now.routes }
-    ensures good { let p : PlannedShop = record { shop = shop.now; plan = plan.now } in
-        OnOk result ((a : ℕ) → a < length (order p machine) → IsGoodPlace p machine a) }
+    ensures good { OnOk result (AreGoodPlaces (record { shop = shop.now; plan = plan.now }) machine) }
     ensures listed { IfOk result (λ listed. AreMarks listed (IsListed (record { shop = shop.now; plan = plan.now }) machine)) }
     ensures first_fault { IfErr result (IsFirstShapeFault (record { shop = shop.now; plan = plan.now })) }
 {
@@ -121,8 +120,7 @@ fn visits_of(shop: &Shop) -> Visits
 fn is_visitor(shop: &Shop, visits: &Visits, job: JobNo, machine: MachineNo) -> bool
     requires in_range { machine < MAX_MACHINES }
     requires marked { AreVisits visits.now shop.now.routes }
-    ensures { let route = route_at shop.now.routes job in
-        let found = IsVisitedBefore route (length route) machine in MatchBool result found (found → ⊥) }
+    ensures { let found = IsOnRoute shop.now.routes job machine in MatchBool result found (found → ⊥) }
 {
     job < shop.jobs() && visits[job as usize][machine as usize]
 }

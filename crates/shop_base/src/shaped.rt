@@ -1,8 +1,7 @@
 ghost use Rattle.std.specs.Prelude.{◌≡◌, ◌↔◌, ◌*◌, ◌<◌, ◌≤◌, IsOk, IfOk, OnOk, IfErr};
 ghost use Rattle.shop_base.specs.Plan.{IsWellShaped, machines};
 ghost use Rattle.shop_base.specs.Ends.{stated_number, cleanings_of, sum_below};
-ghost use Rattle.shop_base.specs.declared.shape_fault.ShapeFault.{ShapeFault};
-ghost use Rattle.shop_base.specs.ShapeFault.{IsFirstShapeFault};
+ghost use Rattle.shop_base.specs.ShapeFault.{IsFirstShapeFault, IsOnlyShapeFault};
 
 use crate::limits::{MAX_JOBS, MAX_MACHINES};
 use crate::plan::Plan;
@@ -43,8 +42,7 @@ pub fn shape(shop: Shop, plan: Plan) -> Result<Shaped, NotShaped>
     ensures well_shaped { OnOk result (IsWellShaped (record { shop = shop; plan = plan })) }
     ensures exact { IsOk result ↔ IsWellShaped (record { shop = shop; plan = plan }) }
     ensures first_fault { IfErr result (λ refused. IsFirstShapeFault (record { shop = shop; plan = plan }) refused.fault) }
-    ensures only_fault { IfErr result (λ refused. (other : ShapeFault)
-        → IsFirstShapeFault (record { shop = shop; plan = plan }) other → other ≡ refused.fault) }
+    ensures only_fault { IfErr result (λ refused. IsOnlyShapeFault (record { shop = shop; plan = plan }) refused.fault) }
     ensures same_shop { IfErr result (λ refused. refused.shop ≡ shop) }
     ensures same_plan { IfErr result (λ refused. refused.plan ≡ plan) }
 {

@@ -27,7 +27,7 @@ ghost use Rattle.shop_base.specs.Examples.{series_reports, series_log, series_af
 ghost use Rattle.shop_base.specs.Examples.{late_reports, late_log, late_after, late_end};
 ghost use Rattle.shop_base.specs.Examples.{waiting_reports, waiting_log, waiting_after, waiting_end};
 ghost use Rattle.shop_base.specs.Examples.{crossed_reports, crossed_log, crossed_end};
-ghost use Rattle.shop_base.specs.Examples.{flow_reports, flow_log, flow_after, flow_end};
+ghost use Rattle.shop_base.specs.Examples.{flow_reports, flow_log, flow_after, flow_end, flow_path};
 ghost use Rattle.shop_base.specs.Examples.{cleaned_reports, cleaned_log, cleaned_after, cleaned_end};
 ghost use Rattle.shop_base.specs.Examples.{released_reports, released_log, released_end};
 ghost use Rattle.shop_base.specs.Examples.{refused_reports, refused_log, refused_after, refused_end};
@@ -184,9 +184,7 @@ pub fn three_machine_flow_run()
     ensures all_move { IsStep in_flow (flow_after 14) (finish 7 0 2) (0 ∷ 1 ∷ 2 ∷ []) }
     ensures no_less { IsStep in_flow (flow_after 14) (finish 7 0 2) (0 ∷ 1 ∷ []) → ⊥ }
     ensures no_other_order { IsStep in_flow (flow_after 14) (finish 7 0 2) (2 ∷ 1 ∷ 0 ∷ []) → ⊥ }
-    ensures path { Path in_flow
-        (node 0 0 ∷ node 0 1 ∷ node 0 2 ∷ node 0 3 ∷ node 1 2 ∷ node 1 3 ∷ node 2 2 ∷ node 2 3 ∷ [])
-        (leaving in_flow 2) 9 }
+    ensures path { Path in_flow flow_path (leaving in_flow 2) 9 }
     ensures reports { (stated_number in_flow ≡ 12) × (reports_in flow_log ≡ 12) }
     ensures ended { HasEnded in_flow flow_end }
     ensures first_gone { since flow_end 0 ≡ 7 }
