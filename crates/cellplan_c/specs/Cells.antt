@@ -1,18 +1,16 @@
 -- What is said of the controller that a cell holds, and what the calls that report to it or read it answer.
-use Rattle.std.specs.Prelude.{◌≡◌, ◌≢◌, ℕ, ◌+◌, ◌<◌, ◌≤◌, ◌↔◌, Bool, List, Option, None, IfSome, MatchOption, length, slice_get, option_map}
+use Rattle.std.specs.Prelude.{◌≡◌, ◌≢◌, ℕ, ◌+◌, ◌<◌, ◌≤◌, ◌↔◌, Bool, List, Option, IfSome, MatchOption, length, slice_get, option_map}
 use Rattle.shop_base.specs.declared.move_order.MoveOrder.{MoveOrder}
 use Rattle.shop_base.specs.Plan.{jobs}
-use Rattle.shop_base.specs.Cell.{cleaning, IsOn, IsFree}
-use Rattle.shop_base.specs.Activity.{Cleaning, GoesOn}
 use Rattle.shop_base.specs.Graph.{leaving}
 use Rattle.shop_base.specs.Report.{Report as Ended, CanReport}
 use Rattle.shop_base.specs.Run.{Event}
 use Rattle.shop_base.specs.ExactLaw.{IsNeverGoneBefore}
 use Rattle.plan_verifier.specs.Accepted.{VerifiedPlan, kept_at, IsGreatest, IsNeverGoneAfter, IsGoneJustAt}
 use Rattle.cell_tables.specs.Reports.{said}
-use Rattle.cell_control.specs.Control.{Control, IsAnswered}
+use Rattle.cell_control.specs.Control.{Control, IsAnswered, IfEndsNow}
 use Rattle.cell_control.specs.Promises.{IsCalled}
-use Rattle.cell_control.specs.Readings.{IsPhase}
+use Rattle.cell_control.specs.Readings.{IsPhaseOf}
 use Rattle.cell_control.specs.Reports.{IsFirstReason, IsOnlyReason}
 use Rattle.cell_control.specs.declared.report.Phase.{Phase as Whereabouts}
 use Rattle.cell_control.specs.declared.report_fault.ReportFault.{ReportFault}
@@ -36,12 +34,12 @@ IsReasonTold control report number detail = (fault : ReportFault) × (number ≡
     × IsFirstReason control.plan.planned control.cell report fault × IsOnlyReason control.plan.planned control.cell report fault
 
 -- what a report comes to, by its status, whether it was late, and what is told of its reason
-pub record IsReported (status : ℕ) (late : Bool) (detail : ℕ) (old : Control) (report : Ended) (new : Control) : Type 0 where
+pub record IsReportTold (status : ℕ) (late : Bool) (detail : ℕ) (old : Control) (report : Ended) (new : Control) : Type 0 where
   pub possible : (status ≡ 0) ↔ CanReport old.plan.planned old.cell report
   pub answered : status ≡ 0 → IsAnswered old report (record { late = late }) new
   pub reason : status ≢ 0 → IsReasonTold old report status detail
   pub called : (es : List Event) × IsCalled old report es new
-  pub never_refused : (due : ℕ) → GoesOn old.plan.planned old.cell report.ended due → report.at ≡ old.cell.last → status ≡ 0
+  pub never_refused : IfEndsNow old report (status ≡ 0)
 
 -- each order from a first one on, for which there is room, stands in its place as its numbers
 abbrev pub AreOrdersPut : List MoveOrder → ℕ → List Order → List Order → Type 0
@@ -53,19 +51,9 @@ abbrev pub IsKeptBehind : List MoveOrder → ℕ → List Order → List Order �
 IsKeptBehind orders first old new = (i : ℕ) → length orders ≤ first + i → slice_get new i ≡ slice_get old i
 
 -- where the job is, as numbers; none for a number that is no job's
-abbrev pub IsPhaseOf : Control → ℕ → Option Phase → Type 0
-IsPhaseOf held job answer = MatchOption answer (jobs held.plan.planned ≤ job) (λ told. (job < jobs held.plan.planned)
-    × ((place : Whereabouts) × (told ≡ phase_told place) × IsPhase held.plan.planned held.cell job place))
-
--- the job that is on the machine; none where it is free
-abbrev pub IsHolderOf : Control → ℕ → Option ℕ → Type 0
-IsHolderOf held machine answer = MatchOption answer (IsFree held.plan.planned held.cell machine)
-    (λ job. (k : ℕ) × IsOn held.plan.planned held.cell job k machine)
-
--- when the machine's cleaning is due; none where it isn't being cleaned
-abbrev pub IsCleanDueOf : Control → ℕ → Option ℕ → Type 0
-IsCleanDueOf held machine answer = MatchOption answer (cleaning held.cell machine ≡ None)
-    (λ due. GoesOn held.plan.planned held.cell (Cleaning machine) due)
+abbrev pub IsPhaseTold : Control → ℕ → Option Phase → Type 0
+IsPhaseTold held job answer =
+    (place : Option Whereabouts) × (answer ≡ option_map phase_told place) × IsPhaseOf held.plan.planned held.cell job place
 
 -- the job's earliest leaving by the plan; none for a number that is no job's
 pub record IsLeaveOf (v : VerifiedPlan) (job : ℕ) (answer : Option ℕ) : Type 0 where

@@ -4,9 +4,9 @@ ghost use Rattle.std.specs.Prelude.{◌≡◌, ◌≢◌, ◌+◌, ◌↔◌, �
 ghost use Rattle.shop_base.specs.Plan.{jobs, machines};
 ghost use Rattle.shop_base.specs.Ends.{stated_number, HasEnded};
 ghost use Rattle.shop_base.specs.ReportsLeft.{reports_left};
-ghost use Rattle.cell_control.specs.Readings.{IsDueOf};
+ghost use Rattle.cell_control.specs.Readings.{IsJobOn, IsDueOf, IsDueOfCleaning};
 ghost use Rattle.cellplan_c.specs.Told.{answer_of};
-ghost use Rattle.cellplan_c.specs.Cells.{Holding, IsPhaseOf, IsHolderOf, IsCleanDueOf, IsLeaveOf};
+ghost use Rattle.cellplan_c.specs.Cells.{Holding, IsPhaseTold, IsLeaveOf};
 
 use crate::cell::Cell;
 use crate::rooms::put_found;
@@ -22,7 +22,7 @@ pub extern "C" fn cellplan_cell_phase(
     job: u32,
     phase: &mut Phase,
 ) -> u32
-    ensures phase { Holding cell.old (λ held. IsPhaseOf held job (answer_of result phase.new)) }
+    ensures phase { Holding cell.old (λ held. IsPhaseTold held job (answer_of result phase.new)) }
     ensures statuses { Holding cell.old (λ held. (result ≡ 0) ⊎ (result ≡ 7)) }
     ensures no_cell { (cell.old.slot.held ≡ None) ↔ (result ≡ 8) }
     ensures unchanged { cell.new.slot.held ≡ cell.old.slot.held }
@@ -50,7 +50,7 @@ pub extern "C" fn cellplan_cell_holder(
     machine: u32,
     job: &mut u32,
 ) -> u32
-    ensures holder { Holding cell.old (λ held. IsHolderOf held machine (answer_of result job.new)) }
+    ensures holder { Holding cell.old (λ held. IsJobOn held.plan.planned held.cell machine (answer_of result job.new)) }
     ensures statuses { Holding cell.old (λ held. (result ≡ 0) ⊎ (result ≡ 7)) }
     ensures no_cell { (cell.old.slot.held ≡ None) ↔ (result ≡ 8) }
     ensures unchanged { cell.new.slot.held ≡ cell.old.slot.held }
@@ -89,7 +89,7 @@ pub extern "C" fn cellplan_cell_clean_due(
     machine: u32,
     at: &mut u64,
 ) -> u32
-    ensures clean_due { Holding cell.old (λ held. IsCleanDueOf held machine (answer_of result at.new)) }
+    ensures clean_due { Holding cell.old (λ held. IsDueOfCleaning held.plan.planned held.cell machine (answer_of result at.new)) }
     ensures statuses { Holding cell.old (λ held. (result ≡ 0) ⊎ (result ≡ 7)) }
     ensures no_cell { (cell.old.slot.held ≡ None) ↔ (result ≡ 8) }
     ensures unchanged { cell.new.slot.held ≡ cell.old.slot.held }

@@ -4,7 +4,7 @@ ghost use Rattle.std.specs.Prelude.{◌≡◌, ◌≢◌, ◌<◌, ◌≤◌, �
 ghost use Rattle.cell_tables.specs.Reports.{said};
 ghost use Rattle.cell_control.specs.Promises.{NeverGoesWrong};
 ghost use Rattle.cellplan_c.specs.Told.{report_by};
-ghost use Rattle.cellplan_c.specs.Cells.{Holding, Reporting, IsReported, AreOrdersPut, IsKeptBehind};
+ghost use Rattle.cellplan_c.specs.Cells.{Holding, Reporting, IsReportTold, AreOrdersPut, IsKeptBehind};
 
 use crate::cell::Cell;
 use crate::inner::Inner;
@@ -35,7 +35,7 @@ pub extern "C" fn cellplan_cell_report(
     ensures full { IsSome cell.old.slot.held → IsSome cell.new.slot.held }
     ensures no_kind { (report_by kind job machine at ≡ None) ↔ (result ≡ 9) }
     ensures no_cell { IfSome (report_by kind job machine at) (λ report. (cell.old.slot.held ≡ None) ↔ (result ≡ 8)) }
-    ensures reported { Reporting cell.old cell.new kind job machine at (IsReported result late.new detail.new) }
+    ensures reported { Reporting cell.old cell.new kind job machine at (IsReportTold result late.new detail.new) }
     ensures unchanged { result ≢ 0 → cell.new.slot.held ≡ cell.old.slot.held }
     ensures never_wrong { result ≢ 9 → Holding cell.new NeverGoesWrong }
     ensures not_late { result ≢ 0 → late.new ≡ false }
@@ -94,7 +94,7 @@ pub extern "C" fn cellplan_cell_orders(
 
 /// Takes a report, and gives 0 or the number of the reason.
 fn report_to(inner: &mut Inner, report: Report, late: &mut bool, detail: &mut u64) -> u32
-    ensures reported { IsReported result late.new detail.new inner.old.controller (said report) inner.new.controller }
+    ensures reported { IsReportTold result late.new detail.new inner.old.controller (said report) inner.new.controller }
     ensures unchanged { result ≢ 0 → inner.new ≡ inner.old }
     ensures numbers { result ≢ 0 → 16 ≤ result }
     ensures not_late { result ≢ 0 → late.new ≡ late.old }
