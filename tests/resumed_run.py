@@ -77,7 +77,7 @@ class Run:
         return "unfinished %d" % len(asked) if asked else "done %d" % self.last
 
     def is_taken_up(self):
-        """The log of a `resume` without a report: before its mark it has just the events that the torn log has in full."""
+        """The log of a `resume` without a report: before its mark it has exactly the events that the torn log has in full."""
         words, first, asked = self.starts()
         status, got = self.ends(words, b"")
         before, _, _ = ("\n" + got.decode()).partition("\n\n")

@@ -29,7 +29,7 @@ distinct_from [] all = tt
 distinct_from (u ∷ us) all =
     (new_from u us (λ k lt. all (suc k) (omega arith) zero (omega arith)), distinct_from us (λ i lt k before. all (suc i) (omega arith) (suc k) (omega arith)))
 
--- arcs lead along a list to its end just where they lead along what is left of it
+-- arcs lead along a list to its end exactly where they lead along what is left of it
 abbrev pub AreLedTo : PlannedShop → Node → List Node → Node → ℕ → Node → Type 0
 AreLedTo p from along to i last =
     (ArcsLead p from along to → ArcsLead p last (drop i along) to) × (ArcsLead p last (drop i along) to → ArcsLead p from along to)

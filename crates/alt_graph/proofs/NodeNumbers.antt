@@ -74,7 +74,7 @@ module _ (p : PlannedShop) (firsts : List ℕ) (are : AreFirsts p firsts) where
   pub node_time : (rows : List NodeTime) (v : Node) → IsNode p v → time_at (by_job firsts rows) v ≡ get_or rows (number_of firsts v) no_time
   node_time rows v is = time_told firsts rows v (job_inside v is) (place_inside v is)
 
-  -- just the nodes of the shop have rows
+  -- exactly the nodes of the shop have rows
   pub timed_node : (rows : List NodeTime) (v : Node) → IsTimed (by_job firsts rows) v → IsNode p v
   timed_node rows v timed =
       let inside : v.job < jobs p = omega (arith, timed_job firsts rows v timed, are.size) in

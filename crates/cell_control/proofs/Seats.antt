@@ -9,7 +9,7 @@ use Rattle.shop_base.specs.Move.{source}
 use Rattle.shop_base.proofs.Visits.{visits_machine}
 use Rattle.shop_base.proofs.CellFacts.{source_on, source_outside}
 
--- a job has its source on a machine just where it is on it
+-- a job has its source on a machine exactly where it is on it
 pub on_source : (p : PlannedShop) (c : Cell) (j m : ℕ) → made c j ≤ steps p j → source p c j ≡ At m → IsOn p c j (made c j - 1) m
 on_source p c j m within is = go (cases_eq (made c j) 0)
   where

@@ -15,7 +15,7 @@ use Rattle.cell_drive.specs.Lent.{Streams}
 use Rattle.cell_drive.specs.AnswerText.{DrivenCell, IsAnswerText}
 use Rattle.cell_drive.specs.Driving.{cell_after, IsDrivenThrough, IsSoFar}
 
--- the lines of the text tell just what was accepted and ordered, which is a run of the plan that leads to the cell
+-- the lines of the text tell exactly what was accepted and ordered, which is a run of the plan that leads to the cell
 pub record IsLogOf (p : PlannedShop) (text : List ℕ) (end : DrivenCell) : Type 0 where
   pub tells : LinesTell p (lines_of text) end.entries
   pub run : IsRun p (events_of end.entries)
@@ -25,7 +25,7 @@ pub record IsLogOf (p : PlannedShop) (text : List ℕ) (end : DrivenCell) : Type
 abbrev pub AnAnswerTextIsALog : Type 0
 AnAnswerTextIsALog = (p : PlannedShop) (input text : List ℕ) (end : DrivenCell) → IsWellShaped p → IsAnswerText p input text end → IsLogOf p text end
 
--- the audit has found what driving came to: the same events, so many reports that just those are left, and the end of the run just where it was done
+-- the audit has found what driving came to: the same events, so many reports that exactly those are left, and the end of the run exactly where it was done
 pub record IsFoundAgain (p : PlannedShop) (entries : List Entry) (done : Bool) (last left : ℕ) (audit : Audit) : Type 0 where
   pub told : audit.entries.items ≡ entries
   pub reports : audit.reports + left ≡ stated_number p

@@ -71,7 +71,7 @@ pub record IsNeverFull (p : PlannedShop) (log : Noted) : Type 0 where
   pub reserved : log.reserved ≡ 2 * stated_number p
   pub fits : length log.entries ≤ log.reserved
 
--- how far the run is: it is done just where the cell's run has ended, and just where as many reports were accepted as the stated number; the rest of that number is left
+-- how far the run is: it is done exactly where the cell's run has ended, and exactly where as many reports were accepted as the stated number; the rest of that number is left
 pub record IsSoFar (p : PlannedShop) (entries : List Entry) (done : Bool) (last left : ℕ) : Type 0 where
   pub ended : IsTrue done ↔ HasEnded p (cell_after p entries)
   pub counted : IsTrue done ↔ (reports_in (events_of entries) ≡ stated_number p)

@@ -14,7 +14,7 @@ use Rattle.cell_drive.specs.ManyCells.{CellsAnswer, CellsClose, AreAllDone}
 use Rattle.cell_drive.specs.CellsTextLaw.{AreCellsAnswersTo, IsCellsAnswerText}
 use Rattle.cell_drive.specs.CellsAlone.{AreAsAlone}
 
--- the whole input was read, and its answer text was written and shown. It leads to cells each of which is as with a controller alone, and stayed as its plan promises; all are done just where the run of each has ended
+-- the whole input was read, and its answer text was written and shown. It leads to cells each of which is as with a controller alone, and stayed as its plan promises; all are done exactly where the run of each has ended
 pub record AreDrivenThrough (plans : List VerifiedPlan) (all_done : Bool) (before after : Streams) : Type 0 where
   pub input : List ℕ
   pub was_read : Consumes before.input.left after.input.left input

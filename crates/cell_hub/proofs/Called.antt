@@ -51,7 +51,7 @@ module _ {D : Type 0} (s reserved new : Slab (Placed D)) (next : ℕ) (now : Hub
       empty : get s slot ≡ None
       empty = sym (as_before slot) ∙ vacant
 
--- a report finds no cell just where the ticket has none
+-- a report finds no cell exactly where the ticket has none
 pub report_finds : (old new : HubState) (t : Ticket) (r : Report) (result : Result Ack HubFault) → IsCall old (Reported t r result) new → (result ≡ Err NoSuchCell) ↔ (cell_at old t ≡ None)
 report_finds old new t r (Ok ack) is = ((λ same. absurd (cc)), λ none. let e = is.cell in absurd (cc))
 report_finds old new t r (Err NoSuchCell) is = ((λ same. is.0), λ none. refl)
@@ -80,7 +80,7 @@ pub report_only : (old new : HubState) (t : Ticket) (r : Report) (result : Resul
 report_only old new t r (Ok ack) is = tt
 report_only old new t r (Err fault) is = only_refusal old t r fault is.0
 
--- a dismissal finds no cell just where the ticket has none
+-- a dismissal finds no cell exactly where the ticket has none
 pub dismissal_finds : (old new : HubState) (t : Ticket) (result : Result Control HubFault) → IsCall old (Dismissed t result) new → (result ≡ Err NoSuchCell) ↔ (cell_at old t ≡ None)
 dismissal_finds old new t (Ok content) is = ((λ same. absurd (cc)), λ none. let e = is.cell in absurd (cc))
 dismissal_finds old new t (Err fault) is = ((λ same. is.1), λ none. ap Err is.0)

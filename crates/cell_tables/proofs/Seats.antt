@@ -27,7 +27,7 @@ pub so_true : (b : Bool) → not b ≡ false → b ≡ true
 so_true true is = refl
 so_true false is = cc
 
--- a ready job with a machine before it can move and keep the plan just where the machine takes it as the next
+-- a ready job with a machine before it can move and keep the plan exactly where the machine takes it as the next
 pub moves-entering : (p : PlannedShop) (c : Cell) (j m : ℕ) (takes : Bool) → IsSound p c → ready c j ≡ true → Visits p j (made c j) m
     → (IsTrue takes ↔ (CanEnter p c j m × Stands p m (length (entries c m)) j (made c j))) → (IsTrue takes ↔ (CanMove p c j c.last × KeepsPlan p c j))
 moves-entering p c j m takes sound is_ready visits entering = (

@@ -49,7 +49,7 @@ pub(super) struct Outcome {
 }
 
 impl Outcome {
-    /// Whether the call has answered this, and just so many bytes of the answers are out.
+    /// Whether the call has answered this, and exactly so many bytes of the answers are out.
     pub(super) fn is(self, end: Result<End, DriveFault>, count: usize) -> bool {
         self.end == end && self.alike && self.count == count
     }

@@ -57,7 +57,7 @@ of_text Read answer line = absurd line.0
 of_text Write answer line = absurd line.0
 of_text InputTooLong answer line = absurd line.0
 
--- of the faults that two texts may have, none but want of memory is told by no line
+-- of the faults that two texts may have, none but out of memory is told by no line
 memory_alone : (instance : List ℕ) (name : Option (List ℕ)) (plan : List ℕ) (fault other : CommandFault)
     → IsRightOfBoth instance name plan fault → IsUntold fault other → other ≡ Memory
 memory_alone instance name plan (Instance why) other is untold = untold

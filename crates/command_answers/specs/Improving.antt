@@ -23,7 +23,7 @@ use Rattle.command_answers.specs.Steps.{IsOrMemory}
 abbrev pub RoundsOf : {B : Type 0} → ℕ → (B → PlannedShop → ℕ → Proposal → Type 0) → List B → Asked
 RoundsOf rounds may improvers = λ p. AfterRounds may improvers p rounds
 
--- the best plan that is met: only the orders may differ, no cycle, never worse, just what the questions make of the start, and accepted if the start is
+-- the best plan that is met: only the orders may differ, no cycle, never worse, exactly what the questions make of the start, and accepted if the start is
 pub record IsBest (made : Asked) (start best : PlannedShop) : Type 0 where
   pub same : IsReordered start best
   pub acyclic : HasNoCycle best

@@ -3,8 +3,8 @@
 /// Two jobs on two machines.
 pub(super) const TWO: &[u8] = b"two\n2 2\n0 3 1 2\n1 4 0 1\n";
 
-/// Plans for the two jobs, as `plan_document` writes them: job 0 first on each machine, with the budgets that it just
-/// keeps, and with one that it doesn't.
+/// Plans for the two jobs, as `plan_document` writes them: job 0 first on each machine, with its leavings as
+/// budgets, and with a budget that it doesn't keep.
 pub(super) const IN_TIME: &[u8] = b"release = [0, 0]\nbudget = [5, 10]\norder = [[0, 1], [0, 1]]\n";
 
 pub(super) const LATE: &[u8] = b"release = [0, 0]\nbudget = [5, 9]\norder = [[0, 1], [0, 1]]\n";

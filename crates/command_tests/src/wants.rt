@@ -197,7 +197,7 @@ fn has_cell<D: Dues>(hub: &Hub<D>, ticket: Ticket) -> bool {
     }
 }
 
-/// Whether just the first so many tickets have a cell.
+/// Whether exactly the first so many tickets have a cell.
 fn has_cells<D: Dues>(hub: &Hub<D>, count: usize) -> bool {
     for slot in 0..5 {
         let serial = slot as u64;

@@ -21,7 +21,7 @@ use Rattle.orlib_read.proofs.Sections.{section_content, section_content_again, s
 abbrev shop_of : Content → JobShop
 shop_of content = record { machines = content.machines; routes = content.routes }
 
--- the reading gives just what is related to the text, and fails with just what is wrong first
+-- the reading gives exactly what is related to the text, and fails with exactly what is wrong first
 pub record Agrees (reading : Result Content OrFault) (Is : List ℕ → JobShop → Type 0) (Wrong : OrFault → Type 0) : Type 0 where
   is : (content : Content) → reading ≡ Ok content → IsShop (shop_of content) → Is content.description (shop_of content)
   sound : (description : List ℕ) (shop : JobShop) → Is description shop → IsShop shop

@@ -29,7 +29,7 @@ pub(crate) enum Answer {
     Short,
     /// A number that is no job's.
     Stranger,
-    /// Want of memory.
+    /// Out of memory.
     Hungry,
 }
 

@@ -1,4 +1,4 @@
--- The lists of a table: without faults just where they are what a plan wants.
+-- The lists of a table: without faults exactly where they are what a plan wants.
 use Rattle.std.proofs.Common.{◌≡◌, ℕ, ◌+◌, nat_lt, pos, negsuc, List, [], ◌∷◌, ◌++◌, Option, Some, None, refl, inl, inr}
 use Rattle.std.proofs.lemmas.Bool.{cases_Bool, ltb-true, lt-ltb}
 use Rattle.std.proofs.lemmas.Option.{same_Some}

@@ -153,7 +153,7 @@ verified_no_later v sound j inside rs es end run punctual gone = go (controlled-
     go (inl out) = out.by
     go (inr (inside, soon)) = absurd (inside gone)
 
--- and since just that moment, where all are exact
+-- and since exactly that moment, where all reports are exact
 pub verified_just_in_time : (v : VerifiedPlan) → IsVerified v → (j : ℕ) → j < jobs v.planned → IsGoneJustAt v.planned j (kept_at v (leaving v.planned j))
 verified_just_in_time v sound j inside rs es end run exact gone =
     let path = (verified_greatest v sound j inside).reached in

@@ -38,7 +38,7 @@ pub record IsLongestTo (p : PlannedShop) (v : Node) (nodes : List Node) : Type 0
 abbrev pub IsNeverGoneAfter : PlannedShop → ℕ → ℕ → Type 0
 IsNeverGoneAfter p j n = (rs : List Report) (es : List Event) (end : Cell) → IsControlledRun p rs es end → ArePunctual p (start p) es → IsGone p end j → since end j ≤ n
 
--- in every controlled run whose reports are exact, job j, once it is gone, is gone since just moment n
+-- in every controlled run whose reports are exact, job j, once it is gone, is gone since exactly moment n
 abbrev pub IsGoneJustAt : PlannedShop → ℕ → ℕ → Type 0
 IsGoneJustAt p j n = (rs : List Report) (es : List Event) (end : Cell) → IsControlledRun p rs es end → AreExact p (start p) es → IsGone p end j → since end j ≡ n
 

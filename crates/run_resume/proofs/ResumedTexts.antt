@@ -89,7 +89,7 @@ leads_join p c mid end rs qs es fs (accepted same r js us gs last step leads) la
 leads_join p c mid end rs qs es fs (refused same r us gs last cannot leads) later =
     refused c r (us ++ qs) (es ++ fs) end cannot (leads_join p c mid end us qs es fs leads later)
 
--- what was taken up, and the answers behind it, tell just what was accepted and ordered
+-- what was taken up, and the answers behind it, tell exactly what was accepted and ordered
 record IsOn (p : PlannedShop) (text : List ℕ) (end : DrivenCell) : Type 0 where
   log : IsLogOf p text end
   run : IsRunOf p end.entries

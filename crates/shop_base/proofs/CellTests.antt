@@ -254,7 +254,7 @@ going_decides p c (Cleaning m) = Decides-like (is_some (cleaning c m)) goes_on w
     went_on : GoesOn p c (Cleaning m) (due_of p c (Cleaning m)) → (from : ℕ) × (cleaning c m ≡ Some from)
     went_on (from, works) = (from, works.is_cleaned)
 
--- an activity that goes on is due at just that moment
+-- an activity that goes on is due at exactly that moment
 pub due-is : (p : PlannedShop) (c : Cell) (a : Activity) (due : ℕ) → GoesOn p c a due → due ≡ due_of p c a
 due-is p c (Arrival j) due awaited = awaited.is_due
 due-is p c (Operation j m) due (k, works) = let same : k ≡ made c j - 1 = omega (arith, works.on.entered) in works.is_due ∙ ap (λ (l : ℕ). since c j + nominal p j l) same

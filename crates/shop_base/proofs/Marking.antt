@@ -11,7 +11,7 @@ use Rattle.shop_base.specs.Plan.{PlannedShop, job_at}
 use Rattle.shop_base.specs.ShapeFault.{IsGoodPlace}
 use Rattle.shop_base.specs.Marks.{AreMarks, AreVisited, AreVisits, IsVisitedBefore}
 
--- a mark is right: it is set just where the fact holds
+-- a mark is right: it is set exactly where the fact holds
 abbrev pub IsRight : Bool → Type 0 → Type 0
 IsRight mark P = MatchBool mark P (P → ⊥)
 

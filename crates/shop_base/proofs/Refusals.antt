@@ -1,4 +1,4 @@
--- What has a fault isn't sound: so what is refused is just what isn't.
+-- What has a fault isn't sound: so what is refused is exactly what isn't.
 use Rattle.std.proofs.Common.{◌≡◌, ◌↔◌, ℕ, List, true, false, arith}
 use Rattle.shop_base.specs.declared.shop.Step.{Step}
 use Rattle.shop_base.specs.declared.shop_fault.ShopFault.{ShopFault}
@@ -53,7 +53,7 @@ shape_fault_refutes p fault is shaped = go fault is
         let (a, stands) = (order_of machine reached.reached).complete job k visits in
         unlisted (a, stands.within, stands.job)
 
--- where something isn't so, a refusal says just that
+-- where something isn't so, a refusal says exactly that
 pub refused_just : {S : Type 0} → (S → ⊥) → false ≡ true ↔ S
 refused_just none = ((λ bad. absurd (differ bad)), (λ is. absurd (none is)))
   where

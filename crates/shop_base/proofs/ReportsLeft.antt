@@ -1,4 +1,4 @@
--- The reports still to come: a report lowers them by one, a move leaves them, at the start they are the stated number, and at rest they are none just where the run has ended.
+-- The reports still to come: a report lowers them by one, a move leaves them, at the start they are the stated number, and at rest they are none exactly where the run has ended.
 use Rattle.std.proofs.Common.{◌≡◌, ℕ, ◌+◌, ◌-◌, ◌<◌, ◌≤◌, inl, inr, Bool, true, false, not, cond, List, [], ◌∷◌, length, length-append, Option, Some, None, is_some, nat_lt, count_by, slice_index_or, refl, sym, ap, ap₂, ◌∙◌, arith, lt-ltb, le-ltb}
 use Rattle.std.proofs.Math.Path.{fun_ext}
 use Rattle.std.proofs.lemmas.Bool.{cases_lt, cases_eq, cases_Bool}

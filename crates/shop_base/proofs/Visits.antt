@@ -77,7 +77,7 @@ stop_at p j k m visits = rw (drop-cons (route p j) k no_step visits.within) (ap 
 pub stop_past : (p : PlannedShop) (j k : ℕ) → steps p j ≤ k → first_stop (drop k (route p j)) ≡ Out
 stop_past p j k past = ap first_stop (drop_of_length-le (route p j) past)
 
--- a job can leave just where it has entered all its steps
+-- a job can leave exactly where it has entered all its steps
 pub leaves_past : (p : PlannedShop) (c : Cell) (j : ℕ) → CanLeave p c j → steps p j ≤ made c j
 leaves_past p c j leaves = omega (arith, ap length leaves, length-drop (made c j) (route p j))
 

@@ -8,7 +8,7 @@ use Rattle.shop_base.specs.Controlled.{IsControlledRun}
 use Rattle.shop_base.specs.Ends.{HasEnded, stated_number, reports_in, moves_in}
 use Rattle.shop_base.specs.ReportsLeft.{reports_left}
 
--- in every controlled run no more reports are accepted than the stated number, and it has ended just where as many were
+-- in every controlled run no more reports are accepted than the stated number, and it has ended exactly where as many were
 abbrev pub EndsOnTheStatedNumber : Type 0
 EndsOnTheStatedNumber =
     (p : PlannedShop) (rs : List Report) (es : List Event) (end : Cell) → IsWellShaped p → IsControlledRun p rs es end

@@ -26,7 +26,7 @@ NoExactMoveIsEarlier =
     → (nodes : List Node) (n : ℕ) → Path p nodes (node o.job (made (ends_in p es) o.job)) n
     → n ≤ o.at
 
--- just in time: where a plan has a schedule, and all reports of a controlled run are exact, a job that is gone is gone since just the moment of its leaving, if a path to its leaving is that long
+-- just in time: where a plan has a schedule, and all reports of a controlled run are exact, a job that is gone is gone since exactly the moment of its leaving, if a path to its leaving is that long
 abbrev pub JustInTime : Type 0
 JustInTime =
     (p : PlannedShop) (rank kept : Node → ℕ) (rs : List Report) (es : List Event) (end : Cell)

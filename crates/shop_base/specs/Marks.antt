@@ -5,7 +5,7 @@ use Rattle.shop_base.specs.declared.limits.TheConstants.{MAX_MACHINES}
 use Rattle.shop_base.specs.Shop.{route_at, step_at}
 use Rattle.shop_base.specs.TimeLimits.{AreAllWithin, IsFirstOver}
 
--- one mark per job, set for just those of which the fact holds
+-- one mark per job, set for exactly those of which the fact holds
 abbrev pub AreMarks : List Bool → (ℕ → Type 0) → Type 0
 AreMarks marks P = (j : ℕ) → j < length marks → MatchBool (slice_index_or marks j false) (P j) (P j → ⊥)
 

@@ -76,7 +76,7 @@ module _ (p : PlannedShop) (c : Cell) where
   abbrev pub order_for : ℕ → ℕ → MoveOrder
   order_for j t = record { job = j; source = source p c j; target = target p c j; at = t }
 
-  -- the order is a possible move: it names just that job's source and target
+  -- the order is a possible move: it names that job's source and target
   pub record CanObey (o : MoveOrder) : Type 0 where
     pub can : CanMove p c o.job o.at
     pub is_move : o ≡ order_for o.job o.at

@@ -11,7 +11,7 @@ module _ (p : PlannedShop) (c : Cell) where
   abbrev pub IsPunctual : Report → Type 0
   IsPunctual r = (a : Activity) (due : ℕ) → GoesOn p c a due → r.at ≤ due
 
-  -- it is punctual, and its own activity goes on and is due at just its moment
+  -- it is punctual, and its own activity goes on and is due at exactly its moment
   pub record IsExact (r : Report) : Type 0 where
     pub punctual : IsPunctual r
     pub due : GoesOn p c r.ended r.at

@@ -14,7 +14,7 @@ pub record IsSound (p : PlannedShop) (c : Cell) : Type 0 where
   -- a job makes a move for each step, and its leaving
   pub few_moves : (j : ℕ) → j < jobs p → made c j ≤ steps p j + 1
   pub gone_not_ready : (j : ℕ) → IsGone p c j → ready c j ≡ false
-  -- a machine was entered in its order, by just those jobs that have made their step on it
+  -- a machine was entered in its order, by exactly those jobs that have made their step on it
   pub in_order : (m : ℕ) → IsPrefix (entries c m) (order p m)
   pub entered_made : (m a j k : ℕ) → Stands p m a j k → a < length (entries c m) → k < made c j
   pub made_entered : (m a j k : ℕ) → Stands p m a j k → k < made c j → a < length (entries c m)
