@@ -1,11 +1,11 @@
 //! What the search for a better plan makes of the answers of its improvers. What the annealing finds stands in
 //! `tests/command-lines`.
 
-use crate::plans::{CROSSED, IN_SERIES, TWO, planned};
+use crate::plans::{CROSSED, IN_SERIES, TWO, is_text, planned};
 use crate::scripted::{ASKED, Answer, Scripted};
 use crate::watched::Watched;
-use plan_improve::{ImproveFault, Improver, improve};
-use plan_text::plan_document;
+use plan_improve::{ImproveFault, Improver, NotImproved, improve};
+use plan_text::PlanFault;
 use plan_verifier::Verdict;
 use std::alloc::{AllocError, Global};
 use std::cell::Cell;
@@ -31,26 +31,39 @@ fn improvers(
     Ok(improvers)
 }
 
-/// The text of the plan that comes out, and whether it is accepted; or of the plan that comes back, and the fault.
-fn improved(
+/// Whether this plan comes out, and whether it is accepted; or whether it comes back, and the fault.
+type End = (bool, Result<bool, ImproveFault>);
+
+fn is_end(
     alloc: Global,
-    given: &[u8],
-    improvers: &[Box<dyn Improver>],
-    rounds: u32,
-    watch: &mut Watched,
-) -> Result<(String, Result<bool, ImproveFault>), Fail> {
-    match improve(alloc, planned(alloc, TWO, given)?, improvers, rounds, watch) {
+    answer: &Result<Verdict, NotImproved>,
+    plan: &[u8],
+) -> Result<End, PlanFault> {
+    match answer {
         Ok(Verdict::Accepted(verified)) => {
-            Ok((plan_document(alloc, verified.shaped().plan())?, Ok(true)))
+            Ok((is_text(alloc, verified.shaped().plan(), plan)?, Ok(true)))
         }
-        Ok(Verdict::Refused(shaped, _)) => Ok((plan_document(alloc, shaped.plan())?, Ok(false))),
+        Ok(Verdict::Refused(shaped, _)) => Ok((is_text(alloc, shaped.plan(), plan)?, Ok(false))),
         Err(refused) => {
             Ok((
-                plan_document(alloc, refused.start.plan())?,
+                is_text(alloc, refused.start.plan(), plan)?,
                 Err(refused.fault),
             ))
         }
     }
+}
+
+/// How the search from the plan that is given ends, where the other one is to come out or back.
+fn improved(
+    alloc: Global,
+    plans: [&[u8]; 2],
+    improvers: &[Box<dyn Improver>],
+    rounds: u32,
+    watch: &mut Watched,
+) -> Result<End, Fail> {
+    let start = planned(alloc, TWO, plans[0])?;
+    let answer = improve(alloc, start, improvers, rounds, watch);
+    Ok(is_end(alloc, &answer, plans[1])?)
 }
 
 /// Job 1 has to be out first.
@@ -204,22 +217,45 @@ const SEARCHES: &[Search] = &[
     ),
 ];
 
+/// How the search ends, how many rounds are told, and how often improvers are asked.
+fn searched(
+    alloc: Global,
+    plans: [&[u8]; 2],
+    answers: [Answer; 3],
+    rounds: u32,
+) -> Result<(End, u32, u32), Fail> {
+    let questions = Rc::new(alloc, Cell::new(0))?;
+    let asked = improvers(alloc, &questions, answers)?;
+    let mut watch = Watched { rounds: 0 };
+    let end = improved(alloc, plans, &asked, rounds, &mut watch)?;
+    Ok((end, watch.rounds, questions.get()))
+}
+
 #[test]
 fn answers_are_kept_where_they_are_better(rt: HostRuntime) -> Result<(), Fail> {
     for &(given, answers, rounds, plan, end, told, count) in SEARCHES {
-        let questions = Rc::new(rt.alloc(), Cell::new(0))?;
-        let asked = improvers(rt.alloc(), &questions, answers)?;
-        let mut watch = Watched { rounds: 0 };
-        let (document, answer) = improved(rt.alloc(), given, &asked, rounds, &mut watch)?;
-        assert!(rt; document.as_bytes() == plan, "{document}");
-        assert_eq!(rt; answer, end);
-        assert_eq!(rt; watch.rounds, told);
-        assert_eq!(rt; questions.get(), count);
+        let found = searched(rt.alloc(), [given, plan], answers, rounds)?;
+        assert!(rt; found == ((true, end), told, count));
     }
-    let (document, _) = improved(rt.alloc(), CLEANED, &[], 2, &mut Watched { rounds: 0 })?;
-    assert!(rt; document.as_bytes() == CLEANED, "{document}");
-    let memory = ImproveFault::Memory.to_string(rt.alloc())?;
-    let rounds = ImproveFault::TooManyRounds.to_string(rt.alloc())?;
-    assert!(rt; memory.as_str() == "Memory" && rounds.as_str() == "TooManyRounds");
+    Ok(())
+}
+
+#[test]
+fn without_improvers_a_plan_stays(rt: HostRuntime) -> Result<(), Fail> {
+    let mut watch = Watched { rounds: 0 };
+    let end = improved(rt.alloc(), [CLEANED, CLEANED], &[], 2, &mut watch)?;
+    assert!(rt; end == (true, Ok(true)));
+    Ok(())
+}
+
+/// Whether this is the text of the fault.
+fn says(alloc: Global, fault: ImproveFault, text: &str) -> Result<bool, AllocError> {
+    Ok(fault.to_string(alloc)?.as_str() == text)
+}
+
+#[test]
+fn faults_have_a_text(rt: HostRuntime) -> Result<(), Fail> {
+    assert!(rt; says(rt.alloc(), ImproveFault::Memory, "Memory")?);
+    assert!(rt; says(rt.alloc(), ImproveFault::TooManyRounds, "TooManyRounds")?);
     Ok(())
 }

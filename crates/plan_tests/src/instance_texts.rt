@@ -2,8 +2,8 @@
 //! in `tests/command-lines`.
 
 use crate::plans::TWO;
-use orlib_read::{OrFault, read_from_collection, read_instance};
-use shop_base::Step;
+use orlib_read::{Named, OrFault, read_from_collection, read_instance};
+use shop_base::{Shop, Step};
 use std::test::Fail;
 
 /// A text, its description, and the work of its shop.
@@ -22,12 +22,16 @@ const DESCRIBED: &[Described] = &[
     ),
 ];
 
+/// Whether the instance has this description and work.
+fn is_described(named: &Named, description: &[u8], work: u64) -> bool {
+    named.description.as_slice() == description && named.shop.work() == work
+}
+
 #[test]
 fn descriptions_are_read_as_they_stand(rt: HostRuntime) -> Result<(), Fail> {
     for &(text, description, work) in DESCRIBED {
         let named = read_instance(rt.alloc(), text)?;
-        assert_eq!(rt; named.description.as_slice(), description);
-        assert_eq!(rt; named.shop.work(), work);
+        assert!(rt; is_described(&named, description, work));
     }
     Ok(())
 }
@@ -35,10 +39,13 @@ fn descriptions_are_read_as_they_stand(rt: HostRuntime) -> Result<(), Fail> {
 const COLLECTION: &[u8] =
     b" intro text\n\n +++\n\n instance two\n\n +++\n small\n 2 2\n 0 3 1 2\n 1 4 0 1\n +++\n\n instance one\n 1 1\n 0 7\n";
 
+/// Whether job 1 goes this way, and is the last one.
+fn goes(shop: &Shop, route: &[Step]) -> bool {
+    shop.route(1) == Some(route) && shop.route(2).is_none()
+}
+
 #[test]
 fn instances_of_a_collection_are_found_by_name(rt: HostRuntime) -> Result<(), Fail> {
-    let small = read_from_collection(rt.alloc(), COLLECTION, b"two")?;
-    assert_eq!(rt; small.description.as_slice(), b" small".as_slice());
     let last = [
         Step {
             machine: 1,
@@ -49,10 +56,15 @@ fn instances_of_a_collection_are_found_by_name(rt: HostRuntime) -> Result<(), Fa
             nominal: 1,
         },
     ];
-    assert_eq!(rt; small.shop.route(1), Some(last.as_slice()));
-    assert!(rt; small.shop.route(2).is_none());
+    let small = read_from_collection(rt.alloc(), COLLECTION, b"two")?;
+    assert!(rt; is_described(&small, b" small", 10) && goes(&small.shop, &last));
     let one = read_from_collection(rt.alloc(), COLLECTION, b"one")?;
-    assert!(rt; one.description.is_empty() && one.shop.work() == 7);
-    assert_eq!(rt; OrFault::Memory.to_string(rt.alloc())?.as_str(), "Memory");
+    assert!(rt; is_described(&one, b"", 7));
+    Ok(())
+}
+
+#[test]
+fn want_of_memory_has_a_text(rt: HostRuntime) -> Result<(), Fail> {
+    assert!(rt; OrFault::Memory.to_string(rt.alloc())?.as_str() == "Memory");
     Ok(())
 }

@@ -1,8 +1,10 @@
 //! Plans that are read and written again. Texts that are no plans, the spellings of TOML and the
 //! greatest plan stand in `tests/command-lines`; usual plans are read and written in `wants.rt` of `command_tests`.
 
-use crate::plans::IN_SERIES;
+use crate::plans::{IN_SERIES, is_text};
 use plan_text::{PlanFault, plan_document, read_plan};
+use shop_base::Plan;
+use std::alloc::{AllocError, Global};
 use std::test::Fail;
 
 /// Texts as they are written. The counts aren't looked at here.
@@ -17,22 +19,34 @@ const WRITTEN: &[&[u8]] = &[
 const GREATER: &[u8] =
     b"version = 2\nrelease = [4294967296]\nbudget = [4294967297]\norder = [[4294967295]]\nclean = [4294967298]\n";
 
+/// Whether the plan of the text is written as that text again.
+fn is_written_again(alloc: Global, text: &[u8]) -> Result<bool, PlanFault> {
+    let plan = read_plan(alloc, text)?;
+    is_text(alloc, &plan, text)
+}
+
+/// Whether the plan of the text is told so.
+fn is_told(alloc: Global, text: &[u8], told: &str) -> Result<bool, Fail> {
+    let plan = read_plan(alloc, text)?;
+    Ok(format!(in alloc; "{plan:?}")?.as_str() == told)
+}
+
 #[test]
 fn plans_are_read_and_written_again(rt: HostRuntime) -> Result<(), Fail> {
     for &text in WRITTEN {
-        let plan = read_plan(rt.alloc(), text)?;
-        let written = plan_document(rt.alloc(), &plan)?;
-        assert!(rt; written.as_bytes() == text, "{written}");
+        assert!(rt; is_written_again(rt.alloc(), text)?);
     }
-    let plan = read_plan(rt.alloc(), GREATER)?;
-    let told = format!(in rt.alloc(); "{plan:?}")?;
-    assert_eq!(rt;
-        told.as_str(),
-        "Plan { release: [4294967296], budget: [4294967297], order: [[4294967295]], clean: Some([4294967298]) }"
-    );
-    let refused = read_plan(rt.alloc(), b"x = 1\n");
-    assert_eq!(rt; refused.err(), Some(PlanFault::UnknownKey));
+    let told =
+        "Plan { release: [4294967296], budget: [4294967297], order: [[4294967295]], clean: Some([4294967298]) }";
+    assert!(rt; is_told(rt.alloc(), GREATER, told)?);
+    let refused = read_plan(rt.alloc(), b"x = 1\n").err();
+    assert!(rt; refused == Some(PlanFault::UnknownKey));
     Ok(())
+}
+
+/// Whether the plan can't be read back.
+fn is_not_read_back(alloc: Global, plan: &Plan) -> bool {
+    plan_document(alloc, plan).err() == Some(PlanFault::NotReadBack)
 }
 
 #[test]
@@ -40,13 +54,19 @@ fn moments_past_the_greatest_integer_are_not_read_back(rt: HostRuntime) -> Resul
     let mut plan = read_plan(rt.alloc(), IN_SERIES)?;
     for last in [0, 9223372036854775808] {
         plan.budget = [9223372036854775808, last].to_vec(rt.alloc())?;
-        let answer = plan_document(rt.alloc(), &plan);
-        assert_eq!(rt; answer.err(), Some(PlanFault::NotReadBack));
+        assert!(rt; is_not_read_back(rt.alloc(), &plan));
     }
-    assert_eq!(rt;
-        PlanFault::NotReadBack.to_string(rt.alloc())?.as_str(),
-        "NotReadBack"
-    );
-    assert_eq!(rt; PlanFault::Memory.to_string(rt.alloc())?.as_str(), "Memory");
+    Ok(())
+}
+
+/// Whether this is the text of the fault.
+fn says(alloc: Global, fault: PlanFault, text: &str) -> Result<bool, AllocError> {
+    Ok(fault.to_string(alloc)?.as_str() == text)
+}
+
+#[test]
+fn faults_have_a_text(rt: HostRuntime) -> Result<(), Fail> {
+    assert!(rt; says(rt.alloc(), PlanFault::NotReadBack, "NotReadBack")?);
+    assert!(rt; says(rt.alloc(), PlanFault::Memory, "Memory")?);
     Ok(())
 }

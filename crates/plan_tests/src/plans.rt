@@ -1,8 +1,8 @@
 //! Instances and plans that several tests take, as texts.
 
 use orlib_read::read_instance;
-use plan_text::read_plan;
-use shop_base::{Shaped, Shop, shape};
+use plan_text::{PlanFault, plan_document, read_plan};
+use shop_base::{Plan, Shaped, Shop, shape};
 use std::alloc::Global;
 use std::test::Fail;
 
@@ -23,6 +23,11 @@ pub(crate) const CLEANED: &[u8] =
 
 /// Job 0 first on machine 0, and job 1 on machine 1.
 pub(crate) const CROSSED: &[u8] = b"release = [0, 0]\nbudget = [5, 10]\norder = [[0, 1], [1, 0]]\n";
+
+/// Whether this is the text of the plan.
+pub(crate) fn is_text(alloc: Global, plan: &Plan, text: &[u8]) -> Result<bool, PlanFault> {
+    Ok(plan_document(alloc, plan)?.as_bytes() == text)
+}
 
 pub(crate) fn two_jobs(alloc: Global) -> Result<Shop, Fail> {
     Ok(read_instance(alloc, TWO)?.shop)

@@ -1,14 +1,14 @@
 //! What the search for a plan answers, and what its planners propose. What they find stands in `tests/runs`.
 
-use crate::plans::{FT06, TWO, two_jobs};
+use crate::plans::{FT06, TWO, is_text, two_jobs};
 use crate::scripted::{ASKED, Answer, Scripted};
 use orlib_read::read_instance;
-use plan_seek::{GreedyProposer, NotFound, Proposer, ShiftProposer, seek};
-use plan_text::{plan_document, read_plan};
-use shop_base::Plan;
+use plan_seek::{GreedyProposer, NotFound, Proposer, SeekFault, ShiftProposer, seek};
+use plan_text::read_plan;
+use plan_verifier::Verified;
+use shop_base::{Plan, Shop};
 use std::alloc::{AllocError, Global};
 use std::cell::Cell;
-use std::process::Abort;
 use std::rc::Rc;
 use std::test::Fail;
 
@@ -32,8 +32,8 @@ fn planners(
     Ok(proposers)
 }
 
-/// The text of the fault, where shop and numbers come back.
-fn refusal(alloc: Global, refused: NotFound, given: &[u8]) -> Result<String, Fail> {
+/// Whether this is the text of the fault, and shop and numbers come back.
+fn is_refused(alloc: Global, refused: NotFound, given: &[u8], wanted: &str) -> Result<bool, Fail> {
     let NotFound {
         fault,
         shop,
@@ -47,33 +47,43 @@ fn refusal(alloc: Global, refused: NotFound, given: &[u8]) -> Result<String, Fai
         order: Vec::new(alloc),
         clean,
     };
-    let document = plan_document(alloc, &plan)?;
-    if shop.work() == 10 && document.as_bytes() == given {
-        Ok(fault.to_string(alloc)?)
-    } else {
-        Ok(document)
-    }
+    Ok(shop.work() == 10 && is_text(alloc, &plan, given)? && says(alloc, fault, wanted)?)
 }
 
-/// What the search for the two jobs with these numbers answers: the plan, or why there is none.
-fn found(
+fn says(alloc: Global, fault: SeekFault, text: &str) -> Result<bool, AllocError> {
+    Ok(fault.to_string(alloc)?.as_str() == text)
+}
+
+/// Looks for a plan with these numbers.
+fn sought(
+    alloc: Global,
+    shop: Shop,
+    numbers: Plan,
+    proposers: &[Box<dyn Proposer>],
+    rounds: u32,
+) -> Result<Verified, NotFound> {
+    let Plan {
+        release,
+        budget,
+        order: _,
+        clean,
+    } = numbers;
+    seek(alloc, shop, release, budget, clean, proposers, rounds)
+}
+
+/// Whether the search for the two jobs with these numbers answers this: the plan, or why there is none.
+fn is_found(
     alloc: Global,
     given: &[u8],
     proposers: &[Box<dyn Proposer>],
     rounds: u32,
-) -> Result<String, Fail> {
+    wanted: &str,
+) -> Result<bool, Fail> {
+    let shop = two_jobs(alloc)?;
     let numbers = read_plan(alloc, given)?;
-    match seek(
-        alloc,
-        two_jobs(alloc)?,
-        numbers.release,
-        numbers.budget,
-        numbers.clean,
-        proposers,
-        rounds,
-    ) {
-        Ok(verified) => Ok(plan_document(alloc, verified.shaped().plan())?),
-        Err(refused) => refusal(alloc, refused, given),
+    match sought(alloc, shop, numbers, proposers, rounds) {
+        Ok(verified) => Ok(is_text(alloc, verified.shaped().plan(), wanted.as_bytes())?),
+        Err(refused) => is_refused(alloc, refused, given, wanted),
     }
 }
 
@@ -149,45 +159,54 @@ const SEARCHES: &[Search] = &[
     (AMPLE, [HUNGRY, SILENT, SILENT], 0, 1001, "TooManyRounds", 0),
 ];
 
+/// Whether the search answers this, and how often planners are asked.
+fn searched(
+    alloc: Global,
+    given: &[u8],
+    answers: [Answer; 3],
+    first: u32,
+    rounds: u32,
+    wanted: &str,
+) -> Result<(bool, u32), Fail> {
+    let questions = Rc::new(alloc, Cell::new(0))?;
+    let proposers = planners(alloc, &questions, answers, first)?;
+    let is_wanted = is_found(alloc, given, &proposers, rounds, wanted)?;
+    Ok((is_wanted, questions.get()))
+}
+
 #[test]
 fn a_search_answers_by_numbers_planners_and_rounds(rt: HostRuntime) -> Result<(), Fail> {
     for &(given, answers, first, rounds, wanted, count) in SEARCHES {
-        let questions = Rc::new(rt.alloc(), Cell::new(0))?;
-        let proposers = planners(rt.alloc(), &questions, answers, first)?;
-        let answer = found(rt.alloc(), given, &proposers, rounds)?;
-        assert_eq!(rt; answer.as_str(), wanted);
-        assert_eq!(rt; questions.get(), count);
+        assert!(rt;
+            searched(rt.alloc(), given, answers, first, rounds, wanted)? == (true, count),
+            "{wanted}"
+        );
     }
-    let answer = found(rt.alloc(), AMPLE, &[], 0)?;
-    assert_eq!(rt; answer.as_str(), SERIAL);
+    assert!(rt; is_found(rt.alloc(), AMPLE, &[], 0, SERIAL)?);
     Ok(())
 }
 
-/// Asserts what a planner proposes in a round for an instance.
+/// Whether a planner proposes this in a round for an instance.
 fn proposes(
-    rt: &(impl Abort + AllocGlobal),
+    alloc: Global,
     planner: &impl Proposer,
     instance: &[u8],
     round: u32,
     wanted: &str,
-) -> Result<(), Fail> {
-    let shop = read_instance(rt.alloc(), instance)?.shop;
-    let answer = planner.propose(rt.alloc(), &shop, round)?;
-    assert_eq!(rt; format!(in rt.alloc(); "{answer:?}")?.as_str(), wanted);
-    Ok(())
+) -> Result<bool, Fail> {
+    let named = read_instance(alloc, instance)?;
+    let answer = planner.propose(alloc, &named.shop, round)?;
+    Ok(format!(in alloc; "{answer:?}")?.as_str() == wanted)
 }
 
 #[test]
 fn planners_propose_orders(rt: HostRuntime) -> Result<(), Fail> {
-    proposes(&rt, &ShiftProposer::new(), TWO, 1, "Some([[1, 0], [1, 0]])")?;
-    let greedy = GreedyProposer::new();
-    proposes(&rt, &greedy, TWO, 0, "Some([[0, 1], [0, 1]])")?;
+    let (shift, greedy) = (ShiftProposer::new(), GreedyProposer::new());
+    assert!(rt; proposes(rt.alloc(), &shift, TWO, 1, "Some([[1, 0], [1, 0]])")?);
+    assert!(rt; proposes(rt.alloc(), &greedy, TWO, 0, "Some([[0, 1], [0, 1]])")?);
     // no command asks in so late a round
-    proposes(
-        &rt,
-        &greedy,
-        FT06,
-        1000,
-        "Some([[3, 5, 4, 0, 2, 1], [5, 3, 4, 1, 0, 2], [4, 2, 3, 5, 0, 1], [5, 2, 3, 4, 0, 1], [4, 5, 3, 1, 2, 0], [5, 4, 2, 3, 1, 0]])",
-    )
+    let wanted =
+        "Some([[3, 5, 4, 0, 2, 1], [5, 3, 4, 1, 0, 2], [4, 2, 3, 5, 0, 1], [5, 2, 3, 4, 0, 1], [4, 5, 3, 1, 2, 0], [5, 4, 2, 3, 1, 0]])";
+    assert!(rt; proposes(rt.alloc(), &greedy, FT06, 1000, wanted)?);
+    Ok(())
 }

@@ -4,6 +4,7 @@
 use crate::plans::{CLEANED, IN_SERIES, TWO, planned};
 use alt_graph::{Solved, solve};
 use shop_base::{JobNo, Moment, Node};
+use std::alloc::{AllocError, Global};
 use std::test::Fail;
 
 /// A plan for the two jobs, a job and a place, and the earliest moment of that node, if it is one.
@@ -23,19 +24,35 @@ const TIMES: &[Time] = &[
     (CLEANED, 1, 2, Some(12)),
 ];
 
+/// The earliest moment of the node, and whether it has a rank and a chain. Where there is a cycle, no node has any.
+fn told(
+    alloc: Global,
+    solved: &Solved,
+    node: Node,
+) -> Result<(Option<Moment>, bool, bool), AllocError> {
+    match solved {
+        Solved::Ordered(times) => {
+            let chain = times.chain(alloc, node)?.is_some();
+            Ok((times.earliest(node), times.rank(node).is_some(), chain))
+        }
+        Solved::Cyclic(_) => Ok((None, false, false)),
+    }
+}
+
+fn found(alloc: Global, plan: &[u8], node: Node) -> Result<(Option<Moment>, bool, bool), Fail> {
+    let shaped = planned(alloc, TWO, plan)?;
+    let solved = solve(alloc, &shaped)?;
+    Ok(told(alloc, &solved, node)?)
+}
+
 #[test]
 fn just_nodes_have_times_ranks_and_chains(rt: HostRuntime) -> Result<(), Fail> {
     for &(plan, job, place, moment) in TIMES {
-        let node = Node { job, place };
-        match solve(rt.alloc(), &planned(rt.alloc(), TWO, plan)?)? {
-            Solved::Ordered(times) => {
-                assert_eq!(rt; times.earliest(node), moment, "{node}");
-                assert_eq!(rt; times.rank(node).is_some(), moment.is_some(), "{node}");
-                let chain = times.chain(rt.alloc(), node)?;
-                assert_eq!(rt; chain.is_some(), moment.is_some(), "{node}");
-            }
-            Solved::Cyclic(_) => panic!(rt; "a cycle"),
-        }
+        let wanted = (moment, moment.is_some(), moment.is_some());
+        assert!(rt;
+            found(rt.alloc(), plan, Node { job, place })? == wanted,
+            "{job}.{place}"
+        );
     }
     Ok(())
 }
