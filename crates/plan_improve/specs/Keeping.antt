@@ -31,6 +31,10 @@ pub record IsNext (p : PlannedShop) (c : Cost) (answer : Proposal) (kept : Best)
   pub is : IsCost kept.shaped kept.cost
   pub most : IsAtMost kept.cost c
 
+-- the best plan that an answer which may be given makes of the best one so far
+abbrev pub IsNextOf : (Proposal → Type 0) → Best → Best → Type 0
+IsNextOf may best kept = (answer : Proposal) × may answer × IsNext best.shaped best.cost answer kept
+
 -- the best plan that questions make of one with its cost
 pub record IsLast (made : Asked) (p : PlannedShop) (c : Cost) (kept : Best) : Type 0 where
   pub run : made p kept.shaped

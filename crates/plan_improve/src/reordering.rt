@@ -3,7 +3,7 @@
 ghost use Rattle.std.specs.Prelude.{◌≡◌, IfOk};
 ghost use Rattle.shop_base.specs.Plan.{IsWellShaped};
 ghost use Rattle.shop_base.specs.Vectors.{lists_of};
-ghost use Rattle.plan_improve.specs.Reordered.{reordered};
+ghost use Rattle.plan_improve.specs.Reordered.{with_orders, reordered};
 ghost use Rattle.plan_improve.specs.Keeping.{IsReplaced};
 
 use shop_base::{JobNo, Plan, Shaped, Shop, shape};
@@ -55,8 +55,7 @@ fn shape_with(shop: Shop, plan: Plan, order: Vec<Vec<JobNo>>) -> Shaped
 
 /// The plan with these orders, and its old ones.
 fn exchange(plan: Plan, order: Vec<Vec<JobNo>>) -> (Plan, Vec<Vec<JobNo>>)
-    ensures new { let p = plan in
-        result.0 ≡ record { release = p.release; budget = p.budget; order = lists_of order.items; clean = p.clean } }
+    ensures new { result.0 ≡ with_orders plan (lists_of order.items) }
     ensures old { lists_of result.1.items ≡ plan.order }
 {
     let Plan {

@@ -1,11 +1,11 @@
 //! The improvers asked in turn, round by round.
 
 ghost use Rattle.std.specs.Prelude.{length, IfOk, IfErr};
-ghost use Rattle.plan_seek.specs.Orders.{Proposal, proposal_of};
+ghost use Rattle.plan_seek.specs.Orders.{proposal_of};
 ghost use Rattle.plan_improve.specs.Costs.{IsCost};
 ghost use Rattle.plan_improve.specs.Reordered.{IsReordered};
 ghost use Rattle.plan_improve.specs.Runs.{AfterSome, AfterRounds};
-ghost use Rattle.plan_improve.specs.Keeping.{IsNext, IsLast};
+ghost use Rattle.plan_improve.specs.Keeping.{IsNextOf, IsLast};
 
 use crate::best::Best;
 use crate::improver::Improver;
@@ -59,8 +59,7 @@ fn ask_one(
     round: u32,
 ) -> Result<Best, (AllocError, Shaped)>
     requires { IsCost best.shaped best.cost }
-    ensures asked { IfOk result (λ kept. (answer : Proposal)
-        × may improver.now best.shaped round answer × IsNext best.shaped best.cost answer kept) }
+    ensures asked { IfOk result (IsNextOf (may improver.now best.shaped round) best) }
     ensures handed_back { IfErr result (λ refused. IsReordered best.shaped refused.1) }
 {
     match ask(alloc, improver, &best.shaped, round) {
