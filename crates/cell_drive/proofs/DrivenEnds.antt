@@ -19,7 +19,7 @@ use Rattle.cell_drive.specs.Streams.{IsCutOff, IsStreamed}
 use Rattle.cell_drive.specs.DrivenLines.{LineAnswer, closing_line}
 use Rattle.cell_drive.specs.Driven.{DriveState, IsDriven, DriveAnswer, ControlCloses, drive_start}
 use Rattle.cell_drive.specs.AnswerText.{DrivenCell, CellAnswers, CellCloses, AreAnswersTo}
-use Rattle.cell_drive.specs.Driving.{cell_after, IsDrivenThrough, WereAnswersWritten, WasCutOff, IsBrokenOff, IsRunOf, IsSoFar, IsNeverFull, NeverWentWrong}
+use Rattle.cell_drive.specs.Driving.{cell_after, IsDrivenThrough, WereAnswersWritten, IsBrokenOff, IsRunOf, IsSoFar, IsNeverFull, NeverWentWrong}
 use Rattle.run_log.specs.Log.{Noted}
 use Rattle.cell_drive.proofs.Closing.{closing_line_is}
 use Rattle.cell_drive.proofs.DrivenRuns.{driven-never_full}

@@ -2,8 +2,13 @@
 -- of which number in a state, and to which state that leads.
 use Rattle.std.specs.Prelude.{◌≡◌, ℕ, ◌+◌, List, [], ◌∷◌, ◌++◌, length, Option, true, Result, Ok, Err, ◌⊎◌}
 use Rattle.std.specs.Io.KnownBytes.{Appends}
+use Rattle.run_log.specs.declared.sink.Sink.{Ghosts as SinkOf}
 use Rattle.run_log.specs.Sinks.{TookPart}
-use Rattle.cell_drive.specs.Lent.{Taker}
+use Rattle.cell_drive.specs.Lent.{Taker, WroteOneTo}
+
+-- in this state the line of this number was answered, which led to that state: all of a text that answers it was written to the device, or its first bytes up to a write that failed
+abbrev pub WasAnswered : {S W T E : Type 0} → (S → ℕ → Option (List ℕ) → List ℕ → S → Type 0) → S → ℕ → Option (List ℕ) → S → SinkOf W → Result T E → W → W → Type 0
+WasAnswered answers start number line end sink outcome before after = WroteOneTo sink outcome before after (λ text. answers start number line text end)
 
 -- the lines, numbered from a number on, are answered by this text
 abbrev pub AnswerAll : {S : Type 0} → (S → ℕ → Option (List ℕ) → List ℕ → S → Type 0) → S → ℕ → List (Option (List ℕ)) → List ℕ → S → Type 0

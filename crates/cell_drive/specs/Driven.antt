@@ -1,5 +1,5 @@
 -- A cell that is driven.
-use Rattle.std.specs.Prelude.{◌≡◌, ℕ, ◌*◌, List, [], Option}
+use Rattle.std.specs.Prelude.{◌≡◌, ℕ, ◌*◌, List, [], Option, Some}
 use Rattle.shop_base.specs.Report.{Report}
 use Rattle.shop_base.specs.Controlled.{IsControlledRun}
 use Rattle.shop_base.specs.Ends.{stated_number, reports_in}
@@ -37,6 +37,10 @@ pub record DriveAnswer (start : DriveState) (number : ℕ) (line : Option (List 
   pub answer : LineAnswer start.control.plan.planned start.control.cell number line text entries end.control.cell
   pub plan : end.control.plan ≡ start.control.plan
   pub log : Notes start.log end.log entries
+
+-- the texts that answer a line of this number that isn't too long, by a controller and its log before and after it
+abbrev pub AnswersBy : Control → Noted → ℕ → List ℕ → Control → Noted → List ℕ → Type 0
+AnswersBy control log number line control_then log_then text = DriveAnswer (driven_by control log) number (Some line) text (driven_by control_then log_then)
 
 -- the closing line
 abbrev pub ControlCloses : Control → List ℕ → Type 0

@@ -1,5 +1,5 @@
 -- Lines of input, as reports.
-use Rattle.std.specs.Prelude.{◌≡◌, ℕ, List, ◌∷◌, ◌++◌, codes}
+use Rattle.std.specs.Prelude.{◌≡◌, ℕ, List, ◌∷◌, ◌++◌, Option, MatchOption, codes}
 use Rattle.text_lines.specs.Numbers.{IsNumeral}
 use Rattle.cell_tables.specs.declared.report.Report.{Report}
 use Rattle.cell_tables.specs.declared.report.Report.TheVariants.{Arrive, Finish, Clean}
@@ -16,6 +16,10 @@ IsArrivalLine line job at = (words : List ℕ) × IsNumberAndMoment words job at
 abbrev pub IsFinishLine : List ℕ → ℕ → ℕ → ℕ → Type 0
 IsFinishLine line job machine at = (first : List ℕ) × (words : List ℕ) × IsNumeral 9 first job × IsNumberAndMoment words machine at
     × (line ≡ codes "finish " ++ (first ++ 32 ∷ words))
+
+-- the numbers that were found are those of such a line, and where none were found it is no such line
+abbrev pub SomeFinishIfAny : Option (ℕ × ℕ × ℕ) → List ℕ → Type 0
+SomeFinishIfAny numbers line = MatchOption numbers ((job machine at : ℕ) → IsFinishLine line job machine at → ⊥) (λ found. IsFinishLine line found.0 found.1 found.2)
 
 -- `clean M T`
 abbrev pub IsCleanLine : List ℕ → ℕ → ℕ → Type 0

@@ -9,6 +9,7 @@ use Rattle.cell_tables.specs.Reports.{said}
 use Rattle.cell_control.specs.Reports.{IsFirstReason}
 use Rattle.cell_drive.specs.DrivenLines.{closing_line}
 use Rattle.cell_drive.specs.CellLines.{cell_prefix}
+use Rattle.cell_drive.specs.ManyCells.{CellsAnswer}
 use Rattle.cell_hub.specs.declared.ticket.Ticket.{Ticket}
 use Rattle.cell_hub.specs.declared.hub_fault.HubFault.{HubFault}
 use Rattle.cell_hub.specs.declared.hub_fault.HubFault.TheVariants.{NoSuchCell, SerialsSpent, Memory, Cell}
@@ -39,6 +40,10 @@ abbrev pub AreNumbered : HubState → List Ticket → Type 0
 AreNumbered h [] = Unit {0}
 AreNumbered h (t ∷ tickets) = HasCell h t × IsNoneOf t tickets × AreNumbered h tickets
 
+-- where a cell has this number, its content is such
+abbrev pub IfCell : List Control → ℕ → (Control → Type 0) → Type 0
+IfCell cells cell IsSuch = (content : Control) → slice_get cells cell ≡ Some content → IsSuch content
+
 -- each of these cells runs by an accepted plan
 abbrev pub HaveVerified : List Control → Type 0
 HaveVerified [] = Unit {0}
@@ -52,7 +57,15 @@ IsReportedOn cells cell report (Err SerialsSpent) new = ⊥
 IsReportedOn cells cell report (Err Memory) new = ⊥
 IsReportedOn cells cell report (Err (Cell reason)) new = (content : Control) × (slice_get cells cell ≡ Some content) × IsFirstReason content.plan.planned content.cell (said report) reason × (new ≡ cells)
 
+-- the texts that answer a line of this number that isn't too long, by a hub with these tickets before and after it
+abbrev pub AnswersByHub : HubState → List Ticket → ℕ → List ℕ → HubState → List ℕ → Type 0
+AnswersByHub hub tickets number line hub_then text = CellsAnswer (contents_of hub tickets) number (Some line) text (contents_of hub_then tickets)
+
+-- the closing line of the cell of a number
+abbrev pub closing_of : ℕ → Control → List ℕ
+closing_of number c = cell_prefix number ++ closing_line c.plan.planned c.cell
+
 -- the closing lines of these cells, from a number on
 abbrev pub closing_text : ℕ → List Control → List ℕ
 closing_text number [] = []
-closing_text number (c ∷ cells) = (cell_prefix number ++ closing_line c.plan.planned c.cell) ++ closing_text (suc number) cells
+closing_text number (c ∷ cells) = closing_of number c ++ closing_text (suc number) cells

@@ -1,13 +1,13 @@
 //! A cell that is driven by lines: its controller, and the log of what was accepted and ordered.
 
-ghost use Rattle.std.specs.Prelude.{◌≡◌, ◌≢◌, ◌+◌, ◌≤◌, [], ◌∷◌, Some, length, map, IfOk, IfErr, OnOk};
+ghost use Rattle.std.specs.Prelude.{◌≡◌, ◌≢◌, ◌+◌, ◌≤◌, [], ◌∷◌, length, map, IfOk, IfErr, OnOk, OnErr};
 ghost use Rattle.cell_control.specs.Control.{IsAnswered};
 ghost use Rattle.cell_tables.specs.Reports.{said};
 ghost use Rattle.cell_control.specs.Reports.{IsFirstReason};
 ghost use Rattle.run_log.specs.Log.{Notes};
 ghost use Rattle.cell_drive.specs.Lent.{WroteTo, WroteOneTo};
 ghost use Rattle.cell_drive.specs.AnswerLines.{refused_line};
-ghost use Rattle.cell_drive.specs.Driven.{IsDriven, DriveAnswer, driven_by};
+ghost use Rattle.cell_drive.specs.Driven.{IsDriven, AnswersBy, driven_by};
 
 use crate::answer_lines::refused_line;
 use crate::cell_answers::{put_accepted, put_closing};
@@ -53,10 +53,10 @@ pub fn take_report<D: Dues>(
 ) -> Result<Ack, ReportFault>
     requires { IsDriven (driven_by controller.old log.old) }
     ensures driven { IsDriven (driven_by controller.new log.new) }
-    ensures accepted { IfOk result (λ ack. IsAnswered controller.old (said report) ack controller.new
-        × Notes log.old log.new (Entry.Report report ∷ map Entry.Order controller.new.orders)) }
-    ensures refused { IfErr result (λ reason. IsFirstReason controller.old.plan.planned controller.old.cell (said report) reason
-        × (controller.new ≡ controller.old) × (log.new ≡ log.old)) }
+    ensures accepted { IfOk result (λ ack. IsAnswered controller.old (said report) ack controller.new) }
+    ensures noted { OnOk result (Notes log.old log.new (Entry.Report report ∷ map Entry.Order controller.new.orders)) }
+    ensures refused { IfErr result (IsFirstReason controller.old.plan.planned controller.old.cell (said report)) }
+    ensures unchanged { OnErr result ((controller.new ≡ controller.old) × (log.new ≡ log.old)) }
 {
     let ack = controller.report(report)?;
     note(log, report, controller.orders());
@@ -90,8 +90,7 @@ fn answer_told<D: Dues, W: Sink>(
     requires driven { IsDriven (driven_by controller.old log.old) }
     requires told { line.now ≢ [] }
     ensures driven { IsDriven (driven_by controller.new log.new) }
-    ensures answered { WroteOneTo W.Sink result writer.old writer.new (λ text.
-        DriveAnswer (driven_by controller.old log.old) number (Some line.now) text (driven_by controller.new log.new)) }
+    ensures answered { WroteOneTo W.Sink result writer.old writer.new (AnswersBy controller.old log.old number line.now controller.new log.new) }
 {
     let Some(report) = report_of(line) else {
         return put_refused(number, b"BadLine", writer);
@@ -112,8 +111,7 @@ fn answer_line<D: Dues, W: Sink>(
 ) -> Result<(), WriteFault>
     requires { IsDriven (driven_by controller.old log.old) }
     ensures driven { IsDriven (driven_by controller.new log.new) }
-    ensures answered { WroteOneTo W.Sink result writer.old writer.new (λ text.
-        DriveAnswer (driven_by controller.old log.old) number (Some line.now) text (driven_by controller.new log.new)) }
+    ensures answered { WroteOneTo W.Sink result writer.old writer.new (AnswersBy controller.old log.old number line.now controller.new log.new) }
 {
     if line.is_empty() {
         return Ok(());

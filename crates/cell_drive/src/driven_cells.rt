@@ -1,13 +1,11 @@
 //! Several cells that are driven by lines.
 
-ghost use Rattle.std.specs.Prelude.{◌≡◌, ◌↔◌, ◌++◌, slice_get, Some, IsTrue, OnOk};
+ghost use Rattle.std.specs.Prelude.{◌≡◌, ◌↔◌, IsTrue, OnOk};
 ghost use Rattle.shop_base.specs.Ends.{HasEnded};
-ghost use Rattle.cell_control.specs.Control.{Control};
 ghost use Rattle.cell_drive.specs.Lent.{WroteTo, WroteOneTo};
 ghost use Rattle.cell_drive.specs.CellLines.{cell_prefix};
-ghost use Rattle.cell_drive.specs.DrivenLines.{closing_line};
-ghost use Rattle.cell_drive.specs.ManyCells.{CellsAnswer, AreAllDone, accepted_lines};
-ghost use Rattle.cell_drive.specs.NumberedCells.{contents_of, AreNumbered, closing_text};
+ghost use Rattle.cell_drive.specs.ManyCells.{AreAllDone, accepted_lines};
+ghost use Rattle.cell_drive.specs.NumberedCells.{contents_of, AreNumbered, IfCell, closing_of, closing_text, AnswersByHub};
 
 use crate::cell_answers::{put_accepted, put_closing};
 use crate::cell_lines::cell_report_of;
@@ -72,8 +70,7 @@ fn answer_line<D: Dues, W: Sink>(
 ) -> Result<(), WriteFault>
     requires { AreNumbered hub.old tickets.now }
     ensures numbered { AreNumbered hub.new tickets.now }
-    ensures answered { WroteOneTo W.Sink result writer.old writer.new (λ text.
-        CellsAnswer (contents_of hub.old tickets.now) number (Some line.now) text (contents_of hub.new tickets.now)) }
+    ensures answered { WroteOneTo W.Sink result writer.old writer.new (AnswersByHub hub.old tickets.now number line.now hub.new) }
 {
     if line.is_empty() {
         return Ok(());
@@ -97,8 +94,7 @@ fn put_numbered_closing<D: Dues, W: Sink>(
     writer: &mut W,
 ) -> Result<(), WriteFault>
     requires { AreNumbered hub.now tickets.now }
-    ensures wrote { (content : Control) → slice_get (contents_of hub.now tickets.now) cell ≡ Some content
-        → WroteTo W.Sink result writer.old writer.new (cell_prefix cell ++ closing_line content.plan.planned content.cell) }
+    ensures wrote { IfCell (contents_of hub.now tickets.now) cell (λ c. WroteTo W.Sink result writer.old writer.new (closing_of cell c)) }
     ensures unfailed { OnOk result (W.failed writer.new ≡ W.failed writer.old) }
 {
     match numbered_cell(hub, tickets, cell) {
@@ -138,8 +134,7 @@ fn all_done<D: Dues>(hub: &Hub<D>, tickets: &[Ticket]) -> bool
 
 fn is_done<D: Dues>(hub: &Hub<D>, tickets: &[Ticket], cell: usize) -> bool
     requires { AreNumbered hub.now tickets.now }
-    ensures { (content : Control) → slice_get (contents_of hub.now tickets.now) cell ≡ Some content
-        → IsTrue result ↔ HasEnded content.plan.planned content.cell }
+    ensures { IfCell (contents_of hub.now tickets.now) cell (λ c. IsTrue result ↔ HasEnded c.plan.planned c.cell) }
 {
     match numbered_cell(hub, tickets, cell) {
         Some(controller) => controller.is_done(),

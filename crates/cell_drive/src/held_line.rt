@@ -1,5 +1,5 @@
-ghost use Rattle.std.specs.Prelude.{◌≡◌, ◌+◌, ◌-◌, ◌<◌, ◌≤◌, ◌↔◌, [], ◌++◌, length, take, Some, None, option_copied, IsTrue, IfSome, MatchOption};
-ghost use Rattle.cell_drive.specs.Holding.{joined};
+ghost use Rattle.std.specs.Prelude.{◌≡◌, ◌≤◌, ◌↔◌, [], length, Some, option_copied, IsTrue, IfSome};
+ghost use Rattle.cell_drive.specs.Holding.{joined, AreAppended};
 
 use std::marker::Model;
 
@@ -71,10 +71,7 @@ impl HeldLine {
 fn append(bytes: &mut [u8], count: Option<usize>, more: &[u8]) -> Option<usize>
     requires { IfSome count (λ count. count ≤ length bytes.old) }
     ensures within { IfSome result (λ end. end ≤ length bytes.new) }
-    ensures joined { MatchOption count (result ≡ None) (λ count.
-        (length more.now ≤ length bytes.old - count
-        → (result ≡ Some (count + length more.now)) × (take (count + length more.now) bytes.new ≡ take count bytes.old ++ more.now))
-        × (length bytes.old - count < length more.now → result ≡ None)) }
+    ensures joined { AreAppended bytes.old count more.now bytes.new result }
 {
     let count = count?;
     if more.len() > bytes.len() - count {

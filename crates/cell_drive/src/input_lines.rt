@@ -1,8 +1,8 @@
 //! The reports that lines of input are.
 
-ghost use Rattle.std.specs.Prelude.{ℕ, ◌++◌, codes, MatchOption};
+ghost use Rattle.std.specs.Prelude.{◌++◌, codes, MatchOption};
 ghost use Rattle.text_lines.specs.Searches.{SomePairIfAny};
-ghost use Rattle.cell_drive.specs.InputLines.{IsNumberAndMoment, IsFinishLine, IsReportLine, IsNoReport};
+ghost use Rattle.cell_drive.specs.InputLines.{IsNumberAndMoment, SomeFinishIfAny, IsReportLine, IsNoReport};
 
 use cell_control::Report;
 use shop_base::Moment;
@@ -29,8 +29,7 @@ fn arrival_of(words: &[u8]) -> Option<Report>
 
 #[inline(always)]
 fn three_numbers(words: &[u8]) -> Option<(u32, u32, Moment)>
-    ensures { MatchOption result ((job machine at : ℕ) → IsFinishLine (codes "finish " ++ words.now) job machine at → ⊥)
-        (λ found. IsFinishLine (codes "finish " ++ words.now) found.0 found.1 found.2) }
+    ensures { SomeFinishIfAny result (codes "finish " ++ words.now) }
 {
     let (first, rest) = cut_word(words)?;
     let job = short_number_of(first)?;

@@ -1,5 +1,6 @@
 ghost use Rattle.std.specs.Prelude.{ℕ, ◌≤◌, List, length, Option, Some, None};
 ghost use Rattle.cell_drive.specs.Lent.{WroteOneTo};
+ghost use Rattle.cell_drive.specs.Answering.{WasAnswered};
 
 use crate::held_line::MAX_LINE;
 use run_log::{Sink, WriteFault};
@@ -21,11 +22,11 @@ pub trait LineHandler {
         writer: &mut W,
     ) -> Result<(), WriteFault>
         requires { length line.now ≤ MAX_LINE }
-        ensures { WroteOneTo W.Sink result writer.old writer.new (λ text. answers self.old number (Some line.now) text self.new) };
+        ensures { WasAnswered answers self.old number (Some line.now) self.new W.Sink result writer.old writer.new };
 
     /// Answers the line of this number, which has too many bytes.
     fn answer_long<W: Sink>(&mut self, number: u64, writer: &mut W) -> Result<(), WriteFault>
-        ensures { WroteOneTo W.Sink result writer.old writer.new (λ text. answers self.old number None text self.new) };
+        ensures { WasAnswered answers self.old number None self.new W.Sink result writer.old writer.new };
 
     /// Writes the closing text, which stands behind the last answer.
     fn put_closing<W: Sink>(&self, writer: &mut W) -> Result<(), WriteFault>

@@ -1,11 +1,9 @@
 //! The lines that end in a piece of the input.
 
 ghost use Rattle.std.specs.Prelude.{◌≡◌, ◌+◌, ◌^◌, ◌<◌, [], length, Some, OnOk};
-ghost use Rattle.text_lines.specs.Lines.{without_return};
-ghost use Rattle.cell_drive.specs.Lines.{within_limit};
-ghost use Rattle.cell_drive.specs.Holding.{joined, held_line, ended, held_after};
-ghost use Rattle.cell_drive.specs.Lent.{WroteOneTo, taker_of};
-ghost use Rattle.cell_drive.specs.Answering.{WereAnswered};
+ghost use Rattle.cell_drive.specs.Holding.{held_line, ended_line, ended, held_after};
+ghost use Rattle.cell_drive.specs.Lent.{taker_of};
+ghost use Rattle.cell_drive.specs.Answering.{WasAnswered, WereAnswered};
 
 use crate::held_line::{HeldLine, MAX_LINE};
 use crate::line_handler::LineHandler;
@@ -25,8 +23,7 @@ fn answer_bytes<H: LineHandler, W: Sink>(
     bytes: &[u8],
     writer: &mut W,
 ) -> Result<(), WriteFault>
-    ensures { WroteOneTo W.Sink result writer.old writer.new (λ text.
-        H.answers handler.old number (within_limit (without_return bytes.now)) text handler.new) }
+    ensures { WasAnswered H.answers handler.old number (held_line (Some bytes.now)) handler.new W.Sink result writer.old writer.new }
 {
     let line = without_return(bytes);
     if line.len() <= MAX_LINE {
@@ -43,7 +40,7 @@ pub(crate) fn answer_held<H: LineHandler, W: Sink>(
     held: &HeldLine,
     writer: &mut W,
 ) -> Result<(), WriteFault>
-    ensures { WroteOneTo W.Sink result writer.old writer.new (λ text. H.answers handler.old number (held_line held.now) text handler.new) }
+    ensures { WasAnswered H.answers handler.old number (held_line held.now) handler.new W.Sink result writer.old writer.new }
 {
     match held.bytes() {
         Some(bytes) => answer_bytes(handler, number, bytes, writer),
@@ -59,8 +56,7 @@ fn answer_ended<H: LineHandler, W: Sink>(
     bytes: &[u8],
     writer: &mut W,
 ) -> Result<(), WriteFault>
-    ensures answered { WroteOneTo W.Sink result writer.old writer.new (λ text.
-        H.answers handler.old number (held_line (joined held.old bytes.now)) text handler.new) }
+    ensures answered { WasAnswered H.answers handler.old number (ended_line held.old bytes.now) handler.new W.Sink result writer.old writer.new }
     ensures cleared { held.new ≡ Some [] }
 {
     if held.is_empty() {

@@ -1,4 +1,4 @@
-use Rattle.std.proofs.Common.{◌≡◌, ◌<◌, ◌+◌, ◌^◌, ℕ, ◌∙◌, ap, length, take, arith, rules}
+use Rattle.std.proofs.Common.{◌≡◌, ℕ, ap, length, take, arith, rules}
 use Rattle.std.proofs.lemmas.List.{length-take}
 use Rattle.std.proofs.lemmas.Result.{err_from_is_err_and}
 use Rattle.cell_drive.specs.Lent.{input_of, output_of, streams_of}

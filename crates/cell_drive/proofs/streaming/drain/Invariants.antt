@@ -1,4 +1,4 @@
-use Rattle.std.proofs.Common.{◌≡◌, ◌<◌, length}
+use Rattle.std.proofs.Common.{◌<◌, length}
 use Rattle.cell_drive.specs.Lent.{streams_of}
 use Rattle.cell_drive.specs.Reading.{reached}
 use Rattle.cell_drive.proofs.Drains.{Draining}
