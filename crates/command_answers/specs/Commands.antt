@@ -1,10 +1,11 @@
 -- What each command does with the files that it is given.
-use Rattle.std.specs.Prelude.{◌≡◌, ◌⊎◌, ℕ, List, length, Option, Result, Ok}
+use Rattle.std.specs.Prelude.{◌≡◌, ◌⊎◌, ℕ, List, Option, Result, Ok}
 use Rattle.shop_base.specs.Shop.{JobShop}
 use Rattle.shop_base.specs.Plan.{ShopPlan, PlannedShop, IsWellShaped}
 use Rattle.orlib_read.specs.declared.named.Named.{Named}
 use Rattle.plan_seek.specs.Orders.{Proposal}
-use Rattle.plan_seek.specs.Turns.{Proposals, MayPropose}
+use Rattle.plan_seek.specs.Tasks.{PlanTask, task_in}
+use Rattle.plan_seek.specs.Turns.{PlanSearch, search_by}
 use Rattle.plan_improve.specs.Runs.{Asked}
 use Rattle.command_answers.specs.declared.answer.Answer.{Answer}
 use Rattle.command_answers.specs.declared.command_fault.CommandFault.{CommandFault}
@@ -64,12 +65,12 @@ module _ {W : Type 0} (gives : W → List ℕ → Result (List ℕ) CommandFault
   Loads pair = WithBoth pair (λ p. Told (IsOrMemory (IsLoaded p)))
 
   -- `plan`: both are read, and the search for a plan with these numbers is answered
-  abbrev pub RunsPlan : (JobShop → Proposals) → ℕ → ℕ → PairOfFiles → W → Result Answer CommandFault → W → Type 0
-  RunsPlan may rounds proposers pair = WithBoth pair (λ p. Told (IsSearchAnswer (may p.shop) rounds proposers p))
+  abbrev pub RunsPlan : (PlanTask → PlanSearch) → ℕ → PairOfFiles → W → Result Answer CommandFault → W → Type 0
+  RunsPlan search rounds pair = WithBoth pair (λ p. Told (IsSearchAnswer (search (task_in p)) rounds))
 
   -- the same with these proposers, by what each of them may propose
   abbrev pub RunsPlanWith : {B : Type 0} → (B → JobShop → ℕ → Proposal → Type 0) → List B → ℕ → PairOfFiles → W → Result Answer CommandFault → W → Type 0
-  RunsPlanWith may proposers rounds = RunsPlan (λ shop. MayPropose (λ b. may b shop) proposers) rounds (length proposers)
+  RunsPlanWith may proposers = RunsPlan (search_by may proposers)
 
   -- `improve`: both are read, and what the search from this plan comes to is answered
   abbrev pub RunsImprove : Asked → ℕ → PairOfFiles → W → Result Answer CommandFault → W → Type 0

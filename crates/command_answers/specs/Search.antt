@@ -1,13 +1,13 @@
 -- The answer to `plan`: a plan text, or the line that says why there is none.
 use Rattle.std.specs.Prelude.{◌≡◌, ℕ, Option, Some, None, ◌⊎◌, codes, Result, Ok, Err}
-use Rattle.shop_base.specs.Plan.{ShopPlan, PlannedShop}
+use Rattle.shop_base.specs.Plan.{ShopPlan}
 use Rattle.plan_text.specs.declared.plan_fault.PlanFault.TheVariants.{NotReadBack}
 use Rattle.plan_text.specs.Lines.{plan_lines}
 use Rattle.plan_text.specs.Documents.{IsPlanText}
 use Rattle.plan_seek.specs.declared.seek_fault.SeekFault.{SeekFault}
 use Rattle.plan_seek.specs.declared.seek_fault.SeekFault.TheVariants.{BadNumbers, Exhausted, TooManyRounds, Memory as WantOfMemory}
-use Rattle.plan_seek.specs.Tasks.{PlanTask, with_order, IsAccepted}
-use Rattle.plan_seek.specs.Turns.{Proposals}
+use Rattle.plan_seek.specs.Tasks.{with_order, IsAccepted}
+use Rattle.plan_seek.specs.Turns.{PlanSearch}
 use Rattle.plan_seek.specs.Search.{IsSought, IsSeekFault}
 use Rattle.command_answers.specs.declared.answer.Answer.{Answer}
 use Rattle.command_answers.specs.declared.command_fault.CommandFault.{CommandFault}
@@ -15,20 +15,16 @@ use Rattle.command_answers.specs.declared.command_fault.CommandFault.TheVariants
 use Rattle.command_answers.specs.Documents.{IsDocumentOf}
 use Rattle.command_answers.specs.Shapes.{IsLineOfFault}
 
--- the search for a plan with the numbers of this one
-abbrev pub task_in : PlannedShop → PlanTask
-task_in p = record { shop = p.shop; release = p.plan.release; budget = p.plan.budget; clean = p.plan.clean }
-
 -- a plan that the search allows: the first proposal that is accepted, or else the serial plan
-pub record IsFound (may : Proposals) (rounds proposers : ℕ) (p : PlannedShop) (found : ShopPlan) : Type 0 where
-  pub same : record { shop = p.shop; plan = found } ≡ with_order (task_in p) found.order
-  pub accepted : IsAccepted (record { shop = p.shop; plan = found })
-  pub sought : IsSought (task_in p) may rounds proposers found.order
+pub record IsFound (s : PlanSearch) (rounds : ℕ) (found : ShopPlan) : Type 0 where
+  pub same : record { shop = s.task.shop; plan = found } ≡ with_order s.task found.order
+  pub accepted : IsAccepted (record { shop = s.task.shop; plan = found })
+  pub sought : IsSought s rounds found.order
 
 -- the text of a plan that the search allows
-pub record IsFoundText (may : Proposals) (rounds proposers : ℕ) (p : PlannedShop) (answer : Answer) : Type 0 where
+pub record IsFoundText (s : PlanSearch) (rounds : ℕ) (answer : Answer) : Type 0 where
   pub plan : ShopPlan
-  pub found : IsFound may rounds proposers p plan
+  pub found : IsFound s rounds plan
   pub text : IsDocumentOf plan 0 answer
 
 -- the fault of a command that the search's is, if memory ran out
@@ -50,24 +46,24 @@ IsNoPlanAnswer fault (Err Memory) = Unit {0}
 IsNoPlanAnswer fault (Err other) = ⊥
 
 -- the line of a search that the search allows to end without a plan
-pub record IsNoPlanText (may : Proposals) (rounds proposers : ℕ) (p : PlannedShop) (answer : Answer) : Type 0 where
+pub record IsNoPlanText (s : PlanSearch) (rounds : ℕ) (answer : Answer) : Type 0 where
   pub fault : SeekFault
-  pub is : IsSeekFault (task_in p) may rounds proposers fault
+  pub is : IsSeekFault s rounds fault
   pub line : IsNoPlanLine fault answer
 
 -- what is printed of the search
-abbrev pub IsSearchLine : Proposals → ℕ → ℕ → PlannedShop → Answer → Type 0
-IsSearchLine may rounds proposers p answer = IsFoundText may rounds proposers p answer ⊎ IsNoPlanText may rounds proposers p answer
+abbrev pub IsSearchLine : PlanSearch → ℕ → Answer → Type 0
+IsSearchLine s rounds answer = IsFoundText s rounds answer ⊎ IsNoPlanText s rounds answer
 
 -- a plan that the search allows has a text that isn't read as this plan
-pub record IsFoundUnreadable (may : Proposals) (rounds proposers : ℕ) (p : PlannedShop) : Type 0 where
+pub record IsFoundUnreadable (s : PlanSearch) (rounds : ℕ) : Type 0 where
   pub plan : ShopPlan
-  pub found : IsFound may rounds proposers p plan
+  pub found : IsFound s rounds plan
   pub unreadable : IsPlanText (plan_lines plan) plan → ⊥
 
 -- what is answered of the search: its line, or that the text of the plan that was found isn't read as that plan, or that memory ran out
-abbrev pub IsSearchAnswer : Proposals → ℕ → ℕ → PlannedShop → Result Answer CommandFault → Type 0
-IsSearchAnswer may rounds proposers p (Ok answer) = IsSearchLine may rounds proposers p answer
-IsSearchAnswer may rounds proposers p (Err Memory) = Unit {0}
-IsSearchAnswer may rounds proposers p (Err (Plan fault)) = (fault ≡ NotReadBack) × IsFoundUnreadable may rounds proposers p
-IsSearchAnswer may rounds proposers p (Err other) = ⊥
+abbrev pub IsSearchAnswer : PlanSearch → ℕ → Result Answer CommandFault → Type 0
+IsSearchAnswer s rounds (Ok answer) = IsSearchLine s rounds answer
+IsSearchAnswer s rounds (Err Memory) = Unit {0}
+IsSearchAnswer s rounds (Err (Plan fault)) = (fault ≡ NotReadBack) × IsFoundUnreadable s rounds
+IsSearchAnswer s rounds (Err other) = ⊥

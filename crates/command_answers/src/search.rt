@@ -1,7 +1,7 @@
 //! The command `plan`.
 
-ghost use Rattle.std.specs.Prelude.{length};
-ghost use Rattle.plan_seek.specs.Turns.{MayPropose};
+ghost use Rattle.plan_seek.specs.Tasks.{task_in};
+ghost use Rattle.plan_seek.specs.Turns.{search_by};
 ghost use Rattle.command_answers.specs.Search.{IsSearchAnswer, IsNoPlanAnswer};
 ghost use Rattle.command_answers.specs.Commands.{RunsPlanWith};
 
@@ -36,8 +36,7 @@ fn search_answer(
     proposers: &[Box<dyn Proposer>],
     rounds: u32,
 ) -> Answered
-    ensures { IsSearchAnswer (MayPropose (λ b. may b both.shop) proposers.now) rounds (length proposers.now)
-        both result }
+    ensures { IsSearchAnswer (search_by (λ b. may b) proposers.now (task_in both)) rounds result }
 {
     let Both { shop, plan } = both;
     let (release, budget, clean) = (plan.release, plan.budget, plan.clean);

@@ -10,6 +10,7 @@ use Rattle.plan_verifier.specs.declared.verdict.Verdict.TheVariants.{Accepted, R
 use Rattle.plan_verifier.specs.declared.verdict.Why.{Why}
 use Rattle.plan_verifier.specs.declared.verdict.Why.TheVariants.{Cycle, Late}
 use Rattle.plan_verifier.specs.Verdicts.{IsReason}
+use Rattle.plan_seek.specs.Tasks.{task_in}
 use Rattle.command_answers.specs.declared.answer.Answer.{Answer}
 use Rattle.command_answers.specs.declared.loading.Loaded.{Loaded}
 use Rattle.command_answers.specs.declared.loading.Loaded.TheVariants.{NotShaped, Judged}
@@ -28,7 +29,7 @@ use Rattle.command_answers.specs.Search.{IsSearchAnswer}
 use Rattle.command_answers.specs.Improving.{IsImproveAnswer}
 use Rattle.command_answers.specs.Commands.{PairOfFiles, ReadsPlan, ReadsBoth, WithBoth, WithLog, RunsFacts, RunsLog}
 use Rattle.command_run.specs.Streams.{Streams}
-use Rattle.command_run.specs.Planners.{MayPlan, SeeksPlan}
+use Rattle.command_run.specs.Planners.{search_by_two, SeeksPlan}
 use Rattle.command_run.specs.Improvers.{AsksOne, ImprovesPlan}
 use Rattle.command_run.specs.Drives.{DrivesCell, Drives, IsLineTold}
 use Rattle.command_run.specs.Resumes.{ResumesText, Resumes}
@@ -131,8 +132,8 @@ module _ (content : List ℕ → Result (List ℕ) CommandFault) (pair : PairOfF
   good_log telling log text outcome asked is shaped run = log_came telling log text outcome asked is shaped (with_both (WithLog (Shelf content) telling log) outcome asked run)
 
   pub good_search : (rounds : ℕ) (outcome : Result Answer CommandFault) (asked : List (List ℕ)) → SeeksPlan (Shelf content) rounds pair [] outcome asked
-      → (IsSearchAnswer (MayPlan p.shop) rounds 2 p outcome × (asked ≡ pair.path ∷ pair.plan ∷ [])) ⊎ (outcome ≡ Err Memory)
-  good_search rounds outcome asked (inl run) = with_both (λ q. Told (IsSearchAnswer (MayPlan q.shop) rounds 2 q)) outcome asked run
+      → (IsSearchAnswer (search_by_two (task_in p)) rounds outcome × (asked ≡ pair.path ∷ pair.plan ∷ [])) ⊎ (outcome ≡ Err Memory)
+  good_search rounds outcome asked (inl run) = with_both (λ q. Told (IsSearchAnswer (search_by_two (task_in q)) rounds)) outcome asked run
   good_search rounds outcome asked (inr none) = inr none.0
 
   pub good_improvement : (rounds : ℕ) (outcome : Result Answer CommandFault) (asked : List (List ℕ)) → ImprovesPlan (Shelf content) rounds pair [] outcome asked

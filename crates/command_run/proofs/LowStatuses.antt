@@ -4,7 +4,8 @@ use Rattle.plan_verifier.specs.Accepted.{VerifiedPlan}
 use Rattle.plan_verifier.specs.declared.verdict.Verdict.{Verdict}
 use Rattle.plan_verifier.specs.declared.verdict.Verdict.TheVariants.{Accepted, Refused}
 use Rattle.plan_verifier.specs.declared.verdict.Why.TheVariants.{Cycle, Late}
-use Rattle.plan_seek.specs.Turns.{Proposals}
+use Rattle.plan_seek.specs.Tasks.{task_in}
+use Rattle.plan_seek.specs.Turns.{PlanSearch}
 use Rattle.plan_seek.specs.declared.seek_fault.SeekFault.{SeekFault}
 use Rattle.plan_seek.specs.declared.seek_fault.SeekFault.TheVariants.{BadNumbers, Exhausted, TooManyRounds, Memory as NoMemory}
 use Rattle.plan_improve.specs.Runs.{Asked}
@@ -38,7 +39,7 @@ use Rattle.command_run.specs.Streams.{Streams}
 use Rattle.command_run.specs.Drives.{IsEnded, IsEndAnswer, Drives, status_at, end_of_drive}
 use Rattle.command_run.specs.Resumes.{IsFaultLine, IsFaultTold, ResumesTaken, ResumesText, Resumes}
 use Rattle.command_run.specs.Hubs.{DrivesAll, end_of_hub}
-use Rattle.command_run.specs.Planners.{MayPlan, SeeksPlan}
+use Rattle.command_run.specs.Planners.{search_by_two, SeeksPlan}
 use Rattle.command_run.specs.Improvers.{AsksOne, ImprovesPlan}
 use Rattle.command_run.specs.Program.{RunsCommand, file_at, name_in, pair_in, plans_in}
 
@@ -97,13 +98,13 @@ low_no_plan Exhausted answer is = one_low answer.status is.1
 low_no_plan TooManyRounds answer is = one_low answer.status is.1
 low_no_plan NoMemory answer is = absurd is
 
-low_search : (may : Proposals) (rounds proposers : ℕ) (p : PlannedShop) (answer : Answer) → IsSearchLine may rounds proposers p answer → answer.status ≤ 1
-low_search may rounds proposers p answer (inl found) = zero_low answer.status found.text.ends
-low_search may rounds proposers p answer (inr none) = low_no_plan none.fault answer none.line
+low_search : (s : PlanSearch) (rounds : ℕ) (answer : Answer) → IsSearchLine s rounds answer → answer.status ≤ 1
+low_search s rounds answer (inl found) = zero_low answer.status found.text.ends
+low_search s rounds answer (inr none) = low_no_plan none.fault answer none.line
 
-low_sought : (may : Proposals) (rounds proposers : ℕ) (p : PlannedShop) (outcome : Result Answer CommandFault) → IsSearchAnswer may rounds proposers p outcome → IsLow outcome
-low_sought may rounds proposers p (Ok answer) is = low_search may rounds proposers p answer is
-low_sought may rounds proposers p (Err fault) is = tt
+low_sought : (s : PlanSearch) (rounds : ℕ) (outcome : Result Answer CommandFault) → IsSearchAnswer s rounds outcome → IsLow outcome
+low_sought s rounds (Ok answer) is = low_search s rounds answer is
+low_sought s rounds (Err fault) is = tt
 
 low_log : (telling : Telling) (p : PlannedShop) (log : List ℕ) (answer : Answer) → IsLogLine telling p log answer → answer.status ≤ 1
 low_log telling p log answer (inl kept) = zero_low answer.status kept.told.1
@@ -223,7 +224,7 @@ module _ {W : Type 0} (gives : W → List ℕ → Result (List ℕ) CommandFault
   low_seeks : (rounds : ℕ) (pair : PairOfFiles) (texts : W) (outcome : Result Answer CommandFault) (after : W)
       → SeeksPlan gives rounds pair texts outcome after → IsLow outcome
   low_seeks rounds pair texts outcome after (inl run) =
-      low_both pair (λ p. Told (IsSearchAnswer (MayPlan p.shop) rounds 2 p)) texts outcome after (λ p mid on. low_sought (MayPlan p.shop) rounds 2 p outcome on.0) run
+      low_both pair (λ p. Told (IsSearchAnswer (search_by_two (task_in p)) rounds)) texts outcome after (λ p mid on. low_sought (search_by_two (task_in p)) rounds outcome on.0) run
   low_seeks rounds pair texts outcome after (inr wanting) = subst IsLow (sym wanting.0) tt
 
   low_improves : (rounds : ℕ) (pair : PairOfFiles) (texts : W) (outcome : Result Answer CommandFault) (after : W)

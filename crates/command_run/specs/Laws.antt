@@ -6,6 +6,7 @@ use Rattle.shop_base.specs.Plan.{PlannedShop, IsWellShaped}
 use Rattle.orlib_read.specs.declared.or_fault.OrFault.{OrFault}
 use Rattle.plan_verifier.specs.Accepted.{VerifiedPlan, IsAcceptable}
 use Rattle.plan_verifier.specs.declared.verdict.Verdict.TheVariants.{Accepted}
+use Rattle.plan_seek.specs.Tasks.{task_in}
 use Rattle.run_log.specs.Sinks.{TookPart}
 use Rattle.run_resume.specs.Replays.{TakenUp}
 use Rattle.cell_drive.specs.declared.driving.DriveEnd.{DriveEnd}
@@ -37,7 +38,7 @@ use Rattle.command_answers.specs.declared.cells.Cells.{Cells}
 use Rattle.command_answers.specs.Cells.{AreAccepted, LoadsCells}
 use Rattle.command_run.specs.Streams.{Streams, Input, Output, Errors, Devices}
 use Rattle.command_run.specs.Inputs.{RunsInput}
-use Rattle.command_run.specs.Planners.{MayPlan, SeeksPlan}
+use Rattle.command_run.specs.Planners.{search_by_two, SeeksPlan}
 use Rattle.command_run.specs.Improvers.{AsksOne, ImprovesPlan}
 use Rattle.command_run.specs.Drives.{IsDrive, DrivesCell}
 use Rattle.command_run.specs.Resumes.{IsResume, ResumesText, IsTaking}
@@ -152,7 +153,7 @@ LogIsAnswered = (telling : Telling) (content : List ℕ → Result (List ℕ) Co
 abbrev pub PlanAnswersPlan : Type 0
 PlanAnswersPlan = (rounds : ℕ) (content : List ℕ → Result (List ℕ) CommandFault) (pair : PairOfFiles) (p : PlannedShop) (outcome : Result Answer CommandFault) (asked : List (List ℕ))
     → TellPlan content pair p → SeeksPlan (Shelf content) rounds pair [] outcome asked
-    → (IsSearchAnswer (MayPlan p.shop) rounds 2 p outcome × (asked ≡ pair.path ∷ pair.plan ∷ [])) ⊎ (outcome ≡ Err Memory)
+    → (IsSearchAnswer (search_by_two (task_in p)) rounds outcome × (asked ≡ pair.path ∷ pair.plan ∷ [])) ⊎ (outcome ≡ Err Memory)
 
 -- `improve`: what the search from this plan comes to, with exactly these files asked for, unless memory runs out before
 abbrev pub ImproveAnswersPlan : Type 0

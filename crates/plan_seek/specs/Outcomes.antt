@@ -7,8 +7,9 @@ use Rattle.plan_seek.specs.declared.attempt.Attempt.TheVariants.{Accepted, InVai
 use Rattle.plan_seek.specs.declared.not_found.NotFound.{NotFound}
 use Rattle.plan_seek.specs.declared.seek_fault.SeekFault.{SeekFault}
 use Rattle.plan_seek.specs.declared.seek_fault.SeekFault.TheVariants.{BadNumbers, Exhausted, TooManyRounds, Memory}
-use Rattle.plan_seek.specs.Tasks.{PlanTask, task_of, with_order, serial_plan, IsAccepted}
-use Rattle.plan_seek.specs.Turns.{Proposals, EachInRound, turn_of}
+use Rattle.plan_seek.specs.Orders.{Proposal}
+use Rattle.plan_seek.specs.Tasks.{PlanTask, task_given_back, with_order, serial_plan, IsAccepted}
+use Rattle.plan_seek.specs.Turns.{PlanSearch, MayFail, IsFirstFound, EachMayFail, EachInRound, turn_of}
 use Rattle.plan_seek.specs.Search.{IsSeriallyLate}
 
 -- an accepted plan for the task
@@ -23,11 +24,23 @@ IsOutcome t Found Failed (InVain back) = (back ≡ t) × Failed
 IsOutcome t Found Failed (WantsMemory error back) = back ≡ t
 
 -- within one round: these orders may be proposed at some turn, and at each turn before it a proposal may be made that isn't accepted
-pub record IsFoundIn (t : PlanTask) (may : Proposals) (round proposers : ℕ) (order : List (List ℕ)) : Type 0 where
+pub record IsFoundIn (s : PlanSearch) (round : ℕ) (order : List (List ℕ)) : Type 0 where
   pub place : ℕ
-  pub inside : place < proposers
-  pub given : may (turn_of round place) (Some order)
-  pub before : EachInRound t may round place
+  pub inside : place < s.proposers
+  pub given : s.may (turn_of round place) (Some order)
+  pub before : EachInRound s round place
+
+-- what came of one turn: a plan with orders that may be proposed, or else a proposal may be made that isn't accepted
+abbrev pub IsTurnOutcome : PlanTask → (Proposal → Type 0) → Attempt → Type 0
+IsTurnOutcome t may attempt = IsOutcome t (λ order. may (Some order)) (MayFail t may) attempt
+
+-- what came of one round: the plan that is found in it, or else at each of its turns a proposal may be made that isn't accepted
+abbrev pub IsRoundOutcome : PlanSearch → ℕ → Attempt → Type 0
+IsRoundOutcome s round attempt = IsOutcome s.task (IsFoundIn s round) (EachInRound s round s.proposers) attempt
+
+-- what came of all rounds: the plan that is found first, or else at each turn a proposal may be made that isn't accepted
+abbrev pub IsRoundsOutcome : PlanSearch → ℕ → Attempt → Type 0
+IsRoundsOutcome s rounds attempt = IsOutcome s.task (IsFirstFound s rounds) (EachMayFail s rounds) attempt
 
 -- why the serial plan isn't given: it is late, or memory ran out
 abbrev pub IsSerialFault : PlanTask → SeekFault → Type 0
@@ -39,4 +52,4 @@ IsSerialFault t (BadNumbers fault) = ⊥
 -- what came of the serial plan: it is given, or the task comes back with the reason
 abbrev pub IsSerialOutcome : PlanTask → Result VerifiedPlan NotFound → Type 0
 IsSerialOutcome t (Ok verified) = (verified.planned ≡ serial_plan t) × IsAccepted verified.planned
-IsSerialOutcome t (Err refused) = (task_of refused.shop refused.release refused.budget refused.clean ≡ t) × IsSerialFault t refused.fault
+IsSerialOutcome t (Err refused) = (task_given_back refused ≡ t) × IsSerialFault t refused.fault

@@ -5,6 +5,7 @@ use Rattle.shop_base.specs.Shop.{JobShop}
 use Rattle.shop_base.specs.Plan.{PlannedShop, IsWellShaped}
 use Rattle.shop_base.specs.Vectors.{list_of}
 use Rattle.plan_verifier.specs.Accepted.{IsAcceptable}
+use Rattle.plan_seek.specs.declared.not_found.NotFound.{NotFound}
 use Rattle.plan_seek.specs.Orders.{serial_order}
 
 -- a shop, and the numbers of a plan for it, whose orders are sought
@@ -17,6 +18,14 @@ pub record PlanTask : Type 0 where
 -- the task that these values make
 abbrev pub task_of : JobShop → Vec ℕ Global → Vec ℕ Global → Option (Vec ℕ Global) → PlanTask
 task_of shop release budget clean = record { shop = shop; release = release.items; budget = budget.items; clean = list_of clean }
+
+-- the task that is given back where no plan was found
+abbrev pub task_given_back : NotFound → PlanTask
+task_given_back refused = task_of refused.shop refused.release refused.budget refused.clean
+
+-- the task of a plan: its shop and its numbers, without its orders
+abbrev pub task_in : PlannedShop → PlanTask
+task_in p = record { shop = p.shop; release = p.plan.release; budget = p.plan.budget; clean = p.plan.clean }
 
 -- the plan with these orders
 abbrev pub with_order : PlanTask → List (List ℕ) → PlannedShop

@@ -1,5 +1,6 @@
 -- The turns of the planners, round by round and in each round in order, and the first of them whose proposal is accepted.
 use Rattle.std.specs.Prelude.{◌≡◌, ℕ, ◌<◌, List, None, Some, ◌⊎◌, length, slice_index_or}
+use Rattle.shop_base.specs.Shop.{JobShop}
 use Rattle.plan_seek.specs.Orders.{Proposal}
 use Rattle.plan_seek.specs.Tasks.{PlanTask, with_order, IsAccepted}
 
@@ -32,6 +33,16 @@ pub record MayPropose {B : Type 0} (may : B → ℕ → Proposal → Type 0) (pr
   pub stands : slice_index_or proposers turn.proposer who ≡ who
   pub given : may who turn.round proposal
 
+-- a search for a plan: its task, how many proposers are asked in each round, and what may be proposed at each turn
+pub record PlanSearch : Type 1 where
+  pub task : PlanTask
+  pub proposers : ℕ
+  pub may : Proposals
+
+-- the search for a plan for this task by these proposers, by what each of them may propose
+abbrev pub search_by : {B : Type 0} → (B → JobShop → ℕ → Proposal → Type 0) → List B → PlanTask → PlanSearch
+search_by may proposers t = record { task = t; proposers = length proposers; may = MayPropose (λ b. may b t.shop) proposers }
+
 -- the proposal isn't accepted: there is none, or the plan with these orders isn't accepted
 abbrev pub IsInVain : PlanTask → Proposal → Type 0
 IsInVain t None = Unit {0}
@@ -44,16 +55,16 @@ pub record MayFail (t : PlanTask) (may : Proposal → Type 0) : Type 0 where
   pub in_vain : IsInVain t proposal
 
 -- these orders may be proposed at some turn, and at each turn before it a proposal may be made that isn't accepted
-pub record IsFirstFound (t : PlanTask) (may : Proposals) (rounds proposers : ℕ) (order : List (List ℕ)) : Type 0 where
+pub record IsFirstFound (s : PlanSearch) (rounds : ℕ) (order : List (List ℕ)) : Type 0 where
   pub turn : Turn
-  pub inside : IsTurn rounds proposers turn
-  pub given : may turn (Some order)
-  pub before : (earlier : Turn) → IsTurn rounds proposers earlier → ComesSooner earlier turn → MayFail t (may earlier)
+  pub inside : IsTurn rounds s.proposers turn
+  pub given : s.may turn (Some order)
+  pub before : (earlier : Turn) → IsTurn rounds s.proposers earlier → ComesSooner earlier turn → MayFail s.task (s.may earlier)
 
 -- at each turn a proposal may be made that isn't accepted
-abbrev pub EachMayFail : PlanTask → Proposals → ℕ → ℕ → Type 0
-EachMayFail t may rounds proposers = (turn : Turn) → IsTurn rounds proposers turn → MayFail t (may turn)
+abbrev pub EachMayFail : PlanSearch → ℕ → Type 0
+EachMayFail s rounds = (turn : Turn) → IsTurn rounds s.proposers turn → MayFail s.task (s.may turn)
 
 -- within one round: at each turn before this many proposers a proposal may be made that isn't accepted
-abbrev pub EachInRound : PlanTask → Proposals → ℕ → ℕ → Type 0
-EachInRound t may round n = (k : ℕ) → k < n → MayFail t (may (turn_of round k))
+abbrev pub EachInRound : PlanSearch → ℕ → ℕ → Type 0
+EachInRound s round n = (k : ℕ) → k < n → MayFail s.task (s.may (turn_of round k))

@@ -3,7 +3,7 @@
 ghost use Rattle.std.specs.Prelude.{◌≡◌, Some};
 ghost use Rattle.shop_base.specs.Vectors.{lists_of};
 ghost use Rattle.plan_verifier.specs.Accepted.{IsAcceptable};
-ghost use Rattle.plan_seek.specs.Tasks.{PlanTask, with_order};
+ghost use Rattle.plan_seek.specs.Tasks.{task_in};
 ghost use Rattle.plan_seek.specs.Turns.{IsInVain};
 ghost use Rattle.plan_seek.specs.Outcomes.{IsOutcome};
 
@@ -36,8 +36,7 @@ pub(crate) fn try_orders(alloc: Global, task: Task, order: Vec<Vec<JobNo>>) -> A
 
 /// Verifies a plan.
 fn try_shaped(alloc: Global, shaped: Shaped) -> Attempt
-    ensures { (task : PlanTask) → shaped ≡ with_order task shaped.plan.order →
-        IsOutcome task (λ found. found ≡ shaped.plan.order) (IsAcceptable shaped → ⊥) result }
+    ensures { IsOutcome (task_in shaped) (λ found. found ≡ shaped.plan.order) (IsAcceptable shaped → ⊥) result }
 {
     match verify(alloc, shaped) {
         Ok(Verdict::Accepted(verified)) => Attempt::Accepted(verified),

@@ -1,9 +1,9 @@
 //! The proposers asked in turn, round by round.
 
-ghost use Rattle.std.specs.Prelude.{length, Some, IfOk};
+ghost use Rattle.std.specs.Prelude.{IfOk};
 ghost use Rattle.plan_seek.specs.Orders.{proposal_of};
-ghost use Rattle.plan_seek.specs.Turns.{MayPropose, MayFail, IsFirstFound, EachMayFail, EachInRound};
-ghost use Rattle.plan_seek.specs.Outcomes.{IsOutcome, IsFoundIn};
+ghost use Rattle.plan_seek.specs.Turns.{search_by};
+ghost use Rattle.plan_seek.specs.Outcomes.{IsTurnOutcome, IsRoundOutcome, IsRoundsOutcome};
 
 use crate::attempt::{Attempt, try_orders};
 use crate::proposer::Proposer;
@@ -18,8 +18,7 @@ pub(crate) fn try_rounds(
     proposers: &[Box<dyn Proposer>],
     rounds: u32,
 ) -> Attempt
-    ensures { let may = MayPropose (λ b. may b task.shop) proposers.now in
-        IsOutcome task (IsFirstFound task may rounds (length proposers.now)) (EachMayFail task may rounds (length proposers.now)) result }
+    ensures { IsRoundsOutcome (search_by (λ b. may b) proposers.now task) rounds result }
 {
     for round in 0..rounds {
         match try_round(alloc, task, proposers, round) {
@@ -33,8 +32,7 @@ pub(crate) fn try_rounds(
 
 /// Asks each proposer in order, and gives the first plan that is accepted.
 fn try_round(alloc: Global, mut task: Task, proposers: &[Box<dyn Proposer>], round: u32) -> Attempt
-    ensures { let may = MayPropose (λ b. may b task.shop) proposers.now in
-        IsOutcome task (IsFoundIn task may round (length proposers.now)) (EachInRound task may round (length proposers.now)) result }
+    ensures { IsRoundOutcome (search_by (λ b. may b) proposers.now task) round result }
 {
     for proposer in proposers {
         match try_proposer(alloc, task, proposer, round) {
@@ -48,8 +46,7 @@ fn try_round(alloc: Global, mut task: Task, proposers: &[Box<dyn Proposer>], rou
 
 /// Asks one proposer, and puts its proposal to the test.
 fn try_proposer(alloc: Global, task: Task, proposer: &Box<dyn Proposer>, round: u32) -> Attempt
-    ensures { IsOutcome task (λ order. may proposer.now task.shop round (Some order))
-        (MayFail task (may proposer.now task.shop round)) result }
+    ensures { IsTurnOutcome task (may proposer.now task.shop round) result }
 {
     match ask(alloc, proposer, &task.shop, round) {
         Ok(Some(order)) => try_orders(alloc, task, order),

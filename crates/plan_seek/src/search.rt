@@ -1,7 +1,7 @@
-ghost use Rattle.std.specs.Prelude.{◌≡◌, ◌≤◌, length, IfOk, IfErr, OnOk};
-ghost use Rattle.plan_seek.specs.Tasks.{task_of, with_order, IsAccepted};
-ghost use Rattle.plan_seek.specs.Turns.{MayPropose};
-ghost use Rattle.plan_seek.specs.Search.{IsSought, IsSeekFault, IsBegun};
+ghost use Rattle.std.specs.Prelude.{◌≡◌, ◌≤◌, IfOk, IfErr, OnOk};
+ghost use Rattle.plan_seek.specs.Tasks.{task_of, task_given_back, with_order, IsAccepted};
+ghost use Rattle.plan_seek.specs.Turns.{search_by};
+ghost use Rattle.plan_seek.specs.Search.{IsSoughtPlan, IsSearchRefused, IsBegun};
 
 use crate::attempt::Attempt;
 use crate::not_found::NotFound;
@@ -38,14 +38,9 @@ pub fn seek(
     ensures same { IfOk result (λ verified. verified.planned ≡ with_order (task_of shop release budget clean) verified.planned.plan.order) }
     ensures accepted { IfOk result (λ verified. IsAccepted verified.planned) }
     ensures few_rounds { OnOk result (rounds ≤ MAX_ROUNDS) }
-    ensures sought { IfOk result (λ verified.
-        IsSought (task_of shop release budget clean) (MayPropose (λ b. may b shop) proposers.now) rounds (length proposers.now)
-        verified.planned.plan.order) }
-    ensures refused { IfErr result (λ refused.
-        IsSeekFault (task_of shop release budget clean) (MayPropose (λ b. may b shop) proposers.now) rounds (length proposers.now)
-        refused.fault) }
-    ensures given_back { IfErr result (λ refused.
-        task_of refused.shop refused.release refused.budget refused.clean ≡ task_of shop release budget clean) }
+    ensures sought { IfOk result (IsSoughtPlan (search_by (λ b. may b) proposers.now (task_of shop release budget clean)) rounds) }
+    ensures refused { IfErr result (IsSearchRefused (search_by (λ b. may b) proposers.now (task_of shop release budget clean)) rounds) }
+    ensures given_back { IfErr result (λ refused. task_given_back refused ≡ task_of shop release budget clean) }
 {
     let task = Task {
         shop,
@@ -72,11 +67,9 @@ fn search(
     requires { IsBegun task rounds }
     ensures same { IfOk result (λ verified. verified.planned ≡ with_order task verified.planned.plan.order) }
     ensures accepted { IfOk result (λ verified. IsAccepted verified.planned) }
-    ensures sought { IfOk result (λ verified.
-        IsSought task (MayPropose (λ b. may b task.shop) proposers.now) rounds (length proposers.now) verified.planned.plan.order) }
-    ensures refused { IfErr result (λ refused.
-        IsSeekFault task (MayPropose (λ b. may b task.shop) proposers.now) rounds (length proposers.now) refused.fault) }
-    ensures given_back { IfErr result (λ refused. task_of refused.shop refused.release refused.budget refused.clean ≡ task) }
+    ensures sought { IfOk result (IsSoughtPlan (search_by (λ b. may b) proposers.now task) rounds) }
+    ensures refused { IfErr result (IsSearchRefused (search_by (λ b. may b) proposers.now task) rounds) }
+    ensures given_back { IfErr result (λ refused. task_given_back refused ≡ task) }
 {
     match try_rounds(alloc, task, proposers, rounds) {
         Attempt::Accepted(verified) => Ok(verified),

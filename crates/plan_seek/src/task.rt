@@ -1,6 +1,6 @@
 ghost use Rattle.std.specs.Prelude.{◌≡◌};
 ghost use Rattle.shop_base.specs.Vectors.{lists_of};
-ghost use Rattle.plan_seek.specs.Tasks.{with_order, task_of};
+ghost use Rattle.plan_seek.specs.Tasks.{with_order, task_given_back};
 
 use crate::not_found::NotFound;
 use crate::seek_fault::SeekFault;
@@ -75,7 +75,7 @@ impl Task {
     /// The task, given back with the reason why there is no plan.
     pub fn not_found(self, fault: SeekFault) -> NotFound
         ensures reason { result.fault ≡ fault }
-        ensures given_back { task_of result.shop result.release result.budget result.clean ≡ self }
+        ensures given_back { task_given_back result ≡ self }
     {
         let Task {
             shop,
