@@ -15,10 +15,10 @@ pub struct Plan {
 }
 
 impl Model for Plan {
-    ghost use Rattle.shop_base.specs.Vectors.{lists_of, list_of};
+    ghost use Rattle.shop_base.specs.Vectors.{plan_of};
     ghost use Rattle.shop_base.specs.Plan.{ShopPlan};
 
     ghost Value = { ShopPlan };
 
-    ghost view = { λ p. record { release = p.release.items; budget = p.budget.items; order = lists_of p.order.items; clean = list_of p.clean } };
+    ghost view = { λ p. plan_of p.release p.budget p.order p.clean };
 }
