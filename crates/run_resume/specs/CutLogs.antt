@@ -48,15 +48,15 @@ pub record IsTakenUp (p : PlannedShop) (lines : List (List ℕ)) (entries : List
   pub within : told ≤ length entries
 
 -- where these orders are due, the entry is a report before they have come, or an order that isn't the next
-abbrev pub IsOutOfTurn : List MoveOrder → Entry → Type 0
-IsOutOfTurn [] (ReportEntry report) = ⊥
-IsOutOfTurn (o ∷ due) (ReportEntry report) = Unit {0}
-IsOutOfTurn [] (OrderEntry order) = Unit {0}
-IsOutOfTurn (o ∷ due) (OrderEntry order) = order ≢ o
+abbrev pub IsNotDue : List MoveOrder → Entry → Type 0
+IsNotDue [] (ReportEntry report) = ⊥
+IsNotDue (o ∷ due) (ReportEntry report) = Unit {0}
+IsNotDue [] (OrderEntry order) = Unit {0}
+IsNotDue (o ∷ due) (OrderEntry order) = order ≢ o
 
 -- the fault of an entry behind these, where these orders are due
 abbrev pub IsFaultOf : PlannedShop → List Entry → List MoveOrder → Entry → ResumeFault → Type 0
-IsFaultOf p told due entry (NotOrdered line) = IsOutOfTurn due entry
+IsFaultOf p told due entry (NotOrdered line) = IsNotDue due entry
 IsFaultOf p told [] (ReportEntry report) (NotPossible line reason) = IsFirstReason p (cell_after p told) (said report) reason
 IsFaultOf p told due entry fault = ⊥
 

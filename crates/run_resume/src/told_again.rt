@@ -4,6 +4,7 @@ ghost use Rattle.std.specs.Prelude.{◌≡◌, ◌+◌, ◌≤◌, ◌++◌, len
 ghost use Rattle.run_log.specs.EventLines.{report_line, order_line};
 ghost use Rattle.cell_drive.specs.Lent.{WroteTo};
 ghost use Rattle.cell_drive.specs.AnswerLines.{late_line};
+ghost use Rattle.run_resume.specs.declared.told_again.TheConstants.{MOST, EVENT_ROOM, LINES_ROOM};
 ghost use Rattle.run_resume.specs.ToldLines.{told_line, told_lines};
 
 use cell_tables::{Entry, Report};
@@ -14,12 +15,18 @@ use text_lines::LineText;
 /// How many events are written in one call.
 const MOST: usize = 20;
 
-/// The lines of so many events: those of one have at most 96 bytes.
-type Lines = LineText<1920>;
+/// The most bytes that the lines of one event have.
+const EVENT_ROOM: usize = 96;
+
+/// The room for the lines of so many events.
+const LINES_ROOM: usize = 1920;
+
+/// The lines of so many events.
+type Lines = LineText<LINES_ROOM>;
 
 /// Writes `late T` before what there is.
 fn put_late(lines: &mut Lines, at: Moment)
-    requires { 32 + length lines.old ≤ 1920 }
+    requires { 32 + length lines.old ≤ LINES_ROOM }
     ensures written { lines.new ≡ late_line at ++ lines.old }
     ensures length { length lines.new ≤ 32 + length lines.old }
 {
@@ -31,7 +38,7 @@ fn put_late(lines: &mut Lines, at: Moment)
 /// Writes the line of the report before what there is.
 #[inline(always)]
 fn put_report_line(lines: &mut Lines, report: Report)
-    requires { 64 + length lines.old ≤ 1920 }
+    requires { 64 + length lines.old ≤ LINES_ROOM }
     ensures written { lines.new ≡ report_line report ++ lines.old }
     ensures length { length lines.new ≤ 64 + length lines.old }
 {
@@ -42,7 +49,7 @@ fn put_report_line(lines: &mut Lines, report: Report)
 /// Writes the line of the order before what there is.
 #[inline(always)]
 fn put_order_line(lines: &mut Lines, order: MoveOrder)
-    requires { 64 + length lines.old ≤ 1920 }
+    requires { 64 + length lines.old ≤ LINES_ROOM }
     ensures written { lines.new ≡ order_line order ++ lines.old }
     ensures length { length lines.new ≤ 64 + length lines.old }
 {
@@ -53,9 +60,9 @@ fn put_order_line(lines: &mut Lines, order: MoveOrder)
 /// Writes the line of the event, and behind that of a late report the line that it is late, before what there is.
 #[inline(always)]
 fn put_told_line(lines: &mut Lines, entry: Entry, late: bool)
-    requires { 96 + length lines.old ≤ 1920 }
+    requires { EVENT_ROOM + length lines.old ≤ LINES_ROOM }
     ensures written { lines.new ≡ told_line entry late ++ lines.old }
-    ensures length { length lines.new ≤ 96 + length lines.old }
+    ensures length { length lines.new ≤ EVENT_ROOM + length lines.old }
 {
     match entry {
         Entry::Report(report) => {
@@ -71,7 +78,7 @@ fn put_told_line(lines: &mut Lines, entry: Entry, late: bool)
 /// Writes the lines of a few events in one call, the last of them first into their room.
 fn put_few<W: Sink>(entries: &[Entry], late: &[bool], writer: &mut W) -> Result<(), WriteFault>
     requires same { length entries.now ≡ length late.now }
-    requires few { length entries.now ≤ 20 }
+    requires few { length entries.now ≤ MOST }
     ensures wrote { WroteTo W.Sink result writer.old writer.new (told_lines entries.now late.now) }
     ensures unfailed { OnOk result (W.failed writer.new ≡ W.failed writer.old) }
 {

@@ -1,4 +1,5 @@
 use Rattle.std.proofs.Common.{◌≡◌, ◌+◌, ◌*◌, ◌≤◌, length, drop}
+use Rattle.run_resume.specs.declared.told_again.TheConstants.{EVENT_ROOM, LINES_ROOM}
 use Rattle.run_resume.specs.ToldLines.{told_lines}
 use Rattle.run_resume.proofs.told_again.put_few.Given as goal
 
@@ -6,7 +7,7 @@ abbrev pub invariant-places : goal.invariant-places
 invariant-places g l = record {
   written : l.lines ≡ told_lines (drop l.place l.entries) (drop l.place l.late);
   within : l.place ≤ length l.entries;
-  room : length l.lines + 96 * l.place ≤ 1920;
+  room : length l.lines + EVENT_ROOM * l.place ≤ LINES_ROOM;
 }
 
 abbrev pub decreases-places : goal.decreases-places
