@@ -23,7 +23,7 @@ pub data HaveReports (cell : ℕ) : List (Option (List ℕ)) → List Report →
   passed_over : (line : Option (List ℕ)) (lines : List (Option (List ℕ))) (reports : List Report) → IsNotOn cell line
       → HaveReports cell lines reports → HaveReports cell (line ∷ lines) reports
 
--- the cell of this number, by this plan, is as with a controller alone that was given the reports on it that these lines have: these events are their controlled run, which has ended exactly with the stated number of accepted reports, and in which all stayed as the plan promises
+-- the cell of this number, by this plan, is as with a controller alone that was given the reports on it that these lines have: these events are their controlled run, which has ended exactly where as many reports were accepted as the stated number, and in which all stayed as the plan promises
 pub record IsAsAlone (v : VerifiedPlan) (cell : ℕ) (lines : List (Option (List ℕ))) (end : Control) : Type 0 where
   pub reports : List Report
   pub have : HaveReports cell lines reports

@@ -1,3 +1,5 @@
+//! The room for what is read at a time.
+
 ghost use Rattle.std.specs.Prelude.{◌≡◌, ◌<◌, vec_len, IfOk};
 
 use std::alloc::{AllocError, Global};

@@ -1,13 +1,13 @@
 -- What beginning a cell comes to, by what is said of the plan that the two texts tell.
-use Rattle.std.proofs.Common.{◌≡◌, ◌≢◌, ℕ, ◌≤◌, ◌⊎◌, inl, inr, List, Option, None, Some, IfSome, Result, Ok, Err, refl, sym, ap, ◌∙◌, subst, arith}
+use Rattle.std.proofs.Common.{◌≡◌, ◌≢◌, ℕ, ◌≤◌, ◌⊎◌, inl, inr, List, Option, None, Some, IfSome, Result, Ok, sym, ap, ◌∙◌, subst, arith}
 use Rattle.shop_base.specs.Plan.{PlannedShop}
 use Rattle.plan_verifier.specs.declared.verdict.Verdict.TheVariants.{Accepted, Refused}
-use Rattle.plan_verifier.specs.Accepted.{VerifiedPlan, IsVerified, IsAcceptable}
-use Rattle.cell_control.specs.Control.{Control, at_start}
+use Rattle.plan_verifier.specs.Accepted.{IsAcceptable}
+use Rattle.cell_control.specs.Control.{Control}
 use Rattle.command_answers.specs.declared.command_fault.CommandFault.{CommandFault}
 use Rattle.command_answers.specs.declared.loading.Loaded.{Loaded}
 use Rattle.command_answers.specs.declared.loading.Loaded.TheVariants.{NotShaped, Judged}
-use Rattle.command_answers.specs.Checks.{IsLoaded, accepted_in}
+use Rattle.command_answers.specs.Checks.{IsLoaded}
 use Rattle.command_answers.specs.Plans.{TellBoth}
 use Rattle.command_answers.specs.Readings.{AreTextsAnswered}
 use Rattle.cellplan_c.specs.Calls.{IsStarted, loaded_status, IsStatusOfBoth, IsStatusOfPlan}
@@ -16,29 +16,11 @@ use Rattle.cellplan_c.specs.Held.{Held}
 use Rattle.cellplan_c.specs.contracts.inner.Inner as Inner
 use Rattle.cellplan_c.proofs.Judging.{verdict_bound}
 
--- what is taken out of an accepted plan is its controller's, and its status is 0
-pub controller_of : (loaded : Loaded) (verified : VerifiedPlan) (control : Control) → Ok verified ≡ accepted_in loaded → IsVerified verified
-    → control ≡ at_start verified → IsControllerOf loaded control
-controller_of (Judged (Accepted v)) verified control out is start =
-    let same : verified ≡ v = cc in (subst IsVerified same is, start ∙ ap at_start same)
-controller_of (Judged (Refused back why)) verified control out is start = absurd (cc)
-controller_of (NotShaped fault) verified control out is start = absurd (cc)
-
-pub accepted_status : (loaded : Loaded) (verified : VerifiedPlan) → Ok verified ≡ accepted_in loaded → 0 ≡ loaded_status loaded
-accepted_status (Judged (Accepted v)) verified out = refl
-accepted_status (Judged (Refused back why)) verified out = absurd (cc)
-accepted_status (NotShaped fault) verified out = absurd (cc)
-
-pub refused_status : (loaded other : Loaded) → Err other ≡ accepted_in loaded → 1 ≡ loaded_status loaded
-refused_status (Judged (Accepted v)) other out = absurd (cc)
-refused_status (Judged (Refused back why)) other out = refl
-refused_status (NotShaped fault) other out = refl
-
 status_bound : (loaded : Loaded) → loaded_status loaded ≤ 1
 status_bound (Judged verdict) = verdict_bound verdict
 status_bound (NotShaped fault) = omega arith
 
--- the same of what is held
+-- what follows for each inner value follows for what is held
 pub held_so : (P Q : Inner.the_row.Denot → Type 0) (held : Held) → ((inner : Inner.the_row.Denot) → P inner → Q inner) → IfSome held P → IfSome held Q
 held_so P Q None more is = tt
 held_so P Q (Some inner) more is = more inner is

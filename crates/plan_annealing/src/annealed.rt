@@ -1,3 +1,5 @@
+//! The orders of the best plan that an annealing meets.
+
 ghost use Rattle.std.specs.Prelude.{◌≡◌, length, IfOk, IfSome};
 ghost use Rattle.shop_base.specs.Plan.{machines};
 

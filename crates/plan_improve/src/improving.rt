@@ -1,3 +1,5 @@
+//! A plan that is improved in rounds, and judged at the end.
+
 ghost use Rattle.std.specs.Prelude.{◌≡◌, ◌≤◌, ◌↔◌, OnOk, IfOk, IfErr};
 ghost use Rattle.plan_verifier.specs.Accepted.{HasNoCycle, IsAcceptable};
 ghost use Rattle.plan_verifier.specs.Verdicts.{SaysAccepted, OnRefused, IsReason};

@@ -1,3 +1,5 @@
+//! The search for an accepted plan: the proposers in rounds, and then the serial plan.
+
 ghost use Rattle.std.specs.Prelude.{◌≡◌, ◌≤◌, IfOk, IfErr, OnOk};
 ghost use Rattle.plan_seek.specs.Tasks.{task_of, task_given_back, with_order, IsAccepted};
 ghost use Rattle.plan_seek.specs.Turns.{search_by};

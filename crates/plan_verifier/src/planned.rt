@@ -1,3 +1,5 @@
+//! The planned shop of an accepted plan.
+
 use crate::verified::Verified;
 use shop_base::{Planned, Shaped};
 

@@ -1,3 +1,5 @@
+//! The verdict on a plan: by its cycle first, and by its first late job second.
+
 ghost use Rattle.std.specs.Prelude.{◌≡◌, ◌↔◌, IfOk, IfErr};
 ghost use Rattle.alt_graph.specs.Times.{AreOrdered, earliest_of};
 ghost use Rattle.alt_graph.specs.Solved.{OnOrdered, OnCyclic};

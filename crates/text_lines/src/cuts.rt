@@ -1,3 +1,5 @@
+//! Bytes that are cut at a line feed, at a space or behind a prefix.
+
 ghost use Rattle.std.specs.Prelude.{◌≡◌, ◌<◌, ◌==◌, ◌++◌, length, position, IfSome, MatchOption};
 ghost use Rattle.text_lines.specs.Cuts.{HasNone, IsCutAt, LacksPrefix};
 

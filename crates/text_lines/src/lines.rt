@@ -1,3 +1,5 @@
+//! The lines of a text: the first one, and how many there are.
+
 ghost use Rattle.std.specs.Prelude.{◌≡◌, ◌<◌, length, IfSome};
 ghost use Rattle.text_lines.specs.Lines.{without_return, lines_of};
 ghost use Rattle.text_lines.specs.Searches.{GivesFirst};

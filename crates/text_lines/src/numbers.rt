@@ -1,3 +1,5 @@
+//! Numbers in decimal: a whole word, or the digits before a space.
+
 ghost use Rattle.std.specs.Prelude.{◌≡◌, ℕ, ◌^◌, ◌<◌, ◌≤◌, length, take, slice_index, true, false, IfSome};
 ghost use Rattle.std.specs.List.{list_all};
 ghost use Rattle.text_lines.specs.Numbers.{is_digit, value_of, IsNumeral, IsNumberBefore};
