@@ -89,7 +89,7 @@ module _ {S : Type 0} (answers : S → ℕ → Option (List ℕ) → List ℕ �
 
   -- showing the answers, or the read behind it, failed
   pub Draining-unread : {U : Type 0} {room : ℕ} (T : Type 0) (e : DriveFault) (after : Streams) → Keeps middle.input.left after.input.left → Keeps middle.output.taken after.output.taken
-      → IsReadOn {T = T} (Err e) middle after → IsDrained {T = U} (Err e) room answers start now before after
+      → IsReadOn {T = T} (Err e) (record { before = middle; after = after }) → IsDrained {T = U} (Err e) room answers start now before after
   Draining-unread T Read after kept kept_taken failed =
       let count = so_far.count in
       record {

@@ -17,8 +17,9 @@ use Rattle.run_log.specs.Log.{Noted}
 use Rattle.cell_tables.specs.Events.{events_of}
 use Rattle.cell_drive.specs.declared.drive_fault.DriveFault.{DriveFault}
 use Rattle.cell_drive.specs.declared.drive_fault.DriveFault.TheVariants.{Read, Write, InputTooLong, Memory}
+use Rattle.cell_drive.specs.declared.driving.DriveEnd.{DriveEnd}
 use Rattle.cell_drive.specs.declared.rooms.TheConstants.{MAX_PIECE}
-use Rattle.cell_drive.specs.Lent.{Output, Streams}
+use Rattle.cell_drive.specs.Lent.{Output, Streams, Lent}
 use Rattle.cell_drive.specs.Lines.{complete_lines}
 use Rattle.cell_drive.specs.Streams.{IsCutOff}
 use Rattle.cell_drive.specs.AnswerText.{DrivenCell, undriven, CellAnswers, CellCloses, AreAnswersTo, IsAnswerText}
@@ -61,6 +62,14 @@ BreaksOff Memory p input before after =
 -- driving was broken off by this fault, once so much of the input was read
 abbrev pub IsBrokenOff : DriveFault → PlannedShop → Streams → Streams → Type 0
 IsBrokenOff fault p before after = (input : List ℕ) × Consumes before.input.left after.input.left input × BreaksOff fault p input before after
+
+-- with the streams that it is lent, driving the cell of the plan through its whole input comes to this end
+abbrev pub DrivesToEnd : VerifiedPlan → Lent → DriveEnd → Type 0
+DrivesToEnd v streams end = IsDrivenThrough v.planned end.log.entries streams.before streams.after
+
+-- or it is broken off by this fault
+abbrev pub DrivesToFault : VerifiedPlan → Lent → DriveFault → Type 0
+DrivesToFault v streams fault = IsBrokenOff fault v.planned streams.before streams.after
 
 -- the events are the controlled run of some reports by the plan, which leads to the cell after them
 abbrev pub IsRunOf : PlannedShop → List Entry → Type 0

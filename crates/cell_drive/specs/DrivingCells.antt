@@ -6,8 +6,9 @@ use Rattle.plan_verifier.specs.Accepted.{VerifiedPlan}
 use Rattle.cell_control.specs.Control.{Control, at_start}
 use Rattle.cell_drive.specs.declared.drive_fault.DriveFault.{DriveFault}
 use Rattle.cell_drive.specs.declared.drive_fault.DriveFault.TheVariants.{Read, Write, InputTooLong, Memory}
+use Rattle.cell_drive.specs.declared.driving_cells.HubEnd.{HubEnd}
 use Rattle.cell_drive.specs.declared.rooms.TheConstants.{MAX_PIECE}
-use Rattle.cell_drive.specs.Lent.{Output, Streams}
+use Rattle.cell_drive.specs.Lent.{Output, Streams, Lent}
 use Rattle.cell_drive.specs.Lines.{input_lines, complete_lines}
 use Rattle.cell_drive.specs.Streams.{IsCutOff}
 use Rattle.cell_drive.specs.ManyCells.{CellsAnswer, CellsClose, AreAllDone}
@@ -51,3 +52,11 @@ BreakOff Memory plans input before after =
 -- driving was broken off by this fault, once so much of the input was read
 abbrev pub AreBrokenOff : DriveFault → List VerifiedPlan → Streams → Streams → Type 0
 AreBrokenOff fault plans before after = (input : List ℕ) × Consumes before.input.left after.input.left input × BreakOff fault plans input before after
+
+-- with the streams that it is lent, driving the cells of the plans through their whole input comes to this end
+abbrev pub HubDrivesToEnd : List VerifiedPlan → Lent → HubEnd → Type 0
+HubDrivesToEnd plans streams end = AreDrivenThrough plans end.all_done streams.before streams.after
+
+-- or it is broken off by this fault
+abbrev pub HubDrivesToFault : List VerifiedPlan → Lent → DriveFault → Type 0
+HubDrivesToFault plans streams fault = AreBrokenOff fault plans streams.before streams.after

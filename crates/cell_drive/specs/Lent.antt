@@ -25,6 +25,11 @@ pub record Streams : Type 0 where
   pub input : Input
   pub output : Output
 
+-- the streams that a call is lent, before it and after it
+pub record Lent : Type 0 where
+  pub before : Streams
+  pub after : Streams
+
 -- the devices as they are seen
 abbrev pub taker_of : {W : Type 0} → SinkOf W → W → Taker
 taker_of sink device = record { taken = sink.taken device; failed = sink.failed device }
@@ -37,6 +42,11 @@ output_of sink pending device = record { taken = sink.taken device; failed = sin
 
 abbrev pub streams_of : {R W : Type 0} → SourceOf R → SinkOf W → (W → List ℕ) → R → W → Streams
 streams_of source sink pending reader writer = record { input = input_of source reader; output = output_of sink pending writer }
+
+-- a reader and a writer that a call is lent, as it finds them and as it leaves them
+abbrev pub lent : {R W : Type 0} → SourceOf R → SinkOf W → (W → List ℕ) → R → W → R → W → Lent
+lent source sink pending reader writer reader_left writer_left =
+    record { before = streams_of source sink pending reader writer; after = streams_of source sink pending reader_left writer_left }
 
 -- an output as a taker
 abbrev pub taker : Output → Taker

@@ -5,7 +5,7 @@ use Rattle.text_lines.specs.declared.limits.TheConstants.{MAX_INPUT}
 use Rattle.cell_drive.specs.declared.drive_fault.DriveFault.{DriveFault}
 use Rattle.cell_drive.specs.declared.drive_fault.DriveFault.TheVariants.{Read, Write, InputTooLong, Memory}
 use Rattle.cell_drive.specs.declared.pieces.Input.{Input as Held}
-use Rattle.cell_drive.specs.Lent.{Taker, Output, Streams, taker}
+use Rattle.cell_drive.specs.Lent.{Taker, Output, Streams, Lent, taker}
 use Rattle.cell_drive.specs.Holding.{ended, held_after, held_line}
 use Rattle.cell_drive.specs.Answering.{AnswerAll, AreAnswered, AreCutOff, AreCutShort, IsClosingCut}
 
@@ -49,12 +49,12 @@ IsReadTaken (Err Read) answers now piece left next before after = ⊥
 IsReadTaken (Err Memory) answers now piece left next before after = ⊥
 
 -- which device has failed once more was asked for
-abbrev pub IsReadOn : {T : Type 0} → Result T DriveFault → Streams → Streams → Type 0
-IsReadOn (Ok x) before after = (after.input.failed ≡ before.input.failed) × (after.output.failed ≡ before.output.failed)
-IsReadOn (Err Read) before after = (after.input.failed ≡ true) × (after.output.failed ≡ before.output.failed)
-IsReadOn (Err Write) before after = (after.input.failed ≡ before.input.failed) × (after.output.failed ≡ true)
-IsReadOn (Err InputTooLong) before after = ⊥
-IsReadOn (Err Memory) before after = ⊥
+abbrev pub IsReadOn : {T : Type 0} → Result T DriveFault → Lent → Type 0
+IsReadOn (Ok x) streams = (streams.after.input.failed ≡ streams.before.input.failed) × (streams.after.output.failed ≡ streams.before.output.failed)
+IsReadOn (Err Read) streams = (streams.after.input.failed ≡ true) × (streams.after.output.failed ≡ streams.before.output.failed)
+IsReadOn (Err Write) streams = (streams.after.input.failed ≡ streams.before.input.failed) × (streams.after.output.failed ≡ true)
+IsReadOn (Err InputTooLong) streams = ⊥
+IsReadOn (Err Memory) streams = ⊥
 
 -- what reading comes to once these bytes were read into a room of so many, piece by piece, the last line apart, and which device has failed
 abbrev pub ReadsTo : {S T : Type 0} → Result T DriveFault → ℕ → (S → ℕ → Option (List ℕ) → List ℕ → S → Type 0) → S → List ℕ → Reached S → Streams → Streams → Type 0

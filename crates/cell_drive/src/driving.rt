@@ -1,9 +1,9 @@
 //! A run that is driven from its start to the end of its input.
 
 ghost use Rattle.std.specs.Prelude.{◌≡◌, IfOk, IfErr, OnOk, Err};
-ghost use Rattle.cell_drive.specs.Lent.{streams_of};
+ghost use Rattle.cell_drive.specs.Lent.{lent};
 ghost use Rattle.cell_drive.specs.Driven.{IsDriven, drive_start};
-ghost use Rattle.cell_drive.specs.Driving.{IsDrivenThrough, IsBrokenOff, IsRunOf, IsSoFar, IsNeverFull, NeverWentWrong};
+ghost use Rattle.cell_drive.specs.Driving.{DrivesToEnd, DrivesToFault, IsRunOf, IsSoFar, IsNeverFull, NeverWentWrong};
 
 use crate::drive_fault::DriveFault;
 use crate::driven::Driven;
@@ -74,16 +74,14 @@ pub fn drive<R: Source, W: Outlet>(
     reader: &mut R,
     writer: &mut W,
 ) -> Result<DriveEnd, DriveFault>
-    ensures through { IfOk result (λ end. IsDrivenThrough verified.planned end.log.entries
-        (streams_of R.Source W.Sink W.pending reader.old writer.old) (streams_of R.Source W.Sink W.pending reader.new writer.new)) }
+    ensures through { IfOk result (DrivesToEnd verified (lent R.Source W.Sink W.pending reader.old writer.old reader.new writer.new)) }
     ensures run { IfOk result (λ end. IsRunOf verified.planned end.log.entries) }
     ensures so_far { IfOk result (λ end. IsSoFar verified.planned end.log.entries end.done end.last end.left) }
     ensures never_full { IfOk result (λ end. IsNeverFull verified.planned end.log) }
     ensures promised { IfOk result (λ end. NeverWentWrong verified end.log.entries) }
     ensures plan { IfOk result (λ end. end.verified ≡ verified) }
     ensures unfailed { OnOk result ((R.failed reader.new ≡ R.failed reader.old) × (W.failed writer.new ≡ W.failed writer.old)) }
-    ensures broken_off { IfErr result (λ fault. IsBrokenOff fault verified.planned
-        (streams_of R.Source W.Sink W.pending reader.old writer.old) (streams_of R.Source W.Sink W.pending reader.new writer.new)) }
+    ensures broken_off { IfErr result (DrivesToFault verified (lent R.Source W.Sink W.pending reader.old writer.old reader.new writer.new)) }
     ensures untouched { result ≡ Err DriveFault.Memory → (reader.new ≡ reader.old) × (writer.new ≡ writer.old) }
 {
     let mut room = reading_room(alloc)?;

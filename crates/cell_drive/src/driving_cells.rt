@@ -1,8 +1,8 @@
 //! Several runs that are driven from their starts to the end of one input.
 
 ghost use Rattle.std.specs.Prelude.{◌≡◌, IfOk, IfErr, OnOk, Err};
-ghost use Rattle.cell_drive.specs.Lent.{streams_of};
-ghost use Rattle.cell_drive.specs.DrivingCells.{AreDrivenThrough, AreBrokenOff};
+ghost use Rattle.cell_drive.specs.Lent.{lent};
+ghost use Rattle.cell_drive.specs.DrivingCells.{HubDrivesToEnd, HubDrivesToFault};
 
 use crate::drive_fault::DriveFault;
 use crate::driven_cells::DrivenCells;
@@ -33,11 +33,9 @@ pub fn drive_hub<R: Source, W: Outlet>(
     reader: &mut R,
     writer: &mut W,
 ) -> Result<HubEnd, DriveFault>
-    ensures through { IfOk result (λ end. AreDrivenThrough cells.items end.all_done
-        (streams_of R.Source W.Sink W.pending reader.old writer.old) (streams_of R.Source W.Sink W.pending reader.new writer.new)) }
+    ensures through { IfOk result (HubDrivesToEnd cells.items (lent R.Source W.Sink W.pending reader.old writer.old reader.new writer.new)) }
     ensures unfailed { OnOk result ((R.failed reader.new ≡ R.failed reader.old) × (W.failed writer.new ≡ W.failed writer.old)) }
-    ensures broken_off { IfErr result (λ fault. AreBrokenOff fault cells.items
-        (streams_of R.Source W.Sink W.pending reader.old writer.old) (streams_of R.Source W.Sink W.pending reader.new writer.new)) }
+    ensures broken_off { IfErr result (HubDrivesToFault cells.items (lent R.Source W.Sink W.pending reader.old writer.old reader.new writer.new)) }
     ensures untouched { result ≡ Err DriveFault.Memory → (reader.new ≡ reader.old) × (writer.new ≡ writer.old) }
 {
     let mut room = reading_room(alloc)?;

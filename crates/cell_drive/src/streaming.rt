@@ -2,7 +2,7 @@
 
 ghost use Rattle.std.specs.Prelude.{◌≡◌, ◌+◌, ◌^◌, ◌<◌, ◌≤◌, [], length, Some, IfOk, IfErr, OnOk};
 ghost use Rattle.std.specs.Io.KnownBytes.{Keeps, ReadConsumes};
-ghost use Rattle.cell_drive.specs.Lent.{taker_of, output_of, streams_of};
+ghost use Rattle.cell_drive.specs.Lent.{taker_of, output_of, streams_of, lent};
 ghost use Rattle.cell_drive.specs.Answering.{WereAnswered};
 ghost use Rattle.cell_drive.specs.Reading.{IsReadOn, IsPastLimit, IsReadTaken, IsDrained, IsFinished, last_line, reached};
 ghost use Rattle.cell_drive.specs.Streams.{IsShown, IsShownAt, IsStreamed};
@@ -60,8 +60,7 @@ fn read_on<R: Source, W: Outlet>(
     ensures count { IfOk result (λ count. count ≤ length room.new) }
     ensures given { ReadConsumes (R.left reader.old) (R.left reader.new) result room.new }
     ensures taken { Keeps (W.taken writer.old) (W.taken writer.new) }
-    ensures failed { IsReadOn result (streams_of R.Source W.Sink W.pending reader.old writer.old)
-        (streams_of R.Source W.Sink W.pending reader.new writer.new) }
+    ensures failed { IsReadOn result (lent R.Source W.Sink W.pending reader.old writer.old reader.new writer.new) }
     ensures shown { IsShown result (W.pending writer.new) }
 {
     if writer.show().is_err() {

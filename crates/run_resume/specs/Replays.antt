@@ -40,6 +40,10 @@ shop_of taken = taken.driven.control.plan.planned
 abbrev pub taken_so_far : {D : Type 0} → Replay D → TakenUp
 taken_so_far replay = record { driven = driven_by replay.controller replay.log; late = replay.late.items }
 
+-- the entries that they have told
+abbrev pub told_so_far : {D : Type 0} → Replay D → List Entry
+told_so_far replay = told_in (taken_so_far replay)
+
 -- a driven cell, and which of the entries that were told are late reports
 pub record IsReplayed (control : Control) (log : Noted) (late : List Bool) : Type 0 where
   pub driven : IsDriven (driven_by control log)

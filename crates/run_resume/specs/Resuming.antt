@@ -13,8 +13,9 @@ use Rattle.run_log.specs.EventLines.{entry_lines}
 use Rattle.run_log.specs.Sinks.{TookPart}
 use Rattle.cell_drive.specs.declared.drive_fault.DriveFault.{DriveFault}
 use Rattle.cell_drive.specs.declared.drive_fault.DriveFault.TheVariants.{Write}
+use Rattle.cell_drive.specs.declared.driving.DriveEnd.{DriveEnd}
 use Rattle.cell_drive.specs.declared.rooms.TheConstants.{MAX_PIECE}
-use Rattle.cell_drive.specs.Lent.{Output, Streams}
+use Rattle.cell_drive.specs.Lent.{Output, Streams, Lent}
 use Rattle.cell_drive.specs.Lines.{input_lines}
 use Rattle.cell_drive.specs.Streams.{IsStreamed}
 use Rattle.cell_drive.specs.Answering.{AnswerAll}
@@ -62,6 +63,14 @@ IsBrokenOff fault taken before after =
     ⊎ ((middle : Output) × (end : DrivenCell) × Appends before.output.taken middle.taken (again_of taken) × (middle.failed ≡ before.output.failed)
     × IsStreamed {T = Unit {0}} (Err fault) MAX_PIECE (CellAnswers (shop_of taken)) (CellCloses (shop_of taken)) (driven_so_far (shop_of taken) taken.driven.log.entries) end
     (record { input = before.input; output = middle }) after)
+
+-- with the streams that it is lent, going on with the run that was taken up comes to this end
+abbrev pub GoesOnToEnd : TakenUp → Lent → DriveEnd → Type 0
+GoesOnToEnd taken streams end = IsResumedThrough taken end.log.entries streams.before streams.after
+
+-- or it is broken off by this fault
+abbrev pub GoesOnToFault : TakenUp → Lent → DriveFault → Type 0
+GoesOnToFault taken streams fault = IsBrokenOff fault taken streams.before streams.after
 
 -- such a text is by itself a log of the whole run
 abbrev pub AResumedTextIsALog : Type 0

@@ -5,7 +5,7 @@ ghost use Rattle.shop_base.specs.Ends.{stated_number};
 ghost use Rattle.run_log.specs.Auditing.{IsLineTaken};
 ghost use Rattle.run_log.specs.LogLines.{LinesTell};
 ghost use Rattle.run_resume.specs.CutLogs.{ended_lines, fault_line, IsFirstBad};
-ghost use Rattle.run_resume.specs.Replays.{IsReplayed, IsEntryFault, IsLineFault, taken_so_far, told_in};
+ghost use Rattle.run_resume.specs.Replays.{IsReplayed, IsEntryFault, IsLineFault, taken_so_far, told_so_far};
 
 use crate::resume_fault::ResumeFault;
 use crate::same_order::is_same_order;
@@ -62,7 +62,7 @@ impl<D: Dues> Replay<D> {
         requires room { 2 * stated_number self.old.controller.plan.planned ≤ vec_capacity self.old.late }
         ensures replayed { OnOk result (IsReplayed self.new.controller self.new.log self.new.late.items) }
         ensures plan { OnOk result (self.new.controller.plan ≡ self.old.controller.plan) }
-        ensures tells { OnOk result (LinesTell self.old.controller.plan.planned (ended_lines text.now) (told_in (taken_so_far self.new))) }
+        ensures tells { OnOk result (LinesTell self.old.controller.plan.planned (ended_lines text.now) (told_so_far self.new)) }
         ensures fault { IfErr result (IsFirstBad self.old.controller.plan.planned (ended_lines text.now)) }
     {
         let mut number = 0;
@@ -83,8 +83,7 @@ impl<D: Dues> Replay<D> {
         requires room { 2 * stated_number self.old.controller.plan.planned ≤ vec_capacity self.old.late }
         ensures replayed { OnOk result (IsReplayed self.new.controller self.new.log self.new.late.items) }
         ensures plan { OnOk result (self.new.controller.plan ≡ self.old.controller.plan) }
-        ensures tells { OnOk result (IsLineTaken self.old.controller.plan.planned line.now
-            (told_in (taken_so_far self.old)) (told_in (taken_so_far self.new))) }
+        ensures tells { OnOk result (IsLineTaken self.old.controller.plan.planned line.now (told_so_far self.old) (told_so_far self.new)) }
         ensures capacity { OnOk result (vec_capacity self.new.late ≡ vec_capacity self.old.late) }
         ensures number { IfErr result (λ fault. fault_line fault ≡ number) }
         ensures fault { IfErr result (IsLineFault (taken_so_far self.old) line.now) }
@@ -107,7 +106,7 @@ impl<D: Dues> Replay<D> {
         requires room { 2 * stated_number self.old.controller.plan.planned ≤ vec_capacity self.old.late }
         ensures replayed { OnOk result (IsReplayed self.new.controller self.new.log self.new.late.items) }
         ensures plan { OnOk result (self.new.controller.plan ≡ self.old.controller.plan) }
-        ensures told { OnOk result (told_in (taken_so_far self.new) ≡ told_in (taken_so_far self.old) ++ Entry.Report report ∷ []) }
+        ensures told { OnOk result (told_so_far self.new ≡ told_so_far self.old ++ Entry.Report report ∷ []) }
         ensures capacity { OnOk result (vec_capacity self.new.late ≡ vec_capacity self.old.late) }
         ensures number { IfErr result (λ fault. fault_line fault ≡ number) }
         ensures fault { IfErr result (IsEntryFault (taken_so_far self.old) (Entry.Report report)) }
@@ -133,7 +132,7 @@ impl<D: Dues> Replay<D> {
         requires room { 2 * stated_number self.old.controller.plan.planned ≤ vec_capacity self.old.late }
         ensures replayed { OnOk result (IsReplayed self.new.controller self.new.log self.new.late.items) }
         ensures plan { OnOk result (self.new.controller.plan ≡ self.old.controller.plan) }
-        ensures told { OnOk result (told_in (taken_so_far self.new) ≡ told_in (taken_so_far self.old) ++ Entry.Order order ∷ []) }
+        ensures told { OnOk result (told_so_far self.new ≡ told_so_far self.old ++ Entry.Order order ∷ []) }
         ensures capacity { OnOk result (vec_capacity self.new.late ≡ vec_capacity self.old.late) }
         ensures number { IfErr result (λ fault. fault_line fault ≡ number) }
         ensures fault { IfErr result (IsEntryFault (taken_so_far self.old) (Entry.Order order)) }
