@@ -38,20 +38,20 @@ abbrev pub WereCellsCutOff : List VerifiedPlan → List ℕ → Streams → Stre
 WereCellsCutOff plans input before after = (end : List Control) × IsCutOff CellsAnswer (CellsClose 0) (map at_start plans) input end before after
 
 -- what came of an input once this much of it was read, as with one cell
-abbrev pub BreakOff : DriveFault → List VerifiedPlan → List ℕ → Streams → Streams → Type 0
-BreakOff Read plans input before after =
+abbrev pub CellsBreakOff : DriveFault → List VerifiedPlan → List ℕ → Streams → Streams → Type 0
+CellsBreakOff Read plans input before after =
     (after.input.failed ≡ true) × (length input ≤ MAX_INPUT) × WereCellsAnswersWritten plans (complete_lines input) before.output after.output × (after.output.failed ≡ before.output.failed) × (after.output.pending ≡ [])
-BreakOff Write plans input before after =
+CellsBreakOff Write plans input before after =
     (after.output.failed ≡ true) × WereCellsCutOff plans input before after × (after.input.failed ≡ before.input.failed)
-BreakOff InputTooLong plans input before after =
+CellsBreakOff InputTooLong plans input before after =
     (MAX_INPUT < length input) × (length input ≤ MAX_INPUT + MAX_PIECE) × WereCellsAnswersWritten plans (complete_lines (take MAX_INPUT input)) before.output after.output
     × (after.input.failed ≡ before.input.failed) × (after.output.failed ≡ before.output.failed) × (after.output.pending ≡ [])
-BreakOff Memory plans input before after =
+CellsBreakOff Memory plans input before after =
     (input ≡ []) × (after.output.taken ≡ before.output.taken) × (after.input.failed ≡ before.input.failed) × (after.output.failed ≡ before.output.failed)
 
 -- driving was broken off by this fault, once so much of the input was read
 abbrev pub AreBrokenOff : DriveFault → List VerifiedPlan → Streams → Streams → Type 0
-AreBrokenOff fault plans before after = (input : List ℕ) × Consumes before.input.left after.input.left input × BreakOff fault plans input before after
+AreBrokenOff fault plans before after = (input : List ℕ) × Consumes before.input.left after.input.left input × CellsBreakOff fault plans input before after
 
 -- with the streams that it is lent, driving the cells of the plans through their whole input comes to this end
 abbrev pub HubDrivesToEnd : List VerifiedPlan → Lent → HubEnd → Type 0
