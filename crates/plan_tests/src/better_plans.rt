@@ -53,6 +53,11 @@ fn is_end(
     }
 }
 
+/// The same of an answer that is dropped then.
+fn end_of(alloc: Global, answer: Result<Verdict, NotImproved>, plan: &[u8]) -> Result<End, Fail> {
+    Ok(is_end(alloc, &answer, plan)?)
+}
+
 /// How the search from the plan that is given ends, where the other one is to come out or back.
 fn improved(
     alloc: Global,
@@ -63,7 +68,7 @@ fn improved(
 ) -> Result<End, Fail> {
     let start = planned(alloc, TWO, plans[0])?;
     let answer = improve(alloc, start, improvers, rounds, watch);
-    Ok(is_end(alloc, &answer, plans[1])?)
+    end_of(alloc, answer, plans[1])
 }
 
 /// Job 1 has to be out first.

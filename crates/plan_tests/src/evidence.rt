@@ -2,7 +2,7 @@
 
 use crate::plans::{CLEANED, CROSSED, IN_SERIES, TWO, planned};
 use alt_graph::{check_chain, check_cycle};
-use shop_base::{JobNo, Moment, Node};
+use shop_base::{JobNo, Moment, Node, Shaped};
 use std::alloc::{AllocError, Global};
 use std::test::Fail;
 
@@ -58,22 +58,26 @@ fn nodes(alloc: Global, places: &[(JobNo, u32)]) -> Result<Vec<Node>, AllocError
 /// The length of the nodes where they are a chain, and whether they are a cycle.
 fn checked(
     alloc: Global,
+    shaped: &Shaped,
+    places: &[(JobNo, u32)],
+) -> Result<(Option<Moment>, bool), Fail> {
+    let nodes = nodes(alloc, places)?;
+    Ok((check_chain(shaped, &nodes), check_cycle(shaped, &nodes)))
+}
+
+fn found(
+    alloc: Global,
     plan: &[u8],
     places: &[(JobNo, u32)],
 ) -> Result<(Option<Moment>, bool), Fail> {
     let shaped = planned(alloc, TWO, plan)?;
-    let nodes = nodes(alloc, places)?;
-    Ok((check_chain(&shaped, &nodes), check_cycle(&shaped, &nodes)))
+    checked(alloc, &shaped, places)
 }
 
 #[test]
 fn chains_and_cycles_are_told_from_other_nodes(rt: HostRuntime) -> Result<(), Fail> {
     for &(plan, places, length, cycle) in EVIDENCE {
-        let count = places.len();
-        assert!(rt;
-            checked(rt.alloc(), plan, places)? == (length, cycle),
-            "of {count} nodes"
-        );
+        assert!(rt; found(rt.alloc(), plan, places)? == (length, cycle));
     }
     Ok(())
 }

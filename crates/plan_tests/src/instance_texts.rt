@@ -4,6 +4,7 @@
 use crate::plans::TWO;
 use orlib_read::{Named, OrFault, read_from_collection, read_instance};
 use shop_base::{Shop, Step};
+use std::alloc::Global;
 use std::test::Fail;
 
 /// A text, its description, and the work of its shop.
@@ -44,22 +45,30 @@ fn goes(shop: &Shop, route: &[Step]) -> bool {
     shop.route(1) == Some(route) && shop.route(2).is_none()
 }
 
+/// The way of job 1 of the two jobs.
+const LAST: &[Step] = &[
+    Step {
+        machine: 1,
+        nominal: 4,
+    },
+    Step {
+        machine: 0,
+        nominal: 1,
+    },
+];
+
+/// Whether the instance of this name has this description and work.
+fn is_found(alloc: Global, name: &[u8], description: &[u8], work: u64) -> Result<bool, OrFault> {
+    let named = read_from_collection(alloc, COLLECTION, name)?;
+    Ok(is_described(&named, description, work))
+}
+
 #[test]
 fn instances_of_a_collection_are_found_by_name(rt: HostRuntime) -> Result<(), Fail> {
-    let last = [
-        Step {
-            machine: 1,
-            nominal: 4,
-        },
-        Step {
-            machine: 0,
-            nominal: 1,
-        },
-    ];
-    let small = read_from_collection(rt.alloc(), COLLECTION, b"two")?;
-    assert!(rt; is_described(&small, b" small", 10) && goes(&small.shop, &last));
-    let one = read_from_collection(rt.alloc(), COLLECTION, b"one")?;
-    assert!(rt; is_described(&one, b"", 7));
+    assert!(rt; is_found(rt.alloc(), b"two", b" small", 10)?);
+    assert!(rt; is_found(rt.alloc(), b"one", b"", 7)?);
+    let two = read_from_collection(rt.alloc(), COLLECTION, b"two")?;
+    assert!(rt; goes(&two.shop, LAST));
     Ok(())
 }
 

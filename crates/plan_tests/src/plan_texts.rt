@@ -3,7 +3,7 @@
 
 use crate::plans::{IN_SERIES, is_text};
 use plan_text::{PlanFault, plan_document, read_plan};
-use shop_base::Plan;
+use shop_base::{Moment, Plan};
 use std::alloc::{AllocError, Global};
 use std::test::Fail;
 
@@ -25,10 +25,14 @@ fn is_written_again(alloc: Global, text: &[u8]) -> Result<bool, PlanFault> {
     is_text(alloc, &plan, text)
 }
 
-/// Whether the plan of the text is told so.
-fn is_told(alloc: Global, text: &[u8], told: &str) -> Result<bool, Fail> {
-    let plan = read_plan(alloc, text)?;
+fn is_told(alloc: Global, plan: &Plan, told: &str) -> Result<bool, Fail> {
     Ok(format!(in alloc; "{plan:?}")?.as_str() == told)
+}
+
+/// Whether the plan of the text is told so.
+fn is_read(alloc: Global, text: &[u8], told: &str) -> Result<bool, Fail> {
+    let plan = read_plan(alloc, text)?;
+    is_told(alloc, &plan, told)
 }
 
 #[test]
@@ -38,23 +42,24 @@ fn plans_are_read_and_written_again(rt: HostRuntime) -> Result<(), Fail> {
     }
     let told =
         "Plan { release: [4294967296], budget: [4294967297], order: [[4294967295]], clean: Some([4294967298]) }";
-    assert!(rt; is_told(rt.alloc(), GREATER, told)?);
+    assert!(rt; is_read(rt.alloc(), GREATER, told)?);
     let refused = read_plan(rt.alloc(), b"x = 1\n").err();
     assert!(rt; refused == Some(PlanFault::UnknownKey));
     Ok(())
 }
 
-/// Whether the plan can't be read back.
-fn is_not_read_back(alloc: Global, plan: &Plan) -> bool {
-    plan_document(alloc, plan).err() == Some(PlanFault::NotReadBack)
+/// What is answered of a plan with these budgets.
+fn refusal(alloc: Global, budget: Vec<Moment>) -> Result<Option<PlanFault>, PlanFault> {
+    let mut plan = read_plan(alloc, IN_SERIES)?;
+    plan.budget = budget;
+    Ok(plan_document(alloc, &plan).err())
 }
 
 #[test]
 fn moments_past_the_greatest_integer_are_not_read_back(rt: HostRuntime) -> Result<(), Fail> {
-    let mut plan = read_plan(rt.alloc(), IN_SERIES)?;
     for last in [0, 9223372036854775808] {
-        plan.budget = [9223372036854775808, last].to_vec(rt.alloc())?;
-        assert!(rt; is_not_read_back(rt.alloc(), &plan));
+        let budget = [9223372036854775808, last].to_vec(rt.alloc())?;
+        assert!(rt; refusal(rt.alloc(), budget)? == Some(PlanFault::NotReadBack));
     }
     Ok(())
 }

@@ -6,7 +6,7 @@ use orlib_read::read_instance;
 use plan_seek::{GreedyProposer, NotFound, Proposer, SeekFault, ShiftProposer, seek};
 use plan_text::read_plan;
 use plan_verifier::Verified;
-use shop_base::{Plan, Shop};
+use shop_base::{JobNo, Plan, Shop};
 use std::alloc::{AllocError, Global};
 use std::cell::Cell;
 use std::rc::Rc;
@@ -71,6 +71,19 @@ fn sought(
     seek(alloc, shop, release, budget, clean, proposers, rounds)
 }
 
+/// Whether this is answered: the plan, or why there is none.
+fn is_answer(
+    alloc: Global,
+    answer: Result<Verified, NotFound>,
+    given: &[u8],
+    wanted: &str,
+) -> Result<bool, Fail> {
+    match answer {
+        Ok(verified) => Ok(is_text(alloc, verified.shaped().plan(), wanted.as_bytes())?),
+        Err(refused) => is_refused(alloc, refused, given, wanted),
+    }
+}
+
 /// Whether the search for the two jobs with these numbers answers this: the plan, or why there is none.
 fn is_found(
     alloc: Global,
@@ -81,10 +94,8 @@ fn is_found(
 ) -> Result<bool, Fail> {
     let shop = two_jobs(alloc)?;
     let numbers = read_plan(alloc, given)?;
-    match sought(alloc, shop, numbers, proposers, rounds) {
-        Ok(verified) => Ok(is_text(alloc, verified.shaped().plan(), wanted.as_bytes())?),
-        Err(refused) => is_refused(alloc, refused, given, wanted),
-    }
+    let answer = sought(alloc, shop, numbers, proposers, rounds);
+    is_answer(alloc, answer, given, wanted)
 }
 
 /// Any plan of the two jobs one after the other is in time.
@@ -177,13 +188,26 @@ fn searched(
 #[test]
 fn a_search_answers_by_numbers_planners_and_rounds(rt: HostRuntime) -> Result<(), Fail> {
     for &(given, answers, first, rounds, wanted, count) in SEARCHES {
-        assert!(rt;
-            searched(rt.alloc(), given, answers, first, rounds, wanted)? == (true, count),
-            "{wanted}"
-        );
+        let found = searched(rt.alloc(), given, answers, first, rounds, wanted)?;
+        assert!(rt; found == (true, count));
     }
     assert!(rt; is_found(rt.alloc(), AMPLE, &[], 0, SERIAL)?);
     Ok(())
+}
+
+fn are_told(alloc: Global, orders: &Option<Vec<Vec<JobNo>>>, wanted: &str) -> Result<bool, Fail> {
+    Ok(format!(in alloc; "{orders:?}")?.as_str() == wanted)
+}
+
+fn is_proposed(
+    alloc: Global,
+    planner: &impl Proposer,
+    shop: &Shop,
+    round: u32,
+    wanted: &str,
+) -> Result<bool, Fail> {
+    let orders = planner.propose(alloc, shop, round)?;
+    are_told(alloc, &orders, wanted)
 }
 
 /// Whether a planner proposes this in a round for an instance.
@@ -195,8 +219,7 @@ fn proposes(
     wanted: &str,
 ) -> Result<bool, Fail> {
     let named = read_instance(alloc, instance)?;
-    let answer = planner.propose(alloc, &named.shop, round)?;
-    Ok(format!(in alloc; "{answer:?}")?.as_str() == wanted)
+    is_proposed(alloc, planner, &named.shop, round, wanted)
 }
 
 #[test]

@@ -2,7 +2,7 @@
 //! one, stands in `tests/command-lines`.
 
 use crate::plans::{CLEANED, TWO, is_text, planned, two_jobs};
-use plan_text::{PlanFault, read_plan};
+use plan_text::read_plan;
 use shop_base::{NotShaped, Plan, Shaped, Shop, Step, shape};
 use std::alloc::{AllocError, Global};
 use std::test::Fail;
@@ -47,7 +47,7 @@ const NOT_SHAPED: &[(&[u8], &str)] = &[
 ];
 
 /// Whether these are the two jobs, and the plan of the text.
-fn are_whole(alloc: Global, shop: &Shop, plan: &Plan, text: &[u8]) -> Result<bool, PlanFault> {
+fn are_whole(alloc: Global, shop: &Shop, plan: &Plan, text: &[u8]) -> Result<bool, Fail> {
     Ok(shop.work() == 10 && is_text(alloc, plan, text)?)
 }
 
@@ -75,12 +75,17 @@ fn is_refused(alloc: Global, plan: &[u8], text: &str) -> Result<bool, Fail> {
     comes_back(alloc, &answer, plan, text)
 }
 
+/// Whether a plan that is shaped is taken apart into the two jobs and the plan of the text.
+fn are_parts_whole(alloc: Global, plan: &[u8]) -> Result<bool, Fail> {
+    let (shop, parts) = planned(alloc, TWO, plan)?.into_parts();
+    are_whole(alloc, &shop, &parts, plan)
+}
+
 #[test]
 fn the_shop_and_the_plan_come_back(rt: HostRuntime) -> Result<(), Fail> {
     for &(plan, text) in NOT_SHAPED {
-        assert!(rt; is_refused(rt.alloc(), plan, text)?, "{text}");
+        assert!(rt; is_refused(rt.alloc(), plan, text)?);
     }
-    let (shop, parts) = planned(rt.alloc(), TWO, CLEANED)?.into_parts();
-    assert!(rt; are_whole(rt.alloc(), &shop, &parts, CLEANED)?);
+    assert!(rt; are_parts_whole(rt.alloc(), CLEANED)?);
     Ok(())
 }

@@ -3,8 +3,8 @@
 
 use crate::plans::{CLEANED, IN_SERIES, TWO, planned};
 use alt_graph::{Solved, solve};
-use shop_base::{JobNo, Moment, Node};
-use std::alloc::{AllocError, Global};
+use shop_base::{JobNo, Moment, Node, Shaped};
+use std::alloc::Global;
 use std::test::Fail;
 
 /// A plan for the two jobs, a job and a place, and the earliest moment of that node, if it is one.
@@ -24,12 +24,11 @@ const TIMES: &[Time] = &[
     (CLEANED, 1, 2, Some(12)),
 ];
 
-/// The earliest moment of the node, and whether it has a rank and a chain. Where there is a cycle, no node has any.
-fn told(
-    alloc: Global,
-    solved: &Solved,
-    node: Node,
-) -> Result<(Option<Moment>, bool, bool), AllocError> {
+/// The earliest moment of a node, and whether it has a rank and a chain.
+type Told = (Option<Moment>, bool, bool);
+
+/// Where there is a cycle, no node has any.
+fn told(alloc: Global, solved: &Solved, node: Node) -> Result<Told, Fail> {
     match solved {
         Solved::Ordered(times) => {
             let chain = times.chain(alloc, node)?.is_some();
@@ -39,20 +38,22 @@ fn told(
     }
 }
 
-fn found(alloc: Global, plan: &[u8], node: Node) -> Result<(Option<Moment>, bool, bool), Fail> {
+fn told_of_graph(alloc: Global, shaped: &Shaped, node: Node) -> Result<Told, Fail> {
+    let solved = solve(alloc, shaped)?;
+    told(alloc, &solved, node)
+}
+
+fn told_of_plan(alloc: Global, plan: &[u8], node: Node) -> Result<Told, Fail> {
     let shaped = planned(alloc, TWO, plan)?;
-    let solved = solve(alloc, &shaped)?;
-    Ok(told(alloc, &solved, node)?)
+    told_of_graph(alloc, &shaped, node)
 }
 
 #[test]
 fn just_nodes_have_times_ranks_and_chains(rt: HostRuntime) -> Result<(), Fail> {
     for &(plan, job, place, moment) in TIMES {
-        let wanted = (moment, moment.is_some(), moment.is_some());
-        assert!(rt;
-            found(rt.alloc(), plan, Node { job, place })? == wanted,
-            "{job}.{place}"
-        );
+        let is_node = moment.is_some();
+        let told = told_of_plan(rt.alloc(), plan, Node { job, place })?;
+        assert!(rt; told == (moment, is_node, is_node));
     }
     Ok(())
 }
