@@ -1,16 +1,13 @@
 -- Files that are asked for.
 use Rattle.std.specs.Prelude.{ℕ, ◌<◌, List, length, Result, Ok, Err, Vec}
 use Rattle.std.specs.declared.alloc.Global.{Global}
+use Rattle.text_lines.specs.declared.limits.TheConstants.{MAX_INPUT}
 use Rattle.command_answers.specs.declared.command_fault.CommandFault.{CommandFault}
 use Rattle.command_answers.specs.declared.command_fault.CommandFault.TheVariants.{Read, InputTooLong, Memory}
 
--- the most bytes of a file or of the input: 64 MiB
-abbrev pub most_bytes : ℕ
-most_bytes = 67108864
-
--- more bytes than that
+-- more bytes than a file or the input may have
 abbrev pub AreTooMany : List ℕ → Type 0
-AreTooMany bytes = most_bytes < length bytes
+AreTooMany bytes = MAX_INPUT < length bytes
 
 -- the bytes of a text that came, or why there are none
 abbrev pub text_of : {F : Type 0} → Result (Vec ℕ Global) F → Result (List ℕ) F

@@ -3,7 +3,7 @@
 ghost use Rattle.std.specs.Prelude.{◌≡◌, ◌<◌, ◌≤◌, IfOk, IfErr, IfSome, IsErrAnd, vec_len};
 ghost use Rattle.command_answers.specs.declared.command_fault.CommandFault.TheVariants.{InputTooLong};
 ghost use Rattle.command_answers.specs.Reading.{IsFaultOfSystem};
-ghost use Rattle.command_answers.specs.Texts.{most_bytes, AreTooMany, IsFileFault};
+ghost use Rattle.command_answers.specs.Texts.{AreTooMany, IsFileFault};
 
 use crate::answer::Outcome;
 use crate::command_fault::CommandFault;
@@ -13,7 +13,7 @@ use text_lines::MAX_INPUT;
 
 /// The bytes that a reader gives until its end.
 pub fn read_whole<R: Read + Drop>(alloc: Global, reader: R) -> Outcome<Vec<u8>>
-    ensures within { IfOk result (λ bytes. vec_len bytes ≤ most_bytes) }
+    ensures within { IfOk result (λ bytes. vec_len bytes ≤ MAX_INPUT) }
     ensures whole { IfOk result (λ bytes. IfSome (R.remaining reader) (λ all. bytes.items ≡ all)) }
     ensures fault { IfErr result IsFileFault }
     ensures too_long { IfErr result (λ fault. fault ≡ InputTooLong → IfSome (R.remaining reader) AreTooMany) }
@@ -26,8 +26,8 @@ pub fn read_whole<R: Read + Drop>(alloc: Global, reader: R) -> Outcome<Vec<u8>>
 
 /// The bytes that were read to the end, or why they can't be had.
 fn whole_of(read: io::Result<usize>, bytes: Vec<u8>) -> Outcome<Vec<u8>>
-    ensures within { IfOk read (λ _. vec_len bytes ≤ most_bytes → result ≡ Ok bytes) }
-    ensures beyond { IfOk read (λ _. most_bytes < vec_len bytes → result ≡ Err InputTooLong) }
+    ensures within { IfOk read (λ _. vec_len bytes ≤ MAX_INPUT → result ≡ Ok bytes) }
+    ensures beyond { IfOk read (λ _. MAX_INPUT < vec_len bytes → result ≡ Err InputTooLong) }
     ensures fault { IfErr read (λ error. IsErrAnd result (IsFaultOfSystem error)) }
 {
     match read {

@@ -1,6 +1,7 @@
 ghost use Rattle.std.specs.Prelude.{◌≤◌, ℕ, List, Result, IfOk, vec_len};
+ghost use Rattle.text_lines.specs.declared.limits.TheConstants.{MAX_INPUT};
 ghost use Rattle.command_answers.specs.declared.command_fault.CommandFault.{CommandFault};
-ghost use Rattle.command_answers.specs.Texts.{most_bytes, text_of, Asks};
+ghost use Rattle.command_answers.specs.Texts.{text_of, Asks};
 
 use crate::answer::Outcome;
 use std::alloc::Global;
@@ -14,5 +15,5 @@ pub trait Texts {
     /// bytes, and that memory ran out.
     fn text(&mut self, alloc: Global, path: &str) -> Outcome<Vec<u8>>
         ensures asked { Asks gives path.now self.old (text_of result) self.new }
-        ensures within { IfOk result (λ text. vec_len text ≤ most_bytes) };
+        ensures within { IfOk result (λ text. vec_len text ≤ MAX_INPUT) };
 }

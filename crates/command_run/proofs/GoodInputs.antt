@@ -2,13 +2,13 @@
 use Rattle.std.proofs.Common.{◌≡◌, ℕ, ◌≤◌, ◌++◌, List, [], Option, None, Some, Result, Ok, Err, length, length-append, append-nil, ap, sym, ◌∙◌, subst, arith}
 use Rattle.std.specs.Io.KnownBytes.{Consumes, IsAtEnd}
 use Rattle.shop_base.specs.Shop.{JobShop}
+use Rattle.text_lines.specs.declared.limits.TheConstants.{MAX_INPUT}
 use Rattle.command_answers.specs.declared.answer.Answer.{Answer}
 use Rattle.command_answers.specs.declared.command_fault.CommandFault.{CommandFault}
 use Rattle.command_answers.specs.declared.command_fault.CommandFault.TheVariants.{Instance, Plan, Read, Write, InputTooLong, Memory}
 use Rattle.command_answers.specs.Instances.{Tells}
 use Rattle.command_answers.specs.Readings.{AreFactsAnswered}
 use Rattle.command_answers.specs.Steps.{GoesOn, Told}
-use Rattle.command_answers.specs.Texts.{most_bytes}
 use Rattle.command_run.specs.Streams.{Input}
 use Rattle.command_run.specs.Inputs.{IsInputRead, RunsInput}
 use Rattle.command_run.specs.Laws.{IsInputAnswered}
@@ -29,7 +29,7 @@ module _ (text description : List ℕ) (shop : JobShop) (tells : Tells text None
   facts_told (Err fault) after are whole = subst (λ f. IsInputAnswered shop (Err f) after) (sym (are.only description shop tells)) tt
 
   -- what came of the reading is answered
-  input_read : (before mid after : Input) (came : Result (List ℕ) CommandFault) (outcome : Result Answer CommandFault) → before.left ≡ Some text → length text ≤ most_bytes
+  input_read : (before mid after : Input) (came : Result (List ℕ) CommandFault) (outcome : Result Answer CommandFault) → before.left ≡ Some text → length text ≤ MAX_INPUT
       → IsInputRead before came mid → GoesOn (λ t. Told (AreFactsAnswered t None)) came mid outcome after → IsInputAnswered shop outcome after
   input_read before mid after (Ok t) outcome given few is on =
       let all = all_given mid.left text t (subst (λ o. Consumes o mid.left t) given is.0) is.1 in
@@ -42,7 +42,7 @@ module _ (text description : List ℕ) (shop : JobShop) (tells : Tells text None
   input_read before mid after (Err (Plan fault)) outcome given few is on = absurd is
   input_read before mid after (Err Write) outcome given few is on = absurd is
 
-pub good_input : (before after : Input) (text description : List ℕ) (shop : JobShop) (outcome : Result Answer CommandFault) → before.left ≡ Some text → length text ≤ most_bytes
+pub good_input : (before after : Input) (text description : List ℕ) (shop : JobShop) (outcome : Result Answer CommandFault) → before.left ≡ Some text → length text ≤ MAX_INPUT
     → Tells text None description shop → RunsInput before outcome after → IsInputAnswered shop outcome after
 good_input before after text description shop outcome given few tells run =
     input_read text description shop tells before run.mid after run.came outcome given few run.is run.goes_on

@@ -7,11 +7,11 @@ use Rattle.command_answers.specs.declared.command_fault.CommandFault.{CommandFau
 use Rattle.command_run.specs.Streams.{Devices}
 use Rattle.command_run.specs.declared.unchosen.Unchosen.TheVariants.{Usage as Wrong}
 use Rattle.command_run.specs.Ending.{Ends, WasTold}
-use Rattle.command_run.specs.Unchosen.{ComesTo, Comes}
+use Rattle.command_run.specs.Unchosen.{IsOutcomeOf, Comes}
 use Rattle.command_run.specs.Program.{Follows}
 
 pub refused_ends : {W : Type 0} (gives : W → List ℕ → Result (List ℕ) CommandFault → W → Type 0) (fault : WordsFault) (outcome : Result Answer CommandFault)
-    (before : Devices W) (status : ℕ) (after : Devices W) → ComesTo fault outcome → Ends outcome before.streams.output after.streams.output before.errors after.errors status
+    (before : Devices W) (status : ℕ) (after : Devices W) → IsOutcomeOf fault outcome → Ends outcome before.streams.output after.streams.output before.errors after.errors status
     → after.texts ≡ before.texts → after.streams.input ≡ before.streams.input → Follows gives (Err fault) before status after
 refused_ends gives (Usage true text) (Ok answer) before status after comes ends same_texts same_input =
     record { help = answer; text_is = comes; ends = ends; same = (same_texts, same_input) }

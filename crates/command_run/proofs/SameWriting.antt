@@ -6,6 +6,7 @@ use Rattle.std.proofs.KnownBytes.{Appends-trans, Consumes-whole}
 use Rattle.std.proofs.lemmas.List.{append_cancel_left, append-nil}
 use Rattle.shop_base.specs.Plan.{PlannedShop, IsWellShaped}
 use Rattle.shop_base.specs.Ends.{stated_number, reports_in}
+use Rattle.text_lines.specs.declared.limits.TheConstants.{MAX_INPUT}
 use Rattle.cell_tables.specs.declared.entry.Entry.{Entry}
 use Rattle.cell_tables.specs.Events.{events_of}
 use Rattle.plan_verifier.specs.Accepted.{VerifiedPlan, IsAcceptable}
@@ -24,7 +25,6 @@ use Rattle.command_words.specs.Choice.{word_of, IsChoiceOf, TellsOneOf, found_in
 use Rattle.command_answers.specs.declared.answer.Answer.{Answer}
 use Rattle.command_answers.specs.declared.command_fault.CommandFault.{CommandFault}
 use Rattle.command_answers.specs.declared.command_fault.CommandFault.TheVariants.{Write, Memory}
-use Rattle.command_answers.specs.Texts.{most_bytes}
 use Rattle.command_answers.specs.Commands.{PairOfFiles}
 use Rattle.command_run.specs.Streams.{Streams, Output, Errors}
 use Rattle.command_run.specs.Drives.{IsDrive, IsEnded, IsEndAnswer, DrivesCell, status_at, end_of_drive}
@@ -122,7 +122,7 @@ record Wrote (p : PlannedShop) (input : List ℕ) (status : ℕ) (written : List
   pub so_far : IsSoFar p entries done last left
   pub own : status ≡ status_at done
 
-module _ (content : List ℕ → Result (List ℕ) CommandFault) (words : List (List ℕ)) (p : PlannedShop) (input : List ℕ) (few : length input ≤ most_bytes)
+module _ (content : List ℕ → Result (List ℕ) CommandFault) (words : List (List ℕ)) (p : PlannedShop) (input : List ℕ) (few : length input ≤ MAX_INPUT)
     (status : ℕ) (written : List ℕ) (well : RunsWell content words input status written) where
   drive_wrote : (v : VerifiedPlan) (mid : Streams) (outcome : Result Answer CommandFault) (end : Result DriveEnd DriveFault) → v.planned ≡ p → IsDrive v well.before.streams mid end
       → IsEndAnswer (end_of_drive end) outcome → well.after.streams.input ≡ mid.input → Ends outcome mid.output well.after.streams.output well.before.errors well.after.errors status → Wrote p input status written
@@ -190,7 +190,7 @@ wrote_the_same p input status other_status written other shaped one two =
     (two.own ∙ ap status_at done ∙ sym one.own, same.0)
 
 pub drive_writes_the_same : (content : List ℕ → Result (List ℕ) CommandFault) (words : List (List ℕ)) (pair : PairOfFiles) (p : PlannedShop) (input : List ℕ) (status other_status : ℕ) (written other : List ℕ)
-    → AskForDrive words pair → TellPlan content pair p → IsWellShaped p → IsAcceptable p → length input ≤ most_bytes
+    → AskForDrive words pair → TellPlan content pair p → IsWellShaped p → IsAcceptable p → length input ≤ MAX_INPUT
     → RunsWell content words input status written → RunsWell content words input other_status other → (other_status ≡ status) × (other ≡ written)
 drive_writes_the_same content words pair p input status other_status written other ask good shaped acceptable few one two =
     wrote_the_same p input status other_status written other shaped

@@ -3,6 +3,7 @@ use Rattle.std.specs.Prelude.{◌≡◌, ◌≢◌, ℕ, ◌≤◌, List, [], �
 use Rattle.std.specs.String.{string_bytes}
 use Rattle.shop_base.specs.Shop.{JobShop}
 use Rattle.shop_base.specs.Plan.{PlannedShop, IsWellShaped}
+use Rattle.text_lines.specs.declared.limits.TheConstants.{MAX_INPUT}
 use Rattle.orlib_read.specs.declared.or_fault.OrFault.{OrFault}
 use Rattle.plan_verifier.specs.Accepted.{VerifiedPlan, IsAcceptable}
 use Rattle.plan_verifier.specs.declared.verdict.Verdict.TheVariants.{Accepted}
@@ -22,7 +23,7 @@ use Rattle.command_answers.specs.declared.answer.Answer.{Answer}
 use Rattle.command_answers.specs.declared.command_fault.CommandFault.{CommandFault}
 use Rattle.command_answers.specs.declared.command_fault.CommandFault.TheVariants.{Instance, Read, Memory, Write}
 use Rattle.command_answers.specs.declared.logs.Telling.{Telling}
-use Rattle.command_answers.specs.Texts.{most_bytes, Asks}
+use Rattle.command_answers.specs.Texts.{Asks}
 use Rattle.command_answers.specs.Instances.{Tells, IsFirstInstanceFault}
 use Rattle.command_answers.specs.Plans.{TellBoth}
 use Rattle.command_answers.specs.Facts.{AreFacts}
@@ -207,7 +208,7 @@ IsInputAnswered shop (Err other) after = ⊥
 -- the command without words: an input that tells a shop, of no more bytes than the limit, is answered by the facts
 abbrev pub InputAnswersShop : Type 0
 InputAnswersShop = (before after : Input) (text description : List ℕ) (shop : JobShop) (outcome : Result Answer CommandFault)
-    → before.left ≡ Some text → length text ≤ most_bytes → Tells text None description shop → RunsInput before outcome after → IsInputAnswered shop outcome after
+    → before.left ≡ Some text → length text ≤ MAX_INPUT → Tells text None description shop → RunsInput before outcome after → IsInputAnswered shop outcome after
 
 -- ---- plans that aren't accepted, in files that don't change
 
@@ -251,7 +252,7 @@ pub record RunsWell (content : List ℕ → Result (List ℕ) CommandFault) (wor
 -- `drive` with an accepted plan writes the same, and ends with the same status, whenever it is run on the same words, files and input, of no more bytes than the limit
 abbrev pub DriveWritesTheSame : Type 0
 DriveWritesTheSame = (content : List ℕ → Result (List ℕ) CommandFault) (words : List (List ℕ)) (pair : PairOfFiles) (p : PlannedShop) (input : List ℕ) (status other_status : ℕ) (written other : List ℕ)
-    → AskForDrive words pair → TellPlan content pair p → IsWellShaped p → IsAcceptable p → length input ≤ most_bytes
+    → AskForDrive words pair → TellPlan content pair p → IsWellShaped p → IsAcceptable p → length input ≤ MAX_INPUT
     → RunsWell content words input status written → RunsWell content words input other_status other → (other_status ≡ status) × (other ≡ written)
 
 -- ---- how the program ends

@@ -10,12 +10,12 @@ use Rattle.command_run.specs.declared.unchosen.Unchosen.{Unchosen}
 use Rattle.command_run.specs.declared.unchosen.Unchosen.TheVariants.{Ends, Usage as Wrong}
 
 -- help that was asked for is a good answer, and out of memory is a fault
-abbrev pub ComesTo : WordsFault → Result Answer CommandFault → Type 0
-ComesTo (Usage true text) (Ok answer) = (answer.text.items ≡ string_bytes text) × (answer.status ≡ 0)
-ComesTo Memory (Err fault) = fault ≡ Wanting
-ComesTo fault outcome = ⊥
+abbrev pub IsOutcomeOf : WordsFault → Result Answer CommandFault → Type 0
+IsOutcomeOf (Usage true text) (Ok answer) = (answer.text.items ≡ string_bytes text) × (answer.status ≡ 0)
+IsOutcomeOf Memory (Err fault) = fault ≡ Wanting
+IsOutcomeOf fault outcome = ⊥
 
 abbrev pub Comes : WordsFault → Unchosen → Type 0
-Comes fault (Ends outcome) = ComesTo fault outcome
+Comes fault (Ends outcome) = IsOutcomeOf fault outcome
 Comes (Usage false text) (Wrong told) = told ≡ text
 Comes fault (Wrong told) = ⊥

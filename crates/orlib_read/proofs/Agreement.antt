@@ -9,7 +9,7 @@ use Rattle.shop_base.proofs.OneFault.{fault_once}
 use Rattle.orlib_read.specs.declared.named.Named.{Named}
 use Rattle.orlib_read.specs.declared.or_fault.OrFault.{OrFault}
 use Rattle.orlib_read.specs.declared.or_fault.OrFault.TheVariants.{NoInstance, NoSizes, BadSizes, MissingJob, BadNumber, OddWords, Extra, Shop, Memory}
-use Rattle.orlib_read.specs.Kinds.{told_lines}
+use Rattle.orlib_read.specs.Kinds.{unfilled_lines}
 use Rattle.orlib_read.specs.Instance.{IsInstance, IsInstanceOf}
 use Rattle.orlib_read.specs.Faults.{IsInstanceFault, IsInstanceOfFault}
 use Rattle.orlib_read.specs.Reading.{Content, instance_at, section_at}
@@ -30,40 +30,40 @@ pub record Agrees (reading : Result Content OrFault) (Is : List ℕ → JobShop 
   no_shop : (content : Content) (reason : ShopFault) → reading ≡ Ok content → IsFirstFault content.machines content.routes reason → Wrong (Shop reason)
   wrong : (fault : OrFault) → Wrong fault → (reading ≡ Err fault) ⊎ GivesNoShop reading fault
 
-pub instance_agrees : (text : List ℕ) → Agrees (instance_at (told_lines text)) (IsInstance text) (IsInstanceFault text)
+pub instance_agrees : (text : List ℕ) → Agrees (instance_at (unfilled_lines text)) (IsInstance text) (IsInstanceFault text)
 instance_agrees text = record {
-  is = λ content h s. record { reads = instance_is (told_lines text) content h; sound = s };
+  is = λ content h s. record { reads = instance_is (unfilled_lines text) content h; sound = s };
   sound = λ description shop i. i.sound;
-  again = λ description shop i. instance_again (told_lines text) description shop.machines shop.routes i.reads;
-  fault = λ fault h. elim (instance_fault (told_lines text) fault h) [ inl cut ↦ inl cut | inr extra ↦ inr (inl extra) ];
+  again = λ description shop i. instance_again (unfilled_lines text) description shop.machines shop.routes i.reads;
+  fault = λ fault h. elim (instance_fault (unfilled_lines text) fault h) [ inl cut ↦ inl cut | inr extra ↦ inr (inl extra) ];
   no_shop = λ content reason h f.
-      inr (inr (record { description = content.description; machines = content.machines; routes = content.routes; reason = reason; reads = instance_is (told_lines text) content h; wrong = f; is = refl }));
+      inr (inr (record { description = content.description; machines = content.machines; routes = content.routes; reason = reason; reads = instance_is (unfilled_lines text) content h; wrong = f; is = refl }));
   wrong = λ fault w. elim w [
-    | inl cut ↦ inl (instance_cut (told_lines text) fault cut)
-    | inr (inl extra) ↦ inl (instance_extra (told_lines text) fault extra)
+    | inl cut ↦ inl (instance_cut (unfilled_lines text) fault cut)
+    | inr (inl extra) ↦ inl (instance_extra (unfilled_lines text) fault extra)
     | inr (inr none) ↦ inr (record {
       content = record { description = none.description; machines = none.machines; routes = none.routes };
       reason = none.reason;
-      gives = instance_again (told_lines text) none.description none.machines none.routes none.reads;
+      gives = instance_again (unfilled_lines text) none.description none.machines none.routes none.reads;
       wrong = none.wrong;
       is = none.is;
     })
   ];
 }
 
-pub section_agrees : (text name : List ℕ) → Agrees (section_at name (told_lines text)) (IsInstanceOf text name) (IsInstanceOfFault text name)
+pub section_agrees : (text name : List ℕ) → Agrees (section_at name (unfilled_lines text)) (IsInstanceOf text name) (IsInstanceOfFault text name)
 section_agrees text name = record {
   is = λ content h s.
-      let r = section_content name (told_lines text) content h in
+      let r = section_content name (unfilled_lines text) content h in
       record { section = r.section; rest = r.rest; is_section = r.is_section; reads = r.reads; sound = s };
   sound = λ description shop i. i.sound;
-  again = λ description shop i. section_content_again name (told_lines text) i.section description shop.machines shop.routes i.rest i.is_section i.reads;
-  fault = λ fault h. elim (section_fault name (told_lines text) fault h) [
+  again = λ description shop i. section_content_again name (unfilled_lines text) i.section description shop.machines shop.routes i.rest i.is_section i.reads;
+  fault = λ fault h. elim (section_fault name (unfilled_lines text) fault h) [
     | inl none ↦ inl none
     | inr cut ↦ inr (record { section = cut.section; rest = []; is_section = cut.is_section; wrong = inl cut.cut })
   ];
   no_shop = λ content reason h f.
-      let r = section_content name (told_lines text) content h in
+      let r = section_content name (unfilled_lines text) content h in
       inr (record {
         section = r.section;
         rest = r.rest;
@@ -71,13 +71,13 @@ section_agrees text name = record {
         wrong = inr (record { description = content.description; machines = content.machines; routes = content.routes; reason = reason; reads = r.reads; wrong = f; is = refl });
       });
   wrong = λ fault w. elim w [
-    | inl none ↦ inl (section_lacks name (told_lines text) fault none)
+    | inl none ↦ inl (section_lacks name (unfilled_lines text) fault none)
     | inr f ↦ elim f.wrong [
-      | inl cut ↦ inl (section_cut name (told_lines text) f.section fault f.is_section cut)
+      | inl cut ↦ inl (section_cut name (unfilled_lines text) f.section fault f.is_section cut)
       | inr none ↦ inr (record {
         content = record { description = none.description; machines = none.machines; routes = none.routes };
         reason = none.reason;
-        gives = section_content_again name (told_lines text) f.section none.description none.machines none.routes f.rest f.is_section none.reads;
+        gives = section_content_again name (unfilled_lines text) f.section none.description none.machines none.routes f.rest f.is_section none.reads;
         wrong = none.wrong;
         is = none.is;
       })

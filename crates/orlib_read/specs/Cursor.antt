@@ -3,16 +3,16 @@ use Rattle.std.specs.Prelude.{◌+◌, Bool, if◌then◌else◌, List, filter}
 use Rattle.orlib_read.specs.declared.lines.Line.{Line}
 use Rattle.orlib_read.specs.declared.lines.Lines.{Lines}
 use Rattle.text_lines.specs.Lines.{NumberedLine, lines_of, numbered_from}
-use Rattle.orlib_read.specs.Kinds.{is_told}
+use Rattle.orlib_read.specs.Kinds.{is_unfilled}
 use Rattle.orlib_read.specs.Reading.{before_title}
 
 -- a line without where it lies in memory
 abbrev pub numbered_line : Line → NumberedLine
 numbered_line line = record { number = line.number; bytes = line.bytes.now }
 
--- the lines that are told, in a section those before the next instance line
+-- the lines that aren't filler, in a section those before the next instance line
 abbrev pub left_of : Bool → List NumberedLine → List NumberedLine
-left_of in_section lines = if in_section then before_title (filter is_told lines) else filter is_told lines
+left_of in_section lines = if in_section then before_title (filter is_unfilled lines) else filter is_unfilled lines
 
 -- all lines that are left
 unfoldable pub raw_left : Lines → List NumberedLine

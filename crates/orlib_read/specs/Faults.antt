@@ -8,7 +8,7 @@ use Rattle.orlib_read.specs.declared.or_fault.OrFault.{OrFault}
 use Rattle.orlib_read.specs.declared.or_fault.OrFault.TheVariants.{NoInstance, NoSizes, BadSizes, MissingJob, BadNumber, OddWords, Extra, Shop}
 use Rattle.text_lines.specs.Lines.{NumberedLine}
 use Rattle.orlib_read.specs.Words.{words_of, IsNumber, AreNumbers, is_odd}
-use Rattle.orlib_read.specs.Kinds.{told_lines, IsInstanceLine, IsAnyInstanceLine, IsSizeLine, IsDescription}
+use Rattle.orlib_read.specs.Kinds.{unfilled_lines, IsInstanceLine, IsAnyInstanceLine, IsSizeLine, IsDescription}
 use Rattle.orlib_read.specs.Instance.{Reads, IsSection}
 
 -- behind the instance lines that are passed over there is no size line: no line follows, or a description alone, or a line that isn't two numbers behind a description
@@ -90,7 +90,7 @@ pub record MakesNoShop (lines rest : List NumberedLine) (fault : OrFault) : Type
 
 -- what is wrong first with a text as one instance
 abbrev pub IsInstanceFault : List ℕ → OrFault → Type 0
-IsInstanceFault text fault = IsCutShort (told_lines text) fault ⊎ HasExtraLine (told_lines text) fault ⊎ MakesNoShop (told_lines text) [] fault
+IsInstanceFault text fault = IsCutShort (unfilled_lines text) fault ⊎ HasExtraLine (unfilled_lines text) fault ⊎ MakesNoShop (unfilled_lines text) [] fault
 
 -- no instance line has the name
 pub record LacksName (lines : List NumberedLine) (name : List ℕ) (fault : OrFault) : Type 0 where
@@ -106,4 +106,4 @@ pub record IsSectionFault (lines : List NumberedLine) (name : List ℕ) (fault :
 
 -- what is wrong first with a text as a collection that has this name
 abbrev pub IsInstanceOfFault : List ℕ → List ℕ → OrFault → Type 0
-IsInstanceOfFault text name fault = LacksName (told_lines text) name fault ⊎ IsSectionFault (told_lines text) name fault
+IsInstanceOfFault text name fault = LacksName (unfilled_lines text) name fault ⊎ IsSectionFault (unfilled_lines text) name fault

@@ -4,7 +4,7 @@ use Rattle.std.specs.List.{AllByRecursion}
 use Rattle.shop_base.specs.declared.shop.Step.{Step}
 use Rattle.shop_base.specs.Shop.{JobShop, IsShop}
 use Rattle.text_lines.specs.Lines.{NumberedLine}
-use Rattle.orlib_read.specs.Kinds.{told_lines, IsInstanceLine, IsAnyInstanceLine, IsOtherLine, IsSizeLine, IsDescription, IsJobLine}
+use Rattle.orlib_read.specs.Kinds.{unfilled_lines, IsInstanceLine, IsAnyInstanceLine, IsOtherLine, IsSizeLine, IsDescription, IsJobLine}
 
 -- how an instance opens: with the size line alone, and no description, or with a description and the size line
 abbrev pub Opens : List NumberedLine → List ℕ → ℕ → ℕ → Type 0
@@ -32,7 +32,7 @@ pub record Reads (lines : List NumberedLine) (description : List ℕ) (jobs mach
 
 -- the text is one instance: as many job lines as the size line says, and nothing but filler after them
 pub record IsInstance (text : List ℕ) (description : List ℕ) (shop : JobShop) : Type 0 where
-  pub reads : Reads (told_lines text) description (length shop.routes) shop.machines shop.routes []
+  pub reads : Reads (unfilled_lines text) description (length shop.routes) shop.machines shop.routes []
   pub sound : IsShop shop
 
 -- no line follows, or an instance line does
@@ -55,6 +55,6 @@ pub record IsSection (lines : List NumberedLine) (name : List ℕ) (section : Li
 pub record IsInstanceOf (text : List ℕ) (name : List ℕ) (description : List ℕ) (shop : JobShop) : Type 0 where
   pub section : List NumberedLine
   pub rest : List NumberedLine
-  pub is_section : IsSection (told_lines text) name section
+  pub is_section : IsSection (unfilled_lines text) name section
   pub reads : Reads section description (length shop.routes) shop.machines shop.routes rest
   pub sound : IsShop shop

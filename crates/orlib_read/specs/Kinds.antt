@@ -14,16 +14,16 @@ abbrev pub is_filler : List ℕ → Bool
 is_filler line = list_all (list_all is_plus) (words_of line)
 
 -- a line that isn't filler
-abbrev pub is_told : NumberedLine → Bool
-is_told line = not (is_filler line.bytes)
+abbrev pub is_unfilled : NumberedLine → Bool
+is_unfilled line = not (is_filler line.bytes)
 
 -- the lines of a text that aren't filler, numbered from a number on
-abbrev pub told_from : ℕ → List ℕ → List NumberedLine
-told_from number text = filter is_told (numbered_from number (lines_of text))
+abbrev pub unfilled_from : ℕ → List ℕ → List NumberedLine
+unfilled_from number text = filter is_unfilled (numbered_from number (lines_of text))
 
 -- the lines of a text that aren't filler, with their numbers from 1
-abbrev pub told_lines : List ℕ → List NumberedLine
-told_lines text = told_from 1 text
+abbrev pub unfilled_lines : List ℕ → List NumberedLine
+unfilled_lines text = unfilled_from 1 text
 
 -- an instance line: the word `instance`, and the name of an instance
 abbrev pub IsInstanceLine : NumberedLine → List ℕ → Type 0

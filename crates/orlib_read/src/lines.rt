@@ -2,7 +2,7 @@
 
 ghost use Rattle.std.specs.Prelude.{◌≡◌, ◌+◌, ◌<◌, ◌^◌, false, length, IfSome};
 ghost use Rattle.text_lines.specs.Searches.{GivesFirst};
-ghost use Rattle.orlib_read.specs.Kinds.{told_lines};
+ghost use Rattle.orlib_read.specs.Kinds.{unfilled_lines};
 ghost use Rattle.orlib_read.specs.Reading.{Finds, before_title, section_of};
 
 use crate::kinds::{is_instance_line, is_named};
@@ -31,7 +31,7 @@ impl<'a> Lines<'a> {
     /// All lines of a text.
     #[tactic(auto, unfolding(crate::specs::Cursor::lines_left, crate::specs::Cursor::raw_left))]
     pub(crate) fn of(text: &'a [u8]) -> Lines<'a>
-        ensures lines { lines_left result ≡ told_lines text.now }
+        ensures lines { lines_left result ≡ unfilled_lines text.now }
         ensures whole { result.in_section ≡ false }
     {
         Lines {
@@ -43,10 +43,10 @@ impl<'a> Lines<'a> {
 
     /// The lines of the section that begins after the first instance line of this name.
     pub(crate) fn of_section(text: &'a [u8], name: &[u8]) -> Option<Lines<'a>>
-        ensures { Finds lines_left result (section_of name.now (told_lines text.now)) }
+        ensures { Finds lines_left result (section_of name.now (unfilled_lines text.now)) }
     {
         let mut lines = Lines::of(text);
-        while let Some((line, rest)) = lines.next_told() {
+        while let Some((line, rest)) = lines.next_unfilled() {
             if is_named(line.bytes, name) {
                 return Some(rest.section());
             }
@@ -85,7 +85,7 @@ impl<'a> Lines<'a> {
     }
 
     /// The next line that isn't filler, and the lines after it.
-    pub(crate) fn next_told(self) -> Option<(Line<'a>, Lines<'a>)>
+    pub(crate) fn next_unfilled(self) -> Option<(Line<'a>, Lines<'a>)>
         ensures line { GivesFirst numbered_line lines_left result (lines_left self.entry) }
         ensures same { IfSome result (λ found. found.1.in_section ≡ self.entry.in_section) }
     {

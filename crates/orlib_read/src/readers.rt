@@ -4,7 +4,7 @@ ghost use Rattle.std.specs.Prelude.{◌≡◌, ◌≢◌, Result, IfOk, IfErr, O
 ghost use Rattle.shop_base.specs.Shop.{IsShop};
 ghost use Rattle.shop_base.specs.Vectors.{lists_of};
 ghost use Rattle.orlib_read.specs.declared.or_fault.OrFault.{OrFault};
-ghost use Rattle.orlib_read.specs.Kinds.{told_lines};
+ghost use Rattle.orlib_read.specs.Kinds.{unfilled_lines};
 ghost use Rattle.orlib_read.specs.Instance.{IsInstance, IsInstanceOf};
 ghost use Rattle.orlib_read.specs.Faults.{IsInstanceFault, IsInstanceOfFault};
 ghost use Rattle.orlib_read.specs.Answers.{ReadsEach, IsRefused, Answers};
@@ -51,10 +51,10 @@ pub fn read_from_collection(alloc: Global, text: &[u8], name: &[u8]) -> Result<N
 
 #[tactic(auto, unfolding(crate::specs::Reading::instance_at))]
 fn instance_draft(alloc: Global, text: &[u8]) -> Result<Draft<'_>, OrFault>
-    ensures { Gives content_of result (instance_at (told_lines text.now)) }
+    ensures { Gives content_of result (instance_at (unfilled_lines text.now)) }
 {
     let (draft, lines) = read_draft(alloc, Lines::of(text))?;
-    if let Some((line, _)) = lines.next_told() {
+    if let Some((line, _)) = lines.next_unfilled() {
         return Err(OrFault::Extra { line: line.number });
     }
     Ok(draft)
@@ -62,7 +62,7 @@ fn instance_draft(alloc: Global, text: &[u8]) -> Result<Draft<'_>, OrFault>
 
 #[tactic(auto, unfolding(crate::specs::Reading::section_at))]
 fn section_draft<'a>(alloc: Global, text: &'a [u8], name: &[u8]) -> Result<Draft<'a>, OrFault>
-    ensures { Gives content_of result (section_at name.now (told_lines text.now)) }
+    ensures { Gives content_of result (section_at name.now (unfilled_lines text.now)) }
 {
     let Some(lines) = Lines::of_section(text, name) else {
         return Err(OrFault::NoInstance);

@@ -21,7 +21,7 @@ fn first_line<'a>(lines: Lines<'a>) -> Option<(Line<'a>, Lines<'a>)>
     ensures { GivesFirst numbered_line lines_left result (without_titles (lines_left lines.entry)) }
 {
     let mut left = lines;
-    while let Some((line, rest)) = left.next_told() {
+    while let Some((line, rest)) = left.next_unfilled() {
         if !is_instance_line(line.bytes) {
             return Some((line, rest));
         }
@@ -45,7 +45,7 @@ fn read_head<'a>(lines: Lines<'a>) -> Result<(Head<'a>, Lines<'a>), OrFault>
         };
         return Ok((head, lines));
     }
-    let Some((line, lines)) = lines.next_told() else {
+    let Some((line, lines)) = lines.next_unfilled() else {
         return Err(OrFault::NoSizes);
     };
     let Some((jobs, machines)) = sizes_of(line.bytes) else {
@@ -123,7 +123,7 @@ fn read_jobs<'a>(
     let mut routes = Vec::new(alloc);
     let mut left = lines;
     for job in 0..jobs {
-        let Some((line, rest)) = left.next_told() else {
+        let Some((line, rest)) = left.next_unfilled() else {
             return Err(OrFault::MissingJob { job });
         };
         let route = route_of(alloc, line)?;

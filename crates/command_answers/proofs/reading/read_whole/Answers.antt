@@ -3,10 +3,11 @@ use Rattle.std.specs.Option.{option_map}
 use Rattle.std.specs.declared.io.Error.{Error}
 use Rattle.std.proofs.lemmas.List.{take_all, length-take-le}
 use Rattle.std.proofs.lemmas.Bool.{cases_lt}
+use Rattle.text_lines.specs.declared.limits.TheConstants.{MAX_INPUT}
 use Rattle.command_answers.specs.Reading.{IsFaultOfSystem}
 use Rattle.command_answers.specs.declared.command_fault.CommandFault.{CommandFault}
 use Rattle.command_answers.specs.declared.command_fault.CommandFault.TheVariants.{InputTooLong}
-use Rattle.command_answers.specs.Texts.{most_bytes, IsFileFault}
+use Rattle.command_answers.specs.Texts.{IsFileFault}
 use Rattle.command_answers.proofs.reading.read_whole.Goals as goal
 
 -- what was read of all that there is, up to a limit that it stays below, is all
@@ -28,10 +29,10 @@ none_at_fault P Q (Err fault) failed = tt
 
 whole_told : (given : Option (List ℕ)) (start : List ℕ) (buf : Vec ℕ Global) (read : Result ℕ Error) (answer : Result (Vec ℕ Global) CommandFault) → start ≡ []
     → OnOk read (IfSome (option_map (take 67108865) given) (λ xs. buf.items ≡ start ++ xs))
-    → IfOk read (λ n. vec_len buf ≤ most_bytes → answer ≡ Ok buf) → IfOk read (λ n. most_bytes < vec_len buf → answer ≡ Err InputTooLong)
+    → IfOk read (λ n. vec_len buf ≤ MAX_INPUT → answer ≡ Ok buf) → IfOk read (λ n. MAX_INPUT < vec_len buf → answer ≡ Err InputTooLong)
     → IfErr read (λ error. IsErrAnd answer (IsFaultOfSystem error)) → IfOk answer (λ bytes. IfSome given (λ all. bytes.items ≡ all))
 whole_told given start buf (Ok n) answer empty bytes within beyond failed =
-    elim (cases_lt most_bytes (vec_len buf)) [
+    elim (cases_lt MAX_INPUT (vec_len buf)) [
       | inl over ↦ rw (beyond over) tt
       | inr below ↦ rw (within below) (whole_below given 67108865 start buf.items empty bytes (omega (arith, buf.ok.0)))
     ]
@@ -39,10 +40,10 @@ whole_told given start buf (Err error) answer empty bytes within beyond failed =
 
 -- each fault is a file's
 faults_are : (buf : Vec ℕ Global) (read : Result ℕ Error) (answer : Result (Vec ℕ Global) CommandFault)
-    → IfOk read (λ n. vec_len buf ≤ most_bytes → answer ≡ Ok buf) → IfOk read (λ n. most_bytes < vec_len buf → answer ≡ Err InputTooLong)
+    → IfOk read (λ n. vec_len buf ≤ MAX_INPUT → answer ≡ Ok buf) → IfOk read (λ n. MAX_INPUT < vec_len buf → answer ≡ Err InputTooLong)
     → IfErr read (λ error. IsErrAnd answer (IsFaultOfSystem error)) → IfErr answer IsFileFault
 faults_are buf (Ok n) answer within beyond failed =
-    elim (cases_lt most_bytes (vec_len buf)) [
+    elim (cases_lt MAX_INPUT (vec_len buf)) [
       | inl over ↦ rw (beyond over) tt
       | inr below ↦ rw (within below) tt
     ]

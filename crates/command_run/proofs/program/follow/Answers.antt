@@ -1,5 +1,5 @@
 use Rattle.std.proofs.Common.{◌≡◌, Err, refl, subst}
-use Rattle.command_run.specs.Unchosen.{ComesTo, Comes}
+use Rattle.command_run.specs.Unchosen.{IsOutcomeOf, Comes}
 use Rattle.command_run.specs.declared.unchosen.Unchosen.TheVariants.{Usage as Wrong}
 use Rattle.command_run.proofs.Refusing.{refused_ends, refused_words}
 use Rattle.command_run.proofs.program.follow.Goals.{in-Ok+in-Some-1, in-Ok+in-None-1, in-Err+in-Ends, in-Err+in-Usage}
@@ -22,7 +22,7 @@ returns g c = elim c.match-read.branch [
     ends = w.end.ensures.ends;
   })
   | in-Err+in-Ends w ↦
-      let comes : ComesTo w.in-Err.fault w.in-Ends.outcome = subst (Comes w.in-Err.fault) w.in-Ends.is w.from.ensures in
+      let comes : IsOutcomeOf w.in-Err.fault w.in-Ends.outcome = subst (Comes w.in-Err.fault) w.in-Ends.is w.from.ensures in
       rw (w.result-is, w.devices-inside-is, ← c.devices.view_is, w.in-Err.is)
       (refused_ends g.T.Texts.gives w.in-Err.fault w.in-Ends.outcome _ _ _ comes w.end-in-Ends.ensures.ends refl w.end-in-Ends.ensures.input)
   | in-Err+in-Usage w ↦

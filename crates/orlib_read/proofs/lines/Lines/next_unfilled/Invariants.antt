@@ -1,6 +1,6 @@
 use Rattle.std.proofs.Common.{◌≡◌, length}
 use Rattle.orlib_read.specs.Cursor.{raw_left, lines_left}
-use Rattle.orlib_read.proofs.lines.Lines.next_told.Given as goal
+use Rattle.orlib_read.proofs.lines.Lines.next_unfilled.Given as goal
 
 abbrev pub invariant-loop-line : goal.invariant-loop-line
 invariant-loop-line l = record {

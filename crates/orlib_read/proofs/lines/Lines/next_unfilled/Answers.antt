@@ -4,8 +4,8 @@ use Rattle.orlib_read.specs.Reading.{is_instance_line}
 use Rattle.orlib_read.specs.Cursor.{numbered_line, left_of, raw_left, lines_left}
 use Rattle.orlib_read.proofs.Parts.{all_filler}
 use Rattle.orlib_read.proofs.Left.{left_none, left_filler, left_title, left_line}
-use Rattle.orlib_read.proofs.lines.Lines.next_told.Goals as goal
-use Rattle.orlib_read.proofs.lines.Lines.next_told.Goals.{else-self-via-then-self+else-is_instance_line, else-self-via-else-self}
+use Rattle.orlib_read.proofs.lines.Lines.next_unfilled.Goals as goal
+use Rattle.orlib_read.proofs.lines.Lines.next_unfilled.Goals.{else-self-via-then-self+else-is_instance_line, else-self-via-else-self}
 
 pub returns-then-is_instance_line-clause-line : goal.returns-then-is_instance_line-clause-line
 unfolding lines_left
