@@ -1,17 +1,16 @@
 -- A log that was cut is taken up.
-use Rattle.std.proofs.Common.{◌≡◌, ℕ, ◌+◌, ◌≤◌, List, [], ◌∷◌, ◌++◌, map, Option, length, ◌⊎◌, inl, inr, refl, sym, ap, ◌∙◌, subst, arith, append_assoc, append-nil}
-use Rattle.shop_base.specs.declared.move_order.MoveOrder.{MoveOrder}
+use Rattle.std.proofs.Common.{◌≡◌, ℕ, ◌+◌, List, [], ◌∷◌, ◌++◌, map, Option, length, ◌⊎◌, inl, inr, refl, sym, ap, ◌∙◌, subst, arith, append_assoc, append-nil}
 use Rattle.shop_base.specs.Plan.{PlannedShop, IsWellShaped}
 use Rattle.shop_base.specs.Cell.{Cell, start}
 use Rattle.shop_base.specs.Report as base
 use Rattle.shop_base.specs.Run.{Event, Reported}
-use Rattle.shop_base.specs.Controlled.{moved, Leads, accepted, done, step_orders, IsControlledRun}
+use Rattle.shop_base.specs.Controlled.{Leads, accepted, done, step_orders, IsControlledRun}
 use Rattle.shop_base.proofs.Keeping.{start-sound}
 use Rattle.shop_base.proofs.ControlledRuns.{controlled_to_run, start_at_rest}
 use Rattle.text_lines.specs.Lines.{lines_of}
 use Rattle.cell_tables.specs.Reports.{said}
 use Rattle.cell_tables.specs.declared.entry.Entry.{Entry}
-use Rattle.cell_tables.specs.declared.entry.Entry.TheVariants.{Report as ReportEntry, Order as OrderEntry}
+use Rattle.cell_tables.specs.declared.entry.Entry.TheVariants.{Order as OrderEntry}
 use Rattle.cell_tables.specs.Events.{events_of}
 use Rattle.run_log.specs.LogLines.{LinesTell}
 use Rattle.run_log.proofs.OneReading.{tell-parts}
@@ -22,11 +21,11 @@ use Rattle.cell_drive.specs.DrivenLines.{LineAnswer}
 use Rattle.cell_drive.specs.AnswerText.{DrivenCell, undriven, CellAnswers, CellCloses}
 use Rattle.cell_drive.specs.Driving.{cell_after, IsRunOf}
 use Rattle.cell_drive.proofs.DrivenRuns.{events-orders}
-use Rattle.cell_drive.proofs.ReadBack.{answers_told, AreTold, TellsFirst, tells_none, tells_both, closing_told}
-use Rattle.run_resume.specs.CutLogs.{ended_lines, IsCutLog}
-use Rattle.run_resume.specs.CutLaw.{IsTakenUpFrom, ACutLogIsTakenUp, WhatWasDrivenIsTakenUp}
+use Rattle.cell_drive.proofs.ReadBack.{answers_told, TellsFirst, tells_none, tells_both, closing_told}
+use Rattle.run_resume.specs.CutLogs.{ended_lines}
+use Rattle.run_resume.specs.CutLaw.{ACutLogIsTakenUp, WhatWasDrivenIsTakenUp}
 use Rattle.run_resume.proofs.Parts.{entries_moved}
-use Rattle.run_resume.proofs.CutRuns.{IsCutOf, cut_of_run}
+use Rattle.run_resume.proofs.CutRuns.{cut_of_run}
 use Rattle.run_resume.proofs.EndedLines.{ended-more}
 use Rattle.run_resume.proofs.OwnRuns.{own_run}
 use Rattle.run_resume.proofs.FirstFaults.{due_events}

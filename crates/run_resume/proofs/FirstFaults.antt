@@ -1,16 +1,15 @@
 -- Lines with a first fault are no log that can be taken up.
-use Rattle.std.proofs.Common.{◌≡◌, ℕ, ◌+◌, ◌≤◌, List, [], ◌∷◌, ◌++◌, length, map, refl, sym, ap, ◌∙◌, subst, arith, append_assoc, append-nil}
+use Rattle.std.proofs.Common.{◌≡◌, ℕ, List, [], ◌∷◌, ◌++◌, length, map, refl, sym, ap, ◌∙◌, subst, arith, append_assoc}
 use Rattle.shop_base.specs.declared.move_order.MoveOrder.{MoveOrder}
 use Rattle.shop_base.specs.Plan.{PlannedShop, IsWellShaped}
 use Rattle.shop_base.specs.Cell.{Cell, start}
 use Rattle.shop_base.specs.Report as base
-use Rattle.shop_base.specs.Run.{Event, Reported, Moved, IsRun, ends_in, AreEvents, CanHappen, after as step}
-use Rattle.shop_base.specs.Controlled.{moved, Leads, IsControlledRun}
+use Rattle.shop_base.specs.Run.{Event, Reported, IsRun, AreEvents, CanHappen, after as step}
+use Rattle.shop_base.specs.Controlled.{moved, Leads}
 use Rattle.shop_base.specs.Sound.{IsSound}
 use Rattle.shop_base.proofs.Keeping.{start-sound, run-sound}
 use Rattle.shop_base.proofs.ControlledRuns.{controlled_to_run, start_at_rest}
 use Rattle.cell_tables.specs.Reports.{said}
-use Rattle.cell_control.specs.Reports.{IsFirstReason}
 use Rattle.cell_control.proofs.Reasons.{reason-cannot}
 use Rattle.cell_tables.specs.declared.entry.Entry.{Entry}
 use Rattle.cell_tables.specs.declared.entry.Entry.TheVariants.{Report as ReportEntry, Order as OrderEntry}

@@ -1,15 +1,14 @@
 -- Lines have one first fault.
-use Rattle.std.proofs.Common.{◌≡◌, ℕ, ◌+◌, List, [], ◌∷◌, ◌++◌, length, map, inl, inr, refl, sym, ap, ◌∙◌, subst, arith, append-nil}
+use Rattle.std.proofs.Common.{◌≡◌, ℕ, List, [], ◌∷◌, ◌++◌, length, map, inl, inr, refl, sym, ap, ◌∙◌, subst, arith, append-nil}
 use Rattle.shop_base.specs.declared.move_order.MoveOrder.{MoveOrder}
 use Rattle.shop_base.specs.Plan.{PlannedShop, IsWellShaped}
-use Rattle.shop_base.specs.Run.{Event, Moved}
 use Rattle.shop_base.specs.Controlled.{moved}
 use Rattle.cell_tables.specs.Reports.{said}
 use Rattle.cell_tables.specs.declared.entry.Entry.{Entry}
 use Rattle.cell_tables.specs.declared.entry.Entry.TheVariants.{Report as ReportEntry, Order as OrderEntry}
 use Rattle.cell_control.specs.declared.report_fault.ReportFault.{ReportFault}
 use Rattle.cell_control.proofs.OneReason.{only_reason}
-use Rattle.run_log.specs.LogLines.{LineTells, LinesTell}
+use Rattle.run_log.specs.LogLines.{LineTells}
 use Rattle.run_log.proofs.OneReading.{one_telling, one_reading}
 use Rattle.cell_drive.specs.Driving.{cell_after, IsRunOf}
 use Rattle.run_resume.specs.declared.resume_fault.ResumeFault.{ResumeFault}

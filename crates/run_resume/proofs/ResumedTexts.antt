@@ -1,13 +1,12 @@
 -- What a run that was taken up goes on to write is a log.
-use Rattle.std.proofs.Common.{◌≡◌, ℕ, ◌+◌, ◌≤◌, List, [], ◌∷◌, ◌++◌, take, drop, map, Option, Some, Result, Ok, Err, Bool, true, false, cond, length, length-take-le, IfOk, IfErr, ◌⊎◌, inl, inr, refl, sym, ap, ◌∙◌, subst, arith, append_assoc, append-nil}
-use Rattle.std.specs.Io.KnownBytes.{Appends, Consumes}
+use Rattle.std.proofs.Common.{◌≡◌, ℕ, ◌≤◌, List, [], ◌∷◌, ◌++◌, take, drop, Option, Ok, Err, Bool, true, false, cond, length, length-take-le, ◌⊎◌, inr, refl, sym, ap, ◌∙◌, subst, arith, append_assoc, append-nil}
+use Rattle.std.specs.Io.KnownBytes.{Appends}
 use Rattle.std.proofs.KnownBytes.{Appends-trans}
 use Rattle.std.proofs.lemmas.List.{append_cancel_left, take-append-drop}
 use Rattle.shop_base.specs.declared.move_order.MoveOrder.{MoveOrder}
 use Rattle.shop_base.specs.Plan.{PlannedShop, IsWellShaped}
 use Rattle.shop_base.specs.Cell.{Cell, start}
 use Rattle.shop_base.specs.Report as base
-use Rattle.shop_base.specs.Move.{order_for}
 use Rattle.shop_base.specs.Run.{Event, Reported, Moved, AreEvents, after, after_all, IsRun}
 use Rattle.shop_base.specs.Controlled.{Leads, done, accepted, refused, moved, step_orders, after_step}
 use Rattle.shop_base.specs.Sound.{IsSound}
@@ -31,16 +30,16 @@ use Rattle.cell_drive.specs.Streams.{IsStreamed, ComesTo}
 use Rattle.cell_drive.specs.declared.drive_fault.DriveFault.{DriveFault}
 use Rattle.cell_drive.specs.declared.drive_fault.DriveFault.TheVariants.{Read, Write, InputTooLong, Memory}
 use Rattle.cell_drive.specs.AnswerText.{DrivenCell, CellAnswers, CellCloses}
-use Rattle.cell_drive.specs.Driven.{DriveState, IsDriven, DriveAnswer, ControlCloses}
+use Rattle.cell_drive.specs.Driven.{DriveState, IsDriven, DriveAnswer}
 use Rattle.cell_drive.specs.Driving.{cell_after, IsRunOf}
 use Rattle.cell_drive.specs.AuditLaw.{IsLogOf}
 use Rattle.cell_drive.proofs.AuditKeeps.{appended, found_where}
 use Rattle.cell_drive.proofs.DrivenEnds.{seen, seen_answers, seen_closes, seen_cut, the_closing, cell_is}
 use Rattle.cell_drive.proofs.OneText.{one_text, one_closing}
-use Rattle.cell_drive.proofs.ReadBack.{answers_told, AreTold, TellsFirst, tells_none, tells_both, tells_report, tells_order, tells_late}
+use Rattle.cell_drive.proofs.ReadBack.{answers_told, TellsFirst, tells_none, tells_both, tells_report, tells_order, tells_late}
 use Rattle.cell_drive.proofs.ShopEntries.{report_of_shop, order_of_shop}
 use Rattle.run_resume.specs.Replays.{shop_of}
-use Rattle.run_resume.specs.Resuming.{again_text, driven_so_far, IsResumedText, IsResumedThrough, IsBrokenOff, AResumedTextIsALog, OneResumedText, AnAuditKeepsWhatWasResumed}
+use Rattle.run_resume.specs.Resuming.{again_text, driven_so_far, IsResumedThrough, IsBrokenOff, AResumedTextIsALog, OneResumedText, AnAuditKeepsWhatWasResumed}
 use Rattle.run_resume.specs.CutLaw.{WhatWasResumedIsTakenUp}
 use Rattle.run_resume.proofs.CutLogs.{run_of_leads, answers_lead, closing_part, a_cut_log_is_taken_up}
 

@@ -1,20 +1,20 @@
 -- An end that was reported isn't reported again.
-use Rattle.std.proofs.Common.{◌≡◌, ◌≢◌, ℕ, suc, ◌+◌, ◌<◌, ◌≤◌, true, false, None, Some, List, [], ◌∷◌, ◌++◌, length, ◌⊎◌, inl, inr, refl, sym, ap, ◌∙◌, subst, arith}
+use Rattle.std.proofs.Common.{◌≡◌, ℕ, ◌+◌, ◌≤◌, true, false, None, List, [], ◌∷◌, ◌++◌, ◌⊎◌, inl, inr, refl, sym, ap, ◌∙◌, subst, arith}
 use Rattle.std.proofs.lemmas.Bool.{cases_eq, false≢true}
 use Rattle.shop_base.specs.declared.job_state.JobState.{JobState}
 use Rattle.shop_base.specs.declared.move_order.MoveOrder.{MoveOrder}
-use Rattle.shop_base.specs.Plan.{PlannedShop, jobs, machine_of, Visits, IsWellShaped}
-use Rattle.shop_base.specs.Cell.{Cell, absent, job_in, made, ready, cleaning, start, IsOn, IsOutside, IsFree}
+use Rattle.shop_base.specs.Plan.{PlannedShop, machine_of, IsWellShaped}
+use Rattle.shop_base.specs.Cell.{Cell, job_in, made, ready, cleaning, start, IsOn}
 use Rattle.shop_base.specs.Activity.{Activity, Arrival, Operation, Cleaning, GoesOn}
 use Rattle.shop_base.specs.Report.{Report, CanReport, after_report, with_ready, with_clean}
-use Rattle.shop_base.specs.Move.{CanObey, KeepsPlan, after_move}
-use Rattle.shop_base.specs.Run.{Event, Reported, Moved, CanHappen, AreEvents, after, after_all, IsRun, ends_in}
+use Rattle.shop_base.specs.Move.{after_move}
+use Rattle.shop_base.specs.Run.{Event, Reported, Moved, CanHappen, AreEvents, after, after_all, ends_in}
 use Rattle.shop_base.specs.Sound.{IsSound}
 use Rattle.shop_base.proofs.Changes.{IsMoved, IsReadied, IsTidied, after_move-moved, with_ready-readied, with_clean-tidied}
 use Rattle.shop_base.proofs.CellFacts.{source_on}
 use Rattle.shop_base.proofs.Keeping.{run-sound, after_report-sound, after_move-sound, alone_on}
 use Rattle.shop_base.proofs.ControlledRuns.{after_all_join}
-use Rattle.shop_base.proofs.Visits.{visits_once, visits_job, on_or_not}
+use Rattle.shop_base.proofs.Visits.{visits_once, visits_job}
 use Rattle.shop_base.proofs.InShop.{outside_in_shop}
 use Rattle.run_resume.specs.AgainLaw.{HasLeft, HasWorked, IsNoneLater, NoEndIsAcceptedTwice}
 

@@ -1,4 +1,4 @@
-use Rattle.std.proofs.Common.{◌≡◌, ℕ, List, length, sym, subst, ap, ◌∙◌}
+use Rattle.std.proofs.Common.{length, sym, subst, ◌∙◌}
 use Rattle.shop_base.specs.Plan.{IsWellShaped}
 use Rattle.plan_verifier.specs.Accepted.{VerifiedPlan}
 use Rattle.run_log.specs.LogLines.{LinesTell}

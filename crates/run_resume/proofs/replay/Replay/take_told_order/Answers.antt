@@ -1,7 +1,7 @@
-use Rattle.std.proofs.Common.{◌≡◌, ◌<◌, ◌++◌, [], ◌∷◌, List, Bool, length, get_or, arith, ap, subst, sym, refl, ◌∙◌}
+use Rattle.std.proofs.Common.{◌≡◌, ◌<◌, List, length, get_or, arith, ap, subst, sym, refl, ◌∙◌}
 use Rattle.cell_tables.specs.declared.entry.Entry.{Entry}
 use Rattle.cell_tables.specs.declared.entry.Entry.TheVariants.{Order as OrderEntry}
-use Rattle.run_resume.specs.Replays.{IsReplayed, told_part}
+use Rattle.run_resume.specs.Replays.{IsReplayed}
 use Rattle.run_resume.proofs.Replayed.{order_replayed, room_for_late}
 use Rattle.run_resume.proofs.replay.Replay.take_told_order.Goals as goal
 
