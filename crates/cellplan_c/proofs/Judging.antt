@@ -6,24 +6,24 @@ use Rattle.plan_verifier.specs.declared.verdict.Verdict.TheVariants.{Accepted, R
 use Rattle.command_answers.specs.declared.answer.Answer.{Answer}
 use Rattle.command_answers.specs.declared.command_fault.CommandFault.{CommandFault}
 use Rattle.command_answers.specs.declared.command_fault.CommandFault.TheVariants.{Instance, Plan, Read, Write, InputTooLong, Memory}
-use Rattle.command_answers.specs.Checks.{verdict_status}
+use Rattle.command_answers.specs.Checks.{IsCheckLine, verdict_status}
+use Rattle.command_answers.specs.Explains.{IsExplanation}
 use Rattle.command_answers.specs.Plans.{IsRightOfBoth}
 use Rattle.command_answers.specs.Statuses.{status_of}
-use Rattle.cellplan_c.specs.declared.judges.Judge.{Judge}
-use Rattle.cellplan_c.specs.declared.judges.Judge.TheVariants.{Check, Explain}
-use Rattle.cellplan_c.specs.Judges.{IsAnswerOf}
 
 pub verdict_bound : (verdict : Verdict) → verdict_status verdict ≤ 1
 verdict_bound (Accepted verified) = omega arith
 verdict_bound (Refused back why) = omega arith
 
-pub status_bound : (judge : Judge) (p : PlannedShop) (answer : Answer) → IsAnswerOf judge p answer → answer.status ≤ 1
-status_bound Check p answer (inl line) = omega (arith, line.line.refused)
-status_bound Check p answer (inr (shaped, inl accepted)) = omega (arith, accepted.good)
-status_bound Check p answer (inr (shaped, inr (inl cycle))) = omega (arith, cycle.refused)
-status_bound Check p answer (inr (shaped, inr (inr late))) = omega (arith, late.refused)
-status_bound Explain p answer (inl line) = omega (arith, line.line.refused)
-status_bound Explain p answer (inr explained) = omega (arith, explained.explained.status, verdict_bound explained.verdict)
+pub check_bound : (p : PlannedShop) (answer : Answer) → IsCheckLine p answer → answer.status ≤ 1
+check_bound p answer (inl line) = omega (arith, line.line.refused)
+check_bound p answer (inr (shaped, inl accepted)) = omega (arith, accepted.good)
+check_bound p answer (inr (shaped, inr (inl cycle))) = omega (arith, cycle.refused)
+check_bound p answer (inr (shaped, inr (inr late))) = omega (arith, late.refused)
+
+pub explanation_bound : (p : PlannedShop) (answer : Answer) → IsExplanation p answer → answer.status ≤ 1
+explanation_bound p answer (inl line) = omega (arith, line.line.refused)
+explanation_bound p answer (inr explained) = omega (arith, explained.explained.status, verdict_bound explained.verdict)
 
 pub fault_bounds : (instance : List ℕ) (name : Option (List ℕ)) (plan : List ℕ) (fault : CommandFault)
     → IsRightOfBoth instance name plan fault → (3 ≤ status_of fault) × (status_of fault ≤ 4)

@@ -2,5 +2,6 @@ mod Beginning
 mod Found
 mod Judging
 mod Laying
+mod Reading
 mod Slots
 mod Telling

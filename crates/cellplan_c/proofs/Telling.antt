@@ -1,5 +1,6 @@
 -- An answer to two texts that is told, or the line of their fault, unless memory ran out.
-use Rattle.std.proofs.Common.{◌≡◌, ℕ, List, Option, Result, Ok, Err, IfOk, IfErr, inl, inr, ap, ◌∙◌, subst, refl}
+use Rattle.std.proofs.Common.{◌≡◌, ℕ, List, Option, Result, Ok, Err, IfOk, IfErr, inl, inr, sym, ap, ◌∙◌, subst, refl, ◌≤◌}
+use Rattle.shop_base.specs.Plan.{PlannedShop}
 use Rattle.orlib_read.specs.declared.or_fault.OrFault.{OrFault}
 use Rattle.plan_text.specs.declared.plan_fault.PlanFault.{PlanFault}
 use Rattle.command_answers.specs.declared.answer.Answer.{Answer}
@@ -9,10 +10,8 @@ use Rattle.command_answers.specs.Instances.{IsInstanceRefusal}
 use Rattle.command_answers.specs.Plans.{IsRightOfBoth, IsPlanRefusal}
 use Rattle.command_answers.specs.Readings.{AreTextsAnswered}
 use Rattle.command_answers.specs.Statuses.{status_of}
-use Rattle.cellplan_c.specs.declared.judges.Judge.{Judge}
 use Rattle.cellplan_c.specs.Calls.{IsPut, Answers, IsTextFaultTold, IsTextsTold, AreTextsTold}
-use Rattle.cellplan_c.specs.Judges.{IsAnswerOf, IsUntold}
-use Rattle.cellplan_c.proofs.Judging.{status_bound}
+use Rattle.cellplan_c.specs.Untold.{IsUntold}
 
 put_told : (Is : Answer → Type 0) (told : Result Answer CommandFault) (result : ℕ) (old new : List ℕ) (needed : ℕ)
     → IfErr told (λ fault. (result ≡ status_of fault) × (needed ≡ 0) × (new ≡ old))
@@ -67,49 +66,64 @@ memory_alone instance name plan Read other is untold = absurd is
 memory_alone instance name plan Write other is untold = absurd is
 memory_alone instance name plan InputTooLong other is untold = absurd is
 
-module _ (instance : List ℕ) (name : Option (List ℕ)) (plan : List ℕ) where
-  pub memory_told : (fault : CommandFault) (told : Result Answer CommandFault) → IsRightOfBoth instance name plan fault
+module _ (instance : List ℕ) (name : Option (List ℕ)) (plan : List ℕ) (Is : PlannedShop → Answer → Type 0)
+    (bound : (p : PlannedShop) (answer : Answer) → Is p answer → answer.status ≤ 1) where
+  memory_told : (fault : CommandFault) (told : Result Answer CommandFault) → IsRightOfBoth instance name plan fault
       → IfErr told (IsUntold fault) → IfErr told (λ other. other ≡ Memory)
   memory_told fault (Ok answer) is untold = tt
   memory_told fault (Err other) is untold = memory_alone instance name plan fault other is untold
 
-  module _ (judge : Judge) where
-    pub answer_told : (answer : Answer) → AreTextsAnswered instance name plan (IsAnswerOf judge) (Ok answer)
-        → AreTextsTold instance name plan (IsAnswerOf judge) (IfOk {E = CommandFault} (Ok answer))
-    answer_told answer are = record {
-      found = inl (are.found, status_bound judge are.found.planned answer are.found.is);
-      only = are.only;
-      first = λ fault is. absurd (are.first fault is);
-      second = λ fault tells is. absurd (are.second fault tells is);
-    }
+  answer_told : (answer : Answer) → AreTextsAnswered instance name plan Is (Ok answer)
+      → AreTextsTold instance name plan Is (IfOk {E = CommandFault} (Ok answer))
+  answer_told answer are = record {
+    found = inl (are.found, bound are.found.planned answer are.found.is);
+    only = are.only;
+    first = λ fault is. absurd (are.first fault is);
+    second = λ fault tells is. absurd (are.second fault tells is);
+  }
 
-    fault_found : (fault : CommandFault) (told : Result Answer CommandFault) → IsRightOfBoth instance name plan fault
-        → IfOk told (IsTextFaultTold fault) → IfOk told (IsTextsTold instance name plan (IsAnswerOf judge))
-    fault_found fault (Err other) right line = tt
-    fault_found fault (Ok answer) right line = inr (fault, record { right = right; status = of_text fault answer line }, line)
+  fault_found : (fault : CommandFault) (told : Result Answer CommandFault) → IsRightOfBoth instance name plan fault
+      → IfOk told (IsTextFaultTold fault) → IfOk told (IsTextsTold instance name plan Is)
+  fault_found fault (Err other) right line = tt
+  fault_found fault (Ok answer) right line = inr (fault, record { right = right; status = of_text fault answer line }, line)
 
-    pub fault_told : (fault : CommandFault) (told : Result Answer CommandFault)
-        → AreTextsAnswered instance name plan (IsAnswerOf judge) (Err fault)
-        → IfOk told (IsTextFaultTold fault) → AreTextsTold instance name plan (IsAnswerOf judge) (IfOk told)
-    fault_told fault told are line = record {
-      found = fault_found fault told are.fault line;
-      only = λ p tell. no_line (IsAnswerOf judge p) fault told (are.only p tell) line;
-      first = λ why is. instance_line fault why told (are.first why is) line;
-      second = λ why tells is. plan_line fault why told (are.second why tells is) line;
-    }
+  fault_told : (fault : CommandFault) (told : Result Answer CommandFault) → AreTextsAnswered instance name plan Is (Err fault)
+      → IfOk told (IsTextFaultTold fault) → AreTextsTold instance name plan Is (IfOk told)
+  fault_told fault told are line = record {
+    found = fault_found fault told are.fault line;
+    only = λ p tell. no_line (Is p) fault told (are.only p tell) line;
+    first = λ why is. instance_line fault why told (are.first why is) line;
+    second = λ why tells is. plan_line fault why told (are.second why tells is) line;
+  }
 
-    pub put_texts : (told : Result Answer CommandFault) (result : ℕ) (old new : List ℕ) (needed : ℕ)
-        → IfErr told (λ fault. (result ≡ status_of fault) × (needed ≡ 0) × (new ≡ old))
-        → IfOk told (λ answer. IsPut answer.text.items answer.status result old new needed)
-        → IfErr told (λ fault. fault ≡ Memory)
-        → AreTextsTold instance name plan (IsAnswerOf judge) (IfOk told)
-        → AreTextsTold instance name plan (IsAnswerOf judge) (Answers result old new needed)
-    put_texts told result old new needed untold put memory are = record {
-      found = answers _ are.found;
-      only = λ p tell. answers _ (are.only p tell);
-      first = λ fault is. answers _ (are.first fault is);
-      second = λ fault tells is. answers _ (are.second fault tells is);
-    }
-      where
-        answers : (Is : Answer → Type 0) → IfOk told Is → Answers result old new needed Is
-        answers Is is = put_told Is told result old new needed untold put memory is
+  put_texts : (told : Result Answer CommandFault) (result : ℕ) (old new : List ℕ) (needed : ℕ)
+      → IfErr told (λ fault. (result ≡ status_of fault) × (needed ≡ 0) × (new ≡ old))
+      → IfOk told (λ answer. IsPut answer.text.items answer.status result old new needed)
+      → IfErr told (λ fault. fault ≡ Memory)
+      → AreTextsTold instance name plan Is (IfOk told)
+      → AreTextsTold instance name plan Is (Answers result old new needed)
+  put_texts told result old new needed untold put memory are = record {
+    found = answers _ are.found;
+    only = λ p tell. answers _ (are.only p tell);
+    first = λ fault is. answers _ (are.first fault is);
+    second = λ fault tells is. answers _ (are.second fault tells is);
+  }
+    where
+      answers : (Tells : Answer → Type 0) → IfOk told Tells → Answers result old new needed Tells
+      answers Tells is = put_told Tells told result old new needed untold put memory is
+
+  -- what two texts are answered, told and put
+  pub told_and_put : (answered told : Result Answer CommandFault) (result : ℕ) (old new : List ℕ) (needed : ℕ)
+      → AreTextsAnswered instance name plan Is answered
+      → IfOk answered (λ answer. told ≡ Ok answer)
+      → IfErr answered (λ fault. IfOk told (IsTextFaultTold fault))
+      → IfErr answered (λ fault. IfErr told (IsUntold fault))
+      → IfErr told (λ fault. (result ≡ status_of fault) × (needed ≡ 0) × (new ≡ old))
+      → IfOk told (λ answer. IsPut answer.text.items answer.status result old new needed)
+      → AreTextsTold instance name plan Is (Answers result old new needed)
+  told_and_put (Err fault) told result old new needed are same line other untold put =
+      put_texts told result old new needed untold put (memory_told fault told are.fault other) (fault_told fault told are line)
+  told_and_put (Ok answer) told result old new needed are same line other untold put =
+      put_texts told result old new needed untold put
+      (subst (λ (t : Result Answer CommandFault). IfErr t (λ fault. fault ≡ Memory)) (sym same) tt)
+      (subst (λ (t : Result Answer CommandFault). AreTextsTold instance name plan Is (IfOk t)) (sym same) (answer_told answer are))

@@ -1,23 +1,16 @@
--- What is said of the controller that a cell holds, and what the calls that report to it or read it answer.
-use Rattle.std.specs.Prelude.{◌≡◌, ◌≢◌, ℕ, ◌+◌, ◌<◌, ◌≤◌, ◌↔◌, Bool, List, Option, IfSome, MatchOption, length, slice_get, option_map}
+-- What is said of the controller that a cell holds, and what the calls that report to it or ask for its orders answer.
+use Rattle.std.specs.Prelude.{◌≡◌, ◌≢◌, ℕ, ◌+◌, ◌<◌, ◌≤◌, ◌↔◌, Bool, List, IfSome, length, slice_get, option_map}
 use Rattle.shop_base.specs.declared.move_order.MoveOrder.{MoveOrder}
-use Rattle.shop_base.specs.Plan.{jobs}
-use Rattle.shop_base.specs.Graph.{leaving}
 use Rattle.shop_base.specs.Report.{Report as Ended, CanReport}
 use Rattle.shop_base.specs.Run.{Event}
-use Rattle.shop_base.specs.ExactLaw.{IsNeverGoneBefore}
-use Rattle.plan_verifier.specs.Accepted.{VerifiedPlan, kept_at, IsGreatest, IsNeverGoneAfter, IsGoneJustAt}
 use Rattle.cell_tables.specs.Reports.{said}
 use Rattle.cell_control.specs.Control.{Control, IsAnswered, IfEndsNow}
 use Rattle.cell_control.specs.Promises.{IsCalled}
-use Rattle.cell_control.specs.Readings.{IsPhaseOf}
 use Rattle.cell_control.specs.Reports.{IsFirstReason, IsOnlyReason}
-use Rattle.cell_control.specs.declared.report.Phase.{Phase as Whereabouts}
 use Rattle.cell_control.specs.declared.report_fault.ReportFault.{ReportFault}
 use Rattle.cellplan_c.specs.declared.cell.Cell.{Cell}
 use Rattle.cellplan_c.specs.declared.told.Order.{Order}
-use Rattle.cellplan_c.specs.declared.told.Phase.{Phase}
-use Rattle.cellplan_c.specs.Told.{report_by, order_told, phase_told, fault_number, fault_detail}
+use Rattle.cellplan_c.specs.Told.{report_by, order_told, fault_number, fault_detail}
 
 -- of the controller that the cell holds, if it holds one
 abbrev pub Holding : Cell → (Control → Type 0) → Type 0
@@ -49,16 +42,3 @@ AreOrdersPut orders first old new =
 -- behind the orders from a first one on the room stays as it was
 abbrev pub IsKeptBehind : List MoveOrder → ℕ → List Order → List Order → Type 0
 IsKeptBehind orders first old new = (i : ℕ) → length orders ≤ first + i → slice_get new i ≡ slice_get old i
-
--- where the job is, as numbers; none for a number that is no job's
-abbrev pub IsPhaseTold : Control → ℕ → Option Phase → Type 0
-IsPhaseTold held job answer =
-    (place : Option Whereabouts) × (answer ≡ option_map phase_told place) × IsPhaseOf held.plan.planned held.cell job place
-
--- the job's earliest leaving by the plan; none for a number that is no job's
-pub record IsLeaveOf (v : VerifiedPlan) (job : ℕ) (answer : Option ℕ) : Type 0 where
-  pub greatest : MatchOption answer (jobs v.planned ≤ job) (λ moment. (job < jobs v.planned) × IsGreatest v.planned (leaving v.planned job) moment)
-  pub kept : IfSome answer (λ moment. moment ≡ kept_at v (leaving v.planned job))
-  pub no_faster : IfSome answer (IsNeverGoneBefore v.planned job)
-  pub no_later : IfSome answer (IsNeverGoneAfter v.planned job)
-  pub just_in_time : IfSome answer (IsGoneJustAt v.planned job)

@@ -1,17 +1,14 @@
 //! The answers of the commands that judge a plan, called from C.
 
 ghost use Rattle.std.specs.Prelude.{◌≡◌, IfOk, IfErr};
-ghost use Rattle.command_answers.specs.declared.command_fault.CommandFault.TheVariants.{Memory};
-ghost use Rattle.command_answers.specs.Readings.{AreTextsAnswered};
 ghost use Rattle.command_answers.specs.Checks.{IsCheckLine};
 ghost use Rattle.command_answers.specs.Explains.{IsExplanation};
 ghost use Rattle.cellplan_c.specs.Told.{named};
-ghost use Rattle.cellplan_c.specs.Calls.{Answers, AreTextsTold};
-ghost use Rattle.cellplan_c.specs.Judges.{IsAnswerOf};
+ghost use Rattle.cellplan_c.specs.Calls.{Answers, AreTextsTold, IsTextFaultTold};
+ghost use Rattle.cellplan_c.specs.Untold.{IsUntold};
 
 use crate::faults::fault_answer;
 use crate::instances::name_in;
-use crate::judges::Judge;
 use crate::rooms::put_answer;
 use command_answers::{Answer, CommandFault, check, explain};
 use std::alloc::Global;
@@ -30,7 +27,8 @@ pub extern "C" fn cellplan_check(
     ensures { AreTextsTold instance.now (named name.now) plan.now IsCheckLine
         (Answers result line.old line.new length.new) }
 {
-    answer(alloc, Judge::Check, instance, name, plan, line, length)
+    let answered = check(alloc, instance, name_in(name), plan);
+    put_answer(told(alloc, answered), line, length)
 }
 
 /// The answer of the command `explain` to the two texts, or its fault's line, as the program tells it. The name is as
@@ -47,55 +45,18 @@ pub extern "C" fn cellplan_explain(
     ensures { AreTextsTold instance.now (named name.now) plan.now IsExplanation
         (Answers result text.old text.new length.new) }
 {
-    answer(alloc, Judge::Explain, instance, name, plan, text, length)
+    let answered = explain(alloc, instance, name_in(name), plan);
+    put_answer(told(alloc, answered), text, length)
 }
 
-/// Writes the command's answer, or the line of its fault, if memory suffices and there is room.
-fn answer(
-    alloc: Global,
-    judge: Judge,
-    instance: &[u8],
-    name: &[u8],
-    plan: &[u8],
-    text: &mut [u8],
-    length: &mut usize,
-) -> u32
-    ensures { AreTextsTold instance.now (named name.now) plan.now (IsAnswerOf judge)
-        (Answers result text.old text.new length.new) }
+/// The answer, or the line of a text's fault. A fault of no text is passed on.
+fn told(alloc: Global, answered: Result<Answer, CommandFault>) -> Result<Answer, CommandFault>
+    ensures answer { IfOk answered (λ answer. result ≡ Ok answer) }
+    ensures line { IfErr answered (λ fault. IfOk result (IsTextFaultTold fault)) }
+    ensures untold { IfErr answered (λ fault. IfErr result (IsUntold fault)) }
 {
-    let told = told(alloc, judge, instance, name, plan);
-    put_answer(told, text, length)
-}
-
-/// The command's answer, or the line of its fault; or that memory ran out.
-fn told(
-    alloc: Global,
-    judge: Judge,
-    instance: &[u8],
-    name: &[u8],
-    plan: &[u8],
-) -> Result<Answer, CommandFault>
-    ensures texts { AreTextsTold instance.now (named name.now) plan.now (IsAnswerOf judge) (IfOk result) }
-    ensures memory { IfErr result (λ fault. fault ≡ Memory) }
-{
-    match judged(alloc, judge, instance, name, plan) {
+    match answered {
         Ok(answer) => Ok(answer),
         Err(fault) => fault_answer(alloc, fault),
-    }
-}
-
-/// The command's answer.
-fn judged(
-    alloc: Global,
-    judge: Judge,
-    instance: &[u8],
-    name: &[u8],
-    plan: &[u8],
-) -> Result<Answer, CommandFault>
-    ensures { AreTextsAnswered instance.now (named name.now) plan.now (IsAnswerOf judge) result }
-{
-    match judge {
-        Judge::Check => check(alloc, instance, name_in(name), plan),
-        Judge::Explain => explain(alloc, instance, name_in(name), plan),
     }
 }

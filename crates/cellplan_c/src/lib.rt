@@ -11,7 +11,6 @@ mod cells;
 mod faults;
 mod inner;
 mod instances;
-mod judges;
 mod lain;
 mod names;
 mod readers;

@@ -1,12 +1,10 @@
 //! What C reads of a cell.
 
-ghost use Rattle.std.specs.Prelude.{◌≡◌, ◌≢◌, ◌+◌, ◌↔◌, ◌⊎◌, None, IsTrue};
+ghost use Rattle.std.specs.Prelude.{◌≡◌, ◌↔◌, IsTrue};
 ghost use Rattle.shop_base.specs.Plan.{jobs, machines};
-ghost use Rattle.shop_base.specs.Ends.{stated_number, HasEnded};
-ghost use Rattle.shop_base.specs.ReportsLeft.{reports_left};
+ghost use Rattle.shop_base.specs.Ends.{HasEnded};
 ghost use Rattle.cell_control.specs.Readings.{IsJobOn, IsDueOf, IsDueOfCleaning};
-ghost use Rattle.cellplan_c.specs.Told.{answer_of};
-ghost use Rattle.cellplan_c.specs.Cells.{Holding, IsPhaseTold, IsLeaveOf};
+ghost use Rattle.cellplan_c.specs.Readings.{Finds, Tells, IsPhaseTold, IsLeaveOf, AreReportsLeft};
 
 use crate::cell::Cell;
 use crate::rooms::put_found;
@@ -22,11 +20,7 @@ pub extern "C" fn cellplan_cell_phase(
     job: u32,
     phase: &mut Phase,
 ) -> u32
-    ensures phase { Holding cell.old (λ held. IsPhaseTold held job (answer_of result phase.new)) }
-    ensures statuses { Holding cell.old (λ held. (result ≡ 0) ⊎ (result ≡ 7)) }
-    ensures no_cell { (cell.old.slot.held ≡ None) ↔ (result ≡ 8) }
-    ensures unchanged { cell.new.slot.held ≡ cell.old.slot.held }
-    ensures unwritten { result ≢ 0 → phase.new ≡ phase.old }
+    ensures { Finds cell.old cell.new result phase.old phase.new (λ held. IsPhaseTold held job) }
 {
     let Some(inner) = cell.take(alloc) else {
         return NO_CELL;
@@ -50,11 +44,7 @@ pub extern "C" fn cellplan_cell_holder(
     machine: u32,
     job: &mut u32,
 ) -> u32
-    ensures holder { Holding cell.old (λ held. IsJobOn held.plan.planned held.cell machine (answer_of result job.new)) }
-    ensures statuses { Holding cell.old (λ held. (result ≡ 0) ⊎ (result ≡ 7)) }
-    ensures no_cell { (cell.old.slot.held ≡ None) ↔ (result ≡ 8) }
-    ensures unchanged { cell.new.slot.held ≡ cell.old.slot.held }
-    ensures unwritten { result ≢ 0 → job.new ≡ job.old }
+    ensures { Finds cell.old cell.new result job.old job.new (λ held. IsJobOn held.plan.planned held.cell machine) }
 {
     let Some(inner) = cell.take(alloc) else {
         return NO_CELL;
@@ -67,11 +57,7 @@ pub extern "C" fn cellplan_cell_holder(
 /// When the job's activity is due; none where it has none, since it is ready or gone or no job.
 #[unsafe(no_mangle)]
 pub extern "C" fn cellplan_cell_due(alloc: Global, cell: &mut Cell, job: u32, at: &mut u64) -> u32
-    ensures due { Holding cell.old (λ held. IsDueOf held.plan.planned held.cell job (answer_of result at.new)) }
-    ensures statuses { Holding cell.old (λ held. (result ≡ 0) ⊎ (result ≡ 7)) }
-    ensures no_cell { (cell.old.slot.held ≡ None) ↔ (result ≡ 8) }
-    ensures unchanged { cell.new.slot.held ≡ cell.old.slot.held }
-    ensures unwritten { result ≢ 0 → at.new ≡ at.old }
+    ensures { Finds cell.old cell.new result at.old at.new (λ held. IsDueOf held.plan.planned held.cell job) }
 {
     let Some(inner) = cell.take(alloc) else {
         return NO_CELL;
@@ -89,11 +75,7 @@ pub extern "C" fn cellplan_cell_clean_due(
     machine: u32,
     at: &mut u64,
 ) -> u32
-    ensures clean_due { Holding cell.old (λ held. IsDueOfCleaning held.plan.planned held.cell machine (answer_of result at.new)) }
-    ensures statuses { Holding cell.old (λ held. (result ≡ 0) ⊎ (result ≡ 7)) }
-    ensures no_cell { (cell.old.slot.held ≡ None) ↔ (result ≡ 8) }
-    ensures unchanged { cell.new.slot.held ≡ cell.old.slot.held }
-    ensures unwritten { result ≢ 0 → at.new ≡ at.old }
+    ensures { Finds cell.old cell.new result at.old at.new (λ held. IsDueOfCleaning held.plan.planned held.cell machine) }
 {
     let Some(inner) = cell.take(alloc) else {
         return NO_CELL;
@@ -106,10 +88,7 @@ pub extern "C" fn cellplan_cell_clean_due(
 /// The moment of the last accepted report, 0 before the first.
 #[unsafe(no_mangle)]
 pub extern "C" fn cellplan_cell_now(alloc: Global, cell: &mut Cell, at: &mut u64) -> u32
-    ensures now { Holding cell.old (λ held. (result ≡ 0) × (at.new ≡ held.cell.last)) }
-    ensures no_cell { (cell.old.slot.held ≡ None) ↔ (result ≡ 8) }
-    ensures unchanged { cell.new.slot.held ≡ cell.old.slot.held }
-    ensures unwritten { result ≢ 0 → at.new ≡ at.old }
+    ensures { Tells cell.old cell.new result at.old at.new (λ held at. at ≡ held.cell.last) }
 {
     let Some(inner) = cell.take(alloc) else {
         return NO_CELL;
@@ -122,10 +101,7 @@ pub extern "C" fn cellplan_cell_now(alloc: Global, cell: &mut Cell, at: &mut u64
 /// Whether no accepted report was late.
 #[unsafe(no_mangle)]
 pub extern "C" fn cellplan_cell_punctual(alloc: Global, cell: &mut Cell, punctual: &mut bool) -> u32
-    ensures punctual { Holding cell.old (λ held. (result ≡ 0) × (punctual.new ≡ held.punctual)) }
-    ensures no_cell { (cell.old.slot.held ≡ None) ↔ (result ≡ 8) }
-    ensures unchanged { cell.new.slot.held ≡ cell.old.slot.held }
-    ensures unwritten { result ≢ 0 → punctual.new ≡ punctual.old }
+    ensures { Tells cell.old cell.new result punctual.old punctual.new (λ held punctual. punctual ≡ held.punctual) }
 {
     let Some(inner) = cell.take(alloc) else {
         return NO_CELL;
@@ -138,12 +114,7 @@ pub extern "C" fn cellplan_cell_punctual(alloc: Global, cell: &mut Cell, punctua
 /// How many reports are still to come.
 #[unsafe(no_mangle)]
 pub extern "C" fn cellplan_cell_reports_left(alloc: Global, cell: &mut Cell, left: &mut u64) -> u32
-    ensures left { Holding cell.old (λ held. (result ≡ 0) × (left.new ≡ reports_left held.plan.planned held.cell)) }
-    ensures count { Holding cell.old (λ held. held.accepted + left.new ≡ stated_number held.plan.planned) }
-    ensures ended { Holding cell.old (λ held. HasEnded held.plan.planned held.cell ↔ (left.new ≡ 0)) }
-    ensures no_cell { (cell.old.slot.held ≡ None) ↔ (result ≡ 8) }
-    ensures unchanged { cell.new.slot.held ≡ cell.old.slot.held }
-    ensures unwritten { result ≢ 0 → left.new ≡ left.old }
+    ensures { Tells cell.old cell.new result left.old left.new AreReportsLeft }
 {
     let Some(inner) = cell.take(alloc) else {
         return NO_CELL;
@@ -156,11 +127,7 @@ pub extern "C" fn cellplan_cell_reports_left(alloc: Global, cell: &mut Cell, lef
 /// Whether the run has ended: all jobs are gone, and no machine is being cleaned.
 #[unsafe(no_mangle)]
 pub extern "C" fn cellplan_cell_is_done(alloc: Global, cell: &mut Cell, done: &mut bool) -> u32
-    ensures good { Holding cell.old (λ held. result ≡ 0) }
-    ensures done { Holding cell.old (λ held. IsTrue done.new ↔ HasEnded held.plan.planned held.cell) }
-    ensures no_cell { (cell.old.slot.held ≡ None) ↔ (result ≡ 8) }
-    ensures unchanged { cell.new.slot.held ≡ cell.old.slot.held }
-    ensures unwritten { result ≢ 0 → done.new ≡ done.old }
+    ensures { Tells cell.old cell.new result done.old done.new (λ held done. IsTrue done ↔ HasEnded held.plan.planned held.cell) }
 {
     let Some(inner) = cell.take(alloc) else {
         return NO_CELL;
@@ -173,10 +140,7 @@ pub extern "C" fn cellplan_cell_is_done(alloc: Global, cell: &mut Cell, done: &m
 /// How many jobs the shop has.
 #[unsafe(no_mangle)]
 pub extern "C" fn cellplan_cell_jobs(alloc: Global, cell: &mut Cell, count: &mut u32) -> u32
-    ensures count { Holding cell.old (λ held. (result ≡ 0) × (count.new ≡ jobs held.plan.planned)) }
-    ensures no_cell { (cell.old.slot.held ≡ None) ↔ (result ≡ 8) }
-    ensures unchanged { cell.new.slot.held ≡ cell.old.slot.held }
-    ensures unwritten { result ≢ 0 → count.new ≡ count.old }
+    ensures { Tells cell.old cell.new result count.old count.new (λ held count. count ≡ jobs held.plan.planned) }
 {
     let Some(inner) = cell.take(alloc) else {
         return NO_CELL;
@@ -189,10 +153,7 @@ pub extern "C" fn cellplan_cell_jobs(alloc: Global, cell: &mut Cell, count: &mut
 /// How many machines the shop has.
 #[unsafe(no_mangle)]
 pub extern "C" fn cellplan_cell_machines(alloc: Global, cell: &mut Cell, count: &mut u32) -> u32
-    ensures count { Holding cell.old (λ held. (result ≡ 0) × (count.new ≡ machines held.plan.planned)) }
-    ensures no_cell { (cell.old.slot.held ≡ None) ↔ (result ≡ 8) }
-    ensures unchanged { cell.new.slot.held ≡ cell.old.slot.held }
-    ensures unwritten { result ≢ 0 → count.new ≡ count.old }
+    ensures { Tells cell.old cell.new result count.old count.new (λ held count. count ≡ machines held.plan.planned) }
 {
     let Some(inner) = cell.take(alloc) else {
         return NO_CELL;
@@ -210,11 +171,7 @@ pub extern "C" fn cellplan_cell_leaves(
     job: u32,
     at: &mut u64,
 ) -> u32
-    ensures leaves { Holding cell.old (λ held. IsLeaveOf held.plan job (answer_of result at.new)) }
-    ensures statuses { Holding cell.old (λ held. (result ≡ 0) ⊎ (result ≡ 7)) }
-    ensures no_cell { (cell.old.slot.held ≡ None) ↔ (result ≡ 8) }
-    ensures unchanged { cell.new.slot.held ≡ cell.old.slot.held }
-    ensures unwritten { result ≢ 0 → at.new ≡ at.old }
+    ensures { Finds cell.old cell.new result at.old at.new (λ held. IsLeaveOf held.plan job) }
 {
     let Some(inner) = cell.take(alloc) else {
         return NO_CELL;

@@ -1,6 +1,7 @@
 use Rattle.std.proofs.Common.{refl}
+use Rattle.cellplan_c.proofs.Reading.{tells}
 use Rattle.cellplan_c.proofs.readers.cellplan_cell_jobs.Goals as goal
 
-pub returns-clause-count : goal.returns-clause-count
-returns-clause-count c =
-    rw c.in-Some.ensures.taken (refl, rw (c.shop.ensures.same, c.shaped.ensures.same, c.verified.ensures.plan, c.deref.ensures) at c.jobs.ensures.count)
+pub returns : goal.returns
+returns c = tells _ _ _ _ _ _ c.in-Some.ensures.taken c.put.ensures _ refl
+    (rw (c.shop.ensures.same, c.shaped.ensures.same, c.verified.ensures.plan, c.deref.ensures) at c.jobs.ensures.count)

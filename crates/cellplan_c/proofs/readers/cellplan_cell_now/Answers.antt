@@ -1,5 +1,6 @@
 use Rattle.std.proofs.Common.{refl}
+use Rattle.cellplan_c.proofs.Reading.{tells}
 use Rattle.cellplan_c.proofs.readers.cellplan_cell_now.Goals as goal
 
-pub returns-clause-now : goal.returns-clause-now
-returns-clause-now c = rw c.in-Some.ensures.taken (refl, rw c.deref.ensures at c.now.ensures)
+pub returns : goal.returns
+returns c = tells _ _ _ _ _ _ c.in-Some.ensures.taken c.put.ensures _ refl (rw c.deref.ensures at c.now.ensures)

@@ -1,0 +1,10 @@
+-- Which faults no line tells.
+use Rattle.std.specs.Prelude.{◌≡◌}
+use Rattle.command_answers.specs.declared.command_fault.CommandFault.{CommandFault}
+use Rattle.command_answers.specs.declared.command_fault.CommandFault.TheVariants.{Instance, Plan, Memory}
+
+-- that memory ran out, or the fault itself where it is of no text
+abbrev pub IsUntold : CommandFault → CommandFault → Type 0
+IsUntold (Instance why) other = other ≡ Memory
+IsUntold (Plan why) other = other ≡ Memory
+IsUntold fault other = other ≡ fault
