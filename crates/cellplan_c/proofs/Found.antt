@@ -1,5 +1,5 @@
 -- What holds of a cell and a report that are there.
-use Rattle.std.proofs.Common.{◌≡◌, Option, Some, IfSome, sym, subst}
+use Rattle.std.proofs.Common.{◌≡◌, ◌≢◌, ℕ, Option, None, Some, IfSome, sym, subst}
 
 of_both : {A B : Type 0} (P : A → B → Type 0) (held : Option A) (told : Option B) (a : A) (b : B)
     → held ≡ Some a → told ≡ Some b → P a b → IfSome held (λ old. IfSome told (λ report. P old report))
@@ -14,3 +14,18 @@ pub of_three : {A B : Type 0} (P : A → A → B → Type 0) (held after : Optio
 of_three {A} {B} P held after told a new b e g f p =
     subst (λ (h : Option A). IfSome h (λ old. IfSome after (λ new. IfSome told (λ report. P old new report)))) (sym e)
     (of_both (P a) after told new b g f p)
+
+-- what holds of everything holds of what is there
+of_each : {A : Type 0} (P : A → Type 0) (held : Option A) → ((a : A) → P a) → IfSome held P
+of_each P None is = tt
+of_each P (Some a) is = is a
+
+-- without a report nothing is said
+pub of_none : {A B : Type 0} (P : A → A → B → Type 0) (held after : Option A) (told : Option B) → told ≡ None
+    → IfSome held (λ old. IfSome after (λ new. IfSome told (λ report. P old new report)))
+of_none {A} {B} P held after told is =
+    of_each _ held (λ old. of_each _ after (λ new. subst (λ (t : Option B). IfSome t (λ report. P old new report)) (sym is) tt))
+
+-- and at another status than 0 nothing that is said of this one
+pub unless_good : {A : Type 0} (P : A → Type 0) (status : ℕ) (held : Option A) → status ≢ 0 → IfSome held (λ a. status ≡ 0 → P a)
+unless_good P status held bad = of_each (λ a. status ≡ 0 → P a) held (λ a good. absurd (bad good))

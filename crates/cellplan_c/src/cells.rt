@@ -23,7 +23,7 @@ use crate::statuses::{GOOD, REFUSED, status_of_refused};
 use cell_control::Controller;
 use cell_control::laws::never_goes_wrong;
 use command_answers::{Loaded, load};
-use plan_verifier::Verified;
+use plan_verifier::{Verdict, Verified};
 use std::alloc::{AllocError, Global};
 
 /// Makes the controller of an accepted plan, and puts it in the place of what the cell held. The line of a plan that
@@ -70,8 +70,8 @@ fn begun(alloc: Global, loaded: Loaded, cell: &mut Cell) -> u32
     ensures never_wrong { result ≡ 0 → Holding cell.new NeverGoesWrong }
     ensures unchanged { result ≢ 0 → cell.new.slot.held ≡ cell.old.slot.held }
 {
-    match loaded.accepted() {
-        Ok(verified) => match boxed(alloc, verified) {
+    match loaded {
+        Loaded::Judged(Verdict::Accepted(verified)) => match boxed(alloc, verified) {
             Ok(inner) => {
                 cellplan_cell_free(alloc, cell);
                 cell.put(inner);
@@ -79,7 +79,7 @@ fn begun(alloc: Global, loaded: Loaded, cell: &mut Cell) -> u32
             }
             Err(error) => status_of_refused(error),
         },
-        Err(_other) => REFUSED,
+        _ => REFUSED,
     }
 }
 

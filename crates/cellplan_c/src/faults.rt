@@ -37,25 +37,10 @@ fn refusal(
     ensures status { IfOk result (λ told. told.status ≡ 3) }
     ensures memory { IfErr result (λ fault. fault ≡ Memory) }
 {
-    let text = refusal_line(alloc, what, words)?;
+    let words = words?;
+    let text = [what, words.as_bytes(), b"\n"].concat(alloc)?;
     Ok(Answer {
         text,
         status: FAULT,
     })
-}
-
-/// A line: what is refused, and the words that say why.
-fn refusal_line(
-    alloc: Global,
-    what: &[u8],
-    words: Result<String, AllocError>,
-) -> Result<Vec<u8>, AllocError>
-    ensures { IfOk result (λ line. (words : List ℕ) × (line.items ≡ what.now ++ words ++ codes "\n")) }
-{
-    let words = words?;
-    let mut line = Vec::new(alloc);
-    line.extend_from_slice(what)?;
-    line.extend_from_slice(words.as_bytes())?;
-    line.push(b'\n')?;
-    Ok(line)
 }

@@ -1,14 +1,34 @@
-use Rattle.std.proofs.Common.{arith, rules}
+use Rattle.std.proofs.Common.{◌≡◌, refl, ap, inl, inr, arith, rules}
+use Rattle.std.specs.Prelude.{is_some}
+use Rattle.plan_verifier.specs.declared.verdict.Verdict.TheVariants.{Accepted}
+use Rattle.command_answers.specs.declared.loading.Loaded.TheVariants.{Judged}
 use Rattle.cellplan_c.proofs.cells.begun.Goals as goal
 
-pub returns-in-Err-clause-status : goal.returns-in-Err-clause-status
-returns-in-Err-clause-status c = search rules
+pub returns-in-Ok : goal.returns-in-Ok
+returns-in-Ok c =
+    let accepted : c.args.loaded ≡ Judged (Accepted c.in-Judged-Accepted.verified) = search rules in
+    rw accepted (record {
+      status = inr refl;
+      started = λ good. rw c.put.ensures (c.in-Ok.ensures.verified, c.in-Ok.ensures.start);
+      full = λ good. ap is_some c.put.ensures;
+      never_wrong = λ good. rw c.put.ensures c.in-Ok.ensures.never_wrong;
+      unchanged = λ bad. absurd (bad refl);
+    })
 
-pub returns-in-Err-clause-started : goal.returns-in-Err-clause-started
-returns-in-Err-clause-started c = λ good. absurd (omega (arith, good))
+pub returns-in-Judged-Accepted : goal.returns-in-Judged-Accepted
+returns-in-Judged-Accepted c = record {
+  status = inl c.status_of_refused.ensures;
+  started = λ good. absurd (omega (arith, good, c.status_of_refused.ensures));
+  full = λ good. absurd (omega (arith, good, c.status_of_refused.ensures));
+  never_wrong = λ good. absurd (omega (arith, good, c.status_of_refused.ensures));
+  unchanged = λ bad. refl;
+}
 
-pub returns-in-Err-clause-full : goal.returns-in-Err-clause-full
-returns-in-Err-clause-full c = λ good. absurd (omega (arith, good))
-
-pub returns-in-Err-clause-never_wrong : goal.returns-in-Err-clause-never_wrong
-returns-in-Err-clause-never_wrong c = λ good. absurd (omega (arith, good))
+pub returns : goal.returns
+returns c = record {
+  status = search rules;
+  started = search rules;
+  full = search rules;
+  never_wrong = search rules;
+  unchanged = search rules;
+}

@@ -1,18 +1,80 @@
-use Rattle.std.proofs.Common.{◌≡◌, Some, rules}
+use Rattle.std.proofs.Common.{◌≡◌, None, Some, refl, sym, ap, ◌∙◌, arith}
+use Rattle.std.specs.Prelude.{is_some}
 use Rattle.cellplan_c.specs.Told.{report_by}
-use Rattle.cellplan_c.proofs.Found.{of_three}
+use Rattle.cellplan_c.proofs.Found.{of_three, of_none, unless_good}
 use Rattle.cellplan_c.proofs.reports.cellplan_cell_report.Goals as goal
 use Rattle.cellplan_c.proofs.reports.cellplan_cell_report.Goals.{then-status-eq-GOOD, else-status-eq-GOOD}
 
-pub returns-clause-reported : goal.returns-clause-reported
-returns-clause-reported c =
-    let held : c.args.cell.now.slot.held ≡ Some c.deref_mut.result.now = search rules in
-    let after : c.put.new.self.slot.held ≡ Some c.report_to-status.new.inner = search rules in
-    let told : report_by c.args.kind c.args.job c.args.machine c.args.at ≡ Some c.in-Some.report = search rules in
-    of_three _ _ _ _ _ _ _ held after told c.report_to-status.ensures.reported
+pub returns-in_default : goal.returns-in_default
+returns-in_default c =
+    let none : report_by c.args.kind c.args.job c.args.machine c.args.at ≡ None = sym c.in_default.ensures in
+    record {
+      full = λ some. some;
+      no_kind = (λ _. refl, λ nine. none);
+      no_cell = rw none tt;
+      reported = of_none _ c.args.cell.now.slot.held c.args.cell.now.slot.held _ none;
+      unchanged = λ bad. refl;
+      never_wrong = λ kind. absurd (kind refl);
+      not_late = λ bad. refl;
+      no_detail = λ small. refl;
+      no_orders = λ bad. (refl, refl);
+      count = unless_good _ _ _ (λ good. omega (arith, good));
+      orders = unless_good _ _ _ (λ good. omega (arith, good));
+      kept = unless_good _ _ _ (λ good. omega (arith, good));
+    }
 
-pub returns-clause-orders : goal.returns-clause-orders
-returns-clause-orders c = rw c.put.ensures (elim c.if-status-eq-GOOD.branch [
-  | then-status-eq-GOOD w ↦ λ good. rw w.orders-is (rw (w.orders-released.ensures, w.deref.ensures) at w.put_orders.ensures.put)
-  | else-status-eq-GOOD w ↦ λ good. absurd (w.if-status-eq-GOOD.false good)
-])
+pub returns-in_default-take : goal.returns-in_default-take
+returns-in_default-take c =
+    let told : report_by c.args.kind c.args.job c.args.machine c.args.at ≡ Some c.in-Some.report = sym c.in-Some.ensures in
+    let none = c.in_default-take.ensures.taken in
+    let emptied = c.in_default-take.ensures.emptied in
+    record {
+      full = rw none (λ some. absurd (cc some));
+      no_kind = (λ other. absurd (cc (other, told)), λ nine. absurd (omega (arith, nine)));
+      no_cell = rw told (λ _. refl, λ eight. none);
+      reported = rw none tt;
+      unchanged = λ bad. emptied ∙ sym none;
+      never_wrong = λ kind. rw emptied tt;
+      not_late = λ bad. refl;
+      no_detail = λ small. refl;
+      no_orders = λ bad. (refl, refl);
+      count = rw emptied tt;
+      orders = rw emptied tt;
+      kept = rw emptied tt;
+    }
+
+pub returns : goal.returns
+returns c =
+    let held : c.args.cell.now.slot.held ≡ Some c.deref_mut.result.now = rw c.deref_mut.ensures.value c.in-Some-take.ensures.taken in
+    let after = c.put.ensures in
+    let told : report_by c.args.kind c.args.job c.args.machine c.args.at ≡ Some c.in-Some.report = sym c.in-Some.ensures in
+    let are = c.report_to-status.ensures in
+    record {
+      full = λ some. ap is_some after;
+      no_kind = (λ other. absurd (cc (other, told)), λ nine. absurd (omega (arith, nine, are.numbers (λ good. omega (arith, nine, good)))));
+      no_cell = rw told (λ other. absurd (cc (other, held)), λ eight. absurd (omega (arith, eight, are.numbers (λ good. omega (arith, eight, good)))));
+      reported = of_three _ _ _ _ _ _ _ held after told are.reported;
+      unchanged = λ bad. after ∙ ap Some (are.unchanged bad) ∙ sym held;
+      never_wrong = λ kind. rw after are.never_wrong;
+      not_late = are.not_late;
+      no_detail = λ small. are.no_detail (elim c.if-status-eq-GOOD.branch [
+        | then-status-eq-GOOD w ↦ w.if-status-eq-GOOD.true
+        | else-status-eq-GOOD w ↦ absurd (omega (arith, small, are.numbers w.if-status-eq-GOOD.false))
+      ]);
+      no_orders = elim c.if-status-eq-GOOD.branch [
+        | then-status-eq-GOOD w ↦ λ bad. absurd (bad w.if-status-eq-GOOD.true)
+        | else-status-eq-GOOD w ↦ λ bad. (w.count-is, w.orders-is)
+      ];
+      count = rw after (elim c.if-status-eq-GOOD.branch [
+        | then-status-eq-GOOD w ↦ λ good. rw (w.orders-released.ensures, w.deref.ensures) at w.count-is
+        | else-status-eq-GOOD w ↦ λ good. absurd (w.if-status-eq-GOOD.false good)
+      ]);
+      orders = rw after (elim c.if-status-eq-GOOD.branch [
+        | then-status-eq-GOOD w ↦ λ good. rw w.orders-is (rw (w.orders-released.ensures, w.deref.ensures) at w.put_orders.ensures.put)
+        | else-status-eq-GOOD w ↦ λ good. absurd (w.if-status-eq-GOOD.false good)
+      ]);
+      kept = rw after (elim c.if-status-eq-GOOD.branch [
+        | then-status-eq-GOOD w ↦ λ good. rw w.orders-is (rw (w.orders-released.ensures, w.deref.ensures) at w.put_orders.ensures.kept)
+        | else-status-eq-GOOD w ↦ λ good. absurd (w.if-status-eq-GOOD.false good)
+      ]);
+    }
