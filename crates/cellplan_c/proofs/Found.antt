@@ -1,4 +1,4 @@
--- What holds of a cell and a report that are there.
+-- What is said of a cell and a report, where they are there and where they aren't.
 use Rattle.std.proofs.Common.{◌≡◌, ◌≢◌, ℕ, Option, None, Some, IfSome, sym, subst}
 
 of_both : {A B : Type 0} (P : A → B → Type 0) (held : Option A) (told : Option B) (a : A) (b : B)
@@ -23,9 +23,9 @@ of_each P (Some a) is = is a
 -- without a report nothing is said
 pub of_none : {A B : Type 0} (P : A → A → B → Type 0) (held after : Option A) (told : Option B) → told ≡ None
     → IfSome held (λ old. IfSome after (λ new. IfSome told (λ report. P old new report)))
-of_none {A} {B} P held after told is =
-    of_each _ held (λ old. of_each _ after (λ new. subst (λ (t : Option B). IfSome t (λ report. P old new report)) (sym is) tt))
+of_none P held after None is = of_each _ held (λ old. of_each _ after (λ new. tt))
+of_none P held after (Some report) is = absurd (cc is)
 
--- and at another status than 0 nothing that is said of this one
+-- and at another status than 0 nothing of what is said at 0
 pub unless_good : {A : Type 0} (P : A → Type 0) (status : ℕ) (held : Option A) → status ≢ 0 → IfSome held (λ a. status ≡ 0 → P a)
 unless_good P status held bad = of_each (λ a. status ≡ 0 → P a) held (λ a good. absurd (bad good))

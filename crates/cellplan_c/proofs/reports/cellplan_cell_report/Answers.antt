@@ -1,4 +1,4 @@
-use Rattle.std.proofs.Common.{◌≡◌, None, Some, refl, sym, ap, ◌∙◌, arith}
+use Rattle.std.proofs.Common.{◌≡◌, ◌≢◌, None, Some, refl, sym, ap, ◌∙◌, arith}
 use Rattle.std.specs.Prelude.{is_some}
 use Rattle.cellplan_c.specs.Told.{report_by}
 use Rattle.cellplan_c.proofs.Found.{of_three, of_none, unless_good}
@@ -7,20 +7,22 @@ use Rattle.cellplan_c.proofs.reports.cellplan_cell_report.Goals.{then-status-eq-
 
 pub returns-in_default : goal.returns-in_default
 returns-in_default c =
-    let none : report_by c.args.kind c.args.job c.args.machine c.args.at ≡ None = sym c.in_default.ensures in
+    let held = c.args.cell.now.slot.held in
+    let no_report : report_by c.args.kind c.args.job c.args.machine c.args.at ≡ None = sym c.in_default.ensures in
+    let bad : 9 ≢ 0 = λ good. omega (arith, good) in
     record {
       full = λ some. some;
-      no_kind = (λ _. refl, λ nine. none);
-      no_cell = rw none tt;
-      reported = of_none _ c.args.cell.now.slot.held c.args.cell.now.slot.held _ none;
-      unchanged = λ bad. refl;
+      no_kind = (λ _. refl, λ nine. no_report);
+      no_cell = rw no_report tt;
+      reported = of_none _ held held _ no_report;
+      unchanged = λ _. refl;
       never_wrong = λ kind. absurd (kind refl);
-      not_late = λ bad. refl;
-      no_detail = λ small. refl;
-      no_orders = λ bad. (refl, refl);
-      count = unless_good _ _ _ (λ good. omega (arith, good));
-      orders = unless_good _ _ _ (λ good. omega (arith, good));
-      kept = unless_good _ _ _ (λ good. omega (arith, good));
+      not_late = λ _. refl;
+      no_detail = λ _. refl;
+      no_orders = λ _. (refl, refl);
+      count = unless_good _ _ _ bad;
+      orders = unless_good _ _ _ bad;
+      kept = unless_good _ _ _ bad;
     }
 
 pub returns-in_default-take : goal.returns-in_default-take
@@ -33,11 +35,11 @@ returns-in_default-take c =
       no_kind = (λ other. absurd (cc (other, told)), λ nine. absurd (omega (arith, nine)));
       no_cell = rw told (λ _. refl, λ eight. none);
       reported = rw none tt;
-      unchanged = λ bad. emptied ∙ sym none;
-      never_wrong = λ kind. rw emptied tt;
-      not_late = λ bad. refl;
-      no_detail = λ small. refl;
-      no_orders = λ bad. (refl, refl);
+      unchanged = λ _. emptied ∙ sym none;
+      never_wrong = λ _. rw emptied tt;
+      not_late = λ _. refl;
+      no_detail = λ _. refl;
+      no_orders = λ _. (refl, refl);
       count = rw emptied tt;
       orders = rw emptied tt;
       kept = rw emptied tt;
@@ -48,18 +50,18 @@ returns c =
     let held : c.args.cell.now.slot.held ≡ Some c.deref_mut.result.now = rw c.deref_mut.ensures.value c.in-Some-take.ensures.taken in
     let after = c.put.ensures in
     let told : report_by c.args.kind c.args.job c.args.machine c.args.at ≡ Some c.in-Some.report = sym c.in-Some.ensures in
-    let are = c.report_to-status.ensures in
+    let taken = c.report_to-status.ensures in
     record {
       full = λ some. ap is_some after;
-      no_kind = (λ other. absurd (cc (other, told)), λ nine. absurd (omega (arith, nine, are.numbers (λ good. omega (arith, nine, good)))));
-      no_cell = rw told (λ other. absurd (cc (other, held)), λ eight. absurd (omega (arith, eight, are.numbers (λ good. omega (arith, eight, good)))));
-      reported = of_three _ _ _ _ _ _ _ held after told are.reported;
-      unchanged = λ bad. after ∙ ap Some (are.unchanged bad) ∙ sym held;
-      never_wrong = λ kind. rw after are.never_wrong;
-      not_late = are.not_late;
-      no_detail = λ small. are.no_detail (elim c.if-status-eq-GOOD.branch [
+      no_kind = (λ other. absurd (cc (other, told)), λ nine. absurd (omega (arith, nine, taken.numbers (λ good. omega (arith, nine, good)))));
+      no_cell = rw told (λ other. absurd (cc (other, held)), λ eight. absurd (omega (arith, eight, taken.numbers (λ good. omega (arith, eight, good)))));
+      reported = of_three _ _ _ _ _ _ _ held after told taken.reported;
+      unchanged = λ bad. after ∙ ap Some (taken.unchanged bad) ∙ sym held;
+      never_wrong = λ kind. rw after taken.never_wrong;
+      not_late = taken.not_late;
+      no_detail = λ small. taken.no_detail (elim c.if-status-eq-GOOD.branch [
         | then-status-eq-GOOD w ↦ w.if-status-eq-GOOD.true
-        | else-status-eq-GOOD w ↦ absurd (omega (arith, small, are.numbers w.if-status-eq-GOOD.false))
+        | else-status-eq-GOOD w ↦ absurd (omega (arith, small, taken.numbers w.if-status-eq-GOOD.false))
       ]);
       no_orders = elim c.if-status-eq-GOOD.branch [
         | then-status-eq-GOOD w ↦ λ bad. absurd (bad w.if-status-eq-GOOD.true)

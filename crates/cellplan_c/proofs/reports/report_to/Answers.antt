@@ -3,13 +3,13 @@ use Rattle.cellplan_c.proofs.reports.report_to.Goals as goal
 
 pub returns-in-Ok : goal.returns-in-Ok
 returns-in-Ok c =
-    let are = c.in-Ok.ensures in
+    let taken = c.in-Ok.ensures in
     record {
       reported = record {
-        possible = (λ good. are.possible.0 refl, λ can. refl);
-        answered = λ good. are.answered;
+        possible = (λ good. taken.possible.0 refl, λ can. refl);
+        answered = λ good. taken.answered;
         reason = λ bad. absurd (bad refl);
-        called = are.called;
+        called = taken.called;
         never_refused = λ due goes now. refl;
       };
       unchanged = λ bad. absurd (bad refl);
