@@ -6,7 +6,7 @@ use Rattle.std.proofs.lemmas.List.{get_or_append_left, take_more}
 use Rattle.shop_base.specs.declared.node.Node.{Node}
 use Rattle.shop_base.specs.Plan.{PlannedShop, jobs, release, IsWellShaped}
 use Rattle.shop_base.specs.Graph.{node, leaving, Arc, HasArc, Path, begins, follows}
-use Rattle.shop_base.proofs.LowerBounds.{no_exact_run_is_faster-holds}
+use Rattle.shop_base.proofs.StartAhead.{no_exact_run_is_faster-holds}
 use Rattle.alt_graph.specs.Evidence.{node_count, IsChain, EndsIn}
 use Rattle.shop_base.specs.ExactLaw.{IsNeverGoneBefore}
 use Rattle.alt_graph.specs.Places.{node_at}

@@ -14,7 +14,8 @@ use Rattle.shop_base.specs.KeptMoments.{KeepsMoments}
 use Rattle.shop_base.proofs.Keeping.{start-sound}
 use Rattle.shop_base.proofs.ControlledRuns.{start_at_rest, after_step-sound}
 use Rattle.shop_base.proofs.ReportsLeft.{start-reports_left, after_step-reports_left}
-use Rattle.shop_base.proofs.InTime.{start-keeps_moments, step-keeps_moments}
+use Rattle.shop_base.proofs.StartAhead.{start-keeps_moments}
+use Rattle.shop_base.proofs.InTime.{step-keeps_moments}
 use Rattle.plan_verifier.specs.Accepted.{VerifiedPlan, IsVerified, kept_at, rank_in}
 use Rattle.cell_control.specs.declared.report.Ack.{Ack}
 use Rattle.cell_tables.specs.PlannedCell as planned
@@ -36,7 +37,7 @@ start_control v verified = record {
   sound = start-sound v.planned verified.schedule.shaped;
   at_rest = start_at_rest v.planned;
   counted = omega (arith, start-reports_left v.planned);
-  moments_kept = λ punctual. start-keeps_moments v.planned (kept_at v);
+  moments_kept = λ punctual. start-keeps_moments v.planned (rank_in v) (kept_at v) verified.schedule;
 }
 
 -- it stands for the start
@@ -100,7 +101,7 @@ module _ (old : PlannedCell VerifiedPlan) (dues : List (Option ℕ)) (orders : S
       let (so_far, now) = both punctual ack.late still in
       subst (KeepsMoments v.planned (kept_at v)) (sym made.leads)
       (step-keeps_moments v.planned (rank_in v) (kept_at v) old.cell r made.movers fields.control.verified.schedule.shaped fields.control.verified.schedule.ranks
-      fields.control.verified.schedule.moments fields.control.sound fields.control.at_rest (fields.control.moments_kept so_far) made.step (made.late.0 now))
+      fields.control.sound fields.control.at_rest (fields.control.moments_kept so_far) made.step (made.late.0 now))
 
   -- what holds of a controller holds after a step
   pub fields_after : (dues' : List (Option ℕ)) (orders' : SmallVec MoveOrder) → orders'.items ≡ items → orders'.capacity ≡ orders.capacity → new ≡ record old { cell = new.cell }

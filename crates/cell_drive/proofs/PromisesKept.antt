@@ -7,7 +7,8 @@ use Rattle.shop_base.specs.Report.{Report}
 use Rattle.shop_base.specs.Run.{Event, Reported, Moved, ends_in}
 use Rattle.shop_base.specs.Controlled.{moved, step_orders, after_step, Leads, done, accepted, refused, IsControlledRun}
 use Rattle.shop_base.proofs.ControlledRuns.{controlled_to_run}
-use Rattle.shop_base.proofs.InTime.{controlled-leavings_kept, leaving-in_time}
+use Rattle.shop_base.proofs.StartAhead.{controlled-leavings_kept}
+use Rattle.shop_base.proofs.InTime.{leaving-in_time}
 use Rattle.plan_verifier.specs.Accepted.{VerifiedPlan, IsVerified, kept_at, rank_in}
 use Rattle.cell_control.proofs.Promises.{rests_unstuck}
 use Rattle.cell_drive.specs.Driving.{IsBeforeReport, IsAsPromised, StaysAsPromised}

@@ -9,9 +9,7 @@ use Rattle.shop_base.specs.Graph.{leaving, IsNode, MeetBudgets, Path, begins, fo
 use Rattle.shop_base.proofs.Cycles.{ranks_exclude_cycle}
 use Rattle.shop_base.specs.Cell.{since}
 use Rattle.shop_base.specs.KeptMoments.{KeepsLeaving}
-use Rattle.shop_base.proofs.InTime.{controlled-leavings_kept}
-use Rattle.shop_base.proofs.JustInTime.{just_in_time-holds}
-use Rattle.shop_base.proofs.LowerBounds.{no_exact_run_is_faster-holds}
+use Rattle.shop_base.proofs.StartAhead.{controlled-leavings_kept, just_in_time-holds, no_exact_run_is_faster-holds}
 use Rattle.alt_graph.specs.Evidence.{IsChain}
 use Rattle.shop_base.specs.ExactLaw.{IsNeverGoneBefore}
 use Rattle.shop_base.specs.CycleLaw.{IsNeverDone, AreNeverMade}

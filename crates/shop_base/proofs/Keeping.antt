@@ -1,5 +1,5 @@
 -- What holds in every run: `IsSound` at the start, after a report, after a move, and so at the end of every run.
-use Rattle.std.proofs.Common.{◌≡◌, ◌≢◌, ℕ, ◌+◌, ◌<◌, ◌≤◌, List, [], ◌∷◌, ◌++◌, length, get_or, Some, None, false, refl, ap, sym, ◌∙◌, subst, arith, ◌⊎◌, inl, inr, ⊎_elim, length-append, append_assoc, eq-zero-or-pos, lt_of_not-le}
+use Rattle.std.proofs.Common.{◌≡◌, ◌≢◌, ℕ, ◌+◌, ◌<◌, ◌≤◌, List, [], ◌∷◌, ◌++◌, length, get_or, Some, None, true, false, refl, ap, sym, ◌∙◌, subst, arith, ◌⊎◌, inl, inr, ⊎_elim, length-append, append_assoc, eq-zero-or-pos, lt_of_not-le}
 use Rattle.std.proofs.Math.Seq.{get_or-append_seam}
 use Rattle.std.proofs.lemmas.Bool.{cases_eq, cases_lt}
 use Rattle.std.proofs.lemmas.List.{get_or_past, get_or-replicate, length-replicate}
@@ -68,13 +68,15 @@ start-sound p shaped = record {
     idle : (m s : ℕ) → cleaning (start p) m ≡ Some s → ⊥
     idle m s cleaned = let is = ap (λ (x : MachineState). x.cleaning) (start-machine p m) in cc
 
--- new has c's moves and entries, and nothing new that is being cleaned
+-- new has c's moves and entries, each made since the same moment, and no job waits and no machine is being cleaned that didn't and wasn't before
 pub record IsLike (p : PlannedShop) (c new : Cell) : Type 0 where
   pub job_count : length new.jobs ≡ length c.jobs
   pub machine_count : length new.machines ≡ length c.machines
   pub last_in_range : new.last ≤ MAX_MOMENT
   pub begun : (j : ℕ) → since new j ≤ new.last
   pub made_same : (j : ℕ) → made new j ≡ made c j
+  pub since_same : (j : ℕ) → since new j ≡ since c j
+  pub not_ready_before : (j : ℕ) → ready new j ≡ false → ready c j ≡ false
   pub gone_not_ready : (j : ℕ) → IsGone p c j → ready new j ≡ false
   pub entries_same : (m : ℕ) → entries new m ≡ entries c m
   pub cleaned_before : (m s : ℕ) → cleaning new m ≡ Some s → cleaning c m ≡ Some s
@@ -104,6 +106,11 @@ readied-like p c new j t sound moment present readied = record {
   last_in_range = omega (arith, readied.moment, moment.in_range);
   begun = λ i. omega (arith, readied.moment, moment.in_order, readied.since_same i, sound.begun i);
   made_same = readied.made_same;
+  since_same = readied.since_same;
+  not_ready_before = λ i idle. elim (cases_eq i j) [
+    | inl same ↦ (let now : ready new i ≡ true = rw same readied.ready_mine in absurd (cc))
+    | inr other ↦ sym (ap (λ (x : JobState). x.ready) (readied.others i other)) ∙ idle
+  ];
   gone_not_ready = gone_not_ready;
   entries_same = λ m. ap (λ (ms : List MachineState). (get_or ms m unused).entries) readied.machines_same;
   cleaned_before = λ m s cleaned. sym (ap (λ (ms : List MachineState). (get_or ms m unused).cleaning) readied.machines_same) ∙ cleaned;
@@ -123,6 +130,8 @@ tidied-like p c new m t sound moment tidied = record {
   last_in_range = omega (arith, tidied.moment, moment.in_range);
   begun = λ j. omega (arith, tidied.moment, moment.in_order, ap (λ (js : List JobState). (get_or js j absent).since) tidied.jobs_same, sound.begun j);
   made_same = λ j. ap (λ (js : List JobState). (get_or js j absent).made) tidied.jobs_same;
+  since_same = λ j. ap (λ (js : List JobState). (get_or js j absent).since) tidied.jobs_same;
+  not_ready_before = λ j idle. sym (ap (λ (js : List JobState). (get_or js j absent).ready) tidied.jobs_same) ∙ idle;
   gone_not_ready = λ j gone. ap (λ (js : List JobState). (get_or js j absent).ready) tidied.jobs_same ∙ sound.gone_not_ready j gone;
   entries_same = tidied.entries_same;
   cleaned_before = cleaned_before;

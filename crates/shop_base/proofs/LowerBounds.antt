@@ -1,330 +1,26 @@
--- In a run whose reports are exact, no node is made before the length of any path to it.
-use Rattle.std.proofs.Common.{◌≡◌, ℕ, ◌+◌, ◌<◌, ◌≤◌, ◌⊎◌, inl, inr, List, [], ◌∷◌, ◌++◌, length, length-append, Some, None, true, slice_index_or, refl, sym, ap, ◌∙◌, arith}
+-- In a run that goes on with no report early, no node ahead is made before the length of any path ahead to it: after each event a path at least as long leads to each node that is still ahead.
+use Rattle.std.proofs.Common.{◌≡◌, ◌≢◌, ℕ, ◌+◌, ◌<◌, ◌≤◌, ◌⊎◌, inl, inr, List, [], ◌∷◌, ◌++◌, length, Some, None, true, false, refl, sym, ap, ap₂, ◌∙◌, subst, arith, le_refl, max}
 use Rattle.std.proofs.lemmas.Bool.{cases_lt, cases_eq}
 use Rattle.shop_base.specs.declared.node.Node.{Node}
-use Rattle.shop_base.specs.Plan.{PlannedShop, jobs, steps, nominal, release, clean, Visits, Stands, IsWellShaped}
-use Rattle.shop_base.specs.Cell.{Cell, MachineState, absent, unused, made, ready, since, entries, cleaning, start, IsOutside, IsOn}
 use Rattle.shop_base.specs.declared.job_state.JobState.{JobState}
-use Rattle.shop_base.specs.Activity.{Activity, Arrival, Operation, Cleaning, GoesOn}
-use Rattle.shop_base.specs.Report.{Report, CanReport, with_ready, with_clean, after_end, after_report}
-use Rattle.shop_base.specs.Punctual.{IsExact, AreExact}
+use Rattle.shop_base.specs.Plan.{PlannedShop, jobs, steps, nominal, clean, Stands, IsWellShaped}
+use Rattle.shop_base.specs.Cell.{Cell, made, ready, since, entries, cleaning, start, IsOn}
+use Rattle.shop_base.specs.Activity.{Activity, Arrival, Operation, Cleaning, IsCleaned, GoesOn}
+use Rattle.shop_base.specs.Report.{with_ready, with_clean, after_end, after_report}
 use Rattle.shop_base.specs.Move.{CanMove, KeepsPlan, after_move}
 use Rattle.shop_base.specs.Run.{Event, Reported, Moved, AreEvents, after, after_all, ends_in}
-use Rattle.shop_base.specs.Graph.{node, leaving, Arc, job_arc, blocking_arc, Path, begins, follows}
+use Rattle.shop_base.specs.Punctual.{AreNotEarly}
+use Rattle.shop_base.specs.Graph.{Arc, job_arc, blocking_arc, node, leaving}
 use Rattle.shop_base.specs.Sound.{IsSound}
-use Rattle.shop_base.specs.ExactLaw.{NoExactRunIsFaster, NoExactMoveIsEarlier}
-use Rattle.shop_base.proofs.Visits.{visits_job, visits_once, visits-stands, stands_same, visits_or_not, on_or_not}
+use Rattle.shop_base.specs.Ahead.{next_node, IsAhead, HoldsUp, PathAhead, now, held, onward, MoveFrom}
+use Rattle.shop_base.specs.AheadLaw.{NoContinuationIsFaster}
+use Rattle.shop_base.proofs.Visits.{visits_job, visits_once, visits_or_not}
 use Rattle.shop_base.proofs.Changes.{IsMoved, IsReadied, IsTidied, after_move-moved, with_ready-readied, with_clean-tidied}
-use Rattle.shop_base.proofs.InShop.{outside_in_shop, start_unused}
-use Rattle.shop_base.proofs.ControlledRuns.{start_not_ready}
-use Rattle.shop_base.proofs.Keeping.{start-sound, after_report-sound, after_move-sound, run-sound, start-made, target_free, move_needs}
-
--- nothing in the cell is earlier than the paths to it allow
-pub record IsNoFaster (p : PlannedShop) (c : Cell) : Type 0 where
-  -- a job that has arrived
-  pub arrived : (j : ℕ) → IsOutside c j → ready c j ≡ true → release p j ≤ c.last
-  -- the last move of a job
-  pub moved : (j k n : ℕ) (nodes : List Node) → made c j ≡ k + 1 → Path p nodes (node j k) n → n ≤ since c j
-  -- a job whose operation has ended
-  pub worked : (j k : ℕ) → made c j ≡ k + 1 → k < steps p j → ready c j ≡ true → since c j + nominal p j k ≤ c.last
-  -- a machine whose last entrant has left it: it is being cleaned since then
-  pub cleaned : (m a i k s n : ℕ) (nodes : List Node) → Stands p m a i k → length (entries c m) ≡ a + 1 → cleaning c m ≡ Some s
-      → Path p nodes (node i (k + 1)) n → n ≤ s
-  -- or it is clean again
-  pub cleared : (m a i k n : ℕ) (nodes : List Node) → Stands p m a i k → length (entries c m) ≡ a + 1 → cleaning c m ≡ None
-      → k + 1 < made c i → Path p nodes (node i (k + 1)) n → n + clean p m ≤ c.last
-
--- along an arc to its next node, a job that can move isn't too early
-arc_in_time : (p : PlannedShop) (c : Cell) (j t : ℕ) → IsWellShaped p → IsSound p c → IsNoFaster p c → CanMove p c j t → KeepsPlan p c j
-    → (u v : Node) (d : ℕ) → Arc p u v d → (n : ℕ) (nodes : List Node) → Path p nodes u n → v ≡ node j (made c j) → n + d ≤ t
-arc_in_time p c j t shaped sound bounds can keeps _ _ _ (job_arc i k within) n nodes path e =
-    let same : i ≡ j = ap (λ v. v.job) e in
-    let place : k + 1 ≡ made c j = ap (λ v. v.place) e in
-    let count : made c i ≡ k + 1 = cc in
-    let is_ready : ready c i ≡ true = cc (can.is_ready) in
-    omega (arith, bounds.moved i k n nodes count path, bounds.worked i k count within is_ready, can.moment.in_order)
-arc_in_time p c j t shaped sound bounds can keeps _ _ _ (blocking_arc m a i k h l one other) n nodes path e =
-    let same : h ≡ j = ap (λ v. v.job) e in
-    let place : l ≡ made c j = ap (λ v. v.place) e in
-    let mine : Stands p m (a + 1) j (made c j) = rw (same, place) at other in
-    let left : k + 1 < made c i = move_needs p c j t (node i (k + 1)) (clean p m) shaped sound can keeps (blocking_arc m a i k j (made c j) one mine) in
-    let before : a < length (entries c m) = sound.made_entered m a i k one (omega arith) in
-    let newest : length (entries c m) ≡ a + 1 = count_of mine before in
-    let now : n + clean p m ≤ c.last = bounds.cleared m a i k n nodes one newest (target_free p c j t m can mine.visits).1 left path in
-    omega (arith, can.moment.in_order)
-  where
-    count_of : Stands p m (a + 1) j (made c j) → a < length (entries c m) → length (entries c m) ≡ a + 1
-    count_of mine before = elim (cases_lt (a + 1) (length (entries c m))) [
-      | inl more ↦ absurd (omega (arith, sound.entered_made m (a + 1) j (made c j) mine more))
-      | inr end ↦ omega arith
-    ]
-
--- a job that can move isn't too early for its next node
-pub next_in_time : (p : PlannedShop) (c : Cell) (j t : ℕ) → IsWellShaped p → IsSound p c → IsNoFaster p c → CanMove p c j t → KeepsPlan p c j
-    → (nodes : List Node) (v : Node) (n : ℕ) → Path p nodes v n → v ≡ node j (made c j) → n ≤ t
-next_in_time p c j t shaped sound bounds can keeps _ _ _ (begins i inside) e =
-    let same : i ≡ j = ap (λ v. v.job) e in
-    let place : 0 ≡ made c j = ap (λ v. v.place) e in
-    let outside : made c i ≡ 0 = cc in
-    let is_ready : ready c i ≡ true = cc (can.is_ready) in
-    omega (arith, bounds.arrived i outside is_ready, can.moment.in_order)
-next_in_time p c j t shaped sound bounds can keeps _ _ _ (follows nodes u v n d path arc) e =
-    arc_in_time p c j t shaped sound bounds can keeps u v d arc n nodes path e
-
-module _ (p : PlannedShop) (c new : Cell) (j t : ℕ) (shaped : IsWellShaped p) (sound : IsSound p c) (bounds : IsNoFaster p c)
-    (can : CanMove p c j t) (keeps : KeepsPlan p c j) (change : IsMoved p c j t new) where
-  -- the move isn't too early for its node
-  made_in_time : (k n : ℕ) (nodes : List Node) → k ≡ made c j → Path p nodes (node j k) n → n ≤ t
-  made_in_time k n nodes place path = next_in_time p c j t shaped sound bounds can keeps nodes (node j k) n path (ap (node j) place)
-
-  move-arrived : (i : ℕ) → IsOutside new i → ready new i ≡ true → release p i ≤ new.last
-  move-arrived i outside is_ready = elim (cases_eq i j) [
-    | inl same ↦ (let one_more : made new i ≡ made c j + 1 = rw same change.made_mine in absurd (omega arith))
-    | inr other ↦ (let kept = change.others i other in
-        let before : release p i ≤ c.last = bounds.arrived i (sym (ap (λ (s : JobState). s.made) kept) ∙ outside) (sym (ap (λ (s : JobState). s.ready) kept) ∙ is_ready) in
-        omega (arith, can.moment.in_order, change.moment))
-  ]
-
-  move-moved : (i k n : ℕ) (nodes : List Node) → made new i ≡ k + 1 → Path p nodes (node i k) n → n ≤ since new i
-  move-moved i k n nodes count path = elim (cases_eq i j) [
-    | inl same ↦ mine same
-    | inr other ↦ (let kept = change.others i other in
-        let before : n ≤ since c i = bounds.moved i k n nodes (sym (ap (λ (s : JobState). s.made) kept) ∙ count) path in
-        omega (arith, ap (λ (s : JobState). s.since) kept))
-  ]
-    where
-      mine : i ≡ j → n ≤ since new i
-      mine same =
-          let one_more : made new i ≡ made c j + 1 = rw same change.made_mine in
-          let in_time : n ≤ t = made_in_time k n nodes (omega arith) (rw same at path) in
-          let begun : since new i ≡ t = rw same change.since_mine in
-          omega arith
-
-  move-worked : (i k : ℕ) → made new i ≡ k + 1 → k < steps p i → ready new i ≡ true → since new i + nominal p i k ≤ new.last
-  move-worked i k count within is_ready = elim (cases_eq i j) [
-    | inl same ↦ absurd (cc (change.ready_mine))
-    | inr other ↦ (let kept = change.others i other in
-        let before : since c i + nominal p i k ≤ c.last =
-        bounds.worked i k (sym (ap (λ (s : JobState). s.made) kept) ∙ count) within (sym (ap (λ (s : JobState). s.ready) kept) ∙ is_ready) in
-        omega (arith, ap (λ (s : JobState). s.since) kept, can.moment.in_order, change.moment))
-  ]
-
-  -- the last entrant of a machine that the job has just left is the job
-  last_was_mine : (m a i k l : ℕ) → Stands p m a i k → length (entries new m) ≡ a + 1 → IsOn p c j l m → (i ≡ j) × (k ≡ l)
-  last_was_mine m a i k l one count on =
-      let (b, mine) = visits-stands p j l m shaped on.visits in
-      let stays : entries new m ≡ entries c m = change.not_entered m (λ next. absurd (omega (arith, visits_once p j l (made c j) m shaped on.visits next, on.entered))) in
-      let place : a ≡ b = omega (arith, ap length stays, sound.newest m b j l mine on.entered) in
-      let same : i ≡ j = stands_same p m b i j k l (rw place at one) mine in
-      (same, visits_once p j k l m shaped (rw same at one.visits) on.visits)
-
-  move-cleaned : (m a i k s n : ℕ) (nodes : List Node) → Stands p m a i k → length (entries new m) ≡ a + 1 → cleaning new m ≡ Some s
-      → Path p nodes (node i (k + 1)) n → n ≤ s
-  move-cleaned m a i k s n nodes one count is_cleaned path = elim (on_or_not p c j m) [
-    | inl (l, on) ↦ left l on (cases_lt 0 (clean p m))
-    | inr elsewhere ↦ kept (sym (change.cleaning_elsewhere m elsewhere) ∙ is_cleaned)
-  ]
-    where
-      kept : cleaning c m ≡ Some s → n ≤ s
-      kept before = elim (visits_or_not p j (made c j) m) [
-        | inl next ↦ absurd (cc ((target_free p c j t m can next).1))
-        | inr away ↦ bounds.cleaned m a i k s n nodes one (omega (arith, ap length (change.not_entered m away))) before path
-      ]
-
-      left : (l : ℕ) → IsOn p c j l m → (0 < clean p m) ⊎ (clean p m ≤ 0) → n ≤ s
-      left l on (inl timed) =
-          let (same, place) = last_was_mine m a i k l one count on in
-          let begun : Some s ≡ Some t = sym is_cleaned ∙ change.cleaning_begins l m on timed in
-          let from : s ≡ t = cc in
-          let in_time : n ≤ t = made_in_time (k + 1) n nodes (omega (arith, on.entered)) (rw same at path) in
-          omega arith
-      left l on (inr untimed) = kept (sym (change.cleaning_needless l m on (omega arith)) ∙ is_cleaned)
-
-  move-cleared : (m a i k n : ℕ) (nodes : List Node) → Stands p m a i k → length (entries new m) ≡ a + 1 → cleaning new m ≡ None
-      → k + 1 < made new i → Path p nodes (node i (k + 1)) n → n + clean p m ≤ new.last
-  move-cleared m a i k n nodes one count is_clean has_left path = elim (on_or_not p c j m) [
-    | inl (l, on) ↦ just_left l on (cases_lt 0 (clean p m))
-    | inr elsewhere ↦ kept elsewhere (visits_or_not p j (made c j) m)
-  ]
-    where
-      just_left : (l : ℕ) → IsOn p c j l m → (0 < clean p m) ⊎ (clean p m ≤ 0) → n + clean p m ≤ new.last
-      just_left l on (inl timed) = absurd (cc (change.cleaning_begins l m on timed))
-      just_left l on (inr untimed) =
-          let (same, place) = last_was_mine m a i k l one count on in
-          let in_time : n ≤ t = made_in_time (k + 1) n nodes (omega (arith, on.entered)) (rw same at path) in
-          omega (arith, change.moment)
-
-      -- a machine that is just entered has a last entrant that hasn't left it
-      entered : Visits p j (made c j) m → k + 1 < made c i ⊎ (i ≡ j) → n + clean p m ≤ new.last
-      entered next (inl before) = absurd (omega (arith, sound.made_entered m a i k one (omega arith), ap length (change.entered m next), length-append (entries c m) (j ∷ [])))
-      entered next (inr same) =
-          let place : k ≡ made c j = visits_once p j k (made c j) m shaped (rw same at one.visits) next in
-          let one_more : made new i ≡ made c j + 1 = rw same change.made_mine in
-          absurd (omega arith)
-
-      unentered : ((l : ℕ) → IsOn p c j l m → ⊥) → (Visits p j (made c j) m → ⊥) → k + 1 < made c i → n + clean p m ≤ new.last
-      unentered elsewhere away before =
-          let old : n + clean p m ≤ c.last =
-          bounds.cleared m a i k n nodes one (omega (arith, ap length (change.not_entered m away))) (sym (change.cleaning_elsewhere m elsewhere) ∙ is_clean) before path in
-          omega (arith, change.moment, can.moment.in_order)
-
-      left_before : ((l : ℕ) → IsOn p c j l m → ⊥) → k + 1 < made c i ⊎ (i ≡ j)
-      left_before elsewhere = elim (cases_eq i j) [
-        | inl same ↦ inr same
-        | inr other ↦ inl (omega (arith, ap (λ (s : JobState). s.made) (change.others i other)))
-      ]
-
-      kept : ((l : ℕ) → IsOn p c j l m → ⊥) → Visits p j (made c j) m ⊎ (Visits p j (made c j) m → ⊥) → n + clean p m ≤ new.last
-      kept elsewhere (inl next) = entered next (left_before elsewhere)
-      kept elsewhere (inr away) = elim (left_before elsewhere) [
-        | inl before ↦ unentered elsewhere away before
-        | inr same ↦ unentered elsewhere away (gone_on same)
-      ]
-        where
-          gone_on : i ≡ j → k + 1 < made c i
-          gone_on same =
-              let visits : Visits p j k m = rw same at one.visits in
-              let one_more : made new i ≡ made c j + 1 = rw same change.made_mine in
-              let count : made c i ≡ made c j = ap (made c) same in
-              elim (cases_lt (k + 1) (made c j)) [
-                | inl more ↦ omega arith
-                | inr end ↦ absurd (elsewhere k (record { entered = omega arith; visits = visits }))
-              ]
-
-  pub move-no_faster : IsNoFaster p new
-  move-no_faster = record {
-    arrived = move-arrived;
-    moved = move-moved;
-    worked = move-worked;
-    cleaned = move-cleaned;
-    cleared = move-cleared;
-  }
-
--- a report that makes a job ready, at the moment at which its activity is due
-pub readied-no_faster : (p : PlannedShop) (c new : Cell) (j t : ℕ) → IsNoFaster p c → IsReadied c j t new → c.last ≤ t
-    → (IsOutside c j → release p j ≤ t) → ((k : ℕ) → made c j ≡ k + 1 → k < steps p j → since c j + nominal p j k ≤ t)
-    → IsNoFaster p new
-readied-no_faster p c new j t bounds change later arrives ends = record {
-  arrived = λ i outside is_ready. elim (cases_eq i j) [
-    | inl same ↦ (let before : made c j ≡ 0 = cc (change.made_same i) in
-        let due : release p j ≤ t = arrives before in
-        omega (arith, ap (release p) same, change.moment))
-    | inr other ↦ omega (arith, bounds.arrived i (sym (change.made_same i) ∙ outside) (sym (ap (λ (s : JobState). s.ready) (change.others i other)) ∙ is_ready), change.moment)
-  ];
-  moved = λ i k n nodes count path. omega (arith, bounds.moved i k n nodes (sym (change.made_same i) ∙ count) path, change.since_same i);
-  worked = λ i k count within is_ready. elim (cases_eq i j) [
-    | inl same ↦ (let before : made c j ≡ k + 1 = cc (change.made_same i) in
-        let due : since c j + nominal p j k ≤ t = ends k before (rw same at within) in
-        omega (arith, ap (since c) same, ap (λ h. nominal p h k) same, change.since_same i, change.moment))
-    | inr other ↦ omega (
-      arith,
-      bounds.worked i k (sym (change.made_same i) ∙ count) within (sym (ap (λ (s : JobState). s.ready) (change.others i other)) ∙ is_ready),
-      change.since_same i,
-      change.moment,
-    )
-  ];
-  cleaned = λ m a i k s n nodes one count is_cleaned path.
-      bounds.cleaned m a i k s n nodes one (omega (arith, ap length (entries_kept m))) (sym (cleaning_kept m) ∙ is_cleaned) path;
-  cleared = λ m a i k n nodes one count is_clean has_left path.
-      omega (
-        arith,
-        bounds.cleared m a i k n nodes one (omega (arith, ap length (entries_kept m))) (sym (cleaning_kept m) ∙ is_clean) (omega (arith, change.made_same i)) path,
-        change.moment,
-      );
-}
-  where
-    entries_kept : (m : ℕ) → entries new m ≡ entries c m
-    entries_kept m = ap (λ (ms : List MachineState). (slice_index_or ms m unused).entries) change.machines_same
-
-    cleaning_kept : (m : ℕ) → cleaning new m ≡ cleaning c m
-    cleaning_kept m = ap (λ (ms : List MachineState). (slice_index_or ms m unused).cleaning) change.machines_same
-
--- a report that ends a cleaning, at the moment at which it is due
-pub tidied-no_faster : (p : PlannedShop) (c new : Cell) (m s t : ℕ) → IsNoFaster p c → IsTidied c m t new → c.last ≤ t
-    → cleaning c m ≡ Some s → t ≡ s + clean p m → IsNoFaster p new
-tidied-no_faster p c new m s t bounds change later was_cleaned due = record {
-  arrived = λ i outside is_ready. omega (arith, bounds.arrived i (sym (made_kept i) ∙ outside) (sym (ready_kept i) ∙ is_ready), change.moment);
-  moved = λ i k n nodes count path. omega (arith, bounds.moved i k n nodes (sym (made_kept i) ∙ count) path, since_kept i);
-  worked = λ i k count within is_ready.
-      omega (arith, bounds.worked i k (sym (made_kept i) ∙ count) within (sym (ready_kept i) ∙ is_ready), since_kept i, change.moment);
-  cleaned = λ h a i k from n nodes one count is_cleaned path. elim (cases_eq h m) [
-    | inl same ↦ absurd (cc (change.cleaning_mine))
-    | inr other ↦ bounds.cleaned h a i k from n nodes one (omega (arith, ap length (change.entries_same h))) (sym (change.cleaning_elsewhere h other) ∙ is_cleaned) path
-  ];
-  cleared = λ h a i k n nodes one count is_clean has_left path. elim (cases_eq h m) [
-    | inl same ↦ (let before : cleaning c h ≡ Some s = rw same was_cleaned in
-        omega (arith, bounds.cleaned h a i k s n nodes one (omega (arith, ap length (change.entries_same h))) before path, ap (clean p) same, change.moment))
-    | inr other ↦ omega (
-      arith,
-      bounds.cleared h a i k n nodes one (omega (arith, ap length (change.entries_same h))) (sym (change.cleaning_elsewhere h other) ∙ is_clean)
-          (omega (arith, made_kept i)) path,
-      change.moment,
-    )
-  ];
-}
-  where
-    made_kept : (i : ℕ) → made new i ≡ made c i
-    made_kept i = ap (λ (js : List JobState). (slice_index_or js i absent).made) change.jobs_same
-
-    ready_kept : (i : ℕ) → ready new i ≡ ready c i
-    ready_kept i = ap (λ (js : List JobState). (slice_index_or js i absent).ready) change.jobs_same
-
-    since_kept : (i : ℕ) → since new i ≡ since c i
-    since_kept i = ap (λ (js : List JobState). (slice_index_or js i absent).since) change.jobs_same
-
--- the end of an activity, at the moment at which it is due
-end-no_faster : (p : PlannedShop) (c : Cell) (a : Activity) (t : ℕ) → IsSound p c → IsNoFaster p c
-    → GoesOn p c a t → c.last ≤ t → IsNoFaster p (after_end c a t)
-end-no_faster p c (Arrival j) t sound bounds goes later =
-    readied-no_faster p c (with_ready c j t) j t bounds (with_ready-readied c j t goes.not_ready (omega (arith, outside_in_shop p c j sound goes.outside, sound.job_count))) later
-    (λ outside. omega (arith, goes.is_due))
-    (λ k count within. absurd (omega (arith, count, goes.outside)))
-end-no_faster p c (Operation j m) t sound bounds (k, goes) later =
-    readied-no_faster p c (with_ready c j t) j t bounds
-    (with_ready-readied c j t goes.not_ready (omega (arith, visits_job p j k m goes.on.visits, sound.job_count))) later
-    (λ outside. absurd (omega (arith, outside, goes.on.entered)))
-    (λ l count within. let same : l ≡ k = omega (arith, goes.on.entered) in
-    omega (arith, goes.is_due, ap (nominal p j) same))
-end-no_faster p c (Cleaning m) t sound bounds (s, goes) later =
-    tidied-no_faster p c (with_clean c m t) m s t bounds (with_clean-tidied c m s t goes.is_cleaned) later goes.is_cleaned
-    (omega (arith, goes.is_due))
-
--- what happens in an exact run leaves nothing earlier than the paths to it allow
-report-no_faster : (p : PlannedShop) (c : Cell) (r : Report) → IsSound p c → IsNoFaster p c → CanReport p c r → IsExact p c r
-    → IsNoFaster p (after_report c r)
-report-no_faster p c r sound bounds can exact = end-no_faster p c r.ended r.at sound bounds exact.due can.moment.in_order
-
--- only the jobs of the shop have paths
-pub path_in_shop : (p : PlannedShop) (nodes : List Node) (v : Node) (n : ℕ) → Path p nodes v n → v.job < jobs p
-path_in_shop p _ _ _ (begins j inside) = inside
-path_in_shop p _ _ _ (follows nodes u v n d path arc) = ahead u v d arc (path_in_shop p nodes u n path)
-  where
-    ahead : (u v : Node) (d : ℕ) → Arc p u v d → u.job < jobs p → v.job < jobs p
-    ahead _ _ _ (job_arc j k within) inside = inside
-    ahead _ _ _ (blocking_arc m a i k j l one other) inside = visits_job p j l m other.visits
-
--- at the start there is nothing yet
-start-no_faster : (p : PlannedShop) → IsNoFaster p (start p)
-start-no_faster p = record {
-  arrived = λ j outside is_ready. absurd (cc (start_not_ready p j));
-  moved = λ j k n nodes count path. absurd (omega (arith, start-made p j (path_in_shop p nodes (node j k) n path)));
-  worked = λ j k count within is_ready. absurd (cc (start_not_ready p j));
-  cleaned = λ m a i k s n nodes one count is_cleaned path. absurd (omega (arith, ap (λ (s : MachineState). length s.entries) (start_unused p m)));
-  cleared = λ m a i k n nodes one count is_clean has_left path. absurd (omega (arith, ap (λ (s : MachineState). length s.entries) (start_unused p m)));
-}
-
--- so nothing is in a whole exact run
-pub exact_run-no_faster : (p : PlannedShop) (c : Cell) (es : List Event) → IsWellShaped p → IsSound p c → IsNoFaster p c
-    → AreEvents p c es → AreExact p c es → IsNoFaster p (after_all p c es)
-exact_run-no_faster p c [] shaped sound bounds events exact = bounds
-exact_run-no_faster p c (Reported r ∷ es) shaped sound bounds events exact =
-    exact_run-no_faster p (after_report c r) es shaped (after_report-sound p c r shaped sound events.0)
-    (report-no_faster p c r sound bounds events.0 exact.0) events.1 exact.1
-exact_run-no_faster p c (Moved o ∷ es) shaped sound bounds events exact =
-    exact_run-no_faster p (after_move p c o.job o.at) es shaped (after_move-sound p c o.job o.at shaped sound events.0.0.can events.0.1)
-    (move-no_faster p c (after_move p c o.job o.at) o.job o.at shaped sound bounds events.0.0.can events.0.1
-    (after_move-moved p c o.job o.at shaped sound events.0.0.can))
-    events.1 exact
+use Rattle.shop_base.proofs.Keeping.{after_report-like, after_report-sound, after_move-sound, run-sound, target_free, needs}
+use Rattle.shop_base.proofs.InShop.{outside_in_shop}
+use Rattle.shop_base.proofs.ControlledRuns.{after_all_join}
+use Rattle.shop_base.proofs.InTime.{report_last}
+use Rattle.shop_base.proofs.Ahead.{IsLeftIn, held_left, path_left, IsBusyUntil, busy_once, cleaned_once}
 
 -- events in turn: the first, and then the others in the cell that they leave
 pub events_split : (p : PlannedShop) (c : Cell) (es rest : List Event) → AreEvents p c (es ++ rest) → AreEvents p c es × AreEvents p (after_all p c es) rest
@@ -333,21 +29,356 @@ events_split p c (e ∷ es) rest events =
     let (front, back) = events_split p (after p c e) es rest events.1 in
     ((events.0, front), back)
 
-pub exact_split : (p : PlannedShop) (c : Cell) (es rest : List Event) → AreExact p c (es ++ rest) → AreExact p c es
-exact_split p c [] rest exact = tt
-exact_split p c (Reported r ∷ es) rest exact = (exact.0, exact_split p (after_report c r) es rest exact.1)
-exact_split p c (Moved o ∷ es) rest exact = exact_split p (after_move p c o.job o.at) es rest exact
+-- a path ahead of at least this length leads to the node
+pub record HasPathOf (p : PlannedShop) (c : Cell) (t : ℕ) (v : Node) (n : ℕ) : Type 0 where
+  pub nodes : List Node
+  pub size : ℕ
+  pub path : PathAhead p c t nodes v size
+  pub enough : n ≤ size
 
-pub no_exact_run_is_faster-holds : NoExactRunIsFaster
-no_exact_run_is_faster-holds p j nodes n shaped path es run exact gone =
-    let sound = run-sound p es shaped run in
-    let inside : j < jobs p = path_in_shop p nodes (leaving p j) n path in
-    (exact_run-no_faster p (start p) es shaped (start-sound p shaped) (start-no_faster p) run exact).moved j (steps p j) n nodes
-    (omega (arith, sound.few_moves j inside)) path
+shorter : (p : PlannedShop) (c : Cell) (t : ℕ) (v : Node) (n k : ℕ) → n ≤ k → HasPathOf p c t v k → HasPathOf p c t v n
+shorter p c t v n k less found = record { nodes = found.nodes; size = found.size; path = found.path; enough = omega (arith, found.enough) }
 
-pub no_exact_move_is_earlier-holds : NoExactMoveIsEarlier
-no_exact_move_is_earlier-holds p es rest o shaped run exact nodes n path =
-    let (front, back) = events_split p (start p) es (Moved o ∷ rest) run in
-    let bounds = exact_run-no_faster p (start p) es shaped (start-sound p shaped) (start-no_faster p) front (exact_split p (start p) es (Moved o ∷ rest) exact) in
-    next_in_time p (ends_in p es) o.job o.at shaped (run-sound p es shaped front) bounds back.0.0.can back.0.1 nodes
-    (node o.job (made (ends_in p es) o.job)) n path refl
+-- and one arc more
+pub further : (p : PlannedShop) (c : Cell) (t : ℕ) (u v : Node) (n d : ℕ) → HasPathOf p c t u n → Arc p u v d → HasPathOf p c t v (n + d)
+further p c t u v n d found arc = record { nodes = found.nodes ++ v ∷ []; size = found.size + d; path = onward found.nodes u v found.size d found.path arc; enough = omega (arith, found.enough) }
+
+-- to each node ahead leads a path that begins at the present moment
+pub from_now : (p : PlannedShop) (c : Cell) (t : ℕ) (v : Node) → IsLeftIn p c v → HasPathOf p c t v t
+from_now p c t v left = record { nodes = v ∷ []; size = t; path = now v (record { job = left.job; place = left.place }) left.ahead; enough = le_refl t }
+
+-- after an event a path that is no shorter leads to each node that is still ahead: from those that were ahead, from what was held up, and from what the event passed
+module _ (p : PlannedShop) (c new : Cell) (t u : ℕ) (later : t ≤ u) (sound : IsSound p c)
+    (more : (j : ℕ) → made c j ≤ made new j)
+    (holds_on : (a : Activity) (due : ℕ) (v : Node) → GoesOn p c a due → HoldsUp p c a v → IsAhead new v → (due ≤ u) ⊎ (GoesOn p new a due × HoldsUp p new a v))
+    (passes : (nodes : List Node) (w v : Node) (n d : ℕ) → PathAhead p c t nodes w n → (IsAhead new w → ⊥) → Arc p w v d → IsAhead new v → HasPathOf p new u v (n + d)) where
+  path_on : (nodes : List Node) (v : Node) (n : ℕ) → PathAhead p c t nodes v n → IsAhead new v → HasPathOf p new u v n
+  path_on _ _ _ (now v inside was) ahead = record { nodes = v ∷ []; size = u; path = now v inside ahead; enough = later }
+  path_on _ _ _ (held a due v going holds) ahead = go (holds_on a due v going holds ahead)
+    where
+      go : (due ≤ u) ⊎ (GoesOn p new a due × HoldsUp p new a v) → HasPathOf p new u v due
+      go (inl ended) =
+          let left : IsLeftIn p c v = held_left p c a due v sound going holds in
+          shorter p new u v due u ended (from_now p new u v (record { ahead = ahead; job = left.job; place = left.place }))
+      go (inr (still, stays)) = record { nodes = v ∷ []; size = due; path = held a due v still stays; enough = le_refl due }
+  path_on _ _ _ (onward nodes w v n d path arc) ahead = elim (cases_lt w.place (made new w.job)) [
+    | inl passed ↦ passes nodes w v n d path (λ here. omega arith) arc ahead
+    | inr here ↦ further p new u w v n d (path_on nodes w n path here) arc
+  ]
+
+-- what went on before a report that makes job j ready goes on behind it, and holds up the same node, but for what went on with that job
+pub readied-holds : (p : PlannedShop) (c new : Cell) (j at : ℕ) → IsReadied c j at new → (a : Activity) (due : ℕ) (v : Node) → GoesOn p c a due → HoldsUp p c a v
+    → (IsBusyUntil p c j due × (v ≡ next_node c j)) ⊎ (GoesOn p new a due × HoldsUp p new a v)
+readied-holds p c new j at readied (Arrival i) due v awaited is = elim (cases_eq i j) [
+  | inl same ↦ inl (inl (rw same at awaited), rw same at is)
+  | inr other ↦ inr (
+    record { outside = readied.made_same i ∙ awaited.outside; not_ready = ap (λ (s : JobState). s.ready) (readied.others i other) ∙ awaited.not_ready; is_due = awaited.is_due },
+    is ∙ ap (node i) (sym (readied.made_same i)),
+  )
+]
+readied-holds p c new j at readied (Operation i m) due v (k, worked) is = elim (cases_eq i j) [
+  | inl same ↦ inl (inr (k, m, rw same at worked), rw same at is)
+  | inr other ↦ inr (
+    (
+      k,
+      record {
+        on = record { entered = readied.made_same i ∙ worked.on.entered; visits = worked.on.visits };
+        not_ready = ap (λ (s : JobState). s.ready) (readied.others i other) ∙ worked.not_ready;
+        is_due = omega (arith, worked.is_due, readied.since_same i);
+      },
+    ),
+    is ∙ ap (node i) (sym (readied.made_same i)),
+  )
+]
+readied-holds p c new j at readied (Cleaning m) due v (s, cleaned) stands =
+    inr ((s, record { is_cleaned = rw readied.machines_same cleaned.is_cleaned; is_due = cleaned.is_due }), rw readied.machines_same stands)
+
+-- and before a report that ends the cleaning of machine m, but for that
+pub tidied-holds : (p : PlannedShop) (c new : Cell) (m at : ℕ) → IsTidied c m at new → (a : Activity) (due : ℕ) (v : Node) → GoesOn p c a due → HoldsUp p c a v
+    → (((from : ℕ) × IsCleaned p c m from due) × HoldsUp p c (Cleaning m) v) ⊎ (GoesOn p new a due × HoldsUp p new a v)
+tidied-holds p c new m at tidied (Arrival i) due v awaited is = inr (
+  record { outside = rw tidied.jobs_same awaited.outside; not_ready = rw tidied.jobs_same awaited.not_ready; is_due = awaited.is_due },
+  rw tidied.jobs_same is,
+)
+tidied-holds p c new m at tidied (Operation i o) due v (k, worked) is = inr (
+  (
+    k,
+    record {
+      on = record { entered = rw tidied.jobs_same worked.on.entered; visits = worked.on.visits };
+      not_ready = rw tidied.jobs_same worked.not_ready;
+      is_due = rw tidied.jobs_same worked.is_due;
+    },
+  ),
+  rw tidied.jobs_same is,
+)
+tidied-holds p c new m at tidied (Cleaning o) due v (from, cleaned) stands = elim (cases_eq o m) [
+  | inl same ↦ inl ((from, rw same at cleaned), rw same at stands)
+  | inr other ↦ inr (
+    (from, record { is_cleaned = tidied.cleaning_elsewhere o other ∙ cleaned.is_cleaned; is_due = cleaned.is_due }),
+    rw (tidied.entries_same o) stands,
+  )
+]
+
+-- a report that makes job j ready when that is due, or later
+readied-path : (p : PlannedShop) (c new : Cell) (j t u due at : ℕ) (nodes : List Node) (v : Node) (n : ℕ) → t ≤ u → due ≤ u → IsSound p c → IsReadied c j at new → IsBusyUntil p c j due
+    → PathAhead p c t nodes v n → IsAhead new v → HasPathOf p new u v n
+readied-path p c new j t u at when nodes v n later past sound readied busy path ahead =
+    path_on p c new t u later sound (λ i. omega (arith, readied.made_same i)) holds_on
+    (λ nodes w v n d path passed arc ahead. absurd (passed (omega (arith, readied.made_same w.job, (path_left p c t nodes w n sound path).ahead))))
+    nodes v n path ahead
+  where
+    holds_on : (a : Activity) (due : ℕ) (v : Node) → GoesOn p c a due → HoldsUp p c a v → IsAhead new v → (due ≤ u) ⊎ (GoesOn p new a due × HoldsUp p new a v)
+    holds_on a due v going holds ahead = elim (readied-holds p c new j when readied a due v going holds) [
+      | inl (until, is) ↦ inl (omega (arith, busy_once p c j due at until busy))
+      | inr still ↦ inr still
+    ]
+
+-- a report that ends a cleaning when that is due, or later
+tidied-path : (p : PlannedShop) (c new : Cell) (m s t u due at : ℕ) (nodes : List Node) (v : Node) (n : ℕ) → t ≤ u → due ≤ u → IsSound p c → IsTidied c m at new → IsCleaned p c m s due
+    → PathAhead p c t nodes v n → IsAhead new v → HasPathOf p new u v n
+tidied-path p c new m s t u at when nodes v n later past sound tidied cleaning_due path ahead =
+    path_on p c new t u later sound (λ i. rw tidied.jobs_same (le_refl (made c i))) holds_on
+    (λ nodes w v n d path passed arc ahead. absurd (passed (rw tidied.jobs_same (path_left p c t nodes w n sound path).ahead)))
+    nodes v n path ahead
+  where
+    holds_on : (a : Activity) (due : ℕ) (v : Node) → GoesOn p c a due → HoldsUp p c a v → IsAhead new v → (due ≤ u) ⊎ (GoesOn p new a due × HoldsUp p new a v)
+    holds_on a due v going holds ahead = elim (tidied-holds p c new m when tidied a due v going holds) [
+      | inl ((from, cleaned), stands) ↦ inl (omega (arith, cleaned_once p c m from s due at cleaned cleaning_due))
+      | inr still ↦ inr still
+    ]
+
+-- the end of an activity when it is due, or later
+ended-path : (p : PlannedShop) (c : Cell) (a : Activity) (t u due at : ℕ) (nodes : List Node) (v : Node) (n : ℕ) → t ≤ u → due ≤ u → IsSound p c → GoesOn p c a due
+    → PathAhead p c t nodes v n → IsAhead (after_end c a at) v → HasPathOf p (after_end c a at) u v n
+ended-path p c (Arrival j) t u due at nodes v n later past sound awaited path ahead =
+    readied-path p c (with_ready c j at) j t u due at nodes v n later past sound
+    (with_ready-readied c j at awaited.not_ready (omega (arith, sound.job_count, outside_in_shop p c j sound awaited.outside))) (inl awaited) path ahead
+ended-path p c (Operation j m) t u due at nodes v n later past sound (k, worked) path ahead =
+    readied-path p c (with_ready c j at) j t u due at nodes v n later past sound
+    (with_ready-readied c j at worked.not_ready (omega (arith, sound.job_count, visits_job p j k m worked.on.visits))) (inr (k, m, worked)) path ahead
+ended-path p c (Cleaning m) t u due at nodes v n later past sound (s, cleaned) path ahead =
+    tidied-path p c (with_clean c m at) m s t u due at nodes v n later past sound (with_clean-tidied c m s at cleaned.is_cleaned) cleaned path ahead
+
+-- a job that can move isn't too early for its next node: no arc from a node ahead leads there, and nothing holds it up
+next_in_time : (p : PlannedShop) (c : Cell) (j t u : ℕ) (nodes : List Node) (v : Node) (n : ℕ) → IsWellShaped p → IsSound p c → CanMove p c j u → KeepsPlan p c j → t ≤ u
+    → PathAhead p c t nodes v n → v ≡ next_node c j → n ≤ u
+next_in_time p c j t u _ _ _ shaped sound can keeps later (now v inside ahead) e = later
+next_in_time p c j t u _ _ _ shaped sound can keeps later (held a due v going holds) e = absurd (none a due going holds)
+  where
+    idle : (i : ℕ) → v ≡ next_node c i → ready c i ≡ false → ⊥
+    idle i is not_ready =
+        let same : i ≡ j = ap (λ (w : Node). w.job) (sym is ∙ e) in
+        let is_ready : ready c i ≡ true = rw same can.is_ready in cc
+
+    none : (a : Activity) (due : ℕ) → GoesOn p c a due → HoldsUp p c a v → ⊥
+    none (Arrival i) due awaited is = idle i is awaited.not_ready
+    none (Operation i m) due (k, worked) is = idle i is worked.not_ready
+    none (Cleaning m) due (s, cleaned) stands =
+        let next : Stands p m (length (entries c m)) j (made c j) = rw e at stands in
+        let is_clean : cleaning c m ≡ None = (target_free p c j u m can next.visits).1 in
+        let is_cleaned : cleaning c m ≡ Some s = cleaned.is_cleaned in cc
+next_in_time p c j t u _ _ _ shaped sound can keeps later (onward nodes w v n d path arc) e =
+    let passed : w.place < made c w.job = needs p c j u w v d shaped sound can keeps arc (ap (λ (x : Node). x.job) e) (ap (λ (x : Node). x.place) e) in
+    let ahead : made c w.job ≤ w.place = (path_left p c t nodes w n sound path).ahead in
+    absurd (omega arith)
+
+-- a move of job j at moment u
+module _ (p : PlannedShop) (c new : Cell) (j t u : ℕ) (shaped : IsWellShaped p) (sound : IsSound p c) (can : CanMove p c j u) (keeps : KeepsPlan p c j) (later : t ≤ u) (change : IsMoved p c j u new) where
+  move_others : (i : ℕ) → i ≢ j → made new i ≡ made c i
+  move_others i other = ap (λ (s : JobState). s.made) (change.others i other)
+
+  move_more : (i : ℕ) → made c i ≤ made new i
+  move_more i = elim (cases_eq i j) [
+    | inl same ↦ rw same (omega (arith, change.made_mine))
+    | inr other ↦ omega (arith, move_others i other)
+  ]
+
+  -- the node that it passes is the next of job j
+  move_passes : (v : Node) → IsAhead c v → (IsAhead new v → ⊥) → (v.job ≡ j) × (v.place ≡ made c j)
+  move_passes v before passed = elim (cases_eq v.job j) [
+    | inl same ↦ (
+      same,
+      elim (cases_lt v.place (made new v.job)) [
+        | inl is ↦ omega (arith, ap (made new) same, ap (made c) same, change.made_mine)
+        | inr ahead ↦ absurd (passed ahead)
+      ],
+    )
+    | inr other ↦ absurd (passed (omega (arith, move_others v.job other)))
+  ]
+
+  -- what goes on goes on behind it, and holds up the same node
+  pub move-holds : (a : Activity) (due : ℕ) (v : Node) → GoesOn p c a due → HoldsUp p c a v → GoesOn p new a due × HoldsUp p new a v
+  move-holds (Arrival i) due v awaited is = elim (cases_eq i j) [
+    | inl same ↦ (let idle : ready c j ≡ false = rw same at awaited.not_ready in let is_ready : ready c j ≡ true = can.is_ready in absurd cc)
+    | inr other ↦ (
+      record { outside = move_others i other ∙ awaited.outside; not_ready = ap (λ (s : JobState). s.ready) (change.others i other) ∙ awaited.not_ready; is_due = awaited.is_due },
+      is ∙ ap (node i) (sym (move_others i other)),
+    )
+  ]
+  move-holds (Operation i m) due v (k, worked) is = elim (cases_eq i j) [
+    | inl same ↦ (let idle : ready c j ≡ false = rw same at worked.not_ready in let is_ready : ready c j ≡ true = can.is_ready in absurd cc)
+    | inr other ↦ (
+      (
+        k,
+        record {
+          on = record { entered = move_others i other ∙ worked.on.entered; visits = worked.on.visits };
+          not_ready = ap (λ (s : JobState). s.ready) (change.others i other) ∙ worked.not_ready;
+          is_due = omega (arith, worked.is_due, ap (λ (s : JobState). s.since) (change.others i other));
+        },
+      ),
+      is ∙ ap (node i) (sym (move_others i other)),
+    )
+  ]
+  move-holds (Cleaning m) due v (s, cleaned) stands = elim (visits_or_not p j (made c j) m) [
+    | inl visits ↦ (let is_clean : cleaning c m ≡ None = (target_free p c j u m can visits).1 in let is_cleaned : cleaning c m ≡ Some s = cleaned.is_cleaned in absurd cc)
+    | inr off ↦ (
+      (s, record { is_cleaned = change.cleaning_elsewhere m (sound.cleaned_free m s cleaned.is_cleaned j) ∙ cleaned.is_cleaned; is_due = cleaned.is_due }),
+      rw (change.not_entered m off) stands,
+    )
+  ]
+
+  -- an arc from the node that it makes leads from what begins now, or isn't longer than the present moment
+  from_made : (w v : Node) (d : ℕ) → Arc p w v d → w.job ≡ j → w.place ≡ made c j → IsAhead new v → HasPathOf p new u v (u + d)
+  from_made _ _ _ (job_arc i k within) same at ahead =
+      let begun : made new j ≡ k + 1 = omega (arith, change.made_mine) in
+      let here : k < steps p j = rw same at within in
+      rw same (record {
+        nodes = node j (k + 1) ∷ [];
+        size = u + nominal p j k;
+        path = held (Operation j _) (u + nominal p j k) (node j (k + 1))
+            (k, record { on = record { entered = begun; visits = record { within = here; here = refl } }; not_ready = change.ready_mine; is_due = omega (arith, change.since_mine) })
+            (ap (node j) (sym begun));
+        enough = le_refl (u + nominal p j k);
+      })
+  from_made _ _ _ (blocking_arc m a i k h l one other) same at ahead = elim (cases_lt 0 (clean p m)) [
+    | inl timed ↦ record {
+      nodes = node h l ∷ [];
+      size = u + clean p m;
+      path = held (Cleaning m) (u + clean p m) (node h l) (u, record { is_cleaned = change.cleaning_begins k m on timed; is_due = refl }) (rw count_new other);
+      enough = le_refl (u + clean p m);
+    }
+    | inr untimed ↦ shorter p new u (node h l) (u + clean p m) u (omega arith)
+        (from_now p new u (node h l) (record { ahead = ahead; job = visits_job p h l m other.visits; place = omega (arith, other.visits.within) }))
+  ]
+    where
+      mine : Stands p m a j k
+      mine = rw same at one
+
+      on : IsOn p c j k m
+      on = record { entered = sym at; visits = mine.visits }
+
+      count_new : length (entries new m) ≡ a + 1
+      count_new = ap length (change.not_entered m (λ visits. omega (arith, visits_once p j k (made c j) m shaped mine.visits visits))) ∙ sound.newest m a j k mine on.entered
+
+  move-passes : (nodes : List Node) (w v : Node) (n d : ℕ) → PathAhead p c t nodes w n → (IsAhead new w → ⊥) → Arc p w v d → IsAhead new v → HasPathOf p new u v (n + d)
+  move-passes nodes w v n d path passed arc ahead =
+      let (same, at) = move_passes w (path_left p c t nodes w n sound path).ahead passed in
+      let is : w ≡ next_node c j = ap₂ node same at in
+      let soon : n ≤ u = next_in_time p c j t u nodes w n shaped sound can keeps later path is in
+      shorter p new u v (n + d) (u + d) (omega arith) (from_made w v d arc same at ahead)
+
+  pub move-path : (nodes : List Node) (v : Node) (n : ℕ) → PathAhead p c t nodes v n → IsAhead new v → HasPathOf p new u v n
+  move-path = path_on p c new t u later sound move_more (λ a due v going holds ahead. inr (move-holds a due v going holds)) move-passes
+
+-- moves of events that can happen come no earlier than the last moment
+pub moves_from_last : (p : PlannedShop) (c : Cell) (t : ℕ) (es : List Event) → t ≤ c.last → AreEvents p c es → MoveFrom t es
+moves_from_last p c t [] before events = tt
+moves_from_last p c t (Reported r ∷ es) before events =
+    moves_from_last p (after_report c r) t es (omega (arith, report_last c r.ended r.at, events.0.moment.in_order)) events.1
+moves_from_last p c t (Moved o ∷ es) before events =
+    let now : t ≤ o.at = omega (arith, events.0.0.can.moment.in_order) in
+    (now, moves_from_last p (after_move p c o.job o.at) t es now events.1)
+
+-- moves that come from two moments on come from the later of them on
+moves_max : (t u : ℕ) (es : List Event) → MoveFrom t es → MoveFrom u es → MoveFrom (max t u) es
+moves_max t u [] one other = tt
+moves_max t u (Reported r ∷ es) one other = moves_max t u es one other
+moves_max t u (Moved o ∷ es) one other = (omega (arith, one.0, other.0), moves_max t u es one.1 other.1)
+
+-- a job makes no fewer moves
+pub made_more : (p : PlannedShop) (c : Cell) (es : List Event) (j : ℕ) → IsWellShaped p → IsSound p c → AreEvents p c es → made c j ≤ made (after_all p c es) j
+made_more p c [] j shaped sound events = le_refl (made c j)
+made_more p c (Reported r ∷ es) j shaped sound events =
+    omega (arith, (after_report-like p c r sound events.0).made_same j, made_more p (after_report c r) es j shaped (after_report-sound p c r shaped sound events.0) events.1)
+made_more p c (Moved o ∷ es) j shaped sound events =
+    let can = events.0.0.can in
+    let keeps = events.0.1 in
+    let change : IsMoved p c o.job o.at (after_move p c o.job o.at) = after_move-moved p c o.job o.at shaped sound can in
+    omega (
+      arith,
+      move_more p c (after_move p c o.job o.at) o.job o.at o.at shaped sound can keeps (le_refl o.at) change j,
+      made_more p (after_move p c o.job o.at) es j shaped (after_move-sound p c o.job o.at shaped sound can keeps) events.1,
+    )
+
+-- a job that makes no more moves has made its last since the same moment
+pub since_stays : (p : PlannedShop) (c : Cell) (es : List Event) (j : ℕ) → IsWellShaped p → IsSound p c → AreEvents p c es → made (after_all p c es) j ≡ made c j
+    → since (after_all p c es) j ≡ since c j
+since_stays p c [] j shaped sound events same = refl
+since_stays p c (Reported r ∷ es) j shaped sound events same =
+    since_stays p (after_report c r) es j shaped (after_report-sound p c r shaped sound events.0) events.1 (same ∙ sym ((after_report-like p c r sound events.0).made_same j))
+    ∙ (after_report-like p c r sound events.0).since_same j
+since_stays p c (Moved o ∷ es) j shaped sound events same = elim (cases_eq j o.job) [
+  | inl is ↦ (let one_more : made (after_move p c o.job o.at) j ≡ made c j + 1 = rw is change.made_mine in
+      absurd (omega (arith, made_more p (after_move p c o.job o.at) es j shaped sound_new events.1)))
+  | inr other ↦ since_stays p (after_move p c o.job o.at) es j shaped sound_new events.1 (same ∙ sym (ap (λ (s : JobState). s.made) (change.others j other)))
+      ∙ ap (λ (s : JobState). s.since) (change.others j other)
+]
+  where
+    change : IsMoved p c o.job o.at (after_move p c o.job o.at)
+    change = after_move-moved p c o.job o.at shaped sound events.0.0.can
+
+    sound_new : IsSound p (after_move p c o.job o.at)
+    sound_new = after_move-sound p c o.job o.at shaped sound events.0.0.can events.0.1
+
+-- in a run that goes on with no report early, a job that has made a node as its last move made it no earlier than a path ahead to it is long
+pub made-no_earlier : (p : PlannedShop) (c : Cell) (t : ℕ) (fs : List Event) (nodes : List Node) (v : Node) (n : ℕ) → IsWellShaped p → IsSound p c → PathAhead p c t nodes v n
+    → AreEvents p c fs → MoveFrom t fs → AreNotEarly p c fs → made (after_all p c fs) v.job ≡ v.place + 1 → n ≤ since (after_all p c fs) v.job
+made-no_earlier p c t [] nodes v n shaped sound path events from not_early last =
+    let ahead : made c v.job ≤ v.place = (path_left p c t nodes v n sound path).ahead in
+    absurd (omega arith)
+made-no_earlier p c t (Reported r ∷ fs) nodes v n shaped sound path events from not_early last =
+    let on = λ (found : HasPathOf p (after_report c r) (max t r.at) v n).
+    made-no_earlier p (after_report c r) (max t r.at) fs found.nodes v found.size shaped (after_report-sound p c r shaped sound events.0) found.path events.1
+    (moves_max t r.at fs from (moves_from_last p (after_report c r) r.at fs (omega (arith, report_last c r.ended r.at)) events.1)) not_early.1 last in
+    let found : HasPathOf p (after_report c r) (max t r.at) v n =
+    ended-path p c r.ended t (max t r.at) not_early.0.due r.at nodes v n (omega arith) (omega (arith, not_early.0.later)) sound not_early.0.going path
+    (omega (arith, (after_report-like p c r sound events.0).made_same v.job, (path_left p c t nodes v n sound path).ahead)) in
+    omega (arith, found.enough, on found)
+made-no_earlier p c t (Moved o ∷ fs) nodes v n shaped sound path events from not_early last = elim (cases_lt v.place (made new v.job)) [
+  | inr ahead ↦ (let found : HasPathOf p new o.at v n = move-path p c new o.job t o.at shaped sound can keeps from.0 change nodes v n path ahead in
+      omega (
+        arith,
+        found.enough,
+        made-no_earlier p new o.at fs found.nodes v found.size shaped sound_new found.path events.1 (moves_from_last p new o.at fs (le_refl o.at) events.1) not_early last,
+      ))
+  | inl passed ↦ (let (same, at) = move_passes p c new o.job t o.at shaped sound can keeps from.0 change v (path_left p c t nodes v n sound path).ahead (λ here. omega arith) in
+      let soon : n ≤ o.at = next_in_time p c o.job t o.at nodes v n shaped sound can keeps from.0 path (ap₂ node same at) in
+      let count : made new v.job ≡ v.place + 1 = rw (same, at) change.made_mine in
+      let begun : since new v.job ≡ o.at = rw same change.since_mine in
+      omega (arith, since_stays p new fs v.job shaped sound_new events.1 (last ∙ sym count)))
+]
+  where
+    new : Cell
+    new = after_move p c o.job o.at
+
+    can : CanMove p c o.job o.at
+    can = events.0.0.can
+
+    keeps : KeepsPlan p c o.job
+    keeps = events.0.1
+
+    change : IsMoved p c o.job o.at new
+    change = after_move-moved p c o.job o.at shaped sound can
+
+    sound_new : IsSound p new
+    sound_new = after_move-sound p c o.job o.at shaped sound can keeps
+
+pub no_continuation_is_faster-holds : NoContinuationIsFaster
+no_continuation_is_faster-holds p es t j nodes n fs shaped run path whole from not_early gone =
+    let (front, back) = events_split p (start p) es fs whole in
+    let sound : IsSound p (ends_in p es) = run-sound p es shaped run in
+    let sound_end : IsSound p (ends_in p (es ++ fs)) = run-sound p (es ++ fs) shaped whole in
+    let join : ends_in p (es ++ fs) ≡ after_all p (ends_in p es) fs = after_all_join p (start p) es fs in
+    let inside : j < jobs p = (path_left p (ends_in p es) t nodes (leaving p j) n sound path).job in
+    let last : made (ends_in p (es ++ fs)) j ≡ steps p j + 1 = omega (arith, sound_end.few_moves j inside) in
+    rw join (made-no_earlier p (ends_in p es) t fs nodes (leaving p j) n shaped sound path back from not_early (rw join at last))

@@ -11,9 +11,10 @@ use Rattle.shop_base.specs.Activity.{Activity, Arrival, Operation, Cleaning, Goe
 use Rattle.shop_base.specs.Move.{IsPrefix}
 use Rattle.shop_base.specs.Run.{IsAtRest, IsStuck}
 use Rattle.shop_base.specs.Ends.{HasEnded}
-use Rattle.shop_base.specs.Graph.{job_arc, blocking_arc, RanksRise, MomentsFit, node}
+use Rattle.shop_base.specs.Graph.{job_arc, blocking_arc, RanksRise, node}
 use Rattle.shop_base.specs.Sound.{IsSound}
-use Rattle.shop_base.specs.KeptMoments.{KeepsMoments}
+use Rattle.shop_base.specs.Ahead.{HoldsUp}
+use Rattle.shop_base.specs.Within.{RiseAhead}
 use Rattle.shop_base.specs.NeverStuckLaw.{CanReportEach, CanGoOn}
 use Rattle.shop_base.proofs.Visits.{visits_job, visits_machine, visits-stands, past_leaves}
 use Rattle.shop_base.proofs.Places.{stands_at, same_stand, prefix_grows}
@@ -23,38 +24,37 @@ cleaned_or_not : (cleaned : Option ℕ) → (cleaned ≡ None) ⊎ ((s : ℕ) ×
 cleaned_or_not None = inl refl
 cleaned_or_not (Some s) = inr (s, refl)
 
--- an activity going on, which where the moments are kept is due at most at the moment kept for node v
+-- an activity going on, which holds up a node whose moment is at most that of node v, where moments rise ahead
 pub record HasActivityBy (p : PlannedShop) (c : Cell) (v : Node) : Type 0 where
   pub activity : Activity
   pub due : ℕ
   pub going : GoesOn p c activity due
-  pub bound : (kept : Node → ℕ) → MomentsFit p kept → KeepsMoments p kept c → due ≤ kept v
+  pub held : Node
+  pub holds : HoldsUp p c activity held
+  pub leads : (kept : Node → ℕ) → RiseAhead p c kept → kept held ≤ kept v
 
--- what rises with each step up to l rises from k to l
-pub rises : (g : ℕ → ℕ) (l k : ℕ) → ((n : ℕ) → n < l → g n ≤ g (n + 1)) → k ≤ l → g k ≤ g l
-rises g zero k up below = rw (zero_only k below) (le_refl (g 0))
-  where
-    zero_only : (k : ℕ) → k ≤ 0 → k ≡ 0
-    zero_only k h = omega arith
+-- what rises with each step from k on rises from k to l
+rises : (g : ℕ → ℕ) (l k : ℕ) → ((n : ℕ) → k ≤ n → n < l → g n ≤ g (n + 1)) → k ≤ l → g k ≤ g l
+rises g zero k up below = let same : k ≡ 0 = omega arith in rw same (le_refl (g 0))
 rises g (suc l) k up below = elim (cases_lt k (suc l)) [
-  | inl less ↦ (let first : g k ≤ g l = rises g l k (λ n lt. up n (omega arith)) (omega arith) in
-      let last : g l ≤ g (suc l) = rw add-one at (up l (omega arith)) in omega arith)
+  | inl less ↦ (let first : g k ≤ g l = rises g l k (λ n from lt. up n from (omega arith)) (omega arith) in
+      let last : g l ≤ g (suc l) = rw add-one at (up l (omega arith) (omega arith)) in omega arith)
   | inr more ↦ (let same : k ≡ suc l = omega arith in rw same (le_refl (g (suc l))))
 ]
 
 -- along a job's places the ranks rise
 pub ranks_rise_along : (p : PlannedShop) (rank : Node → ℕ) (j k l : ℕ) → RanksRise p rank → l ≤ steps p j → k ≤ l → rank (node j k) ≤ rank (node j l)
-ranks_rise_along p rank j k l rise within below = rises (λ n. rank (node j n)) l k (λ n lt. one n (omega arith)) below
+ranks_rise_along p rank j k l rise within below = rises (λ n. rank (node j n)) l k (λ n from lt. one n (omega arith)) below
   where
     one : (n : ℕ) → n < steps p j → rank (node j n) ≤ rank (node j (n + 1))
     one n lt = let up : rank (node j n) < rank (node j (n + 1)) = rise _ _ _ (job_arc j n lt) in omega arith
 
--- along a job's places the kept moments rise
-pub moments_rise_along : (p : PlannedShop) (kept : Node → ℕ) (j k l : ℕ) → MomentsFit p kept → l ≤ steps p j → k ≤ l → kept (node j k) ≤ kept (node j l)
-moments_rise_along p kept j k l fit within below = rises (λ n. kept (node j n)) l k (λ n lt. one n (omega arith)) below
+-- along a job's places ahead the moments that rise ahead rise
+pub ahead_rises : (p : PlannedShop) (c : Cell) (kept : Node → ℕ) (j k l : ℕ) → RiseAhead p c kept → made c j ≤ k → k ≤ l → l ≤ steps p j → kept (node j k) ≤ kept (node j l)
+ahead_rises p c kept j k l rise ahead below within = rises (λ n. kept (node j n)) l k one below
   where
-    one : (n : ℕ) → n < steps p j → kept (node j n) ≤ kept (node j (n + 1))
-    one n lt = let up : kept (node j n) + nominal p j n ≤ kept (node j (n + 1)) = fit.arcs _ _ _ (job_arc j n lt) in omega arith
+    one : (n : ℕ) → k ≤ n → n < l → kept (node j n) ≤ kept (node j (n + 1))
+    one n from lt = rise (node j n) (node j (n + 1)) (nominal p j n) (omega arith) (job_arc j n (omega arith))
 
 -- a job that isn't ready has an activity of its own
 not_ready-active : (p : PlannedShop) (c : Cell) (j k : ℕ) → j < jobs p → ready c j ≡ false → made c j ≡ k → k ≤ steps p j → HasActivityBy p c (node j k)
@@ -62,16 +62,17 @@ not_ready-active p c j zero inside not_ready made_is within = record {
   activity = Arrival j;
   due = release p j;
   going = record { outside = made_is; not_ready = not_ready; is_due = refl };
-  bound = λ kept fit keeps_moments. fit.releases j inside;
+  held = node j zero;
+  holds = ap (node j) (sym made_is);
+  leads = λ kept rise. le_refl (kept (node j zero));
 }
 not_ready-active p c j (suc k) inside not_ready made_is within = record {
   activity = Operation j (machine_of p j k);
   due = since c j + nominal p j k;
   going = (k, record { on = record { entered = omega arith; visits = record { within = within; here = refl } }; not_ready = not_ready; is_due = refl });
-  bound = λ kept fit keeps_moments.
-      let began : since c j ≤ kept (node j k) = keeps_moments.moved j k (omega arith) in
-      let arc : kept (node j k) + nominal p j k ≤ kept (node j (k + 1)) = fit.arcs _ _ _ (job_arc j k within) in
-      rw (← add-one k) (omega arith);
+  held = node j (suc k);
+  holds = ap (node j) (sym made_is);
+  leads = λ kept rise. le_refl (kept (node j (suc k)));
 }
 
 -- a ready job that has made all its entries can leave
@@ -119,11 +120,13 @@ behind-active p c m b i k j l before after here found = record {
   activity = found.activity;
   due = found.due;
   going = found.going;
-  bound = λ kept fit keeps_moments.
+  held = found.held;
+  holds = found.holds;
+  leads = λ kept rise.
       let within : k < steps p i = before.visits.within in
-      let first : found.due ≤ kept (node i (made c i)) = found.bound kept fit keeps_moments in
-      let along : kept (node i (made c i)) ≤ kept (node i (k + 1)) = moments_rise_along p kept i (made c i) (k + 1) fit (omega arith) here in
-      let arc : kept (node i (k + 1)) + clean p m ≤ kept (node j l) = fit.arcs _ _ _ (blocking_arc m b i k j l before after) in
+      let first : kept found.held ≤ kept (node i (made c i)) = found.leads kept rise in
+      let along : kept (node i (made c i)) ≤ kept (node i (k + 1)) = ahead_rises p c kept i (made c i) (k + 1) rise (le_refl (made c i)) here (omega arith) in
+      let arc : kept (node i (k + 1)) ≤ kept (node j l) = rise (node i (k + 1)) (node j l) (clean p m) here (blocking_arc m b i k j l before after) in
       omega arith;
 }
 
@@ -133,10 +136,9 @@ cleaned-active p c m b i k j l s before after newest cleaned = record {
   activity = Cleaning m;
   due = s + clean p m;
   going = (s, record { is_cleaned = cleaned; is_due = refl });
-  bound = λ kept fit keeps_moments.
-      let began : s ≤ kept (node i (k + 1)) = keeps_moments.left m b i k s before newest cleaned in
-      let arc : kept (node i (k + 1)) + clean p m ≤ kept (node j l) = fit.arcs _ _ _ (blocking_arc m b i k j l before after) in
-      omega arith;
+  held = node j l;
+  holds = rw newest after;
+  leads = λ kept rise. le_refl (kept (node j l));
 }
 
 -- each job of the shop that isn't gone, and whose next node's rank is less than n, has such an activity
@@ -206,7 +208,7 @@ all-active p rank c (suc n) shaped rise sound rest j inside left below =
     waits-active p rank c j shaped rise sound rest inside left
     (λ i here to_go less. all-active p rank c n shaped rise sound rest i here to_go (omega arith))
 
--- at rest, a job of the shop that isn't gone waits for an activity, which where the moments are kept is due at most at the moment kept for its next node
+-- at rest, a job of the shop that isn't gone waits for an activity, which holds up a node whose moment is at most that of its next, where moments rise ahead
 pub rest-active : (p : PlannedShop) (rank : Node → ℕ) (c : Cell) (j : ℕ) → IsWellShaped p → RanksRise p rank → IsSound p c → IsAtRest p c → j < jobs p → made c j ≤ steps p j → HasActivityBy p c (node j (made c j))
 rest-active p rank c j shaped rise sound rest inside left = all-active p rank c (suc (rank (node j (made c j)))) shaped rise sound rest j inside left (omega arith)
 

@@ -19,16 +19,16 @@ use Rattle.shop_base.proofs.Keeping.{target_place, after_report-sound, after_mov
 use Rattle.shop_base.proofs.Decisions.{HasWay, moment_now, move_at, moves_or_not}
 
 -- a job to which nothing matters that differs between two cells can move in the one if it can in the other
-record LooksSame (p : PlannedShop) (new c : Cell) (i : ℕ) : Type 0 where
-  job : job_in new i ≡ job_in c i
-  entries_same : (m : ℕ) → Visits p i (made c i) m → entries new m ≡ entries c m
-  free : (m : ℕ) → Visits p i (made c i) m → IsFree p new m → IsFree p c m
-  is_clean : (m : ℕ) → Visits p i (made c i) m → cleaning new m ≡ None → cleaning c m ≡ None
+pub record LooksSame (p : PlannedShop) (new c : Cell) (i : ℕ) : Type 0 where
+  pub job : job_in new i ≡ job_in c i
+  pub entries_same : (m : ℕ) → Visits p i (made c i) m → entries new m ≡ entries c m
+  pub free : (m : ℕ) → Visits p i (made c i) m → IsFree p new m → IsFree p c m
+  pub is_clean : (m : ℕ) → Visits p i (made c i) m → cleaning new m ≡ None → cleaning c m ≡ None
 
 same_made : (new c : Cell) (i : ℕ) → job_in new i ≡ job_in c i → made new i ≡ made c i
 same_made new c i same = ap (λ (x : JobState). x.made) same
 
-same_can : (p : PlannedShop) (new c : Cell) (i t : ℕ) → IsSound p c → LooksSame p new c i → CanMove p new i t → CanMove p c i c.last
+pub same_can : (p : PlannedShop) (new c : Cell) (i t : ℕ) → IsSound p c → LooksSame p new c i → CanMove p new i t → CanMove p c i c.last
 same_can p new c i t sound looks can = record {
   is_ready = sym (ap (λ (x : JobState). x.ready) looks.job) ∙ can.is_ready;
   way = go can.way;
@@ -44,7 +44,7 @@ same_can p new c i t sound looks can = record {
         let next : Visits p i (made c i) m = subst (λ k. Visits p i k m) is enters.next in
         inr (m, record { next = next; free = looks.free m next enters.free; is_clean = looks.is_clean m next enters.is_clean })
 
-same_keeps : (p : PlannedShop) (new c : Cell) (i : ℕ) → LooksSame p new c i → KeepsPlan p new i → KeepsPlan p c i
+pub same_keeps : (p : PlannedShop) (new c : Cell) (i : ℕ) → LooksSame p new c i → KeepsPlan p new i → KeepsPlan p c i
 same_keeps p new c i looks keeps m visits =
     subst (λ (es : List ℕ). IsPrefix (es ++ i ∷ []) (order p m)) (looks.entries_same m visits)
     (keeps m (subst (λ k. Visits p i k m) (sym (same_made new c i looks.job)) visits))
@@ -258,10 +258,10 @@ sum_falls f g (suc n) j below falls same = go (cases_eq j n) (λ less. sum_falls
     go (inr other) before = omega (arith, before (omega (arith, other)), same n (λ is. other (sym is)))
 
 -- how many moves all jobs have before them
-moves_left : PlannedShop → Cell → ℕ
+pub moves_left : PlannedShop → Cell → ℕ
 moves_left p c = sum_below (λ j. steps p j + 1 - made c j) (jobs p)
 
-move-inside : (p : PlannedShop) (c : Cell) (j t : ℕ) → IsSound p c → CanMove p c j t → j < jobs p
+pub move-inside : (p : PlannedShop) (c : Cell) (j t : ℕ) → IsSound p c → CanMove p c j t → j < jobs p
 move-inside p c j t sound can = omega (arith, sound.job_count, inside)
   where
     none : ready c j ≡ false → ⊥
@@ -270,7 +270,7 @@ move-inside p c j t sound can = omega (arith, sound.job_count, inside)
     inside : j < length c.jobs
     inside = lt_of_not-le λ past. none (ap (λ (x : JobState). x.ready) (get_or_past c.jobs j absent past))
 
-move-left : (p : PlannedShop) (c new : Cell) (j t : ℕ) → IsSound p c → CanMove p c j t → IsMoved p c j t new → moves_left p new + 1 ≡ moves_left p c
+pub move-left : (p : PlannedShop) (c new : Cell) (j t : ℕ) → IsSound p c → CanMove p c j t → IsMoved p c j t new → moves_left p new + 1 ≡ moves_left p c
 unfolding moves_left
 move-left p c new j t sound can moved =
     sum_falls (λ i. steps p i + 1 - made c i) (λ i. steps p i + 1 - made new i) (jobs p) j (move-inside p c j t sound can)

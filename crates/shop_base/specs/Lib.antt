@@ -27,6 +27,12 @@ pub mod InTimeLaw
 pub mod CycleLaw
 pub mod ExactLaw
 pub mod SerialLaw
+pub mod Ahead
+pub mod AheadLaw
+pub mod Within
+pub mod WithinLaw
+pub mod Deadlines
+pub mod DeadlinesLaw
 pub mod Examples
 -- Of proofs and private contracts alone.
 pub mod Marks

@@ -1,5 +1,5 @@
--- Punctual and exact reports: no later than any activity is due, and exactly when their own is.
-use Rattle.std.specs.Prelude.{ℕ, ◌≤◌, List, [], ◌∷◌}
+-- Punctual and exact reports: no later than any activity is due, and exactly when their own is; and reports that aren't early.
+use Rattle.std.specs.Prelude.{ℕ, ◌≤◌, ◌⊎◌, List, [], ◌∷◌}
 use Rattle.shop_base.specs.Plan.{PlannedShop}
 use Rattle.shop_base.specs.Cell.{Cell}
 use Rattle.shop_base.specs.Activity.{Activity, GoesOn}
@@ -16,6 +16,16 @@ module _ (p : PlannedShop) (c : Cell) where
     pub punctual : IsPunctual r
     pub due : GoesOn p c r.ended r.at
 
+  -- it comes when its own activity is due, or later
+  pub record IsNotEarly (r : Report) : Type 0 where
+    pub due : ℕ
+    pub going : GoesOn p c r.ended due
+    pub later : due ≤ r.at
+
+-- the report is no later than moment t, or than any activity going on is due: what was overdue at t ends at t
+abbrev pub IsPunctualFrom : PlannedShop → ℕ → Cell → Report → Type 0
+IsPunctualFrom p t c r = (a : Activity) (due : ℕ) → GoesOn p c a due → (r.at ≤ t) ⊎ (r.at ≤ due)
+
 module _ (p : PlannedShop) where
   -- each report among the events is so, in the cell before it
   abbrev pub EachReport : (Cell → Report → Type 0) → Cell → List Event → Type 0
@@ -30,3 +40,11 @@ module _ (p : PlannedShop) where
   -- each is exact
   abbrev pub AreExact : Cell → List Event → Type 0
   AreExact = EachReport (IsExact p)
+
+  -- none is early
+  abbrev pub AreNotEarly : Cell → List Event → Type 0
+  AreNotEarly = EachReport (IsNotEarly p)
+
+  -- each is punctual, or no later than moment t
+  abbrev pub ArePunctualFrom : ℕ → Cell → List Event → Type 0
+  ArePunctualFrom t = EachReport (IsPunctualFrom p t)

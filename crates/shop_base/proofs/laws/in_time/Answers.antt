@@ -1,5 +1,6 @@
 use Rattle.shop_base.specs.KeptMoments.{KeepsLeaving}
-use Rattle.shop_base.proofs.InTime.{controlled-leavings_kept, leaving-in_time, leaving-out}
+use Rattle.shop_base.proofs.StartAhead.{controlled-leavings_kept}
+use Rattle.shop_base.proofs.InTime.{leaving-in_time, leaving-out}
 use Rattle.shop_base.proofs.laws.in_time.Goals as goal
 
 pub returns-clause-kept : goal.returns-clause-kept

@@ -1,4 +1,4 @@
-use Rattle.shop_base.proofs.JustInTime.{just_in_time-holds}
+use Rattle.shop_base.proofs.StartAhead.{just_in_time-holds}
 use Rattle.shop_base.proofs.laws.just_in_time.Goals as goal
 
 pub returns : goal.returns
