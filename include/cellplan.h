@@ -14,15 +14,26 @@
    - Pointers aren't null, also to a room of 0 bytes, and point to as much as is said. What a call writes overlaps
      nothing else that it is given.
    - Lengths and rooms of texts are in bytes. No zero byte ends a text, and none is counted: of a literal, `sizeof` is one
-     too many.
+     too many. A room for orders is a number of orders: with `sizeof orders` for it a call writes past the array.
    - A `bool` that a call writes into holds true or false before the call, and so does that of a phase:
      `bool late = false;`, `struct cellplan_phase phase = {0};`, in C++ `cellplan_phase phase{};`.
-   - A cell stays on the thread that began it, and one call at a time is in it. Cells are apart: each thread may have
-     cells of its own. No call is made from a signal handler, or in the child of a fork of a process with threads.
-   - `malloc`, `realloc` and `free` are those of one allocator.
+   - A cell stays on the thread that began it, and one call at a time is in it. Each call that is given a cell counts, also
+     one that only reads it: it takes the controller out of the struct and puts it back, so it writes the struct meanwhile.
+     Cells are apart: each thread may have cells of its own. No call is made from a signal handler, or in the child of a
+     fork of a process with threads.
+   - `malloc`, `realloc` and `free` are those of one allocator. What the first two give begins at a multiple of 16, as with
+     those of glibc; no call asks for more.
+   - The stack has room. cellplan_check, cellplan_explain and cellplan_cell_new touch some 26,000 bytes of it, for texts of
+     any length; give them 32 KiB. A plan's text that nests tables within tables wants more before it is refused: the deepest
+     that was found, 80 within 80, touches 1,600,000 bytes, so where a plan may be anybody's text give them 2 MiB. All other
+     calls touch less than 1 KiB. (tests/c-library measures it.)
+   - The library is for Linux on x86-64, with glibc as the C library.
 
    cellplan_check, cellplan_explain and cellplan_cell_new take memory, and so may answer CELLPLAN_NO_MEMORY. No other call
-   answers so, not even a report. Only these three and cellplan_cell_free call malloc, realloc or free. */
+   answers so, not even a report. Only these three and cellplan_cell_free call malloc, realloc or free.
+
+   Of the line that cellplan_check writes, which is also the first of cellplan_explain, some words are in no clause, and
+   tests alone show them: those behind `not shaped `, `instance: ` and `plan: `, which name the fault. */
 #ifndef CELLPLAN_H
 #define CELLPLAN_H
 
@@ -108,7 +119,9 @@ uint32_t cellplan_version(void);
 uint32_t cellplan_reason(uint32_t number, uint8_t *name, size_t room, size_t *length);
 
 /* Judges a plan: writes the line that `cellplan check` prints, and its length, with its line feed and no zero byte.
-   With a name the first text is a collection with an instance of this name; with a name of length 0 it is one instance.
+   With a name the first text is a collection with an instance of this name; with a name of length 0 it is one instance,
+   where `cellplan check --instance ''` looks for an instance of a collection, and there is none. A text may have any
+   length, where `cellplan check` refuses one over 67108864 bytes, with status 5.
    GOOD where the plan is accepted, REFUSED where it isn't, each with the line; FAULT with the line that the program
    tells on its standard error, which begins with `cellplan: `; NO_ROOM with the length of the line, which isn't written;
    NO_MEMORY with the length 0. */
@@ -132,7 +145,7 @@ void cellplan_cell_free(struct cellplan_cell *cell);
 /* Reports that something has ended, at a moment that isn't before that of the last report; it may have ended early, also
    an arrival before the job's release. Makes the moves that the plan has then: writes as many of their orders as there is
    room for, in the order in which they are made, and the number of them all. `late` says whether the report came past the
-   due moment of something that was going on.
+   due moment of something that was going on. `room` is a number of orders, not of bytes.
    GOOD; NO_KIND, and else NO_CELL; or else the number of the reason for which the report isn't possible, with the moment or
    the machine that it names in `detail` (0 with every other status). A report that isn't GOOD changes nothing, its count is
    0, and `late` is false. */
@@ -140,13 +153,13 @@ uint32_t cellplan_cell_report(struct cellplan_cell *cell, uint32_t kind, uint32_
                               struct cellplan_order *orders, size_t room, size_t *count, bool *late, uint64_t *detail);
 
 /* Writes the orders of the last accepted report from number `first` on, as many as there is room for, and the number of
-   all its orders, whatever `first` is: 0 before the first report. A report releases at most one for each job. GOOD; or
-   NO_CELL, and then the number is 0. */
+   all its orders, whatever `first` is: 0 before the first report. A report releases at most one for each job. `room` is a
+   number of orders, not of bytes. GOOD; or NO_CELL, and then the number is 0. */
 uint32_t cellplan_cell_orders(struct cellplan_cell *cell, size_t first, struct cellplan_order *orders, size_t room,
                               size_t *count);
 
-/* The calls below read a cell and change nothing. Each is GOOD, and has written its answer, or NO_CELL, or NONE where
-   that is said, and has written nothing. */
+/* The calls below read a cell: it holds after them what it held before. Each is GOOD, and has written its answer, or
+   NO_CELL, or NONE where that is said, and has written nothing. */
 
 /* Where the job is; NONE for a number that is no job's. */
 uint32_t cellplan_cell_phase(struct cellplan_cell *cell, uint32_t job, struct cellplan_phase *phase);
