@@ -1,6 +1,7 @@
 /* Preloaded under the program and the tests. By tests/refused-memory and tests/c-library: refuses the request for memory with
    the number in REFUSE, counted from 1, and says on the descriptor in REFUSE_TELL that it has met it. Where REFUSE_ASKED is set, it
-   counts those requests alone that come between a line `asked` on the standard error and the next line there.
+   counts those requests alone that come between a line `asked` on the standard error and the next line there. Where REFUSE_FREE is
+   set too, it says of each call of `free` between them that it has met it.
    By tests/failed-writes: refuses the write to the standard output with the number in REFUSE_WRITE, counted from 1, and
    none after it. */
 #define _GNU_SOURCE
@@ -18,10 +19,11 @@ typedef void *(*malloc_t)(size_t);
 typedef void *(*realloc_t)(void *, size_t);
 typedef void *(*aligned_t)(size_t, size_t);
 typedef int (*posix_t)(void **, size_t, size_t);
+typedef void (*free_t)(void *);
 typedef ssize_t (*write_t)(int, const void *, size_t);
 
 static long left = -1, writes_left;
-static int from_asked, counts;
+static int from_asked, counts, frees;
 
 static void begin(void) {
   if (left != -1) return;
@@ -29,6 +31,7 @@ static void begin(void) {
   left = n ? atol(n) : 0;
   from_asked = getenv("REFUSE_ASKED") != NULL;
   counts = !from_asked;
+  frees = getenv("REFUSE_FREE") != NULL;
   const char *w = getenv("REFUSE_WRITE");
   writes_left = w ? atol(w) : 0;
 }
@@ -44,13 +47,24 @@ ssize_t write(int to, const void *bytes, size_t size) {
   return next(to, bytes, size);
 }
 
+static void met(void) {
+  const char *tell = getenv("REFUSE_TELL");
+  if (tell && write(atoi(tell), "met\n", 4) != 4) _exit(99);
+}
+
 static int refused(void) {
   begin();
   if (!counts || left == 0 || --left != 0) return 0;
-  const char *tell = getenv("REFUSE_TELL");
-  if (tell && write(atoi(tell), "met\n", 4) != 4) _exit(99);
+  met();
   errno = ENOMEM;
   return 1;
+}
+
+void free(void *memory) {
+  NEXT(free_t, "free");
+  begin();
+  if (frees && counts) met();
+  next(memory);
 }
 
 void *malloc(size_t size) {
