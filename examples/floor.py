@@ -21,7 +21,7 @@ the machine to which it goes is the next one of its route, holds no part and is 
 What a floor of one's own needs is in three places: `Told` follows what cellplan has said, `Floor.serve` is the loop that carries out
 orders and sends reports, and `Floor.take_up` is what has to be done before the first report after a restart.
 """
-import argparse, collections, heapq, json, os, random, re, select, signal, subprocess, sys, tempfile, time
+import argparse, collections, heapq, json, os, random, re, select, shutil, signal, subprocess, sys, tempfile, time
 
 HERE = os.path.dirname(os.path.abspath(__file__))
 UNIT = 0.0005  # seconds for which a time unit of the instance lasts
@@ -339,14 +339,22 @@ class Run:
             raise Wrong("the audit says: " + found)
 
 
+def found_program():
+    """The cellplan of the path, else the one that was built in the clone of this file, else none."""
+    return shutil.which("cellplan") or shutil.which(os.path.join(HERE, "../crates/cellplan/out/cellplan"))
+
+
 def words():
     parser = argparse.ArgumentParser(description="A simulated floor whose cellplan is killed and taken up again.")
     parser.add_argument("instance", nargs="?", default=os.path.join(HERE, "ft06.txt"))
     parser.add_argument("plan", nargs="?", default=os.path.join(HERE, "ft06-cleaned.toml"))
     parser.add_argument("--runs", type=int, default=10, help="how many passes (10)")
     parser.add_argument("--seed", type=int, default=0, help="where the random times begin (0)")
-    parser.add_argument("--program", default=os.path.join(HERE, "../crates/cellplan/out/cellplan"), help="the built cellplan")
-    return parser.parse_args()
+    parser.add_argument("--program", default=found_program(), help="cellplan (of the path, else of this clone)")
+    options = parser.parse_args()
+    if options.program is None:
+        parser.error("there is no command cellplan: put it on the path, or name it with --program")
+    return options
 
 
 def main():

@@ -16,7 +16,7 @@ each other on the cycle are exchanged too, but none of those that have been exch
 to exchange. The new plan is kept if it isn't worse, and at times if it is. `cellplan` judges each plan, so this search may be as
 careless as it likes: what it prints as accepted can be run.
 """
-import argparse, json, os, random, re, subprocess, sys, tempfile
+import argparse, json, os, random, re, shutil, subprocess, sys, tempfile
 
 HERE = os.path.dirname(os.path.abspath(__file__))
 WAITS = re.compile(r"machine (\d+) from job (\d+) to job (\d+)")
@@ -121,14 +121,22 @@ class Search:
         return best
 
 
+def found_program():
+    """The cellplan of the path, else the one that was built in the clone of this file, else none."""
+    return shutil.which("cellplan") or shutil.which(os.path.join(HERE, "../crates/cellplan/out/cellplan"))
+
+
 def words():
     parser = argparse.ArgumentParser(description="A local search over plan texts that asks `cellplan explain`.")
     parser.add_argument("instance")
     parser.add_argument("plan")
     parser.add_argument("--steps", type=int, default=2000, help="how many plans are tried (2000)")
     parser.add_argument("--seed", type=int, default=0, help="where the random choices begin (0)")
-    parser.add_argument("--program", default=os.path.join(HERE, "../crates/cellplan/out/cellplan"), help="the built cellplan")
-    return parser.parse_args()
+    parser.add_argument("--program", default=found_program(), help="cellplan (of the path, else of this clone)")
+    options = parser.parse_args()
+    if options.program is None:
+        parser.error("there is no command cellplan: put it on the path, or name it with --program")
+    return options
 
 
 def main():
