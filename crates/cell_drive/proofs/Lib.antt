@@ -10,7 +10,6 @@ pub mod DrivenAnswers
 pub mod PromisesKept
 pub mod DrivenEnds
 pub mod OneReport
-pub mod OneReason
 pub mod OneText
 pub mod WrittenNumbers
 pub mod WrittenWords

@@ -20,6 +20,7 @@ use Rattle.cell_control.specs.ReasonNames.{reason_name}
 use Rattle.cell_tables.specs.Reports.{said}
 use Rattle.cell_control.specs.Reports.{IsFirstReason}
 use Rattle.cell_control.proofs.Reasons.{reason-cannot}
+use Rattle.cell_control.proofs.OneReason.{only_reason}
 use Rattle.cell_drive.specs.Lines.{input_lines}
 use Rattle.cell_drive.specs.Answering.{AnswerAll}
 use Rattle.cell_drive.specs.AnswerLines.{refused_line}
@@ -28,7 +29,6 @@ use Rattle.cell_drive.specs.ManyCells.{CellsAnswer, CellsClose, accepted_lines, 
 use Rattle.cell_drive.specs.CellsTextLaw.{AreVerified, OneCellsTextForLines, OneCellsAnswerText}
 use Rattle.cell_drive.proofs.Numbering.{no_content}
 use Rattle.cell_drive.proofs.CellReports.{one_cell_report}
-use Rattle.cell_drive.proofs.OneReason.{one_name}
 use Rattle.cell_drive.proofs.OneText.{one_closing}
 
 -- a cell by a well-shaped plan, as it can be in a run, and at rest
@@ -124,7 +124,7 @@ module _ (cells : List Control) (number : ℕ) where
       → ComesTo o cell report text end → ComesTo o cell report other last → (other ≡ text) × (last ≡ end)
   one_outcome None cell report text other end last keep one also = (also.0 ∙ sym one.0, also.1 ∙ sym one.1)
   one_outcome (Some content) cell report text other end last keep (inl one) (inl also) =
-      let name = one_name content.plan.planned content.cell (said report) one.reason also.reason one.first also.first in
+      let name = ap reason_name (only_reason content.plan.planned content.cell (said report) also.reason also.first one.reason one.first) in
       (also.text_is ∙ ap (refused_line number) (sym name) ∙ sym one.text_is, also.end_is ∙ sym one.end_is)
   one_outcome (Some content) cell report text other end last keep (inl one) (inr also) =
       absurd (reason-cannot content.plan.planned content.cell (said report) one.reason (keep content refl).sound one.first also.answered.step.can)

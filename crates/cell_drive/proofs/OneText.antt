@@ -15,6 +15,7 @@ use Rattle.cell_control.specs.ReasonNames.{reason_name}
 use Rattle.cell_tables.specs.Reports.{said}
 use Rattle.cell_control.specs.Reports.{IsFirstReason}
 use Rattle.cell_control.proofs.Reasons.{reason-cannot}
+use Rattle.cell_control.proofs.OneReason.{only_reason}
 use Rattle.cell_tables.specs.declared.entry.Entry.{Entry}
 use Rattle.cell_tables.specs.declared.entry.Entry.TheVariants.{Report as ReportEntry, Order as OrderEntry}
 use Rattle.run_log.specs.EventLines.{report_line}
@@ -26,7 +27,6 @@ use Rattle.cell_drive.specs.DrivenLines.{LineAnswer, IsLateText, too_long, empty
 use Rattle.cell_drive.specs.AnswerText.{DrivenCell, undriven, CellAnswers, CellCloses}
 use Rattle.cell_drive.specs.OneTextLaw.{OneAnswerText, OneTextForLines}
 use Rattle.cell_drive.proofs.OneReport.{one_report, some_line}
-use Rattle.cell_drive.proofs.OneReason.{one_name}
 
 one_late : (p : PlannedShop) (c : Cell) (r : base.Report) (text other : List ℕ) → IsLateText p c r text → IsLateText p c r other → other ≡ text
 one_late p c r text other (inl on_time) (inl also) = also.1 ∙ sym on_time.1
@@ -77,7 +77,7 @@ module _ (p : PlannedShop) (c : Cell) (number : ℕ) (shaped : IsWellShaped p) (
   once_refused _ _ _ _ bytes told why is_told is_why is (refused line report reason is_line first) =
       let same : line ≡ bytes = cc in
       let one = one_report bytes told report is_told (subst (λ l. IsReportLine l report) same is_line) in
-      let name = one_name p c (said told) why reason is_why (subst (λ r. IsFirstReason p c (said r) reason) one first) in
+      let name = ap reason_name (only_reason p c (said told) reason (subst (λ r. IsFirstReason p c (said r) reason) one first) why is_why) in
       record { text_is = ap (refused_line number) (sym name); entries_are = refl; end_is = refl }
   once_refused _ _ _ _ bytes told why is_told is_why is (accepted line report movers late is_line step is_late) =
       let same : line ≡ bytes = cc in

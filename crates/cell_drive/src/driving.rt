@@ -61,7 +61,7 @@ pub fn end_driven(driven: Driven<TourneyDues>) -> DriveEnd
 }
 
 /// Drives the cell of an accepted plan: takes a report from each line of input, and answers it by the moves that it
-/// releases before the next line is read. The closing line says whether the run is done.
+/// releases before it waits for the next line. The closing line says whether the run is done.
 ///
 /// The lines are `arrive JOB MOMENT`, `finish JOB MACHINE MOMENT` and `clean MACHINE MOMENT`. What isn't possible is
 /// refused by a line of its own, and changes nothing. A run that is done goes on to the end of its input.

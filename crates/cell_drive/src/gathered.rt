@@ -7,7 +7,8 @@ use run_log::{Sink, WriteFault};
 use std::alloc::Global;
 use std::io::{self, BufWriter, ErrorKind, Write};
 
-/// Any of std's writers as an outlet of bytes, which are gathered until they are to be shown or don't fit.
+/// Any of std's writers as an outlet of bytes, which are gathered until they are to be shown or don't fit. Where it is
+/// dropped, also after a failed write, what is still gathered is written out once more, and no fault of that is told.
 #[derive(Drop)]
 pub struct Gathered<W: Write + Drop> {
     writer: BufWriter<W>,

@@ -131,17 +131,7 @@ fn check_way<P: Planned>(
 fn goes_as(order: MoveOrder, next: MoveOrder) -> bool
     ensures { IsTrue result ↔ ((order.source ≡ next.source) × (order.target ≡ next.target)) }
 {
-    is_spot(order.source, next.source) && is_spot(order.target, next.target)
-}
-
-fn is_spot(one: Spot, other: Spot) -> bool
-    ensures { IsTrue result ↔ (one ≡ other) }
-{
-    match (one, other) {
-        (Spot::Out, Spot::Out) => true,
-        (Spot::At(machine), Spot::At(actual)) => machine == actual,
-        _ => false,
-    }
+    order.source == next.source && order.target == next.target
 }
 
 /// Checks that the job of the order can go to its target, if that is a machine.
