@@ -1,5 +1,5 @@
 -- Where all nodes are ranked: greatest lengths, and no cycle.
-use Rattle.std.proofs.Common.{◌≡◌, ℕ, zero, suc, ◌<◌, ◌≤◌, ◌++◌, ◌∷◌, [], List, Option, None, Some, arith, refl, sym, subst}
+use Rattle.std.proofs.Common.{◌≡◌, ℕ, zero, suc, ◌<◌, ◌≤◌, ◌++◌, ◌∷◌, [], List, Option, None, Some, arith, refl, sym, ap, ◌∙◌, subst}
 use Rattle.shop_base.specs.declared.node.Node.{Node}
 use Rattle.shop_base.specs.Plan.{PlannedShop, release}
 use Rattle.shop_base.specs.Graph.{node, IsNode, Path, begins, follows}
@@ -10,6 +10,7 @@ use Rattle.alt_graph.specs.Times.{NodeTimes, rank_of, earliest_of, before_of, Is
 use Rattle.alt_graph.specs.Layout.{by_job, LeadsBack, AreLinked}
 use Rattle.alt_graph.specs.PlanGraph.{PlanGraph}
 use Rattle.alt_graph.specs.Ranking.{AreRanked, AreAllRanked, ranking_of, IsRanking}
+use Rattle.alt_graph.specs.Places.{node_at}
 use Rattle.alt_graph.proofs.NodeNumbers.{numbers_count, next_first, timed_node, node_timed}
 use Rattle.alt_graph.proofs.ArcKinds.{target_node}
 use Rattle.alt_graph.proofs.Paths.{first_path}
@@ -75,6 +76,7 @@ module _ (graph : PlanGraph) (done : List Node) (rows : List NodeTime) (room : �
       };
     };
     few = λ v is. omega (arith, sound.within v is (all v is), is_ranking.count, is_ranking.size, numbers_count p firsts are);
+    apart = λ u v one other same. sym (sound.places u one (all u one)) ∙ ap (node_at done) same ∙ sound.places v other (all v other);
     attained = λ v is. (sound.placed v is (all v is)).attained;
   }
 

@@ -13,3 +13,4 @@ pub mod Walks
 pub mod Rings
 pub mod Graphs
 pub mod Chains
+pub mod Latests

@@ -3,10 +3,12 @@ pub mod Evidence
 pub mod Times
 pub mod Layout
 pub mod Solved
--- Of proofs and private contracts alone.
-pub mod Places
 pub mod Lookups
 pub mod PlanGraph
 pub mod Sources
+pub mod Latest
+-- Of proofs and private contracts alone.
+pub mod Places
 pub mod Ranking
 pub mod Trails
+pub mod LatestRows

@@ -45,11 +45,12 @@ abbrev pub IsAttained : PlannedShop → NodeTimes → Node → ℕ → Option No
 IsAttained p t v n None = (v.place ≡ 0) × (n ≡ release p v.job)
 IsAttained p t v n (Some u) = (d : ℕ) × Arc p u v d × (earliest_of t u + d ≡ n)
 
--- the nodes of the shop are known: their ranks, which are below the number of nodes, and their moments are a schedule, and each moment is attained
+-- the nodes of the shop are known: their ranks, each its own and below the number of nodes, and their moments are a schedule, and each moment is attained
 pub record AreTimes (p : PlannedShop) (t : NodeTimes) : Type 0 where
   pub nodes : (v : Node) → IsNode p v ↔ IsTimed t v
   pub schedule : IsSchedule p (rank_of t) (earliest_of t)
   pub few : (v : Node) → IsNode p v → rank_of t v < node_count p
+  pub apart : (u v : Node) → IsNode p u → IsNode p v → rank_of t u ≡ rank_of t v → u ≡ v
   pub attained : (v : Node) → IsNode p v → IsAttained p t v (earliest_of t v) (before_of t v)
 
 -- the nodes are a path to v, as long as the moment of v

@@ -15,7 +15,7 @@ use std::marker::Model;
 /// The graph of a planned shop, with what is looked up in it: seen as the plan and the numbers of the jobs'
 /// first nodes.
 #[derive(Drop)]
-pub(crate) struct Graph<'a> {
+pub struct Graph<'a> {
     shaped: &'a Shaped,
     pub(crate) lookups: Lookups,
 }
@@ -33,8 +33,8 @@ impl<'a> Model for Graph<'a> {
 }
 
 impl<'a> Graph<'a> {
-    /// The graph of a planned shop.
-    pub(crate) fn new(alloc: Global, shaped: &'a Shaped) -> Result<Graph<'a>, AllocError>
+    /// The graph of a planned shop, in time and memory linear in its nodes and machines. It fails only where it is out of memory.
+    pub fn new(alloc: Global, shaped: &'a Shaped) -> Result<Graph<'a>, AllocError>
         ensures graph { IfOk result (IsGraphOf shaped.now) }
         ensures well_shaped { IsWellShaped shaped.now }
     {
@@ -43,7 +43,7 @@ impl<'a> Graph<'a> {
     }
 
     /// The planned shop.
-    pub(crate) fn shaped(&self) -> &'a Shaped
+    pub fn shaped(&self) -> &'a Shaped
         ensures plan { result.now ≡ self.now.plan }
         ensures sound { IsSoundGraph self.now }
     {

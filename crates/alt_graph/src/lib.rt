@@ -1,6 +1,6 @@
 //! The alternative graph of a planned shop (Mascis and Pacciarelli, EJOR 143, 2002): ranks and greatest
-//! lengths of its nodes where it has no cycle, else a cycle; and checks of the evidence for a refusal, which
-//! look at the plan and the evidence alone.
+//! lengths of its nodes where it has no cycle, else a cycle; checks of the evidence for a refusal, which
+//! look at the plan and the evidence alone; and the latest moments of its nodes, backwards from the budgets.
 //!
 //! A node is a job's entry of a step, or its leaving. Job arcs go from each place of a job to the next, with
 //! the nominal time of the step; a blocking arc goes from the entry that follows a job's step on a machine
@@ -12,6 +12,7 @@ mod chain_check;
 mod cycle_check;
 mod cycles;
 mod graph;
+mod latest;
 mod lookups;
 mod node_order;
 mod numbers;
@@ -22,5 +23,7 @@ mod times;
 
 pub use chain_check::check_chain;
 pub use cycle_check::check_cycle;
+pub use graph::Graph;
+pub use latest::{Deadlines, latest_moments};
 pub use solving::{Solved, solve};
 pub use times::Times;
