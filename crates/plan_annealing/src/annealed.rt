@@ -13,7 +13,8 @@ use std::alloc::{AllocError, Global};
 
 /// An order for each machine, as they are in the best plan that an annealing from this one meets, none where that one is
 /// the best. In a neighbour of a plan two jobs that meet on a critical path have changed places, and one of the two has
-/// moved on other machines where it had to. It looks at some 20 million nodes at most, and tries no more neighbours than
+/// moved on other machines where it had to. Better is a lesser total lateness or, with the same, a lesser makespan. Every
+/// other round (1, 3, ..) is hotter, and all late jobs count in it. It looks at some 20 million nodes at most, and tries no more neighbours than
 /// 50 times the square of the number of operations. Another seed or round searches elsewhere, and the same ones do the
 /// same again. It is proved only that there are as many orders as machines, or none.
 pub fn annealed_orders(
@@ -28,9 +29,15 @@ pub fn annealed_orders(
     let nodes = net.spots.len();
     let mut pass = Pass::new(alloc, nodes)?;
     let mut moves = Moves::new(alloc, nodes)?;
-    if !anneal(&mut net, &mut pass, &mut moves, Draws::new(seed, round)) {
+    let draws = Draws::new(seed, round);
+    if !anneal(&mut net, &mut pass, &mut moves, draws, is_hot(round)) {
         return Ok(None);
     }
     let orders = orders_of(alloc, &mut net, shaped.machine_count())?;
     Ok(Some(orders))
+}
+
+/// Whether a round is a hot one.
+fn is_hot(round: u32) -> bool {
+    round & 1 == 1
 }

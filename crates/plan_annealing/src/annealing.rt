@@ -21,11 +21,15 @@ const NEIGHBOURS: u64 = 50;
 /// How many are drawn at most for each that may be tried.
 const DRAWS: u64 = 4;
 
-/// The temperature at the begin, in hundredths of the mean time of a step.
-const HOT: u64 = 80;
+/// The temperature at the begin, in hundredths of the mean time of a step, and that of a hot round.
+const WARM: u64 = 80;
 
-/// By what the temperature is multiplied in each phase, in 1/65536: after all of them it is at 15 hundredths.
-const FALL: u64 = 65108;
+const HOT: u64 = 240;
+
+/// By what these are multiplied in each phase, in 1/65536: after all of them they are at 15 hundredths.
+const WARM_FALL: u64 = 65108;
+
+const HOT_FALL: u64 = 64830;
 
 /// The logarithm of 2, in 1/65536.
 const LOGARITHM: u64 = 45426;
@@ -34,6 +38,8 @@ const LOGARITHM: u64 = 45426;
 #[derive(Drop)]
 struct Walk {
     draws: Draws,
+    /// Whether the round is a hot one.
+    is_hot: bool,
     aim: Aim,
     /// The plan from which it goes on, and the best one that it has met.
     now: Price,
@@ -48,7 +54,13 @@ struct Walk {
 
 /// Searches from the plan of the net, and leaves the best plan that it meets in the net's kept sources. Whether that is
 /// better than the one that came in.
-pub(crate) fn anneal(net: &mut Net, pass: &mut Pass, moves: &mut Moves, draws: Draws) -> bool {
+pub(crate) fn anneal(
+    net: &mut Net,
+    pass: &mut Pass,
+    moves: &mut Moves,
+    draws: Draws,
+    is_hot: bool,
+) -> bool {
     let all = Part {
         first: 0,
         last: last_place(net),
@@ -61,30 +73,43 @@ pub(crate) fn anneal(net: &mut Net, pass: &mut Pass, moves: &mut Moves, draws: D
     let price = Price::of(&net.spans, &pass.rows);
     let mut walk = Walk {
         draws,
-        aim: Aim::Budgets,
+        is_hot,
+        aim: if is_hot { Aim::Makespan } else { Aim::Budgets },
         now: price,
         least: price,
         found: false,
-        heat: (mean_time(net) / 100).wrapping_mul(HOT),
+        heat: first_heat(net, is_hot),
         tried: 0,
     };
-    net.set_rests(true);
+    net.set_rests(!is_hot);
     pass.find_tails(&net.spots, last_place(net));
     aim_anew(net, pass, &mut walk);
+    run_phases(net, pass, moves, &mut walk);
+    walk.found
+}
+
+/// Draws neighbours while the temperature falls.
+fn run_phases(net: &mut Net, pass: &mut Pass, moves: &mut Moves, walk: &mut Walk) {
     let most = most_neighbours(net);
+    let fall = if walk.is_hot { HOT_FALL } else { WARM_FALL };
     for phase in 1..PHASES + 1 {
         let looks = (LOOKS / PHASES).wrapping_mul(phase);
         run_phase(
             net,
             pass,
             moves,
-            &mut walk,
+            walk,
             looks,
             most.wrapping_mul(phase) / PHASES,
         );
-        walk.heat = (walk.heat >> 8).wrapping_mul(FALL) >> 8;
+        walk.heat = walk.heat.wrapping_mul(fall) >> 16;
     }
-    walk.found
+}
+
+/// The temperature at the begin, in 1/65536.
+fn first_heat(net: &Net, is_hot: bool) -> u64 {
+    let hundredths = if is_hot { HOT } else { WARM };
+    mean_time(net).wrapping_mul(hundredths) / 100
 }
 
 /// The last place in the order of the nodes.
@@ -180,7 +205,7 @@ fn try_neighbour(
 /// What the next plan may weigh: as much as this one, and more the less likely the more it is.
 fn drawn_limit(walk: &mut Walk) -> u64 {
     let drawn = walk.draws.halvings().wrapping_mul(LOGARITHM) >> 16;
-    let more = (walk.heat >> 8).wrapping_mul(drawn) >> 24;
+    let more = walk.heat.wrapping_mul(drawn) >> 32;
     walk.now.weight(walk.aim).wrapping_add(more)
 }
 
@@ -205,13 +230,17 @@ fn take(net: &mut Net, pass: &mut Pass, walk: &mut Walk, price: Price) {
     }
 }
 
-/// Finds the arcs that may be turned round. Once the best plan is in time, or the latest job of a late one can't be
+/// Finds the arcs that may be turned round. Once the best plan is in time, or the most urgent job of a late one can't be
 /// sooner, the makespan counts too.
 fn aim_anew(net: &mut Net, pass: &mut Pass, walk: &mut Walk) {
-    if walk.least.late() == 0 {
+    if walk.least.total == 0 {
         aim_at_makespan(net, pass, walk);
     }
-    pass.find_neighbours(&net.spots, walk.now.leaving(walk.aim));
+    if walk.is_hot {
+        pass.find_all_neighbours(net, walk.now.longest);
+    } else {
+        pass.find_neighbours(&net.spots, walk.now.leaving(walk.aim));
+    }
     if pass.neighbours.count() == 0 {
         aim_at_makespan(net, pass, walk);
         pass.find_neighbours(&net.spots, walk.now.longest);

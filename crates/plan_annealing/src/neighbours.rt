@@ -5,7 +5,7 @@ use crate::timing::Row;
 use shop_base::Moment;
 use std::alloc::{AllocError, Global};
 
-/// The machine arcs on the path that is to be shortened. Each can be turned round in two ways: neighbour 2 `i` moves a
+/// The machine arcs on the paths that are to be shortened. Each can be turned round in two ways: neighbour 2 `i` moves a
 /// job at arc `i` to the left, and neighbour 2 `i` + 1 one to the right.
 #[derive(Drop)]
 pub(crate) struct Neighbours {
@@ -14,6 +14,9 @@ pub(crate) struct Neighbours {
     arc_count: u32,
     /// What each neighbour weighs at least, as far as that is known.
     leasts: Vec<Moment>,
+    /// In which search each node was met last, and the number of this one.
+    met: Vec<u32>,
+    search: u32,
 }
 
 impl Neighbours {
@@ -22,6 +25,8 @@ impl Neighbours {
             arcs: vec![in alloc; NONE; nodes]?,
             arc_count: 0,
             leasts: vec![in alloc; 0; nodes.wrapping_mul(2)]?,
+            met: vec![in alloc; 0; nodes]?,
+            search: 0,
         })
     }
 
@@ -53,12 +58,20 @@ impl Neighbours {
         }
     }
 
-    /// Finds the machine arcs on a longest path to the node. Nothing is known of these neighbours. Gives how many nodes
-    /// were looked at.
-    pub fn find(&mut self, spots: &[Spot], rows: &[Row], node: u32) -> u32 {
+    /// Begins a search for neighbours: there are none yet.
+    pub fn clear(&mut self) {
         self.arc_count = 0;
+        self.search = self.search.wrapping_add(1);
+    }
+
+    /// Adds the machine arcs on a longest path to the node, up to where this search has been. Nothing is known of these
+    /// neighbours. Gives how many nodes were looked at.
+    pub fn join(&mut self, spots: &[Spot], rows: &[Row], node: u32) -> u32 {
         let mut to = node;
         for looks in 0..rows.len() {
+            if !self.is_new(to) {
+                return count(looks);
+            }
             let from = match rows.get(to as usize) {
                 Some(row) => row.before,
                 None => NONE,
@@ -72,6 +85,18 @@ impl Neighbours {
             to = from;
         }
         count(rows.len())
+    }
+
+    /// Whether this search meets a node for the first time, which is noted.
+    fn is_new(&mut self, at: u32) -> bool {
+        let search = self.search;
+        match self.met.get_mut(at as usize) {
+            Some(last) if *last != search => {
+                *last = search;
+                true
+            }
+            _ => false,
+        }
     }
 
     fn add(&mut self, entry: u32) {

@@ -6,8 +6,8 @@
 //! moments behind are found only where none is.
 
 use crate::neighbours::Neighbours;
-use crate::net::{NONE, Spot, count, spot_at};
-use crate::timing::{Look, OFF, Old, Part, Row, tail_of, time};
+use crate::net::{NONE, Net, Spot, count, spot_at};
+use crate::timing::{Look, OFF, Old, Part, Row, head_in, tail_of, time};
 use shop_base::Moment;
 use std::alloc::{AllocError, Global};
 
@@ -261,7 +261,22 @@ impl Pass {
 
     /// Finds the machine arcs on a longest path to the node.
     pub fn find_neighbours(&mut self, spots: &[Spot], node: u32) {
-        let looks = self.neighbours.find(spots, &self.rows, node);
+        self.neighbours.clear();
+        let looks = self.neighbours.join(spots, &self.rows, node);
         self.looks = self.looks.wrapping_add(u64::from(looks));
+    }
+
+    /// Finds the machine arcs on a longest path to the leaving of each late job, and to this node.
+    pub fn find_all_neighbours(&mut self, net: &Net, node: u32) {
+        self.neighbours.clear();
+        let mut looks = count(net.spans.len()) / 4;
+        for span in &net.spans {
+            if head_in(&self.rows, span.last) > span.budget {
+                let more = self.neighbours.join(&net.spots, &self.rows, span.last);
+                looks = looks.wrapping_add(more);
+            }
+        }
+        let more = self.neighbours.join(&net.spots, &self.rows, node);
+        self.looks = self.looks.wrapping_add(u64::from(looks.wrapping_add(more)));
     }
 }

@@ -8,7 +8,7 @@ use shop_base::limits::MAX_MOMENT;
 pub(crate) enum Aim {
     /// The most by which a job leaves past its budget or, where none does, the least by which it leaves before it.
     Budgets,
-    /// The makespan and the greatest lateness together.
+    /// The makespan and the total lateness together.
     Makespan,
 }
 
@@ -20,6 +20,8 @@ pub(crate) struct Price {
     pub urgent: u32,
     pub makespan: Moment,
     pub longest: u32,
+    /// What all jobs together leave past their budgets.
+    pub total: Moment,
 }
 
 impl Price {
@@ -30,6 +32,7 @@ impl Price {
             urgent: NONE,
             makespan: 0,
             longest: NONE,
+            total: 0,
         }
     }
 
@@ -38,6 +41,7 @@ impl Price {
         let mut price = Price::none();
         for span in spans {
             let leaves = head_in(rows, span.last);
+            price.total = price.total.wrapping_add(leaves.saturating_sub(span.budget));
             let urgency = leaves.wrapping_add(MAX_MOMENT).wrapping_sub(span.budget);
             if urgency > price.urgency {
                 price.urgency = urgency;
@@ -51,30 +55,23 @@ impl Price {
         price
     }
 
-    /// The most by which a job leaves past its budget.
-    pub fn late(&self) -> Moment {
-        self.urgency.saturating_sub(MAX_MOMENT)
-    }
-
-    /// Whether it is less.
+    /// Whether it is less: the total lateness decides, and where that is the same, the makespan.
     pub fn is_less(&self, other: &Price) -> bool {
-        let late = self.late();
-        let other_late = other.late();
-        late < other_late || late == other_late && self.makespan < other.makespan
+        self.total < other.total || self.total == other.total && self.makespan < other.makespan
     }
 
     /// What is to be lessened.
     pub fn weight(&self, aim: Aim) -> u64 {
         match aim {
             Aim::Budgets => self.urgency,
-            Aim::Makespan => self.makespan.wrapping_add(self.late()),
+            Aim::Makespan => self.makespan.wrapping_add(self.total),
         }
     }
 
     /// The leaving that has to come sooner.
     pub fn leaving(&self, aim: Aim) -> u32 {
         match aim {
-            Aim::Makespan if self.late() == 0 => self.longest,
+            Aim::Makespan if self.total == 0 => self.longest,
             _ => self.urgent,
         }
     }
