@@ -10,7 +10,7 @@ use Rattle.plan_seek.specs.declared.search.TheConstants.{MAX_ROUNDS}
 use Rattle.plan_improve.specs.declared.improve_fault.ImproveFault.{ImproveFault}
 use Rattle.plan_improve.specs.declared.improve_fault.ImproveFault.TheVariants.{TooManyRounds, Memory as WantOfMemory}
 use Rattle.plan_improve.specs.Reordered.{IsReordered}
-use Rattle.plan_improve.specs.Runs.{Asked, AfterRounds}
+use Rattle.plan_improve.specs.Runs.{Asked, Rounds}
 use Rattle.plan_improve.specs.Improved.{IsFound, IsNeverWorse}
 use Rattle.command_answers.specs.declared.answer.Answer.{Answer}
 use Rattle.command_answers.specs.declared.command_fault.CommandFault.{CommandFault}
@@ -21,7 +21,7 @@ use Rattle.command_answers.specs.Steps.{IsOrMemory}
 
 -- what so many rounds of questions to these improvers make of a plan
 abbrev pub RoundsOf : {B : Type 0} → ℕ → (B → PlannedShop → ℕ → Proposal → Type 0) → List B → Asked
-RoundsOf rounds may improvers = λ p. AfterRounds may improvers p rounds
+RoundsOf rounds may improvers = Rounds may improvers rounds
 
 -- the best plan that is met: only the orders may differ, no cycle, never worse, exactly what the questions make of the start, and accepted if the start is
 pub record IsBest (made : Asked) (start best : PlannedShop) : Type 0 where

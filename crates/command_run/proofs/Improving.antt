@@ -2,7 +2,8 @@
 use Rattle.std.proofs.Common.{◌≡◌, ℕ, zero, suc, List, [], ◌∷◌, Result, Ok, Err, inl, inr, length, slice_index_or, subst, refl, arith}
 use Rattle.shop_base.specs.Plan.{PlannedShop}
 use Rattle.plan_seek.specs.Orders.{Proposal}
-use Rattle.plan_improve.specs.Runs.{Asked, AfterSome, nobody, one_more, AfterRounds, no_round, round_more}
+use Rattle.plan_improve.specs.Runs.{Asked, AfterSome, nobody, one_more, AfterRounds, no_round, round_more, Rounds}
+use Rattle.plan_improve.specs.Watching.{Told as Telling}
 use Rattle.command_answers.specs.declared.answer.Answer.{Answer}
 use Rattle.command_answers.specs.declared.command_fault.CommandFault.{CommandFault}
 use Rattle.command_answers.specs.declared.command_fault.CommandFault.TheVariants.{Instance, Plan, Read, Write, InputTooLong, Memory}
@@ -55,15 +56,15 @@ module _ {B : Type 0} (may : B → PlannedShop → ℕ → Proposal → Type 0) 
   some_more round p n r (one_more m who q s answer run inside stands given becomes) =
       one_more m tt q s answer (some_more round p m q run) (omega (arith, alone, inside)) (stands_alone tt m) tt becomes
 
-  rounds_more : (p : PlannedShop) (n : ℕ) (r : PlannedShop) → AfterRounds may improvers p n r → AfterRounds MayImprove (tt ∷ []) p n r
-  rounds_more p n r no_round = no_round
-  rounds_more p n r (round_more m q s run last) =
-      round_more m q s (rounds_more p m q run) (subst (λ k. AfterSome MayImprove (tt ∷ []) m q k s) alone (some_more m q (length improvers) s last))
+  rounds_more : (p : PlannedShop) (n : ℕ) (told : List Telling) (r : PlannedShop) → AfterRounds may improvers p n told r → AfterRounds MayImprove (tt ∷ []) p n told r
+  rounds_more p n told r no_round = no_round
+  rounds_more p n told r (round_more m before q s cost run is last) =
+      round_more m before q s cost (rounds_more p m before q run) is (subst (λ k. AfterSome MayImprove (tt ∷ []) m q k s) alone (some_more m q (length improvers) s last))
 
   -- a search by one improver
   pub improves : {W : Type 0} (gives : W → List ℕ → Result (List ℕ) CommandFault → W → Type 0)
       (rounds : ℕ) (pair : PairOfFiles) (before : W) (outcome : Result Answer CommandFault) (after : W)
-      → RunsImprove gives (λ p. AfterRounds may improvers p rounds) rounds pair before outcome after
+      → RunsImprove gives (Rounds may improvers rounds) rounds pair before outcome after
       → RunsImprove gives (AsksOne rounds) rounds pair before outcome after
   improves gives rounds pair before outcome after =
-      runs_more gives (λ p. AfterRounds may improvers p rounds) (AsksOne rounds) (λ p q. rounds_more p rounds q) rounds pair before outcome after
+      runs_more gives (Rounds may improvers rounds) (AsksOne rounds) (λ p q found. (found.0, rounds_more p rounds found.0 q found.1)) rounds pair before outcome after

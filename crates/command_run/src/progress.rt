@@ -1,5 +1,7 @@
 //! How far a search is, told on a screen.
 
+ghost use Rattle.std.specs.Prelude.{None};
+
 use crate::devices::Screen;
 use plan_improve::Watch;
 use shop_base::Moment;
@@ -17,6 +19,8 @@ pub(crate) struct Progress<'a, S> {
 }
 
 impl<S: Screen> Watch for Progress<'_, S> {
+    ghost told = { λ _. None };
+
     fn round(&mut self, round: u32, late: Moment, makespan: Moment) {
         let mut line: LineText<ROOM> = LineText::empty();
         line.put_number(makespan);

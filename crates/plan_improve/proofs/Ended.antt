@@ -1,5 +1,5 @@
 -- What is said of a search, from where it begins, what was kept and what the verifier says of it.
-use Rattle.std.proofs.Common.{◌≡◌, ℕ, Result, Ok, Err, IfOk, IfErr, ◌↔◌, ◌⊎◌, inl, inr, refl, sym, ap, ◌∙◌, subst}
+use Rattle.std.proofs.Common.{◌≡◌, List, Option, Result, Ok, Err, IfOk, IfErr, ◌↔◌, inl, inr, refl, sym, ◌∙◌, subst}
 use Rattle.shop_base.specs.Plan.{PlannedShop}
 use Rattle.plan_verifier.specs.Accepted.{IsAcceptable}
 use Rattle.plan_verifier.specs.declared.verdict.Verdict.{Verdict}
@@ -10,8 +10,9 @@ use Rattle.plan_improve.specs.declared.best.Best.{Best}
 use Rattle.plan_improve.specs.Costs.{IsCost, IsNoWorse}
 use Rattle.plan_improve.specs.Reordered.{IsReordered}
 use Rattle.plan_improve.specs.Runs.{Asked}
-use Rattle.plan_improve.specs.Improved.{IsBegin, judged}
-use Rattle.plan_improve.specs.Keeping.{IsLast, IsImproved}
+use Rattle.plan_improve.specs.Watching.{Told, IsToldMore}
+use Rattle.plan_improve.specs.Improved.{IsBegin, IsFound, IsFoundTold, judged}
+use Rattle.plan_improve.specs.Keeping.{IsLast, IsImproved, IsImprovedTold}
 use Rattle.plan_improve.proofs.Keeping.{reordered_on}
 use Rattle.plan_improve.proofs.Lawful.{accepted}
 
@@ -56,3 +57,22 @@ module _ (made : Asked) (start p : PlannedShop) (first : Cost) (last : Best) (be
 
 pub stays_accepted : (made : Asked) (start : PlannedShop) (verdict : Verdict) → IsImproved made start verdict → IsAcceptable start → SaysAccepted verdict
 stays_accepted made start verdict is acceptable = is.exact.1 (accepted start (judged verdict) (never_worse made start verdict is start (inl (acceptable.acyclic, refl))) acceptable)
+
+-- what is told beside it
+pub told_answer : {E : Type 0} (before after : Option (List Told)) (made : List Told → Asked) (start : PlannedShop) (r : Result Verdict E) (told : List Told)
+    → IsToldMore before told after → IfOk r (IsImproved (made told) start) → IfOk r (IsImprovedTold before after made start)
+told_answer before after made start (Ok verdict) told more is = record { told = told; more = more; improved = is }
+told_answer before after made start (Err e) told more is = tt
+
+module _ (before after : Option (List Told)) (made : List Told → Asked) (start : PlannedShop) (verdict : Verdict) (is : IsImprovedTold before after made start verdict) where
+  -- what is found, whatever is told
+  pub found_by : IsFound (λ p q. (told : List Told) × made told p q) start (judged verdict)
+  found_by = record { begin = is.improved.begin; begins_at = is.improved.begins_at; run = (is.told, is.improved.run) }
+
+  -- and with what is told
+  pub found_told : IsFoundTold before after made start (judged verdict)
+  found_told = record {
+    told = is.told;
+    more = is.more;
+    found = record { begin = is.improved.begin; begins_at = is.improved.begins_at; run = is.improved.run };
+  }

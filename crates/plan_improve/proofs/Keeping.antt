@@ -1,13 +1,20 @@
 -- What is known of the best plan so far, and how an answer keeps it.
-use Rattle.std.proofs.Common.{◌≡◌, ℕ, ◌+◌, ◌<◌, ◌≤◌, List, length, get_or, None, Some, Result, Ok, Err, IfOk, IfErr, ◌↔◌, ◌⊎◌, inl, inr, arith, refl, sym, ap, ◌∙◌, subst}
+use Rattle.std.proofs.Common.{◌≡◌, ℕ, ◌+◌, ◌-◌, ◌<◌, ◌≤◌, List, [], ◌∷◌, ◌++◌, append_assoc, Option, length, get_or, None, Some, inl, inr, arith, refl, sym, ap, ◌∙◌, subst}
+use Rattle.std.proofs.lemmas.List.{append-nil}
 use Rattle.shop_base.specs.Plan.{PlannedShop, jobs, budget, IsWellShaped}
+use Rattle.shop_base.specs.declared.node.Node.{Node}
+use Rattle.shop_base.specs.Ends.{sum_below}
+use Rattle.shop_base.specs.Graph.{leaving}
+use Rattle.shop_base.proofs.Sums.{sum_below_same}
+use Rattle.plan_verifier.specs.Accepted.{IsGreatest}
 use Rattle.plan_seek.specs.Orders.{Proposal}
 use Rattle.plan_improve.specs.declared.cost.Cost.{Cost}
 use Rattle.plan_improve.specs.declared.best.Best.{Best}
 use Rattle.plan_improve.specs.Costs.{IsLateness, IsMakespanOf, IsCost, IsLess, IsAtMost, IsBetter}
 use Rattle.plan_improve.specs.Reordered.{reordered, IsReordered}
-use Rattle.plan_improve.specs.Runs.{Asked, Becomes, no_answer, no_better, better, AfterSome, nobody, one_more, AfterRounds, no_round, round_more}
-use Rattle.plan_improve.specs.Keeping.{IsNext, IsLast}
+use Rattle.plan_improve.specs.Watching.{Told, IsToldMore}
+use Rattle.plan_improve.specs.Runs.{Becomes, no_answer, no_better, better, AfterSome, nobody, one_more, AfterRounds, no_round, round_more}
+use Rattle.plan_improve.specs.Keeping.{IsNext, IsLast, IsLastTold}
 
 -- the numbers stay the same from one plan to the next
 pub reordered_on : (p q r : PlannedShop) → IsReordered p q → IsReordered q r → IsReordered p r
@@ -27,11 +34,15 @@ most_of_most c d e (inr (same, less)) (inl most) = inl (omega arith)
 most_of_most c d e (inr (same, less)) (inr (equal, most)) = inr (omega arith, omega arith)
 
 -- a cost is the only one
-pub lateness_le : (p : PlannedShop) (m n : ℕ) → IsLateness p m → IsLateness p n → m ≤ n
-lateness_le p m n one other = elim one.reached [
-  | inl zero ↦ omega arith
-  | inr found ↦ (let le : budget p found.0 + m ≤ budget p found.0 + n = other.bound found.0 found.2 (budget p found.0 + m) found.1 found.3 in omega arith)
-]
+greatest_once : (p : PlannedShop) (v : Node) (m n : ℕ) → IsGreatest p v m → IsGreatest p v n → m ≡ n
+greatest_once p v m n one other = omega (arith, other.longest one.reached.0 m one.reached.1, one.longest other.reached.0 n other.reached.1)
+
+pub lateness_once : (p : PlannedShop) (m n : ℕ) → IsLateness p m → IsLateness p n → m ≡ n
+lateness_once p m n one other = one.sum ∙ same ∙ sym other.sum
+  where
+    same : sum_below (λ j. one.leaves j - budget p j) (jobs p) ≡ sum_below (λ j. other.leaves j - budget p j) (jobs p)
+    same = sum_below_same _ _ (jobs p)
+        (λ j inside. ap (λ leaves. leaves - budget p j) (greatest_once p (leaving p j) (one.leaves j) (other.leaves j) (one.are j inside) (other.are j inside)))
 
 pub makespan_le : (p : PlannedShop) (m n : ℕ) → IsMakespanOf p m → IsMakespanOf p n → m ≤ n
 makespan_le p m n one other = other.bound one.reached.0 one.reached.2 m one.reached.1 one.reached.3
@@ -51,7 +62,7 @@ not_both c d (inr (same, less)) (inl most) = omega arith
 not_both c d (inr (same, less)) (inr (equal, most)) = omega arith
 
 pub same_late : (p : PlannedShop) (c d : Cost) → IsCost p c → IsCost p d → c.late ≡ d.late
-same_late p c d one other = omega (arith, lateness_le p c.late d.late one.late other.late, lateness_le p d.late c.late other.late one.late)
+same_late p c d one other = lateness_once p c.late d.late one.late other.late
 
 pub same_makespan : (p : PlannedShop) (c d : Cost) → IsCost p c → IsCost p d → c.makespan ≡ d.makespan
 same_makespan p c d one other = omega (arith, makespan_le p c.makespan d.makespan one.makespan other.makespan, makespan_le p d.makespan c.makespan other.makespan one.makespan)
@@ -102,6 +113,16 @@ next_better p x c d order is new shaped cost less = record {
   most = most_less d c less;
 }
 
+-- nothing was told, and then more
+told_nothing : (before : Option (List Told)) → IsToldMore before [] before
+told_nothing None = tt
+told_nothing (Some before) = ap (λ told. Some told) (sym (append-nil before))
+
+told_on : (before between after : Option (List Told)) (one more : List Told) → IsToldMore before one between → IsToldMore between more after → IsToldMore before (one ++ more) after
+told_on None between after one more first next = tt
+told_on (Some before) between after one more first next =
+    (rw first at next) ∙ ap (λ told. Some told) (append_assoc before one more)
+
 module _ {B : Type 0} (may : B → PlannedShop → ℕ → Proposal → Type 0) (improvers : List B) where
   -- one more improver was asked
   pub one_more_asked : (round n : ℕ) (p : PlannedShop) (first : Cost) (best kept : Best) (who : B) → n < length improvers → who ≡ get_or improvers n who
@@ -114,18 +135,28 @@ module _ {B : Type 0} (may : B → PlannedShop → ℕ → Proposal → Type 0) 
     most = most_of_most kept.cost best.cost first next.most known.most;
   }
 
-  pub one_more_round : (n : ℕ) (p : PlannedShop) (first : Cost) (best kept : Best)
-      → IsLast (λ x. AfterRounds may improvers x n) p first best → IsLast (λ x. AfterSome may improvers n x (length improvers)) best.shaped best.cost kept
-      → IsLast (λ x. AfterRounds may improvers x (n + 1)) p first kept
-  one_more_round n p first best kept known next = record {
-    run = round_more n best.shaped kept.shaped known.run next.run;
-    same = reordered_on p best.shaped kept.shaped known.same next.same;
-    is = next.is;
-    most = most_of_most kept.cost best.cost first next.most known.most;
+  pub one_more_round : (before between after : Option (List Told)) (n : ℕ) (p : PlannedShop) (first : Cost) (best kept : Best)
+      → IsLastTold before between (λ told x. AfterRounds may improvers x n told) p first best → IsToldMore between (record { round = n; cost = best.cost } ∷ []) after
+      → IsLast (λ x. AfterSome may improvers n x (length improvers)) best.shaped best.cost kept
+      → IsLastTold before after (λ told x. AfterRounds may improvers x (n + 1) told) p first kept
+  one_more_round before between after n p first best kept known more next = record {
+    told = known.told ++ record { round = n; cost = best.cost } ∷ [];
+    more = told_on before between after known.told (record { round = n; cost = best.cost } ∷ []) known.more more;
+    last = record {
+      run = round_more n known.told best.shaped kept.shaped best.cost known.last.run known.last.is next.run;
+      same = reordered_on p best.shaped kept.shaped known.last.same next.same;
+      is = next.is;
+      most = most_of_most kept.cost best.cost first next.most known.last.most;
+    };
   }
 
   pub nobody_asked : (round : ℕ) (best : Best) → IsCost best.shaped best.cost → IsLast (λ x. AfterSome may improvers round x 0) best.shaped best.cost best
   nobody_asked round best is = record { run = nobody; same = refl; is = is; most = most_same best.cost }
 
-  pub no_rounds : (best : Best) → IsCost best.shaped best.cost → IsLast (λ x. AfterRounds may improvers x 0) best.shaped best.cost best
-  no_rounds best is = record { run = no_round; same = refl; is = is; most = most_same best.cost }
+  pub no_rounds : (before : Option (List Told)) (best : Best) → IsCost best.shaped best.cost
+      → IsLastTold before before (λ told x. AfterRounds may improvers x 0 told) best.shaped best.cost best
+  no_rounds before best is = record {
+    told = [];
+    more = told_nothing before;
+    last = record { run = no_round; same = refl; is = is; most = most_same best.cost };
+  }

@@ -1,21 +1,32 @@
 -- The laws of plans that are no worse than others.
-use Rattle.std.proofs.Common.{◌≡◌, ℕ, ◌+◌, ◌<◌, ◌≤◌, ◌⊎◌, inl, inr, arith, refl}
-use Rattle.shop_base.specs.Plan.{PlannedShop, budget}
+use Rattle.std.proofs.Common.{◌≡◌, ℕ, ◌-◌, ◌<◌, ◌≤◌, inl, inr, arith, refl, ◌∙◌}
+use Rattle.shop_base.specs.Plan.{PlannedShop, jobs, budget}
+use Rattle.shop_base.specs.Ends.{sum_below}
+use Rattle.shop_base.proofs.Sums.{sum_below_zero, sum_below-le}
 use Rattle.plan_verifier.specs.Accepted.{IsAcceptable}
 use Rattle.plan_improve.specs.declared.cost.Cost.{Cost}
-use Rattle.plan_improve.specs.Costs.{IsCost, IsAtMost, IsMakespanOf, IsNoWorse}
+use Rattle.plan_improve.specs.Costs.{IsCost, IsAtMost}
 use Rattle.plan_improve.specs.Laws.{AcceptedPlansStayAccepted, TheirMakespansNeverGrow, ASecondSearchIsNoWorse, NoWorseIsPassedOn}
 use Rattle.plan_improve.proofs.Keeping.{most_of_most, makespan_le, same_late, same_makespan}
 
 -- a plan to be accepted is never late
 never_late : (p : PlannedShop) (c : Cost) → IsAcceptable p → IsCost p c → c.late ≡ 0
-never_late p c acceptable is = elim is.late.reached [
-  | inl zero ↦ zero
-  | inr found ↦ (let within : budget p found.0 + c.late ≤ budget p found.0 = acceptable.budgets found.0 found.1 found.2 (budget p found.0 + c.late) found.3 in omega arith)
-]
+never_late p c acceptable is = is.late.sum ∙ sum_below_zero (λ j. is.late.leaves j - budget p j) (jobs p) in_time
+  where
+    in_time : (j : ℕ) → j < jobs p → is.late.leaves j - budget p j ≡ 0
+    in_time j inside =
+        let found = (is.late.are j inside).reached in
+        let within : is.late.leaves j ≤ budget p j = acceptable.budgets j inside found.0 (is.late.leaves j) found.1 in
+        omega arith
 
 on_time : (q : PlannedShop) (c : Cost) → IsCost q c → c.late ≡ 0 → IsAcceptable q
-on_time q c is zero = record { acyclic = is.acyclic; budgets = λ j inside nodes n path. omega (arith, is.late.bound j nodes n inside path, zero) }
+on_time q c is zero = record {
+  acyclic = is.acyclic;
+  budgets = λ j inside nodes n path.
+      (let longest : n ≤ is.late.leaves j = (is.late.are j inside).longest nodes n path in
+      let part : is.late.leaves j - budget q j ≤ sum_below (λ i. is.late.leaves i - budget q i) (jobs q) = sum_below-le (λ i. is.late.leaves i - budget q i) (jobs q) j inside in
+      omega (arith, is.late.sum, zero));
+}
 
 zero_most : (c d : Cost) → IsAtMost c d → d.late ≡ 0 → c.late ≡ 0
 zero_most c d (inl less) zero = absurd (omega arith)

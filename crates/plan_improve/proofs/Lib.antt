@@ -1,4 +1,5 @@
 pub mod Lateness
+pub mod Moments
 pub mod Keeping
 pub mod Serially
 pub mod Copies

@@ -1,9 +1,10 @@
--- What a plan costs: its worst lateness and its makespan, by the lengths of its paths; and which of two plans is better.
-use Rattle.std.specs.Prelude.{◌≡◌, ℕ, ◌+◌, ◌<◌, ◌≤◌, ◌⊎◌, List}
+-- What a plan costs: its total lateness and its makespan, by the lengths of its paths; and which of two plans is better.
+use Rattle.std.specs.Prelude.{◌≡◌, ℕ, ◌-◌, ◌<◌, ◌≤◌, ◌⊎◌, List}
 use Rattle.shop_base.specs.declared.node.Node.{Node}
 use Rattle.shop_base.specs.Plan.{PlannedShop, jobs, budget, IsWellShaped}
 use Rattle.shop_base.specs.Graph.{leaving, Path}
-use Rattle.plan_verifier.specs.Accepted.{HasNoCycle}
+use Rattle.shop_base.specs.Ends.{sum_below}
+use Rattle.plan_verifier.specs.Accepted.{HasNoCycle, IsGreatest}
 use Rattle.plan_improve.specs.declared.cost.Cost.{Cost}
 
 -- a path to the leaving of some job is as long as that job's moment
@@ -14,17 +15,22 @@ IsReached p moment = (j : ℕ) × (j < jobs p) × (nodes : List Node) × Path p 
 abbrev pub AreBounded : PlannedShop → (ℕ → ℕ) → Type 0
 AreBounded p moment = (j : ℕ) (nodes : List Node) (k : ℕ) → j < jobs p → Path p nodes (leaving p j) k → k ≤ moment j
 
--- the worst lateness (Pinedo, Scheduling: T_max): no path to a leaving is longer than the budget and n, and one is as long, unless n is 0
+-- these are the earliest leavings: of each job the greatest length of a path to its leaving
+abbrev pub AreLeavings : PlannedShop → (ℕ → ℕ) → Type 0
+AreLeavings p leaves = (j : ℕ) → j < jobs p → IsGreatest p (leaving p j) (leaves j)
+
+-- the total lateness (Pinedo, Scheduling: the sum of the T_j): over all jobs, what each leaves past its budget
 pub record IsLateness (p : PlannedShop) (n : ℕ) : Type 0 where
-  pub bound : AreBounded p (λ j. budget p j + n)
-  pub reached : (n ≡ 0) ⊎ IsReached p (λ j. budget p j + n)
+  pub leaves : ℕ → ℕ
+  pub are : AreLeavings p leaves
+  pub sum : n ≡ sum_below (λ j. leaves j - budget p j) (jobs p)
 
 -- the makespan (Pinedo, Scheduling: C_max): no path to a leaving is longer than n, and one is as long
 pub record IsMakespanOf (p : PlannedShop) (n : ℕ) : Type 0 where
   pub bound : AreBounded p (λ j. n)
   pub reached : IsReached p (λ j. n)
 
--- the plan has no cycle, and these are its worst lateness and its makespan
+-- the plan has no cycle, and these are its total lateness and its makespan
 pub record IsCost (p : PlannedShop) (c : Cost) : Type 0 where
   pub acyclic : HasNoCycle p
   pub late : IsLateness p c.late

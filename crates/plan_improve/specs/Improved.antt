@@ -1,5 +1,5 @@
 -- Where a search for a better plan begins, and what it gives.
-use Rattle.std.specs.Prelude.{◌≡◌, ℕ, ◌<◌, ◌≤◌, ◌⊎◌}
+use Rattle.std.specs.Prelude.{◌≡◌, ℕ, ◌<◌, ◌≤◌, ◌⊎◌, List, Option}
 use Rattle.shop_base.specs.Plan.{PlannedShop}
 use Rattle.plan_verifier.specs.Accepted.{HasNoCycle}
 use Rattle.plan_verifier.specs.declared.verdict.Verdict.{Verdict}
@@ -11,6 +11,7 @@ use Rattle.plan_improve.specs.declared.improve_fault.ImproveFault.{ImproveFault}
 use Rattle.plan_improve.specs.declared.improve_fault.ImproveFault.TheVariants.{TooManyRounds, Memory}
 use Rattle.plan_improve.specs.Costs.{IsNoWorse}
 use Rattle.plan_improve.specs.Reordered.{reordered}
+use Rattle.plan_improve.specs.Watching.{Told, IsToldMore}
 use Rattle.plan_improve.specs.Runs.{Asked}
 
 -- where the search begins: at the plan itself, or where that has a cycle, at the serial plan
@@ -27,6 +28,12 @@ pub record IsFound (made : Asked) (start p : PlannedShop) : Type 0 where
   pub begin : PlannedShop
   pub begins_at : IsBegin start begin
   pub run : made begin p
+
+-- it is what rounds make of that plan, in which whoever watches is told these very things
+pub record IsFoundTold (before after : Option (List Told)) (made : List Told → Asked) (start p : PlannedShop) : Type 0 where
+  pub told : List Told
+  pub more : IsToldMore before told after
+  pub found : IsFound (made told) start p
 
 -- the plan is no worse than the one with which the search begins
 abbrev pub IsNeverWorse : PlannedShop → PlannedShop → Type 0

@@ -12,6 +12,7 @@ use Rattle.plan_improve.specs.declared.reordering.Replaced.{Replaced}
 use Rattle.plan_improve.specs.declared.reordering.Replaced.TheVariants.{Fits, Stays}
 use Rattle.plan_improve.specs.Costs.{IsCost, IsLess, IsAtMost, IsNoWorse}
 use Rattle.plan_improve.specs.Reordered.{reordered, IsReordered}
+use Rattle.plan_improve.specs.Watching.{Told, IsToldMore}
 use Rattle.plan_improve.specs.Runs.{Asked, Becomes}
 use Rattle.plan_improve.specs.Improved.{IsBegin, judged}
 
@@ -42,6 +43,12 @@ pub record IsLast (made : Asked) (p : PlannedShop) (c : Cost) (kept : Best) : Ty
   pub is : IsCost kept.shaped kept.cost
   pub most : IsAtMost kept.cost c
 
+-- the best plan that rounds make of one with its cost, and what is told meanwhile
+pub record IsLastTold (before after : Option (List Told)) (made : List Told → Asked) (p : PlannedShop) (c : Cost) (kept : Best) : Type 0 where
+  pub told : List Told
+  pub more : IsToldMore before told after
+  pub last : IsLast (made told) p c kept
+
 -- what is said of the best plan that questions make of a first one
 pub record IsImproved (made : Asked) (start : PlannedShop) (verdict : Verdict) : Type 0 where
   pub begin : PlannedShop
@@ -51,3 +58,9 @@ pub record IsImproved (made : Asked) (start : PlannedShop) (verdict : Verdict) :
   pub no_worse : IsNoWorse (judged verdict) begin
   pub exact : SaysAccepted verdict ↔ IsAcceptable (judged verdict)
   pub reason : OnRefused IsReason verdict
+
+-- what is said of it, and what is told meanwhile
+pub record IsImprovedTold (before after : Option (List Told)) (made : List Told → Asked) (start : PlannedShop) (verdict : Verdict) : Type 0 where
+  pub told : List Told
+  pub more : IsToldMore before told after
+  pub improved : IsImproved (made told) start verdict

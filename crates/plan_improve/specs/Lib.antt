@@ -1,6 +1,7 @@
 -- Reached by public clauses: to be read and believed.
 pub mod Costs
 pub mod Reordered
+pub mod Watching
 pub mod Runs
 pub mod Improved
 pub mod Laws

@@ -6,7 +6,7 @@ use shop_base::Moment;
 /// How late a plan is, and how long it takes.
 #[derive(Clone, Copy)]
 pub struct Cost {
-    /// The most by which a job's earliest leaving is past its budget, 0 where none is.
+    /// What all jobs' earliest leavings together are past their budgets: the sum over the jobs, where one in time counts 0.
     pub late: Moment,
     /// The latest of all jobs' earliest leavings.
     pub makespan: Moment,

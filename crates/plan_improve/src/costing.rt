@@ -52,7 +52,7 @@ fn cost_in(shaped: &Shaped, times: &Times) -> Cost
     for job in 0..shaped.shop().jobs() {
         let leaves = leave_time(shaped, times, job);
         makespan = later(makespan, leaves);
-        late = later(late, leaves.saturating_sub(shaped.budget_of(job)));
+        late += leaves.saturating_sub(shaped.budget_of(job));
     }
     Cost { late, makespan }
 }

@@ -4,9 +4,9 @@ ghost use Rattle.std.specs.Prelude.{◌≡◌, ◌≤◌, ◌↔◌, OnOk, IfOk,
 ghost use Rattle.plan_verifier.specs.Accepted.{HasNoCycle, IsAcceptable};
 ghost use Rattle.plan_verifier.specs.Verdicts.{SaysAccepted, OnRefused, IsReason};
 ghost use Rattle.plan_improve.specs.Reordered.{IsReordered};
-ghost use Rattle.plan_improve.specs.Runs.{AfterRounds};
-ghost use Rattle.plan_improve.specs.Improved.{IsNeverWorse, IsFound, IsImproveFault, judged};
-ghost use Rattle.plan_improve.specs.Keeping.{IsImproved};
+ghost use Rattle.plan_improve.specs.Runs.{AfterRounds, Rounds};
+ghost use Rattle.plan_improve.specs.Improved.{IsNeverWorse, IsFound, IsFoundTold, IsImproveFault, judged};
+ghost use Rattle.plan_improve.specs.Keeping.{IsImprovedTold};
 
 use crate::beginning::begin;
 use crate::best::Best;
@@ -37,7 +37,9 @@ pub fn improve<W: Watch>(
     ensures acyclic { IfOk result (λ verdict. HasNoCycle (judged verdict)) }
     ensures never_worse { IfOk result (λ verdict. IsNeverWorse start (judged verdict)) }
     ensures found { IfOk result (λ verdict.
-        IsFound (λ p. AfterRounds (λ b. may b) improvers.now p rounds) start (judged verdict)) }
+        IsFound (Rounds (λ b. may b) improvers.now rounds) start (judged verdict)) }
+    ensures told { IfOk result (λ verdict.
+        IsFoundTold (W.told watch.old) (W.told watch.new) (λ told p. AfterRounds (λ b. may b) improvers.now p rounds told) start (judged verdict)) }
     ensures stays_accepted { IfOk result (λ verdict. IsAcceptable start → SaysAccepted verdict) }
     ensures exact { IfOk result (λ verdict. SaysAccepted verdict ↔ IsAcceptable (judged verdict)) }
     ensures reason { IfOk result (OnRefused IsReason) }
@@ -74,7 +76,8 @@ fn improve_on<W: Watch>(
     rounds: u32,
     watch: &mut W,
 ) -> Result<Verdict, (AllocError, Shaped)>
-    ensures improved { IfOk result (IsImproved (λ p. AfterRounds (λ b. may b) improvers.now p rounds) start) }
+    ensures improved { IfOk result (IsImprovedTold (W.told watch.old) (W.told watch.new) (λ told p.
+        AfterRounds (λ b. may b) improvers.now p rounds told) start) }
     ensures handed_back { IfErr result (λ refused. IsReordered start refused.1) }
 {
     let best = begin(alloc, start)?;

@@ -5,7 +5,7 @@ ghost use Rattle.plan_seek.specs.Orders.{proposal_of};
 ghost use Rattle.plan_improve.specs.Costs.{IsCost};
 ghost use Rattle.plan_improve.specs.Reordered.{IsReordered};
 ghost use Rattle.plan_improve.specs.Runs.{AfterSome, AfterRounds};
-ghost use Rattle.plan_improve.specs.Keeping.{IsNextOf, IsLast};
+ghost use Rattle.plan_improve.specs.Keeping.{IsNextOf, IsLast, IsLastTold};
 
 use crate::best::Best;
 use crate::improver::Improver;
@@ -23,7 +23,8 @@ pub(crate) fn ask_in_rounds<W: Watch>(
     watch: &mut W,
 ) -> Result<Best, (AllocError, Shaped)>
     requires { IsCost best.shaped best.cost }
-    ensures last { IfOk result (IsLast (λ p. AfterRounds (λ b. may b) improvers.now p rounds) best.shaped best.cost) }
+    ensures last { IfOk result (IsLastTold (W.told watch.old) (W.told watch.new) (λ told p.
+        AfterRounds (λ b. may b) improvers.now p rounds told) best.shaped best.cost) }
     ensures handed_back { IfErr result (λ refused. IsReordered best.shaped refused.1) }
 {
     for round in 0..rounds {

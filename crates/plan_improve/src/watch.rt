@@ -1,8 +1,16 @@
+ghost use Rattle.std.specs.Prelude.{List, [], ◌∷◌, Option};
+ghost use Rattle.plan_improve.specs.declared.cost.Cost.{Cost};
+ghost use Rattle.plan_improve.specs.Watching.{Told, IsToldMore};
+
 use shop_base::Moment;
 
 /// Whoever is told how far a search is. It changes nothing of the search.
 pub trait Watch {
-    /// Called before each round, which is numbered from 0, with the greatest lateness (0 where no job is late) and the
-    /// makespan of the best plan so far; no clause says so.
-    fn round(&mut self, round: u32, late: Moment, makespan: Moment);
+    // What it was told so far, where that is said.
+    ghost told: { Self → Option (List Told) };
+
+    /// Called before each round, which is numbered from 0, with the total lateness (0 where no job is late) and the
+    /// makespan of the best plan so far.
+    fn round(&mut self, round: u32, late: Moment, makespan: Moment)
+        ensures told { IsToldMore (told self.old) (record { round = round; cost = record { late = late; makespan = makespan } } ∷ []) (told self.new) };
 }

@@ -1,3 +1,5 @@
+ghost use Rattle.std.specs.Prelude.{None};
+
 use plan_improve::Watch;
 use shop_base::Moment;
 
@@ -9,6 +11,8 @@ pub(crate) struct Watched {
 }
 
 impl Watch for Watched {
+    ghost told = { λ _. None };
+
     fn round(&mut self, round: u32, _late: Moment, _makespan: Moment) {
         let told = if round == self.rounds { 1 } else { 1_000_000 };
         self.rounds = self.rounds.saturating_add(told);

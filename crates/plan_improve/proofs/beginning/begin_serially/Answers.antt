@@ -1,4 +1,4 @@
-use Rattle.std.proofs.Common.{◌≡◌, ap, subst, ◌∙◌, inr}
+use Rattle.std.proofs.Common.{ap, subst, ◌∙◌}
 use Rattle.plan_improve.proofs.Serially.{serial_fits, serial_acyclic}
 use Rattle.alt_graph.specs.Solved.{HasCycle}
 use Rattle.plan_seek.specs.Orders.{serial_order}

@@ -1,0 +1,13 @@
+-- What whoever watches a search is told.
+use Rattle.std.specs.Prelude.{◌≡◌, ℕ, List, ◌++◌, Option, None, Some}
+use Rattle.plan_improve.specs.declared.cost.Cost.{Cost}
+
+-- a round, and what the best plan before it costs
+pub record Told : Type 0 where
+  pub round : ℕ
+  pub cost : Cost
+
+-- whoever was told these things before, where that is said, was then told those more
+abbrev pub IsToldMore : Option (List Told) → List Told → Option (List Told) → Type 0
+IsToldMore None more after = Unit {0}
+IsToldMore (Some before) more after = after ≡ Some (before ++ more)
