@@ -1,11 +1,14 @@
-ghost use Rattle.std.specs.Prelude.{◌≡◌, ◌<◌, ◌≤◌, max, Ok, None, IfOk, IsSome, MatchOption, IfSome};
+ghost use Rattle.std.specs.Prelude.{◌≡◌, ◌<◌, ◌≤◌, ◌↔◌, max, Ok, None, IfOk, IsSome, MatchOption, IfSome};
 ghost use Rattle.shop_base.specs.Plan.{jobs};
-ghost use Rattle.shop_base.specs.Graph.{leaving};
+ghost use Rattle.shop_base.specs.declared.node.Node.{Node};
+ghost use Rattle.shop_base.specs.Graph.{leaving, IsNode};
 ghost use Rattle.shop_base.specs.ExactLaw.{IsNeverGoneBefore};
 ghost use Rattle.plan_verifier.specs.Accepted.{IsVerified, IsGreatest, IsLongestTo, IsMakespan, IsNeverGoneAfter, IsGoneJustAt, IsPathToLeaving, kept_at};
+ghost use Rattle.alt_graph.specs.Latest.{HasMoment, moment_of};
+ghost use Rattle.plan_verifier.specs.ByDeadlines.{FitBudgets, AreEnough, AreEnoughAtTheEnd, AreTheLatest};
 
 use crate::leavings::{leave_time, leaving_of};
-use alt_graph::Times;
+use alt_graph::{Deadlines, Times, latest_moments};
 use shop_base::{JobNo, Moment, Node, Shaped};
 use std::alloc::{AllocError, Global};
 use std::marker::Model;
@@ -51,6 +54,30 @@ impl Verified {
         } else {
             None
         }
+    }
+
+    /// The earliest moment of the node's move, in time units: the greatest length of a path to it. None for a node that isn't of
+    /// the shop.
+    pub fn earliest(&self, node: Node) -> Option<Moment>
+        ensures greatest { let p = self.now.planned in
+            MatchOption result (IsNode p node → ⊥) (λ n. IsNode p node × IsGreatest p node n) }
+        ensures kept { IfSome result (λ moment. moment ≡ kept_at self.now node) }
+    {
+        self.times.earliest(node)
+    }
+
+    /// The deadlines of all nodes: the latest moments at which their moves can be made so that each job is out by its budget.
+    /// As long as every activity ends by the deadline of the move that it holds up, every job is, however long it took. They are
+    /// found anew by each call, in time and memory linear in the nodes and machines; it fails only where it is out of memory.
+    pub fn deadlines(&self, alloc: Global) -> Result<Deadlines, AllocError>
+        ensures nodes { IfOk result (λ found. (v : Node) → IsNode self.now.planned v ↔ HasMoment found v) }
+        ensures fit { IfOk result (λ found. FitBudgets self.now.planned (moment_of found)) }
+        ensures latest { IfOk result (λ found. AreTheLatest self.now.planned (moment_of found)) }
+        ensures not_before { IfOk result (λ found. (v : Node) → IsNode self.now.planned v → kept_at self.now v ≤ moment_of found v) }
+        ensures out { IfOk result (λ found. AreEnoughAtTheEnd self.now.planned (moment_of found)) }
+        ensures in_time { IfOk result (λ found. AreEnough self.now.planned (moment_of found)) }
+    {
+        latest_moments(alloc, &self.shaped, &self.times)
     }
 
     /// The latest of all jobs' earliest leavings.
