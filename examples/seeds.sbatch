@@ -8,7 +8,7 @@
 # improve`, as --instance NAME. CELLPLAN names the program, else it is the cellplan of the path. A task ends with status 0 also where its plan
 # is late, since that plan is its answer; it ends as cellplan does where there is none. The same on one machine, without Slurm:
 #
-#     seq 0 39 | xargs -P "$(nproc)" -I N env SLURM_ARRAY_TASK_ID=N examples/seeds.sbatch FILE PLAN FOLDER [OPTION ..]
+#     seq 0 39 | xargs -P "$(nproc)" -I{} env SLURM_ARRAY_TASK_ID={} examples/seeds.sbatch FILE PLAN FOLDER [OPTION ..]
 #
 #SBATCH --job-name=cellplan-seeds
 #SBATCH --array=0-39
