@@ -245,6 +245,22 @@ static void beyond_the_room(struct cellplan_cell *cell) {
   same("and still all", count, 2);
 }
 
+/* The cell of beyond_the_room, driven to its end. */
+static void to_the_end(struct cellplan_cell *cell) {
+  struct cellplan_phase phase = {0};
+  uint64_t left = 9;
+  bool done = false;
+  reported(cell, CELLPLAN_FINISH, 1, 1, 9, CELLPLAN_GOOD, 0, 1, false);
+  reported(cell, CELLPLAN_FINISH, 1, 0, 10, CELLPLAN_GOOD, 0, 1, false);
+  same("done in the end", cellplan_cell_is_done(cell, &done), CELLPLAN_GOOD);
+  same("it is done", done, true);
+  same("left in the end", cellplan_cell_reports_left(cell, &left), CELLPLAN_GOOD);
+  same("no report is left", left, 0);
+  same("the last job", cellplan_cell_phase(cell, 1, &phase), CELLPLAN_GOOD);
+  same("when it left", phase.at, 10);
+  reported(cell, CELLPLAN_FINISH, 1, 0, 10, CELLPLAN_NOT_EXPECTED, 0, 0, false);
+}
+
 /* A job that is gone, and the machine that is being cleaned behind it. */
 static void gone(struct cellplan_cell *cell) {
   struct cellplan_phase phase = {0};
@@ -361,6 +377,7 @@ static int asked(void) {
   driven(&cells[0]);
   reported(&cells[1], CELLPLAN_ARRIVE, 0, 0, 0, CELLPLAN_GOOD, 0, 1, false);
   beyond_the_room(&cells[1]);
+  to_the_end(&cells[1]);
   gone(&cells[2]);
   all_move(&cells[3]);
   without_a_cell(&none);
@@ -403,6 +420,7 @@ int main(int argc, char **argv) {
   same("punctual then", cellplan_cell_punctual(&cell, &punctual), CELLPLAN_GOOD);
   same("is punctual then", punctual, true);
   beyond_the_room(&cell);
+  to_the_end(&cell);
   of_a_collection(&cell);
   cellplan_cell_free(&cell);
   cellplan_cell_free(&cell);
