@@ -395,7 +395,7 @@ static void judged_all(void) {
          "0 0.0 release of job 0\n3 0.1 job 0 on machine 0 for 3\n5 0.2 job 0 on machine 1 for 2\n"
          "5 1.0 machine 1 from job 0 to job 1\n9 1.1 job 1 on machine 1 for 4\n10 1.2 job 1 on machine 0 for 1\n");
   judged(cellplan_explain, late, CELLPLAN_REFUSED,
-         "refused late 1 10 0.0 0.1 0.2 1.0 1.1 1.2\n"
+         "refused late 1 10 0.0 0.1 0.2 1.0 1.1 1.2\njob 0 leaves 5 budget 5 slack 0\njob 1 leaves 10 budget 9 late 1\n"
          "0 0.0 release of job 0\n3 0.1 job 0 on machine 0 for 3\n5 0.2 job 0 on machine 1 for 2\n"
          "5 1.0 machine 1 from job 0 to job 1\n9 1.1 job 1 on machine 1 for 4\n10 1.2 job 1 on machine 0 for 1\n");
 }

@@ -1,5 +1,5 @@
 -- The line that answers `check`: the first fault of the plan's shape, or the verdict on it.
-use Rattle.std.specs.Prelude.{◌≡◌, ℕ, ◌<◌, ◌≤◌, List, ◌⊎◌, Result, Ok, Err, length, slice_index}
+use Rattle.std.specs.Prelude.{◌≡◌, ℕ, List, ◌⊎◌, Result, Ok, Err}
 use Rattle.shop_base.specs.declared.node.Node.{Node}
 use Rattle.shop_base.specs.Plan.{PlannedShop, IsWellShaped}
 use Rattle.shop_base.specs.ShapeFault.{IsFirstShapeFault}
@@ -9,8 +9,7 @@ use Rattle.plan_verifier.specs.declared.verdict.Verdict.TheVariants.{Accepted, R
 use Rattle.plan_verifier.specs.declared.verdict.Why.TheVariants.{Cycle, Late}
 use Rattle.plan_verifier.specs.Accepted.{VerifiedPlan, IsAcceptable}
 use Rattle.plan_verifier.specs.Verdicts.{OnAccepted, OnRefused, IsFirstLate, IsReason}
-use Rattle.plan_explain.specs.FirstLines.{accepted_line, cycle_line, refused_late_line}
-use Rattle.plan_explain.specs.Leavings.{AreLeavings}
+use Rattle.plan_explain.specs.FirstLines.{cycle_line, refused_late_line, TellsAccepted, IsFirstLine}
 use Rattle.command_answers.specs.declared.answer.Answer.{Answer}
 use Rattle.command_answers.specs.declared.loading.Loaded.{Loaded}
 use Rattle.command_answers.specs.declared.loading.Loaded.TheVariants.{NotShaped, Judged}
@@ -38,19 +37,10 @@ accepted_in (Judged (Accepted verified)) = Ok verified
 accepted_in (Judged (Refused back why)) = Err (Judged (Refused back why))
 accepted_in (NotShaped fault) = Err (NotShaped fault)
 
--- the latest of the moments
-pub record IsLatest (leaves : List ℕ) (n : ℕ) : Type 0 where
-  pub latest : (j : ℕ) → j < length leaves → slice_index leaves j ≤ n
-  pub reached : (j : ℕ) × (j < length leaves) × (slice_index leaves j ≡ n)
-
 -- the line of an accepted plan
 pub record IsAcceptedLine (p : PlannedShop) (answer : Answer) : Type 0 where
   pub acceptable : IsAcceptable p
-  pub leaves : List ℕ
-  pub leavings : AreLeavings p leaves
-  pub makespan : ℕ
-  pub latest : IsLatest leaves makespan
-  pub line : answer.text.items ≡ accepted_line makespan leaves
+  pub line : TellsAccepted p answer.text.items
   pub good : answer.status ≡ 0
 
 -- the line of a plan with a cycle
@@ -77,9 +67,7 @@ IsVerdictLine p answer = IsAcceptedLine p answer ⊎ (IsCycleLine p answer ⊎ I
 abbrev pub IsCheckLine : PlannedShop → Answer → Type 0
 IsCheckLine p answer = IsNotShapedLine p answer ⊎ (IsWellShaped p × IsVerdictLine p answer)
 
--- the line of what is said of a plan
+-- the line of what is said of a plan: the refusal of a plan that isn't well shaped, or the first line of the verdict, with its status
 abbrev pub IsLineOf : Loaded → Answer → Type 0
 IsLineOf (NotShaped fault) answer = IsRefusedLine answer
-IsLineOf (Judged (Accepted verified)) answer = IsAcceptedLine verified.planned answer
-IsLineOf (Judged (Refused back (Cycle nodes))) answer = (answer.text.items ≡ cycle_line nodes.items) × (answer.status ≡ 1)
-IsLineOf (Judged (Refused back (Late job leaves chain))) answer = (answer.text.items ≡ refused_late_line job leaves chain.items) × (answer.status ≡ 1)
+IsLineOf (Judged verdict) answer = IsFirstLine verdict answer.text.items × (answer.status ≡ verdict_status verdict)

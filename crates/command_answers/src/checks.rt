@@ -1,9 +1,9 @@
 //! The command `check`.
 
-ghost use Rattle.std.specs.Prelude.{IfOk};
+ghost use Rattle.std.specs.Prelude.{◌≡◌, IfOk};
 ghost use Rattle.std.specs.Option.{option_copied};
 ghost use Rattle.command_answers.specs.Readings.{AreTextsAnswered};
-ghost use Rattle.command_answers.specs.Checks.{IsCheckLine, IsAcceptedLine, IsLineOf};
+ghost use Rattle.command_answers.specs.Checks.{IsCheckLine, IsLineOf, verdict_status};
 ghost use Rattle.command_answers.specs.Commands.{RunsCheck};
 
 use crate::answer::{Answer, Answered, GOOD, REFUSED};
@@ -11,8 +11,8 @@ use crate::both::{Pair, read_both};
 use crate::loading::{Loaded, judged, load};
 use crate::shapes::not_shaped_answer;
 use crate::texts::Texts;
-use plan_explain::{push_accepted_line, push_cycle_line, push_late_line};
-use plan_verifier::{Verdict, Verified, Why};
+use plan_explain::first_line;
+use plan_verifier::Verdict;
 use std::alloc::{AllocError, Global};
 
 /// The verdict on a plan for an instance, both given as texts: accepted, with the makespan and each job's earliest
@@ -38,26 +38,22 @@ pub fn check_answer<T: Texts>(alloc: Global, texts: &mut T, pair: &Pair<'_>) -> 
 pub fn loaded_answer(alloc: Global, loaded: &Loaded) -> Result<Answer, AllocError>
     ensures { IfOk result (IsLineOf loaded.now) }
 {
-    let (mut text, status) = (Vec::new(alloc), REFUSED);
     match loaded {
         Loaded::NotShaped(fault) => not_shaped_answer(alloc, *fault),
-        Loaded::Judged(Verdict::Accepted(verified)) => accepted_answer(alloc, verified),
-        Loaded::Judged(Verdict::Refused(_, Why::Cycle(nodes))) => {
-            push_cycle_line(&mut text, nodes)?;
-            Ok(Answer { text, status })
-        }
-        Loaded::Judged(Verdict::Refused(_, Why::Late { job, leaves, chain })) => {
-            push_late_line(&mut text, *job, *leaves, chain)?;
+        Loaded::Judged(verdict) => {
+            let text = first_line(alloc, verdict)?;
+            let status = status_of(verdict);
             Ok(Answer { text, status })
         }
     }
 }
 
-fn accepted_answer(alloc: Global, verified: &Verified) -> Result<Answer, AllocError>
-    ensures { IfOk result (IsAcceptedLine verified.now.planned) }
+/// The status of a verdict.
+pub(crate) fn status_of(verdict: &Verdict) -> u8
+    ensures { result ≡ verdict_status verdict.now }
 {
-    let _plan = verified.shaped();
-    let mut text = Vec::new(alloc);
-    push_accepted_line(&mut text, verified, verified.makespan())?;
-    Ok(Answer { text, status: GOOD })
+    match verdict {
+        Verdict::Accepted(_) => GOOD,
+        Verdict::Refused(_, _) => REFUSED,
+    }
 }

@@ -1,18 +1,17 @@
 //! The command `explain`.
 
-ghost use Rattle.std.specs.Prelude.{◌≡◌, IfOk};
+ghost use Rattle.std.specs.Prelude.{IfOk};
 ghost use Rattle.std.specs.Option.{option_copied};
 ghost use Rattle.command_answers.specs.Readings.{AreTextsAnswered};
 ghost use Rattle.command_answers.specs.Explains.{IsExplanation, IsExplanationOf, HasEvidence};
-ghost use Rattle.command_answers.specs.Checks.{verdict_status};
 ghost use Rattle.command_answers.specs.Commands.{RunsExplain};
 
-use crate::answer::{Answer, Answered, GOOD, REFUSED};
+use crate::answer::{Answer, Answered};
 use crate::both::{Pair, read_both};
+use crate::checks::status_of;
 use crate::loading::{Loaded, judged, load};
 use crate::shapes::not_shaped_answer;
 use crate::texts::Texts;
-use plan_verifier::Verdict;
 use std::alloc::{AllocError, Global};
 
 /// Why a plan is accepted or refused for an instance, both given as texts: the line of its verdict, and behind it
@@ -46,15 +45,5 @@ fn loaded_explained(alloc: Global, loaded: &Loaded) -> Result<Answer, AllocError
             let status = status_of(verdict);
             Ok(Answer { text, status })
         }
-    }
-}
-
-/// The status of a verdict.
-fn status_of(verdict: &Verdict) -> u8
-    ensures { result ≡ verdict_status verdict.now }
-{
-    match verdict {
-        Verdict::Accepted(_) => GOOD,
-        Verdict::Refused(_, _) => REFUSED,
     }
 }

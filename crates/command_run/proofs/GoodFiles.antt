@@ -1,15 +1,12 @@
 -- What good files are answered by, where they don't change.
-use Rattle.std.proofs.Common.{◌≡◌, ℕ, ◌++◌, List, [], ◌∷◌, ◌⊎◌, Option, Result, Ok, Err, inl, inr, ap, sym, ◌∙◌, subst, arith, refl}
+use Rattle.std.proofs.Common.{◌≡◌, ℕ, ◌++◌, List, [], ◌∷◌, ◌⊎◌, Option, Result, Ok, Err, inl, inr, ap, sym, ◌∙◌, subst, refl}
 use Rattle.shop_base.specs.Shop.{JobShop}
 use Rattle.shop_base.specs.Plan.{ShopPlan, PlannedShop, IsWellShaped}
 use Rattle.shop_base.proofs.Refusals.{shape_fault_refutes}
-use Rattle.alt_graph.proofs.CycleParts.{cycle_simple}
 use Rattle.orlib_read.specs.declared.named.Named.{Named}
 use Rattle.plan_verifier.specs.Accepted.{VerifiedPlan, IsAcceptable}
 use Rattle.plan_verifier.specs.declared.verdict.Verdict.TheVariants.{Accepted, Refused}
-use Rattle.plan_verifier.specs.declared.verdict.Why.{Why}
-use Rattle.plan_verifier.specs.declared.verdict.Why.TheVariants.{Cycle, Late}
-use Rattle.plan_verifier.specs.Verdicts.{IsReason}
+use Rattle.plan_verifier.proofs.Reasons.{reason_refutes}
 use Rattle.plan_seek.specs.Tasks.{task_in}
 use Rattle.command_answers.specs.declared.answer.Answer.{Answer}
 use Rattle.command_answers.specs.declared.loading.Loaded.{Loaded}
@@ -28,6 +25,7 @@ use Rattle.command_answers.specs.LogLines.{IsLogLine}
 use Rattle.command_answers.specs.Search.{IsSearchAnswer}
 use Rattle.command_answers.specs.Improving.{IsImproveAnswer}
 use Rattle.command_answers.specs.Commands.{PairOfFiles, ReadsPlan, ReadsBoth, WithBoth, WithLog, RunsFacts, RunsLog}
+use Rattle.command_answers.proofs.CheckLines.{line_of_loaded}
 use Rattle.command_run.specs.Streams.{Streams}
 use Rattle.command_run.specs.Planners.{search_by_two, SeeksPlan}
 use Rattle.command_run.specs.Improvers.{AsksOne, ImprovesPlan}
@@ -43,11 +41,6 @@ answered Is files (Err fault) asked is same = is
 
 pub wanting : {A : Type 0} (Is : A → Type 0) (files : List (List ℕ)) (outcome : Result A CommandFault) (asked : List (List ℕ)) → outcome ≡ Err Memory → IsAnswered Is files outcome asked
 wanting Is files outcome asked is = subst (λ r. IsAnswered Is files r asked) (sym is) refl
-
--- a reason for a refusal leaves no plan to be accepted
-pub reason_refutes : (p : PlannedShop) (why : Why) → IsReason p why → IsAcceptable p → ⊥
-reason_refutes p (Cycle nodes) is acceptable = acceptable.acyclic nodes.items (cycle_simple p nodes.items is)
-reason_refutes p (Late job leaves chain) is acceptable = (let within = acceptable.budgets job is.job _ leaves is.path in omega (arith, within, is.past))
 
 module _ (content : List ℕ → Result (List ℕ) CommandFault) where
   -- a file that is there was asked for, and what it tells was read
@@ -186,32 +179,24 @@ module _ (content : List ℕ → Result (List ℕ) CommandFault) (pair : PairOfF
   -- ---- plans that aren't accepted
 
   -- the line of such a plan is that of `check`
-  check_line : (loaded : Loaded) (answer : Answer) → (IsWellShaped p → IsAcceptable p → ⊥) → IsLoaded p loaded → IsLineOf loaded answer → IsCheckLine p answer
-  check_line (NotShaped fault) answer never is line = inl (record { fault = fault; first = is; line = line })
-  check_line (Judged (Accepted v)) answer never is line = absurd (never is.well_shaped is.accepted.1)
-  check_line (Judged (Refused back (Cycle nodes))) answer never is line =
-      inr (is.well_shaped, inr (inl (record { nodes = nodes.items; cycle = is.refused.1; line = line.0; refused = line.1 })))
-  check_line (Judged (Refused back (Late job leaves chain))) answer never is line =
-      inr (is.well_shaped, inr (inr (record { job = job; leaves = leaves; chain = chain.items; late = is.refused.1; line = line.0; refused = line.1 })))
-
-  line_told : (loaded : Loaded) (outcome : Result Answer CommandFault) (asked : List (List ℕ)) → (IsWellShaped p → IsAcceptable p → ⊥) → IsLoaded p loaded → asked ≡ pair.path ∷ pair.plan ∷ [] → IsLineTold loaded outcome
+  line_told : (loaded : Loaded) (outcome : Result Answer CommandFault) (asked : List (List ℕ)) → IsLoaded p loaded → asked ≡ pair.path ∷ pair.plan ∷ [] → IsLineTold loaded outcome
       → IsAnswered (IsCheckLine p) (pair.path ∷ pair.plan ∷ []) outcome asked
-  line_told loaded (Ok answer) asked never is files told = (check_line loaded answer never is told, files)
-  line_told loaded (Err fault) asked never is files told = told
+  line_told loaded (Ok answer) asked is files told = (line_of_loaded p loaded answer is told, files)
+  line_told loaded (Err fault) asked is files told = told
 
   drives_no_cell : (loaded : Result Loaded CommandFault) (asked : List (List ℕ)) (before after : Streams) (outcome : Result Answer CommandFault) → (IsWellShaped p → IsAcceptable p → ⊥)
       → IsAnswered (IsLoaded p) (pair.path ∷ pair.plan ∷ []) loaded asked → Drives loaded before after outcome → IsAnswered (IsCheckLine p) (pair.path ∷ pair.plan ∷ []) outcome asked × (after ≡ before)
   drives_no_cell (Err fault) asked before after outcome never is drives = (wanting (IsCheckLine p) _ outcome asked (drives.0 ∙ ap Err is), drives.1)
-  drives_no_cell (Ok (NotShaped fault)) asked before after outcome never is drives = (line_told (NotShaped fault) outcome asked never is.0 is.1 drives.0, drives.1)
-  drives_no_cell (Ok (Judged (Refused back why))) asked before after outcome never is drives = (line_told (Judged (Refused back why)) outcome asked never is.0 is.1 drives.0, drives.1)
+  drives_no_cell (Ok (NotShaped fault)) asked before after outcome never is drives = (line_told (NotShaped fault) outcome asked is.0 is.1 drives.0, drives.1)
+  drives_no_cell (Ok (Judged (Refused back why))) asked before after outcome never is drives = (line_told (Judged (Refused back why)) outcome asked is.0 is.1 drives.0, drives.1)
   drives_no_cell (Ok (Judged (Accepted v))) asked before after outcome never is drives = absurd (never is.0.well_shaped is.0.accepted.1)
 
   resumes_no_cell : (log : List ℕ) (loaded : Result Loaded CommandFault) (mid asked : List (List ℕ)) (before after : Streams) (outcome : Result Answer CommandFault) → (IsWellShaped p → IsAcceptable p → ⊥)
       → IsAnswered (IsLoaded p) (pair.path ∷ pair.plan ∷ []) loaded mid → Resumes (Shelf content) log loaded mid before outcome asked after
       → IsAnswered (IsCheckLine p) (pair.path ∷ pair.plan ∷ []) outcome asked × (after ≡ before)
   resumes_no_cell log (Err fault) mid asked before after outcome never is resumes = (wanting (IsCheckLine p) _ outcome asked (resumes.0 ∙ ap Err is), resumes.1)
-  resumes_no_cell log (Ok (NotShaped fault)) mid asked before after outcome never is resumes = (line_told (NotShaped fault) outcome asked never is.0 (resumes.2 ∙ is.1) resumes.0, resumes.1)
-  resumes_no_cell log (Ok (Judged (Refused back why))) mid asked before after outcome never is resumes = (line_told (Judged (Refused back why)) outcome asked never is.0 (resumes.2 ∙ is.1) resumes.0, resumes.1)
+  resumes_no_cell log (Ok (NotShaped fault)) mid asked before after outcome never is resumes = (line_told (NotShaped fault) outcome asked is.0 (resumes.2 ∙ is.1) resumes.0, resumes.1)
+  resumes_no_cell log (Ok (Judged (Refused back why))) mid asked before after outcome never is resumes = (line_told (Judged (Refused back why)) outcome asked is.0 (resumes.2 ∙ is.1) resumes.0, resumes.1)
   resumes_no_cell log (Ok (Judged (Accepted v))) mid asked before after outcome never is resumes = absurd (never is.0.well_shaped is.0.accepted.1)
 
   pub no_drive : (before after : Streams) (outcome : Result Answer CommandFault) (asked : List (List ℕ)) → (IsWellShaped p → IsAcceptable p → ⊥) → RunsDrive (Shelf content) pair [] before outcome asked after

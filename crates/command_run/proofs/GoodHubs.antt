@@ -24,7 +24,8 @@ use Rattle.command_run.specs.Streams.{Streams}
 use Rattle.command_run.specs.Hubs.{DrivesAll}
 use Rattle.command_run.specs.Program.{RunsHub}
 use Rattle.command_run.specs.Laws.{Shelf, IsAnswered, TellsAccepted, TellAccepted, DrivesPlans}
-use Rattle.command_run.proofs.GoodFiles.{answered, wanting, reason_refutes, asked_and_read}
+use Rattle.plan_verifier.proofs.Reasons.{reason_refutes}
+use Rattle.command_run.proofs.GoodFiles.{answered, wanting, asked_and_read}
 
 -- the plans of cells
 abbrev plans_of : List VerifiedPlan → List PlannedShop

@@ -3,7 +3,6 @@ use Rattle.std.proofs.Common.{◌≡◌, ℕ, ◌≤◌, List, [], ◌∷◌, Bo
 use Rattle.plan_verifier.specs.Accepted.{VerifiedPlan}
 use Rattle.plan_verifier.specs.declared.verdict.Verdict.{Verdict}
 use Rattle.plan_verifier.specs.declared.verdict.Verdict.TheVariants.{Accepted, Refused}
-use Rattle.plan_verifier.specs.declared.verdict.Why.TheVariants.{Cycle, Late}
 use Rattle.plan_seek.specs.Tasks.{task_in}
 use Rattle.plan_seek.specs.Turns.{PlanSearch}
 use Rattle.plan_seek.specs.declared.seek_fault.SeekFault.{SeekFault}
@@ -133,9 +132,7 @@ low_improved made rounds start outcome (inr line) = low_or (IsNotShapedLine star
 
 low_line_of : (loaded : Loaded) (answer : Answer) → IsLineOf loaded answer → answer.status ≤ 1
 low_line_of (NotShaped fault) answer is = one_low answer.status is.refused
-low_line_of (Judged (Accepted v)) answer is = zero_low answer.status is.good
-low_line_of (Judged (Refused back (Cycle nodes))) answer is = one_low answer.status is.1
-low_line_of (Judged (Refused back (Late job leaves chain))) answer is = one_low answer.status is.1
+low_line_of (Judged verdict) answer is = low_verdict verdict answer.status is.1
 
 -- ---- driving
 

@@ -1,15 +1,21 @@
 -- What the lines of explanations say.
-use Rattle.std.proofs.Common.{◌≡◌, ℕ, ◌+◌, List, [], ◌∷◌, ◌++◌, refl, sym, ap, ◌∙◌}
+use Rattle.std.proofs.Common.{◌≡◌, ℕ, ◌+◌, List, [], ◌∷◌, ◌++◌, inl, inr, arith, refl, sym, ap, ◌∙◌}
 use Rattle.std.proofs.lemmas.List.{append-nil, append_assoc}
 use Rattle.shop_base.specs.declared.node.Node.{Node}
 use Rattle.shop_base.specs.Plan.{PlannedShop, release, clean, IsWellShaped}
 use Rattle.shop_base.specs.Graph.{node, Arc, HasArc, ArcsLead, Path, begins, follows, IsSimpleCycle}
 use Rattle.alt_graph.specs.Evidence.{EndsIn}
+use Rattle.plan_verifier.specs.declared.verdict.Verdict.{Verdict}
+use Rattle.plan_verifier.specs.declared.verdict.Verdict.TheVariants.{Accepted, Refused}
+use Rattle.plan_verifier.specs.declared.verdict.Why.TheVariants.{Cycle, Late}
+use Rattle.plan_verifier.proofs.Reasons.{makespan_le}
+use Rattle.plan_explain.specs.FirstLines.{accepted_line, TellsAccepted, IsFirstLine}
 use Rattle.plan_explain.specs.declared.arcs.ToldArc.TheVariants.{Blocking}
 use Rattle.plan_explain.specs.Arcs.{told_arc}
 use Rattle.plan_explain.specs.Cycles.{arc_line, arc_lines, cycle_lines}
 use Rattle.plan_explain.specs.Chains.{reached_at, length_from, release_line, reached_line, reached_lines, chain_lines}
-use Rattle.plan_explain.specs.LineLaws.{AreArcsTold, IsLineOf}
+use Rattle.plan_explain.specs.LineLaws.{AreArcsTold, IsLastLine}
+use Rattle.plan_explain.proofs.Moments.{same_leavings}
 use Rattle.plan_explain.proofs.ArcFacts.{told_job, told_blocking, apart, arc_time, last_from, IsLedPath, path_led}
 
 pub arcs_told : (p : PlannedShop) → IsWellShaped p → AreArcsTold p
@@ -44,14 +50,20 @@ module _ (p : PlannedShop) where
       → chain_lines p (path ++ v ∷ nodes) ≡ chain_lines p path ++ (reached_line (n + d) v (told_arc p u v) ++ reached_lines p (n + d) v nodes)
   each_line path nodes u v n d shaped is arc = line_told shaped path nodes u v n d (path_led p shaped path u n is) arc
 
-  pub last_line : (nodes : List Node) (v : Node) (n : ℕ) → IsWellShaped p → Path p nodes v n → (lines last : List ℕ) × (chain_lines p nodes ≡ lines ++ last) × IsLineOf n v last
-  last_line _ _ _ shaped (begins j inside) = ([], release_line (release p j) (node j 0), append-nil _, (_, refl))
-  last_line _ _ _ shaped (follows nodes u v n d path arc) = (
-    chain_lines p nodes,
-    reached_line (n + d) v (told_arc p u v),
-    each_line nodes [] u v n d shaped path arc ∙ ap (λ l. chain_lines p nodes ++ l) (append-nil _),
-    (_, refl),
-  )
+  -- a path ends in its last node
+  path_end : (nodes : List Node) (v : Node) (n : ℕ) → Path p nodes v n → EndsIn nodes v
+  path_end _ _ _ (begins j inside) = ([], refl)
+  path_end _ _ _ (follows nodes u v n d path arc) = (nodes, refl)
+
+  pub last_line : (nodes : List Node) (v : Node) (n : ℕ) → IsWellShaped p → Path p nodes v n → (lines last : List ℕ) × (chain_lines p nodes ≡ lines ++ last) × IsLastLine p nodes v n last
+  last_line _ _ _ shaped (begins j inside) = ([], release_line (release p j) (node j 0), append-nil _, inr (refl, refl))
+  last_line _ _ _ shaped (follows nodes u v n d path arc) =
+      let (front, ends) = path_end nodes u n path in (
+        chain_lines p nodes,
+        reached_line (n + d) v (told_arc p u v),
+        each_line nodes [] u v n d shaped path arc ∙ ap (λ l. chain_lines p nodes ++ l) (append-nil _),
+        inl (front, u, ap (λ (l : List Node). l ++ v ∷ []) ends ∙ append_assoc front (u ∷ []) (v ∷ []), refl),
+      )
 
   lines_close : (u : Node) (us : List Node) (v : Node) → ArcsLead p u us v
       → (lines : List ℕ) × (last : Node) × (arc_lines p u us v ≡ lines ++ arc_line p last v) × EndsIn (u ∷ us) last × HasArc p last v
@@ -68,3 +80,14 @@ module _ (p : PlannedShop) where
   pub cycle_closes : (first : Node) (rest : List Node) → IsSimpleCycle p (first ∷ rest)
       → (lines : List ℕ) × (last : Node) × (cycle_lines p (first ∷ rest) ≡ lines ++ arc_line p last first) × EndsIn (first ∷ rest) last × HasArc p last first
   cycle_closes first rest cycle = lines_close first rest first cycle.1
+
+-- what an accepted plan is told by is the plan's alone
+accepted_once : (p : PlannedShop) (one other : List ℕ) → TellsAccepted p one → TellsAccepted p other → one ≡ other
+accepted_once p one other here there =
+    let makespans : here.makespan ≡ there.makespan = omega (arith, makespan_le p here.makespan there.makespan here.is there.is, makespan_le p there.makespan here.makespan there.is here.is) in
+    here.words ∙ ap (λ n. accepted_line n here.leaves) makespans ∙ ap (accepted_line there.makespan) (same_leavings p here.leaves there.leaves here.leavings there.leavings) ∙ sym there.words
+
+pub first_line_once : (verdict : Verdict) (one other : List ℕ) → IsFirstLine verdict one → IsFirstLine verdict other → one ≡ other
+first_line_once (Accepted verified) one other here there = accepted_once verified.planned one other here there
+first_line_once (Refused back (Cycle nodes)) one other here there = here ∙ sym there
+first_line_once (Refused back (Late job leaves chain times)) one other here there = here ∙ sym there

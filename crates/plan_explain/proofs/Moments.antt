@@ -1,16 +1,18 @@
 -- The moments of leavings, and their words.
 use native.Mathlib.Numerals.{unary_clauses}
-use Rattle.std.proofs.Common.{◌≡◌, ◌≢◌, ℕ, zero, suc, ◌+◌, ◌<◌, List, [], ◌∷◌, ◌++◌, length, get_or, decimal, codes, arith, refl, sym, ap, ◌∙◌, inl, inr}
+use Rattle.std.proofs.Common.{◌≡◌, ◌≢◌, ℕ, zero, suc, ◌+◌, ◌<◌, ◌≤◌, List, [], ◌∷◌, ◌++◌, length, get_or, decimal, codes, arith, refl, sym, ap, subst, ◌∙◌, inl, inr}
 use Rattle.std.proofs.Math.Arith.{lt_of_le-ne}
 use Rattle.std.proofs.lemmas.Bool.{cases_lt}
 use Rattle.std.proofs.lemmas.List.{get_or_push, get_or_append_left, length_push}
-use Rattle.std.proofs.lemmas.Grind.{flat_map-append}
+use Rattle.std.proofs.lemmas.Grind.{flat_map-append, same_number_lists}
 use Rattle.std.proofs.lemmas.List.{append-nil, append_assoc}
 use Rattle.shop_base.specs.Plan.{PlannedShop, jobs, budget}
-use Rattle.shop_base.specs.Graph.{leaving}
-use Rattle.plan_verifier.specs.Accepted.{VerifiedPlan, IsVerified, IsMakespan, kept_at}
-use Rattle.plan_verifier.proofs.Reasons.{verified_greatest}
-use Rattle.plan_explain.specs.FirstLines.{moment_words, moments_below, leavings_of}
+use Rattle.shop_base.specs.Graph.{leaving, Path}
+use Rattle.alt_graph.specs.Times.{NodeTimes, AreOrdered}
+use Rattle.plan_verifier.specs.Accepted.{IsMakespan}
+use Rattle.plan_verifier.proofs.Reasons.{leaving_greatest}
+use Rattle.plan_explain.specs.Moments.{moments_below, leaves_at, leavings_of}
+use Rattle.plan_explain.specs.FirstLines.{moment_words}
 use Rattle.plan_explain.specs.Leavings.{AreLeavings, IsLastToLeave, leaving_line, leaving_lines_below}
 
 -- one more moment
@@ -44,40 +46,52 @@ moments_at f (suc n) j lt = elim (cases_lt j n) [
 pub lines_below_more : (p : PlannedShop) (leaves : List ℕ) (n : ℕ) → leaving_lines_below p leaves (n + 1) ≡ leaving_lines_below p leaves n ++ leaving_line n (get_or leaves n 0) (budget p n)
 lines_below_more p leaves n = simp unary_clauses refl
 
-module _ (v : VerifiedPlan) where
-  abbrev pub kept : ℕ → ℕ
-  kept j = kept_at v (leaving v.planned j)
+module _ (p : PlannedShop) (t : NodeTimes) where
+  -- one more job's line is written
+  pub lines_more : (old text new : List ℕ) (n moment due : ℕ) → n < jobs p → text ≡ old ++ leaving_lines_below p (leavings_of p t) n → moment ≡ leaves_at p t n → due ≡ budget p n
+      → new ≡ text ++ leaving_line n moment due → new ≡ old ++ leaving_lines_below p (leavings_of p t) (n + 1)
+  lines_more old text new n moment due inside written is_kept is_budget added =
+      let below = leaving_lines_below p (leavings_of p t) n in
+      let line = leaving_line n (get_or (leavings_of p t) n 0) (budget p n) in
+      let same : leaving_line n moment due ≡ line =
+      ap (λ m. leaving_line n m due) (is_kept ∙ sym (moments_at (leaves_at p t) (jobs p) n inside)) ∙ ap (λ b. leaving_line n (get_or (leavings_of p t) n 0) b) is_budget in
+      added ∙ ap (λ l. text ++ l) same ∙ ap (λ l. l ++ line) written ∙ append_assoc old below line ∙ ap (λ l. old ++ l) (sym (lines_below_more p (leavings_of p t) n))
 
-  pub leavings-greatest : IsVerified v → AreLeavings v.planned (leavings_of v)
-  leavings-greatest sound = record {
-    size = moments_length kept (jobs v.planned);
-    greatest = λ j inside. rw (moments_at kept (jobs v.planned) j inside) (verified_greatest v sound j inside);
+module _ (p : PlannedShop) (t : NodeTimes) (ordered : AreOrdered p t) where
+  pub leavings-greatest : AreLeavings p (leavings_of p t)
+  leavings-greatest = record {
+    size = moments_length (leaves_at p t) (jobs p);
+    greatest = λ j inside. rw (moments_at (leaves_at p t) (jobs p) j inside) (leaving_greatest p t ordered j inside);
   }
 
+  -- no job leaves after the makespan, and some job leaves then
+  pub leaves_by : (n : ℕ) → IsMakespan p n → (j : ℕ) → j < jobs p → leaves_at p t j ≤ n
+  leaves_by n makespan j inside = (let path = (leaving_greatest p t ordered j inside).reached in makespan.bound j path.0 (leaves_at p t j) inside path.1)
+
+  pub some_leaves_last : (n : ℕ) → IsMakespan p n → (j : ℕ) × (j < jobs p) × (leaves_at p t j ≡ n)
+  some_leaves_last n makespan =
+      let (j, inside, nodes, path) = makespan.reached in
+      (j, inside, omega (arith, leaves_by n makespan j inside, (leaving_greatest p t ordered j inside).longest nodes n path))
+
   -- a job whose leaving is the makespan, and no earlier job's is
-  pub last-first : (j n : ℕ) → IsMakespan v n → j < jobs v.planned → kept j ≡ n → ((i : ℕ) → i < j → kept i ≢ n) → IsLastToLeave (leavings_of v) j n
-  last-first j n makespan inside is before =
-      let size = moments_length kept (jobs v.planned) in record {
-        inside = omega (arith, size, inside);
-        moment = moments_at kept (jobs v.planned) j inside ∙ is;
-        latest = λ i lt. (let here : i < jobs v.planned = omega (arith, size, lt) in rw (moments_at kept (jobs v.planned) i here) (makespan.latest i here));
-        first = λ i lt. (let here : i < jobs v.planned = omega (arith, inside, lt) in
-            rw (moments_at kept (jobs v.planned) i here) (lt_of_le-ne (makespan.latest i here) (before i lt)));
-      }
+  pub last-first : (j n : ℕ) → IsMakespan p n → j < jobs p → leaves_at p t j ≡ n → ((i : ℕ) → i < j → leaves_at p t i ≢ n) → IsLastToLeave p j n
+  last-first j n makespan inside is before = record {
+    makespan = makespan;
+    inside = inside;
+    reached = (let path = (leaving_greatest p t ordered j inside).reached in (path.0, subst (Path p path.0 (leaving p j)) is path.1));
+    first = λ i nodes k lt path. (let here : i < jobs p = omega (arith, inside, lt) in
+        let sooner : leaves_at p t i < n = lt_of_le-ne (leaves_by n makespan i here) (before i lt) in
+        omega (arith, sooner, (leaving_greatest p t ordered i here).longest nodes k path));
+  }
 
-  -- such a job is one of the shop, and leaves at that moment
-  pub last-inside : (j n : ℕ) → IsLastToLeave (leavings_of v) j n → j < jobs v.planned
-  last-inside j n last = omega (arith, last.inside, moments_length kept (jobs v.planned))
+  -- such a job's kept leaving is that moment
+  pub last-kept : (j n : ℕ) → IsLastToLeave p j n → leaves_at p t j ≡ n
+  last-kept j n last = (let path = last.reached in omega (arith, leaves_by n last.makespan j last.inside, (leaving_greatest p t ordered j last.inside).longest path.0 n path.1))
 
-  pub last-kept : (j n : ℕ) → IsLastToLeave (leavings_of v) j n → kept j ≡ n
-  last-kept j n last = sym (moments_at kept (jobs v.planned) j (last-inside j n last)) ∙ last.moment
-
-  -- one more job's line is written
-  pub lines_more : (old text new : List ℕ) (n moment due : ℕ) → n < jobs v.planned → text ≡ old ++ leaving_lines_below v.planned (leavings_of v) n → moment ≡ kept n → due ≡ budget v.planned n
-      → new ≡ text ++ leaving_line n moment due → new ≡ old ++ leaving_lines_below v.planned (leavings_of v) (n + 1)
-  lines_more old text new n moment due inside written is_kept is_budget added =
-      let below = leaving_lines_below v.planned (leavings_of v) n in
-      let line = leaving_line n (get_or (leavings_of v) n 0) (budget v.planned n) in
-      let same : leaving_line n moment due ≡ line =
-      ap (λ m. leaving_line n m due) (is_kept ∙ sym (moments_at kept (jobs v.planned) n inside)) ∙ ap (λ b. leaving_line n (get_or (leavings_of v) n 0) b) is_budget in
-      added ∙ ap (λ l. text ++ l) same ∙ ap (λ l. l ++ line) written ∙ append_assoc old below line ∙ ap (λ l. old ++ l) (sym (lines_below_more v.planned (leavings_of v) n))
+-- a plan has one list of leavings
+pub same_leavings : (p : PlannedShop) (one other : List ℕ) → AreLeavings p one → AreLeavings p other → one ≡ other
+same_leavings p one other are also = same_number_lists one other (are.size ∙ sym also.size) (λ k lt.
+    (let inside : k < jobs p = omega (arith, lt, are.size) in
+    let here = are.greatest k inside in
+    let there = also.greatest k inside in
+    omega (arith, here.longest there.reached.0 _ there.reached.1, there.longest here.reached.0 _ here.reached.1)))

@@ -7,6 +7,7 @@ use Rattle.alt_graph.proofs.Paths.{path_begins}
 use Rattle.plan_verifier.specs.declared.verdict.Verdict.{Verdict}
 use Rattle.plan_verifier.specs.declared.verdict.Verdict.TheVariants.{Accepted, Refused}
 use Rattle.plan_verifier.specs.Verdicts.{OnRefused, IsReason}
+use Rattle.plan_explain.specs.Added.{Adds}
 use Rattle.plan_explain.specs.Chains.{IsPath, AreAlong, length_from, release_line, reached_lines, chain_lines}
 use Rattle.plan_explain.proofs.ArcFacts.{path_led}
 
@@ -19,9 +20,14 @@ on_ok_same (Err e) new one other same is = tt
 pub four_parts : (a b c d : List ℕ) → a ++ (b ++ (c ++ (d ++ []))) ≡ a ++ b ++ c ++ d
 four_parts a b c d = ap (λ l. a ++ (b ++ (c ++ l))) (append-nil d) ∙ sym (append_assoc (a ++ b) c d ∙ append_assoc a b (c ++ d))
 
--- three texts added to none
-pub three_parts : (t0 t1 t2 t3 a b c : List ℕ) → t0 ≡ [] → t1 ≡ t0 ++ a → t2 ≡ t1 ++ b → t3 ≡ t2 ++ c → t3 ≡ a ++ b ++ c
-three_parts t0 t1 t2 t3 a b c none one two three = three ∙ ap (λ l. l ++ c) (two ∙ ap (λ l. l ++ b) (one ∙ ap (λ l. l ++ a) none))
+-- what is added is a text of which P holds
+pub on_ok_adds : {T E : Type 0} (P : List ℕ → Type 0) (r : Result T E) (old new added : List ℕ) → P added → OnOk r (new ≡ old ++ added) → OnOk r (Adds P old new)
+on_ok_adds P (Ok x) old new added holds is = (added, holds, is)
+on_ok_adds P (Err e) old new added holds is = tt
+
+-- two texts are added, one behind the other
+pub on_ok_both : {T E : Type 0} (P : List ℕ → Type 0) (r : Result T E) (old mid new a b : List ℕ) → mid ≡ old ++ a → P (a ++ b) → OnOk r (new ≡ mid ++ b) → OnOk r (Adds P old new)
+on_ok_both P r old mid new a b one holds two = on_ok_adds P r old new (a ++ b) holds (on_ok_same r new _ _ (ap (λ l. l ++ b) one ∙ append_assoc old a b) two)
 
 -- the lines of a chain are that of its first node and those of the others
 pub chain_parts : (p : PlannedShop) (first : Node) (rest : List Node) (at : ℕ) (old mid : List ℕ) → at ≡ release p first.job → mid ≡ old ++ release_line at first

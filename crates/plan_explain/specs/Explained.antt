@@ -6,36 +6,36 @@ use Rattle.shop_base.specs.Graph.{leaving, Path}
 use Rattle.plan_verifier.specs.declared.verdict.Verdict.{Verdict}
 use Rattle.plan_verifier.specs.declared.verdict.Verdict.TheVariants.{Accepted, Refused}
 use Rattle.plan_verifier.specs.declared.verdict.Why.TheVariants.{Cycle, Late}
-use Rattle.plan_explain.specs.FirstLines.{accepted_line, cycle_line, refused_late_line}
+use Rattle.plan_explain.specs.FirstLines.{IsFirstLine}
 use Rattle.plan_explain.specs.Leavings.{AreLeavings, IsLastToLeave, leaving_lines}
 use Rattle.plan_explain.specs.Cycles.{cycle_lines}
 use Rattle.plan_explain.specs.Chains.{chain_lines}
 
--- a cycle explained
-abbrev pub cycle_text : PlannedShop → List Node → List ℕ
-cycle_text p nodes = cycle_line nodes ++ cycle_lines p nodes
-
--- a late job explained
-abbrev pub late_text : PlannedShop → ℕ → ℕ → List Node → List ℕ
-late_text p job leaves chain = refused_late_line job leaves chain ++ chain_lines p chain
-
--- an accepted plan explained, by its makespan, the jobs' leavings and a chain
-abbrev pub accepted_text : PlannedShop → ℕ → List ℕ → List Node → List ℕ
-accepted_text p makespan leaves chain = accepted_line makespan leaves ++ leaving_lines p leaves ++ chain_lines p chain
-
--- an accepted plan explained: the chain is any longest one to the leaving of the least job that leaves last
-pub record IsAcceptedText (p : PlannedShop) (text : List ℕ) : Type 0 where
+-- a line for each job's leaving, and then those of the chain
+pub record AreMomentLines (p : PlannedShop) (chain : List Node) (lines : List ℕ) : Type 0 where
   pub leaves : List ℕ
   pub leavings : AreLeavings p leaves
-  pub makespan : ℕ
+  pub are : lines ≡ leaving_lines p leaves ++ chain_lines p chain
+
+-- these lines of an accepted plan: the chain is any longest one to the leaving of the least job that leaves last
+pub record AreAcceptedLines (p : PlannedShop) (lines : List ℕ) : Type 0 where
   pub last : ℕ
-  pub leaves_last : IsLastToLeave leaves last makespan
+  pub makespan : ℕ
+  pub leaves_last : IsLastToLeave p last makespan
   pub chain : List Node
   pub path : Path p chain (leaving p last) makespan
-  pub lines : text ≡ accepted_text p makespan leaves chain
+  pub are : AreMomentLines p chain lines
 
--- the explanation of a verdict
-abbrev pub IsExplained : Verdict → List ℕ → Type 0
-IsExplained (Accepted verified) text = IsAcceptedText verified.planned text
-IsExplained (Refused back (Cycle nodes)) text = text ≡ cycle_text back nodes.items
-IsExplained (Refused back (Late job leaves chain)) text = text ≡ late_text back job leaves chain.items
+-- the lines behind the first one of a verdict: the arcs of the cycle; or the leavings, and the arcs of the chain that it tells; or those of an accepted plan
+abbrev pub AreBehind : Verdict → List ℕ → Type 0
+AreBehind (Accepted verified) lines = AreAcceptedLines verified.planned lines
+AreBehind (Refused back (Cycle nodes)) lines = lines ≡ cycle_lines back nodes.items
+AreBehind (Refused back (Late job leaves chain times)) lines = AreMomentLines back chain.items lines
+
+-- the explanation of a verdict: its first line, and then those behind it
+pub record IsExplained (verdict : Verdict) (text : List ℕ) : Type 0 where
+  pub first : List ℕ
+  pub is : IsFirstLine verdict first
+  pub behind : List ℕ
+  pub are : AreBehind verdict behind
+  pub both : text ≡ first ++ behind

@@ -1,11 +1,14 @@
 -- The first lines of verdicts.
-use Rattle.std.specs.Prelude.{ℕ, zero, suc, List, [], ◌∷◌, ◌++◌, codes, decimal}
+use Rattle.std.specs.Prelude.{◌≡◌, ℕ, List, ◌++◌, codes, decimal}
 use Rattle.std.specs.List.{flat_map}
 use Rattle.shop_base.specs.declared.node.Node.{Node}
 use Rattle.shop_base.specs.NodeText.{node_text}
-use Rattle.shop_base.specs.Plan.{jobs}
-use Rattle.shop_base.specs.Graph.{leaving}
-use Rattle.plan_verifier.specs.Accepted.{VerifiedPlan, kept_at}
+use Rattle.shop_base.specs.Plan.{PlannedShop}
+use Rattle.plan_verifier.specs.declared.verdict.Verdict.{Verdict}
+use Rattle.plan_verifier.specs.declared.verdict.Verdict.TheVariants.{Accepted, Refused}
+use Rattle.plan_verifier.specs.declared.verdict.Why.TheVariants.{Cycle, Late}
+use Rattle.plan_verifier.specs.Accepted.{IsMakespan}
+use Rattle.plan_explain.specs.Leavings.{AreLeavings}
 
 -- the nodes, with a blank before each
 abbrev pub node_words : List Node → List ℕ
@@ -14,15 +17,6 @@ node_words nodes = flat_map (λ v. codes " " ++ node_text v) nodes
 -- the moments, with a blank before each
 abbrev pub moment_words : List ℕ → List ℕ
 moment_words moments = flat_map (λ n. codes " " ++ decimal n) moments
-
--- the moments of the first n jobs
-abbrev pub moments_below : (ℕ → ℕ) → ℕ → List ℕ
-moments_below f zero = []
-moments_below f (suc n) = moments_below f n ++ f n ∷ []
-
--- the moments kept for the leavings of an accepted plan
-abbrev pub leavings_of : VerifiedPlan → List ℕ
-leavings_of v = moments_below (λ j. kept_at v (leaving v.planned j)) (jobs v.planned)
 
 -- the line of an accepted plan, by its makespan and the jobs' leavings
 abbrev pub accepted_line : ℕ → List ℕ → List ℕ
@@ -39,3 +33,17 @@ late_words job leaves = codes "refused late " ++ decimal job ++ codes " " ++ dec
 -- the line of a late job: these words, and then the nodes
 abbrev pub refused_late_line : ℕ → ℕ → List Node → List ℕ
 refused_late_line job leaves chain = codes "refused late " ++ decimal job ++ codes " " ++ decimal leaves ++ node_words chain ++ codes "\n"
+
+-- the line tells the makespan and the leavings of the plan
+pub record TellsAccepted (p : PlannedShop) (line : List ℕ) : Type 0 where
+  pub makespan : ℕ
+  pub is : IsMakespan p makespan
+  pub leaves : List ℕ
+  pub leavings : AreLeavings p leaves
+  pub words : line ≡ accepted_line makespan leaves
+
+-- the first line of a verdict
+abbrev pub IsFirstLine : Verdict → List ℕ → Type 0
+IsFirstLine (Accepted verified) line = TellsAccepted verified.planned line
+IsFirstLine (Refused back (Cycle nodes)) line = line ≡ cycle_line nodes.items
+IsFirstLine (Refused back (Late job leaves chain times)) line = line ≡ refused_late_line job leaves chain.items

@@ -1,8 +1,9 @@
--- The jobs' leavings of an accepted plan, and their lines.
-use Rattle.std.specs.Prelude.{◌≡◌, ℕ, zero, suc, ◌-◌, ◌<◌, ◌≤◌, List, [], ◌∷◌, ◌++◌, codes, decimal, length, slice_index}
+-- The jobs' leavings of a plan without a cycle, and their lines.
+use Rattle.std.specs.Prelude.{◌≡◌, ℕ, zero, suc, ◌-◌, ◌<◌, nat_lt, if◌then◌else◌, List, [], ◌∷◌, ◌++◌, codes, decimal, length, slice_index}
+use Rattle.shop_base.specs.declared.node.Node.{Node}
 use Rattle.shop_base.specs.Plan.{PlannedShop, jobs, budget}
-use Rattle.shop_base.specs.Graph.{leaving}
-use Rattle.plan_verifier.specs.Accepted.{IsGreatest}
+use Rattle.shop_base.specs.Graph.{leaving, Path}
+use Rattle.plan_verifier.specs.Accepted.{IsGreatest, IsMakespan}
 use Rattle.plan_explain.specs.Arcs.{before}
 
 -- each job's earliest leaving: the greatest length of a path to it
@@ -10,17 +11,20 @@ pub record AreLeavings (p : PlannedShop) (leaves : List ℕ) : Type 0 where
   pub size : length leaves ≡ jobs p
   pub greatest : (j : ℕ) → j < jobs p → IsGreatest p (leaving p j) (slice_index leaves j)
 
--- the least job that leaves last, and when
-pub record IsLastToLeave (leaves : List ℕ) (j n : ℕ) : Type 0 where
-  pub inside : j < length leaves
-  pub moment : slice_index leaves j ≡ n
-  pub latest : (i : ℕ) → i < length leaves → slice_index leaves i ≤ n
-  pub first : (i : ℕ) → i < j → slice_index leaves i < n
+-- the least job that leaves last, and when: at the makespan, before which each job with a lesser number leaves
+pub record IsLastToLeave (p : PlannedShop) (j n : ℕ) : Type 0 where
+  pub makespan : IsMakespan p n
+  pub inside : j < jobs p
+  pub reached : (nodes : List Node) × Path p nodes (leaving p j) n
+  pub first : (i : ℕ) (nodes : List Node) (k : ℕ) → i < j → Path p nodes (leaving p i) k → k < n
 
--- `job J leaves L budget B slack S`: the slack is what is left to the budget
+-- ` slack S`, what is left to the budget; or ` late D`, by how much the leaving is past it
+abbrev pub margin_words : ℕ → ℕ → List ℕ
+margin_words leaves budget = if nat_lt budget leaves then codes " late " ++ decimal (leaves - budget) else codes " slack " ++ decimal (budget - leaves)
+
+-- `job J leaves L budget B slack S`, or `.. late D`
 abbrev pub leaving_line : ℕ → ℕ → ℕ → List ℕ
-leaving_line j leaves budget =
-    before (codes "job " ∷ decimal j ∷ codes " leaves " ∷ decimal leaves ∷ codes " budget " ∷ decimal budget ∷ codes " slack " ∷ decimal (budget - leaves) ∷ []) (codes "\n")
+leaving_line j leaves budget = before (codes "job " ∷ decimal j ∷ codes " leaves " ∷ decimal leaves ∷ codes " budget " ∷ decimal budget ∷ margin_words leaves budget ∷ []) (codes "\n")
 
 -- the lines of the first n jobs
 abbrev pub leaving_lines_below : PlannedShop → List ℕ → ℕ → List ℕ

@@ -1,14 +1,15 @@
 -- What the lines of explanations say.
-use Rattle.std.specs.Prelude.{◌≡◌, ℕ, ◌+◌, ◌<◌, List, [], ◌∷◌, ◌++◌, codes, decimal}
+use Rattle.std.specs.Prelude.{◌≡◌, ℕ, ◌+◌, ◌<◌, ◌⊎◌, List, [], ◌∷◌, ◌++◌}
 use Rattle.shop_base.specs.declared.node.Node.{Node}
-use Rattle.shop_base.specs.NodeText.{node_text}
 use Rattle.shop_base.specs.Plan.{PlannedShop, steps, machine_of, nominal, clean, Stands, IsWellShaped}
 use Rattle.shop_base.specs.Graph.{node, Arc, HasArc, Path, IsSimpleCycle}
 use Rattle.alt_graph.specs.Evidence.{EndsIn}
+use Rattle.plan_verifier.specs.declared.verdict.Verdict.{Verdict}
 use Rattle.plan_explain.specs.declared.arcs.ToldArc.TheVariants.{Job, Blocking}
-use Rattle.plan_explain.specs.Arcs.{before, time_of, told_arc}
+use Rattle.plan_explain.specs.Arcs.{time_of, told_arc}
 use Rattle.plan_explain.specs.Cycles.{arc_line, cycle_lines}
-use Rattle.plan_explain.specs.Chains.{reached_line, reached_lines, chain_lines}
+use Rattle.plan_explain.specs.Chains.{release_line, reached_line, reached_lines, chain_lines}
+use Rattle.plan_explain.specs.FirstLines.{IsFirstLine}
 
 -- each arc of the plan is told as it is, and takes the time that is told
 pub record AreArcsTold (p : PlannedShop) : Type 0 where
@@ -25,16 +26,20 @@ abbrev pub EachLineTellsThePathUpToIt : Type 0
 EachLineTellsThePathUpToIt = (p : PlannedShop) (path nodes : List Node) (u v : Node) (n d : ℕ) → IsWellShaped p → Path p path u n → Arc p u v d
     → chain_lines p (path ++ v ∷ nodes) ≡ chain_lines p path ++ (reached_line (n + d) v (told_arc p u v) ++ reached_lines p (n + d) v nodes)
 
--- the line begins with this moment and this node
-abbrev pub IsLineOf : ℕ → Node → List ℕ → Type 0
-IsLineOf n v line = (words : List ℕ) × (line ≡ before (decimal n ∷ codes " " ∷ node_text v ∷ []) words)
+-- the last line of a path to v of length n: of the arc to v from the node before it, or, where there is none, of the release of v's job
+abbrev pub IsLastLine : PlannedShop → List Node → Node → ℕ → List ℕ → Type 0
+IsLastLine p nodes v n line = ((front : List Node) × (u : Node) × (nodes ≡ front ++ u ∷ v ∷ []) × (line ≡ reached_line n v (told_arc p u v))) ⊎ ((nodes ≡ v ∷ []) × (line ≡ release_line n v))
 
 -- the last line of a path's lines is of its last node, and tells its length
 abbrev pub TheLastLineTellsTheLength : Type 0
 TheLastLineTellsTheLength = (p : PlannedShop) (nodes : List Node) (v : Node) (n : ℕ) → IsWellShaped p → Path p nodes v n
-    → (lines last : List ℕ) × (chain_lines p nodes ≡ lines ++ last) × IsLineOf n v last
+    → (lines last : List ℕ) × (chain_lines p nodes ≡ lines ++ last) × IsLastLine p nodes v n last
 
 -- the last line of a cycle's lines is of the arc from its last node to its first
 abbrev pub TheLinesOfACycleClose : Type 0
 TheLinesOfACycleClose = (p : PlannedShop) (first : Node) (rest : List Node) → IsSimpleCycle p (first ∷ rest)
     → (lines : List ℕ) × (last : Node) × (cycle_lines p (first ∷ rest) ≡ lines ++ arc_line p last first) × EndsIn (first ∷ rest) last × HasArc p last first
+
+-- a verdict has one first line: so what `check` says of a verdict and what `explain` says of it begin with the same line
+abbrev pub AVerdictHasOneFirstLine : Type 0
+AVerdictHasOneFirstLine = (verdict : Verdict) (one other : List ℕ) → IsFirstLine verdict one → IsFirstLine verdict other → one ≡ other

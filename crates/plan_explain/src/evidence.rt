@@ -1,72 +1,83 @@
 //! The explanation of a verdict.
 
-ghost use Rattle.std.specs.Prelude.{◌≡◌, ◌<◌, IfOk};
+ghost use Rattle.std.specs.Prelude.{◌<◌, IfOk, OnOk};
 ghost use Rattle.shop_base.specs.Plan.{jobs};
-ghost use Rattle.alt_graph.specs.Evidence.{IsCycle};
+ghost use Rattle.alt_graph.specs.Times.{AreOrdered};
 ghost use Rattle.plan_verifier.specs.Accepted.{IsPathToLeaving};
 ghost use Rattle.plan_verifier.specs.Verdicts.{OnRefused, IsReason, IsFirstLate};
-ghost use Rattle.plan_explain.specs.Explained.{cycle_text, late_text, IsAcceptedText, IsExplained};
+ghost use Rattle.plan_explain.specs.Added.{Adds};
+ghost use Rattle.plan_explain.specs.Explained.{AreMomentLines, AreAcceptedLines, AreBehind, IsExplained};
 
 use crate::chains::push_chain_lines;
 use crate::cycles::push_cycle_lines;
-use crate::first_lines::{push_accepted_line, push_cycle_line, push_late_line};
+use crate::first_lines::first_line;
 use crate::leaving_lines::{last_to_leave, push_leaving_lines};
+use alt_graph::Times;
 use plan_verifier::{Verdict, Verified, Why};
 use shop_base::{JobNo, Moment, Node, Shaped};
 use std::alloc::{AllocError, Global};
 
-/// Why a plan is accepted or refused. After the verdict's first line come the arcs of a cycle; or the arcs of
-/// the chain to the late job's leaving; or each job's leaving, budget and slack, and the arcs of a longest chain
-/// to the leaving of the least job that leaves last. A refusal has the evidence that `verify` gave.
+/// Why a plan is accepted or refused. After [`first_line`] come the arcs of a cycle; or each job's leaving, its
+/// budget and what is left to it or by how much it is late, and the arcs of a chain: of the one to the late
+/// job's leaving that the first line tells, or of a longest one to the leaving of the least job that leaves
+/// last. A refusal has the evidence that `verify` gave.
 pub fn explain(alloc: Global, verdict: &Verdict) -> Result<Vec<u8>, AllocError>
     requires { OnRefused IsReason verdict.now }
     ensures { IfOk result (λ text. IsExplained verdict.now text.items) }
 {
+    let mut text = first_line(alloc, verdict)?;
+    push_lines_behind(alloc, &mut text, verdict)?;
+    Ok(text)
+}
+
+/// Adds the lines behind the first one.
+fn push_lines_behind(alloc: Global, text: &mut Vec<u8>, verdict: &Verdict) -> Result<(), AllocError>
+    requires { OnRefused IsReason verdict.now }
+    ensures { OnOk result (Adds (AreBehind verdict.now) text.old.items text.new.items) }
+{
     match verdict {
-        Verdict::Accepted(verified) => explain_accepted(alloc, verified),
-        Verdict::Refused(shaped, Why::Cycle(nodes)) => explain_cycle(alloc, shaped, nodes),
-        Verdict::Refused(shaped, Why::Late { job, leaves, chain }) => {
-            explain_late(alloc, shaped, *job, *leaves, chain)
-        }
+        Verdict::Accepted(verified) => push_accepted_lines(alloc, text, verified),
+        Verdict::Refused(shaped, Why::Cycle(nodes)) => push_cycle_lines(text, shaped, nodes),
+        Verdict::Refused(
+            shaped,
+            Why::Late {
+                job,
+                leaves,
+                chain,
+                times,
+            },
+        ) => push_late_lines(text, shaped, times, *job, *leaves, chain),
     }
 }
 
-fn explain_cycle(alloc: Global, shaped: &Shaped, nodes: &[Node]) -> Result<Vec<u8>, AllocError>
-    requires { IsCycle shaped.now nodes.now }
-    ensures { IfOk result (λ text. text.items ≡ cycle_text shaped.now nodes.now) }
-{
-    let mut text = Vec::new(alloc);
-    push_cycle_line(&mut text, nodes)?;
-    push_cycle_lines(&mut text, shaped, nodes)?;
-    Ok(text)
-}
-
-fn explain_late(
-    alloc: Global,
+fn push_late_lines(
+    text: &mut Vec<u8>,
     shaped: &Shaped,
+    times: &Times,
     job: JobNo,
     leaves: Moment,
     chain: &[Node],
-) -> Result<Vec<u8>, AllocError>
-    requires { IsFirstLate shaped.now job leaves chain.now }
-    ensures { IfOk result (λ text. text.items ≡ late_text shaped.now job leaves chain.now) }
+) -> Result<(), AllocError>
+    requires late { IsFirstLate shaped.now job leaves chain.now }
+    requires ordered { AreOrdered shaped.now times.now }
+    ensures { OnOk result (Adds (AreMomentLines shaped.now chain.now) text.old.items text.new.items) }
 {
-    let mut text = Vec::new(alloc);
-    push_late_line(&mut text, job, leaves, chain)?;
-    push_chain_lines(&mut text, shaped, chain)?;
-    Ok(text)
+    push_leaving_lines(text, shaped, times)?;
+    push_chain_lines(text, shaped, chain)
 }
 
-fn explain_accepted(alloc: Global, verified: &Verified) -> Result<Vec<u8>, AllocError>
-    ensures { IfOk result (λ text. IsAcceptedText verified.now.planned text.items) }
+fn push_accepted_lines(
+    alloc: Global,
+    text: &mut Vec<u8>,
+    verified: &Verified,
+) -> Result<(), AllocError>
+    ensures { OnOk result (Adds (AreAcceptedLines verified.now.planned) text.old.items text.new.items) }
 {
-    let makespan = verified.makespan();
-    let chain = chain_of(alloc, verified, last_to_leave(verified, makespan))?;
-    let mut text = Vec::new(alloc);
-    push_accepted_line(&mut text, verified, makespan)?;
-    push_leaving_lines(&mut text, verified)?;
-    push_chain_lines(&mut text, verified.shaped(), &chain)?;
-    Ok(text)
+    let (shaped, times) = (verified.shaped(), verified.times());
+    let last = last_to_leave(shaped, times, verified.makespan());
+    let chain = chain_of(alloc, verified, last)?;
+    push_leaving_lines(text, shaped, times)?;
+    push_chain_lines(text, shaped, &chain)
 }
 
 /// A longest chain to the job's leaving.

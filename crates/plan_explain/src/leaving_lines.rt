@@ -1,64 +1,44 @@
-//! The lines of the jobs of an accepted plan.
+//! The lines of the jobs of a plan without a cycle.
 
-ghost use Rattle.std.specs.Prelude.{◌≡◌, ◌<◌, ◌≤◌, ◌++◌, OnOk};
-ghost use Rattle.shop_base.specs.Plan.{jobs, budget};
-ghost use Rattle.shop_base.specs.Graph.{leaving};
-ghost use Rattle.plan_verifier.specs.Accepted.{IsMakespan, kept_at};
-ghost use Rattle.plan_explain.specs.FirstLines.{leavings_of};
-ghost use Rattle.plan_explain.specs.Leavings.{leaving_line, leaving_lines, IsLastToLeave};
+ghost use Rattle.std.specs.Prelude.{◌≡◌, ◌+◌, ◌≤◌, ◌++◌, length, OnOk};
+ghost use Rattle.alt_graph.specs.Times.{AreOrdered};
+ghost use Rattle.plan_verifier.specs.Accepted.{IsMakespan};
+ghost use Rattle.plan_explain.specs.Moments.{leavings_of};
+ghost use Rattle.plan_explain.specs.Leavings.{margin_words, leaving_line, leaving_lines, IsLastToLeave};
 
 use crate::words::{Line, push_line};
-use plan_verifier::Verified;
-use shop_base::{JobNo, Moment};
+use alt_graph::Times;
+use plan_verifier::leave_time;
+use shop_base::{JobNo, Moment, Shaped};
 use std::alloc::AllocError;
 
-/// How many jobs there are.
-pub(crate) fn jobs_of(verified: &Verified) -> u32
-    ensures { result ≡ jobs verified.now.planned }
-{
-    verified.shaped().job_count()
-}
-
-/// The moment kept for the job's leaving.
-pub(crate) fn leave_of(verified: &Verified, job: JobNo) -> Moment
-    requires { job < jobs verified.now.planned }
-    ensures { result ≡ kept_at verified.now (leaving verified.now.planned job) }
-{
-    match verified.earliest_leave(job) {
-        Some(moment) => moment,
-        None => unreachable!(),
-    }
-}
-
 /// Adds a line for each job, in ascending order.
-pub(crate) fn push_leaving_lines(text: &mut Vec<u8>, verified: &Verified) -> Result<(), AllocError>
-    ensures { let v = verified.now in
-        OnOk result (text.new.items ≡ text.old.items ++ leaving_lines v.planned (leavings_of v)) }
+pub(crate) fn push_leaving_lines(
+    text: &mut Vec<u8>,
+    shaped: &Shaped,
+    times: &Times,
+) -> Result<(), AllocError>
+    requires { AreOrdered shaped.now times.now }
+    ensures { OnOk result (text.new.items ≡ text.old.items ++ leaving_lines shaped.now (leavings_of shaped.now times.now)) }
 {
-    for job in 0..jobs_of(verified) {
-        push_leaving_line(
-            text,
-            job,
-            leave_of(verified, job),
-            verified.shaped().budget_of(job),
-        )?;
+    for job in 0..shaped.job_count() {
+        let leaves = leave_time(shaped, times, job);
+        push_leaving_line(text, job, leaves, shaped.budget_of(job))?;
     }
     Ok(())
 }
 
-/// Adds `job J leaves L budget B slack S`.
+/// Adds `job J leaves L budget B slack S`, or `.. late D`.
 fn push_leaving_line(
     text: &mut Vec<u8>,
     job: JobNo,
     leaves: Moment,
     budget: Moment,
 ) -> Result<(), AllocError>
-    requires { leaves ≤ budget }
     ensures { OnOk result (text.new.items ≡ text.old.items ++ leaving_line job leaves budget) }
 {
     let mut line = Line::ended();
-    line.put_number(budget - leaves);
-    line.put_text(b" slack ");
+    put_margin(&mut line, leaves, budget);
     line.put_number(budget);
     line.put_text(b" budget ");
     line.put_number(leaves);
@@ -68,13 +48,29 @@ fn push_leaving_line(
     push_line(text, &line)
 }
 
-/// The least job that leaves last.
-pub(crate) fn last_to_leave(verified: &Verified, makespan: Moment) -> JobNo
-    requires { IsMakespan verified.now makespan }
-    ensures { IsLastToLeave (leavings_of verified.now) result makespan }
+/// Writes what is left to the budget, or by how much the leaving is past it.
+fn put_margin(line: &mut Line, leaves: Moment, budget: Moment)
+    requires { length line.old ≤ 1 }
+    ensures written { line.new ≡ margin_words leaves budget ++ line.old }
+    ensures length { length line.new ≤ 28 + length line.old }
 {
-    for job in 0..jobs_of(verified) {
-        if leave_of(verified, job) == makespan {
+    if budget < leaves {
+        line.put_number(leaves - budget);
+        line.put_text(b" late ");
+    } else {
+        line.put_number(budget - leaves);
+        line.put_text(b" slack ");
+    }
+}
+
+/// The least job that leaves last.
+pub(crate) fn last_to_leave(shaped: &Shaped, times: &Times, makespan: Moment) -> JobNo
+    requires ordered { AreOrdered shaped.now times.now }
+    requires makespan { IsMakespan shaped.now makespan }
+    ensures { IsLastToLeave shaped.now result makespan }
+{
+    for job in 0..shaped.job_count() {
+        if leave_time(shaped, times, job) == makespan {
             return job;
         }
     }

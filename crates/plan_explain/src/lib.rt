@@ -12,4 +12,4 @@ mod leaving_lines;
 mod words;
 
 pub use evidence::explain;
-pub use first_lines::{push_accepted_line, push_cycle_line, push_late_line};
+pub use first_lines::first_line;

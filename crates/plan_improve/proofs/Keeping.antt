@@ -8,9 +8,10 @@ use Rattle.shop_base.specs.Graph.{leaving}
 use Rattle.shop_base.proofs.Sums.{sum_below_same}
 use Rattle.plan_verifier.specs.Accepted.{IsGreatest}
 use Rattle.plan_seek.specs.Orders.{Proposal}
+use Rattle.plan_verifier.proofs.Reasons.{makespan_le}
 use Rattle.plan_improve.specs.declared.cost.Cost.{Cost}
 use Rattle.plan_improve.specs.declared.best.Best.{Best}
-use Rattle.plan_improve.specs.Costs.{IsLateness, IsMakespanOf, IsCost, IsLess, IsAtMost, IsBetter}
+use Rattle.plan_improve.specs.Costs.{IsLateness, IsCost, IsLess, IsAtMost, IsBetter}
 use Rattle.plan_improve.specs.Reordered.{reordered, IsReordered}
 use Rattle.plan_improve.specs.Watching.{Told, IsToldMore}
 use Rattle.plan_improve.specs.Runs.{Becomes, no_answer, no_better, better, AfterSome, nobody, one_more, AfterRounds, no_round, round_more}
@@ -43,9 +44,6 @@ lateness_once p m n one other = one.sum ∙ same ∙ sym other.sum
     same : sum_below (λ j. one.leaves j - budget p j) (jobs p) ≡ sum_below (λ j. other.leaves j - budget p j) (jobs p)
     same = sum_below_same _ _ (jobs p)
         (λ j inside. ap (λ leaves. leaves - budget p j) (greatest_once p (leaving p j) (one.leaves j) (other.leaves j) (one.are j inside) (other.are j inside)))
-
-pub makespan_le : (p : PlannedShop) (m n : ℕ) → IsMakespanOf p m → IsMakespanOf p n → m ≤ n
-makespan_le p m n one other = other.bound one.reached.0 one.reached.2 m one.reached.1 one.reached.3
 
 less_is : (c d e : Cost) → c.late ≡ d.late → c.makespan ≡ d.makespan → IsLess d e → IsLess c e
 less_is c d e late makespan (inl less) = inl (omega arith)

@@ -4,10 +4,11 @@ use Rattle.shop_base.specs.Plan.{PlannedShop, jobs, budget}
 use Rattle.shop_base.specs.Ends.{sum_below}
 use Rattle.shop_base.proofs.Sums.{sum_below_zero, sum_below-le}
 use Rattle.plan_verifier.specs.Accepted.{IsAcceptable}
+use Rattle.plan_verifier.proofs.Reasons.{makespan_le}
 use Rattle.plan_improve.specs.declared.cost.Cost.{Cost}
 use Rattle.plan_improve.specs.Costs.{IsCost, IsAtMost}
 use Rattle.plan_improve.specs.Laws.{AcceptedPlansStayAccepted, TheirMakespansNeverGrow, ASecondSearchIsNoWorse, NoWorseIsPassedOn}
-use Rattle.plan_improve.proofs.Keeping.{most_of_most, makespan_le, same_late, same_makespan}
+use Rattle.plan_improve.proofs.Keeping.{most_of_most, same_late, same_makespan}
 
 -- a plan to be accepted is never late
 never_late : (p : PlannedShop) (c : Cost) → IsAcceptable p → IsCost p c → c.late ≡ 0

@@ -1,19 +1,10 @@
 -- What a plan costs: its total lateness and its makespan, by the lengths of its paths; and which of two plans is better.
-use Rattle.std.specs.Prelude.{◌≡◌, ℕ, ◌-◌, ◌<◌, ◌≤◌, ◌⊎◌, List}
-use Rattle.shop_base.specs.declared.node.Node.{Node}
+use Rattle.std.specs.Prelude.{◌≡◌, ℕ, ◌-◌, ◌<◌, ◌≤◌, ◌⊎◌}
 use Rattle.shop_base.specs.Plan.{PlannedShop, jobs, budget, IsWellShaped}
-use Rattle.shop_base.specs.Graph.{leaving, Path}
+use Rattle.shop_base.specs.Graph.{leaving}
 use Rattle.shop_base.specs.Ends.{sum_below}
-use Rattle.plan_verifier.specs.Accepted.{HasNoCycle, IsGreatest}
+use Rattle.plan_verifier.specs.Accepted.{HasNoCycle, IsGreatest, IsMakespan}
 use Rattle.plan_improve.specs.declared.cost.Cost.{Cost}
-
--- a path to the leaving of some job is as long as that job's moment
-abbrev pub IsReached : PlannedShop → (ℕ → ℕ) → Type 0
-IsReached p moment = (j : ℕ) × (j < jobs p) × (nodes : List Node) × Path p nodes (leaving p j) (moment j)
-
--- no path to the leaving of any job is longer than that job's moment
-abbrev pub AreBounded : PlannedShop → (ℕ → ℕ) → Type 0
-AreBounded p moment = (j : ℕ) (nodes : List Node) (k : ℕ) → j < jobs p → Path p nodes (leaving p j) k → k ≤ moment j
 
 -- these are the earliest leavings: of each job the greatest length of a path to its leaving
 abbrev pub AreLeavings : PlannedShop → (ℕ → ℕ) → Type 0
@@ -25,16 +16,11 @@ pub record IsLateness (p : PlannedShop) (n : ℕ) : Type 0 where
   pub are : AreLeavings p leaves
   pub sum : n ≡ sum_below (λ j. leaves j - budget p j) (jobs p)
 
--- the makespan (Pinedo, Scheduling: C_max): no path to a leaving is longer than n, and one is as long
-pub record IsMakespanOf (p : PlannedShop) (n : ℕ) : Type 0 where
-  pub bound : AreBounded p (λ j. n)
-  pub reached : IsReached p (λ j. n)
-
 -- the plan has no cycle, and these are its total lateness and its makespan
 pub record IsCost (p : PlannedShop) (c : Cost) : Type 0 where
   pub acyclic : HasNoCycle p
   pub late : IsLateness p c.late
-  pub makespan : IsMakespanOf p c.makespan
+  pub makespan : IsMakespan p c.makespan
 
 -- a cost is less: less late, or as late with a lesser makespan
 abbrev pub IsLess : Cost → Cost → Type 0

@@ -1,8 +1,8 @@
 -- The laws of better plans: what is no worse stays accepted, and a second search gives nothing worse than the first.
 use Rattle.std.specs.Prelude.{ℕ, ◌≤◌}
 use Rattle.shop_base.specs.Plan.{PlannedShop}
-use Rattle.plan_verifier.specs.Accepted.{HasNoCycle, IsAcceptable}
-use Rattle.plan_improve.specs.Costs.{IsMakespanOf, IsNoWorse}
+use Rattle.plan_verifier.specs.Accepted.{HasNoCycle, IsAcceptable, IsMakespan}
+use Rattle.plan_improve.specs.Costs.{IsNoWorse}
 use Rattle.plan_improve.specs.Improved.{IsNeverWorse}
 
 -- a plan that is no worse than one to be accepted is to be accepted itself
@@ -11,7 +11,7 @@ AcceptedPlansStayAccepted = (p q : PlannedShop) → IsNoWorse q p → IsAcceptab
 
 -- and its makespan is no greater
 abbrev pub TheirMakespansNeverGrow : Type 0
-TheirMakespansNeverGrow = (p q : PlannedShop) (m n : ℕ) → IsNoWorse q p → IsAcceptable p → IsMakespanOf p m → IsMakespanOf q n → n ≤ m
+TheirMakespansNeverGrow = (p q : PlannedShop) (m n : ℕ) → IsNoWorse q p → IsAcceptable p → IsMakespan p m → IsMakespan q n → n ≤ m
 
 -- what a search gives of a plan without a cycle is no worse than that plan: so a second search gives nothing worse than the first one gave
 abbrev pub ASecondSearchIsNoWorse : Type 0

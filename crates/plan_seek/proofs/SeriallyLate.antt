@@ -14,5 +14,5 @@ use Rattle.plan_seek.proofs.SerialPlan.{serial-rises}
 pub serial_reason : (t : PlanTask) (p : PlannedShop) (why : Why) → IsWellShaped p → p ≡ serial_plan t → IsReason p why → IsSeriallyLate t
 serial_reason t p (Cycle nodes) shaped is cycle =
     absurd (serial_plan_has_no_cycle (serial_plan t) nodes.items (subst IsWellShaped is shaped) (serial-rises t) (subst (λ x. IsSimpleCycle x nodes.items) is (cycle_simple p nodes.items cycle)))
-serial_reason t p (Late job leaves chain) shaped is late =
-    record { job = job; leaves = leaves; chain = chain.items; late = subst (λ x. IsFirstLate x job leaves chain.items) is late }
+serial_reason t p (Late job leaves chain times) shaped is late =
+    record { job = job; leaves = leaves; chain = chain.items; late = subst (λ x. IsFirstLate x job leaves chain.items) is late.0 }

@@ -1,5 +1,5 @@
 -- The leavings of an ordered graph: their greatest lengths, and what these say of every exact run.
-use Rattle.std.proofs.Common.{◌≡◌, ℕ, ◌+◌, ◌<◌, ◌≤◌, List, length, max, Result, Ok, Err, IfOk, inl, inr, arith, refl, sym, ◌∙◌}
+use Rattle.std.proofs.Common.{◌≡◌, ◌↔◌, ℕ, ◌+◌, ◌<◌, ◌≤◌, List, length, max, Result, Ok, Err, IfOk, inl, inr, arith, refl, sym, subst, ◌∙◌}
 use Rattle.std.proofs.Math.Nat.{le-max_left, le-max_right, max-eq_left, max-eq_right}
 use Rattle.std.proofs.lemmas.Bool.{cases_lt, cases_order}
 use Rattle.std.proofs.lemmas.List.{length_push}
@@ -14,12 +14,13 @@ use Rattle.alt_graph.specs.Evidence.{IsChain}
 use Rattle.shop_base.specs.ExactLaw.{IsNeverGoneBefore}
 use Rattle.shop_base.specs.CycleLaw.{IsNeverDone, AreNeverMade}
 use Rattle.alt_graph.specs.Times.{NodeTimes, rank_of, earliest_of, AreOrdered}
-use Rattle.plan_verifier.specs.Accepted.{VerifiedPlan, kept_at, HasNoCycle, IsWithinBudget, IsGreatest, IsAcceptable, IsFirstPast, IsVerified, IsNeverGoneAfter, IsGoneJustAt, rank_in}
-use Rattle.alt_graph.proofs.CycleParts.{cycle_stops}
+use Rattle.plan_verifier.specs.Accepted.{VerifiedPlan, kept_at, HasNoCycle, IsWithinBudget, IsGreatest, IsAcceptable, IsFirstPast, IsVerified, IsMakespan, IsNeverGoneAfter, IsGoneJustAt, rank_in}
+use Rattle.alt_graph.proofs.CycleParts.{cycle_simple, cycle_stops}
 use Rattle.plan_verifier.specs.declared.verdict.Verdict.{Verdict}
 use Rattle.plan_verifier.specs.declared.verdict.Verdict.TheVariants.{Accepted, Refused}
+use Rattle.plan_verifier.specs.declared.verdict.Why.{Why}
 use Rattle.plan_verifier.specs.declared.verdict.Why.TheVariants.{Cycle, Late}
-use Rattle.plan_verifier.specs.Verdicts.{IsFirstLate, IsReason, OnRefused, OnCycle, OnLate, IsNeverInBudget}
+use Rattle.plan_verifier.specs.Verdicts.{IsFirstLate, IsReason, SaysAccepted, OnAccepted, OnRefused, OnCycle, OnLate, IsNeverInBudget}
 
 -- a path has no more nodes than its last one's rank and one
 pub path_few : (p : PlannedShop) (rank : Node → ℕ) (nodes : List Node) (v : Node) (n : ℕ) → RanksRise p rank → Path p nodes v n → length nodes ≤ rank v + 1
@@ -88,17 +89,27 @@ IsReasoned p = OnRefused (λ back why. (back ≡ p) × IsReason p why)
 pub verdict_stops : (p : PlannedShop) (verdict : Verdict) → IsWellShaped p → IsReasoned p verdict → OnCycle (λ nodes. AreNeverMade p nodes × IsNeverDone p) verdict
 verdict_stops p (Accepted verified) shaped reasoned = tt
 verdict_stops p (Refused back (Cycle nodes)) shaped (same, cycle) = cycle_stops p nodes.items shaped cycle
-verdict_stops p (Refused back (Late job leaves chain)) shaped (same, late) = tt
+verdict_stops p (Refused back (Late job leaves chain times)) shaped (same, late) = tt
 
 pub verdict_no_faster : (p : PlannedShop) (verdict : Verdict) → IsWellShaped p → IsReasoned p verdict → OnLate (λ job leaves. IsNeverGoneBefore p job leaves) verdict
 verdict_no_faster p (Accepted verified) shaped reasoned = tt
 verdict_no_faster p (Refused back (Cycle nodes)) shaped (same, cycle) = tt
-verdict_no_faster p (Refused back (Late job leaves chain)) shaped (same, late) = path_never_before p job leaves chain.items shaped late.path
+verdict_no_faster p (Refused back (Late job leaves chain times)) shaped (same, late) = path_never_before p job leaves chain.items shaped late.0.path
 
 pub verdict_just : (p : PlannedShop) (verdict : Verdict) → IsWellShaped p → IsReasoned p verdict → OnRefused (λ back why. IsNeverInBudget p) verdict
 verdict_just p (Accepted verified) shaped reasoned = tt
 verdict_just p (Refused back (Cycle nodes)) shaped (same, cycle) = never_done_just p (cycle_stops p nodes.items shaped cycle).1
-verdict_just p (Refused back (Late job leaves chain)) shaped (same, late) = late_just p job leaves late.job late.past (path_never_before p job leaves chain.items shaped late.path)
+verdict_just p (Refused back (Late job leaves chain times)) shaped (same, late) = late_just p job leaves late.0.job late.0.past (path_never_before p job leaves chain.items shaped late.0.path)
+
+-- a reason for a refusal leaves no plan to be accepted
+pub reason_refutes : (p : PlannedShop) (why : Why) → IsReason p why → IsAcceptable p → ⊥
+reason_refutes p (Cycle nodes) is acceptable = acceptable.acyclic nodes.items (cycle_simple p nodes.items is)
+reason_refutes p (Late job leaves chain times) is acceptable = (let within = acceptable.budgets job is.0.job _ leaves is.0.path in omega (arith, within, is.0.past))
+
+-- a verdict accepts just the plans that are to be accepted
+pub verdict_exact : (p : PlannedShop) (verdict : Verdict) → OnAccepted (λ verified. (verified.planned ≡ p) × IsAcceptable p) verdict → IsReasoned p verdict → SaysAccepted verdict ↔ IsAcceptable p
+verdict_exact p (Accepted verified) accepted reasoned = (λ says. accepted.1, λ is. tt)
+verdict_exact p (Refused back why) accepted reasoned = (λ says. absurd says, λ is. absurd (reason_refutes p why reasoned.1 is))
 
 -- the latest of the first n jobs' leavings, 0 where there is none
 pub record IsLatestBelow (v : VerifiedPlan) (n latest : ℕ) : Type 0 where
@@ -128,6 +139,10 @@ latest_more v n m k below is = record {
       | inr empty ↦ (n, omega arith, omega (arith, is, below.none (omega arith), max-eq_left more))
     ]
 
+-- a plan has one makespan
+pub makespan_le : (p : PlannedShop) (m n : ℕ) → IsMakespan p m → IsMakespan p n → m ≤ n
+makespan_le p m n one other = other.bound one.reached.0 one.reached.2 m one.reached.1 one.reached.3
+
 -- what holds of each value of an answer
 pub ok_each : {A E : Type 0} {P Q : A → Type 0} → (r : Result A E) → ((x : A) → P x → Q x) → IfOk r P → IfOk r Q
 ok_each (Ok x) step holds = step x holds
@@ -156,3 +171,17 @@ pub verified_just_in_time : (v : VerifiedPlan) → IsVerified v → (j : ℕ) �
 verified_just_in_time v sound j inside rs es end run exact gone =
     let path = (verified_greatest v sound j inside).reached in
     just_in_time-holds v.planned (rank_in v) (kept_at v) rs es end sound.schedule run exact j path.0 path.1 gone
+
+-- the latest of all leavings is the makespan
+pub latest_makespan : (v : VerifiedPlan) (n : ℕ) → IsVerified v → 0 < jobs v.planned → IsLatestBelow v (jobs v.planned) n → IsMakespan v.planned n
+latest_makespan v n sound some below = record {
+  bound = λ j nodes k inside path. omega (arith, (verified_greatest v sound j inside).longest nodes k path, below.none_later j inside);
+  reached = (let (j, inside, is) = below.reached some in
+      let path = (verified_greatest v sound j inside).reached in
+      (j, inside, path.0, subst (Path v.planned path.0 (leaving v.planned j)) is path.1));
+}
+
+-- where a property holds of an answer, so does what follows from both
+pub ok_both : {A E : Type 0} {P Q R : A → Type 0} → (r : Result A E) → ((x : A) → P x → Q x → R x) → IfOk r P → IfOk r Q → IfOk r R
+ok_both (Ok x) step one other = step x one other
+ok_both (Err e) step one other = tt

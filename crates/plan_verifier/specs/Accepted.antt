@@ -34,6 +34,11 @@ pub record IsLongestTo (p : PlannedShop) (v : Node) (nodes : List Node) : Type 0
   pub path : Path p nodes v size
   pub greatest : IsGreatest p v size
 
+-- the makespan (Pinedo, Scheduling: C_max): no path to a leaving is longer than n, and one is as long
+pub record IsMakespan (p : PlannedShop) (n : ℕ) : Type 0 where
+  pub bound : (j : ℕ) (nodes : List Node) (k : ℕ) → j < jobs p → Path p nodes (leaving p j) k → k ≤ n
+  pub reached : (j : ℕ) × (j < jobs p) × (nodes : List Node) × Path p nodes (leaving p j) n
+
 -- in every controlled run whose reports are punctual, job j, once it is gone, is gone since at most moment n
 abbrev pub IsNeverGoneAfter : PlannedShop → ℕ → ℕ → Type 0
 IsNeverGoneAfter p j n = (rs : List Report) (es : List Event) (end : Cell) → IsControlledRun p rs es end → ArePunctual p (start p) es → IsGone p end j → since end j ≤ n
@@ -64,11 +69,6 @@ pub record IsVerified (v : VerifiedPlan) : Type 0 where
   pub schedule : IsSchedule v.planned (rank_in v) (kept_at v)
   pub budgets : MeetBudgets v.planned (kept_at v)
   pub ordered : AreOrdered v.planned v.times
-
--- the latest of all jobs' earliest leavings
-pub record IsMakespan (v : VerifiedPlan) (n : ℕ) : Type 0 where
-  pub latest : (j : ℕ) → j < jobs v.planned → kept_at v (leaving v.planned j) ≤ n
-  pub reached : (j : ℕ) × (j < jobs v.planned) × (kept_at v (leaving v.planned j) ≡ n)
 
 -- the first job whose kept leaving is past its budget
 pub record IsFirstPast (p : PlannedShop) (kept : Node → ℕ) (job : ℕ) : Type 0 where

@@ -8,6 +8,7 @@ use Rattle.shop_base.specs.Punctual.{AreExact}
 use Rattle.shop_base.specs.Ends.{IsOutByBudget}
 use Rattle.shop_base.specs.Graph.{leaving, Path}
 use Rattle.alt_graph.specs.Evidence.{IsCycle, IsChain}
+use Rattle.alt_graph.specs.Times.{AreOrdered}
 use Rattle.plan_verifier.specs.declared.verdict.Verdict.{Verdict}
 use Rattle.plan_verifier.specs.declared.verdict.Verdict.TheVariants.{Accepted, Refused}
 use Rattle.plan_verifier.specs.declared.verdict.Why.{Why}
@@ -24,10 +25,10 @@ pub record IsFirstLate (p : PlannedShop) (j n : ℕ) (chain : List Node) : Type 
   pub path : Path p chain (leaving p j) n
   pub evidence : IsChain p chain n
 
--- the reason for a refusal: a cycle, or else the first late job
+-- the reason for a refusal: a cycle, or else the first late job, with the ranks and the greatest lengths of all nodes
 abbrev pub IsReason : PlannedShop → Why → Type 0
 IsReason p (Cycle nodes) = IsCycle p nodes.items
-IsReason p (Late job leaves chain) = IsFirstLate p job leaves chain.items
+IsReason p (Late job leaves chain times) = IsFirstLate p job leaves chain.items × AreOrdered p times
 
 -- the verdict says that the plan is accepted
 abbrev pub SaysAccepted : Verdict → Type 0
@@ -47,12 +48,12 @@ OnRefused P (Refused back why) = P back why
 -- where it is refused for a cycle
 abbrev pub OnCycle : (List Node → Type 0) → Verdict → Type 0
 OnCycle P (Refused back (Cycle nodes)) = P nodes.items
-OnCycle P (Refused back (Late job leaves chain)) = Unit {0}
+OnCycle P (Refused back (Late job leaves chain times)) = Unit {0}
 OnCycle P (Accepted verified) = Unit {0}
 
 -- where it is refused for a late job
 abbrev pub OnLate : (ℕ → ℕ → Type 0) → Verdict → Type 0
-OnLate P (Refused back (Late job leaves chain)) = P job leaves
+OnLate P (Refused back (Late job leaves chain times)) = P job leaves
 OnLate P (Refused back (Cycle nodes)) = Unit {0}
 OnLate P (Accepted verified) = Unit {0}
 

@@ -1,4 +1,5 @@
 use crate::verified::Verified;
+use alt_graph::Times;
 use shop_base::{JobNo, Moment, Node, Shaped};
 
 /// What is to be said of a plan.
@@ -20,10 +21,12 @@ pub enum Why {
     Cycle(Vec<Node>),
     /// The first job that can't be out by its budget where each activity takes its nominal time, the earliest
     /// moment at which it can then leave, and a path of that length to its leaving: each move of it waits for
-    /// the one before it.
+    /// the one before it. Beside them the ranks and the earliest moments of all nodes, from which the leaving
+    /// of every job can be read.
     Late {
         job: JobNo,
         leaves: Moment,
         chain: Vec<Node>,
+        times: Times,
     },
 }

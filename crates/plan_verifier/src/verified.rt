@@ -3,6 +3,7 @@ ghost use Rattle.shop_base.specs.Plan.{jobs};
 ghost use Rattle.shop_base.specs.declared.node.Node.{Node};
 ghost use Rattle.shop_base.specs.Graph.{leaving, IsNode};
 ghost use Rattle.shop_base.specs.ExactLaw.{IsNeverGoneBefore};
+ghost use Rattle.alt_graph.specs.Times.{AreOrdered};
 ghost use Rattle.plan_verifier.specs.Accepted.{IsVerified, IsGreatest, IsLongestTo, IsMakespan, IsNeverGoneAfter, IsGoneJustAt, IsPathToLeaving, kept_at};
 ghost use Rattle.alt_graph.specs.Latest.{HasMoment, moment_of};
 ghost use Rattle.plan_verifier.specs.ByDeadlines.{FitBudgets, AreEnough, AreEnoughAtTheEnd, AreTheLatest};
@@ -82,7 +83,7 @@ impl Verified {
 
     /// The latest of all jobs' earliest leavings.
     pub fn makespan(&self) -> Moment
-        ensures { IsMakespan self.now result }
+        ensures { IsMakespan self.now.planned result }
     {
         let mut makespan = 0;
         for job in 0..self.shaped.shop().jobs() {
@@ -113,6 +114,14 @@ impl Verified {
         ensures verified { IsVerified self.now }
     {
         &self.shaped
+    }
+
+    /// The ranks and the earliest moments of its nodes.
+    pub fn times(&self) -> &Times
+        ensures same { result.now ≡ self.now.times }
+        ensures ordered { AreOrdered self.now.planned self.now.times }
+    {
+        &self.times
     }
 
     /// The plan, taken out.

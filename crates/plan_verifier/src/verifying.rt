@@ -60,21 +60,26 @@ fn judge_ordered(
     let Some(job) = first_late(&shaped, &times) else {
         return Ok(Verdict::Accepted(Verified::of(shaped, times)));
     };
-    match late(alloc, &shaped, &times, job) {
+    match late(alloc, &shaped, times, job) {
         Ok(why) => Ok(Verdict::Refused(shaped, why)),
         Err(error) => Err((error, shaped)),
     }
 }
 
 /// The evidence against the first late job.
-fn late(alloc: Global, shaped: &Shaped, times: &Times, job: JobNo) -> Result<Why, AllocError>
-    requires ordered { AreOrdered shaped.now times.now }
-    requires past { IsFirstPast shaped.now (earliest_of times.now) job }
+fn late(alloc: Global, shaped: &Shaped, times: Times, job: JobNo) -> Result<Why, AllocError>
+    requires ordered { AreOrdered shaped.now times }
+    requires past { IsFirstPast shaped.now (earliest_of times) job }
     ensures { IfOk result (IsReason shaped.now) }
 {
-    let leaves = leave_time(shaped, times, job);
+    let leaves = leave_time(shaped, &times, job);
     match times.chain(alloc, leaving_of(shaped, job))? {
-        Some(chain) => Ok(Why::Late { job, leaves, chain }),
+        Some(chain) => Ok(Why::Late {
+            job,
+            leaves,
+            chain,
+            times,
+        }),
         None => unreachable!(),
     }
 }

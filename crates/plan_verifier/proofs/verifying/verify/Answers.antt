@@ -1,4 +1,4 @@
-use Rattle.plan_verifier.proofs.Reasons.{ok_each, verdict_stops, verdict_no_faster, verdict_just}
+use Rattle.plan_verifier.proofs.Reasons.{ok_each, ok_both, verdict_exact, verdict_stops, verdict_no_faster, verdict_just}
 use Rattle.plan_verifier.proofs.verifying.verify.Goals as goal
 
 pub returns-in-Ok-clause-stops : goal.returns-in-Ok-clause-stops
@@ -9,3 +9,6 @@ returns-in-Ok-clause-no_faster c = ok_each c.judge.result (λ verdict reasoned. 
 
 pub returns-in-Ok-clause-just : goal.returns-in-Ok-clause-just
 returns-in-Ok-clause-just c = ok_each c.judge.result (λ verdict reasoned. verdict_just _ verdict c.solve.ensures.well_shaped reasoned) c.judge.ensures.refused
+
+pub returns-in-Ok-clause-exact : goal.returns-in-Ok-clause-exact
+returns-in-Ok-clause-exact c = ok_both c.judge.result (λ verdict accepted reasoned. verdict_exact _ verdict accepted reasoned) c.judge.ensures.accepted c.judge.ensures.refused
