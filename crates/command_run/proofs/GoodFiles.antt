@@ -139,14 +139,14 @@ module _ (content : List ℕ → Result (List ℕ) CommandFault) (pair : PairOfF
   -- an accepted plan drives its cell
   loaded_drives : (loaded : Result Loaded CommandFault) (asked : List (List ℕ)) (before after : Streams) (outcome : Result Answer CommandFault) → IsWellShaped p → IsAcceptable p
       → IsAnswered (IsLoaded p) (pair.path ∷ pair.plan ∷ []) loaded asked → Drives loaded before after outcome
-      → ((asked ≡ pair.path ∷ pair.plan ∷ []) × ((v : VerifiedPlan) × (v.planned ≡ p) × DrivesCell v before after outcome)) ⊎ (outcome ≡ Err Memory)
-  loaded_drives (Err fault) asked before after outcome shaped acceptable is drives = inr (drives.0 ∙ ap Err is)
+      → ((asked ≡ pair.path ∷ pair.plan ∷ []) × ((v : VerifiedPlan) × (v.planned ≡ p) × DrivesCell v before after outcome)) ⊎ ((outcome ≡ Err Memory) × (after ≡ before))
+  loaded_drives (Err fault) asked before after outcome shaped acceptable is drives = inr (drives.0 ∙ ap Err is, drives.1)
   loaded_drives (Ok (NotShaped fault)) asked before after outcome shaped acceptable is drives = absurd (shape_fault_refutes p fault is.0 shaped)
   loaded_drives (Ok (Judged (Refused back why))) asked before after outcome shaped acceptable is drives = absurd (reason_refutes p why is.0.refused.1 acceptable)
   loaded_drives (Ok (Judged (Accepted v))) asked before after outcome shaped acceptable is drives = inl (is.1, (v, is.0.accepted.0, drives))
 
   pub good_drive : (before after : Streams) (outcome : Result Answer CommandFault) (asked : List (List ℕ)) → IsWellShaped p → IsAcceptable p → RunsDrive (Shelf content) pair [] before outcome asked after
-      → ((asked ≡ pair.path ∷ pair.plan ∷ []) × ((v : VerifiedPlan) × (v.planned ≡ p) × DrivesCell v before after outcome)) ⊎ (outcome ≡ Err Memory)
+      → ((asked ≡ pair.path ∷ pair.plan ∷ []) × ((v : VerifiedPlan) × (v.planned ≡ p) × DrivesCell v before after outcome)) ⊎ ((outcome ≡ Err Memory) × (after ≡ before))
   good_drive before after outcome asked shaped acceptable run =
       loaded_drives run.loaded asked before after outcome shaped acceptable (good_plan IsLoaded run.loaded asked run.loads) run.drives
 
@@ -162,8 +162,8 @@ module _ (content : List ℕ → Result (List ℕ) CommandFault) (pair : PairOfF
   -- an accepted plan has its log asked for
   loaded_resumes : (log text : List ℕ) (loaded : Result Loaded CommandFault) (mid asked : List (List ℕ)) (before after : Streams) (outcome : Result Answer CommandFault) → content log ≡ Ok text → IsWellShaped p → IsAcceptable p
       → IsAnswered (IsLoaded p) (pair.path ∷ pair.plan ∷ []) loaded mid → Resumes (Shelf content) log loaded mid before outcome asked after
-      → ((asked ≡ pair.path ∷ pair.plan ∷ log ∷ []) × ((v : VerifiedPlan) × (v.planned ≡ p) × ResumesText v (Ok text) before after outcome)) ⊎ (outcome ≡ Err Memory)
-  loaded_resumes log text (Err fault) mid asked before after outcome came shaped acceptable is resumes = inr (resumes.0 ∙ ap Err is)
+      → ((asked ≡ pair.path ∷ pair.plan ∷ log ∷ []) × ((v : VerifiedPlan) × (v.planned ≡ p) × ResumesText v (Ok text) before after outcome)) ⊎ ((outcome ≡ Err Memory) × (after ≡ before))
+  loaded_resumes log text (Err fault) mid asked before after outcome came shaped acceptable is resumes = inr (resumes.0 ∙ ap Err is, resumes.1)
   loaded_resumes log text (Ok (NotShaped fault)) mid asked before after outcome came shaped acceptable is resumes = absurd (shape_fault_refutes p fault is.0 shaped)
   loaded_resumes log text (Ok (Judged (Refused back why))) mid asked before after outcome came shaped acceptable is resumes = absurd (reason_refutes p why is.0.refused.1 acceptable)
   loaded_resumes log text (Ok (Judged (Accepted v))) mid asked before after outcome came shaped acceptable is resumes =
@@ -172,7 +172,7 @@ module _ (content : List ℕ → Result (List ℕ) CommandFault) (pair : PairOfF
 
   pub good_resume : (before after : Streams) (log text : List ℕ) (outcome : Result Answer CommandFault) (asked : List (List ℕ)) → IsWellShaped p → IsAcceptable p → content log ≡ Ok text
       → RunsResume (Shelf content) pair log [] before outcome asked after
-      → ((asked ≡ pair.path ∷ pair.plan ∷ log ∷ []) × ((v : VerifiedPlan) × (v.planned ≡ p) × ResumesText v (Ok text) before after outcome)) ⊎ (outcome ≡ Err Memory)
+      → ((asked ≡ pair.path ∷ pair.plan ∷ log ∷ []) × ((v : VerifiedPlan) × (v.planned ≡ p) × ResumesText v (Ok text) before after outcome)) ⊎ ((outcome ≡ Err Memory) × (after ≡ before))
   good_resume before after log text outcome asked shaped acceptable is run =
       loaded_resumes log text run.loaded run.texts_mid asked before after outcome is shaped acceptable (good_plan IsLoaded run.loaded run.texts_mid run.loads) run.resumes
 

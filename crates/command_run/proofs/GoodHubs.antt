@@ -1,11 +1,11 @@
 -- What good files of a hub are answered by, where they don't change.
-use Rattle.std.proofs.Common.{◌≡◌, ℕ, ◌++◌, List, [], ◌∷◌, ◌⊎◌, Option, Result, Ok, Err, map, inl, inr, ap, sym, ◌∙◌, subst, append_assoc, append-nil}
-use Rattle.std.proofs.lemmas.List.{map-append}
+use Rattle.std.proofs.Common.{◌≡◌, ℕ, ◌++◌, List, [], ◌∷◌, ◌⊎◌, Option, Result, Ok, Err, map, inl, inr, ap, sym, ◌∙◌, subst, append_assoc, append-nil, length, ◌+◌, arith}
+use Rattle.std.proofs.lemmas.List.{map-append, length_push}
 use Rattle.shop_base.specs.Shop.{JobShop}
-use Rattle.shop_base.specs.Plan.{ShopPlan, PlannedShop}
+use Rattle.shop_base.specs.Plan.{ShopPlan, PlannedShop, IsWellShaped}
 use Rattle.shop_base.proofs.Refusals.{shape_fault_refutes}
 use Rattle.orlib_read.specs.declared.named.Named.{Named}
-use Rattle.plan_verifier.specs.Accepted.{VerifiedPlan}
+use Rattle.plan_verifier.specs.Accepted.{VerifiedPlan, IsAcceptable}
 use Rattle.plan_verifier.specs.declared.verdict.Verdict.TheVariants.{Accepted, Refused}
 use Rattle.command_answers.specs.declared.answer.Answer.{Answer}
 use Rattle.command_answers.specs.declared.cells.Cells.{Cells}
@@ -19,11 +19,12 @@ use Rattle.command_answers.specs.Texts.{Asks}
 use Rattle.command_answers.specs.Readings.{IsInstanceRead, IsPlanRead}
 use Rattle.command_answers.specs.Checks.{IsLoaded, accepted_in}
 use Rattle.command_answers.specs.Commands.{ReadsPlan}
-use Rattle.command_answers.specs.Cells.{AfterPlan, LoadsEach}
+use Rattle.command_answers.specs.Cells.{AfterPlan, IsCellLine, LoadsEach}
+use Rattle.command_answers.proofs.CheckLines.{line_of_loaded}
 use Rattle.command_run.specs.Streams.{Streams}
 use Rattle.command_run.specs.Hubs.{DrivesAll}
 use Rattle.command_run.specs.Program.{RunsHub}
-use Rattle.command_run.specs.Laws.{Shelf, IsAnswered, TellsAccepted, TellAccepted, DrivesPlans}
+use Rattle.command_run.specs.Laws.{Shelf, IsAnswered, TellsPlanOf, TellsAccepted, TellAccepted, DrivesPlans, IsNumberedLine}
 use Rattle.plan_verifier.proofs.Reasons.{reason_refutes}
 use Rattle.command_run.proofs.GoodFiles.{answered, wanting, asked_and_read}
 
@@ -38,14 +39,14 @@ AreCellsOf plans (Line answer) = ⊥
 
 -- accepted plans drive their cells
 cells_drive : (files : List (List ℕ)) (plans : List PlannedShop) (loaded : Result Cells CommandFault) (before after : Streams) (outcome : Result Answer CommandFault) (asked : List (List ℕ))
-    → IsAnswered (AreCellsOf plans) files loaded asked → DrivesAll loaded before after outcome → ((asked ≡ files) × DrivesPlans plans before after outcome) ⊎ (outcome ≡ Err Memory)
-cells_drive files plans (Err fault) before after outcome asked is drives = inr (drives.0 ∙ ap Err is)
+    → IsAnswered (AreCellsOf plans) files loaded asked → DrivesAll loaded before after outcome → ((asked ≡ files) × DrivesPlans plans before after outcome) ⊎ ((outcome ≡ Err Memory) × (after ≡ before))
+cells_drive files plans (Err fault) before after outcome asked is drives = inr (drives.0 ∙ ap Err is, drives.1)
 cells_drive files plans (Ok (Line answer)) before after outcome asked is drives = absurd is.0
 cells_drive files plans (Ok (AllAccepted cells)) before after outcome asked is drives = inl (is.1, (cells.items, is.0, drives))
 
 module _ (content : List ℕ → Result (List ℕ) CommandFault) (instance : List ℕ) (name : Option (List ℕ)) where
   -- a plan's text tells its plan
-  plan_came : (path : List ℕ) (p : PlannedShop) (good : TellsAccepted content instance name path p) (shop : JobShop) (came : Result ShopPlan CommandFault) (before mid : List (List ℕ))
+  plan_came : (path : List ℕ) (p : PlannedShop) (good : TellsPlanOf content instance name path p) (shop : JobShop) (came : Result ShopPlan CommandFault) (before mid : List (List ℕ))
       (loaded : Result Loaded CommandFault) (asked : List (List ℕ)) → shop ≡ p.shop → IsPlanRead good.plan came → mid ≡ before ++ path ∷ []
       → GoesOn (λ plan. Told (IsOrMemory (IsLoaded (record { shop = shop; plan = plan })))) came mid loaded asked → IsAnswered (IsLoaded p) (before ++ path ∷ []) loaded asked
   plan_came path p good shop (Ok plan) before mid loaded asked same_shop is files on =
@@ -56,7 +57,7 @@ module _ (content : List ℕ → Result (List ℕ) CommandFault) (instance : Lis
   plan_came path p good shop (Err f) before mid loaded asked same_shop is files on = wanting _ _ loaded asked (on.0 ∙ ap Err (is.only p.plan good.tell.plan))
 
   -- the plan of a file is accepted
-  one_came : (path : List ℕ) (p : PlannedShop) → TellsAccepted content instance name path p → (came : Result Named CommandFault) (before mid : List (List ℕ))
+  one_came : (path : List ℕ) (p : PlannedShop) → TellsPlanOf content instance name path p → (came : Result Named CommandFault) (before mid : List (List ℕ))
       (loaded : Result Loaded CommandFault) (asked : List (List ℕ)) → IsInstanceRead instance name came → mid ≡ before
       → GoesOn (λ named. Then (ReadsPlan (Shelf content) path) (λ plan. Told (IsOrMemory (IsLoaded (record { shop = named.shop; plan = plan }))))) came mid loaded asked
       → IsAnswered (IsLoaded p) (before ++ path ∷ []) loaded asked
@@ -94,7 +95,7 @@ module _ (content : List ℕ → Result (List ℕ) CommandFault) (instance : Lis
   each_come [] (p ∷ plans) good cells here loaded asked loads = absurd good
   each_come (path ∷ paths) [] good cells here loaded asked loads = absurd good
   each_come (path ∷ paths) (p ∷ plans) good cells here loaded asked loads =
-      let one = one_came path p good.0 loads.is.came here loads.is.mid loads.came loads.mid loads.is.is.0 loads.is.is.1 loads.is.goes_on in
+      let one = one_came path p good.0.told loads.is.came here loads.is.mid loads.came loads.mid loads.is.is.0 loads.is.is.1 loads.is.goes_on in
       others_come path p good.0 paths plans cells here loads.mid (λ more now those files each. each_come paths plans good.1 more now those files each) loads.came loaded asked one loads.goes_on
 
   cells_come : (path : List ℕ) (files : List (List ℕ)) (plans : List PlannedShop) → content path ≡ Ok instance → TellAccepted content instance name files plans → (came : Result (List ℕ) CommandFault)
@@ -107,6 +108,85 @@ module _ (content : List ℕ → Result (List ℕ) CommandFault) (instance : Lis
   cells_come path files plans is good (Err f) mid loaded asked given on = absurd (let both : Err f ≡ Ok instance = given.1.0 ∙ is in cc both)
 
   pub good_hub : (path : List ℕ) (files : List (List ℕ)) (plans : List PlannedShop) (before after : Streams) (outcome : Result Answer CommandFault) (asked : List (List ℕ)) → content path ≡ Ok instance
-      → TellAccepted content instance name files plans → RunsHub (Shelf content) path name files [] before outcome asked after → ((asked ≡ path ∷ files) × DrivesPlans plans before after outcome) ⊎ (outcome ≡ Err Memory)
+      → TellAccepted content instance name files plans → RunsHub (Shelf content) path name files [] before outcome asked after → ((asked ≡ path ∷ files) × DrivesPlans plans before after outcome) ⊎ ((outcome ≡ Err Memory) × (after ≡ before))
   good_hub path files plans before after outcome asked is good run =
       cells_drive (path ∷ files) plans run.loaded before after outcome asked (cells_come path files plans is good run.loads.came run.loads.mid run.loaded asked run.loads.is run.loads.goes_on) run.drives
+
+-- the line of a plan that isn't accepted, behind its number
+abbrev IsCellsLine : ℕ → PlannedShop → Cells → Type 0
+IsCellsLine number p (AllAccepted all) = ⊥
+IsCellsLine number p (Line answer) = IsNumberedLine number p answer
+
+-- it is the answer, with no byte read or written
+line_answered : (number : ℕ) (p : PlannedShop) (files : List (List ℕ)) (loaded : Result Cells CommandFault) (before after : Streams) (outcome : Result Answer CommandFault) (asked : List (List ℕ))
+    → IsAnswered (IsCellsLine number p) files loaded asked → DrivesAll loaded before after outcome → IsAnswered (IsNumberedLine number p) files outcome asked × (after ≡ before)
+line_answered number p files (Err fault) before after outcome asked is drives = (wanting _ _ outcome asked (drives.0 ∙ ap Err is), drives.1)
+line_answered number p files (Ok (Line answer)) before after outcome asked is drives = (subst (λ r. IsAnswered (IsNumberedLine number p) files r asked) (sym drives.0) is, drives.1)
+line_answered number p files (Ok (AllAccepted cells)) before after outcome asked is drives = absurd is.0
+
+cell_told : (number : ℕ) (p : PlannedShop) (files : List (List ℕ)) (l : Loaded) (loaded : Result Cells CommandFault) (asked : List (List ℕ)) → IsLoaded p l → IsCellLine number l loaded → asked ≡ files
+    → IsAnswered (IsCellsLine number p) files loaded asked
+cell_told number p files l (Ok (Line answer)) asked is told same =
+    (record { line = told.0; is = line_of_loaded p l told.0 is told.1; text = told.2; status = told.3 }, same)
+cell_told number p files l (Ok (AllAccepted all)) asked is told same = absurd told
+cell_told number p files l (Err fault) asked is told same = told
+
+module _ (content : List ℕ → Result (List ℕ) CommandFault) (instance : List ℕ) (name : Option (List ℕ)) (file : List ℕ) (p : PlannedShop) (others : List (List ℕ))
+    (told : TellsPlanOf content instance name file p) (never : IsWellShaped p → IsAcceptable p → ⊥) where
+  -- the plan that isn't accepted ends it
+  ends_there : (cells : List VerifiedPlan) (rest : List VerifiedPlan → List (List ℕ) → Result Cells CommandFault → List (List ℕ) → Type 0) (one : Result Loaded CommandFault) (mid files : List (List ℕ))
+      (loaded : Result Cells CommandFault) (asked : List (List ℕ)) → IsAnswered (IsLoaded p) files one mid → GoesOn (λ l. AfterPlan cells rest (accepted_in l)) one mid loaded asked
+      → IsAnswered (IsCellsLine (length cells) p) files loaded asked
+  ends_there cells rest (Err f) mid files loaded asked is on = wanting _ _ loaded asked (on.0 ∙ ap Err is)
+  ends_there cells rest (Ok (NotShaped fault)) mid files loaded asked is on = cell_told (length cells) p files (NotShaped fault) loaded asked is.0 on.0 (on.1 ∙ is.1)
+  ends_there cells rest (Ok (Judged (Refused back why))) mid files loaded asked is on = cell_told (length cells) p files (Judged (Refused back why)) loaded asked is.0 on.0 (on.1 ∙ is.1)
+  ends_there cells rest (Ok (Judged (Accepted v))) mid files loaded asked is on = absurd (never is.0.well_shaped is.0.accepted.1)
+
+  -- an accepted plan is passed
+  passes : (path : List ℕ) (q : PlannedShop) → TellsAccepted content instance name path q → (paths : List (List ℕ)) (cells : List VerifiedPlan) (before mid : List (List ℕ))
+      → ((more : List VerifiedPlan) (here : List (List ℕ)) (loaded : Result Cells CommandFault) (asked : List (List ℕ)) → LoadsEach (Shelf content) instance name more (paths ++ file ∷ others) here loaded asked
+      → IsAnswered (IsCellsLine (length more + length paths) p) (here ++ (paths ++ file ∷ [])) loaded asked)
+      → (one : Result Loaded CommandFault) (loaded : Result Cells CommandFault) (asked : List (List ℕ)) → IsAnswered (IsLoaded q) (before ++ path ∷ []) one mid
+      → GoesOn (λ l. AfterPlan cells (λ more. LoadsEach (Shelf content) instance name more (paths ++ file ∷ others)) (accepted_in l)) one mid loaded asked
+      → IsAnswered (IsCellsLine (length cells + length (path ∷ paths)) p) (before ++ path ∷ (paths ++ file ∷ [])) loaded asked
+  passes path q good paths cells before mid rest (Err f) loaded asked is on = wanting _ _ loaded asked (on.0 ∙ ap Err is)
+  passes path q good paths cells before mid rest (Ok (NotShaped fault)) loaded asked is on = absurd (shape_fault_refutes q fault is.0 good.well_shaped)
+  passes path q good paths cells before mid rest (Ok (Judged (Refused back why))) loaded asked is on = absurd (reason_refutes q why is.0.refused.1 good.acceptable)
+  passes path q good paths cells before mid rest (Ok (Judged (Accepted v))) loaded asked is (inr none) = wanting _ _ loaded asked none.0
+  passes path q good paths cells before mid rest (Ok (Judged (Accepted v))) loaded asked is (inl on) =
+      let number : length (cells ++ v ∷ []) + length paths ≡ length cells + length (path ∷ paths) = omega (arith, length_push cells v) in
+      let files : mid ++ (paths ++ file ∷ []) ≡ before ++ path ∷ (paths ++ file ∷ []) =
+      ap (λ (fs : List (List ℕ)). fs ++ (paths ++ file ∷ [])) is.1 ∙ append_assoc before (path ∷ []) (paths ++ file ∷ []) in
+      subst (λ (n : ℕ). IsAnswered (IsCellsLine n p) (before ++ path ∷ (paths ++ file ∷ [])) loaded asked) number
+      (subst (λ (fs : List (List ℕ)). IsAnswered (IsCellsLine (length (cells ++ v ∷ []) + length paths) p) fs loaded asked) files (rest (cells ++ v ∷ []) mid loaded asked on))
+
+  line_comes : (paths : List (List ℕ)) (plans : List PlannedShop) → TellAccepted content instance name paths plans → (cells : List VerifiedPlan) (here : List (List ℕ)) (loaded : Result Cells CommandFault)
+      (asked : List (List ℕ)) → LoadsEach (Shelf content) instance name cells (paths ++ file ∷ others) here loaded asked
+      → IsAnswered (IsCellsLine (length cells + length paths) p) (here ++ (paths ++ file ∷ [])) loaded asked
+  line_comes [] [] good cells here loaded asked loads =
+      let one = one_came content instance name file p told loads.is.came here loads.is.mid loads.came loads.mid loads.is.is.0 loads.is.is.1 loads.is.goes_on in
+      let number : length cells ≡ length cells + 0 = omega arith in
+      subst (λ (n : ℕ). IsAnswered (IsCellsLine n p) (here ++ file ∷ []) loaded asked) number (ends_there cells (λ more. LoadsEach (Shelf content) instance name more others) loads.came loads.mid (here ++ file ∷ []) loaded asked one loads.goes_on)
+  line_comes [] (q ∷ plans) good cells here loaded asked loads = absurd good
+  line_comes (path ∷ paths) [] good cells here loaded asked loads = absurd good
+  line_comes (path ∷ paths) (q ∷ plans) good cells here loaded asked loads =
+      let one = one_came content instance name path q good.0.told loads.is.came here loads.is.mid loads.came loads.mid loads.is.is.0 loads.is.is.1 loads.is.goes_on in
+      passes path q good.0 paths cells here loads.mid (λ more now those files each. line_comes paths plans good.1 more now those files each) loads.came loaded asked one loads.goes_on
+
+  line_of_cells : (path : List ℕ) (files : List (List ℕ)) (plans : List PlannedShop) → content path ≡ Ok instance → TellAccepted content instance name files plans → (came : Result (List ℕ) CommandFault)
+      (mid : List (List ℕ)) (loaded : Result Cells CommandFault) (asked : List (List ℕ)) → Asks (Shelf content) path [] came mid → GoesOn (λ t. LoadsEach (Shelf content) t name [] (files ++ file ∷ others)) came mid loaded asked
+      → IsAnswered (IsCellsLine (length files) p) (path ∷ (files ++ file ∷ [])) loaded asked
+  line_of_cells path files plans is good (Ok t) mid loaded asked given on =
+      let same : t ≡ instance = (let both : Ok t ≡ Ok instance = given.0 ∙ is in cc both) in
+      let line = line_comes files plans good [] mid loaded asked (subst (λ x. LoadsEach (Shelf content) x name [] (files ++ file ∷ others) mid loaded asked) same on) in
+      let number : 0 + length files ≡ length files = omega arith in
+      subst (λ (n : ℕ). IsAnswered (IsCellsLine n p) (path ∷ (files ++ file ∷ [])) loaded asked) number
+      (subst (λ (here : List (List ℕ)). IsAnswered (IsCellsLine (0 + length files) p) (here ++ (files ++ file ∷ [])) loaded asked) given.1 line)
+  line_of_cells path files plans is good (Err f) mid loaded asked given on = absurd (let both : Err f ≡ Ok instance = given.1.0 ∙ is in cc both)
+
+  pub no_hub : (path : List ℕ) (files : List (List ℕ)) (plans : List PlannedShop) (before after : Streams) (outcome : Result Answer CommandFault) (asked : List (List ℕ)) → content path ≡ Ok instance
+      → TellAccepted content instance name files plans → RunsHub (Shelf content) path name (files ++ file ∷ others) [] before outcome asked after
+      → IsAnswered (IsNumberedLine (length files) p) (path ∷ (files ++ file ∷ [])) outcome asked × (after ≡ before)
+  no_hub path files plans before after outcome asked is good run =
+      line_answered (length files) p (path ∷ (files ++ file ∷ [])) run.loaded before after outcome asked
+      (line_of_cells path files plans is good run.loads.came run.loads.mid run.loaded asked run.loads.is run.loads.goes_on) run.drives

@@ -33,9 +33,9 @@ use Rattle.command_run.specs.Program.{AreWordsRead, RunsDrive, RunsCommand, Foll
 use Rattle.command_run.specs.Laws.{Shelf, TellPlan, AskForDrive, RunsWell}
 use Rattle.command_run.proofs.GoodFiles.{good_drive}
 
-driven_or_not : {P Q R : Type 0} → (P × Q) ⊎ R → Q ⊎ R
+driven_or_not : {P Q R S : Type 0} → (P × Q) ⊎ (R × S) → Q ⊎ R
 driven_or_not (inl both) = inl both.1
-driven_or_not (inr other) = inr other
+driven_or_not (inr other) = inr other.0
 
 -- ---- the words
 

@@ -1,5 +1,5 @@
 -- What the program's clauses come to in plain words.
-use Rattle.std.specs.Prelude.{◌≡◌, ◌≢◌, ℕ, ◌≤◌, List, [], ◌∷◌, ◌++◌, ◌⊎◌, length, map, get_or, Option, None, Some, true, false, Result, Ok, Err}
+use Rattle.std.specs.Prelude.{◌≡◌, ◌≢◌, ℕ, ◌≤◌, List, [], ◌∷◌, ◌++◌, ◌⊎◌, length, map, get_or, codes, decimal, Option, None, Some, true, false, Result, Ok, Err}
 use Rattle.std.specs.String.{string_bytes}
 use Rattle.shop_base.specs.Shop.{JobShop}
 use Rattle.shop_base.specs.Plan.{PlannedShop, IsWellShaped}
@@ -162,23 +162,27 @@ ImproveAnswersPlan = (rounds : ℕ) (content : List ℕ → Result (List ℕ) Co
     → TellPlan content pair p → ImprovesPlan (Shelf content) rounds pair [] outcome asked
     → (IsImproveAnswer (AsksOne rounds) rounds p outcome × (asked ≡ pair.path ∷ pair.plan ∷ [])) ⊎ (outcome ≡ Err Memory)
 
--- `drive`: where the plan is accepted, its cell is driven, with exactly these files asked for, unless memory runs out before
+-- `drive`: where the plan is accepted, its cell is driven, with exactly these files asked for, unless memory runs out before, with no byte read or written
 abbrev pub DriveDrivesPlan : Type 0
 DriveDrivesPlan = (before after : Streams) (content : List ℕ → Result (List ℕ) CommandFault) (pair : PairOfFiles) (p : PlannedShop) (outcome : Result Answer CommandFault) (asked : List (List ℕ))
     → TellPlan content pair p → IsWellShaped p → IsAcceptable p → RunsDrive (Shelf content) pair [] before outcome asked after
-    → ((asked ≡ pair.path ∷ pair.plan ∷ []) × ((v : VerifiedPlan) × (v.planned ≡ p) × DrivesCell v before after outcome)) ⊎ (outcome ≡ Err Memory)
+    → ((asked ≡ pair.path ∷ pair.plan ∷ []) × ((v : VerifiedPlan) × (v.planned ≡ p) × DrivesCell v before after outcome)) ⊎ ((outcome ≡ Err Memory) × (after ≡ before))
 
--- `resume`: where the plan is accepted, its log is asked for and taken up, and driven on if it can be, unless memory runs out before
+-- `resume`: where the plan is accepted, its log is asked for and taken up, and driven on if it can be, unless memory runs out before, with no byte read or written
 abbrev pub ResumeGoesOn : Type 0
 ResumeGoesOn = (before after : Streams) (content : List ℕ → Result (List ℕ) CommandFault) (pair : PairOfFiles) (log text : List ℕ) (p : PlannedShop) (outcome : Result Answer CommandFault) (asked : List (List ℕ))
     → TellPlan content pair p → IsWellShaped p → IsAcceptable p → content log ≡ Ok text → RunsResume (Shelf content) pair log [] before outcome asked after
-    → ((asked ≡ pair.path ∷ pair.plan ∷ log ∷ []) × ((v : VerifiedPlan) × (v.planned ≡ p) × ResumesText v (Ok text) before after outcome)) ⊎ (outcome ≡ Err Memory)
+    → ((asked ≡ pair.path ∷ pair.plan ∷ log ∷ []) × ((v : VerifiedPlan) × (v.planned ≡ p) × ResumesText v (Ok text) before after outcome)) ⊎ ((outcome ≡ Err Memory) × (after ≡ before))
 
--- the file of this path tells this plan, which is accepted, for the instance of this text
-pub record TellsAccepted (content : List ℕ → Result (List ℕ) CommandFault) (instance : List ℕ) (name : Option (List ℕ)) (path : List ℕ) (p : PlannedShop) : Type 0 where
+-- the file of this path tells this plan for the instance of this text
+pub record TellsPlanOf (content : List ℕ → Result (List ℕ) CommandFault) (instance : List ℕ) (name : Option (List ℕ)) (path : List ℕ) (p : PlannedShop) : Type 0 where
   pub plan : List ℕ
   pub plan_is : content path ≡ Ok plan
   pub tell : TellBoth instance name plan p
+
+-- and the plan is accepted
+pub record TellsAccepted (content : List ℕ → Result (List ℕ) CommandFault) (instance : List ℕ) (name : Option (List ℕ)) (path : List ℕ) (p : PlannedShop) : Type 0 where
+  pub told : TellsPlanOf content instance name path p
   pub well_shaped : IsWellShaped p
   pub acceptable : IsAcceptable p
 
@@ -192,11 +196,11 @@ TellAccepted content instance name paths plans = ⊥
 abbrev pub DrivesPlans : List PlannedShop → Streams → Streams → Result Answer CommandFault → Type 0
 DrivesPlans plans before after outcome = (cells : List VerifiedPlan) × (map (λ (v : VerifiedPlan). v.planned) cells ≡ plans) × DrivesCells cells before after outcome
 
--- `hub`: where all plans are accepted, their cells are driven, with exactly these files asked for, unless memory runs out before
+-- `hub`: where all plans are accepted, their cells are driven, with exactly these files asked for, unless memory runs out before, with no byte read or written
 abbrev pub HubDrivesPlans : Type 0
 HubDrivesPlans = (before after : Streams) (content : List ℕ → Result (List ℕ) CommandFault) (path instance : List ℕ) (name : Option (List ℕ)) (files : List (List ℕ)) (plans : List PlannedShop) (outcome : Result Answer CommandFault) (asked : List (List ℕ))
     → content path ≡ Ok instance → TellAccepted content instance name files plans → RunsHub (Shelf content) path name files [] before outcome asked after
-    → ((asked ≡ path ∷ files) × DrivesPlans plans before after outcome) ⊎ (outcome ≡ Err Memory)
+    → ((asked ≡ path ∷ files) × DrivesPlans plans before after outcome) ⊎ ((outcome ≡ Err Memory) × (after ≡ before))
 
 -- the whole input was read, and is answered by the line of the shop's facts; no answer is given only where a read failed or memory ran out
 abbrev pub IsInputAnswered : JobShop → Result Answer CommandFault → Input → Type 0
@@ -224,6 +228,21 @@ DriveAnswersByCheck = AnswersByCheck (λ gives pair. RunsDrive gives pair)
 
 abbrev pub ResumeAnswersByCheck : Type 0
 ResumeAnswersByCheck = (log : List ℕ) → AnswersByCheck (λ gives pair. RunsResume gives pair log)
+
+-- the line of `check` for a plan, behind the plan's number
+pub record IsNumberedLine (number : ℕ) (p : PlannedShop) (answer : Answer) : Type 0 where
+  pub line : Answer
+  pub is : IsCheckLine p line
+  pub text : answer.text.items ≡ decimal number ++ codes " " ++ line.text.items
+  pub status : answer.status ≡ line.status
+
+-- `hub`: the first plan that isn't accepted is answered by its number and the line of `check`, with no further file asked for and no byte read or written
+abbrev pub HubAnswersByCheck : Type 0
+HubAnswersByCheck = (before after : Streams) (content : List ℕ → Result (List ℕ) CommandFault) (path instance : List ℕ) (name : Option (List ℕ)) (files : List (List ℕ)) (plans : List PlannedShop)
+      (file : List ℕ) (p : PlannedShop) (others : List (List ℕ)) (outcome : Result Answer CommandFault) (asked : List (List ℕ))
+    → content path ≡ Ok instance → TellAccepted content instance name files plans → TellsPlanOf content instance name file p → (IsWellShaped p → IsAcceptable p → ⊥)
+    → RunsHub (Shelf content) path name (files ++ file ∷ others) [] before outcome asked after
+    → IsAnswered (IsNumberedLine (length files) p) (path ∷ (files ++ file ∷ [])) outcome asked × (after ≡ before)
 
 -- ---- that a driven cell writes the same
 

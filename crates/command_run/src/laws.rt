@@ -6,7 +6,7 @@ ghost use Rattle.command_run.specs.Laws.{DriveTellsInstanceFirst, ResumeTellsIns
 ghost use Rattle.command_run.specs.Laws.{FactsAnswerShop, ShapeAnswersPlan, CheckAnswersPlan, ExplainAnswersPlan, LogIsAnswered};
 ghost use Rattle.command_run.specs.Laws.{PlanAnswersPlan, ImproveAnswersPlan, DriveDrivesPlan, ResumeGoesOn};
 ghost use Rattle.command_run.specs.Laws.{HubDrivesPlans, InputAnswersShop};
-ghost use Rattle.command_run.specs.Laws.{DriveAnswersByCheck, ResumeAnswersByCheck, DriveWritesTheSame};
+ghost use Rattle.command_run.specs.Laws.{DriveAnswersByCheck, ResumeAnswersByCheck, HubAnswersByCheck, DriveWritesTheSame};
 ghost use Rattle.command_run.specs.Laws.{WhatFailsIsTold, NothingIsHeldBack, WhatFailsIsNoAnswer};
 
 use command_answers::Texts;
@@ -45,10 +45,12 @@ pub fn good_files_are_answered()
 {}
 
 /// A plan that isn't accepted has no cell to be driven: it is answered by the line of `check`, unless memory runs out,
-/// the log isn't asked for, and no byte is read or written.
+/// the log isn't asked for, and no byte is read or written. So it is of the first such plan of `hub`, behind whose number
+/// the line stands, and after which no plan is asked for.
 pub fn no_cell_without_an_accepted_plan()
     ensures drive { DriveAnswersByCheck }
     ensures resume { ResumeAnswersByCheck }
+    ensures hub { HubAnswersByCheck }
 {}
 
 /// `drive` with an accepted plan, run again on the same words, files and input, writes the same bytes and ends with the

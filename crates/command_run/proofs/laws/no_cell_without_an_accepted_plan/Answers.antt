@@ -1,4 +1,5 @@
 use Rattle.command_run.proofs.GoodFiles.{no_drive, no_resume}
+use Rattle.command_run.proofs.GoodHubs.{no_hub}
 use Rattle.command_run.proofs.laws.no_cell_without_an_accepted_plan.Goals as goal
 
 pub returns-clause-drive : goal.returns-clause-drive
@@ -6,3 +7,7 @@ returns-clause-drive c = λ before after content pair p outcome asked good never
 
 pub returns-clause-resume : goal.returns-clause-resume
 returns-clause-resume c = λ log before after content pair p outcome asked good never run. no_resume content pair p good log before after outcome asked never run
+
+pub returns-clause-hub : goal.returns-clause-hub
+returns-clause-hub c = λ before after content path instance name files plans file p others outcome asked is good told never run.
+    no_hub content instance name file p others told never path files plans before after outcome asked is good run
