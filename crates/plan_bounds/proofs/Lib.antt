@@ -1,0 +1,10 @@
+mod Sizes
+mod Values
+mod Sums
+mod Paths
+mod Chains
+mod Leasts
+mod Steps
+mod Made
+mod Greater
+mod Bounded
