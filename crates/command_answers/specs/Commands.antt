@@ -17,7 +17,7 @@ use Rattle.command_answers.specs.Checks.{IsCheckLine, IsLoaded}
 use Rattle.command_answers.specs.Explains.{IsExplanation}
 use Rattle.command_answers.specs.Shapes.{IsShapeLine, IsNotShapedLine}
 use Rattle.command_answers.specs.Search.{IsSearchAnswer}
-use Rattle.command_answers.specs.Improving.{IsImproveAnswer}
+use Rattle.command_answers.specs.Improving.{IsImproveAnswer, ordered}
 use Rattle.command_answers.specs.declared.logs.Telling.{Telling}
 use Rattle.command_answers.specs.LogLines.{IsLogLine}
 
@@ -72,9 +72,9 @@ module _ {W : Type 0} (gives : W → List ℕ → Result (List ℕ) CommandFault
   abbrev pub RunsPlanWith : {B : Type 0} → (B → JobShop → ℕ → Proposal → Type 0) → List B → ℕ → PairOfFiles → W → Result Answer CommandFault → W → Type 0
   RunsPlanWith may proposers = RunsPlan (search_by may proposers)
 
-  -- `improve`: both are read, and what the search from this plan comes to is answered
+  -- `improve`: both are read, and what the search from this plan comes to is answered, or from the serial plan where it has no orders at all
   abbrev pub RunsImprove : Asked → ℕ → PairOfFiles → W → Result Answer CommandFault → W → Type 0
-  RunsImprove made rounds pair = WithBoth pair (λ p. Told (IsImproveAnswer made rounds p))
+  RunsImprove made rounds pair = WithBoth pair (λ p. Told (IsImproveAnswer made rounds (ordered p)))
 
   -- the log of a well-shaped plan is asked for, and then answered; any other plan is answered by its first fault
   abbrev pub WithLog : Telling → List ℕ → PlannedShop → W → Result Answer CommandFault → W → Type 0

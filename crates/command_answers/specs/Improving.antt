@@ -1,15 +1,15 @@
 -- The answers of the command `improve`.
-use Rattle.std.specs.Prelude.{◌≡◌, ◌<◌, ◌≤◌, ◌⊎◌, ℕ, List, Option, Some, None, Result, Ok, Err, codes}
+use Rattle.std.specs.Prelude.{◌≡◌, ◌<◌, ◌≤◌, ◌⊎◌, ℕ, List, [], ◌∷◌, Option, Some, None, Result, Ok, Err, codes}
 use Rattle.shop_base.specs.Plan.{PlannedShop, IsWellShaped}
 use Rattle.plan_text.specs.declared.plan_fault.PlanFault.TheVariants.{NotReadBack}
 use Rattle.plan_text.specs.Lines.{plan_lines}
 use Rattle.plan_text.specs.Documents.{IsPlanText}
 use Rattle.plan_verifier.specs.Accepted.{HasNoCycle, IsAcceptable}
-use Rattle.plan_seek.specs.Orders.{Proposal}
+use Rattle.plan_seek.specs.Orders.{Proposal, serial_order}
 use Rattle.plan_seek.specs.declared.search.TheConstants.{MAX_ROUNDS}
 use Rattle.plan_improve.specs.declared.improve_fault.ImproveFault.{ImproveFault}
 use Rattle.plan_improve.specs.declared.improve_fault.ImproveFault.TheVariants.{TooManyRounds, Memory as WantOfMemory}
-use Rattle.plan_improve.specs.Reordered.{IsReordered}
+use Rattle.plan_improve.specs.Reordered.{reordered, IsReordered}
 use Rattle.plan_improve.specs.Runs.{Asked, Rounds}
 use Rattle.plan_improve.specs.Improved.{IsFound, IsNeverWorse}
 use Rattle.command_answers.specs.declared.answer.Answer.{Answer}
@@ -18,6 +18,15 @@ use Rattle.command_answers.specs.declared.command_fault.CommandFault.TheVariants
 use Rattle.command_answers.specs.Documents.{IsDocumentOf}
 use Rattle.command_answers.specs.Shapes.{IsNotShapedLine}
 use Rattle.command_answers.specs.Steps.{IsOrMemory}
+
+-- these orders or, where there are none, the serial plan's
+abbrev pub orders_or_serial : PlannedShop → List (List ℕ) → PlannedShop
+orders_or_serial p [] = reordered p (serial_order p.shop)
+orders_or_serial p (order ∷ orders) = p
+
+-- the plan with which a search begins: the plan itself or, where it has no orders at all, the serial plan with its numbers
+abbrev pub ordered : PlannedShop → PlannedShop
+ordered p = orders_or_serial p p.plan.order
 
 -- what so many rounds of questions to these improvers make of a plan
 abbrev pub RoundsOf : {B : Type 0} → ℕ → (B → PlannedShop → ℕ → Proposal → Type 0) → List B → Asked

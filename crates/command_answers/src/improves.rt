@@ -1,24 +1,28 @@
 //! The command `improve`.
 
+ghost use Rattle.std.specs.Prelude.{◌≡◌};
 ghost use Rattle.plan_improve.specs.Improved.{judged};
+ghost use Rattle.command_answers.specs.Steps.{IsOrMemory};
 ghost use Rattle.command_answers.specs.Checks.{verdict_status};
 ghost use Rattle.command_answers.specs.Documents.{IsDocumentAnswer};
-ghost use Rattle.command_answers.specs.Improving.{RoundsOf, IsBestAnswer, IsUnimprovedAnswer};
+ghost use Rattle.command_answers.specs.Improving.{RoundsOf, IsBestAnswer, IsImproveAnswer, IsUnimprovedAnswer, ordered};
 ghost use Rattle.command_answers.specs.Commands.{RunsImprove};
 
-use crate::answer::{Answered, GOOD, REFUSED};
-use crate::both::{Pair, read_both};
+use crate::answer::{Answered, GOOD, Outcome, REFUSED};
+use crate::both::{Both, Pair, read_both};
 use crate::command_fault::Unanswered;
 use crate::lines::{document_answer, line_answer};
 use crate::shapes::not_shaped_answer;
 use crate::texts::Texts;
 use plan_improve::{ImproveFault, Improver, Watch, improve};
+use plan_seek::serial_orders;
 use plan_verifier::Verdict;
-use shop_base::Shaped;
+use shop_base::{Plan, Shaped};
 use std::alloc::Global;
 
 /// The text of the best plan that a search from the plan of a file meets, for the instance of another file: accepted, or
-/// with a job that is still late. A plan that isn't well shaped is answered by its first fault.
+/// with a job that is still late. A plan without any orders is taken with the serial ones. One that isn't well shaped is
+/// answered by its first fault.
 pub fn improve_answer<T: Texts, W: Watch>(
     alloc: Global,
     texts: &mut T,
@@ -29,10 +33,50 @@ pub fn improve_answer<T: Texts, W: Watch>(
 ) -> Answered
     ensures { RunsImprove T.gives (RoundsOf rounds (λ b. may b) improvers.now) rounds pair.now texts.old result texts.new }
 {
-    match read_both(alloc, texts, pair)?.shaped() {
+    let both = read_both(alloc, texts, pair)?;
+    let both = with_orders(alloc, both)?;
+    better_answer(alloc, both, improvers, rounds, watch)
+}
+
+/// The answer of the search from a plan, if it is well shaped, else its first fault.
+fn better_answer<W: Watch>(
+    alloc: Global,
+    both: Both,
+    improvers: &[Box<dyn Improver>],
+    rounds: u32,
+    watch: &mut W,
+) -> Answered
+    ensures { IsImproveAnswer (RoundsOf rounds (λ b. may b) improvers.now) rounds both result }
+{
+    match both.shaped() {
         Ok(start) => best_answer(alloc, start, improvers, rounds, watch),
         Err(fault) => Ok(not_shaped_answer(alloc, fault)?),
     }
+}
+
+/// The plan itself or, where it has no orders at all, the serial plan with its numbers.
+fn with_orders(alloc: Global, both: Both) -> Outcome<Both>
+    ensures { IsOrMemory (λ with. with ≡ ordered both) result }
+{
+    let read = &both;
+    if !read.plan.order.is_empty() {
+        return Ok(both);
+    }
+    let Both { shop, plan } = both;
+    let order = serial_orders(alloc, &shop)?;
+    let Plan {
+        release,
+        budget,
+        order: _,
+        clean,
+    } = plan;
+    let plan = Plan {
+        release,
+        budget,
+        order,
+        clean,
+    };
+    Ok(Both { shop, plan })
 }
 
 /// The answer of the search from a plan.

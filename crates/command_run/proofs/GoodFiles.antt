@@ -23,7 +23,7 @@ use Rattle.command_answers.specs.Shapes.{IsNotShapedLine}
 use Rattle.command_answers.specs.Checks.{IsLoaded, IsLineOf, IsCheckLine}
 use Rattle.command_answers.specs.LogLines.{IsLogLine}
 use Rattle.command_answers.specs.Search.{IsSearchAnswer}
-use Rattle.command_answers.specs.Improving.{IsImproveAnswer}
+use Rattle.command_answers.specs.Improving.{IsImproveAnswer, ordered}
 use Rattle.command_answers.specs.Commands.{PairOfFiles, ReadsPlan, ReadsBoth, WithBoth, WithLog, RunsFacts, RunsLog}
 use Rattle.command_answers.proofs.CheckLines.{line_of_loaded}
 use Rattle.command_run.specs.Streams.{Streams}
@@ -130,8 +130,8 @@ module _ (content : List ℕ → Result (List ℕ) CommandFault) (pair : PairOfF
   good_search rounds outcome asked (inr none) = inr none.0
 
   pub good_improvement : (rounds : ℕ) (outcome : Result Answer CommandFault) (asked : List (List ℕ)) → ImprovesPlan (Shelf content) rounds pair [] outcome asked
-      → (IsImproveAnswer (AsksOne rounds) rounds p outcome × (asked ≡ pair.path ∷ pair.plan ∷ [])) ⊎ (outcome ≡ Err Memory)
-  good_improvement rounds outcome asked (inl run) = with_both (λ q. Told (IsImproveAnswer (AsksOne rounds) rounds q)) outcome asked run
+      → (IsImproveAnswer (AsksOne rounds) rounds (ordered p) outcome × (asked ≡ pair.path ∷ pair.plan ∷ [])) ⊎ (outcome ≡ Err Memory)
+  good_improvement rounds outcome asked (inl run) = with_both (λ q. Told (IsImproveAnswer (AsksOne rounds) rounds (ordered q))) outcome asked run
   good_improvement rounds outcome asked (inr none) = inr none.0
 
   -- ---- what follows what is to be said of the plan

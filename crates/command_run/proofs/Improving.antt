@@ -7,7 +7,7 @@ use Rattle.plan_improve.specs.Watching.{Told as Telling}
 use Rattle.command_answers.specs.declared.answer.Answer.{Answer}
 use Rattle.command_answers.specs.declared.command_fault.CommandFault.{CommandFault}
 use Rattle.command_answers.specs.declared.command_fault.CommandFault.TheVariants.{Instance, Plan, Read, Write, InputTooLong, Memory}
-use Rattle.command_answers.specs.Improving.{IsBest, IsBestAnswer, IsImproveAnswer}
+use Rattle.command_answers.specs.Improving.{IsBest, IsBestAnswer, IsImproveAnswer, ordered}
 use Rattle.command_answers.specs.Steps.{Told}
 use Rattle.command_answers.specs.Commands.{PairOfFiles, ReadsBoth, RunsImprove}
 use Rattle.command_run.specs.Improvers.{MayImprove, AsksOne}
@@ -42,8 +42,8 @@ runs_more : {W : Type 0} (gives : W → List ℕ → Result (List ℕ) CommandFa
     → (rounds : ℕ) (pair : PairOfFiles) (before : W) (outcome : Result Answer CommandFault) (after : W)
     → RunsImprove gives made rounds pair before outcome after → RunsImprove gives more rounds pair before outcome after
 runs_more gives made more less rounds pair before outcome after =
-    then_more (ReadsBoth gives pair) (λ p. Told (IsImproveAnswer made rounds p)) (λ p. Told (IsImproveAnswer more rounds p)) before outcome after
-    (λ p last is. (answer_more made more rounds less p outcome is.0, is.1))
+    then_more (ReadsBoth gives pair) (λ p. Told (IsImproveAnswer made rounds (ordered p))) (λ p. Told (IsImproveAnswer more rounds (ordered p))) before outcome after
+    (λ p last is. (answer_more made more rounds less (ordered p) outcome is.0, is.1))
 
 stands_alone : (who : Unit {0}) (n : ℕ) → slice_index_or (who ∷ []) n who ≡ who
 stands_alone who zero = refl

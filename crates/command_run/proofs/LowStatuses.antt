@@ -27,7 +27,7 @@ use Rattle.command_answers.specs.Readings.{AreFactsAnswered}
 use Rattle.command_answers.specs.Shapes.{IsShapeLine, IsNotShapedLine}
 use Rattle.command_answers.specs.Checks.{IsCheckLine, IsLineOf, accepted_in, verdict_status}
 use Rattle.command_answers.specs.Explains.{IsExplanation}
-use Rattle.command_answers.specs.Improving.{IsStatusOf, IsBestAnswer, IsImproveAnswer}
+use Rattle.command_answers.specs.Improving.{IsStatusOf, IsBestAnswer, IsImproveAnswer, ordered}
 use Rattle.command_answers.specs.Search.{IsSearchLine, IsSearchAnswer, IsNoPlanLine}
 use Rattle.command_answers.specs.declared.logs.Telling.{Telling}
 use Rattle.command_answers.specs.declared.logs.Telling.TheVariants.{Numbers, Drawing}
@@ -227,7 +227,7 @@ module _ {W : Type 0} (gives : W → List ℕ → Result (List ℕ) CommandFault
   low_improves : (rounds : ℕ) (pair : PairOfFiles) (texts : W) (outcome : Result Answer CommandFault) (after : W)
       → ImprovesPlan gives rounds pair texts outcome after → IsLow outcome
   low_improves rounds pair texts outcome after (inl run) =
-      low_both pair (λ p. Told (IsImproveAnswer (AsksOne rounds) rounds p)) texts outcome after (λ p mid on. low_improved (AsksOne rounds) rounds p outcome on.0) run
+      low_both pair (λ p. Told (IsImproveAnswer (AsksOne rounds) rounds (ordered p))) texts outcome after (λ p mid on. low_improved (AsksOne rounds) rounds (ordered p) outcome on.0) run
   low_improves rounds pair texts outcome after (inr wanting) = subst IsLow (sym wanting.0) tt
 
   low_resumes : (log : List ℕ) (loaded : Result Loaded CommandFault) (texts : W) (before : Streams) (outcome : Result Answer CommandFault) (texts_after : W) (after : Streams)

@@ -32,7 +32,7 @@ use Rattle.command_answers.specs.Checks.{IsCheckLine}
 use Rattle.command_answers.specs.Explains.{IsExplanation}
 use Rattle.command_answers.specs.LogLines.{IsLogLine}
 use Rattle.command_answers.specs.Search.{IsSearchAnswer}
-use Rattle.command_answers.specs.Improving.{IsImproveAnswer}
+use Rattle.command_answers.specs.Improving.{IsImproveAnswer, ordered}
 use Rattle.command_answers.specs.Commands.{PairOfFiles, RunsFacts, RunsShape, RunsCheck, RunsExplain, RunsLog, Loads}
 use Rattle.command_answers.specs.declared.loading.Loaded.TheVariants.{Judged}
 use Rattle.command_answers.specs.declared.cells.Cells.{Cells}
@@ -160,7 +160,7 @@ PlanAnswersPlan = (rounds : ℕ) (content : List ℕ → Result (List ℕ) Comma
 abbrev pub ImproveAnswersPlan : Type 0
 ImproveAnswersPlan = (rounds : ℕ) (content : List ℕ → Result (List ℕ) CommandFault) (pair : PairOfFiles) (p : PlannedShop) (outcome : Result Answer CommandFault) (asked : List (List ℕ))
     → TellPlan content pair p → ImprovesPlan (Shelf content) rounds pair [] outcome asked
-    → (IsImproveAnswer (AsksOne rounds) rounds p outcome × (asked ≡ pair.path ∷ pair.plan ∷ [])) ⊎ (outcome ≡ Err Memory)
+    → (IsImproveAnswer (AsksOne rounds) rounds (ordered p) outcome × (asked ≡ pair.path ∷ pair.plan ∷ [])) ⊎ (outcome ≡ Err Memory)
 
 -- `drive`: where the plan is accepted, its cell is driven, with exactly these files asked for, unless memory runs out before, with no byte read or written
 abbrev pub DriveDrivesPlan : Type 0

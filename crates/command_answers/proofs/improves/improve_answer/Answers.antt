@@ -1,10 +1,10 @@
-use Rattle.std.proofs.Common.{Ok, inl, refl}
+use Rattle.std.proofs.Common.{Ok, refl}
 use Rattle.command_answers.proofs.improves.improve_answer.Goals as goal
 
-pub returns-in-Ok : goal.returns-in-Ok
-returns-in-Ok g c = record {
-  came = Ok c.in_ok-read_both.field-0;
+pub returns : goal.returns
+returns g c = record {
+  came = Ok c.in_ok-both.both;
   mid = c.read_both.new.texts;
-  is = rw (← c.in_ok-read_both.was) c.read_both.ensures;
-  goes_on = (inl (c.in-Ok.ensures.shaped.1, rw (← c.in-Ok.ensures.shaped.0) c.best_answer.ensures), refl);
+  is = rw (← c.in_ok-both.was) c.read_both.ensures;
+  goes_on = (rw (← c.in_ok-both-2.ensures) c.better_answer.ensures, refl);
 }
