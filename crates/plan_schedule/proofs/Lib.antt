@@ -1,0 +1,3 @@
+pub mod Moments
+pub mod Texts
+pub mod Behind

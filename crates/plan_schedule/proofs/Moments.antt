@@ -1,0 +1,49 @@
+-- Earliest moments are bounded, and so are their sums.
+use Rattle.std.proofs.Common.{◌≡◌, ℕ, zero, suc, ◌+◌, ◌*◌, ◌<◌, ◌≤◌, Option, None, Some, MatchOption, arith, ap}
+use Rattle.shop_base.specs.declared.node.Node.{Node}
+use Rattle.shop_base.specs.declared.limits.TheConstants.{MAX_NOMINAL, MAX_RELEASE}
+use Rattle.shop_base.specs.Shop.{operations_of}
+use Rattle.shop_base.specs.Plan.{PlannedShop, jobs, steps, nominal}
+use Rattle.shop_base.specs.Graph.{node, Arc, job_arc, blocking_arc, IsNode}
+use Rattle.shop_base.proofs.Bounds.{operations_of-le}
+use Rattle.shop_base.proofs.Visits.{steps_job, visits_job}
+use Rattle.alt_graph.specs.Times.{NodeTimes, rank_of, earliest_of, before_of, IsAttained, AreOrdered}
+use Rattle.alt_graph.proofs.ArcKinds.{arc_short}
+use Rattle.plan_schedule.specs.Calendars.{the_last_moment}
+
+-- an arc comes from a node of the shop
+source_node : (p : PlannedShop) (u v : Node) (d : ℕ) → Arc p u v d → IsNode p u
+source_node p _ _ _ (job_arc j k within) = record { job = steps_job p j k within; place = omega (arith, within) }
+source_node p _ _ _ (blocking_arc m a i k j l left enters) = record { job = visits_job p i k m left.visits; place = omega (arith, left.visits.within) }
+
+module _ (p : PlannedShop) (t : NodeTimes) (ordered : AreOrdered p t) where
+  -- the moment of a node with a rank below n
+  below : (n : ℕ) (v : Node) → IsNode p v → rank_of t v < n → earliest_of t v ≤ MAX_RELEASE + MAX_NOMINAL * n
+  below zero v is lt = absurd (omega arith)
+  below (suc n) v is lt = go (below n) (before_of t v) (ordered.times.attained v is)
+    where
+      go : ((u : Node) → IsNode p u → rank_of t u < n → earliest_of t u ≤ MAX_RELEASE + MAX_NOMINAL * n)
+          → (before : Option Node) → IsAttained p t v (earliest_of t v) before → earliest_of t v ≤ MAX_RELEASE + MAX_NOMINAL * suc n
+      go lower None (first, released) = omega (arith, released, ordered.times.schedule.shaped.limits.releases v.job is.job)
+      go lower (Some u) (d, arc, reached) =
+          omega (arith, reached, arc_short p u v d ordered.times.schedule.shaped arc, lower u (source_node p u v d arc) (omega (arith, ordered.times.schedule.ranks u v d arc, lt)))
+
+  pub not_late : (v : Node) → IsNode p v → earliest_of t v ≤ the_last_moment
+  not_late v is =
+      let shaped = ordered.times.schedule.shaped in
+      omega (arith, below (jobs p + operations_of p.shop) v is (ordered.times.few v is), operations_of-le _ shaped.shop, shaped.shop.counts.few_jobs)
+
+  -- an operation has ended as its job moves on
+  pub ends_before : (j k : ℕ) → k < steps p j → earliest_of t (node j k) + nominal p j k ≤ earliest_of t (node j (k + 1))
+  ends_before j k within = ordered.times.schedule.moments.arcs (node j k) (node j (k + 1)) (nominal p j k) (job_arc j k within)
+
+  pub entry_node : (j k : ℕ) → k < steps p j → IsNode p (node j k)
+  entry_node j k within = record { job = steps_job p j k within; place = omega (arith, within) }
+
+  pub next_node : (j k : ℕ) → k < steps p j → IsNode p (node j (k + 1))
+  next_node j k within = record { job = steps_job p j k within; place = omega (arith, within) }
+
+-- what is told where it is known
+pub told : {H : Type 0} (found : Option ℕ) (n : ℕ) → MatchOption found (H → ⊥) (λ m. H × (m ≡ n)) → H → found ≡ Some n
+told None n none here = absurd (none here)
+told (Some m) n (known, same) here = ap (λ k. Some k) same

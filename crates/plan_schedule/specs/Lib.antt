@@ -1,0 +1,6 @@
+-- Reached by public clauses: to be read and believed.
+pub mod Lines
+pub mod Schedules
+pub mod Scheduled
+-- Of proofs and private contracts alone.
+pub mod Calendars

@@ -1,0 +1,68 @@
+-- Which lines a schedule has, by the moment of each node in the exact run, and its deadline where there is one.
+use Rattle.std.specs.Prelude.{◌≡◌, ℕ, ◌+◌, ◌<◌, ◌⊎◌, List, [], ◌++◌, Option, None, Some}
+use Rattle.shop_base.specs.declared.node.Node.{Node}
+use Rattle.shop_base.specs.Plan.{PlannedShop, jobs, steps, machine_of, nominal, release, clean}
+use Rattle.shop_base.specs.Graph.{node}
+use Rattle.alt_graph.specs.Sources.{IsBlockingArc, IsTarget}
+use Rattle.plan_schedule.specs.declared.lines.Visit.{Visit}
+use Rattle.plan_schedule.specs.declared.lines.Cleaning.{Cleaning}
+use Rattle.plan_schedule.specs.Lines.{arrival_line, visit_line, cleaning_line}
+
+-- the deadline of a node, if there is a node
+abbrev pub due_if : (Node → Option ℕ) → Option Node → Option ℕ
+due_if due None = None
+due_if due (Some v) = due v
+
+-- the machine of job j's step k has no cleaning time
+abbrev pub HasNoCleaning : PlannedShop → ℕ → ℕ → Type 0
+HasNoCleaning p j k = clean p (machine_of p j k) ≡ 0
+
+-- the deadline of the cleaning that begins as a job leaves a machine by its node u: that of the node by which the next job in the order enters the machine, to which the blocking arc leads; none where no job waits for the cleaning
+abbrev pub IsCleaningDue : PlannedShop → (Node → Option ℕ) → Node → Option ℕ → Type 0
+IsCleaningDue p due u deadline = (next : Option Node) × IsTarget (IsBlockingArc p) u next × (deadline ≡ due_if due next)
+
+module _ (p : PlannedShop) (at : Node → ℕ) (due : Node → Option ℕ) where
+  -- the visit of job j by its step k: it begins as the job enters, takes its nominal time, and has to end by the deadline of the job's next move
+  abbrev pub visit_of : ℕ → ℕ → Visit
+  visit_of j k = record {
+    job = j;
+    machine = machine_of p j k;
+    from = at (node j k);
+    to = at (node j k) + nominal p j k;
+    due = due (node j (k + 1));
+    leaves = at (node j (k + 1));
+  }
+
+  -- the cleaning behind that visit: it begins as the job leaves, and takes the cleaning time
+  pub record IsCleaning (j k : ℕ) (cleaning : Cleaning) : Type 0 where
+    pub cleaned : 0 < clean p (machine_of p j k)
+    pub place : cleaning.machine ≡ machine_of p j k
+    pub begins : cleaning.from ≡ at (node j (k + 1))
+    pub ends : cleaning.to ≡ at (node j (k + 1)) + clean p (machine_of p j k)
+    pub deadline : IsCleaningDue p due (node j (k + 1)) cleaning.due
+
+  -- the line behind a visit: none where the machine has no cleaning time, else that of its cleaning
+  abbrev pub IsCleaningText : ℕ → ℕ → List ℕ → Type 0
+  IsCleaningText j k text = (HasNoCleaning p j k × (text ≡ [])) ⊎ ((cleaning : Cleaning) × IsCleaning j k cleaning × (text ≡ cleaning_line cleaning))
+
+  -- the lines of a visit
+  abbrev pub IsVisitText : ℕ → ℕ → List ℕ → Type 0
+  IsVisitText j k text = (behind : List ℕ) × IsCleaningText j k behind × (text ≡ visit_line (visit_of j k) ++ behind)
+
+  -- the lines of the first visits of job j, in the order of its route
+  pub data AreVisitTexts (j : ℕ) : ℕ → List ℕ → Type 0 where
+    no_visit : AreVisitTexts j 0 []
+    next_visit : (k : ℕ) (text more : List ℕ) → AreVisitTexts j k text → IsVisitText j k more → AreVisitTexts j (k + 1) (text ++ more)
+
+  -- the lines of job j
+  abbrev pub IsJobText : ℕ → List ℕ → Type 0
+  IsJobText j text = (visits : List ℕ) × AreVisitTexts j (steps p j) visits × (text ≡ arrival_line j (release p j) (due (node j 0)) ++ visits)
+
+  -- the lines of the first jobs, ascending
+  pub data AreJobTexts : ℕ → List ℕ → Type 0 where
+    no_job : AreJobTexts 0 []
+    next_job : (j : ℕ) (text more : List ℕ) → AreJobTexts j text → IsJobText j more → AreJobTexts (j + 1) (text ++ more)
+
+  -- the lines of all jobs
+  abbrev pub AreScheduleLines : List ℕ → Type 0
+  AreScheduleLines text = AreJobTexts (jobs p) text

@@ -1,0 +1,10 @@
+//! The schedule of a plan: when each job arrives, when each visit and each cleaning begins and ends in the exact
+//! run, and how late each may end.
+#![tactic(auto)]
+
+mod calendar;
+mod lines;
+mod schedules;
+mod scheduling;
+
+pub use schedules::schedule;
