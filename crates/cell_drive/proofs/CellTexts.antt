@@ -4,8 +4,8 @@ use Rattle.std.specs.Io.KnownBytes.{Appends}
 use Rattle.std.specs.List.{flat_map}
 use Rattle.std.proofs.KnownBytes.{Appends-trans}
 use Rattle.std.proofs.lemmas.List.Concat.{flat_map-cons}
-use Rattle.run_log.specs.Sinks.{TookPart, Wrote}
-use Rattle.run_log.proofs.Written.{AllBut-none, AllBut-more, TookPart-rest}
+use Rattle.byte_streams.specs.Sinks.{TookPart, Wrote}
+use Rattle.byte_streams.proofs.Written.{AllBut-none, AllBut-more, TookPart-rest}
 
 -- the first part was written, and then the second
 pub wrote_next : {T E : Type 0} (outcome : Result T E) (failed : Bool) (before mid after : Option (List ℕ)) (first rest : List ℕ)

@@ -17,7 +17,7 @@ use Rattle.cell_control.specs.Promises as promise
 use Rattle.cell_control.specs.Promises.{IsCalled, AreCalled, not_yet, once_more, IsControllerAfter}
 use Rattle.cell_control.proofs.Promises.{calls_make_the_controlled_run}
 use Rattle.cell_control.proofs.Reasons.{reason-cannot}
-use Rattle.cell_drive.specs.Answering.{AnswerAll}
+use Rattle.byte_streams.specs.Answering.{AnswerAll}
 use Rattle.cell_drive.specs.CellLines.{IsCellReport}
 use Rattle.cell_drive.specs.ManyCells.{CellsAnswer, too_long, empty, no_report, no_cell, refused, accepted}
 use Rattle.cell_drive.specs.CellsTextLaw.{AreVerified, AreCellsAnswersTo}

@@ -1,7 +1,7 @@
 -- What several driven cells answer to a line.
 use Rattle.std.proofs.Common.{◌≡◌, ℕ, zero, suc, List, [], ◌∷◌, set, Option, Some, None, Result, Ok, Err, OnOk, codes, refl, sym, ap, ◌∙◌, subst}
 use Rattle.std.specs.Prelude.{slice_get}
-use Rattle.run_log.specs.Sinks.{Wrote}
+use Rattle.byte_streams.specs.Sinks.{Wrote}
 use Rattle.shop_base.specs.declared.move_order.MoveOrder.{MoveOrder}
 use Rattle.cell_tables.specs.declared.report.Report.{Report}
 use Rattle.cell_control.specs.declared.report.Ack.{Ack}
@@ -9,7 +9,7 @@ use Rattle.cell_control.specs.Control.{Control}
 use Rattle.cell_hub.specs.declared.hub_fault.HubFault.{HubFault}
 use Rattle.cell_hub.specs.declared.hub_fault.HubFault.TheVariants.{NoSuchCell, SerialsSpent, Memory, Cell}
 use Rattle.cell_hub.specs.RefusalNames.{refusal_name}
-use Rattle.cell_drive.specs.Lent.{Taker, WroteOne}
+use Rattle.byte_streams.specs.Lent.{Taker, WroteOne}
 use Rattle.cell_drive.specs.AnswerLines.{refused_line}
 use Rattle.cell_drive.specs.CellLines.{IsCellReport, IsNoCellReport, cell_prefix}
 use Rattle.cell_drive.specs.ManyCells.{CellsAnswer, accepted_lines}

@@ -5,12 +5,12 @@ use Rattle.plan_verifier.specs.Accepted.{VerifiedPlan}
 use Rattle.cell_control.specs.Control.{Control, at_start}
 use Rattle.cell_hub.specs.declared.ticket.Ticket.{Ticket}
 use Rattle.cell_hub.specs.Hub.{HubState}
-use Rattle.cell_drive.specs.declared.drive_fault.DriveFault.{DriveFault}
-use Rattle.cell_drive.specs.declared.drive_fault.DriveFault.TheVariants.{Read, Write, InputTooLong, Memory}
-use Rattle.cell_drive.specs.Lent.{Output, Streams, taker}
-use Rattle.cell_drive.specs.Lines.{input_lines}
-use Rattle.cell_drive.specs.Answering.{AreAnswered}
-use Rattle.cell_drive.specs.Streams.{IsStreamed}
+use Rattle.byte_streams.specs.declared.drive_fault.DriveFault.{DriveFault}
+use Rattle.byte_streams.specs.declared.drive_fault.DriveFault.TheVariants.{Read, Write, InputTooLong, Memory}
+use Rattle.byte_streams.specs.Lent.{Output, Streams, taker}
+use Rattle.byte_streams.specs.Lines.{input_lines}
+use Rattle.byte_streams.specs.Answering.{AreAnswered}
+use Rattle.byte_streams.specs.Streams.{IsStreamed}
 use Rattle.cell_drive.specs.ManyCells.{CellsAnswer, CellsClose, AreAllDone}
 use Rattle.cell_drive.specs.NumberedCells.{with_content, contents_of, AreNumbered, HaveVerified}
 use Rattle.cell_drive.specs.CellsTextLaw.{AreVerified}

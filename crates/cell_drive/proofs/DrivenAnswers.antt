@@ -1,7 +1,7 @@
 -- What a driven cell answers to a line.
 use Rattle.std.proofs.Common.{◌≡◌, ◌==◌, ℕ, length, codes, Bool, true, false, cond, List, [], ◌∷◌, map, Option, Some, None, Result, refl, sym, ap, ◌∙◌, subst, append-nil, inl, inr, OnOk, ◌↔◌, arith}
 use Rattle.std.proofs.lemmas.Bool.{eqb-true, false≢true}
-use Rattle.run_log.specs.Sinks.{Wrote}
+use Rattle.byte_streams.specs.Sinks.{Wrote}
 use Rattle.shop_base.specs.declared.move_order.MoveOrder.{MoveOrder}
 use Rattle.shop_base.specs.Plan.{PlannedShop}
 use Rattle.shop_base.specs.Cell.{Cell}
@@ -17,7 +17,7 @@ use Rattle.cell_tables.specs.Reports.{said}
 use Rattle.cell_control.specs.Reports.{IsFirstReason}
 use Rattle.cell_tables.specs.declared.entry.Entry.TheVariants.{Report as ReportEntry, Order as OrderEntry}
 use Rattle.run_log.specs.Log.{Noted, Notes}
-use Rattle.cell_drive.specs.Lent.{Taker, WroteOne}
+use Rattle.byte_streams.specs.Lent.{Taker, WroteOne}
 use Rattle.cell_drive.specs.AnswerLines.{late_line, refused_line}
 use Rattle.cell_drive.specs.InputLines.{IsReportLine, IsNoReport}
 use Rattle.cell_drive.specs.DrivenLines.{LineAnswer, IsLateText, too_long, empty, no_report, refused, accepted}

@@ -11,11 +11,11 @@ use Rattle.shop_base.proofs.StatedNumber.{ends_on_the_stated_number-holds}
 use Rattle.plan_verifier.specs.Accepted.{VerifiedPlan}
 use Rattle.cell_tables.specs.declared.entry.Entry.{Entry}
 use Rattle.cell_tables.specs.Events.{events_of}
-use Rattle.cell_drive.specs.declared.drive_fault.DriveFault.{DriveFault}
-use Rattle.cell_drive.specs.declared.drive_fault.DriveFault.TheVariants.{Read, Write, InputTooLong, Memory}
-use Rattle.cell_drive.specs.Lent.{Output, Streams, taker}
-use Rattle.cell_drive.specs.Answering.{AnswerAll, AreAnswered, AreCutOff, AreCutShort, IsClosingCut}
-use Rattle.cell_drive.specs.Streams.{IsCutOff, IsStreamed}
+use Rattle.byte_streams.specs.declared.drive_fault.DriveFault.{DriveFault}
+use Rattle.byte_streams.specs.declared.drive_fault.DriveFault.TheVariants.{Read, Write, InputTooLong, Memory}
+use Rattle.byte_streams.specs.Lent.{Output, Streams, taker}
+use Rattle.byte_streams.specs.Answering.{AnswerAll, AreAnswered, AreCutOff, AreCutShort, IsClosingCut}
+use Rattle.byte_streams.specs.Streams.{IsCutOff, IsStreamed}
 use Rattle.cell_drive.specs.DrivenLines.{LineAnswer, closing_line}
 use Rattle.cell_drive.specs.Driven.{DriveState, IsDriven, DriveAnswer, ControlCloses, drive_start}
 use Rattle.cell_drive.specs.AnswerText.{DrivenCell, CellAnswers, CellCloses, AreAnswersTo}

@@ -1,9 +1,3 @@
-pub mod Held
-pub mod Told
-pub mod Taking
-pub mod Drains
-pub mod WholeLines
-pub mod Streamed
 pub mod ReportLines
 pub mod DrivenRuns
 pub mod DrivenAnswers

@@ -21,8 +21,8 @@ use Rattle.cell_tables.specs.Reports.{said}
 use Rattle.cell_control.specs.Reports.{IsFirstReason}
 use Rattle.cell_control.proofs.Reasons.{reason-cannot}
 use Rattle.cell_control.proofs.OneReason.{only_reason}
-use Rattle.cell_drive.specs.Lines.{input_lines}
-use Rattle.cell_drive.specs.Answering.{AnswerAll}
+use Rattle.byte_streams.specs.Lines.{input_lines}
+use Rattle.byte_streams.specs.Answering.{AnswerAll}
 use Rattle.cell_drive.specs.AnswerLines.{refused_line}
 use Rattle.cell_drive.specs.CellLines.{IsCellReport, IsNoCellReport, cell_prefix}
 use Rattle.cell_drive.specs.ManyCells.{CellsAnswer, CellsClose, accepted_lines, too_long, empty, no_report, no_cell, refused, accepted}

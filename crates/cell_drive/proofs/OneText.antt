@@ -19,8 +19,8 @@ use Rattle.cell_control.proofs.OneReason.{only_reason}
 use Rattle.cell_tables.specs.declared.entry.Entry.{Entry}
 use Rattle.cell_tables.specs.declared.entry.Entry.TheVariants.{Report as ReportEntry, Order as OrderEntry}
 use Rattle.run_log.specs.EventLines.{report_line}
-use Rattle.cell_drive.specs.Lines.{input_lines}
-use Rattle.cell_drive.specs.Answering.{AnswerAll}
+use Rattle.byte_streams.specs.Lines.{input_lines}
+use Rattle.byte_streams.specs.Answering.{AnswerAll}
 use Rattle.cell_drive.specs.AnswerLines.{refused_line, order_lines}
 use Rattle.cell_drive.specs.InputLines.{IsReportLine, IsNoReport}
 use Rattle.cell_drive.specs.DrivenLines.{LineAnswer, IsLateText, too_long, empty, no_report, refused, accepted}

@@ -30,8 +30,8 @@ use Rattle.cell_tables.specs.Events.{events_of}
 use Rattle.run_log.specs.EventLines.{spaced_line, spot_word, report_line, order_line}
 use Rattle.run_log.specs.LogLines.{IsSpotWord, IsEntryOf, LineTells, LinesTell}
 use Rattle.run_log.proofs.Audits.{events-join}
-use Rattle.cell_drive.specs.Lines.{input_lines}
-use Rattle.cell_drive.specs.Answering.{AnswerAll}
+use Rattle.byte_streams.specs.Lines.{input_lines}
+use Rattle.byte_streams.specs.Answering.{AnswerAll}
 use Rattle.cell_drive.specs.AnswerLines.{late_line, refused_line, done_line, unfinished_line, order_lines}
 use Rattle.cell_drive.specs.DrivenLines.{LineAnswer, IsLateText, too_long, empty, no_report, refused, accepted}
 use Rattle.cell_drive.specs.AnswerText.{DrivenCell, undriven, CellAnswers, CellCloses}

@@ -2,8 +2,8 @@
 use Rattle.std.specs.Prelude.{◌≡◌, ℕ, List, [], ◌∷◌, ◌++◌, map, Option}
 use Rattle.plan_verifier.specs.Accepted.{VerifiedPlan, IsVerified}
 use Rattle.cell_control.specs.Control.{Control, at_start}
-use Rattle.cell_drive.specs.Lines.{input_lines}
-use Rattle.cell_drive.specs.Answering.{AnswerAll}
+use Rattle.byte_streams.specs.Lines.{input_lines}
+use Rattle.byte_streams.specs.Answering.{AnswerAll}
 use Rattle.cell_drive.specs.ManyCells.{CellsAnswer, CellsClose}
 
 -- the plans are accepted ones

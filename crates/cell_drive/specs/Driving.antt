@@ -15,13 +15,13 @@ use Rattle.cell_control.specs.Promises.{RestsUnstuck}
 use Rattle.cell_tables.specs.declared.entry.Entry.{Entry}
 use Rattle.run_log.specs.Log.{Noted}
 use Rattle.cell_tables.specs.Events.{events_of}
-use Rattle.cell_drive.specs.declared.drive_fault.DriveFault.{DriveFault}
-use Rattle.cell_drive.specs.declared.drive_fault.DriveFault.TheVariants.{Read, Write, InputTooLong, Memory}
+use Rattle.byte_streams.specs.declared.drive_fault.DriveFault.{DriveFault}
+use Rattle.byte_streams.specs.declared.drive_fault.DriveFault.TheVariants.{Read, Write, InputTooLong, Memory}
 use Rattle.cell_drive.specs.declared.driving.DriveEnd.{DriveEnd}
-use Rattle.cell_drive.specs.declared.rooms.TheConstants.{MAX_PIECE}
-use Rattle.cell_drive.specs.Lent.{Output, Streams, Lent}
-use Rattle.cell_drive.specs.Lines.{complete_lines}
-use Rattle.cell_drive.specs.Streams.{IsCutOff}
+use Rattle.byte_streams.specs.declared.rooms.TheConstants.{MAX_PIECE}
+use Rattle.byte_streams.specs.Lent.{Output, Streams, Lent}
+use Rattle.byte_streams.specs.Lines.{complete_lines}
+use Rattle.byte_streams.specs.Streams.{IsCutOff}
 use Rattle.cell_drive.specs.AnswerText.{DrivenCell, undriven, CellAnswers, CellCloses, AreAnswersTo, IsAnswerText}
 
 -- the cell after the events of a log

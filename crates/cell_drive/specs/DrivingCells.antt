@@ -4,13 +4,13 @@ use Rattle.std.specs.Io.KnownBytes.{Appends, Consumes, IsAtEnd}
 use Rattle.text_lines.specs.declared.limits.TheConstants.{MAX_INPUT}
 use Rattle.plan_verifier.specs.Accepted.{VerifiedPlan}
 use Rattle.cell_control.specs.Control.{Control, at_start}
-use Rattle.cell_drive.specs.declared.drive_fault.DriveFault.{DriveFault}
-use Rattle.cell_drive.specs.declared.drive_fault.DriveFault.TheVariants.{Read, Write, InputTooLong, Memory}
+use Rattle.byte_streams.specs.declared.drive_fault.DriveFault.{DriveFault}
+use Rattle.byte_streams.specs.declared.drive_fault.DriveFault.TheVariants.{Read, Write, InputTooLong, Memory}
 use Rattle.cell_drive.specs.declared.driving_cells.HubEnd.{HubEnd}
-use Rattle.cell_drive.specs.declared.rooms.TheConstants.{MAX_PIECE}
-use Rattle.cell_drive.specs.Lent.{Output, Streams, Lent}
-use Rattle.cell_drive.specs.Lines.{input_lines, complete_lines}
-use Rattle.cell_drive.specs.Streams.{IsCutOff}
+use Rattle.byte_streams.specs.declared.rooms.TheConstants.{MAX_PIECE}
+use Rattle.byte_streams.specs.Lent.{Output, Streams, Lent}
+use Rattle.byte_streams.specs.Lines.{input_lines, complete_lines}
+use Rattle.byte_streams.specs.Streams.{IsCutOff}
 use Rattle.cell_drive.specs.ManyCells.{CellsAnswer, CellsClose, AreAllDone}
 use Rattle.cell_drive.specs.CellsTextLaw.{AreCellsAnswersTo, IsCellsAnswerText}
 use Rattle.cell_drive.specs.CellsAlone.{AreAsAlone}

@@ -2,7 +2,7 @@
 
 ghost use Rattle.std.specs.Prelude.{◌≡◌, ◌↔◌, IsTrue, OnOk};
 ghost use Rattle.shop_base.specs.Ends.{HasEnded};
-ghost use Rattle.cell_drive.specs.Lent.{WroteTo, WroteOneTo};
+ghost use Rattle.byte_streams.specs.Lent.{WroteTo, WroteOneTo};
 ghost use Rattle.cell_drive.specs.CellLines.{cell_prefix};
 ghost use Rattle.cell_drive.specs.ManyCells.{AreAllDone, accepted_lines};
 ghost use Rattle.cell_drive.specs.NumberedCells.{contents_of, AreNumbered, IfCell, closing_of, closing_text, AnswersByHub};
@@ -10,11 +10,11 @@ ghost use Rattle.cell_drive.specs.NumberedCells.{contents_of, AreNumbered, IfCel
 use crate::cell_answers::{put_accepted, put_closing};
 use crate::cell_lines::cell_report_of;
 use crate::driven::put_refused;
-use crate::line_handler::LineHandler;
 use crate::numbered_cells::{numbered_cell, orders_of, report_on};
+use byte_streams::{LineHandler, Sink, WriteFault};
 use cell_control::{Dues, Report};
 use cell_hub::{Hub, Ticket};
-use run_log::{LineText, Sink, WriteFault};
+use run_log::LineText;
 use shop_base::MoveOrder;
 use std::marker::Model;
 

@@ -1,16 +1,12 @@
 //! A run that is driven from its start to the end of its input.
 
 ghost use Rattle.std.specs.Prelude.{◌≡◌, IfOk, IfErr, OnOk, Err};
-ghost use Rattle.cell_drive.specs.Lent.{lent};
+ghost use Rattle.byte_streams.specs.Lent.{lent};
 ghost use Rattle.cell_drive.specs.Driven.{IsDriven, drive_start};
 ghost use Rattle.cell_drive.specs.Driving.{DrivesToEnd, DrivesToFault, IsRunOf, IsSoFar, IsNeverFull, NeverWentWrong};
 
-use crate::drive_fault::DriveFault;
 use crate::driven::Driven;
-use crate::outlet::Outlet;
-use crate::rooms::reading_room;
-use crate::source::Source;
-use crate::streaming::stream;
+use byte_streams::{DriveFault, Outlet, Source, reading_room, stream};
 use cell_control::{Controller, TourneyDues};
 use plan_verifier::Verified;
 use run_log::RunLog;

@@ -1,16 +1,12 @@
 //! Several runs that are driven from their starts to the end of one input.
 
 ghost use Rattle.std.specs.Prelude.{◌≡◌, IfOk, IfErr, OnOk, Err};
-ghost use Rattle.cell_drive.specs.Lent.{lent};
+ghost use Rattle.byte_streams.specs.Lent.{lent};
 ghost use Rattle.cell_drive.specs.DrivingCells.{HubDrivesToEnd, HubDrivesToFault};
 
-use crate::drive_fault::DriveFault;
 use crate::driven_cells::DrivenCells;
-use crate::outlet::Outlet;
-use crate::rooms::reading_room;
-use crate::source::Source;
 use crate::started_cells::start;
-use crate::streaming::stream;
+use byte_streams::{DriveFault, Outlet, Source, reading_room, stream};
 use cell_control::TourneyDues;
 use plan_verifier::Verified;
 use std::alloc::Global;

@@ -1,19 +1,10 @@
 //! What holds of answer texts in general. Nothing is done here: a function's contract is the law.
 
-ghost use Rattle.std.specs.Prelude.{◌≡◌};
-ghost use Rattle.text_lines.specs.declared.limits.TheConstants.{MAX_INPUT};
-ghost use Rattle.cell_drive.specs.declared.rooms.TheConstants.{MAX_PIECE};
-ghost use Rattle.cell_drive.specs.declared.held_line.TheConstants.{MAX_LINE};
 ghost use Rattle.cell_drive.specs.OneTextLaw.{OneAnswerText, OneTextForLines};
 ghost use Rattle.cell_drive.specs.CellsTextLaw.{OneCellsAnswerText, OneCellsTextForLines};
 ghost use Rattle.cell_drive.specs.AuditLaw.{AnAnswerTextIsALog, AnAuditKeepsWhatWasDriven};
 
-/// The limits of an input in numbers: the most bytes of it, those that are read at a time, and those of one of its lines.
-pub fn the_limits_of_an_input_in_numbers()
-    ensures input { MAX_INPUT ≡ 67_108_864 }
-    ensures piece { MAX_PIECE ≡ 65_536 }
-    ensures line { MAX_LINE ≡ 63 }
-{}
+pub use byte_streams::laws::the_limits_of_an_input_in_numbers;
 
 /// An input has one answer text: what is written for it is fixed by the plan and by all of its bytes, and not by the
 /// pieces in which these come.

@@ -5,8 +5,8 @@ ghost use Rattle.cell_control.specs.Control.{at_start};
 ghost use Rattle.cell_hub.specs.Calls.{no_serial};
 ghost use Rattle.cell_drive.specs.NumberedCells.{contents_of, AreNumbered, HaveVerified};
 
-use crate::drive_fault::DriveFault;
 use crate::driven_cells::DrivenCells;
+use byte_streams::DriveFault;
 use cell_control::Dues;
 use cell_hub::{Hub, HubFault, Ticket};
 use plan_verifier::Verified;
@@ -33,7 +33,7 @@ impl Model for NotAdmitted {
 
 impl From<NotAdmitted> for DriveFault {
     ghost use Rattle.std.specs.Prelude.{◌≡◌};
-    ghost use Rattle.cell_drive.specs.declared.drive_fault.DriveFault.TheVariants.{Memory};
+    ghost use Rattle.byte_streams.specs.declared.drive_fault.DriveFault.TheVariants.{Memory};
 
     ghost from_gives = { λ _ fault. fault ≡ Memory };
 

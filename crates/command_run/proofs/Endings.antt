@@ -2,8 +2,8 @@
 use Rattle.std.proofs.Common.{◌≡◌, ℕ, ◌≤◌, List, [], true, false, Result, Ok, Err, inl, inr, ◌⊎◌, ap, sym, ◌∙◌, subst, arith, refl}
 use Rattle.cell_drive.specs.declared.driving.DriveEnd.{DriveEnd}
 use Rattle.cell_drive.specs.declared.driving_cells.HubEnd.{HubEnd}
-use Rattle.cell_drive.specs.declared.drive_fault.DriveFault.{DriveFault}
-use Rattle.cell_drive.specs.declared.drive_fault.DriveFault.TheVariants.{Read as NotRead, Write as NotWritten, InputTooLong as TooLong, Memory as WantOfMemory}
+use Rattle.byte_streams.specs.declared.drive_fault.DriveFault.{DriveFault}
+use Rattle.byte_streams.specs.declared.drive_fault.DriveFault.TheVariants.{Read as NotRead, Write as NotWritten, InputTooLong as TooLong, Memory as WantOfMemory}
 use Rattle.plan_verifier.specs.Accepted.{VerifiedPlan}
 use Rattle.plan_verifier.specs.declared.verdict.Verdict.TheVariants.{Accepted, Refused}
 use Rattle.run_resume.specs.declared.resume_fault.ResumeFault.{ResumeFault}

@@ -9,7 +9,7 @@ use Rattle.plan_seek.specs.declared.seek_fault.SeekFault.{SeekFault}
 use Rattle.plan_seek.specs.declared.seek_fault.SeekFault.TheVariants.{BadNumbers, Exhausted, TooManyRounds, Memory as NoMemory}
 use Rattle.plan_improve.specs.Runs.{Asked}
 use Rattle.shop_base.specs.Plan.{PlannedShop}
-use Rattle.cell_drive.specs.declared.drive_fault.DriveFault.{DriveFault}
+use Rattle.byte_streams.specs.declared.drive_fault.DriveFault.{DriveFault}
 use Rattle.run_resume.specs.declared.resume_fault.ResumeFault.{ResumeFault}
 use Rattle.run_resume.specs.declared.resume_fault.ResumeFault.TheVariants.{BadLine, NotOrdered, NotPossible, Memory as NoMemoryToResume}
 use Rattle.run_resume.specs.Replays.{TakenUp}

@@ -1,6 +1,6 @@
 -- What is told on the error output.
 use Rattle.std.proofs.Common.{◌≡◌, ℕ, List, Result, Ok, Err, OnOk, inl, inr}
-use Rattle.run_log.specs.Sinks.{Wrote}
+use Rattle.byte_streams.specs.Sinks.{Wrote}
 use Rattle.command_run.specs.Streams.{Errors}
 use Rattle.command_run.specs.Ending.{WasTold}
 

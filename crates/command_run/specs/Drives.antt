@@ -3,8 +3,8 @@ use Rattle.std.specs.Prelude.{◌≡◌, ℕ, [], Bool, true, false, Result, Ok,
 use Rattle.plan_verifier.specs.declared.verdict.Verdict.TheVariants.{Accepted, Refused}
 use Rattle.plan_verifier.specs.Accepted.{VerifiedPlan}
 use Rattle.cell_drive.specs.declared.driving.DriveEnd.{DriveEnd}
-use Rattle.cell_drive.specs.declared.drive_fault.DriveFault.{DriveFault}
-use Rattle.cell_drive.specs.declared.drive_fault.DriveFault.TheVariants.{Read as NotRead, Write as NotWritten, InputTooLong as TooLong, Memory as WantOfMemory}
+use Rattle.byte_streams.specs.declared.drive_fault.DriveFault.{DriveFault}
+use Rattle.byte_streams.specs.declared.drive_fault.DriveFault.TheVariants.{Read as NotRead, Write as NotWritten, InputTooLong as TooLong, Memory as WantOfMemory}
 use Rattle.cell_drive.specs.Driving.{IsDrivenThrough, IsBrokenOff, IsRunOf, IsSoFar, NeverWentWrong}
 use Rattle.command_answers.specs.declared.answer.Answer.{Answer}
 use Rattle.command_answers.specs.declared.command_fault.CommandFault.{CommandFault}

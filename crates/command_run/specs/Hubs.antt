@@ -2,8 +2,8 @@
 use Rattle.std.specs.Prelude.{◌≡◌, List, Bool, Result, Ok, Err, IfOk, IfErr, OnOk}
 use Rattle.plan_verifier.specs.Accepted.{VerifiedPlan}
 use Rattle.cell_drive.specs.declared.driving_cells.HubEnd.{HubEnd}
-use Rattle.cell_drive.specs.declared.drive_fault.DriveFault.{DriveFault}
-use Rattle.cell_drive.specs.declared.drive_fault.DriveFault.TheVariants.{Memory as WantOfMemory}
+use Rattle.byte_streams.specs.declared.drive_fault.DriveFault.{DriveFault}
+use Rattle.byte_streams.specs.declared.drive_fault.DriveFault.TheVariants.{Memory as WantOfMemory}
 use Rattle.cell_drive.specs.DrivingCells.{AreDrivenThrough, AreBrokenOff}
 use Rattle.command_answers.specs.declared.answer.Answer.{Answer}
 use Rattle.command_answers.specs.declared.cells.Cells.{Cells}

@@ -1,5 +1,5 @@
 -- What lies outside of the program, as it is seen before and after a step.
-pub use Rattle.cell_drive.specs.Lent.{Input, Output, Streams, Taker as Errors, input_of, output_of, streams_of, taker_of as errors_of}
+pub use Rattle.byte_streams.specs.Lent.{Input, Output, Streams, Taker as Errors, input_of, output_of, streams_of, taker_of as errors_of}
 
 -- the files, the standard streams and the error output
 pub record Devices (W : Type 0) : Type 0 where

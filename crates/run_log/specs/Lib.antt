@@ -1,6 +1,4 @@
 -- Reached by public clauses: to be read and believed.
-pub mod Sinks
-pub mod Devices
 pub mod EventLines
 pub mod Log
 pub mod LogLines

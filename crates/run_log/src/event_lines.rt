@@ -1,12 +1,11 @@
 //! The lines of events, each written into 64 bytes of its own.
 
 ghost use Rattle.std.specs.Prelude.{◌≡◌, ◌+◌, ◌≤◌, [], ◌∷◌, ◌++◌, length, codes, decimal, OnOk};
-ghost use Rattle.run_log.specs.Sinks.{Wrote};
+ghost use Rattle.byte_streams.specs.Sinks.{Wrote};
 ghost use Rattle.run_log.specs.EventLines.{spot_word, report_words, order_words, report_line, order_line, entry_line, entry_lines};
 
 use crate::line_text::LineText;
-use crate::sink::{Sink, WriteFault};
-use crate::writing::put_all;
+use byte_streams::{Sink, WriteFault, put_all};
 use cell_tables::{Entry, Report};
 use shop_base::{JobNo, MachineNo, Moment, MoveOrder, Spot};
 

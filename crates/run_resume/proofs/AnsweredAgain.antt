@@ -15,7 +15,7 @@ use Rattle.cell_tables.specs.declared.entry.Entry.{Entry}
 use Rattle.cell_tables.specs.declared.entry.Entry.TheVariants.{Report as ReportEntry, Order as OrderEntry}
 use Rattle.cell_tables.specs.Events.{event_of, events_of}
 use Rattle.run_log.specs.EventLines.{report_line, order_line, entry_lines}
-use Rattle.cell_drive.specs.Answering.{AnswerAll}
+use Rattle.byte_streams.specs.Answering.{AnswerAll}
 use Rattle.cell_drive.specs.AnswerLines.{late_line, order_lines}
 use Rattle.cell_drive.specs.AnswerText.{DrivenCell, CellAnswers}
 use Rattle.cell_drive.specs.DrivenLines.{LineAnswer, IsLateText}

@@ -15,7 +15,7 @@ use Rattle.cell_tables.specs.Events.{events_of}
 use Rattle.run_log.specs.LogLines.{LinesTell}
 use Rattle.run_log.proofs.OneReading.{tell-parts}
 use Rattle.run_log.proofs.Audits.{events-join}
-use Rattle.cell_drive.specs.Answering.{AnswerAll}
+use Rattle.byte_streams.specs.Answering.{AnswerAll}
 use Rattle.cell_drive.specs.DrivenLines as lines
 use Rattle.cell_drive.specs.DrivenLines.{LineAnswer}
 use Rattle.cell_drive.specs.AnswerText.{DrivenCell, undriven, CellAnswers, CellCloses}

@@ -23,12 +23,12 @@ use Rattle.cell_drive.specs.AnswerLines.{late_line}
 use Rattle.run_resume.specs.ToldLines.{told_line, told_lines}
 use Rattle.run_log.specs.LogLines.{IsEntryOf, LinesTell}
 use Rattle.run_log.proofs.Audits.{events-join}
-use Rattle.cell_drive.specs.Lent.{Taker, Output, Streams, taker}
-use Rattle.cell_drive.specs.Lines.{input_lines}
-use Rattle.cell_drive.specs.Answering.{AnswerAll, AreAnswered}
-use Rattle.cell_drive.specs.Streams.{IsStreamed, ComesTo}
-use Rattle.cell_drive.specs.declared.drive_fault.DriveFault.{DriveFault}
-use Rattle.cell_drive.specs.declared.drive_fault.DriveFault.TheVariants.{Read, Write, InputTooLong, Memory}
+use Rattle.byte_streams.specs.Lent.{Taker, Output, Streams, taker}
+use Rattle.byte_streams.specs.Lines.{input_lines}
+use Rattle.byte_streams.specs.Answering.{AnswerAll, AreAnswered}
+use Rattle.byte_streams.specs.Streams.{IsStreamed, ComesTo}
+use Rattle.byte_streams.specs.declared.drive_fault.DriveFault.{DriveFault}
+use Rattle.byte_streams.specs.declared.drive_fault.DriveFault.TheVariants.{Read, Write, InputTooLong, Memory}
 use Rattle.cell_drive.specs.AnswerText.{DrivenCell, CellAnswers, CellCloses}
 use Rattle.cell_drive.specs.Driven.{DriveState, IsDriven, DriveAnswer}
 use Rattle.cell_drive.specs.Driving.{cell_after, IsRunOf}

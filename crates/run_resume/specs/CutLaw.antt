@@ -6,7 +6,7 @@ use Rattle.text_lines.specs.Lines.{lines_of}
 use Rattle.cell_tables.specs.declared.entry.Entry.{Entry}
 use Rattle.cell_tables.specs.declared.entry.Entry.TheVariants.{Order as OrderEntry}
 use Rattle.run_log.specs.LogLines.{LinesTell}
-use Rattle.cell_drive.specs.Answering.{AnswerAll}
+use Rattle.byte_streams.specs.Answering.{AnswerAll}
 use Rattle.cell_drive.specs.AnswerText.{DrivenCell, CellAnswers, CellCloses, AreAnswersTo}
 use Rattle.cell_drive.specs.Driving.{IsRunOf}
 use Rattle.run_resume.specs.CutLogs.{ended_lines, IsCutLog}

@@ -10,15 +10,15 @@ use Rattle.run_log.specs.declared.audit_fault.AuditFault.{AuditFault}
 use Rattle.run_log.specs.declared.audit_fault.AuditFault.TheVariants.{Memory}
 use Rattle.run_log.specs.Audits.{IsAudit, TellRun}
 use Rattle.run_log.specs.EventLines.{entry_lines}
-use Rattle.run_log.specs.Sinks.{TookPart}
-use Rattle.cell_drive.specs.declared.drive_fault.DriveFault.{DriveFault}
-use Rattle.cell_drive.specs.declared.drive_fault.DriveFault.TheVariants.{Write}
+use Rattle.byte_streams.specs.Sinks.{TookPart}
+use Rattle.byte_streams.specs.declared.drive_fault.DriveFault.{DriveFault}
+use Rattle.byte_streams.specs.declared.drive_fault.DriveFault.TheVariants.{Write}
 use Rattle.cell_drive.specs.declared.driving.DriveEnd.{DriveEnd}
-use Rattle.cell_drive.specs.declared.rooms.TheConstants.{MAX_PIECE}
-use Rattle.cell_drive.specs.Lent.{Output, Streams, Lent}
-use Rattle.cell_drive.specs.Lines.{input_lines}
-use Rattle.cell_drive.specs.Streams.{IsStreamed}
-use Rattle.cell_drive.specs.Answering.{AnswerAll}
+use Rattle.byte_streams.specs.declared.rooms.TheConstants.{MAX_PIECE}
+use Rattle.byte_streams.specs.Lent.{Output, Streams, Lent}
+use Rattle.byte_streams.specs.Lines.{input_lines}
+use Rattle.byte_streams.specs.Streams.{IsStreamed}
+use Rattle.byte_streams.specs.Answering.{AnswerAll}
 use Rattle.cell_drive.specs.AnswerText.{DrivenCell, CellAnswers, CellCloses}
 use Rattle.cell_drive.specs.Driving.{cell_after, IsRunOf, IsSoFar}
 use Rattle.cell_drive.specs.AuditLaw.{IsLogOf, IsFoundAgain}

@@ -1,7 +1,7 @@
 //! A run that was taken up and goes on.
 
 ghost use Rattle.std.specs.Prelude.{◌≡◌, ◌≤◌, length, IfOk, IfErr, OnOk};
-ghost use Rattle.cell_drive.specs.Lent.{WroteTo, lent};
+ghost use Rattle.byte_streams.specs.Lent.{WroteTo, lent};
 ghost use Rattle.cell_drive.specs.Driving.{IsRunOf, IsSoFar, IsNeverFull, NeverWentWrong};
 ghost use Rattle.run_resume.specs.Replays.{shop_of};
 ghost use Rattle.run_resume.specs.Resuming.{again_text, GoesOnToEnd, GoesOnToFault};

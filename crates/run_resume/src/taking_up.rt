@@ -27,7 +27,7 @@ pub struct Taken {
 
 impl Model for Taken {
     ghost use Rattle.std.specs.Prelude.{◌≡◌, vec_len};
-    ghost use Rattle.cell_drive.specs.declared.rooms.TheConstants.{MAX_PIECE};
+    ghost use Rattle.byte_streams.specs.declared.rooms.TheConstants.{MAX_PIECE};
     ghost use Rattle.run_resume.specs.Replays.{TakenUp, IsReplayed};
 
     ghost Value = { TakenUp };

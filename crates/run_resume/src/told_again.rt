@@ -2,7 +2,7 @@
 
 ghost use Rattle.std.specs.Prelude.{◌≡◌, ◌+◌, ◌≤◌, ◌++◌, length, OnOk};
 ghost use Rattle.run_log.specs.EventLines.{report_line, order_line};
-ghost use Rattle.cell_drive.specs.Lent.{WroteTo};
+ghost use Rattle.byte_streams.specs.Lent.{WroteTo};
 ghost use Rattle.cell_drive.specs.AnswerLines.{late_line};
 ghost use Rattle.run_resume.specs.declared.told_again.TheConstants.{MOST, EVENT_ROOM, LINES_ROOM};
 ghost use Rattle.run_resume.specs.ToldLines.{told_line, told_lines};

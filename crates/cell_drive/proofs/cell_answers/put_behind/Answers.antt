@@ -1,6 +1,6 @@
 use Rattle.std.proofs.Common.{◌++◌, subst, sym}
 use Rattle.std.proofs.lemmas.Result.{err_from_is_err_and}
-use Rattle.cell_drive.specs.Lent.{WroteTo}
+use Rattle.byte_streams.specs.Lent.{WroteTo}
 use Rattle.cell_drive.proofs.CellTexts.{wrote_next, took_first}
 use Rattle.cell_drive.proofs.DrivenAnswers.{no_bytes}
 use Rattle.cell_drive.proofs.cell_answers.put_behind.Goals as goal

@@ -1,5 +1,5 @@
 use Rattle.std.proofs.Common.{◌++◌, ap, sym, subst, ◌∙◌, List, ℕ}
-use Rattle.cell_drive.specs.Lent.{WroteTo}
+use Rattle.byte_streams.specs.Lent.{WroteTo}
 use Rattle.cell_drive.specs.AnswerLines.{unfinished_line}
 use Rattle.cell_drive.proofs.Closing.{closing_unfinished}
 use Rattle.cell_drive.proofs.cell_answers.put_closing.Goals as goal

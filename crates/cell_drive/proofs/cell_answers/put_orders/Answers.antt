@@ -3,7 +3,7 @@ use Rattle.std.specs.List.{flat_map}
 use Rattle.std.proofs.lemmas.Result.{err_from_is_err_and}
 use Rattle.shop_base.specs.declared.move_order.MoveOrder.{MoveOrder}
 use Rattle.run_log.specs.EventLines.{order_line}
-use Rattle.run_log.proofs.Written.{AllBut-more, TookPart-rest}
+use Rattle.byte_streams.proofs.Written.{AllBut-more, TookPart-rest}
 use Rattle.cell_drive.proofs.CellTexts.{next_line}
 use Rattle.cell_drive.proofs.cell_answers.put_orders.Goals as goal
 

@@ -1,6 +1,6 @@
 use Rattle.std.proofs.Common.{refl}
 use Rattle.std.proofs.KnownBytes.{Appends-nil}
-use Rattle.cell_drive.specs.Lent.{taker_of}
+use Rattle.byte_streams.specs.Lent.{taker_of}
 use Rattle.cell_drive.proofs.DrivenAnswers.{no_bytes, some_bytes, was_answered, answer_empty}
 use Rattle.cell_drive.proofs.driven.answer_line.Goals as goal
 

@@ -1,6 +1,6 @@
 use Rattle.std.proofs.Common.{◌+◌, ◌∙◌, drop, arith}
 use Rattle.std.proofs.lemmas.Result.{err_from_is_err_and}
-use Rattle.run_log.proofs.Written.{AllBut-more, AllBut-all, TookPart-rest}
+use Rattle.byte_streams.proofs.Written.{AllBut-more, AllBut-all, TookPart-rest}
 use Rattle.cell_drive.specs.NumberedCells.{contents_of, closing_text}
 use Rattle.cell_drive.proofs.Numbering.{length_contents}
 use Rattle.cell_drive.proofs.Closing.{content_below, next_closing, no_more_closing}

@@ -1,5 +1,5 @@
 use Rattle.std.proofs.Common.{◌≡◌, drop}
-use Rattle.run_log.specs.Sinks.{AllBut}
+use Rattle.byte_streams.specs.Sinks.{AllBut}
 use Rattle.cell_drive.specs.NumberedCells.{contents_of, closing_text}
 use Rattle.cell_drive.proofs.driven_cells.put_closings.Given as goal
 

@@ -1,6 +1,6 @@
 use Rattle.std.proofs.Common.{◌≡◌, ◌++◌, List, ℕ, subst, ◌∙◌}
 use Rattle.cell_control.specs.Control.{Control}
-use Rattle.run_log.specs.Sinks.{Wrote}
+use Rattle.byte_streams.specs.Sinks.{Wrote}
 use Rattle.cell_drive.specs.CellLines.{cell_prefix}
 use Rattle.cell_drive.specs.DrivenLines.{closing_line}
 use Rattle.cell_drive.proofs.driven_cells.put_numbered_closing.Goals as goal

@@ -1,8 +1,8 @@
 use Rattle.std.proofs.Common.{◌≡◌, ◌≤◌, List, Bool, length, ◌∙◌, sym, ap, subst, inl, refl, arith, vec_len}
 use Rattle.std.specs.Io.KnownBytes.{Appends}
 use Rattle.run_log.specs.Log.{Noted}
-use Rattle.run_log.specs.Sinks.{TookPart}
-use Rattle.cell_drive.specs.Lent.{output_of, streams_of}
+use Rattle.byte_streams.specs.Sinks.{TookPart}
+use Rattle.byte_streams.specs.Lent.{output_of, streams_of}
 use Rattle.cell_drive.specs.Driven.{IsDriven}
 use Rattle.cell_drive.proofs.DrivenEnds.{never_full_of, of_plan}
 use Rattle.run_resume.specs.Resuming.{again_text}

@@ -1,5 +1,5 @@
 use Rattle.std.proofs.Common.{◌≡◌, ℕ, ◌+◌, ◌-◌, List, length, drop, sym, ap, ◌∙◌, subst, arith}
-use Rattle.cell_drive.specs.Lent.{WroteTo}
+use Rattle.byte_streams.specs.Lent.{WroteTo}
 use Rattle.run_resume.specs.ToldLines.{told_lines}
 use Rattle.run_resume.proofs.ToldAgain.{told_before, none_told}
 use Rattle.run_resume.proofs.told_again.put_few.Goals as goal

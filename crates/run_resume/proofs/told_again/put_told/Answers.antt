@@ -1,7 +1,7 @@
 use Rattle.std.proofs.Common.{◌-◌, ◌++◌, Bool, List, length, take, drop, ap, ◌∙◌, arith, length-drop}
 use Rattle.std.proofs.lemmas.List.{take_rest}
 use Rattle.std.proofs.lemmas.Result.{err_from_is_err_and}
-use Rattle.run_log.proofs.Written.{AllBut-more, TookPart-rest}
+use Rattle.byte_streams.proofs.Written.{AllBut-more, TookPart-rest}
 use Rattle.cell_tables.specs.declared.entry.Entry.{Entry}
 use Rattle.run_resume.specs.ToldLines.{told_lines}
 use Rattle.run_resume.proofs.ToldAgain.{first_told}

@@ -1,5 +1,5 @@
 use Rattle.std.proofs.Common.{◌≡◌, length}
-use Rattle.run_log.specs.Sinks.{AllBut}
+use Rattle.byte_streams.specs.Sinks.{AllBut}
 use Rattle.run_resume.specs.ToldLines.{told_lines}
 use Rattle.run_resume.proofs.told_again.put_told.Given as goal
 

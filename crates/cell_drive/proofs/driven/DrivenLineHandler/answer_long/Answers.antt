@@ -1,5 +1,5 @@
 use Rattle.std.proofs.Common.{refl}
-use Rattle.cell_drive.specs.Lent.{taker_of}
+use Rattle.byte_streams.specs.Lent.{taker_of}
 use Rattle.cell_drive.proofs.DrivenAnswers.{was_answered, answer_long}
 use Rattle.cell_drive.proofs.driven.DrivenLineHandler.answer_long.Goals as goal
 

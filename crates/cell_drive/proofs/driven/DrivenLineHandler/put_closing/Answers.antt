@@ -1,5 +1,5 @@
 use Rattle.std.proofs.Common.{subst}
-use Rattle.cell_drive.specs.Lent.{WroteOneTo}
+use Rattle.byte_streams.specs.Lent.{WroteOneTo}
 use Rattle.cell_drive.specs.Driven.{DriveState, ControlCloses}
 use Rattle.cell_drive.specs.DrivenLines.{closing_line}
 use Rattle.cell_drive.proofs.DrivenEnds.{closes}

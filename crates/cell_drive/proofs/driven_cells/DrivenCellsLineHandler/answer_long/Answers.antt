@@ -1,5 +1,5 @@
 use Rattle.std.proofs.Common.{refl}
-use Rattle.cell_drive.specs.Lent.{taker_of}
+use Rattle.byte_streams.specs.Lent.{taker_of}
 use Rattle.cell_drive.proofs.CellsAnswers.{cells_answered, answer_long}
 use Rattle.cell_drive.proofs.driven_cells.DrivenCellsLineHandler.answer_long.Goals as goal
 

@@ -1,7 +1,7 @@
 use Rattle.std.proofs.Common.{List, subst}
 use Rattle.cell_control.specs.Control.{Control}
 use Rattle.cell_hub.specs.declared.ticket.Ticket.{Ticket}
-use Rattle.cell_drive.specs.Lent.{WroteTo, WroteOneTo}
+use Rattle.byte_streams.specs.Lent.{WroteTo, WroteOneTo}
 use Rattle.cell_drive.specs.ManyCells.{CellsClose}
 use Rattle.cell_drive.specs.NumberedCells.{contents_of, closing_text}
 use Rattle.cell_drive.proofs.Closing.{closing_is}

@@ -1,0 +1,76 @@
+ghost use Rattle.std.specs.Prelude.{◌≡◌, [], false, IfOk, IfErr};
+ghost use Rattle.std.specs.IoError.{error_kind};
+ghost use Rattle.byte_streams.specs.Devices.{gathering_for, gathering_most};
+
+use crate::outlet::Outlet;
+use crate::sink::{Sink, WriteFault};
+use std::alloc::Global;
+use std::io::{self, BufWriter, ErrorKind, Write};
+
+/// Any of std's writers as an outlet of bytes, which are gathered until they are to be shown or don't fit. Where it is
+/// dropped, also after a failed write, what is still gathered is written out once more, and no fault of that is told.
+#[derive(Drop)]
+pub struct Gathered<W: Write + Drop> {
+    writer: BufWriter<W>,
+    failed: bool,
+}
+
+impl<W: Write + Drop> Gathered<W> {
+    /// The device, of which no write has failed yet. So many bytes are gathered at most.
+    pub fn new(alloc: Global, most: usize, device: W) -> io::Result<Gathered<W>>
+        ensures device { IfOk result (λ gathered. gathering_for gathered ≡ device) }
+        ensures shown { IfOk result (λ gathered. ⟦<Gathered<W> as Outlet>⟧.pending gathered ≡ []) }
+        ensures unfailed { IfOk result (λ gathered. ⟦<Gathered<W> as Sink>⟧.failed gathered ≡ false) }
+        ensures most { IfOk result (λ gathered. gathering_most gathered ≡ most) }
+        ensures fault { IfErr result (λ error. error_kind error ≡ ErrorKind.OutOfMemory) }
+    {
+        let writer = BufWriter::with_capacity(alloc, most, device)?;
+        Ok(Gathered {
+            writer,
+            failed: false,
+        })
+    }
+
+    /// The device. What is gathered isn't written out.
+    pub fn into_inner(self) -> W
+        ensures { result ≡ gathering_for self }
+    {
+        let Gathered { writer, failed: _ } = self;
+        let (device, _gathered) = writer.into_parts();
+        device
+    }
+}
+
+impl<W: Write + Drop> Sink for Gathered<W> {
+    ghost use Rattle.std.specs.Io.Buffered.{writer_contents};
+
+    ghost taken = { λ s. writer_contents W.contents s.writer };
+
+    ghost failed = { λ s. s.failed };
+
+    fn put(&mut self, bytes: &[u8]) -> Result<usize, WriteFault> {
+        match self.writer.write(bytes) {
+            Ok(count) if count > 0 => Ok(count),
+            _ => {
+                self.failed = true;
+                Err(WriteFault)
+            }
+        }
+    }
+}
+
+impl<W: Write + Drop> Outlet for Gathered<W> {
+    ghost use Rattle.std.specs.Io.Buffered.{writer_buffer};
+
+    ghost pending = { λ s. writer_buffer s.writer };
+
+    fn show(&mut self) -> Result<(), WriteFault> {
+        match self.writer.flush() {
+            Ok(()) => Ok(()),
+            Err(_) => {
+                self.failed = true;
+                Err(WriteFault)
+            }
+        }
+    }
+}

@@ -1,0 +1,94 @@
+//! The lines that end in a piece of the input.
+
+ghost use Rattle.std.specs.Prelude.{◌≡◌, ◌+◌, ◌^◌, ◌<◌, [], length, Some, OnOk};
+ghost use Rattle.byte_streams.specs.Holding.{held_line, ended_line, ended, held_after};
+ghost use Rattle.byte_streams.specs.Lent.{taker_of};
+ghost use Rattle.byte_streams.specs.Answering.{WasAnswered, WereAnswered};
+
+use crate::held_line::{HeldLine, MAX_LINE};
+use crate::line_handler::LineHandler;
+use crate::sink::{Sink, WriteFault};
+use text_lines::{cut_line, without_return};
+
+/// How far an input has been read: how many lines have ended, and what is held of the next.
+#[derive(Drop)]
+pub(crate) struct Input {
+    pub held: HeldLine,
+    pub lines: u64,
+}
+
+fn answer_bytes<H: LineHandler, W: Sink>(
+    handler: &mut H,
+    number: u64,
+    bytes: &[u8],
+    writer: &mut W,
+) -> Result<(), WriteFault>
+    ensures { WasAnswered H.answers handler.old number (held_line (Some bytes.now)) handler.new W.Sink result writer.old writer.new }
+{
+    let line = without_return(bytes);
+    if line.len() <= MAX_LINE {
+        handler.answer(number, line, writer)
+    } else {
+        handler.answer_long(number, writer)
+    }
+}
+
+/// Answers the line that is held.
+pub(crate) fn answer_held<H: LineHandler, W: Sink>(
+    handler: &mut H,
+    number: u64,
+    held: &HeldLine,
+    writer: &mut W,
+) -> Result<(), WriteFault>
+    ensures { WasAnswered H.answers handler.old number (held_line held.now) handler.new W.Sink result writer.old writer.new }
+{
+    match held.bytes() {
+        Some(bytes) => answer_bytes(handler, number, bytes, writer),
+        None => handler.answer_long(number, writer),
+    }
+}
+
+/// Answers the line that ends with these bytes. It is copied only if some of it is held.
+fn answer_ended<H: LineHandler, W: Sink>(
+    handler: &mut H,
+    number: u64,
+    held: &mut HeldLine,
+    bytes: &[u8],
+    writer: &mut W,
+) -> Result<(), WriteFault>
+    ensures answered { WasAnswered H.answers handler.old number (ended_line held.old bytes.now) handler.new W.Sink result writer.old writer.new }
+    ensures cleared { held.new ≡ Some [] }
+{
+    if held.is_empty() {
+        return answer_bytes(handler, number, bytes, writer);
+    }
+    held.push(bytes);
+    let answered = answer_held(handler, number, held, writer);
+    held.clear();
+    answered
+}
+
+/// Answers the lines that end in this piece of the input, and holds what comes after them.
+pub(crate) fn take_piece<H: LineHandler, W: Sink>(
+    handler: &mut H,
+    input: &mut Input,
+    piece: &[u8],
+    writer: &mut W,
+) -> Result<(), WriteFault>
+    requires { input.old.lines + length piece.now < 2 ^ 64 }
+    ensures answered { WereAnswered H.answers handler.old (input.old.lines + 1) (ended input.old.held piece.now) handler.new result
+        (taker_of W.Sink writer.old) (taker_of W.Sink writer.new) }
+    ensures held { OnOk result (input.new.held ≡ held_after input.old.held piece.now) }
+    ensures lines { OnOk result (input.new.lines ≡ input.old.lines + length (ended input.old.held piece.now)) }
+{
+    let mut lines = input.lines;
+    let mut rest = piece;
+    while let Some((line, after)) = cut_line(rest) {
+        lines += 1;
+        answer_ended(handler, lines, &mut input.held, line, writer)?;
+        rest = after;
+    }
+    input.lines = lines;
+    input.held.push(rest);
+    Ok(())
+}

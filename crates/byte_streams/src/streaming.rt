@@ -1,0 +1,158 @@
+//! A whole input, read piece by piece and answered line by line.
+
+ghost use Rattle.std.specs.Prelude.{◌≡◌, ◌+◌, ◌^◌, ◌<◌, ◌≤◌, [], length, Some, IfOk, IfErr, OnOk};
+ghost use Rattle.std.specs.Io.KnownBytes.{Keeps, ReadConsumes};
+ghost use Rattle.byte_streams.specs.Lent.{taker_of, output_of, streams_of, lent};
+ghost use Rattle.byte_streams.specs.Answering.{WereAnswered};
+ghost use Rattle.byte_streams.specs.Reading.{IsReadOn, IsPastLimit, IsReadTaken, IsDrained, IsFinished, last_line, reached};
+ghost use Rattle.byte_streams.specs.Streams.{IsShown, IsShownAt, IsStreamed};
+
+use crate::drive_fault::DriveFault;
+use crate::held_line::HeldLine;
+use crate::line_handler::LineHandler;
+use crate::outlet::Outlet;
+use crate::pieces::{Input, answer_held, take_piece};
+use crate::sink::{Sink, WriteFault};
+use crate::source::Source;
+use text_lines::MAX_INPUT;
+
+/// Shows what was answered within the limit. Then the fault is that more came.
+fn past_limit<W: Outlet>(writer: &mut W) -> DriveFault
+    ensures taken { Keeps (W.taken writer.old) (W.taken writer.new) }
+    ensures fault { IsPastLimit result (output_of W.Sink W.pending writer.old) (output_of W.Sink W.pending writer.new) }
+{
+    match writer.show() {
+        Ok(()) => DriveFault::InputTooLong,
+        Err(_) => DriveFault::Write,
+    }
+}
+
+/// Takes what was read, as far as so many bytes are left of the limit, and tells how many then are.
+fn take_read<H: LineHandler, W: Outlet>(
+    handler: &mut H,
+    input: &mut Input,
+    piece: &[u8],
+    left: usize,
+    writer: &mut W,
+) -> Result<usize, DriveFault>
+    requires { input.old.lines + left < 2 ^ 64 }
+    ensures taken { IsReadTaken result H.answers (reached handler.old input.old) piece.now left (reached handler.new input.new)
+        (taker_of W.Sink writer.old) (taker_of W.Sink writer.new) }
+    ensures shown { IfErr result (λ fault. IsShownAt fault (W.pending writer.new)) }
+{
+    let within = piece.len().min(left);
+    if take_piece(handler, input, &piece[..within], writer).is_err() {
+        return Err(DriveFault::Write);
+    }
+    if within < piece.len() {
+        return Err(past_limit(writer));
+    }
+    Ok(left - within)
+}
+
+/// Shows what was answered, and then reads on.
+fn read_on<R: Source, W: Outlet>(
+    reader: &mut R,
+    room: &mut [u8],
+    writer: &mut W,
+) -> Result<usize, DriveFault>
+    requires { 0 < length room.old }
+    ensures count { IfOk result (λ count. count ≤ length room.new) }
+    ensures given { ReadConsumes (R.left reader.old) (R.left reader.new) result room.new }
+    ensures taken { Keeps (W.taken writer.old) (W.taken writer.new) }
+    ensures failed { IsReadOn result (lent R.Source W.Sink W.pending reader.old writer.old reader.new writer.new) }
+    ensures shown { IsShown result (W.pending writer.new) }
+{
+    if writer.show().is_err() {
+        return Err(DriveFault::Write);
+    }
+    match reader.get(room, writer) {
+        Ok(count) => Ok(count),
+        Err(_) => Err(DriveFault::Read),
+    }
+}
+
+/// Reads all bytes and answers the lines that end in them. All answers are shown before each read.
+fn drain<H: LineHandler, R: Source, W: Outlet>(
+    handler: &mut H,
+    input: &mut Input,
+    reader: &mut R,
+    room: &mut [u8],
+    writer: &mut W,
+) -> Result<(), DriveFault>
+    requires none_held { input.old.held ≡ Some [] }
+    requires no_lines { input.old.lines ≡ 0 }
+    requires room { 0 < length room.old }
+    ensures drained { IsDrained result (length room.old) H.answers handler.old (reached handler.new input.new)
+        (streams_of R.Source W.Sink W.pending reader.old writer.old) (streams_of R.Source W.Sink W.pending reader.new writer.new) }
+    ensures shown { IsShown result (W.pending writer.new) }
+{
+    let mut left = MAX_INPUT;
+    'reads: loop {
+        let count = read_on(reader, room, writer)?;
+        if count == 0 {
+            return Ok(());
+        }
+        left = take_read(handler, input, &room[..count], left, writer)?;
+    }
+}
+
+/// Answers the last line, where bytes of it are held.
+fn answer_last<H: LineHandler, W: Sink>(
+    handler: &mut H,
+    input: &Input,
+    writer: &mut W,
+) -> Result<(), WriteFault>
+    requires { input.now.lines + 1 < 2 ^ 64 }
+    ensures { WereAnswered H.answers handler.old (input.now.lines + 1) (last_line input.now.held) handler.new result
+        (taker_of W.Sink writer.old) (taker_of W.Sink writer.new) }
+{
+    if input.held.is_empty() {
+        return Ok(());
+    }
+    answer_held(handler, input.lines + 1, &input.held, writer)
+}
+
+/// Answers the last line, where bytes of it are held, writes the closing text, and shows all.
+fn finish<H: LineHandler, W: Outlet>(
+    handler: &mut H,
+    input: &Input,
+    writer: &mut W,
+) -> Result<(), WriteFault>
+    requires { input.now.lines + 1 < 2 ^ 64 }
+    ensures finished { IsFinished result H.answers H.closes (reached handler.old input.now) handler.new
+        (taker_of W.Sink writer.old) (taker_of W.Sink writer.new) }
+    ensures shown { OnOk result (W.pending writer.new ≡ []) }
+{
+    answer_last(handler, input, writer)?;
+    handler.put_closing(writer)?;
+    writer.show()
+}
+
+/// Answers each line that the reader gives, and writes the closing text behind the last answer. What is read at a time
+/// lies in the room.
+///
+/// A line is answered once its line feed is read, or at the end of the input if bytes are left. One carriage
+/// return before the line feed, or at the end, isn't part of the line. All that was answered is shown before the reader
+/// is asked for more, and at the end. Behind a failed write no line is taken. `Memory` is never answered: one line is held
+/// at a time.
+pub fn stream<H: LineHandler, R: Source, W: Outlet>(
+    handler: &mut H,
+    reader: &mut R,
+    room: &mut [u8],
+    writer: &mut W,
+) -> Result<(), DriveFault>
+    requires { 0 < length room.old }
+    ensures { IsStreamed result (length room.old) H.answers H.closes handler.old handler.new
+        (streams_of R.Source W.Sink W.pending reader.old writer.old) (streams_of R.Source W.Sink W.pending reader.new writer.new) }
+{
+    let mut input = Input {
+        held: HeldLine::new(),
+        lines: 0,
+    };
+    drain(handler, &mut input, reader, room, writer)?;
+    match finish(handler, &input, writer) {
+        Ok(()) => Ok(()),
+        Err(_) => Err(DriveFault::Write),
+    }
+}

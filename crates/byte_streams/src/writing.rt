@@ -1,0 +1,19 @@
+//! Bytes that are written in as many calls as the writer needs.
+
+ghost use Rattle.std.specs.Prelude.{◌≡◌, OnOk};
+ghost use Rattle.byte_streams.specs.Sinks.{Wrote};
+
+use crate::sink::{Sink, WriteFault};
+
+/// Writes all bytes, in as many calls as the writer needs. A fault leaves the first of them written.
+pub fn put_all<W: Sink>(writer: &mut W, bytes: &[u8]) -> Result<(), WriteFault>
+    ensures wrote { Wrote result (W.failed writer.new) (W.taken writer.old) (W.taken writer.new) bytes.now }
+    ensures unfailed { OnOk result (W.failed writer.new ≡ W.failed writer.old) }
+{
+    let mut rest = bytes;
+    while !rest.is_empty() {
+        let count = writer.put(rest)?;
+        rest = &rest[count..];
+    }
+    Ok(())
+}
