@@ -10,6 +10,7 @@ use Rattle.command_answers.specs.declared.loading.Loaded.{Loaded}
 use Rattle.command_answers.specs.declared.loading.Loaded.TheVariants.{NotShaped, Judged}
 use Rattle.command_answers.specs.Checks.{IsLoaded, IsLineOf, IsCheckLine}
 use Rattle.command_answers.specs.Explains.{HasEvidence, IsExplanationOf, IsExplanation}
+use Rattle.command_answers.specs.Timetables.{IsTimetableOf, IsTimetable}
 
 -- the line of what is said of a plan is that of its check
 pub line_of_loaded : (p : PlannedShop) (loaded : Loaded) (answer : Answer) → IsLoaded p loaded → IsLineOf loaded answer → IsCheckLine p answer
@@ -30,3 +31,8 @@ loaded_evidence p (Judged verdict) judged = evident p verdict judged.refused
 pub explanation_of_loaded : (p : PlannedShop) (loaded : Loaded) (answer : Answer) → IsLoaded p loaded → IsExplanationOf loaded answer → IsExplanation p answer
 explanation_of_loaded p (NotShaped fault) answer first line = inl (record { fault = fault; first = first; line = line })
 explanation_of_loaded p (Judged verdict) answer judged explained = inr (record { verdict = verdict; judged = judged; explained = explained })
+
+-- the schedule of what is said of a plan is the plan's
+pub timetable_of_loaded : (p : PlannedShop) (loaded : Loaded) (answer : Answer) → IsLoaded p loaded → IsTimetableOf loaded answer → IsTimetable p answer
+timetable_of_loaded p (NotShaped fault) answer first line = inl (record { fault = fault; first = first; line = line })
+timetable_of_loaded p (Judged verdict) answer judged scheduled = inr (record { verdict = verdict; judged = judged; scheduled = scheduled })

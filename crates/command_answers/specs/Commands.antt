@@ -15,6 +15,7 @@ use Rattle.command_answers.specs.Texts.{Asks}
 use Rattle.command_answers.specs.Readings.{IsInstanceRead, IsPlanRead, AreFactsAnswered}
 use Rattle.command_answers.specs.Checks.{IsCheckLine, IsLoaded}
 use Rattle.command_answers.specs.Explains.{IsExplanation}
+use Rattle.command_answers.specs.Timetables.{IsTimetable}
 use Rattle.command_answers.specs.Shapes.{IsShapeLine, IsNotShapedLine}
 use Rattle.command_answers.specs.Search.{IsSearchAnswer}
 use Rattle.command_answers.specs.Improving.{IsImproveAnswer, ordered}
@@ -59,6 +60,10 @@ module _ {W : Type 0} (gives : W → List ℕ → Result (List ℕ) CommandFault
   -- `explain`: both are read, and the verdict is explained
   abbrev pub RunsExplain : PairOfFiles → W → Result Answer CommandFault → W → Type 0
   RunsExplain pair = WithBoth pair (λ p. Told (IsOrMemory (IsExplanation p)))
+
+  -- `schedule`: both are read, and the plan's schedule is told
+  abbrev pub RunsSchedule : PairOfFiles → W → Result Answer CommandFault → W → Type 0
+  RunsSchedule pair = WithBoth pair (λ p. Told (IsOrMemory (IsTimetable p)))
 
   -- both are read, and what is to be said of the plan is found
   abbrev pub Loads : PairOfFiles → W → Result Loaded CommandFault → W → Type 0

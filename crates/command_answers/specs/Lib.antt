@@ -10,6 +10,7 @@ pub mod Readings
 pub mod Shapes
 pub mod Checks
 pub mod Explains
+pub mod Timetables
 pub mod Documents
 pub mod Search
 pub mod Improving

@@ -18,7 +18,7 @@ use Rattle.cell_drive.specs.Driving.{IsDrivenThrough, IsSoFar, cell_after}
 use Rattle.cell_drive.proofs.OneText.{one_answer_text}
 use Rattle.command_words.specs.declared.words.Chosen.{Chosen}
 use Rattle.command_words.specs.declared.words.CommandName.{CommandName}
-use Rattle.command_words.specs.declared.words.CommandName.TheVariants.{Input, Facts, Shape, Check, Explain, Plan, Improve, Drive, Resume, Hub, Audit, Gantt}
+use Rattle.command_words.specs.declared.words.CommandName.TheVariants.{Input, Facts, Shape, Check, Explain, Schedule, Plan, Improve, Drive, Resume, Hub, Audit, Gantt}
 use Rattle.command_words.specs.declared.words.WordsFault.{WordsFault}
 use Rattle.command_words.specs.declared.words.WordsFault.TheVariants.{Usage, Memory as NoWordsMemory}
 use Rattle.command_words.specs.Choice.{word_of, IsChoiceOf, TellsOneOf, found_in}
@@ -50,6 +50,7 @@ is_drive Facts word = (let differ : 102 ≡ 100 = ap first word in absurd (omega
 is_drive Shape word = (let differ : 115 ≡ 100 = ap first word in absurd (omega (arith, differ)))
 is_drive Check word = (let differ : 99 ≡ 100 = ap first word in absurd (omega (arith, differ)))
 is_drive Explain word = (let differ : 101 ≡ 100 = ap first word in absurd (omega (arith, differ)))
+is_drive Schedule word = (let differ : 115 ≡ 100 = ap first word in absurd (omega (arith, differ)))
 is_drive Plan word = (let differ : 112 ≡ 100 = ap first word in absurd (omega (arith, differ)))
 is_drive Improve word = (let differ : 105 ≡ 100 = ap first word in absurd (omega (arith, differ)))
 is_drive Resume word = (let differ : 114 ≡ 100 = ap first word in absurd (omega (arith, differ)))

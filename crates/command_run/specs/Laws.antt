@@ -30,10 +30,11 @@ use Rattle.command_answers.specs.Facts.{AreFacts}
 use Rattle.command_answers.specs.Shapes.{IsShapeLine}
 use Rattle.command_answers.specs.Checks.{IsCheckLine}
 use Rattle.command_answers.specs.Explains.{IsExplanation}
+use Rattle.command_answers.specs.Timetables.{IsTimetable}
 use Rattle.command_answers.specs.LogLines.{IsLogLine}
 use Rattle.command_answers.specs.Search.{IsSearchAnswer}
 use Rattle.command_answers.specs.Improving.{IsImproveAnswer, ordered}
-use Rattle.command_answers.specs.Commands.{PairOfFiles, RunsFacts, RunsShape, RunsCheck, RunsExplain, RunsLog, Loads}
+use Rattle.command_answers.specs.Commands.{PairOfFiles, RunsFacts, RunsShape, RunsCheck, RunsExplain, RunsSchedule, RunsLog, Loads}
 use Rattle.command_answers.specs.declared.loading.Loaded.TheVariants.{Judged}
 use Rattle.command_answers.specs.declared.cells.Cells.{Cells}
 use Rattle.command_answers.specs.Cells.{AreAccepted, LoadsCells}
@@ -74,6 +75,9 @@ CheckTellsInstanceFirst = TellsInstanceFirst (λ gives pair. RunsCheck gives pai
 
 abbrev pub ExplainTellsInstanceFirst : Type 0
 ExplainTellsInstanceFirst = TellsInstanceFirst (λ gives pair. RunsExplain gives pair)
+
+abbrev pub ScheduleTellsInstanceFirst : Type 0
+ScheduleTellsInstanceFirst = TellsInstanceFirst (λ gives pair. RunsSchedule gives pair)
 
 -- so it is for `audit` and for `gantt`
 abbrev pub LogTellsInstanceFirst : Type 0
@@ -143,6 +147,9 @@ CheckAnswersPlan = AnswersPlan (λ gives pair. RunsCheck gives pair) IsCheckLine
 
 abbrev pub ExplainAnswersPlan : Type 0
 ExplainAnswersPlan = AnswersPlan (λ gives pair. RunsExplain gives pair) IsExplanation
+
+abbrev pub ScheduleAnswersPlan : Type 0
+ScheduleAnswersPlan = AnswersPlan (λ gives pair. RunsSchedule gives pair) IsTimetable
 
 -- `audit` and `gantt`: where the plan is well shaped, what is told of the log
 abbrev pub LogIsAnswered : Type 0
@@ -239,7 +246,7 @@ pub record IsNumberedLine (number : ℕ) (p : PlannedShop) (answer : Answer) : T
 -- `hub`: the first plan that isn't accepted is answered by its number and the line of `check`, with no further file asked for and no byte read or written
 abbrev pub HubAnswersByCheck : Type 0
 HubAnswersByCheck = (before after : Streams) (content : List ℕ → Result (List ℕ) CommandFault) (path instance : List ℕ) (name : Option (List ℕ)) (files : List (List ℕ)) (plans : List PlannedShop)
-      (file : List ℕ) (p : PlannedShop) (others : List (List ℕ)) (outcome : Result Answer CommandFault) (asked : List (List ℕ))
+    (file : List ℕ) (p : PlannedShop) (others : List (List ℕ)) (outcome : Result Answer CommandFault) (asked : List (List ℕ))
     → content path ≡ Ok instance → TellAccepted content instance name files plans → TellsPlanOf content instance name file p → (IsWellShaped p → IsAcceptable p → ⊥)
     → RunsHub (Shelf content) path name (files ++ file ∷ others) [] before outcome asked after
     → IsAnswered (IsNumberedLine (length files) p) (path ∷ (files ++ file ∷ [])) outcome asked × (after ≡ before)

@@ -15,7 +15,7 @@ use crate::resumes::resume_answer;
 use cell_drive::{Outlet, Source};
 use command_answers::{
     Answered, Pair, Telling, Texts, check_answer, explain_answer, facts_answer, log_answer,
-    shape_answer,
+    schedule_answer, shape_answer,
 };
 use command_words::{Chosen, CommandName};
 use std::alloc::Global;
@@ -68,6 +68,7 @@ pub(crate) fn command<T: Texts, R: Source, W: Outlet, S: Screen>(
         CommandName::Shape => shape_answer(alloc, texts, &pair(chosen)),
         CommandName::Check => check_answer(alloc, texts, &pair(chosen)),
         CommandName::Explain => explain_answer(alloc, texts, &pair(chosen)),
+        CommandName::Schedule => schedule_answer(alloc, texts, &pair(chosen)),
         CommandName::Plan => seek_answer(alloc, texts, &pair(chosen), chosen.rounds),
         CommandName::Improve => {
             let (rounds, seed) = (chosen.rounds, chosen.seed);

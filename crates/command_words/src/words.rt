@@ -27,6 +27,8 @@ pub enum CommandName {
     Check,
     /// Why a plan is accepted or refused.
     Explain,
+    /// When what begins and ends, and how late each may end.
+    Schedule,
     /// The search of an accepted plan.
     Plan,
     /// The search of a better plan.
@@ -178,6 +180,7 @@ fn name_of(word: &str) -> CommandName
         "shape" => CommandName::Shape,
         "check" => CommandName::Check,
         "explain" => CommandName::Explain,
+        "schedule" => CommandName::Schedule,
         "plan" => CommandName::Plan,
         "improve" => CommandName::Improve,
         "drive" => CommandName::Drive,

@@ -154,6 +154,11 @@ fn command_of<'a>(alloc: Global, name: CommandName) -> Result<Command<'a>, Alloc
             "explain",
             "Tells why a plan is accepted or refused",
         ),
+        CommandName::Schedule => on_plan(
+            alloc,
+            "schedule",
+            "Tells when what begins and ends, and how late it may end",
+        ),
         CommandName::Plan => search(alloc),
         CommandName::Improve => improvement(alloc),
         CommandName::Drive => on_plan(
@@ -196,6 +201,7 @@ pub fn whole<'a>(alloc: Global) -> Result<Command<'a>, AllocError>
         CommandName::Shape,
         CommandName::Check,
         CommandName::Explain,
+        CommandName::Schedule,
         CommandName::Plan,
         CommandName::Improve,
         CommandName::Drive,
