@@ -3,7 +3,7 @@ use Rattle.std.proofs.Common.{◌≡◌, ◌≢◌, ℕ, zero, suc, replicate, �
 use Rattle.std.proofs.lemmas.Bool.{cases_lt}
 use Rattle.std.proofs.lemmas.Bool.Decides.{eqb_tells}
 use Rattle.std.proofs.lemmas.List.{get_or_append_left, get_or_push, length_push, length-set, get_or_past, get_or-replicate, length-replicate}
-use Rattle.std.proofs.lemmas.List.Sums.{sum_by-set, sum_by-cons}
+use Rattle.std.proofs.lemmas.List.Sums.{sum_by-set, sum_by-cons, get_or-le-sum_by}
 use Rattle.shop_base.specs.declared.node.Node.{Node}
 use Rattle.shop_base.specs.Plan.{PlannedShop, jobs, IsWellShaped}
 use Rattle.shop_base.specs.Graph.{node, IsNode, Arc}
@@ -16,7 +16,7 @@ use Rattle.alt_graph.specs.Lookups.{AreFirsts}
 use Rattle.alt_graph.specs.Times.{NodeTimes, no_time, time_at, rank_of, earliest_of, before_of, IsAttained}
 use Rattle.alt_graph.specs.Layout.{number_of, by_job}
 use Rattle.alt_graph.specs.PlanGraph.{PlanGraph, IsSoundGraph}
-use Rattle.alt_graph.specs.Ranking.{PlanRanking, IsRanked, IsUnranked, IsPlaced, IsLongest, AreRanked, ranking_of, IsRanking, Grows, blank}
+use Rattle.alt_graph.specs.Ranking.{PlanRanking, IsRanked, IsUnranked, IsPlaced, IsLongest, AreRanked, AreAllRanked, ranking_of, IsRanking, Grows, blank}
 use Rattle.alt_graph.specs.Places.{node_at}
 use Rattle.alt_graph.proofs.NodeNumbers.{numbers_count, number_inside, node_time, time_same, time_other, cases_node}
 
@@ -98,6 +98,18 @@ module _ (graph : PlanGraph) (done : List Node) (rows : List NodeTime) (room : �
 
   sound : AreRanked (ranking_of graph done rows)
   sound = is_ranking.ranked
+
+  -- where as many nodes are done as have rows, all are ranked
+  pub full_ranked : length done ≡ length rows → AreAllRanked (ranking_of graph done rows)
+  full_ranked full v is free =
+      let inside : number_of firsts v < length rows = omega (arith, is_ranking.size, number_inside p firsts are v is) in
+      omega (
+        arith,
+        full,
+        is_ranking.count,
+        get_or-le-sum_by blank rows (number_of firsts v) no_time inside,
+        blank_unranked (get_or rows (number_of firsts v) no_time) (ap (λ (row : NodeTime). row.rank) (sym (node_time p firsts are rows v is)) ∙ free),
+      )
 
   module _ (v : Node) (unranked : IsUnranked (ranking_of graph done rows) v) (longest : Longest)
       (best : IsLongest (ranking_of graph done rows) (Arc p) v longest) where

@@ -235,6 +235,9 @@ impl<'a> Ranking<'a> {
     pub(crate) fn first_unranked(&self) -> Option<Node>
         ensures { MatchOption result (AreAllRanked self.now) (IsUnranked self.now) }
     {
+        if self.done.len() == self.rows.len() {
+            return None;
+        }
         for job in 0..self.shaped().job_count() {
             if let Some(node) = self.first_unranked_of(job) {
                 return Some(node);
