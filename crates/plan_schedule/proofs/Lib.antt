@@ -1,3 +1,4 @@
 pub mod Moments
 pub mod Texts
 pub mod Behind
+pub mod ExactRun

@@ -4,17 +4,13 @@ use Rattle.shop_base.specs.declared.node.Node.{Node}
 use Rattle.shop_base.specs.declared.limits.TheConstants.{MAX_NOMINAL, MAX_RELEASE}
 use Rattle.shop_base.specs.Shop.{operations_of}
 use Rattle.shop_base.specs.Plan.{PlannedShop, jobs, steps, nominal}
-use Rattle.shop_base.specs.Graph.{node, Arc, job_arc, blocking_arc, IsNode}
+use Rattle.shop_base.specs.Graph.{node, job_arc, IsNode}
 use Rattle.shop_base.proofs.Bounds.{operations_of-le}
-use Rattle.shop_base.proofs.Visits.{steps_job, visits_job}
+use Rattle.shop_base.proofs.Visits.{steps_job}
+use Rattle.shop_base.proofs.Cycles.{source_node}
 use Rattle.alt_graph.specs.Times.{NodeTimes, rank_of, earliest_of, before_of, IsAttained, AreOrdered}
 use Rattle.alt_graph.proofs.ArcKinds.{arc_short}
 use Rattle.plan_schedule.specs.Calendars.{the_last_moment}
-
--- an arc comes from a node of the shop
-source_node : (p : PlannedShop) (u v : Node) (d : ℕ) → Arc p u v d → IsNode p u
-source_node p _ _ _ (job_arc j k within) = record { job = steps_job p j k within; place = omega (arith, within) }
-source_node p _ _ _ (blocking_arc m a i k j l left enters) = record { job = visits_job p i k m left.visits; place = omega (arith, left.visits.within) }
 
 module _ (p : PlannedShop) (t : NodeTimes) (ordered : AreOrdered p t) where
   -- the moment of a node with a rank below n

@@ -2,5 +2,7 @@
 pub mod Lines
 pub mod Schedules
 pub mod Scheduled
+pub mod AsTold
+pub mod ScheduleLaw
 -- Of proofs and private contracts alone.
 pub mod Calendars

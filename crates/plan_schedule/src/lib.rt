@@ -3,6 +3,7 @@
 #![tactic(auto)]
 
 mod calendar;
+pub mod laws;
 mod lines;
 mod schedules;
 mod scheduling;

@@ -4,7 +4,7 @@ ghost use Rattle.std.specs.Prelude.{◌≡◌, ◌<◌, ◌++◌, OnOk};
 ghost use Rattle.shop_base.specs.Plan.{jobs, steps};
 ghost use Rattle.alt_graph.specs.Times.{earliest_of};
 ghost use Rattle.plan_explain.specs.Added.{Adds};
-ghost use Rattle.plan_schedule.specs.Schedules.{IsCleaningText, IsVisitText, AreVisitTexts, IsJobText, AreScheduleLines};
+ghost use Rattle.plan_schedule.specs.Schedules.{IsVisitText, AreVisitTexts, IsJobText, AreScheduleLines};
 ghost use Rattle.plan_schedule.specs.Calendars.{due_at};
 
 use crate::calendar::Calendar;
@@ -46,7 +46,7 @@ fn push_visits(text: &mut Vec<u8>, calendar: &Calendar<'_>, job: JobNo) -> Resul
     Ok(())
 }
 
-/// Adds the lines of a visit: its own, and behind it that of the cleaning.
+/// Adds the lines of a visit: its own, and behind it that of the cleaning, if there is one.
 fn push_visit(
     text: &mut Vec<u8>,
     calendar: &Calendar<'_>,
@@ -59,21 +59,6 @@ fn push_visit(
         OnOk result (Adds (IsVisitText c.plan (earliest_of c.times) (due_at c) job place) text.old.items text.new.items) }
 {
     push_visit_line(text, calendar.visit(job, place))?;
-    push_cleaning(text, calendar, job, place)
-}
-
-/// Adds the line of the cleaning behind a visit, if there is one.
-fn push_cleaning(
-    text: &mut Vec<u8>,
-    calendar: &Calendar<'_>,
-    job: JobNo,
-    place: u32,
-) -> Result<(), AllocError>
-    requires job { job < jobs calendar.now.plan }
-    requires place { place < steps calendar.now.plan job }
-    ensures { let c = calendar.now in
-        OnOk result (Adds (IsCleaningText c.plan (earliest_of c.times) (due_at c) job place) text.old.items text.new.items) }
-{
     match calendar.cleaning(job, place) {
         Some(cleaning) => push_cleaning_line(text, cleaning),
         None => Ok(()),

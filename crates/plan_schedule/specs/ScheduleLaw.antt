@@ -1,0 +1,25 @@
+-- The law that ties a schedule to the run of which it tells.
+use Rattle.std.specs.Prelude.{ℕ, ◌<◌, ◌≤◌, List, Option}
+use Rattle.shop_base.specs.declared.node.Node.{Node}
+use Rattle.shop_base.specs.declared.limits.TheConstants.{MAX_MOMENT}
+use Rattle.shop_base.specs.Plan.{PlannedShop, jobs, IsWellShaped}
+use Rattle.shop_base.specs.Cell.{Cell, start, IsGone}
+use Rattle.shop_base.specs.Report.{Report}
+use Rattle.shop_base.specs.Run.{Event}
+use Rattle.shop_base.specs.Controlled.{IsControlledRun}
+use Rattle.shop_base.specs.Punctual.{AreExact}
+use Rattle.shop_base.specs.Graph.{leaving, RanksRise}
+use Rattle.plan_schedule.specs.Scheduled.{AreEarliest}
+use Rattle.plan_schedule.specs.AsTold.{AreAsTold}
+
+-- schedules tell the exact run: where ranks rise along every arc, each event of a controlled run whose reports are exact comes at just the moment that the lines by the earliest moments tell
+abbrev pub SchedulesTellTheExactRun : Type 0
+SchedulesTellTheExactRun = (p : PlannedShop) (rank moments : Node → ℕ) (due : Node → Option ℕ) (rs : List Report) (es : List Event) (end : Cell)
+    → IsWellShaped p → RanksRise p rank → AreEarliest p moments → IsControlledRun p rs es end → AreExact p (start p) es
+    → AreAsTold p moments due (start p) es
+
+-- there is such a run, and in it each job is gone whose leaving is told for a moment that can be reported
+abbrev pub SomeRunIsExact : Type 0
+SomeRunIsExact = (p : PlannedShop) (rank moments : Node → ℕ) → IsWellShaped p → RanksRise p rank → AreEarliest p moments
+    → (rs : List Report) × (es : List Event) × (end : Cell) × IsControlledRun p rs es end × AreExact p (start p) es
+    × ((j : ℕ) → j < jobs p → moments (leaving p j) ≤ MAX_MOMENT → IsGone p end j)
