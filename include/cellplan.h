@@ -48,7 +48,7 @@ extern "C" {
 /* The version of this header's calls. The library is of the same where cellplan_version() gives it. */
 #define CELLPLAN_VERSION 1
 
-/* The version of cellplan that this header comes from. */
+/* The version of cellplan that this header comes from: `cellplan --version` prints that of a program. */
 #define CELLPLAN_VERSION_TEXT "1.0.0"
 
 /* The statuses: those of the program, then those of these calls alone. */

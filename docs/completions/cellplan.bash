@@ -3,7 +3,7 @@ _cellplan() {
   local word=${COMP_WORDS[COMP_CWORD]} before=${COMP_WORDS[COMP_CWORD - 1]} command=${COMP_WORDS[1]} options
   COMPREPLY=()
   if [ "$COMP_CWORD" -eq 1 ]; then
-    mapfile -t COMPREPLY < <(compgen -W 'facts shape check explain schedule plan improve drive resume hub audit gantt --help' -- "$word")
+    mapfile -t COMPREPLY < <(compgen -W 'facts shape check explain schedule plan improve drive resume hub audit gantt --help --version' -- "$word")
     return
   fi
   case $before in

@@ -16,3 +16,4 @@ complete -c cellplan -n '__fish_seen_subcommand_from facts shape check explain s
 complete -c cellplan -n '__fish_seen_subcommand_from plan improve' -l rounds -x -d 'The rounds of the search, 0 to 1000'
 complete -c cellplan -n '__fish_seen_subcommand_from improve' -l seed -x -d 'Other seeds search elsewhere, 0 to 1000000'
 complete -c cellplan -s h -l help -d 'Print help'
+complete -c cellplan -n __fish_use_subcommand -s V -l version -d 'Print version'

@@ -297,7 +297,7 @@ abbrev pub IsFailureOf : Result Answer CommandFault → Output → CommandFault 
 IsFailureOf (Ok answer) after fault = (fault ≡ Write) × (after.failed ≡ true)
 IsFailureOf (Err own) after fault = (fault ≡ own) ⊎ (IsOfText own × (fault ≡ Memory))
 
--- the outcome of words that choose no command: help that was asked for, or out of memory; what is wrong with the words is none
+-- the outcome of words that choose no command: help or the version that was asked for, or out of memory; what is wrong with the words is none
 abbrev pub IsOutcomeOfWords : WordsFault → Result Answer CommandFault → Type 0
 IsOutcomeOfWords (Usage true text) outcome = (help : Answer) × (outcome ≡ Ok help) × (help.text.items ≡ string_bytes text)
 IsOutcomeOfWords (Usage false text) outcome = ⊥

@@ -104,14 +104,14 @@ module _ {W : Type 0} (gives : W → List ℕ → Result (List ℕ) CommandFault
     pub input : after.streams.input ≡ mid.input
     pub ends : Ends outcome mid.output after.streams.output before.errors after.errors status
 
-  -- help that was asked for is a good answer
+  -- help or the version that was asked for is a good answer
   pub record Helps (text : List ℕ) (before : Devices W) (status : ℕ) (after : Devices W) : Type 0 where
     pub help : Answer
     pub text_is : (help.text.items ≡ text) × (help.status ≡ 0)
     pub ends : IsAnswerEnd help before.streams.output after.streams.output before.errors after.errors status
     pub same : (after.texts ≡ before.texts) × (after.streams.input ≡ before.streams.input)
 
-  -- what follows the reading of the words: the command that was chosen, help, or a line on the standard error
+  -- what follows the reading of the words: the command that was chosen, help or the version, or a line on the standard error
   abbrev pub Follows : Result Chosen WordsFault → Devices W → ℕ → Devices W → Type 0
   Follows (Ok chosen) before status after = Commands chosen before status after
   Follows (Err (Usage true text)) before status after = Helps (string_bytes text) before status after

@@ -9,7 +9,7 @@ use Rattle.command_answers.specs.declared.command_fault.CommandFault.TheVariants
 use Rattle.command_run.specs.declared.unchosen.Unchosen.{Unchosen}
 use Rattle.command_run.specs.declared.unchosen.Unchosen.TheVariants.{Ends, Usage as Wrong}
 
--- help that was asked for is a good answer, and out of memory is a fault
+-- help or the version that was asked for is a good answer, and out of memory is a fault
 abbrev pub IsOutcomeOf : WordsFault → Result Answer CommandFault → Type 0
 IsOutcomeOf (Usage true text) (Ok answer) = (answer.text.items ≡ string_bytes text) × (answer.status ≡ 0)
 IsOutcomeOf Memory (Err fault) = fault ≡ Wanting

@@ -6,7 +6,7 @@ use command_words::WordsFault;
 /// What follows words that choose no command.
 #[derive(Drop)]
 pub(crate) enum Unchosen {
-    /// Help that was asked for is a good answer, and out of memory is a fault.
+    /// Help or the version that was asked for is a good answer, and out of memory is a fault.
     Ends(Answered),
     /// What is wrong with the words.
     Usage(String),

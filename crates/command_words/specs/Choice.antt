@@ -111,7 +111,7 @@ pub record IsWithin (chosen : Chosen) : Type 0 where
 abbrev pub reasons_in : List Text → Kinds
 reasons_in words = fault_of command_line words
 
--- a reason that asks for a text, as `--help` does, and is no mistake
+-- a reason that asks for a text, as `--help` and `--version` do, and is no mistake
 abbrev pub asks_for_help : ErrorKind → Bool
 asks_for_help DisplayHelp = true
 asks_for_help DisplayVersion = true

@@ -1,4 +1,4 @@
--- The command line of the program, as `clap` reads it: eleven commands, with their options and files.
+-- The command line of the program, as `clap` reads it: its commands, with their options and files.
 use Rattle.std.specs.Prelude.{◌≡◌, ℕ, List, [], ◌∷◌, Some, true, false, pos, codes, fold, map}
 use Rattle.clap.specs.Lexer.{usize_max}
 use Rattle.clap.specs.Words.{App, Rule, Shape, Text, app_of, new_rule}
@@ -59,9 +59,9 @@ plan_command name more = command name (file_rule (codes "PLAN") ∷ more)
 abbrev pub log_command : Text → Shape
 log_command name = plan_command name (file_rule (codes "LOG") ∷ [])
 
--- the program itself, which takes no word but a command
+-- the program itself, which takes no word but a command, and has `--help` and `--version`
 abbrev pub bare_program : Shape
-bare_program = record (new_shape (codes "cellplan")) { disable_help_subcommand = true }
+bare_program = record (new_shape (codes "cellplan")) { disable_help_subcommand = true; has_version = true }
 
 -- what each command takes; the form without words is the program itself
 abbrev pub described : CommandName → Shape

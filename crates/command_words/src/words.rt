@@ -63,12 +63,12 @@ pub struct Chosen {
 /// Why the words choose nothing.
 #[derive(Debug, Drop, Error)]
 pub enum WordsFault {
-    /// The words are no command line of the program, or ask for help.
+    /// The words are no command line of the program, or ask for help or for the version.
     #[error("{text}")]
     Usage {
-        /// Help was asked for, so the text goes to the standard output and is no mistake.
+        /// Help or the version was asked for, so the text goes to the standard output and is no mistake.
         help: bool,
-        /// The help, or what is wrong with the words.
+        /// The help, the version, or what is wrong with the words.
         text: String,
     },
     /// Memory ran out.

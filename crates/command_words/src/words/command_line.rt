@@ -9,6 +9,9 @@ use clap::builder::ValueParser;
 use clap::{Arg, Command};
 use std::alloc::{AllocError, Global};
 
+/// The version of the program, which is that of the file `VERSION`.
+const VERSION: &str = "1.0.0";
+
 /// A file that has to be named.
 fn file<'a>(alloc: Global, name: &'a str, help: &'a str) -> Arg<'a>
     ensures rule { rule_of result ≡ file_rule name.entry.now }
@@ -125,6 +128,7 @@ fn bare<'a>(alloc: Global) -> Command<'a>
     ensures { Describes (leaf bare_program) result }
 {
     Command::new(alloc, "cellplan")
+        .version(VERSION)
         .about("Checks plans of a blocking job shop, and drives robot cells by them")
         .after_help(
             "Without a command it reads an instance from the standard input, as facts does.",
