@@ -4,3 +4,4 @@ pub mod SearchLines
 pub mod ImproveLines
 pub mod LogAnswers
 pub mod CellPlans
+pub mod BoundTexts

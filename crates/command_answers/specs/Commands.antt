@@ -16,6 +16,7 @@ use Rattle.command_answers.specs.Readings.{IsInstanceRead, IsPlanRead, AreFactsA
 use Rattle.command_answers.specs.Checks.{IsCheckLine, IsLoaded}
 use Rattle.command_answers.specs.Explains.{IsExplanation}
 use Rattle.command_answers.specs.Timetables.{IsTimetable}
+use Rattle.command_answers.specs.BoundLines.{AreBounds}
 use Rattle.command_answers.specs.Shapes.{IsShapeLine, IsNotShapedLine}
 use Rattle.command_answers.specs.Search.{IsSearchAnswer}
 use Rattle.command_answers.specs.Improving.{IsImproveAnswer, ordered}
@@ -64,6 +65,10 @@ module _ {W : Type 0} (gives : W → List ℕ → Result (List ℕ) CommandFault
   -- `schedule`: both are read, and the plan's schedule is told
   abbrev pub RunsSchedule : PairOfFiles → W → Result Answer CommandFault → W → Type 0
   RunsSchedule pair = WithBoth pair (λ p. Told (IsOrMemory (IsTimetable p)))
+
+  -- `bounds`: both are read, and what no plan can do with these numbers is told
+  abbrev pub RunsBounds : PairOfFiles → W → Result Answer CommandFault → W → Type 0
+  RunsBounds pair = WithBoth pair (λ p. Told (IsOrMemory (AreBounds p)))
 
   -- both are read, and what is to be said of the plan is found
   abbrev pub Loads : PairOfFiles → W → Result Loaded CommandFault → W → Type 0

@@ -5,11 +5,11 @@ use Rattle.plan_text.specs.declared.plan_fault.PlanFault.TheVariants.{NotReadBac
 use Rattle.plan_text.specs.Lines.{plan_lines}
 use Rattle.plan_text.specs.Documents.{IsPlanText}
 use Rattle.plan_verifier.specs.Accepted.{HasNoCycle, IsAcceptable}
-use Rattle.plan_seek.specs.Orders.{Proposal, serial_order}
+use Rattle.plan_seek.specs.Orders.{Proposal}
 use Rattle.plan_seek.specs.declared.search.TheConstants.{MAX_ROUNDS}
 use Rattle.plan_improve.specs.declared.improve_fault.ImproveFault.{ImproveFault}
 use Rattle.plan_improve.specs.declared.improve_fault.ImproveFault.TheVariants.{TooManyRounds, Memory as WantOfMemory}
-use Rattle.plan_improve.specs.Reordered.{reordered, IsReordered}
+use Rattle.plan_improve.specs.Reordered.{IsReordered}
 use Rattle.plan_improve.specs.Runs.{Asked, Rounds}
 use Rattle.plan_improve.specs.Improved.{IsFound, IsNeverWorse}
 use Rattle.command_answers.specs.declared.answer.Answer.{Answer}
@@ -17,11 +17,12 @@ use Rattle.command_answers.specs.declared.command_fault.CommandFault.{CommandFau
 use Rattle.command_answers.specs.declared.command_fault.CommandFault.TheVariants.{Plan, Memory}
 use Rattle.command_answers.specs.Documents.{IsDocumentOf}
 use Rattle.command_answers.specs.Shapes.{IsNotShapedLine}
+use Rattle.command_answers.specs.Serial.{serially}
 use Rattle.command_answers.specs.Steps.{IsOrMemory}
 
 -- these orders or, where there are none, the serial plan's
 abbrev pub orders_or_serial : PlannedShop → List (List ℕ) → PlannedShop
-orders_or_serial p [] = reordered p (serial_order p.shop)
+orders_or_serial p [] = serially p
 orders_or_serial p (order ∷ orders) = p
 
 -- the plan with which a search begins: the plan itself or, where it has no orders at all, the serial plan with its numbers

@@ -11,6 +11,8 @@ pub mod Shapes
 pub mod Checks
 pub mod Explains
 pub mod Timetables
+pub mod Serial
+pub mod BoundLines
 pub mod Documents
 pub mod Search
 pub mod Improving

@@ -3,11 +3,14 @@
 ghost use Rattle.std.specs.Prelude.{◌≡◌, IfOk, IfErr};
 ghost use Rattle.shop_base.specs.Plan.{PlannedShop, IsWellShaped};
 ghost use Rattle.shop_base.specs.ShapeFault.{IsFirstShapeFault};
+ghost use Rattle.command_answers.specs.Steps.{IsOrMemory};
+ghost use Rattle.command_answers.specs.Serial.{serially};
 ghost use Rattle.command_answers.specs.Commands.{ReadsBoth};
 
 use crate::answer::Outcome;
 use crate::readings::{instance, plan};
 use crate::texts::Texts;
+use plan_seek::serial_orders;
 use shop_base::{Plan, ShapeFault, Shaped, Shop, shape};
 use std::alloc::Global;
 use std::marker::Model;
@@ -64,5 +67,26 @@ pub(crate) fn read_both<T: Texts>(alloc: Global, texts: &mut T, pair: &Pair<'_>)
 {
     let shop = instance(alloc, texts, pair.instance, pair.name)?.shop;
     let plan = plan(alloc, texts, pair.plan)?;
+    Ok(Both { shop, plan })
+}
+
+/// The serial plan with the numbers of this one, whose orders are dropped.
+pub(crate) fn serially(alloc: Global, both: Both) -> Outcome<Both>
+    ensures { IsOrMemory (λ serial. serial ≡ serially both) result }
+{
+    let Both { shop, plan } = both;
+    let order = serial_orders(alloc, &shop)?;
+    let Plan {
+        release,
+        budget,
+        order: _,
+        clean,
+    } = plan;
+    let plan = Plan {
+        release,
+        budget,
+        order,
+        clean,
+    };
     Ok(Both { shop, plan })
 }

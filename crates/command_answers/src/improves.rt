@@ -9,15 +9,14 @@ ghost use Rattle.command_answers.specs.Improving.{RoundsOf, IsBestAnswer, IsImpr
 ghost use Rattle.command_answers.specs.Commands.{RunsImprove};
 
 use crate::answer::{Answered, GOOD, Outcome, REFUSED};
-use crate::both::{Both, Pair, read_both};
+use crate::both::{Both, Pair, read_both, serially};
 use crate::command_fault::Unanswered;
 use crate::lines::{document_answer, line_answer};
 use crate::shapes::not_shaped_answer;
 use crate::texts::Texts;
 use plan_improve::{ImproveFault, Improver, Watch, improve};
-use plan_seek::serial_orders;
 use plan_verifier::Verdict;
-use shop_base::{Plan, Shaped};
+use shop_base::Shaped;
 use std::alloc::Global;
 
 /// The text of the best plan that a search from the plan of a file meets, for the instance of another file: accepted, or
@@ -62,21 +61,7 @@ fn with_orders(alloc: Global, both: Both) -> Outcome<Both>
     if !read.plan.order.is_empty() {
         return Ok(both);
     }
-    let Both { shop, plan } = both;
-    let order = serial_orders(alloc, &shop)?;
-    let Plan {
-        release,
-        budget,
-        order: _,
-        clean,
-    } = plan;
-    let plan = Plan {
-        release,
-        budget,
-        order,
-        clean,
-    };
-    Ok(Both { shop, plan })
+    serially(alloc, both)
 }
 
 /// The answer of the search from a plan.

@@ -3,6 +3,8 @@
 
 mod answer;
 mod both;
+mod bound_answers;
+mod bound_lines;
 mod cells;
 mod checks;
 mod command_fault;
@@ -21,6 +23,7 @@ mod texts;
 
 pub use answer::{Answer, Answered, GOOD, Outcome, REFUSED};
 pub use both::Pair;
+pub use bound_answers::{bounds, bounds_answer};
 pub use cells::{Cells, load_cells};
 pub use checks::{check, check_answer, loaded_answer};
 pub use command_fault::CommandFault;

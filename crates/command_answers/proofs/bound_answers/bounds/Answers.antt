@@ -1,0 +1,15 @@
+use Rattle.command_answers.specs.BoundLines.{AreBounds}
+use Rattle.command_answers.specs.Readings.{AreTextsAnswered}
+use Rattle.command_answers.proofs.Passing.{at_fault, refused_instance, refused_plan, texts_answered}
+use Rattle.command_answers.proofs.bound_answers.bounds.Goals as goal
+
+pub returns-in_err-shop : goal.returns-in_err-shop
+returns-in_err-shop c = at_fault (AreTextsAnswered _ _ _ AreBounds) c.from_residual.result c.in_err-shop.field-0.0 c.from_residual.ensures.1
+    (refused_instance _ _ _ AreBounds c.in_err-shop.field-0.0 c.in_err-shop.ensures)
+
+pub returns-in_err-plan : goal.returns-in_err-plan
+returns-in_err-plan c = at_fault (AreTextsAnswered _ _ _ AreBounds) c.from_residual-in_err-plan.result c.in_err-plan.field-0.0 c.from_residual-in_err-plan.ensures.1
+    (refused_plan _ _ _ AreBounds c.in_ok-shop.field-0 c.in_err-plan.field-0.0 c.in_ok-shop.ensures c.in_err-plan.ensures)
+
+pub returns : goal.returns
+returns c = texts_answered _ _ _ AreBounds c.in_ok-shop.field-0 c.in_ok-plan.plan c.both_bounded.result c.in_ok-shop.ensures c.in_ok-plan.ensures c.both_bounded.ensures

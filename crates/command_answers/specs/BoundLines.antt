@@ -1,0 +1,70 @@
+-- The lines that answer `bounds`.
+use Rattle.std.specs.Prelude.{◌≡◌, ◌⊎◌, ℕ, zero, suc, ◌<◌, ◌≤◌, nat_lt, if◌then◌else◌, List, [], ◌∷◌, ◌++◌, codes, decimal, slice_index}
+use Rattle.shop_base.specs.declared.shape_fault.ShapeFault.{ShapeFault}
+use Rattle.shop_base.specs.Plan.{PlannedShop, IsWellShaped}
+use Rattle.shop_base.specs.ShapeFault.{IsFirstShapeFault}
+use Rattle.plan_bounds.specs.declared.makespan.By.{By}
+use Rattle.plan_bounds.specs.declared.makespan.By.TheVariants.{Machine, Job}
+use Rattle.plan_bounds.specs.declared.makespan.LeastMakespan.{LeastMakespan}
+use Rattle.plan_bounds.specs.Bounds.{ShopTimes, times_of, job_count, job_bound}
+use Rattle.plan_bounds.specs.Makespan.{IsLeastMakespan}
+use Rattle.plan_explain.specs.Arcs.{before}
+use Rattle.command_answers.specs.declared.answer.Answer.{Answer}
+use Rattle.command_answers.specs.Shapes.{IsLineOfFault}
+use Rattle.command_answers.specs.Serial.{serially}
+
+-- ` by machine M` or ` by job J`: whose bound it is
+abbrev pub by_words : By → List ℕ
+by_words (Machine m) = codes " by machine " ++ decimal m
+by_words (Job j) = codes " by job " ++ decimal j
+
+-- `makespan at least N by machine M`, or `.. by job J`
+abbrev pub makespan_line : LeastMakespan → List ℕ
+makespan_line least = before (codes "makespan at least " ∷ decimal least.at_least ∷ by_words least.by ∷ []) (codes "\n")
+
+-- ` never` where the bound is past the budget, else nothing
+abbrev pub never_words : ℕ → ℕ → List ℕ
+never_words bound budget = if nat_lt budget bound then codes " never" else []
+
+-- `job J leaves at least N budget B`, and ` never` where N is past B
+abbrev pub bound_line : ℕ → ℕ → ℕ → List ℕ
+bound_line j bound budget = before (codes "job " ∷ decimal j ∷ codes " leaves at least " ∷ decimal bound ∷ codes " budget " ∷ decimal budget ∷ never_words bound budget ∷ []) (codes "\n")
+
+module _ (t : ShopTimes) (budgets : List ℕ) where
+  -- the lines of the first n jobs
+  abbrev pub bound_lines_below : ℕ → List ℕ
+  bound_lines_below zero = []
+  bound_lines_below (suc n) = bound_lines_below n ++ bound_line n (job_bound t n) (slice_index budgets n)
+
+  -- the line of the greatest bound, and then those of all jobs, in ascending order
+  abbrev pub bound_lines : LeastMakespan → List ℕ
+  bound_lines least = makespan_line least ++ bound_lines_below (job_count t)
+
+  -- none of the first n jobs has a bound past its budget
+  abbrev pub CanBeInTime : ℕ → Type 0
+  CanBeInTime n = (j : ℕ) → j < n → job_bound t j ≤ slice_index budgets j
+
+  -- job j has a bound past its budget
+  abbrev pub IsNeverInTime : ℕ → Type 0
+  IsNeverInTime j = (j < job_count t) × (slice_index budgets j < job_bound t j)
+
+  -- the status is 1 where a job has a bound past its budget, else 0
+  abbrev pub IsBoundsStatus : ℕ → Type 0
+  IsBoundsStatus status = (CanBeInTime (job_count t) × (status ≡ 0)) ⊎ ((j : ℕ) × IsNeverInTime j × (status ≡ 1))
+
+  -- the lines of the bounds of a shop with these releases and cleaning times, and of these budgets
+  pub record AreBoundLines (answer : Answer) : Type 0 where
+    pub least : LeastMakespan
+    pub greatest : IsLeastMakespan t least
+    pub lines : answer.text.items ≡ bound_lines least
+    pub status : IsBoundsStatus answer.status
+
+-- the line of numbers that are too few, too many or over a limit: the first fault of the serial plan with them
+pub record IsBadNumbersLine (p : PlannedShop) (answer : Answer) : Type 0 where
+  pub fault : ShapeFault
+  pub first : IsFirstShapeFault (serially p) fault
+  pub line : IsLineOfFault (codes "bad numbers ") answer
+
+-- what is answered, whatever the plan's orders: the lines of the bounds where its numbers are sound, else their first fault
+abbrev pub AreBounds : PlannedShop → Answer → Type 0
+AreBounds p answer = (IsWellShaped (serially p) × AreBoundLines (times_of p) p.plan.budget answer) ⊎ IsBadNumbersLine p answer

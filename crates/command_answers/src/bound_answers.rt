@@ -1,0 +1,70 @@
+//! The command `bounds`.
+
+ghost use Rattle.std.specs.Prelude.{IfOk};
+ghost use Rattle.std.specs.Option.{option_copied};
+ghost use Rattle.plan_bounds.specs.Bounds.{times_of};
+ghost use Rattle.command_answers.specs.Readings.{AreTextsAnswered};
+ghost use Rattle.command_answers.specs.BoundLines.{AreBounds, AreBoundLines, IsBoundsStatus};
+ghost use Rattle.command_answers.specs.Steps.{IsOrMemory};
+ghost use Rattle.command_answers.specs.Commands.{RunsBounds};
+
+use crate::answer::{Answer, Answered, GOOD, REFUSED};
+use crate::both::{Both, Pair, read_both, serially};
+use crate::bound_lines::{push_bound_lines, push_makespan_line};
+use crate::lines::fault_answer;
+use crate::readings::{load_instance, load_plan};
+use crate::texts::Texts;
+use plan_bounds::{job_bound, least_makespan};
+use shop_base::Shaped;
+use std::alloc::{AllocError, Global};
+
+/// What no plan can do for an instance with the releases and the cleaning times of a plan, both given as texts: a bound
+/// from below on the makespan, and one on each job's leaving beside its budget. The plan's orders are read and not used.
+/// Without a name the first text is one instance, else a collection with an instance of this name.
+pub fn bounds(alloc: Global, instance: &[u8], name: Option<&[u8]>, plan: &[u8]) -> Answered
+    ensures { AreTextsAnswered instance.now (option_copied name.entry) plan.now AreBounds result }
+{
+    let shop = load_instance(alloc, instance, name)?.shop;
+    let plan = load_plan(alloc, plan)?;
+    both_bounded(alloc, Both { shop, plan })
+}
+
+/// What no plan can do for the instance of a file with the releases and the cleaning times of the plan of another.
+pub fn bounds_answer<T: Texts>(alloc: Global, texts: &mut T, pair: &Pair<'_>) -> Answered
+    ensures { RunsBounds T.gives pair.now texts.old result texts.new }
+{
+    let both = read_both(alloc, texts, pair)?;
+    both_bounded(alloc, both)
+}
+
+/// The bounds for a shop with the numbers of a plan, if these are sound, else their first fault.
+fn both_bounded(alloc: Global, both: Both) -> Answered
+    ensures { IsOrMemory (AreBounds both) result }
+{
+    match serially(alloc, both)?.shaped() {
+        Ok(shaped) => Ok(shaped_bounded(alloc, &shaped)?),
+        Err(fault) => Ok(fault_answer(alloc, b"bad numbers ", fault)?),
+    }
+}
+
+/// The lines of the bounds.
+fn shaped_bounded(alloc: Global, shaped: &Shaped) -> Result<Answer, AllocError>
+    ensures { IfOk result (AreBoundLines (times_of shaped.now) shaped.now.plan.budget) }
+{
+    let (mut text, status) = (Vec::new(alloc), bounds_status(shaped));
+    push_makespan_line(&mut text, &least_makespan(shaped))?;
+    push_bound_lines(&mut text, shaped)?;
+    Ok(Answer { text, status })
+}
+
+/// Whether each job can be in time, by its bound.
+fn bounds_status(shaped: &Shaped) -> u8
+    ensures { IsBoundsStatus (times_of shaped.now) shaped.now.plan.budget result }
+{
+    for job in 0..shaped.job_count() {
+        if shaped.budget_of(job) < job_bound(shaped, job) {
+            return REFUSED;
+        }
+    }
+    GOOD
+}
