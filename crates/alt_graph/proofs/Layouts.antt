@@ -4,7 +4,7 @@ use Rattle.std.proofs.lemmas.List.{get_or-take, get_or-drop, length-take, length
 use Rattle.shop_base.specs.declared.node.Node.{Node}
 use Rattle.alt_graph.specs.declared.times.NodeTime.{NodeTime}
 use Rattle.alt_graph.specs.Times.{no_time, job_times, time_at, IsTimed}
-use Rattle.alt_graph.specs.Layout.{number_of, by_job}
+use Rattle.alt_graph.specs.Layout.{number_of, IsCounted, by_job}
 
 -- there is one job less than there are firsts
 job_count : (first : ℕ) (firsts : List ℕ) (rows : List NodeTime) → length (by_job (first ∷ firsts) rows) ≡ length firsts
@@ -57,14 +57,16 @@ module _ (firsts : List ℕ) (rows : List NodeTime) where
       );
     }
 
-  -- the number of a known node is below the first of the next job
-  pub timed_job : (v : Node) → IsTimed (by_job firsts rows) v → v.job + 1 < length firsts
-  timed_job v timed = jobs_within firsts rows v.job timed.job
-
-  pub timed_place : (v : Node) → IsTimed (by_job firsts rows) v → number_of firsts v < get_or firsts (v.job + 1) 0
-  timed_place v timed = omega (
-    arith,
-    timed.place,
-    job_size v (timed_job v timed),
-    length-take (get_or firsts (v.job + 1) 0 - get_or firsts v.job 0) (drop (get_or firsts v.job 0) rows),
-  )
+  -- a known node is one of those that are counted
+  pub timed_counted : (v : Node) → IsTimed (by_job firsts rows) v → IsCounted firsts v
+  timed_counted v timed =
+      let job : v.job + 1 < length firsts = jobs_within firsts rows v.job timed.job in
+      record {
+        job = job;
+        place = omega (
+          arith,
+          timed.place,
+          job_size v job,
+          length-take (get_or firsts (v.job + 1) 0 - get_or firsts v.job 0) (drop (get_or firsts v.job 0) rows),
+        );
+      }

@@ -11,7 +11,7 @@ use Rattle.alt_graph.specs.Evidence.{node_count}
 use Rattle.alt_graph.specs.Lookups.{AreFirsts}
 use Rattle.alt_graph.specs.Times.{NodeTimes, no_time, time_at, IsTimed}
 use Rattle.alt_graph.specs.Layout.{number_of, by_job}
-use Rattle.alt_graph.proofs.Layouts.{time_told, timed_told, timed_job, timed_place}
+use Rattle.alt_graph.proofs.Layouts.{time_told, timed_told, timed_counted}
 
 -- nodes with the same job and place are one
 pub node_same : (u v : Node) → u.job ≡ v.job → u.place ≡ v.place → u ≡ v
@@ -77,8 +77,9 @@ module _ (p : PlannedShop) (firsts : List ℕ) (are : AreFirsts p firsts) where
   -- exactly the nodes of the shop have rows
   pub timed_node : (rows : List NodeTime) (v : Node) → IsTimed (by_job firsts rows) v → IsNode p v
   timed_node rows v timed =
-      let inside : v.job < jobs p = omega (arith, timed_job firsts rows v timed, are.size) in
-      record { job = inside; place = omega (arith, timed_place firsts rows v timed, are.follows v.job inside) }
+      let counted = timed_counted firsts rows v timed in
+      let inside : v.job < jobs p = omega (arith, counted.job, are.size) in
+      record { job = inside; place = omega (arith, counted.place, are.follows v.job inside) }
 
   -- a job's rows end within those of all nodes
   pub next_first : (j : ℕ) → j < jobs p → get_or firsts (j + 1) 0 ≤ get_or firsts (jobs p) 0

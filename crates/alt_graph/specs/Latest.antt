@@ -3,7 +3,7 @@ use Rattle.std.specs.Prelude.{◌≡◌, ℕ, ◌+◌, ◌-◌, ◌<◌, ◌≤�
 use Rattle.shop_base.specs.declared.node.Node.{Node}
 use Rattle.shop_base.specs.Plan.{PlannedShop, steps, budget}
 use Rattle.shop_base.specs.Graph.{Arc, IsNode}
-use Rattle.alt_graph.specs.Layout.{number_of}
+use Rattle.alt_graph.specs.Layout.{number_of, IsCounted}
 
 -- a moment for each node, by its number
 pub record NodeMoments : Type 0 where
@@ -15,9 +15,8 @@ abbrev pub moment_of : NodeMoments → Node → ℕ
 moment_of m v = slice_index m.moments (number_of m.firsts v)
 
 -- the node is one of those that have a moment
-pub record HasMoment (m : NodeMoments) (v : Node) : Type 0 where
-  pub job : v.job + 1 < length m.firsts
-  pub place : number_of m.firsts v < slice_index m.firsts (v.job + 1)
+abbrev pub HasMoment : NodeMoments → Node → Type 0
+HasMoment m v = IsCounted m.firsts v
 
 -- the moments of each job lie within all of them
 abbrev pub AreInside : NodeMoments → Type 0

@@ -8,6 +8,11 @@ use Rattle.alt_graph.specs.Times.{NodeTimes, rank_of, before_of, IsTimed}
 abbrev pub number_of : List ℕ → Node → ℕ
 number_of firsts v = slice_index firsts v.job + v.place
 
+-- the node is one of those that are counted
+pub record IsCounted (firsts : List ℕ) (v : Node) : Type 0 where
+  pub job : v.job + 1 < length firsts
+  pub place : number_of firsts v < slice_index firsts (v.job + 1)
+
 -- rows that lie node after node, by job and place
 unfoldable pub by_job : List ℕ → List NodeTime → NodeTimes
 by_job [] rows = []

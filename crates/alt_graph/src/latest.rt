@@ -12,7 +12,7 @@ ghost use Rattle.alt_graph.specs.Latest.{HasMoment, AreLatest, IsLatest, moment_
 ghost use Rattle.alt_graph.specs.LatestRows.{IsTold, AreTold, HasRows, moment_in};
 
 use crate::graph::Graph;
-use crate::numbers::number;
+use crate::numbers::counted_number;
 use crate::sources::job_target;
 use crate::times::Times;
 use shop_base::{JobNo, Moment, Node, Shaped};
@@ -44,17 +44,8 @@ impl Deadlines {
         ensures { MatchOption result (HasMoment self.now node → ⊥)
             (λ moment. HasMoment self.now node × (moment ≡ moment_of self.now node)) }
     {
-        let firsts = self.firsts.as_slice();
-        let job = node.job as usize;
-        if job + 1 >= firsts.len() {
-            return None;
-        }
-        let at = number(firsts, node);
-        if at < firsts[job + 1] as usize {
-            Some(self.moments[at])
-        } else {
-            None
-        }
+        let at = counted_number(&self.firsts, node)?;
+        Some(self.moments[at])
     }
 }
 

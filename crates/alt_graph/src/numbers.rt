@@ -1,9 +1,9 @@
 //! The numbers of nodes: job after job, and within a job by place.
 
-ghost use Rattle.std.specs.Prelude.{◌≡◌, ◌+◌, ◌<◌, IfOk, length};
+ghost use Rattle.std.specs.Prelude.{◌≡◌, ◌+◌, ◌<◌, IfOk, MatchOption, length};
 ghost use Rattle.shop_base.specs.Plan.{IsWellShaped};
 ghost use Rattle.alt_graph.specs.Lookups.{AreFirsts};
-ghost use Rattle.alt_graph.specs.Layout.{number_of};
+ghost use Rattle.alt_graph.specs.Layout.{number_of, IsCounted};
 
 use shop_base::{Node, Shaped};
 use std::alloc::{AllocError, Global};
@@ -22,6 +22,22 @@ pub(crate) fn first_numbers(alloc: Global, shaped: &Shaped) -> Result<Vec<u32>, 
         firsts.push(next)?;
     }
     Ok(firsts)
+}
+
+/// The node's number, if it is one of the nodes that are counted.
+pub(crate) fn counted_number(firsts: &[u32], node: Node) -> Option<usize>
+    ensures { MatchOption result (IsCounted firsts.now node → ⊥) (λ at. IsCounted firsts.now node × (at ≡ number_of firsts.now node)) }
+{
+    let job = node.job as usize;
+    if job + 1 >= firsts.len() {
+        return None;
+    }
+    let at = number(firsts, node);
+    if at < firsts[job + 1] as usize {
+        Some(at)
+    } else {
+        None
+    }
 }
 
 /// The node's number.

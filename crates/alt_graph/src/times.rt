@@ -2,7 +2,7 @@ ghost use Rattle.std.specs.Prelude.{◌≡◌, IfOk, MatchOption, IsSome, IfSome
 ghost use Rattle.alt_graph.specs.Times.{IsTimed, IsPathBy, rank_of, earliest_of, before_of, time_at};
 ghost use Rattle.alt_graph.specs.Layout.{AreLinked, LeadsBack, by_job};
 
-use crate::numbers::number;
+use crate::numbers::counted_number;
 use shop_base::{Moment, Node};
 use std::alloc::{AllocError, Global};
 use std::marker::Model;
@@ -91,17 +91,8 @@ impl Times {
             (λ time. IsTimed self.now node × (time ≡ time_at self.now node)) }
         ensures back { IfSome result (λ time. LeadsBack self.now node time.before) }
     {
-        let firsts = self.firsts.as_slice();
-        let job = node.job as usize;
-        if job + 1 >= firsts.len() {
-            return None;
-        }
-        let at = number(firsts, node);
-        if at < firsts[job + 1] as usize {
-            Some(self.rows[at])
-        } else {
-            None
-        }
+        let at = counted_number(&self.firsts, node)?;
+        Some(self.rows[at])
     }
 
     /// The node before a known one on a longest path to it, if there is one.

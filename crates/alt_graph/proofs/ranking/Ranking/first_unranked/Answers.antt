@@ -1,5 +1,5 @@
-use Rattle.std.proofs.Common.{◌≡◌, length, arith, ap, subst}
-use Rattle.alt_graph.specs.Ranking.{PlanRanking, AreAllRanked}
+use Rattle.std.proofs.Common.{◌≡◌, length, arith, subst}
+use Rattle.alt_graph.specs.Ranking.{AreAllRanked}
 use Rattle.alt_graph.proofs.Ranks.{full_ranked}
 use Rattle.alt_graph.proofs.ranking.Ranking.first_unranked.Goals as goal
 
