@@ -5,6 +5,7 @@ use Rattle.std.specs.Io.KnownBytes.{Appends}
 use Rattle.std.proofs.lemmas.Bool.{false≢true}
 use Rattle.std.proofs.lemmas.List.{append_cancel_left}
 use Rattle.shop_base.specs.Plan.{PlannedShop}
+use Rattle.shop_base.specs.Run.{IsRun}
 use Rattle.shop_base.specs.Ends.{HasEnded, moves_in, reports_in}
 use Rattle.text_lines.specs.Lines.{lines_of}
 use Rattle.cell_tables.specs.declared.entry.Entry.{Entry}
@@ -12,9 +13,13 @@ use Rattle.run_log.specs.declared.audit_result.Audit.{Audit}
 use Rattle.run_log.specs.declared.audit_fault.AuditFault.{AuditFault}
 use Rattle.run_log.specs.declared.audit_fault.AuditFault.TheVariants.{Memory}
 use Rattle.cell_tables.specs.Events.{events_of}
+use Rattle.run_log.specs.Log.{Noted}
+use Rattle.run_log.specs.LogLines.{LinesTell}
 use Rattle.run_log.specs.Audits.{IsAudit}
 use Rattle.run_log.proofs.OneReading.{one_reading}
 use Rattle.cell_drive.specs.Driving.{cell_after, IsSoFar}
+use Rattle.cell_drive.specs.AnswerText.{seen}
+use Rattle.cell_drive.proofs.DrivenEnds.{driven_text}
 use Rattle.cell_drive.specs.AuditLaw.{IsLogOf, IsFoundAgain, AnAuditKeepsWhatWasDriven}
 use Rattle.cell_drive.proofs.ReadBack.{an_answer_text_is_a_log}
 
@@ -26,10 +31,10 @@ same_answer false true one other = absurd (false≢true (one.1 (other.0 refl)))
 
 -- the lines tell one list of entries
 found_again : (p : PlannedShop) (entries : List Entry) (done : Bool) (last left : ℕ) (text : List ℕ) (audit : Audit)
-    → IsLogOf p text (record { cell = cell_after p entries; entries = entries }) → IsSoFar p entries done last left → IsAudit p (lines_of text) audit
+    → LinesTell p (lines_of text) entries → IsSoFar p entries done last left → IsAudit p (lines_of text) audit
     → IsFoundAgain p entries done last left audit
-found_again p entries done last left text audit is_log so_far is_audit =
-    let told : audit.entries.items ≡ entries = one_reading p (lines_of text) audit.entries.items entries is_audit.tells is_log.tells in
+found_again p entries done last left text audit tells so_far is_audit =
+    let told : audit.entries.items ≡ entries = one_reading p (lines_of text) audit.entries.items entries is_audit.tells tells in
     let counted : audit.reports ≡ reports_in (events_of entries) = is_audit.reports ∙ ap (λ (es : List Entry). reports_in (events_of es)) told in
     let ended : (audit.complete ≡ true) ↔ HasEnded p (cell_after p entries) =
     subst (λ (es : List Entry). (audit.complete ≡ true) ↔ HasEnded p (cell_after p es)) told is_audit.complete in
@@ -42,20 +47,23 @@ found_again p entries done last left text audit is_log so_far is_audit =
     }
 
 pub found_where : (p : PlannedShop) (entries : List Entry) (done : Bool) (last left : ℕ) (text : List ℕ) (outcome : Result Audit AuditFault)
-    → IsLogOf p text (record { cell = cell_after p entries; entries = entries }) → IsSoFar p entries done last left
+    → LinesTell p (lines_of text) entries → IsSoFar p entries done last left
     → IfOk outcome (IsAudit p (lines_of text)) → IfErr outcome (λ fault. fault ≡ Memory)
     → MatchResult outcome (IsFoundAgain p entries done last left) (λ fault. fault ≡ Memory)
-found_where p entries done last left text (Ok audit) is_log so_far kept only = found_again p entries done last left text audit is_log so_far kept
-found_where p entries done last left text (Err fault) is_log so_far kept only = only
+found_where p entries done last left text (Ok audit) tells so_far kept only = found_again p entries done last left text audit tells so_far kept
+found_where p entries done last left text (Err fault) tells so_far kept only = only
 
 -- what was appended to bytes that are told
 pub appended : (before after : Option (List ℕ)) (start text out : List ℕ) → before ≡ Some start → after ≡ Some (start ++ text) → Appends before after out → start ++ text ≡ start ++ out
 appended before after start text out from to wrote = subst (λ o. Appends o (Some (start ++ text)) out) from (subst (λ o. Appends before o out) to wrote)
 
 pub an_audit_keeps_what_was_driven : AnAuditKeepsWhatWasDriven
-an_audit_keeps_what_was_driven p entries done last left before after start text outcome shaped through from to so_far kept only =
-    let same : through.text ≡ text = append_cancel_left start through.text text (sym (appended before.output.taken after.output.taken start text through.text from to through.written)) in
-    let is_log : IsLogOf p text (record { cell = cell_after p entries; entries = entries }) =
-    subst (λ (t : List ℕ). IsLogOf p t (record { cell = cell_after p entries; entries = entries })) same
-    (an_answer_text_is_a_log p through.input through.text (record { cell = cell_after p entries; entries = entries }) shaped through.is_answer_text) in
-    found_where p entries done last left text outcome is_log so_far kept (only (entries, is_log.tells, is_log.run))
+an_audit_keeps_what_was_driven v end before after start text outcome shaped is from to kept only =
+    let all = is.streamed.comes_to in
+    let same : all.text ++ all.closing ≡ text = append_cancel_left start (all.text ++ all.closing) text (sym (appended before.output.taken after.output.taken start text (all.text ++ all.closing) from to all.written)) in
+    let is_log : IsLogOf v.planned text (seen is.end) = subst (λ (t : List ℕ). IsLogOf v.planned t (seen is.end)) same
+    (an_answer_text_is_a_log v.planned is.streamed.input (all.text ++ all.closing) (seen is.end) shaped (driven_text v end before after is)) in
+    let entries : is.end.log.entries ≡ end.log.entries = ap (λ (l : Noted). l.entries) (sym is.came_to.log) in
+    let tells : LinesTell v.planned (lines_of text) end.log.entries = subst (LinesTell v.planned (lines_of text)) entries is_log.tells in
+    let run : IsRun v.planned (events_of end.log.entries) = subst (λ (es : List Entry). IsRun v.planned (events_of es)) entries is_log.run in
+    found_where v.planned end.log.entries end.done end.last end.left text outcome tells is.came_to.so_far kept (only (end.log.entries, tells, run))

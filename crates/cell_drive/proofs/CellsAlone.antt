@@ -20,8 +20,8 @@ use Rattle.cell_control.proofs.Reasons.{reason-cannot}
 use Rattle.byte_streams.specs.Answering.{AnswerAll}
 use Rattle.cell_drive.specs.CellLines.{IsCellReport}
 use Rattle.cell_drive.specs.ManyCells.{CellsAnswer, too_long, empty, no_report, no_cell, refused, accepted}
-use Rattle.cell_drive.specs.CellsTextLaw.{AreVerified, AreCellsAnswersTo}
-use Rattle.cell_drive.specs.CellsAlone.{IsNotOn, HaveReports, none_left, on_it, passed_over, AreAsAlone}
+use Rattle.cell_drive.specs.CellsTextLaw.{AreVerified}
+use Rattle.cell_drive.specs.CellsAlone.{IsNotOn, HaveReports, none_left, on_it, passed_over, EachCellIsAsAlone}
 use Rattle.cell_drive.proofs.CellReports.{one_cell_report}
 use Rattle.cell_drive.proofs.Numbering.{no_content}
 use Rattle.cell_drive.proofs.OneCellsText.{Keeps, AllKeep, starts_keep, one_keeps, some_bytes, stay}
@@ -178,7 +178,7 @@ calls k (line ∷ lines) cells end number text c keep found all =
     ]
 
 -- each cell goes as with a controller alone
-pub as_alone : (plans : List VerifiedPlan) (lines : List (Option (List ℕ))) (text : List ℕ) (end : List Control) → AreVerified plans → AreCellsAnswersTo plans lines text end → AreAsAlone plans lines end
+pub as_alone : EachCellIsAsAlone
 as_alone plans lines text end verified all k v found =
     let is_verified = verified_at plans k v verified found in
     let made = calls k lines (map at_start plans) end 1 text (at_start v) (starts_keep plans verified) (starts_at plans k v found) all in

@@ -1,4 +1,5 @@
 pub mod ReportLines
+pub mod StreamedFrom
 pub mod DrivenRuns
 pub mod DrivenAnswers
 pub mod PromisesKept

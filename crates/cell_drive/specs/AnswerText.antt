@@ -6,11 +6,16 @@ use Rattle.cell_tables.specs.declared.entry.Entry.{Entry}
 use Rattle.byte_streams.specs.Lines.{input_lines}
 use Rattle.byte_streams.specs.Answering.{AnswerAll}
 use Rattle.cell_drive.specs.DrivenLines.{LineAnswer, IsClosingLine}
+use Rattle.cell_drive.specs.Driven.{DriveState}
 
 -- a cell, and what was accepted and ordered in it
 pub record DrivenCell : Type 0 where
   pub cell : Cell
   pub entries : List Entry
+
+-- those of a driven cell
+abbrev pub seen : DriveState → DrivenCell
+seen s = record { cell = s.control.cell; entries = s.log.entries }
 
 -- before the first line: the start of the cell, and no events
 abbrev pub undriven : PlannedShop → DrivenCell

@@ -1,9 +1,10 @@
 -- The law that what a driven cell writes is a log, which an audit keeps.
-use Rattle.std.specs.Prelude.{◌≡◌, ℕ, ◌+◌, List, ◌++◌, Some, Bool, Result, IfOk, IfErr, MatchResult}
+use Rattle.std.specs.Prelude.{◌≡◌, ℕ, ◌+◌, List, ◌++◌, Some, Bool, Result, Ok, IfOk, IfErr, MatchResult}
 use Rattle.shop_base.specs.Plan.{PlannedShop, IsWellShaped}
 use Rattle.shop_base.specs.Run.{IsRun}
 use Rattle.shop_base.specs.Ends.{stated_number, moves_in}
 use Rattle.text_lines.specs.Lines.{lines_of}
+use Rattle.plan_verifier.specs.Accepted.{VerifiedPlan}
 use Rattle.cell_tables.specs.declared.entry.Entry.{Entry}
 use Rattle.run_log.specs.declared.audit_result.Audit.{Audit}
 use Rattle.run_log.specs.declared.audit_fault.AuditFault.{AuditFault}
@@ -13,7 +14,8 @@ use Rattle.run_log.specs.LogLines.{LinesTell}
 use Rattle.run_log.specs.Audits.{IsAudit, TellRun}
 use Rattle.byte_streams.specs.Lent.{Streams}
 use Rattle.cell_drive.specs.AnswerText.{DrivenCell, IsAnswerText}
-use Rattle.cell_drive.specs.Driving.{cell_after, IsDrivenThrough, IsSoFar}
+use Rattle.cell_drive.specs.declared.driving.DriveEnd.{DriveEnd}
+use Rattle.cell_drive.specs.Driving.{cell_after, IsDrive}
 
 -- the lines of the text tell exactly what was accepted and ordered, which is a run of the plan that leads to the cell
 pub record IsLogOf (p : PlannedShop) (text : List ℕ) (end : DrivenCell) : Type 0 where
@@ -35,11 +37,8 @@ pub record IsFoundAgain (p : PlannedShop) (entries : List Entry) (done : Bool) (
 
 -- an audit of what was written finds what driving came to, and its only fault is that it is out of memory. The premises are what is promised of success in driving, into an output that tells its bytes, and of an audit
 abbrev pub AnAuditKeepsWhatWasDriven : Type 0
-AnAuditKeepsWhatWasDriven =
-    (p : PlannedShop) (entries : List Entry) (done : Bool) (last left : ℕ) (before after : Streams) (start text : List ℕ) (outcome : Result Audit AuditFault)
-    → IsWellShaped p
-    → IsDrivenThrough p entries before after → before.output.taken ≡ Some start → after.output.taken ≡ Some (start ++ text)
-    → IsSoFar p entries done last left
-    → IfOk outcome (IsAudit p (lines_of text))
-    → (TellRun p (lines_of text) → IfErr outcome (λ fault. fault ≡ Memory))
-    → MatchResult outcome (IsFoundAgain p entries done last left) (λ fault. fault ≡ Memory)
+AnAuditKeepsWhatWasDriven = (v : VerifiedPlan) (end : DriveEnd) (before after : Streams) (start text : List ℕ) (outcome : Result Audit AuditFault)
+    → IsWellShaped v.planned → IsDrive v before after (Ok end) → before.output.taken ≡ Some start → after.output.taken ≡ Some (start ++ text)
+    → IfOk outcome (IsAudit v.planned (lines_of text))
+    → (TellRun v.planned (lines_of text) → IfErr outcome (λ fault. fault ≡ Memory))
+    → MatchResult outcome (IsFoundAgain v.planned end.log.entries end.done end.last end.left) (λ fault. fault ≡ Memory)

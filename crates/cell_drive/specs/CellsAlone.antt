@@ -9,6 +9,7 @@ use Rattle.cell_control.specs.Control.{Control}
 use Rattle.cell_tables.specs.Reports.{said}
 use Rattle.cell_control.specs.Promises.{IsControllerAfter}
 use Rattle.cell_drive.specs.CellLines.{IsCellReport}
+use Rattle.cell_drive.specs.CellsTextLaw.{AreVerified, AreCellsAnswersTo}
 use Rattle.cell_drive.specs.Driving.{StaysAsPromised}
 
 -- the line is no report on the cell of this number
@@ -35,3 +36,8 @@ pub record IsAsAlone (v : VerifiedPlan) (cell : ℕ) (lines : List (Option (List
 -- so is the cell of each of these plans
 abbrev pub AreAsAlone : List VerifiedPlan → List (Option (List ℕ)) → List Control → Type 0
 AreAsAlone plans lines end = (cell : ℕ) (v : VerifiedPlan) → slice_get plans cell ≡ Some v → (content : Control) × (slice_get end cell ≡ Some content) × IsAsAlone v cell lines content
+
+-- whatever lines were answered, each cell is so
+abbrev pub EachCellIsAsAlone : Type 0
+EachCellIsAsAlone = (plans : List VerifiedPlan) (lines : List (Option (List ℕ))) (text : List ℕ) (end : List Control) → AreVerified plans → AreCellsAnswersTo plans lines text end
+    → AreAsAlone plans lines end

@@ -1,10 +1,10 @@
 -- The law that an input of several cells has one answer text.
-use Rattle.std.specs.Prelude.{◌≡◌, ℕ, List, [], ◌∷◌, ◌++◌, map, Option}
+use Rattle.std.specs.Prelude.{◌≡◌, ℕ, List, [], ◌∷◌, ◌++◌, Option}
 use Rattle.plan_verifier.specs.Accepted.{VerifiedPlan, IsVerified}
-use Rattle.cell_control.specs.Control.{Control, at_start}
+use Rattle.cell_control.specs.Control.{Control}
 use Rattle.byte_streams.specs.Lines.{input_lines}
 use Rattle.byte_streams.specs.Answering.{AnswerAll}
-use Rattle.cell_drive.specs.ManyCells.{CellsAnswer, CellsClose}
+use Rattle.cell_drive.specs.ManyCells.{hub_start, CellsAnswer, CellsClose}
 
 -- the plans are accepted ones
 abbrev pub AreVerified : List VerifiedPlan → Type 0
@@ -13,7 +13,7 @@ AreVerified (v ∷ plans) = IsVerified v × AreVerified plans
 
 -- the first lines of an input of cells by these plans are answered by this text
 abbrev pub AreCellsAnswersTo : List VerifiedPlan → List (Option (List ℕ)) → List ℕ → List Control → Type 0
-AreCellsAnswersTo plans lines text end = AnswerAll CellsAnswer (map at_start plans) 1 lines text end
+AreCellsAnswersTo plans lines text end = AnswerAll CellsAnswer (hub_start plans) 1 lines text end
 
 -- the first lines of an input have one text of answers at most, which leads to one list of contents
 abbrev pub OneCellsTextForLines : Type 0

@@ -43,5 +43,5 @@ abbrev pub AnswersBy : Control → Noted → ℕ → List ℕ → Control → No
 AnswersBy control log number line control_then log_then text = DriveAnswer (driven_by control log) number (Some line) text (driven_by control_then log_then)
 
 -- the closing line
-abbrev pub ControlCloses : Control → List ℕ → Type 0
-ControlCloses s = IsClosingLine s.plan.planned s.cell
+abbrev pub DriveCloses : DriveState → List ℕ → Type 0
+DriveCloses s = IsClosingLine s.control.plan.planned s.control.cell

@@ -1,11 +1,12 @@
 -- Several cells that are driven by lines: they are seen as the contents of their controllers, in the order of their numbers.
-use Rattle.std.specs.Prelude.{◌≡◌, ℕ, suc, ◌≤◌, List, [], ◌∷◌, ◌++◌, length, codes, Option, None, Some, if◌then◌else◌, Bool, slice_get, slice_set}
+use Rattle.std.specs.Prelude.{◌≡◌, ℕ, suc, ◌≤◌, List, [], ◌∷◌, ◌++◌, length, codes, map, Option, None, Some, if◌then◌else◌, Bool, slice_get, slice_set}
 use Rattle.std.specs.List.{flat_map}
 use Rattle.shop_base.specs.declared.move_order.MoveOrder.{MoveOrder}
 use Rattle.cell_tables.specs.declared.report.Report.{Report}
 use Rattle.cell_control.specs.declared.report.Ack.{Ack}
 use Rattle.cell_control.specs.declared.report_fault.ReportFault.{ReportFault}
-use Rattle.cell_control.specs.Control.{Control, IsAnswered}
+use Rattle.plan_verifier.specs.Accepted.{VerifiedPlan}
+use Rattle.cell_control.specs.Control.{Control, at_start, IsAnswered}
 use Rattle.cell_tables.specs.Reports.{said}
 use Rattle.cell_control.specs.Reports.{IsFirstReason}
 use Rattle.cell_control.specs.ReasonNames.{reason_name}
@@ -14,6 +15,10 @@ use Rattle.cell_drive.specs.AnswerLines.{late_line, refused_line}
 use Rattle.shop_base.specs.Ends.{HasEnded}
 use Rattle.cell_drive.specs.DrivenLines.{IsClosingLine}
 use Rattle.cell_drive.specs.CellLines.{IsCellReport, IsNoCellReport, cell_prefix}
+
+-- the cells of these plans before the first line
+abbrev pub hub_start : List VerifiedPlan → List Control
+hub_start plans = map at_start plans
 
 -- the lines that answer an accepted report, with this before each
 abbrev pub accepted_lines : List ℕ → Report → Bool → List MoveOrder → List ℕ

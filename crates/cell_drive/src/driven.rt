@@ -120,11 +120,11 @@ fn answer_line<D: Dues, W: Sink>(
 }
 
 impl<D: Dues> LineHandler for Driven<D> {
-    ghost use Rattle.cell_drive.specs.Driven.{DriveAnswer, ControlCloses};
+    ghost use Rattle.cell_drive.specs.Driven.{DriveAnswer, DriveCloses};
 
     ghost answers = { DriveAnswer };
 
-    ghost closes = { λ s. ControlCloses s.control };
+    ghost closes = { DriveCloses };
 
     fn answer<W: Sink>(
         &mut self,

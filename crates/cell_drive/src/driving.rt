@@ -1,9 +1,9 @@
 //! A run that is driven from its start to the end of its input.
 
-ghost use Rattle.std.specs.Prelude.{◌≡◌, IfOk, IfErr, OnOk, Err};
-ghost use Rattle.byte_streams.specs.Lent.{lent};
-ghost use Rattle.cell_drive.specs.Driven.{IsDriven, drive_start};
-ghost use Rattle.cell_drive.specs.Driving.{DrivesToEnd, DrivesToFault, IsRunOf, IsSoFar, IsNeverFull, NeverWentWrong};
+ghost use Rattle.std.specs.Prelude.{◌≡◌, Err, IfOk};
+ghost use Rattle.byte_streams.specs.Lent.{streams_of};
+ghost use Rattle.cell_drive.specs.Driven.{drive_start};
+ghost use Rattle.cell_drive.specs.Driving.{IsDrive, IsEndOf};
 
 use crate::driven::Driven;
 use byte_streams::{DriveFault, Outlet, Source, reading_room, stream};
@@ -41,10 +41,7 @@ pub fn start_driven(alloc: Global, verified: Verified) -> Result<Driven<TourneyD
 
 /// What the run has come to.
 pub fn end_driven(driven: Driven<TourneyDues>) -> DriveEnd
-    ensures log { result.log ≡ driven.log }
-    ensures plan { result.verified ≡ driven.control.plan }
-    ensures driven { IsDriven driven }
-    ensures so_far { IsSoFar driven.control.plan.planned driven.log.entries result.done result.last result.left }
+    ensures { IsEndOf driven.control.plan driven result }
 {
     let Driven { controller, log } = driven;
     DriveEnd {
@@ -70,14 +67,8 @@ pub fn drive<R: Source, W: Outlet>(
     reader: &mut R,
     writer: &mut W,
 ) -> Result<DriveEnd, DriveFault>
-    ensures through { IfOk result (DrivesToEnd verified (lent R.Source W.Sink W.pending reader.old writer.old reader.new writer.new)) }
-    ensures run { IfOk result (λ end. IsRunOf verified.planned end.log.entries) }
-    ensures so_far { IfOk result (λ end. IsSoFar verified.planned end.log.entries end.done end.last end.left) }
-    ensures never_full { IfOk result (λ end. IsNeverFull verified.planned end.log) }
-    ensures promised { IfOk result (λ end. NeverWentWrong verified end.log.entries) }
-    ensures plan { IfOk result (λ end. end.verified ≡ verified) }
-    ensures unfailed { OnOk result ((R.failed reader.new ≡ R.failed reader.old) × (W.failed writer.new ≡ W.failed writer.old)) }
-    ensures broken_off { IfErr result (DrivesToFault verified (lent R.Source W.Sink W.pending reader.old writer.old reader.new writer.new)) }
+    ensures driven { IsDrive verified (streams_of R.Source W.Sink W.pending reader.old writer.old)
+        (streams_of R.Source W.Sink W.pending reader.new writer.new) result }
     ensures untouched { result ≡ Err DriveFault.Memory → (reader.new ≡ reader.old) × (writer.new ≡ writer.old) }
 {
     let mut room = reading_room(alloc)?;

@@ -1,8 +1,8 @@
 //! Several runs that are driven from their starts to the end of one input.
 
-ghost use Rattle.std.specs.Prelude.{◌≡◌, IfOk, IfErr, OnOk, Err};
-ghost use Rattle.byte_streams.specs.Lent.{lent};
-ghost use Rattle.cell_drive.specs.DrivingCells.{HubDrivesToEnd, HubDrivesToFault};
+ghost use Rattle.std.specs.Prelude.{◌≡◌, Err};
+ghost use Rattle.byte_streams.specs.Lent.{streams_of};
+ghost use Rattle.cell_drive.specs.DrivingCells.{AreDrives};
 
 use crate::driven_cells::DrivenCells;
 use crate::started_cells::start;
@@ -29,9 +29,8 @@ pub fn drive_hub<R: Source, W: Outlet>(
     reader: &mut R,
     writer: &mut W,
 ) -> Result<HubEnd, DriveFault>
-    ensures through { IfOk result (HubDrivesToEnd cells.items (lent R.Source W.Sink W.pending reader.old writer.old reader.new writer.new)) }
-    ensures unfailed { OnOk result ((R.failed reader.new ≡ R.failed reader.old) × (W.failed writer.new ≡ W.failed writer.old)) }
-    ensures broken_off { IfErr result (HubDrivesToFault cells.items (lent R.Source W.Sink W.pending reader.old writer.old reader.new writer.new)) }
+    ensures driven { AreDrives cells.items (streams_of R.Source W.Sink W.pending reader.old writer.old)
+        (streams_of R.Source W.Sink W.pending reader.new writer.new) result }
     ensures untouched { result ≡ Err DriveFault.Memory → (reader.new ≡ reader.old) × (writer.new ≡ writer.old) }
 {
     let mut room = reading_room(alloc)?;

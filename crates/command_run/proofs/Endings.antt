@@ -1,14 +1,16 @@
 -- How each run of the program ends.
-use Rattle.std.proofs.Common.{◌≡◌, ℕ, ◌≤◌, List, [], true, false, Result, Ok, Err, inl, inr, ◌⊎◌, ap, sym, ◌∙◌, subst, arith, refl}
+use Rattle.std.proofs.Common.{◌≡◌, ℕ, ◌≤◌, List, [], true, false, Option, Result, Ok, Err, inl, inr, ◌⊎◌, ap, sym, ◌∙◌, subst, arith, refl}
 use Rattle.cell_drive.specs.declared.driving.DriveEnd.{DriveEnd}
-use Rattle.cell_drive.specs.declared.driving_cells.HubEnd.{HubEnd}
 use Rattle.byte_streams.specs.declared.drive_fault.DriveFault.{DriveFault}
 use Rattle.byte_streams.specs.declared.drive_fault.DriveFault.TheVariants.{Read as NotRead, Write as NotWritten, InputTooLong as TooLong, Memory as WantOfMemory}
+use Rattle.byte_streams.specs.Streams.{IsStreamed}
 use Rattle.plan_verifier.specs.Accepted.{VerifiedPlan}
+use Rattle.cell_drive.specs.Driven.{DriveAnswer, DriveCloses, drive_start}
+use Rattle.cell_drive.specs.Driving.{IsStreamedFrom}
+use Rattle.cell_drive.specs.ManyCells.{hub_start, CellsAnswer, CellsClose}
 use Rattle.plan_verifier.specs.declared.verdict.Verdict.TheVariants.{Accepted, Refused}
 use Rattle.run_resume.specs.declared.resume_fault.ResumeFault.{ResumeFault}
 use Rattle.run_resume.specs.Replays.{TakenUp}
-use Rattle.run_resume.specs.Resuming.{IsBrokenOff}
 use Rattle.command_words.specs.declared.words.Chosen.{Chosen}
 use Rattle.command_words.specs.declared.words.CommandName.{CommandName}
 use Rattle.command_words.specs.declared.words.CommandName.TheVariants.{Input as NoWords, Facts, Shape, Check, Explain, Schedule, Plan as Search, Improve, Drive, Resume, Hub, Audit, Gantt}
@@ -27,9 +29,9 @@ use Rattle.command_answers.specs.Texts.{Asks}
 use Rattle.command_answers.specs.Commands.{Loads}
 use Rattle.command_answers.specs.Cells.{LoadsCells}
 use Rattle.command_run.specs.Streams.{Streams, Output, Errors, Devices}
-use Rattle.command_run.specs.Drives.{Drives, IsDrive}
+use Rattle.command_run.specs.Drives.{Drives}
 use Rattle.command_run.specs.Resumes.{IsTaking, IsResume, ResumesTaken, ResumesText, Resumes}
-use Rattle.command_run.specs.Hubs.{DrivesAll, AreDrives}
+use Rattle.command_run.specs.Hubs.{DrivesAll}
 use Rattle.command_run.specs.Ending.{Ends, IsPrinted, IsTold, IsToldAfter, IsOfText, IsLineOut}
 use Rattle.command_run.specs.Program.{AreWordsRead, RunsCommand, Follows, file_at, name_in, pair_in, plans_in}
 use Rattle.command_run.specs.Laws.{IsOutcomeOfWords, IsFailureOf, EndsAsTold, HoldsNothing, WereDriven, WereRefused, IsUnanswered, Ran, WroteNoMore}
@@ -135,40 +137,35 @@ module _ {W : Type 0} (gives : W → List ℕ → Result (List ℕ) CommandFault
 
 -- ---- what is shown
 
-drive_shown : (v : VerifiedPlan) (before after : Streams) (end : Result DriveEnd DriveFault) → IsDrive v before after end → before.output.pending ≡ [] → HoldsNothing after.output
-drive_shown v before after (Ok end) is none = inl is.through.shown
-drive_shown v before after (Err NotRead) is none = inl is.broken_off.2.4
-drive_shown v before after (Err NotWritten) is none = inr is.broken_off.2.0
-drive_shown v before after (Err TooLong) is none = inl is.broken_off.2.5
-drive_shown v before after (Err WantOfMemory) is none = inl (ap (λ (s : Streams). s.output.pending) (is.untouched refl) ∙ none)
+streamed_shown : {S T : Type 0} (answers : S → ℕ → Option (List ℕ) → List ℕ → S → Type 0) (closes : S → List ℕ → Type 0) (start last : S) (before after : Streams) (outcome : Result T DriveFault)
+    → IsStreamed outcome 65536 answers closes start last before after → HoldsNothing after.output
+streamed_shown answers closes start last before after (Ok end) is = inl is.shown
+streamed_shown answers closes start last before after (Err NotRead) is = inl is.shown
+streamed_shown answers closes start last before after (Err NotWritten) is = inr is.comes_to.0
+streamed_shown answers closes start last before after (Err TooLong) is = inl is.shown
+streamed_shown answers closes start last before after (Err WantOfMemory) is = absurd is.comes_to
 
-hub_shown : (cells : List VerifiedPlan) (before after : Streams) (end : Result HubEnd DriveFault) → AreDrives cells before after end → before.output.pending ≡ [] → HoldsNothing after.output
-hub_shown cells before after (Ok end) is none = inl is.through.shown
-hub_shown cells before after (Err NotRead) is none = inl is.broken_off.2.4
-hub_shown cells before after (Err NotWritten) is none = inr is.broken_off.2.0
-hub_shown cells before after (Err TooLong) is none = inl is.broken_off.2.5
-hub_shown cells before after (Err WantOfMemory) is none = inl (ap (λ (s : Streams). s.output.pending) (is.untouched refl) ∙ none)
-
-broken_shown : (t : TakenUp) (before after : Streams) (fault : DriveFault) → IsBrokenOff fault t before after → HoldsNothing after.output
-broken_shown t before after NotRead (inl again) = inr again.1
-broken_shown t before after NotRead (inr on) = inl on.4.shown
-broken_shown t before after NotWritten (inl again) = inr again.1
-broken_shown t before after NotWritten (inr on) = inr on.4.comes_to.0
-broken_shown t before after TooLong (inl again) = inr again.1
-broken_shown t before after TooLong (inr on) = inl on.4.shown
-broken_shown t before after WantOfMemory (inl again) = inr again.1
-broken_shown t before after WantOfMemory (inr on) = inl on.4.shown
+streamed_from_shown : {S T : Type 0} (answers : S → ℕ → Option (List ℕ) → List ℕ → S → Type 0) (closes : S → List ℕ → Type 0) (start last : S) (before after : Streams) (outcome : Result T DriveFault)
+    → IsStreamedFrom answers closes start outcome last before after → before.output.pending ≡ [] → HoldsNothing after.output
+streamed_from_shown answers closes start last before after (Ok end) is none = streamed_shown answers closes start last before after (Ok end) is
+streamed_from_shown answers closes start last before after (Err NotRead) is none = streamed_shown answers closes start last before after (Err NotRead) is
+streamed_from_shown answers closes start last before after (Err NotWritten) is none = streamed_shown answers closes start last before after (Err NotWritten) is
+streamed_from_shown answers closes start last before after (Err TooLong) is none = streamed_shown answers closes start last before after (Err TooLong) is
+streamed_from_shown answers closes start last before after (Err WantOfMemory) is none = inl (ap (λ (s : Streams). s.output.pending) is ∙ none)
 
 resume_shown : (t : TakenUp) (before after : Streams) (end : Result DriveEnd DriveFault) → IsResume t before after end → HoldsNothing after.output
-resume_shown t before after (Ok end) is = inl is.through.shown
-resume_shown t before after (Err fault) is = broken_shown t before after fault is.broken_off
+resume_shown t before after end (inl cut) = inr cut.1
+resume_shown t before after end (inr on) =
+    streamed_shown DriveAnswer DriveCloses t.driven on.end (record { input = before.input; output = on.middle }) after end on.streamed
 
 driven_shown : {W : Type 0} (gives : W → List ℕ → Result (List ℕ) CommandFault → W → Type 0) (chosen : Chosen) (texts : W) (before after : Streams) (name : CommandName)
     → WereDriven gives name chosen texts before after → before.output.pending ≡ [] → HoldsNothing after.output
 driven_shown gives chosen texts before after name (inl same) none = inl (ap (λ (o : Output). o.pending) same ∙ none)
-driven_shown gives chosen texts before after name (inr (inl (is, drove))) none = drive_shown drove.cell before after drove.end drove.is none
+driven_shown gives chosen texts before after name (inr (inl (is, drove))) none =
+    streamed_from_shown DriveAnswer DriveCloses (drive_start drove.cell) drove.is.end before after drove.end drove.is.streamed none
 driven_shown gives chosen texts before after name (inr (inr (inl (is, drove)))) none = resume_shown drove.taken before after drove.end drove.is
-driven_shown gives chosen texts before after name (inr (inr (inr (is, drove)))) none = hub_shown drove.cells before after drove.end drove.are none
+driven_shown gives chosen texts before after name (inr (inr (inr (is, drove)))) none =
+    streamed_from_shown CellsAnswer (CellsClose 0) (hub_start drove.cells) drove.are.end before after drove.end drove.are.streamed none
 
 printed_shown : (answer : Answer) (printed : Result ℕ CommandFault) (before after : Output) → IsPrinted answer before after printed → HoldsNothing after
 printed_shown answer (Ok status) before after is = inl is.3

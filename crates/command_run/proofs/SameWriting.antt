@@ -7,14 +7,15 @@ use Rattle.std.proofs.lemmas.List.{append_cancel_left, append-nil}
 use Rattle.shop_base.specs.Plan.{PlannedShop, IsWellShaped}
 use Rattle.shop_base.specs.Ends.{stated_number, reports_in}
 use Rattle.text_lines.specs.declared.limits.TheConstants.{MAX_INPUT}
-use Rattle.cell_tables.specs.declared.entry.Entry.{Entry}
 use Rattle.cell_tables.specs.Events.{events_of}
 use Rattle.plan_verifier.specs.Accepted.{VerifiedPlan, IsAcceptable}
 use Rattle.cell_drive.specs.declared.driving.DriveEnd.{DriveEnd}
 use Rattle.byte_streams.specs.declared.drive_fault.DriveFault.{DriveFault}
 use Rattle.byte_streams.specs.declared.drive_fault.DriveFault.TheVariants.{Read as NotRead, Write as NotWritten, InputTooLong as TooLong, Memory as WantOfMemory}
-use Rattle.cell_drive.specs.AnswerText.{DrivenCell, IsAnswerText}
-use Rattle.cell_drive.specs.Driving.{IsDrivenThrough, IsSoFar, cell_after}
+use Rattle.run_log.specs.Log.{Noted}
+use Rattle.cell_drive.specs.AnswerText.{DrivenCell, seen, IsAnswerText}
+use Rattle.cell_drive.specs.Driving.{IsSoFar}
+use Rattle.cell_drive.proofs.DrivenEnds.{driven_text}
 use Rattle.cell_drive.proofs.OneText.{one_answer_text}
 use Rattle.command_words.specs.declared.words.Chosen.{Chosen}
 use Rattle.command_words.specs.declared.words.CommandName.{CommandName}
@@ -115,12 +116,12 @@ ended_as done (Err fault) before after told_before told_after status unfailed is
 
 -- what a good run of `drive` wrote
 record Wrote (p : PlannedShop) (input : List ℕ) (status : ℕ) (written : List ℕ) : Type 0 where
-  pub entries : List Entry
+  pub state : DrivenCell
   pub done : Bool
   pub last : ℕ
   pub left : ℕ
-  pub is_answer_text : IsAnswerText p input written (record { cell = cell_after p entries; entries = entries })
-  pub so_far : IsSoFar p entries done last left
+  pub is_answer_text : IsAnswerText p input written state
+  pub so_far : IsSoFar p state.entries done last left
   pub own : status ≡ status_at done
 
 module _ (content : List ℕ → Result (List ℕ) CommandFault) (words : List (List ℕ)) (p : PlannedShop) (input : List ℕ) (few : length input ≤ MAX_INPUT)
@@ -128,28 +129,30 @@ module _ (content : List ℕ → Result (List ℕ) CommandFault) (words : List (
   drive_wrote : (v : VerifiedPlan) (mid : Streams) (outcome : Result Answer CommandFault) (end : Result DriveEnd DriveFault) → v.planned ≡ p → IsDrive v well.before.streams mid end
       → IsEndAnswer (end_of_drive end) outcome → well.after.streams.input ≡ mid.input → Ends outcome mid.output well.after.streams.output well.before.errors well.after.errors status → Wrote p input status written
   drive_wrote v mid outcome (Ok end) same is answer same_input ends =
-      let through = subst (λ q. IsDrivenThrough q end.log.entries well.before.streams mid) same is.through in
-      let came : through.input ≡ input = all_read well.before.streams.input.left mid.input.left input through.input well.given through.was_read through.at_end in
-      let last = ended_as end.done outcome mid.output well.after.streams.output well.before.errors well.after.errors status well.was_written answer ends in
-      let text : written ≡ through.text = written_is well.before.streams.output.taken mid.output.taken well.after.streams.output.taken well.start written through.text last.1.0 well.empty well.wrote through.written last.1.2 last.1.1 in
-      let state : DrivenCell = record { cell = cell_after p end.log.entries; entries = end.log.entries } in
+      let all = is.streamed.comes_to in
+      let whole : List ℕ = all.text ++ all.closing in
+      let came : is.streamed.input ≡ input = all_read well.before.streams.input.left mid.input.left input is.streamed.input well.given is.streamed.was_read all.at_end in
+      let ended = ended_as end.done outcome mid.output well.after.streams.output well.before.errors well.after.errors status well.was_written answer ends in
+      let text : written ≡ whole = written_is well.before.streams.output.taken mid.output.taken well.after.streams.output.taken well.start written whole ended.1.0 well.empty well.wrote all.written ended.1.2 ended.1.1 in
+      let answered : IsAnswerText p is.streamed.input whole (seen is.end) = subst (λ q. IsAnswerText q is.streamed.input whole (seen is.end)) same (driven_text v end well.before.streams mid is) in
+      let so_far : IsSoFar v.planned is.end.log.entries end.done end.last end.left = subst (λ (l : Noted). IsSoFar v.planned l.entries end.done end.last end.left) is.came_to.log is.came_to.so_far in
       record {
-        entries = end.log.entries;
+        state = seen is.end;
         done = end.done;
         last = end.last;
         left = end.left;
-        is_answer_text = subst (λ xs. IsAnswerText p input xs state) (sym text) (subst (λ xs. IsAnswerText p xs through.text state) came through.is_answer_text);
-        so_far = subst (λ q. IsSoFar q end.log.entries end.done end.last end.left) same is.so_far;
-        own = last.0;
+        is_answer_text = subst (λ xs. IsAnswerText p input xs (seen is.end)) (sym text) (subst (λ xs. IsAnswerText p xs whole (seen is.end)) came answered);
+        so_far = subst (λ q. IsSoFar q is.end.log.entries end.done end.last end.left) same so_far;
+        own = ended.0;
       }
   drive_wrote v mid outcome (Err NotRead) same is answer same_input ends =
-      absurd (let failed : true ≡ false = sym is.broken_off.2.0 ∙ sym (ap (λ i. i.failed) same_input) ∙ well.was_read in cc failed)
+      absurd (let failed : true ≡ false = sym is.streamed.comes_to.0 ∙ sym (ap (λ i. i.failed) same_input) ∙ well.was_read in cc failed)
   drive_wrote v mid outcome (Err NotWritten) same is answer same_input ends =
       let same_output = write_ends outcome mid.output well.after.streams.output well.before.errors well.after.errors status answer ends in
-      absurd (let failed : true ≡ false = sym is.broken_off.2.0 ∙ sym (ap (λ (o : Output). o.failed) same_output) ∙ well.was_written in cc failed)
+      absurd (let failed : true ≡ false = sym is.streamed.comes_to.0 ∙ sym (ap (λ (o : Output). o.failed) same_output) ∙ well.was_written in cc failed)
   drive_wrote v mid outcome (Err TooLong) same is answer same_input ends =
-      let less = fewer well.before.streams.input.left mid.input.left input is.broken_off.0 well.given is.broken_off.1 in
-      absurd (omega (arith, less, few, is.broken_off.2.0))
+      let less = fewer well.before.streams.input.left mid.input.left input is.streamed.input well.given is.streamed.was_read in
+      absurd (omega (arith, less, few, is.streamed.comes_to.0))
   drive_wrote v mid outcome (Err WantOfMemory) same is answer same_input ends =
       absurd (well.no_want (memory_ends outcome mid.output well.after.streams.output well.before.errors well.after.errors status answer ends))
 
@@ -185,8 +188,8 @@ wrote_the_same : (p : PlannedShop) (input : List ℕ) (status other_status : ℕ
     → (other_status ≡ status) × (other ≡ written)
 wrote_the_same p input status other_status written other shaped one two =
     let same = one_answer_text p input written other _ _ shaped one.is_answer_text two.is_answer_text in
-    let entries : two.entries ≡ one.entries = ap (λ (d : DrivenCell). d.entries) same.1 in
-    let counted : IsTrue two.done ↔ (reports_in (events_of one.entries) ≡ stated_number p) = subst (λ es. IsTrue two.done ↔ (reports_in (events_of es) ≡ stated_number p)) entries two.so_far.counted in
+    let entries : two.state.entries ≡ one.state.entries = ap (λ (d : DrivenCell). d.entries) same.1 in
+    let counted : IsTrue two.done ↔ (reports_in (events_of one.state.entries) ≡ stated_number p) = subst (λ es. IsTrue two.done ↔ (reports_in (events_of es) ≡ stated_number p)) entries two.so_far.counted in
     let done : two.done ≡ one.done = same_truth one.done two.done (λ yet. counted.1 (one.so_far.counted.0 yet)) (λ yet. one.so_far.counted.1 (counted.0 yet)) in
     (two.own ∙ ap status_at done ∙ sym one.own, same.0)
 

@@ -1,11 +1,11 @@
 -- What driving the cell of an accepted plan comes to.
-use Rattle.std.specs.Prelude.{◌≡◌, ℕ, [], Bool, true, false, Result, Ok, Err, IfOk, IfErr, OnOk}
+use Rattle.std.specs.Prelude.{◌≡◌, ℕ, [], Bool, true, false, Result, Ok, Err}
 use Rattle.plan_verifier.specs.declared.verdict.Verdict.TheVariants.{Accepted, Refused}
 use Rattle.plan_verifier.specs.Accepted.{VerifiedPlan}
 use Rattle.cell_drive.specs.declared.driving.DriveEnd.{DriveEnd}
 use Rattle.byte_streams.specs.declared.drive_fault.DriveFault.{DriveFault}
 use Rattle.byte_streams.specs.declared.drive_fault.DriveFault.TheVariants.{Read as NotRead, Write as NotWritten, InputTooLong as TooLong, Memory as WantOfMemory}
-use Rattle.cell_drive.specs.Driving.{IsDrivenThrough, IsBrokenOff, IsRunOf, IsSoFar, NeverWentWrong}
+pub use Rattle.cell_drive.specs.Driving.{IsDrive}
 use Rattle.command_answers.specs.declared.answer.Answer.{Answer}
 use Rattle.command_answers.specs.declared.command_fault.CommandFault.{CommandFault}
 use Rattle.command_answers.specs.declared.command_fault.CommandFault.TheVariants.{Read, Write, InputTooLong, Memory}
@@ -21,16 +21,6 @@ drive_command_fault NotRead = Read
 drive_command_fault NotWritten = Write
 drive_command_fault TooLong = InputTooLong
 drive_command_fault WantOfMemory = Memory
-
--- the cell of the plan was driven to this end, and all that was answered is shown; or it was broken off by this fault
-pub record IsDrive (v : VerifiedPlan) (before after : Streams) (end : Result DriveEnd DriveFault) : Type 0 where
-  pub through : IfOk end (λ e. IsDrivenThrough v.planned e.log.entries before after)
-  pub run : IfOk end (λ e. IsRunOf v.planned e.log.entries)
-  pub so_far : IfOk end (λ e. IsSoFar v.planned e.log.entries e.done e.last e.left)
-  pub promised : IfOk end (λ e. NeverWentWrong v e.log.entries)
-  pub unfailed : OnOk end ((after.input.failed ≡ before.input.failed) × (after.output.failed ≡ before.output.failed))
-  pub broken_off : IfErr end (λ fault. IsBrokenOff fault v.planned before after)
-  pub untouched : end ≡ Err WantOfMemory → after ≡ before
 
 -- the status of a run: whether it has ended
 abbrev pub status_at : Bool → ℕ

@@ -1,23 +1,15 @@
 -- What driving the cells of several plans comes to.
-use Rattle.std.specs.Prelude.{◌≡◌, List, Bool, Result, Ok, Err, IfOk, IfErr, OnOk}
+use Rattle.std.specs.Prelude.{◌≡◌, List, Bool, Result, Ok, Err}
 use Rattle.plan_verifier.specs.Accepted.{VerifiedPlan}
 use Rattle.cell_drive.specs.declared.driving_cells.HubEnd.{HubEnd}
 use Rattle.byte_streams.specs.declared.drive_fault.DriveFault.{DriveFault}
-use Rattle.byte_streams.specs.declared.drive_fault.DriveFault.TheVariants.{Memory as WantOfMemory}
-use Rattle.cell_drive.specs.DrivingCells.{AreDrivenThrough, AreBrokenOff}
+pub use Rattle.cell_drive.specs.DrivingCells.{AreDrives}
 use Rattle.command_answers.specs.declared.answer.Answer.{Answer}
 use Rattle.command_answers.specs.declared.cells.Cells.{Cells}
 use Rattle.command_answers.specs.declared.cells.Cells.TheVariants.{Accepted, Line}
 use Rattle.command_answers.specs.declared.command_fault.CommandFault.{CommandFault}
 use Rattle.command_run.specs.Streams.{Streams}
 use Rattle.command_run.specs.Drives.{IsEndAnswer}
-
--- the cells of the plans were driven to this end, and all that was answered is shown; or they were broken off by this fault
-pub record AreDrives (cells : List VerifiedPlan) (before after : Streams) (end : Result HubEnd DriveFault) : Type 0 where
-  pub through : IfOk end (λ e. AreDrivenThrough cells e.all_done before after)
-  pub unfailed : OnOk end ((after.input.failed ≡ before.input.failed) × (after.output.failed ≡ before.output.failed))
-  pub broken_off : IfErr end (λ fault. AreBrokenOff fault cells before after)
-  pub untouched : end ≡ Err WantOfMemory → after ≡ before
 
 -- whether all runs have ended
 abbrev pub end_of_hub : Result HubEnd DriveFault → Result Bool DriveFault

@@ -1,18 +1,17 @@
 -- What taking up the run of an accepted plan comes to.
-use Rattle.std.specs.Prelude.{◌≡◌, List, ℕ, length, Option, Some, None, Result, Ok, Err, IfOk, IfErr, OnOk}
+use Rattle.std.specs.Prelude.{◌≡◌, List, ℕ, length, Option, Some, None, Result, Ok, Err, IfOk, IfErr}
 use Rattle.shop_base.specs.Cell.{start}
 use Rattle.plan_verifier.specs.Accepted.{VerifiedPlan}
 use Rattle.plan_verifier.specs.declared.verdict.Verdict.TheVariants.{Accepted, Refused}
 use Rattle.cell_drive.specs.declared.driving.DriveEnd.{DriveEnd}
 use Rattle.byte_streams.specs.declared.drive_fault.DriveFault.{DriveFault}
-use Rattle.cell_drive.specs.Driving.{IsRunOf, IsSoFar, NeverWentWrong}
 use Rattle.run_resume.specs.declared.resume_fault.ResumeFault.{ResumeFault}
 use Rattle.run_resume.specs.declared.resume_fault.ResumeFault.TheVariants.{Memory as WantOfMemory}
 use Rattle.run_resume.specs.ResumeNames.{fault_name}
 use Rattle.run_resume.specs.CutLogs.{ended_lines, IsTakenUp, IsResumeFault, IsOnlyFault, fault_line}
 use Rattle.run_resume.specs.LateEvents.{AreLate}
-use Rattle.run_resume.specs.Replays.{TakenUp, told_in, shop_of}
-use Rattle.run_resume.specs.Resuming.{IsResumedThrough, IsBrokenOff}
+use Rattle.run_resume.specs.Replays.{TakenUp, told_in}
+pub use Rattle.run_resume.specs.Resuming.{IsResume}
 use Rattle.command_answers.specs.declared.answer.Answer.{Answer}
 use Rattle.command_answers.specs.declared.command_fault.CommandFault.{CommandFault}
 use Rattle.command_answers.specs.declared.command_fault.CommandFault.TheVariants.{Memory}
@@ -31,15 +30,6 @@ pub record IsTaking (v : VerifiedPlan) (text : List ℕ) (taken : Result TakenUp
   pub late : IfOk taken (λ t. AreLate v.planned (start v.planned) (told_in t) t.late)
   pub fault : IfErr taken (IsResumeFault v.planned (ended_lines text))
   pub only : IfErr taken (IsOnlyFault v.planned (ended_lines text))
-
--- what was taken up was driven on to this end, and all that was answered is shown; or it was broken off by this fault
-pub record IsResume (t : TakenUp) (before after : Streams) (end : Result DriveEnd DriveFault) : Type 0 where
-  pub through : IfOk end (λ e. IsResumedThrough t e.log.entries before after)
-  pub run : IfOk end (λ e. IsRunOf (shop_of t) e.log.entries)
-  pub so_far : IfOk end (λ e. IsSoFar (shop_of t) e.log.entries e.done e.last e.left)
-  pub promised : IfOk end (λ e. NeverWentWrong t.driven.control.plan e.log.entries)
-  pub unfailed : OnOk end ((after.input.failed ≡ before.input.failed) × (after.output.failed ≡ before.output.failed))
-  pub broken_off : IfErr end (λ fault. IsBrokenOff fault t before after)
 
 -- the fault of a command that a fault of taking up is, if memory ran out
 abbrev pub resume_command_fault : ResumeFault → Option CommandFault

@@ -1,5 +1,5 @@
 -- What a run that was taken up goes on to write is a log.
-use Rattle.std.proofs.Common.{◌≡◌, ℕ, ◌≤◌, List, [], ◌∷◌, ◌++◌, take, drop, Option, Ok, Err, Bool, true, false, cond, length, length-take-le, ◌⊎◌, inr, refl, sym, ap, ◌∙◌, subst, arith, append_assoc, append-nil}
+use Rattle.std.proofs.Common.{◌≡◌, ℕ, ◌≤◌, List, [], ◌∷◌, ◌++◌, take, drop, Option, Ok, Bool, true, false, cond, length, length-take-le, ◌⊎◌, inl, inr, refl, sym, ap, ◌∙◌, subst, arith, append_assoc, append-nil}
 use Rattle.std.specs.Io.KnownBytes.{Appends}
 use Rattle.std.proofs.KnownBytes.{Appends-trans}
 use Rattle.std.proofs.lemmas.List.{append_cancel_left, take-append-drop}
@@ -21,25 +21,23 @@ use Rattle.cell_tables.specs.Events.{events_of}
 use Rattle.run_log.specs.EventLines.{entry_line, entry_lines}
 use Rattle.cell_drive.specs.AnswerLines.{late_line}
 use Rattle.run_resume.specs.ToldLines.{told_line, told_lines}
+use Rattle.run_log.specs.Log.{Noted}
 use Rattle.run_log.specs.LogLines.{IsEntryOf, LinesTell}
 use Rattle.run_log.proofs.Audits.{events-join}
-use Rattle.byte_streams.specs.Lent.{Taker, Output, Streams, taker}
+use Rattle.byte_streams.specs.Lent.{Streams}
 use Rattle.byte_streams.specs.Lines.{input_lines}
-use Rattle.byte_streams.specs.Answering.{AnswerAll, AreAnswered}
-use Rattle.byte_streams.specs.Streams.{IsStreamed, ComesTo}
-use Rattle.byte_streams.specs.declared.drive_fault.DriveFault.{DriveFault}
-use Rattle.byte_streams.specs.declared.drive_fault.DriveFault.TheVariants.{Read, Write, InputTooLong, Memory}
-use Rattle.cell_drive.specs.AnswerText.{DrivenCell, CellAnswers, CellCloses}
-use Rattle.cell_drive.specs.Driven.{DriveState, IsDriven, DriveAnswer}
+use Rattle.byte_streams.specs.Answering.{AnswerAll}
+use Rattle.cell_drive.specs.declared.driving.DriveEnd.{DriveEnd}
+use Rattle.cell_drive.specs.AnswerText.{DrivenCell, seen, CellAnswers, CellCloses}
 use Rattle.cell_drive.specs.Driving.{cell_after, IsRunOf}
 use Rattle.cell_drive.specs.AuditLaw.{IsLogOf}
 use Rattle.cell_drive.proofs.AuditKeeps.{appended, found_where}
-use Rattle.cell_drive.proofs.DrivenEnds.{seen, seen_answers, seen_closes, seen_cut, the_closing, cell_is}
+use Rattle.cell_drive.proofs.DrivenEnds.{a_driven_cell_answers_so, seen_closes, cell_is, run_of}
 use Rattle.cell_drive.proofs.OneText.{one_text, one_closing}
 use Rattle.cell_drive.proofs.ReadBack.{answers_told, TellsFirst, tells_none, tells_both, tells_report, tells_order, tells_late}
 use Rattle.cell_drive.proofs.ShopEntries.{report_of_shop, order_of_shop}
-use Rattle.run_resume.specs.Replays.{shop_of}
-use Rattle.run_resume.specs.Resuming.{again_text, driven_so_far, IsResumedThrough, IsBrokenOff, AResumedTextIsALog, OneResumedText, AnAuditKeepsWhatWasResumed}
+use Rattle.run_resume.specs.Replays.{TakenUp, shop_of}
+use Rattle.run_resume.specs.Resuming.{again_text, again_of, driven_so_far, IsResumedText, GoesOn, AResumedTextIsALog, OneResumedText, AnAuditKeepsWhatWasResumed}
 use Rattle.run_resume.specs.CutLaw.{WhatWasResumedIsTakenUp}
 use Rattle.run_resume.proofs.CutLogs.{run_of_leads, answers_lead, closing_part, a_cut_log_is_taken_up}
 
@@ -141,84 +139,35 @@ one_resumed_text p entries late input text other end last shaped run is also =
     let behind : also.answers ++ also.closing ≡ is.answers ++ is.closing = ap (λ (t : List ℕ). t ++ also.closing) one.0 ∙ ap (λ (t : List ℕ). is.answers ++ t) closing in
     (also.whole ∙ ap (λ (t : List ℕ). again_text entries late ++ t) behind ∙ sym is.whole, one.1)
 
-pub an_audit_keeps_what_was_resumed : AnAuditKeepsWhatWasResumed
-an_audit_keeps_what_was_resumed taken all is_done last left before after start text outcome shaped run few through from to so_far kept only =
+-- what was written is such a text of what was read
+resumed_text : (taken : TakenUp) (end : DriveEnd) (before after : Streams) (is : GoesOn taken before after (Ok end))
+    → IsResumedText (shop_of taken) taken.driven.log.entries taken.late is.streamed.input (again_of taken ++ (is.streamed.comes_to.text ++ is.streamed.comes_to.closing)) (seen is.end)
+resumed_text taken end before after is =
     let p = shop_of taken in
-    let same : through.text ≡ text = append_cancel_left start through.text text (sym (appended before.output.taken after.output.taken start text through.text from to through.written)) in
-    let is_log : IsLogOf p text (driven_so_far p all) = subst (λ (t : List ℕ). IsLogOf p t (driven_so_far p all)) same
-    (a_resumed_text_is_a_log p taken.driven.log.entries taken.late through.input through.text (driven_so_far p all) shaped run few through.is_text).0 in
-    found_where p all is_done last left text outcome is_log so_far kept (only (all, is_log.tells, is_log.run))
+    let all = is.streamed.comes_to in
+    let answers = a_driven_cell_answers_so taken.driven is.end 1 (input_lines is.streamed.input) all.text all.are_answers in
+    let from : seen taken.driven ≡ driven_so_far p taken.driven.log.entries =
+    ap (λ (c : Cell). let d : DrivenCell = record { cell = c; entries = taken.driven.log.entries } in d) (cell_is taken.driven is.from) in
+    record {
+      answers = all.text;
+      are_answers = subst (λ (d : DrivenCell). AnswerAll (CellAnswers p) d 1 (input_lines is.streamed.input) all.text (seen is.end)) from answers.0;
+      closing = all.closing;
+      is_closing = seen_closes p is.end all.closing (ap (λ (w : VerifiedPlan). w.planned) answers.1) all.is_closing;
+      whole = refl;
+    }
 
--- ---- the stream behind what was taken up
-
-module _ (s : DriveState) (driven : IsDriven s) where
-  abbrev p : PlannedShop
-  p = s.control.plan.planned
-
-  from : seen s ≡ driven_so_far p s.log.entries
-  from = ap (λ (c : Cell). let d : DrivenCell = record { cell = c; entries = s.log.entries } in d) (cell_is s driven)
-
-  pub resumed_through : {T : Type 0} {room : ℕ} (x : T) (e : DriveState) (late : List Bool) (before : Streams) (middle : Output) (after : Streams) → Appends before.output.taken middle.taken (again_text s.log.entries late)
-      → IsStreamed {T = T} (Ok x) room DriveAnswer the_closing s e (record { input = before.input; output = middle }) after → IsDriven e
-      → IsResumedThrough (record { driven = s; late = late }) e.log.entries before after × (e.control.plan ≡ s.control.plan)
-  resumed_through x e late before middle after again streamed driven_then =
-      let all = streamed.comes_to in
-      let answers = seen_answers p _ s e 1 all.text refl all.are_answers in
-      let plan_is = answers.1 in
-      let same_plan : e.control.plan.planned ≡ p = ap (λ (w : VerifiedPlan). w.planned) plan_is in
-      let end_is : seen e ≡ driven_so_far p e.log.entries =
-      ap (λ (c : Cell). let d : DrivenCell = record { cell = c; entries = e.log.entries } in d) (cell_is e driven_then ∙ ap (λ q. cell_after q e.log.entries) same_plan) in (
-        record {
-          input = streamed.input;
-          was_read = streamed.was_read;
-          at_end = all.at_end;
-          within = all.within;
-          text = again_text s.log.entries late ++ (all.text ++ all.closing);
-          is_text = record {
-            answers = all.text;
-            are_answers = subst (λ (d : DrivenCell). AnswerAll (CellAnswers p) d 1 (input_lines streamed.input) all.text (driven_so_far p e.log.entries)) from
-                (subst (λ (d : DrivenCell). AnswerAll (CellAnswers p) (seen s) 1 (input_lines streamed.input) all.text d) end_is answers.0);
-            closing = all.closing;
-            is_closing = subst (λ d. CellCloses p d all.closing) end_is (seen_closes p e all.closing same_plan all.is_closing);
-            whole = refl;
-          };
-          written = Appends-trans before.output.taken middle.taken after.output.taken (again_text s.log.entries late) (all.text ++ all.closing) again all.written;
-          shown = streamed.shown;
-        },
-        plan_is,
-      )
-
-  seen_answered : (lines : List (Option (List ℕ))) (e : DriveState) (before after : Taker)
-      → AreAnswered DriveAnswer s 1 lines e before after → AreAnswered (CellAnswers p) (seen s) 1 lines (seen e) before after
-  seen_answered lines e before after all =
-      record { text = all.text; are_answers = (seen_answers p lines s e 1 all.text refl all.are_answers).0; written = all.written; unfailed = all.unfailed }
-
-  seen_fault : (T : Type 0) (room : ℕ) (fault : DriveFault) (input : List ℕ) (e : DriveState) (before after : Streams)
-      → ComesTo {T = T} (Err fault) room DriveAnswer the_closing s input e before after
-      → ComesTo {T = Unit {0}} (Err fault) room (CellAnswers p) (CellCloses p) (seen s) input (seen e) before after
-  seen_fault T room Read input e before after told = (told.0, told.1, seen_answered _ e (taker before.output) (taker after.output) told.2)
-  seen_fault T room Write input e before after told = (told.0, seen_cut p input s e before after refl told.1, told.2)
-  seen_fault T room InputTooLong input e before after told =
-      (told.0, told.1, seen_answered _ e (taker before.output) (taker after.output) told.2, told.3)
-  seen_fault T room Memory input e before after told = told
-
-  pub resumed_off : {T : Type 0} {room : ℕ} (fault : DriveFault) (e : DriveState) (late : List Bool) (before : Streams) (middle : Output) (after : Streams)
-      → middle.failed ≡ before.output.failed → Appends before.output.taken middle.taken (again_text s.log.entries late)
-      → IsStreamed {T = T} (Err fault) room DriveAnswer the_closing s e (record { input = before.input; output = middle }) after → room ≡ 65536
-      → IsBrokenOff fault (record { driven = s; late = late }) before after
-  resumed_off {T} {room} fault e late before middle after unfailed again streamed room_is =
-      let between : Streams = record { input = before.input; output = middle } in
-      inr (
-        middle,
-        seen e,
-        again,
-        unfailed,
-        subst (λ (most : ℕ). IsStreamed {T = Unit {0}} (Err fault) most (CellAnswers p) (CellCloses p) (driven_so_far p s.log.entries) (seen e) between after) room_is
-            (subst (λ (d : DrivenCell). IsStreamed {T = Unit {0}} (Err fault) room (CellAnswers p) (CellCloses p) d (seen e) between after) from
-            (record {
-              input = streamed.input;
-              was_read = streamed.was_read;
-              comes_to = seen_fault T room fault streamed.input e between after streamed.comes_to;
-              shown = streamed.shown;
-            })),
-      )
+pub an_audit_keeps_what_was_resumed : AnAuditKeepsWhatWasResumed
+an_audit_keeps_what_was_resumed taken end before after start text outcome few (inl cut) from to kept only = let e = cut.0 in absurd (cc)
+an_audit_keeps_what_was_resumed taken end before after start text outcome few (inr is) from to kept only =
+    let p = shop_of taken in
+    let all = is.streamed.comes_to in
+    let whole : List ℕ = again_of taken ++ (all.text ++ all.closing) in
+    let written : Appends before.output.taken after.output.taken whole =
+    Appends-trans before.output.taken is.middle.taken after.output.taken (again_of taken) (all.text ++ all.closing) is.again all.written in
+    let same : whole ≡ text = append_cancel_left start whole text (sym (appended before.output.taken after.output.taken start text whole from to written)) in
+    let is_log : IsLogOf p text (seen is.end) = subst (λ (t : List ℕ). IsLogOf p t (seen is.end)) same
+    (a_resumed_text_is_a_log p taken.driven.log.entries taken.late is.streamed.input whole (seen is.end) is.from.verified.schedule.shaped (run_of taken.driven is.from) few (resumed_text taken end before after is)).0 in
+    let entries : is.end.log.entries ≡ end.log.entries = ap (λ (l : Noted). l.entries) (sym is.came_to.log) in
+    let tells : LinesTell p (lines_of text) end.log.entries = subst (LinesTell p (lines_of text)) entries is_log.tells in
+    let run : IsRun p (events_of end.log.entries) = subst (λ (es : List Entry). IsRun p (events_of es)) entries is_log.run in
+    found_where p end.log.entries end.done end.last end.left text outcome tells is.came_to.so_far kept (only (end.log.entries, tells, run))

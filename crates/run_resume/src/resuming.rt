@@ -1,10 +1,8 @@
 //! A run that was taken up and goes on.
 
-ghost use Rattle.std.specs.Prelude.{◌≡◌, ◌≤◌, length, IfOk, IfErr, OnOk};
-ghost use Rattle.byte_streams.specs.Lent.{WroteTo, lent};
-ghost use Rattle.cell_drive.specs.Driving.{IsRunOf, IsSoFar, IsNeverFull, NeverWentWrong};
-ghost use Rattle.run_resume.specs.Replays.{shop_of};
-ghost use Rattle.run_resume.specs.Resuming.{again_text, GoesOnToEnd, GoesOnToFault};
+ghost use Rattle.std.specs.Prelude.{◌≡◌, ◌≤◌, length, OnOk};
+ghost use Rattle.byte_streams.specs.Lent.{WroteTo, streams_of};
+ghost use Rattle.run_resume.specs.Resuming.{again_text, IsResume};
 
 use crate::taking_up::Taken;
 use crate::told_again::put_told;
@@ -47,15 +45,8 @@ pub fn resume<R: Source, W: Outlet>(
     reader: &mut R,
     writer: &mut W,
 ) -> Result<DriveEnd, DriveFault>
-    ensures through { IfOk result (GoesOnToEnd taken (lent R.Source W.Sink W.pending reader.old writer.old reader.new writer.new)) }
-    ensures run { IfOk result (λ end. IsRunOf (shop_of taken) end.log.entries) }
-    ensures so_far { IfOk result (λ end. IsSoFar (shop_of taken) end.log.entries end.done end.last end.left) }
-    ensures never_full { IfOk result (λ end. IsNeverFull (shop_of taken) end.log) }
-    ensures promised { IfOk result (λ end. NeverWentWrong taken.driven.control.plan end.log.entries) }
-    ensures plan { IfOk result (λ end. end.verified ≡ taken.driven.control.plan) }
-    ensures unfailed { OnOk result
-        ((R.failed reader.new ≡ R.failed reader.old) × (W.failed writer.new ≡ W.failed writer.old)) }
-    ensures broken_off { IfErr result (GoesOnToFault taken (lent R.Source W.Sink W.pending reader.old writer.old reader.new writer.new)) }
+    ensures { IsResume taken (streams_of R.Source W.Sink W.pending reader.old writer.old)
+        (streams_of R.Source W.Sink W.pending reader.new writer.new) result }
 {
     let Taken {
         mut driven,

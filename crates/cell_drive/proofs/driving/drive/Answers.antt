@@ -1,38 +1,32 @@
-use Rattle.std.proofs.Common.{◌≡◌, ◌∙◌, ap, arith, vec_len}
-use Rattle.run_log.specs.Log.{Noted}
-use Rattle.cell_drive.proofs.DrivenEnds.{driven_through, broken_off, never_full_of, of_plan}
+use Rattle.std.proofs.Common.{◌≡◌, arith, vec_len, subst, ap, ◌∙◌, Err}
+use Rattle.std.proofs.lemmas.Result.{err_from_is_err_and}
+use Rattle.cell_drive.specs.declared.driving.DriveEnd.{DriveEnd}
+use Rattle.cell_drive.specs.Driven.{DriveState, DriveAnswer, DriveCloses, drive_start}
+use Rattle.cell_drive.specs.Driving.{IsEndOf}
+use Rattle.cell_drive.proofs.DrivenEnds.{end_from, undriven_drive}
+use Rattle.cell_drive.proofs.StreamedFrom.{streamed_to_end, streamed_to_fault}
 use Rattle.cell_drive.proofs.driving.drive.Goals as goal
 
-pub returns-in-Ok-clause-through : goal.returns-in-Ok-clause-through
-returns-in-Ok-clause-through g c =
-    let through = driven_through c.args.verified _ c.in_ok-driven.driven c.stream.new.handler _ _ c.in_ok-driven.ensures c.in-Ok.ensures c.end_driven.ensures.driven in
-    rw (c.end_driven.ensures.log) through.0
+pub returns-in-Ok-clause-driven : goal.returns-in-Ok-clause-driven
+returns-in-Ok-clause-driven g c = record {
+  end = c.stream.new.handler;
+  streamed = streamed_to_end DriveAnswer DriveCloses c.in_ok-driven.driven c.stream.new.handler _ _ _ c.end_driven.result (drive_start c.args.verified) c.in_ok-driven.ensures c.in-Ok.ensures;
+  came_to = subst (λ (s : DriveState). IsEndOf s.control.plan c.stream.new.handler c.end_driven.result) c.in_ok-driven.ensures
+      (end_from c.in_ok-driven.driven c.stream.new.handler _ 1 _ c.end_driven.result c.in-Ok.ensures.comes_to.are_answers c.end_driven.ensures);
+}
 
-pub returns-in-Ok-clause-run : goal.returns-in-Ok-clause-run
-returns-in-Ok-clause-run g c =
-    let through = driven_through c.args.verified _ c.in_ok-driven.driven c.stream.new.handler _ _ c.in_ok-driven.ensures c.in-Ok.ensures c.end_driven.ensures.driven in
-    (of_plan c.args.verified c.stream.new.handler c.end_driven.result.log.entries _ _ _ c.end_driven.ensures.driven through.1 (ap (λ (l : Noted). l.entries) c.end_driven.ensures.log) c.end_driven.ensures.so_far).0
-
-pub returns-in-Ok-clause-so_far : goal.returns-in-Ok-clause-so_far
-returns-in-Ok-clause-so_far g c =
-    let through = driven_through c.args.verified _ c.in_ok-driven.driven c.stream.new.handler _ _ c.in_ok-driven.ensures c.in-Ok.ensures c.end_driven.ensures.driven in
-    (of_plan c.args.verified c.stream.new.handler c.end_driven.result.log.entries _ _ _ c.end_driven.ensures.driven through.1 (ap (λ (l : Noted). l.entries) c.end_driven.ensures.log) c.end_driven.ensures.so_far).1
-
-pub returns-in-Ok-clause-never_full : goal.returns-in-Ok-clause-never_full
-returns-in-Ok-clause-never_full g c =
-    let through = driven_through c.args.verified _ c.in_ok-driven.driven c.stream.new.handler _ _ c.in_ok-driven.ensures c.in-Ok.ensures c.end_driven.ensures.driven in
-    never_full_of c.args.verified c.stream.new.handler c.end_driven.result.log c.end_driven.ensures.driven through.1 c.end_driven.ensures.log
-
-pub returns-in-Ok-clause-promised : goal.returns-in-Ok-clause-promised
-returns-in-Ok-clause-promised g c =
-    let through = driven_through c.args.verified _ c.in_ok-driven.driven c.stream.new.handler _ _ c.in_ok-driven.ensures c.in-Ok.ensures c.end_driven.ensures.driven in
-    (of_plan c.args.verified c.stream.new.handler c.end_driven.result.log.entries _ _ _ c.end_driven.ensures.driven through.1 (ap (λ (l : Noted). l.entries) c.end_driven.ensures.log) c.end_driven.ensures.so_far).2
-
-pub returns-in-Ok-clause-plan : goal.returns-in-Ok-clause-plan
-returns-in-Ok-clause-plan g c =
-    c.end_driven.ensures.plan ∙ (driven_through c.args.verified _ c.in_ok-driven.driven c.stream.new.handler _ _ c.in_ok-driven.ensures c.in-Ok.ensures c.end_driven.ensures.driven).1
-
-pub returns-clause-broken_off : goal.returns-clause-broken_off
-returns-clause-broken_off g c =
+pub returns-clause-driven : goal.returns-clause-driven
+returns-clause-driven g c =
     let size : vec_len c.in_ok-room.room ≡ 65536 = c.in_ok-room.ensures in
-    broken_off c.args.verified c.in-Err.fault c.in_ok-driven.driven c.stream.new.handler _ _ c.in_ok-driven.ensures c.in-Err.ensures (omega (arith, size, c.deref_mut.ensures.len))
+    record {
+      end = c.stream.new.handler;
+      streamed = streamed_to_fault DriveAnswer DriveCloses c.in_ok-driven.driven c.stream.new.handler _ _ DriveEnd c.in-Err.fault (drive_start c.args.verified) c.in_ok-driven.ensures (omega (arith, size, c.deref_mut.ensures.len)) c.in-Err.ensures;
+      came_to = tt;
+    }
+
+pub returns-in_err-room-clause-driven : goal.returns-in_err-room-clause-driven
+returns-in_err-room-clause-driven g c = let p = err_from_is_err_and c.from_residual.result c.from_residual.ensures.1 in undriven_drive c.args.verified _ _ (p.1 ∙ ap Err p.2)
+
+pub returns-in_err-driven-clause-driven : goal.returns-in_err-driven-clause-driven
+returns-in_err-driven-clause-driven g c =
+    let p = err_from_is_err_and c.from_residual-in_err-driven.result c.from_residual-in_err-driven.ensures.1 in undriven_drive c.args.verified _ _ (p.1 ∙ ap Err p.2)

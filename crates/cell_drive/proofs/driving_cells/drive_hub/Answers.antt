@@ -1,15 +1,26 @@
 use Rattle.std.proofs.Common.{◌≡◌, arith, vec_len}
-use Rattle.cell_drive.proofs.CellsDriven.{starts_verified, cells_through, cells_broken_off}
+use Rattle.cell_drive.specs.declared.driving_cells.HubEnd.{HubEnd}
+use Rattle.cell_drive.specs.ManyCells.{hub_start, CellsAnswer, CellsClose}
+use Rattle.cell_drive.proofs.CellsDriven.{starts_verified}
+use Rattle.cell_drive.proofs.StreamedFrom.{streamed_to_end, streamed_to_fault}
 use Rattle.cell_drive.proofs.driving_cells.drive_hub.Goals as goal
 
-pub returns-in-Ok-clause-through : goal.returns-in-Ok-clause-through
-returns-in-Ok-clause-through g c =
+pub returns-in-Ok-clause-driven : goal.returns-in-Ok-clause-driven
+returns-in-Ok-clause-driven g c =
     let started = c.in_ok-driven.ensures.started in
-    cells_through c.args.cells.items _ c.in_ok-driven.driven c.stream.new.handler _ _ _ started
-    (starts_verified c.args.cells.items c.in_ok-driven.driven started c.in_ok-driven.ensures.verified) c.in-Ok.ensures c.are_all_done.ensures
+    record {
+      end = c.stream.new.handler;
+      streamed = streamed_to_end CellsAnswer (CellsClose 0) c.in_ok-driven.driven c.stream.new.handler _ _ _ _ (hub_start c.args.cells.items) started c.in-Ok.ensures;
+      done = c.are_all_done.ensures;
+      verified = starts_verified c.args.cells.items c.in_ok-driven.driven started c.in_ok-driven.ensures.verified;
+    }
 
-pub returns-clause-broken_off : goal.returns-clause-broken_off
-returns-clause-broken_off g c =
+pub returns-clause-driven : goal.returns-clause-driven
+returns-clause-driven g c =
     let size : vec_len c.in_ok-room.room ≡ 65536 = c.in_ok-room.ensures in
-    cells_broken_off c.args.cells.items c.in-Err.fault c.in_ok-driven.driven c.stream.new.handler _ _ c.in_ok-driven.ensures.started c.in-Err.ensures
-    (omega (arith, size, c.deref_mut.ensures.len))
+    record {
+      end = c.stream.new.handler;
+      streamed = streamed_to_fault CellsAnswer (CellsClose 0) c.in_ok-driven.driven c.stream.new.handler _ _ HubEnd c.in-Err.fault (hub_start c.args.cells.items) c.in_ok-driven.ensures.started (omega (arith, size, c.deref_mut.ensures.len)) c.in-Err.ensures;
+      done = tt;
+      verified = tt;
+    }

@@ -12,23 +12,15 @@ returns-in_err-load_files g c = (let p = err_from_is_err_and c.from_residual.res
 })
 
 pub returns-in-Ok : goal.returns-in-Ok
-returns-in-Ok g c = (let driven = c.drive-end.ensures in record {
+returns-in-Ok g c = record {
   loaded = Ok c.in_ok-load_files.field-0;
   loads = rw (← c.in_ok-load_files.was) c.load_files.ensures;
   drives = drives_accepted c.in_ok-load_files.field-0 c.in-Ok.verified c.args.streams.now _ c.end_answer.result (sym c.accepted.ensures ∙ c.in-Ok.is) (rw (← c.streams.view_is) (record {
     end = c.drive-end.result;
-    is = record {
-      through = driven.through;
-      run = driven.run;
-      so_far = driven.so_far;
-      promised = driven.promised;
-      unfailed = driven.unfailed;
-      broken_off = driven.broken_off;
-      untouched = λ memory. rw ((driven.untouched memory).0, (driven.untouched memory).1) refl;
-    };
+    is = c.drive-end.ensures.driven;
     answer = c.end_answer.ensures;
   }));
-})
+}
 
 pub returns-in_err-loaded_answer-in-Err : goal.returns-in_err-loaded_answer-in-Err
 returns-in_err-loaded_answer-in-Err g c = record {
