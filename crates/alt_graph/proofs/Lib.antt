@@ -1,5 +1,6 @@
 pub mod ArcKinds
 pub mod Paths
+pub mod PathsFrom
 pub mod NodeLists
 pub mod CycleParts
 pub mod Filling
@@ -13,4 +14,5 @@ pub mod Walks
 pub mod Rings
 pub mod Graphs
 pub mod Chains
+pub mod WholePlans
 pub mod Latests

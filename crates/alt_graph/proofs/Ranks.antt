@@ -13,7 +13,8 @@ use Rattle.alt_graph.specs.declared.times.TheConstants.{UNRANKED}
 use Rattle.alt_graph.specs.declared.ranking.Longest.{Longest}
 use Rattle.alt_graph.specs.Evidence.{node_count}
 use Rattle.alt_graph.specs.Lookups.{AreFirsts}
-use Rattle.alt_graph.specs.Times.{NodeTimes, no_time, time_at, rank_of, earliest_of, before_of, IsAttained}
+use Rattle.alt_graph.specs.Times.{NodeTimes, no_time, time_at, rank_of, earliest_of, before_of, IsAttainedFrom}
+use Rattle.alt_graph.specs.Bounds.{NodeBounds, AreRooted}
 use Rattle.alt_graph.specs.Layout.{number_of, by_job}
 use Rattle.alt_graph.specs.PlanGraph.{PlanGraph, IsSoundGraph}
 use Rattle.alt_graph.specs.Ranking.{PlanRanking, IsRanked, IsUnranked, IsPlaced, IsLongest, AreRanked, AreAllRanked, ranking_of, IsRanking, Grows, blank}
@@ -33,19 +34,19 @@ blank_ranked row ranked = elim (eqb_tells row.rank UNRANKED) [
 ]
 
 -- a node stays placed where neither its row nor those of its sources change
-pub placed_still : (p : PlannedShop) (t s : NodeTimes) (v : Node) → time_at s v ≡ time_at t v
-    → ((u : Node) (d : ℕ) → Arc p u v d → time_at s u ≡ time_at t u) → IsPlaced p t v → IsPlaced p s v
-placed_still p t s v same sources placed = record {
+pub placed_still : (p : PlannedShop) (b : NodeBounds) (t s : NodeTimes) (v : Node) → time_at s v ≡ time_at t v
+    → ((u : Node) (d : ℕ) → Arc p u v d → time_at s u ≡ time_at t u) → IsPlaced p b t v → IsPlaced p b s v
+placed_still p b t s v same sources placed = record {
   rises = λ u d arc. omega (arith, ap (λ (row : NodeTime). row.rank) (sources u d arc), ap (λ (row : NodeTime). row.rank) same, placed.rises u d arc);
-  fits = λ u d arc. omega (arith, ap (λ (row : NodeTime). row.earliest) (sources u d arc), ap (λ (row : NodeTime). row.earliest) same, placed.fits u d arc);
-  released = λ first. omega (arith, ap (λ (row : NodeTime). row.earliest) same, placed.released first);
-  attained = subst (λ (row : NodeTime). IsAttained p s v row.earliest row.before) (sym same) (still (before_of t v) placed.attained);
+  fits = λ u d arc ahead. omega (arith, ap (λ (row : NodeTime). row.earliest) (sources u d arc), ap (λ (row : NodeTime). row.earliest) same, placed.fits u d arc ahead);
+  bound = λ n told. omega (arith, ap (λ (row : NodeTime). row.earliest) same, placed.bound n told);
+  attained = subst (λ (row : NodeTime). IsAttainedFrom p b s v row.earliest row.before) (sym same) (still (before_of t v) placed.attained);
   bounded = omega (arith, ap (λ (row : NodeTime). row.earliest) same, ap (λ (row : NodeTime). row.rank) same, placed.bounded);
 }
   where
-    still : (o : Option Node) → IsAttained p t v (earliest_of t v) o → IsAttained p s v (earliest_of t v) o
+    still : (o : Option Node) → IsAttainedFrom p b t v (earliest_of t v) o → IsAttainedFrom p b s v (earliest_of t v) o
     still None attained = attained
-    still (Some u) (d, arc, is) = (d, arc, ap (λ (row : NodeTime). row.earliest + d) (sources u d arc) ∙ is)
+    still (Some u) (d, arc, is, ahead) = (d, arc, ap (λ (row : NodeTime). row.earliest + d) (sources u d arc) ∙ is, ahead)
 
 -- ---- no node is ranked at first
 
@@ -62,9 +63,12 @@ no_rank n i = elim (cases_lt i n) [
 ]
 
 -- at first
-pub none_ranked : (graph : PlanGraph) (n room : ℕ) → IsSoundGraph graph → n ≡ get_or graph.firsts (jobs graph.plan) 0 → n ≤ room → IsRanking graph [] (replicate n no_time) room
-none_ranked graph n room sound is le = record {
+pub none_ranked : (graph : PlanGraph) (q : PlannedShop) (b : NodeBounds) (n room : ℕ) → IsSoundGraph graph → q ≡ graph.plan → AreRooted graph.plan b
+    → n ≡ get_or graph.firsts (jobs graph.plan) 0 → n ≤ room → IsRanking graph q b [] (replicate n no_time) room
+none_ranked graph q b n room sound planned rooted is le = record {
   sound = sound;
+  planned = planned;
+  rooted = rooted;
   ranked = record {
     few = omega arith;
     listed = λ i lt. absurd (omega arith);
@@ -83,7 +87,7 @@ none_ranked graph n room sound is le = record {
 
 -- ---- one more
 
-module _ (graph : PlanGraph) (done : List Node) (rows : List NodeTime) (room : ℕ) (is_ranking : IsRanking graph done rows room) where
+module _ (graph : PlanGraph) (q : PlannedShop) (b : NodeBounds) (done : List Node) (rows : List NodeTime) (room : ℕ) (is_ranking : IsRanking graph q b done rows room) where
   abbrev p : PlannedShop
   p = graph.plan
 
@@ -96,11 +100,11 @@ module _ (graph : PlanGraph) (done : List Node) (rows : List NodeTime) (room : �
   are : AreFirsts p firsts
   are = is_ranking.sound.firsts
 
-  sound : AreRanked (ranking_of graph done rows)
+  sound : AreRanked (ranking_of graph b done rows)
   sound = is_ranking.ranked
 
   -- where as many nodes are done as have rows, all are ranked
-  pub full_ranked : length done ≡ length rows → AreAllRanked (ranking_of graph done rows)
+  pub full_ranked : length done ≡ length rows → AreAllRanked (ranking_of graph b done rows)
   full_ranked full v is free =
       let inside : number_of firsts v < length rows = omega (arith, is_ranking.size, number_inside p firsts are v is) in
       omega (
@@ -111,8 +115,8 @@ module _ (graph : PlanGraph) (done : List Node) (rows : List NodeTime) (room : �
         blank_unranked (get_or rows (number_of firsts v) no_time) (ap (λ (row : NodeTime). row.rank) (sym (node_time p firsts are rows v is)) ∙ free),
       )
 
-  module _ (v : Node) (unranked : IsUnranked (ranking_of graph done rows) v) (longest : Longest)
-      (best : IsLongest (ranking_of graph done rows) (Arc p) v longest) where
+  module _ (v : Node) (unranked : IsUnranked (ranking_of graph b done rows) v) (longest : Longest)
+      (best : IsLongest (ranking_of graph b done rows) (Arc p) v longest) where
     abbrev pub next_row : NodeTime
     next_row = record { rank = length done; earliest = longest.length; before = longest.before }
 
@@ -142,9 +146,10 @@ module _ (graph : PlanGraph) (done : List Node) (rows : List NodeTime) (room : �
     new_ranked same = omega (arith, sound.few, rank_new, same)
 
     -- all other nodes keep their rows
-    pub grows : Grows (ranking_of graph done rows) (ranking_of graph (done ++ v ∷ []) next_rows)
+    pub grows : Grows (ranking_of graph b done rows) (ranking_of graph b (done ++ v ∷ []) next_rows)
     grows = record {
       plan = refl;
+      bounds = refl;
       longer = omega (arith, length_push done v);
       known = λ u other. elim (cases_node p firsts are u v other is) [
         | inl same ↦ inr (ap (rank_of now) same ∙ unranked.free, omega (arith, ap (rank_of next_times) same, rank_new))
@@ -152,24 +157,24 @@ module _ (graph : PlanGraph) (done : List Node) (rows : List NodeTime) (room : �
       ];
     }
 
-    sources_keep : (w u : Node) (d : ℕ) → IsPlaced p now w → rank_of now w < UNRANKED → Arc p u w d → time_at next_times u ≡ time_at now u
+    sources_keep : (w u : Node) (d : ℕ) → IsPlaced p b now w → rank_of now w < UNRANKED → Arc p u w d → time_at next_times u ≡ time_at now u
     sources_keep w u d placed few arc = keeps u (source_node p u w d arc) (λ same. omega (arith, placed.rises u d arc, same))
 
     ranked_few : (u : Node) → IsNode p u → IsRanked now u → rank_of now u < UNRANKED
     ranked_few u other ranked = omega (arith, sound.within u other ranked, sound.few)
 
-    last_is : (o : Option Node) → IsAttained p now v longest.length o → ((u : Node) (d : ℕ) → Arc p u v d → time_at next_times u ≡ time_at now u) → IsAttained p next_times v longest.length o
+    last_is : (o : Option Node) → IsAttainedFrom p b now v longest.length o → ((u : Node) (d : ℕ) → Arc p u v d → time_at next_times u ≡ time_at now u) → IsAttainedFrom p b next_times v longest.length o
     last_is None attained sources = attained
-    last_is (Some u) (d, arc, same) sources = (d, arc, ap (λ (row : NodeTime). row.earliest + d) (sources u d arc) ∙ same)
+    last_is (Some u) (d, arc, same, ahead) sources = (d, arc, ap (λ (row : NodeTime). row.earliest + d) (sources u d arc) ∙ same, ahead)
 
-    new_placed : IsPlaced p next_times v
+    new_placed : IsPlaced p b next_times v
     new_placed =
         let sources : (u : Node) (d : ℕ) → Arc p u v d → time_at next_times u ≡ time_at now u = λ u d arc. keeps u (source_node p u v d arc) (best.ranked u d arc) in
         record {
           rises = λ u d arc. omega (arith, ap (λ (row : NodeTime). row.rank) (sources u d arc), rank_new, sound.within u (source_node p u v d arc) (best.ranked u d arc));
-          fits = λ u d arc. omega (arith, ap (λ (row : NodeTime). row.earliest) (sources u d arc), ap (λ (row : NodeTime). row.earliest) at_new, best.fits u d arc);
-          released = λ first. omega (arith, ap (λ (row : NodeTime). row.earliest) at_new, best.released first);
-          attained = subst (λ (row : NodeTime). IsAttained p next_times v row.earliest row.before) (sym at_new) (last_is longest.before best.attained sources);
+          fits = λ u d arc ahead. omega (arith, ap (λ (row : NodeTime). row.earliest) (sources u d arc), ap (λ (row : NodeTime). row.earliest) at_new, best.fits u d arc ahead);
+          bound = λ n told. omega (arith, ap (λ (row : NodeTime). row.earliest) at_new, best.bound n told);
+          attained = subst (λ (row : NodeTime). IsAttainedFrom p b next_times v row.earliest row.before) (sym at_new) (last_is longest.before best.attained sources);
           bounded = omega (arith, ap (λ (row : NodeTime). row.earliest) at_new, rank_new, best.bounded);
         }
 
@@ -211,12 +216,12 @@ module _ (graph : PlanGraph) (done : List Node) (rows : List NodeTime) (room : �
         let rank_same : rank_of next_times u ≡ rank_of now u = ap (λ (row : NodeTime). row.rank) (at_other u other apart) in
         ap (node_at (done ++ v ∷ [])) rank_same ∙ earlier (rank_of now u) (sound.within u other ranked_now) ∙ sound.places u other ranked_now
 
-    placed_more : (u : Node) → IsNode p u → (u ≡ v) ⊎ (u ≢ v) → IsRanked next_times u → IsPlaced p next_times u
-    placed_more u other (inl same) ranked = subst (λ (w : Node). IsPlaced p next_times w) (sym same) new_placed
+    placed_more : (u : Node) → IsNode p u → (u ≡ v) ⊎ (u ≢ v) → IsRanked next_times u → IsPlaced p b next_times u
+    placed_more u other (inl same) ranked = subst (λ (w : Node). IsPlaced p b next_times w) (sym same) new_placed
     placed_more u other (inr apart) ranked =
         let ranked_now = had_rank u other apart ranked in
         let placed = sound.placed u other ranked_now in
-        placed_still p now next_times u (at_other u other apart) (λ w d arc. sources_keep u w d placed (ranked_few u other ranked_now) arc) placed
+        placed_still p b now next_times u (at_other u other apart) (λ w d arc. sources_keep u w d placed (ranked_few u other ranked_now) arc) placed
 
     -- one of the rows is still blank
     count_more : length (done ++ v ∷ []) + sum_by blank next_rows ≡ length next_rows
@@ -236,9 +241,11 @@ module _ (graph : PlanGraph) (done : List Node) (rows : List NodeTime) (room : �
     size_more = length-set rows (number_of firsts v) next_row ∙ is_ranking.size
 
     -- the node is ranked next
-    pub ranked_more : IsRanking graph (done ++ v ∷ []) next_rows room
+    pub ranked_more : IsRanking graph q b (done ++ v ∷ []) next_rows room
     ranked_more = record {
       sound = is_ranking.sound;
+      planned = is_ranking.planned;
+      rooted = is_ranking.rooted;
       ranked = record {
         few = omega (arith, count_more, size_more, are.few);
         listed = λ i lt. listed_more i (cases_place i lt);
@@ -257,9 +264,12 @@ module _ (graph : PlanGraph) (done : List Node) (rows : List NodeTime) (room : �
     room_left = omega (arith, count_more, length_push done v, length-set rows (number_of firsts v) next_row, is_ranking.fits)
 
 -- what holds of a ranking's fields holds of the ranking that they are seen as
-module _ (graph : PlanGraph) (done : List Node) (rows : List NodeTime) (room : ℕ) (r : PlanRanking) (is : ranking_of graph done rows ≡ r) (is_ranking : IsRanking graph done rows room) where
+module _ (graph : PlanGraph) (q : PlannedShop) (b : NodeBounds) (done : List Node) (rows : List NodeTime) (room : ℕ) (r : PlanRanking) (is : ranking_of graph b done rows ≡ r) (is_ranking : IsRanking graph q b done rows room) where
   pub shaped_of : IsWellShaped r.plan
   shaped_of = subst (λ (s : PlanRanking). IsWellShaped s.plan) is is_ranking.sound.shaped
+
+  pub rooted_of : AreRooted r.plan r.bounds
+  rooted_of = subst (λ (s : PlanRanking). AreRooted s.plan s.bounds) is is_ranking.rooted
 
   pub ranks_of : AreRanked r
   ranks_of = subst AreRanked is is_ranking.ranked

@@ -16,11 +16,12 @@ use Rattle.alt_graph.proofs.ArcKinds.{arc_kind}
 
 -- nothing has changed
 pub grows_none : (r : PlanRanking) → Grows r r
-grows_none r = record { plan = refl; longer = omega arith; known = λ v is. inl refl }
+grows_none r = record { plan = refl; bounds = refl; longer = omega arith; known = λ v is. inl refl }
 
 pub grows_on : (r s q : PlanRanking) → Grows r s → Grows s q → Grows r q
 grows_on r s q one other = record {
   plan = other.plan ∙ one.plan;
+  bounds = other.bounds ∙ one.bounds;
   longer = omega (arith, one.longer, other.longer);
   known = λ v is. go v (one.known v is) (other.known v (rw one.plan is));
 }

@@ -1,5 +1,6 @@
 -- Reached by public clauses: to be read and believed.
 pub mod Evidence
+pub mod Bounds
 pub mod Times
 pub mod Layout
 pub mod Solved

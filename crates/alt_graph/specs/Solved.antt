@@ -4,7 +4,8 @@ use Rattle.shop_base.specs.declared.node.Node.{Node}
 use Rattle.shop_base.specs.Plan.{PlannedShop}
 use Rattle.shop_base.specs.Graph.{IsSimpleCycle}
 use Rattle.alt_graph.specs.Evidence.{IsCycle}
-use Rattle.alt_graph.specs.Times.{AreOrdered}
+use Rattle.alt_graph.specs.Bounds.{NodeBounds}
+use Rattle.alt_graph.specs.Times.{AreOrdered, AreOrderedFrom}
 use Rattle.alt_graph.specs.declared.solving.Solved.{Solved}
 use Rattle.alt_graph.specs.declared.solving.Solved.TheVariants.{Ordered, Cyclic}
 
@@ -12,6 +13,11 @@ use Rattle.alt_graph.specs.declared.solving.Solved.TheVariants.{Ordered, Cyclic}
 abbrev pub OnOrdered : PlannedShop → Solved → Type 0
 OnOrdered p (Ordered times) = AreOrdered p times
 OnOrdered p (Cyclic nodes) = Unit {0}
+
+-- the same from any bounds
+abbrev pub OnOrderedFrom : PlannedShop → NodeBounds → Solved → Type 0
+OnOrderedFrom p b (Ordered times) = AreOrderedFrom p b times
+OnOrderedFrom p b (Cyclic nodes) = Unit {0}
 
 -- where it has one: a cycle, its least node first
 abbrev pub OnCyclic : PlannedShop → Solved → Type 0

@@ -1,9 +1,10 @@
 -- Ranks and greatest lengths: what is known of each node, and when it is what a plan's graph has.
 use Rattle.std.specs.Prelude.{◌≡◌, ℕ, ◌+◌, ◌<◌, ◌≤◌, ◌↔◌, List, [], length, slice_index_or, Option, None, Some}
 use Rattle.shop_base.specs.declared.node.Node.{Node}
-use Rattle.shop_base.specs.Plan.{PlannedShop, release}
-use Rattle.shop_base.specs.Graph.{Arc, IsNode, Path, IsSchedule}
+use Rattle.shop_base.specs.Plan.{PlannedShop, release, IsWellShaped}
+use Rattle.shop_base.specs.Graph.{Arc, IsNode, Path, IsSchedule, RanksRise}
 use Rattle.alt_graph.specs.Evidence.{node_count}
+use Rattle.alt_graph.specs.Bounds.{NodeBounds, IsAheadOf, bound_of, PathFrom, MomentsFitFrom}
 use Rattle.alt_graph.specs.declared.times.NodeTime.{NodeTime}
 use Rattle.alt_graph.specs.declared.times.TheConstants.{UNRANKED}
 
@@ -70,3 +71,34 @@ pub record AreGreatest (p : PlannedShop) (t : NodeTimes) : Type 0 where
 pub record AreOrdered (p : PlannedShop) (t : NodeTimes) : Type 0 where
   pub times : AreTimes p t
   pub lengths : AreGreatest p t
+
+-- ---- the same from any bounds
+
+-- n is the moment that an arc from a node ahead allows v, over that node; where there is none, n is v's bound
+abbrev pub IsAttainedFrom : PlannedShop → NodeBounds → NodeTimes → Node → ℕ → Option Node → Type 0
+IsAttainedFrom p b t v n None = bound_of b v ≡ Some n
+IsAttainedFrom p b t v n (Some u) = (d : ℕ) × Arc p u v d × (earliest_of t u + d ≡ n) × (IsAheadOf b u)
+
+-- the nodes of the shop are known: their ranks, each its own and below the number of nodes, rise along every arc, and their moments fit the bounds, and each moment is attained
+pub record AreTimesFrom (p : PlannedShop) (b : NodeBounds) (t : NodeTimes) : Type 0 where
+  pub nodes : (v : Node) → IsNode p v ↔ IsTimed t v
+  pub shaped : IsWellShaped p
+  pub ranks : RanksRise p (rank_of t)
+  pub moments : MomentsFitFrom p b (earliest_of t)
+  pub few : (v : Node) → IsNode p v → rank_of t v < node_count p
+  pub apart : (u v : Node) → IsNode p u → IsNode p v → rank_of t u ≡ rank_of t v → u ≡ v
+  pub attained : (v : Node) → IsNode p v → IsAttainedFrom p b t v (earliest_of t v) (before_of t v)
+
+-- the nodes are a path from a bound to v, as long as the moment of v, by whatever shop and bounds these times have
+abbrev pub IsPathFromBy : NodeTimes → Node → List Node → Type 0
+IsPathFromBy t v nodes = (p : PlannedShop) (b : NodeBounds) → AreTimesFrom p b t → PathFrom p b nodes v (earliest_of t v)
+
+-- the moment of each node is the length of a path from a bound to it, and no such path to it is longer
+pub record AreGreatestFrom (p : PlannedShop) (b : NodeBounds) (t : NodeTimes) : Type 0 where
+  pub reached : (v : Node) → IsNode p v → (nodes : List Node) × PathFrom p b nodes v (earliest_of t v)
+  pub greatest : (nodes : List Node) (v : Node) (n : ℕ) → PathFrom p b nodes v n → n ≤ earliest_of t v
+
+-- ranks, and the greatest lengths of the paths from the bounds to each node
+pub record AreOrderedFrom (p : PlannedShop) (b : NodeBounds) (t : NodeTimes) : Type 0 where
+  pub times : AreTimesFrom p b t
+  pub lengths : AreGreatestFrom p b t

@@ -1,13 +1,15 @@
 //! The check of a chain, a path to a node.
 
-ghost use Rattle.std.specs.Prelude.{◌≡◌, ℕ, ◌<◌, ◌≤◌, ◌↔◌, IfSome, MatchOption, Some, [], ◌∷◌};
-ghost use Rattle.shop_base.specs.declared.limits.TheConstants.{MAX_RELEASE};
-ghost use Rattle.shop_base.specs.Plan.{jobs, IsWellShaped};
-ghost use Rattle.shop_base.specs.Graph.{leaving, Path};
-ghost use Rattle.alt_graph.specs.Evidence.{IsChain, EndsIn, node_count};
+ghost use Rattle.std.specs.Prelude.{◌≡◌, ℕ, ◌<◌, ◌≤◌, ◌↔◌, IfSome, MatchOption, Some};
+ghost use Rattle.shop_base.specs.Plan.{IsWellShaped};
+ghost use Rattle.shop_base.specs.Graph.{leaving, IsNode, Arc, HasArc};
 ghost use Rattle.shop_base.specs.ExactLaw.{IsNeverGoneBefore};
+ghost use Rattle.alt_graph.specs.Evidence.{IsChain, EndsIn, node_count};
+ghost use Rattle.alt_graph.specs.Bounds.{IsAheadOf, IsChainFrom, HasBound, LeadsAhead, MAX_BOUND};
 
 use crate::arcs::arc_length;
+use crate::bounds::{Bounds, Whole};
+use crate::cycle_check::is_node;
 use shop_base::{Moment, Node, Shaped};
 
 /// The length of a path: the release of its first job, and the lengths of its arcs. None for a list that
@@ -17,32 +19,58 @@ pub fn check_chain(shaped: &Shaped, nodes: &[Node]) -> Option<Moment>
     ensures exact { (n : ℕ) → (result ≡ Some n) ↔ IsChain shaped.now nodes.now n }
     ensures no_faster { IfSome result (λ n. (j : ℕ) → EndsIn nodes.now (leaving shaped.now j) → IsNeverGoneBefore shaped.now j n) }
 {
-    if nodes.len() as u64 > count_nodes(shaped) {
+    check_chain_from(shaped, &Whole { shaped }, nodes)
+}
+
+/// The length of a path from any bounds: the bound of its first node, and the lengths of its arcs, each from a node ahead.
+/// None for a list that isn't such a path, or has more nodes than there are.
+pub fn check_chain_from<B: Bounds>(shaped: &Shaped, bounds: &B, nodes: &[Node]) -> Option<Moment>
+    requires { B.planned bounds.now ≡ shaped.now }
+    ensures exact { (n : ℕ) → (result ≡ Some n) ↔ IsChainFrom shaped.now (B.bounds bounds.now) nodes.now n }
+    ensures sound { IsWellShaped shaped.now }
+{
+    let most = count_nodes(shaped);
+    if nodes.len() as u64 > most {
         return None;
     }
-    let mut length = begin(shaped, *nodes.first()?)?;
+    let mut length = begin(shaped, bounds, *nodes.first()?)?;
     for place in 1..nodes.len() {
-        length += arc_length(shaped, nodes[place - 1], nodes[place])?;
+        length += arc_ahead(shaped, bounds, nodes[place - 1], nodes[place])?;
     }
     Some(length)
 }
 
 /// How many nodes there are.
 fn count_nodes(shaped: &Shaped) -> u64
-    ensures { result ≡ node_count shaped.now }
+    ensures count { result ≡ node_count shaped.now }
+    ensures sound { IsWellShaped shaped.now }
 {
     let shop = shaped.shop();
     u64::from(shop.jobs()) + shop.operations()
 }
 
-/// The release of the job, where the node is its first entry.
-fn begin(shaped: &Shaped, node: Node) -> Option<Moment>
-    ensures exact { MatchOption result ((node.place ≡ 0) × (node.job < jobs shaped.now) → ⊥) (Path shaped.now (node ∷ []) node) }
-    ensures early { IfSome result (λ n. n ≤ MAX_RELEASE) }
-    ensures sound { IsWellShaped shaped.now }
+/// The bound of the node, if it is one of the shop that has one.
+fn begin<B: Bounds>(shaped: &Shaped, bounds: &B, node: Node) -> Option<Moment>
+    requires { B.planned bounds.now ≡ shaped.now }
+    ensures exact { MatchOption result ((n : ℕ) → HasBound shaped.now (B.bounds bounds.now) node n → ⊥) (HasBound shaped.now (B.bounds bounds.now) node) }
+    ensures early { IfSome result (λ n. n ≤ MAX_BOUND) }
 {
-    match shaped.plan().release.get(node.job as usize) {
-        Some(release) if node.place == 0 => Some(*release),
-        _ => None,
+    if is_node(shaped, node) {
+        bounds.bound(node)
+    } else {
+        None
+    }
+}
+
+/// The length of the arc that leads from the one node to the other, if there is one and the first is ahead.
+fn arc_ahead<B: Bounds>(shaped: &Shaped, bounds: &B, from: Node, to: Node) -> Option<Moment>
+    requires { B.planned bounds.now ≡ shaped.now }
+    ensures { MatchOption result (LeadsAhead shaped.now (B.bounds bounds.now) from to → ⊥) (λ d. IsAheadOf (B.bounds bounds.now) from × Arc shaped.now from to d) }
+{
+    let length = arc_length(shaped, from, to)?;
+    if bounds.is_ahead(from) {
+        Some(length)
+    } else {
+        None
     }
 }

@@ -34,7 +34,8 @@ fn are_nodes(shaped: &Shaped, nodes: &[Node]) -> bool
     nodes.iter().all(|node| is_node(shaped, *node))
 }
 
-fn is_node(shaped: &Shaped, node: Node) -> bool
+/// Whether the node is of the shop.
+pub(crate) fn is_node(shaped: &Shaped, node: Node) -> bool
     ensures { IsTrue result ↔ IsNode shaped.now node }
 {
     match shaped.shop().route(node.job) {

@@ -7,6 +7,7 @@ ghost use Rattle.alt_graph.specs.Evidence.{IsCycle};
 ghost use Rattle.alt_graph.specs.Ranking.{IsUnranked, AreSettled};
 ghost use Rattle.alt_graph.specs.Trails.{IsTrail, IsPlaceAfter, IsLeastPlace, AreFrom, IsFreeSource, trail_length};
 
+use crate::bounds::Bounds;
 use crate::node_order::is_before;
 use crate::ranking::Ranking;
 use crate::sources::{ArcIn, job_source};
@@ -21,7 +22,7 @@ pub(crate) struct Trail {
     pub start: usize,
 }
 
-impl Ranking<'_> {
+impl<B: Bounds> Ranking<'_, B> {
     /// A cycle, its least node first, from a node without a rank.
     pub(crate) fn cycle_from(&self, alloc: Global, node: Node) -> Result<Vec<Node>, AllocError>
         requires node { IsUnranked self.now node }

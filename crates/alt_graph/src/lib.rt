@@ -8,6 +8,7 @@
 #![tactic(auto)]
 
 mod arcs;
+mod bounds;
 mod chain_check;
 mod cycle_check;
 mod cycles;
@@ -21,9 +22,10 @@ mod solving;
 mod sources;
 mod times;
 
-pub use chain_check::check_chain;
+pub use bounds::{Bounds, Whole};
+pub use chain_check::{check_chain, check_chain_from};
 pub use cycle_check::check_cycle;
 pub use graph::Graph;
 pub use latest::{Deadlines, latest_moments};
-pub use solving::{Solved, solve};
+pub use solving::{Solved, solve, solve_from};
 pub use times::Times;

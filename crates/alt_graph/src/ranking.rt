@@ -1,14 +1,16 @@
 //! Ranks and greatest lengths, by a worklist of the nodes whose arcs from before are all ranked.
 
-ghost use Rattle.std.specs.Prelude.{◌≡◌, ◌+◌, ◌<◌, ◌≤◌, [], IfOk, MatchOption, MatchBool, ◌⊎◌, length, replicate};
+ghost use Rattle.std.specs.Prelude.{◌≡◌, ◌+◌, ◌<◌, ◌≤◌, ◌↔◌, [], IsTrue, IfOk, MatchOption, MatchBool, None, ◌⊎◌, length, replicate};
 ghost use Rattle.std.specs.Option.{ForSome};
 ghost use Rattle.shop_base.specs.declared.limits.TheConstants.{MAX_NOMINAL};
 ghost use Rattle.shop_base.specs.Plan.{jobs, IsWellShaped};
 ghost use Rattle.shop_base.specs.Graph.{Arc, IsNode};
+ghost use Rattle.alt_graph.specs.Bounds.{AreRooted, IsAheadOf, bound_of};
 ghost use Rattle.alt_graph.specs.Sources.{IsJobArc};
-ghost use Rattle.alt_graph.specs.Times.{AreOrdered, rank_of, time_at, no_time};
-ghost use Rattle.alt_graph.specs.Ranking.{IsRanked, IsUnranked, AreRanked, AreAllRanked, IsJobRanked, IsLongest, IsOver, WaitsFor, Grows, IsSettled, AreSettled};
+ghost use Rattle.alt_graph.specs.Times.{AreOrderedFrom, rank_of, time_at, no_time};
+ghost use Rattle.alt_graph.specs.Ranking.{IsRanked, IsUnranked, AreRanked, AreAllRanked, IsJobRanked, IsLongest, IsFromBound, IsOver, IsWith, WaitsFor, Grows, IsSettled, AreSettled};
 
+use crate::bounds::Bounds;
 use crate::graph::Graph;
 use crate::sources::{ArcIn, job_source, job_target};
 use crate::times::{NodeTime, Times, UNRANKED};
@@ -16,23 +18,24 @@ use shop_base::{JobNo, Moment, Node, Shaped};
 use std::alloc::{AllocError, Global};
 use std::marker::Model;
 
-/// A graph, the nodes ranked so far, in the order of their ranks, and what is known of each node.
+/// A graph with bounds, the nodes ranked so far, in the order of their ranks, and what is known of each node.
 #[derive(Drop)]
-pub(crate) struct Ranking<'a> {
+pub(crate) struct Ranking<'a, B: Bounds> {
     pub graph: Graph<'a>,
+    pub bounds: B,
     pub done: Vec<Node>,
     pub rows: Vec<NodeTime>,
 }
 
-impl<'a> Model for Ranking<'a> {
+impl<'a, B: Bounds> Model for Ranking<'a, B> {
     ghost use Rattle.std.specs.Prelude.{vec_capacity};
     ghost use Rattle.alt_graph.specs.Ranking.{PlanRanking, ranking_of, IsRanking};
 
     ghost Value = { PlanRanking };
 
-    ghost view = { λ r. ranking_of r.graph r.done.items r.rows.items };
+    ghost view = { λ r. ranking_of r.graph (B.bounds r.bounds) r.done.items r.rows.items };
 
-    ghost invariant = { λ r. IsRanking r.graph r.done.items r.rows.items (vec_capacity r.done) };
+    ghost invariant = { λ r. IsRanking r.graph (B.planned r.bounds) (B.bounds r.bounds) r.done.items r.rows.items (vec_capacity r.done) };
 }
 
 /// The greatest length of a path to a node, and the node before it on such a path.
@@ -67,13 +70,20 @@ fn longer(one: Longest, other: Longest) -> Longest
     }
 }
 
-impl<'a> Ranking<'a> {
+impl<'a, B: Bounds> Ranking<'a, B> {
     /// Ranks all nodes of a graph that can be.
-    pub(crate) fn of(alloc: Global, graph: Graph<'a>) -> Result<Ranking<'a>, AllocError>
+    pub(crate) fn of(
+        alloc: Global,
+        graph: Graph<'a>,
+        bounds: B,
+    ) -> Result<Ranking<'a, B>, AllocError>
+        requires planned { B.planned bounds ≡ graph.plan }
+        requires rooted { AreRooted graph.plan (B.bounds bounds) }
         ensures plan { IfOk result (λ ranking. ranking.plan ≡ graph.entry.plan) }
+        ensures bounds { IfOk result (λ ranking. ranking.bounds ≡ B.bounds bounds) }
         ensures settled { IfOk result (λ ranking. AreSettled ranking UNRANKED) }
     {
-        let mut ranking = Ranking::none(alloc, graph)?;
+        let mut ranking = Ranking::none(alloc, graph, bounds)?;
         ranking.rank_first();
         let mut next = 0;
         while next < ranking.done.len() {
@@ -84,14 +94,22 @@ impl<'a> Ranking<'a> {
     }
 
     /// No node is ranked.
-    fn none(alloc: Global, graph: Graph<'a>) -> Result<Ranking<'a>, AllocError>
+    fn none(alloc: Global, graph: Graph<'a>, bounds: B) -> Result<Ranking<'a, B>, AllocError>
+        requires planned { B.planned bounds ≡ graph.plan }
+        requires rooted { AreRooted graph.plan (B.bounds bounds) }
         ensures plan { IfOk result (λ ranking. ranking.plan ≡ graph.entry.plan) }
+        ensures bounds { IfOk result (λ ranking. ranking.bounds ≡ B.bounds bounds) }
         ensures none { IfOk result (λ ranking. ranking.done ≡ []) }
     {
         let nodes = graph.node_count();
         let done = Vec::with_capacity(alloc, nodes)?;
         let rows = no_times(alloc, nodes)?;
-        Ok(Ranking { graph, done, rows })
+        Ok(Ranking {
+            graph,
+            bounds,
+            done,
+            rows,
+        })
     }
 
     /// The planned shop.
@@ -191,27 +209,60 @@ impl<'a> Ranking<'a> {
     {
         let along = self.longest_in_job(node)?;
         match self.graph.blocking_source(node) {
-            Some(source) => {
-                let freed = self.longest_over(source)?;
-                Some(longer(along, freed))
-            }
+            Some(source) => self.longest_with(along, source),
             None => Some(along),
         }
     }
 
-    /// The longest path to the node over the place before it in its job, or its job's release where it is the
-    /// first; none where the place before has no rank.
+    /// The longest path to the node over the place before it in its job, or from its bound; none where the place
+    /// before has no rank.
     fn longest_in_job(&self, node: Node) -> Option<Longest>
         requires { IsNode self.now.plan node }
         ensures { MatchOption result (WaitsFor self.now UNRANKED node) (IsLongest self.now (IsJobArc self.now.plan) node) }
     {
         let shaped = self.shaped();
         match job_source(shaped, node) {
-            Some(source) => self.longest_over(source),
-            None => Some(Longest {
-                length: shaped.release_of(node.job),
-                before: None,
-            }),
+            Some(source) => match self.from_bound(node) {
+                Some(base) => self.longest_with(base, source),
+                None => self.longest_over(source),
+            },
+            None => self.from_bound(node),
+        }
+    }
+
+    /// The path that begins with the node, at its bound, if it has one.
+    fn from_bound(&self, node: Node) -> Option<Longest>
+        requires { IsNode self.now.plan node }
+        ensures exact { MatchOption result (bound_of self.now.bounds node ≡ None) (IsFromBound self.now node) }
+        ensures rooted { AreRooted self.now.plan self.now.bounds }
+    {
+        let length = self.bounds.bound(node)?;
+        Some(Longest {
+            length,
+            before: None,
+        })
+    }
+
+    /// Whether the node is ahead.
+    fn is_ahead(&self, node: Node) -> bool
+        requires { IsNode self.now.plan node }
+        ensures { IsTrue result ↔ IsAheadOf self.now.bounds node }
+    {
+        self.bounds.is_ahead(node)
+    }
+
+    /// The longer of a path and one over an arc, where that comes from a node ahead; none where it comes from a
+    /// node without a rank.
+    fn longest_with(&self, base: Longest, source: ArcIn) -> Option<Longest>
+        requires node { IsNode self.now.plan source.node }
+        requires short { source.length ≤ MAX_NOMINAL }
+        ensures { MatchOption result (rank_of self.now.times source.node ≡ UNRANKED) (IsWith self.now base source) }
+    {
+        let over = self.longest_over(source)?;
+        if self.is_ahead(source.node) {
+            Some(longer(base, over))
+        } else {
+            Some(base)
         }
     }
 
@@ -263,7 +314,7 @@ impl<'a> Ranking<'a> {
     /// What is known of the nodes, where all are ranked.
     pub(crate) fn into_times(self) -> Times
         requires { AreAllRanked self }
-        ensures { AreOrdered self.entry.plan result }
+        ensures { AreOrderedFrom self.entry.plan self.entry.bounds result }
     {
         let Ranking { graph, rows, .. } = self;
         Times::of(graph.into_firsts(), rows)

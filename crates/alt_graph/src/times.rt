@@ -1,5 +1,5 @@
 ghost use Rattle.std.specs.Prelude.{◌≡◌, IfOk, MatchOption, IsSome, IfSome, reverse};
-ghost use Rattle.alt_graph.specs.Times.{IsTimed, IsPathBy, rank_of, earliest_of, before_of, time_at};
+ghost use Rattle.alt_graph.specs.Times.{IsTimed, IsPathBy, IsPathFromBy, rank_of, earliest_of, before_of, time_at};
 ghost use Rattle.alt_graph.specs.Layout.{AreLinked, LeadsBack, by_job};
 
 use crate::numbers::counted_number;
@@ -68,12 +68,13 @@ impl Times {
         }
     }
 
-    /// A path of the greatest length to the node, from a job's first place on; none for a node that isn't
-    /// of the shop, and then never an error.
+    /// A path of the greatest length to the node, from a bounded node on (of a whole plan a job's first place); none for
+    /// a node that isn't of the shop, and then never an error.
     pub fn chain(&self, alloc: Global, node: Node) -> Result<Option<Vec<Node>>, AllocError>
         ensures outside { (IsTimed self.now node → ⊥) → result ≡ Ok None }
         ensures inside { IsTimed self.now node → IfOk result IsSome }
         ensures path { IfOk result (λ found. IfSome found (λ nodes. IsPathBy self.now node nodes.items)) }
+        ensures path_from { IfOk result (λ found. IfSome found (λ nodes. IsPathFromBy self.now node nodes.items)) }
     {
         match self.time(node) {
             Some(time) => {
@@ -110,7 +111,7 @@ impl Times {
     /// The nodes of a longest path to a known node, backwards; it has no more than its rank and one.
     fn walk_back(&self, alloc: Global, node: Node, rank: u32) -> Result<Vec<Node>, AllocError>
         requires { IsTimed self.now node }
-        ensures { IfOk result (λ nodes. IsPathBy self.now node (reverse nodes.items)) }
+        ensures { IfOk result (λ nodes. IsPathFromBy self.now node (reverse nodes.items)) }
     {
         let mut nodes = Vec::with_capacity(alloc, rank as usize + 1)?;
         let mut last = node;

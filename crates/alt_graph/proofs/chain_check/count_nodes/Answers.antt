@@ -6,8 +6,8 @@ use Rattle.alt_graph.proofs.chain_check.count_nodes.Goals as goal
 pub overflow_add-result : goal.overflow_add-result
 overflow_add-result c = omega (arith, operations_of-le _ c.jobs.ensures.sound, c.jobs.ensures.sound.counts.few_jobs)
 
-pub returns : goal.returns
-returns c = omega (
+pub returns-clause-count : goal.returns-clause-count
+returns-clause-count c = omega (
   arith,
   c.from.ensures,
   c.jobs.ensures.count,

@@ -9,26 +9,26 @@ use Rattle.alt_graph.proofs.Walks.{walk_none, walk_more, walk_shorter, walk_trai
 use Rattle.alt_graph.proofs.ranking.Ranking.follow.Goals as goal
 
 pub back-init : goal.back-init
-back-init c =
+back-init g c =
     let rows : c.len.result ≡ length c.self.inside.rows.items = omega (arith, c.len.ensures, c.self.inside.rows.ok.0) in
     let seen : c.in_ok-seen.seen.items ≡ replicate (length c.self.inside.rows.items) UNRANKED = c.in_ok-seen.ensures.items_if_clones_equal (search rules) ∙ ap (λ (n : ℕ). replicate n UNRANKED) rows in
-    let free : IsUnranked (ranking_of c.self.inside.graph c.self.inside.done.items c.self.inside.rows.items) c.args.node = subst (λ (r : PlanRanking). IsUnranked r c.args.node) (sym c.self.view_is) c.requires.node in
+    let free : IsUnranked (ranking_of c.self.inside.graph (g.B.Bounds.bounds c.self.inside.bounds) c.self.inside.done.items c.self.inside.rows.items) c.args.node = subst (λ (r : PlanRanking). IsUnranked r c.args.node) (sym c.self.view_is) c.requires.node in
     record {
       walk = rw (seen, c.in_ok-nodes.ensures.items) (walk_none _ c.self.inside.graph.firsts c.self.invariant.sound.firsts c.self.inside.rows.items c.self.invariant.size c.args.node free.node free.free);
       at = c.number-at.ensures.number;
     }
 
 pub index-requires : goal.index-requires
-index-requires c = omega (arith, c.back.invariant.at, inside _ c.self.inside.graph.firsts c.self.invariant.sound.firsts c.self.inside.rows.items c.self.invariant.size c.back.nodes.items c.back.seen.items c.back.next c.back.invariant.walk, c.back.seen.ok.0)
+index-requires g c = omega (arith, c.back.invariant.at, inside _ c.self.inside.graph.firsts c.self.invariant.sound.firsts c.self.inside.rows.items c.self.invariant.size c.back.nodes.items c.back.seen.items c.back.next c.back.invariant.walk, c.back.seen.ok.0)
 
 pub index_mut-requires : goal.index_mut-requires
-index_mut-requires c = omega (arith, c.back.invariant.at, inside _ c.self.inside.graph.firsts c.self.invariant.sound.firsts c.self.inside.rows.items c.self.invariant.size c.back.nodes.items c.back.seen.items c.back.next c.back.invariant.walk, c.back.seen.ok.0)
+index_mut-requires g c = omega (arith, c.back.invariant.at, inside _ c.self.inside.graph.firsts c.self.invariant.sound.firsts c.self.inside.rows.items c.self.invariant.size c.back.nodes.items c.back.seen.items c.back.next c.back.invariant.walk, c.back.seen.ok.0)
 
 pub index-requires-2 : goal.index-requires-2
-index-requires-2 c = omega (arith, c.back.invariant.at, inside _ c.self.inside.graph.firsts c.self.invariant.sound.firsts c.self.inside.rows.items c.self.invariant.size c.back.nodes.items c.back.seen.items c.back.next c.back.invariant.walk, c.back.seen.ok.0)
+index-requires-2 g c = omega (arith, c.back.invariant.at, inside _ c.self.inside.graph.firsts c.self.invariant.sound.firsts c.self.inside.rows.items c.self.invariant.size c.back.nodes.items c.back.seen.items c.back.next c.back.invariant.walk, c.back.seen.ok.0)
 
 pub back-smaller : goal.back-smaller
-back-smaller c =
+back-smaller g c =
     let firsts = c.self.inside.graph.firsts in
     let rows = c.self.inside.rows.items in
     let seen = c.back.seen.items in
@@ -39,7 +39,7 @@ back-smaller c =
     rw (place, c.back.invariant.at) (walk_shorter _ firsts c.self.invariant.sound.firsts rows c.self.invariant.size c.back.nodes.items seen c.back.next c.back.invariant.walk free)
 
 pub back-preserved : goal.back-preserved
-back-preserved c =
+back-preserved g c =
     let firsts = c.self.inside.graph.firsts in
     let rows = c.self.inside.rows.items in
     let seen = c.back.seen.items in
@@ -48,7 +48,7 @@ back-preserved c =
     let free : get_or seen (number_of firsts c.back.next) 0 ≡ UNRANKED = ap (λ (i : ℕ). get_or seen i 0) (sym c.back.invariant.at) ∙ sym read ∙ c.back-test.true in
     let place : c.len-in-back.result ≡ length c.back.nodes.items = omega (arith, c.len-in-back.ensures, c.back.nodes.ok.0) in
     let source = c.free_source-next.result in
-    let free_source : IsUnranked (ranking_of c.self.inside.graph c.self.inside.done.items c.self.inside.rows.items) source = subst (λ (r : PlanRanking). IsUnranked r source) (sym c.self.view_is) c.free_source-next.ensures.node in
+    let free_source : IsUnranked (ranking_of c.self.inside.graph (g.B.Bounds.bounds c.self.inside.bounds) c.self.inside.done.items c.self.inside.rows.items) source = subst (λ (r : PlanRanking). IsUnranked r source) (sym c.self.view_is) c.free_source-next.ensures.node in
     let arc : HasArc c.self.inside.graph.plan source c.back.next = subst (λ (r : PlanRanking). HasArc r.plan source c.back.next) (sym c.self.view_is) c.free_source-next.ensures.arc in
     let pushed : c.push.new.self.items ≡ c.back.nodes.items ++ c.back.next ∷ [] = search rules in
     record {
@@ -58,7 +58,7 @@ back-preserved c =
     }
 
 pub returns : goal.returns
-returns c =
+returns g c =
     let firsts = c.self.inside.graph.firsts in
     let rows = c.self.inside.rows.items in
     let seen = c.back.seen.items in

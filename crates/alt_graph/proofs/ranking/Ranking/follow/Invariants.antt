@@ -5,11 +5,11 @@ use Rattle.alt_graph.proofs.ranking.Ranking.follow.Given as goal
 
 -- the nodes followed so far
 abbrev pub invariant-back : goal.invariant-back
-invariant-back l = record {
+invariant-back g l = record {
   walk : IsWalk l.self-inside.graph.plan l.self-inside.graph.firsts l.self-inside.rows.items l.nodes.items l.seen.items l.next;
   at : l.at ≡ number_of l.self-inside.graph.firsts l.next;
 }
 
 -- how many nodes don't stand among them
 abbrev pub decreases-back : goal.decreases-back
-decreases-back l = unseen l.seen.items
+decreases-back g l = unseen l.seen.items

@@ -25,21 +25,21 @@ never_ranked r v sound free (inr (u, d, arc, after)) job blocking = go (arc_kind
     go (inr is) = ranked_no (blocking u d is)
 
 pub returns-in-Some-clause-arc : goal.returns-in-Some-clause-arc
-returns-in-Some-clause-arc c =
+returns-in-Some-clause-arc g c =
     let free = c.in-Some.ensures in
     let arc : IsJobArc c.args.self.now.plan c.in-Some.free c.args.node free.0 = subst (λ (o : Option ArcIn). IsArcIn (IsJobArc c.args.self.now.plan) c.args.node o) free.1 (rw c.shaped.ensures.plan at c.job_source-source.ensures.arc) in
     (free.0, job_arc_is _ _ _ _ arc)
 
 pub unreachable-requires : goal.unreachable-requires
-unreachable-requires c =
+unreachable-requires g c =
     let r = c.args.self.now in
     let blocking : IsArcIn (IsBlockingArc r.plan) c.args.node c.blocking_source-source.result = subst (λ (s : PlanRanking). IsArcIn (IsBlockingArc s.plan) c.args.node c.blocking_source-source.result) c.self.view_is c.blocking_source-source.ensures.arc in
-    never_ranked r c.args.node (ranks_of c.self.inside.graph _ _ _ _ c.self.view_is c.self.invariant) c.requires.node.free (c.requires.settled c.args.node c.requires.node.node)
+    never_ranked r c.args.node (ranks_of c.self.inside.graph _ _ _ _ _ _ c.self.view_is c.self.invariant) c.requires.node.free (c.requires.settled c.args.node c.requires.node.node)
     (source_ranked (IsJobArc r.plan) (job_source_once r.plan c.shaped.ensures.sound) r.times c.args.node c.job_source-source.result (rw c.shaped.ensures.plan at c.job_source-source.ensures.arc) c.in_default.ensures)
     (source_ranked (IsBlockingArc r.plan) (blocking_source_once r.plan c.shaped.ensures.sound) r.times c.args.node c.blocking_source-source.result blocking c.in-None.ensures)
 
 pub returns-clause-arc : goal.returns-clause-arc
-returns-clause-arc c =
+returns-clause-arc g c =
     let r = c.args.self.now in
     let free = c.in-Some-free_of.ensures in
     let blocking : IsArcIn (IsBlockingArc r.plan) c.args.node c.blocking_source-source.result = subst (λ (s : PlanRanking). IsArcIn (IsBlockingArc s.plan) c.args.node c.blocking_source-source.result) c.self.view_is c.blocking_source-source.ensures.arc in

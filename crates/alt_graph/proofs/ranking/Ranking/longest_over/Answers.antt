@@ -5,7 +5,7 @@ use Rattle.alt_graph.specs.Ranking.{IsRanked}
 use Rattle.alt_graph.proofs.ranking.Ranking.longest_over.Goals as goal
 
 pub overflow_add-result : goal.overflow_add-result
-overflow_add-result c =
+overflow_add-result g c =
     let r = c.args.self.now in
     let u = c.args.source.node in
     let earliest : c.row_of-row.result.earliest ≡ earliest_of r.times u = ap (λ (row : NodeTime). row.earliest) c.row_of-row.ensures.row in
@@ -15,7 +15,7 @@ overflow_add-result c =
     omega (arith, earliest, sound.few, sound.within u c.requires.node ranked, (sound.placed u c.requires.node ranked).bounded, c.requires.short)
 
 pub returns : goal.returns
-returns c =
+returns g c =
     let r = c.args.self.now in
     let u = c.args.source.node in
     let earliest : c.row_of-row.result.earliest ≡ earliest_of r.times u = ap (λ (row : NodeTime). row.earliest) c.row_of-row.ensures.row in

@@ -13,16 +13,16 @@ use Rattle.alt_graph.proofs.Settling.{grows_on, settled_still, settled_earlier, 
 use Rattle.alt_graph.proofs.ranking.Ranking.rank_after.Goals as goal
 
 pub returns-clause-grows : goal.returns-clause-grows
-returns-clause-grows c = grows_on _ _ _ c.try_target.ensures.grows c.try_target-2.ensures.grows
+returns-clause-grows g c = grows_on _ _ _ c.try_target.ensures.grows c.try_target-2.ensures.grows
 
 pub returns-clause-settled : goal.returns-clause-settled
-returns-clause-settled c =
+returns-clause-settled g c =
     let old = c.args.self.now in
     let mid = c.try_target.new.self in
     let new = c.try_target-2.new.self in
     let p = old.plan in
     let shaped : IsWellShaped p = c.shaped.ensures.sound in
-    let sound = ranks_of c.self.inside.graph _ _ _ _ c.self.view_is c.self.invariant in
+    let sound = ranks_of c.self.inside.graph _ _ _ _ _ _ c.self.view_is c.self.invariant in
     let done_is = ap (λ (r : PlanRanking). node_at r.done c.args.next) c.self.view_is in
     let within = subst (λ (r : PlanRanking). c.args.next < length r.done) (sym c.self.view_is) c.requires.next in
     let at : c.index-node.result.now ≡ node_at old.done c.args.next = get_or_read c.self.inside.done.items c.args.next c.index-node.result.now within c.index-node.ensures (node 0 0) ∙ done_is in

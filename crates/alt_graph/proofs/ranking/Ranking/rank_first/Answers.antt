@@ -6,15 +6,15 @@ use Rattle.alt_graph.proofs.Settling.{grows_none, grows_on, settled_still, settl
 use Rattle.alt_graph.proofs.ranking.Ranking.rank_first.Goals as goal
 
 pub loop-job-init : goal.loop-job-init
-loop-job-init c = record { grows = grows_none _; settled = λ j lt. absurd (omega arith) }
+loop-job-init g c = record { grows = grows_none _; settled = λ j lt. absurd (omega arith) }
 
 pub try_rank-requires : goal.try_rank-requires
-try_rank-requires c =
+try_rank-requires g c =
     let count : jobs c.loop-job.self.plan ≡ jobs c.shaped.result.now = ap jobs c.loop-job.invariant.grows.plan ∙ ap jobs (sym c.shaped.ensures.plan) in
     record { job = omega (arith, count, c.job_count-job-end.ensures.count); place = omega arith }
 
 pub loop-job-preserved : goal.loop-job-preserved
-loop-job-preserved c =
+loop-job-preserved g c =
     let count : jobs c.loop-job.self.plan ≡ jobs c.shaped.result.now = ap jobs c.loop-job.invariant.grows.plan ∙ ap jobs (sym c.shaped.ensures.plan) in
     record {
       grows = grows_on _ c.loop-job.self _ c.loop-job.invariant.grows c.try_rank.ensures.grows;
@@ -24,6 +24,6 @@ loop-job-preserved c =
     }
 
 pub returns-clause-settled : goal.returns-clause-settled
-returns-clause-settled c =
+returns-clause-settled g c =
     let count : jobs c.loop-job.self.plan ≡ jobs c.shaped.result.now = ap jobs c.loop-job.invariant.grows.plan ∙ ap jobs (sym c.shaped.ensures.plan) in
     settled_first c.loop-job.self (λ j lt. c.loop-job.invariant.settled j (omega (arith, count, c.job_count-job-end.ensures.count)))

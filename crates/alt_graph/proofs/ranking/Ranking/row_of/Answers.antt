@@ -9,13 +9,13 @@ use Rattle.alt_graph.proofs.Ranks.{ranks_of}
 use Rattle.alt_graph.proofs.ranking.Ranking.row_of.Goals as goal
 
 pub index-requires : goal.index-requires
-index-requires c =
+index-requires g c =
     let graph = c.self.inside.graph in
     let node : IsNode graph.plan c.args.node = subst (λ (r : PlanRanking). IsNode r.plan c.args.node) (sym c.self.view_is) c.requires in
     omega (arith, c.number.ensures.number, number_inside _ graph.firsts c.self.invariant.sound.firsts c.args.node node, c.self.invariant.size, c.self.inside.rows.ok.0)
 
 pub returns-clause-row : goal.returns-clause-row
-returns-clause-row c =
+returns-clause-row g c =
     let graph = c.self.inside.graph in
     let rows = c.self.inside.rows.items in
     let node : IsNode graph.plan c.args.node = subst (λ (r : PlanRanking). IsNode r.plan c.args.node) (sym c.self.view_is) c.requires in
@@ -25,4 +25,4 @@ returns-clause-row c =
     ∙ sym (node_time _ graph.firsts c.self.invariant.sound.firsts rows c.args.node node) ∙ ap (λ (r : PlanRanking). time_at r.times c.args.node) c.self.view_is
 
 pub returns-clause-sound : goal.returns-clause-sound
-returns-clause-sound c = ranks_of c.self.inside.graph _ _ _ _ c.self.view_is c.self.invariant
+returns-clause-sound g c = ranks_of c.self.inside.graph _ _ _ _ _ _ c.self.view_is c.self.invariant
