@@ -1,5 +1,6 @@
 //! The status at which each fault of a command ends the program, and what faults say.
 
+use cell_control::ReportFault;
 use command_answers::CommandFault;
 use command_words::WordsFault;
 use orlib_read::OrFault;
@@ -44,6 +45,23 @@ const FAULTS: &[(CommandFault, &str, u8)] = &[
     (CommandFault::InputTooLong, "InputTooLong", 5),
 ];
 
+/// Faults of a log that isn't taken up, and their texts. The fields of a reason aren't in them.
+const OF_LOGS: &[(ResumeFault, &str)] = &[
+    (ResumeFault::BadLine { line: 123 }, "BadLine line 123"),
+    (
+        ResumeFault::NotOrdered { line: 4567 },
+        "NotOrdered line 4567",
+    ),
+    (
+        ResumeFault::NotPossible {
+            line: 123,
+            reason: ReportFault::Backwards { last: 45 },
+        },
+        "Backwards line 123",
+    ),
+    (ResumeFault::Memory, "Memory"),
+];
+
 #[test]
 fn faults_have_a_text_and_a_status(rt: HostRuntime) -> Result<(), Fail> {
     for (fault, text, status) in FAULTS {
@@ -52,8 +70,10 @@ fn faults_have_a_text_and_a_status(rt: HostRuntime) -> Result<(), Fail> {
             "{text}"
         );
     }
+    for &(fault, text) in OF_LOGS {
+        assert!(rt; says(rt.alloc(), &fault, text)?, "{text}");
+    }
     assert!(rt; says(rt.alloc(), &WordsFault::Memory, "Memory")?);
     assert!(rt; says(rt.alloc(), &SeekFault::Memory, "Memory")?);
-    assert!(rt; says(rt.alloc(), &ResumeFault::Memory, "Memory")?);
     Ok(())
 }
