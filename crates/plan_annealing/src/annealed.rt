@@ -14,9 +14,9 @@ use std::alloc::{AllocError, Global};
 /// An order for each machine, as they are in the best plan that an annealing from this one meets, none where that one is
 /// the best. In a neighbour of a plan two jobs that meet on a critical path have changed places, and one of the two has
 /// moved on other machines where it had to. Better is a lesser total lateness or, with the same, a lesser makespan. Every
-/// other round (1, 3, ..) is hotter, and all late jobs count in it. It looks at some 20 million nodes at most, and tries no more neighbours than
-/// 50 times the square of the number of operations. Another seed or round searches elsewhere, and the same ones do the
-/// same again. It is proved only that there are as many orders as machines, or none.
+/// fourth round (1, 5, ..) is hotter, and all late jobs count in it. It looks at some 20 million nodes at most, and tries
+/// no more neighbours than 50 times the square of the number of operations. Another seed or round searches elsewhere, and
+/// the same ones do the same again. It is proved only that there are as many orders as machines, or none.
 pub fn annealed_orders(
     alloc: Global,
     shaped: &Shaped,
@@ -37,7 +37,7 @@ pub fn annealed_orders(
     Ok(Some(orders))
 }
 
-/// Whether a round is a hot one.
+/// Whether a round is a hot one: every fourth one is.
 fn is_hot(round: u32) -> bool {
-    round & 1 == 1
+    round & 3 == 1
 }
