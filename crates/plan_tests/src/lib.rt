@@ -17,6 +17,8 @@ mod plan_texts;
 #[cfg(test)]
 mod plans;
 #[cfg(test)]
+mod schedules;
+#[cfg(test)]
 mod scripted;
 #[cfg(test)]
 mod searches;
