@@ -14,9 +14,9 @@ use Rattle.run_log.specs.declared.audit_fault.AuditFault.{AuditFault}
 use Rattle.run_log.specs.declared.audit_fault.AuditFault.TheVariants.{Memory}
 use Rattle.cell_tables.specs.Events.{events_of}
 use Rattle.run_log.specs.Log.{Noted}
-use Rattle.run_log.specs.LogLines.{LinesTell}
+use Rattle.event_lines.specs.LogLines.{LinesTell}
 use Rattle.run_log.specs.Audits.{IsAudit}
-use Rattle.run_log.proofs.OneReading.{one_reading}
+use Rattle.event_lines.proofs.Readings.{one_reading}
 use Rattle.cell_drive.specs.Driving.{cell_after, IsSoFar}
 use Rattle.cell_drive.specs.AnswerText.{seen}
 use Rattle.cell_drive.proofs.DrivenEnds.{driven_text}

@@ -18,13 +18,13 @@ use Rattle.cell_control.specs.Promises.{IsCalled, AreCalled, not_yet, once_more,
 use Rattle.cell_control.proofs.Promises.{calls_make_the_controlled_run}
 use Rattle.cell_control.proofs.Reasons.{reason-cannot}
 use Rattle.byte_streams.specs.Answering.{AnswerAll}
-use Rattle.cell_drive.specs.CellLines.{IsCellReport}
+use Rattle.event_lines.specs.SentLines.{IsCellReport}
 use Rattle.cell_drive.specs.ManyCells.{CellsAnswer, too_long, empty, no_report, no_cell, refused, accepted}
 use Rattle.cell_drive.specs.CellsTextLaw.{AreVerified}
 use Rattle.cell_drive.specs.CellsAlone.{IsNotOn, HaveReports, none_left, on_it, passed_over, EachCellIsAsAlone}
-use Rattle.cell_drive.proofs.CellReports.{one_cell_report}
+use Rattle.event_lines.proofs.Readings.{one_cell_report}
 use Rattle.cell_drive.proofs.Numbering.{no_content}
-use Rattle.cell_drive.proofs.OneCellsText.{Keeps, AllKeep, starts_keep, one_keeps, some_bytes, stay}
+use Rattle.cell_drive.proofs.OneCellsText.{Keeps, AllKeep, starts_keep, one_keeps, stay}
 use Rattle.cell_drive.proofs.PromisesKept.{stays_as_promised}
 
 -- ---- lines that are no report on a cell
@@ -33,7 +33,7 @@ long_not_on : (k : ℕ) → IsNotOn k None
 long_not_on k words report same is = cc
 
 empty_not_on : (k : ℕ) → IsNotOn k (Some [])
-empty_not_on k words report same is = let none : [] ≡ words = cc in some_bytes is.1.word is.0 (none ∙ is.1.split)
+empty_not_on k words report same is = let none : words ≡ [] = cc in let read : IsCellReport [] k report = subst (λ (w : List ℕ). IsCellReport w k report) none is in read.1
 
 none_not_on : (k : ℕ) (line : List ℕ) → ((cell : ℕ) (report : Report) → IsCellReport line cell report → ⊥) → IsNotOn k (Some line)
 none_not_on k line none words report same is = let e : words ≡ line = cc in none k report (subst (λ (w : List ℕ). IsCellReport w k report) e is)

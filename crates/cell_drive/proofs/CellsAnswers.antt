@@ -10,8 +10,8 @@ use Rattle.cell_hub.specs.declared.hub_fault.HubFault.{HubFault}
 use Rattle.cell_hub.specs.declared.hub_fault.HubFault.TheVariants.{NoSuchCell, SerialsSpent, Memory, Cell}
 use Rattle.cell_hub.specs.RefusalNames.{refusal_name}
 use Rattle.byte_streams.specs.Lent.{Taker, WroteOne}
-use Rattle.cell_drive.specs.AnswerLines.{refused_line}
-use Rattle.cell_drive.specs.CellLines.{IsCellReport, IsNoCellReport, cell_prefix}
+use Rattle.event_lines.specs.AnswerLines.{refused_line}
+use Rattle.event_lines.specs.SentLines.{IsCellReport, IsNoCellReport, cell_prefix}
 use Rattle.cell_drive.specs.ManyCells.{CellsAnswer, accepted_lines}
 use Rattle.cell_drive.specs.ManyCells as answer
 use Rattle.cell_drive.specs.NumberedCells.{IsReportedOn}

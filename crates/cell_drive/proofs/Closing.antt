@@ -13,8 +13,8 @@ use Rattle.shop_base.proofs.ReportsLeft.{ended_where_none, none_where_ended}
 use Rattle.cell_control.specs.Control.{Control}
 use Rattle.cell_hub.specs.declared.ticket.Ticket.{Ticket}
 use Rattle.cell_hub.specs.Hub.{HubState}
-use Rattle.cell_drive.specs.AnswerLines.{done_line, unfinished_line}
-use Rattle.cell_drive.specs.CellLines.{cell_prefix}
+use Rattle.event_lines.specs.AnswerLines.{done_line, unfinished_line}
+use Rattle.event_lines.specs.SentLines.{cell_prefix}
 use Rattle.cell_drive.specs.DrivenLines.{IsClosingLine, closing_line}
 use Rattle.cell_drive.specs.ManyCells.{CellsClose, AreAllDone}
 use Rattle.cell_drive.specs.NumberedCells.{with_content, contents_of, AreNumbered, closing_text}

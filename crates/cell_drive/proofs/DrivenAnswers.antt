@@ -18,8 +18,8 @@ use Rattle.cell_control.specs.Reports.{IsFirstReason}
 use Rattle.cell_tables.specs.declared.entry.Entry.TheVariants.{Report as ReportEntry, Order as OrderEntry}
 use Rattle.run_log.specs.Log.{Noted, Notes}
 use Rattle.byte_streams.specs.Lent.{Taker, WroteOne}
-use Rattle.cell_drive.specs.AnswerLines.{late_line, refused_line}
-use Rattle.cell_drive.specs.InputLines.{IsReportLine, IsNoReport}
+use Rattle.event_lines.specs.AnswerLines.{late_line, refused_line}
+use Rattle.event_lines.specs.SentLines.{IsReportLine, IsNoReport}
 use Rattle.cell_drive.specs.DrivenLines.{LineAnswer, IsLateText, too_long, empty, no_report, refused, accepted}
 use Rattle.cell_drive.specs.ManyCells.{accepted_lines}
 use Rattle.cell_drive.specs.Driven.{DriveState, DriveAnswer}

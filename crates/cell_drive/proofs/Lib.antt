@@ -1,17 +1,12 @@
-pub mod ReportLines
 pub mod StreamedFrom
 pub mod DrivenRuns
 pub mod DrivenAnswers
 pub mod PromisesKept
 pub mod DrivenEnds
-pub mod OneReport
 pub mod OneText
-pub mod WrittenNumbers
-pub mod WrittenWords
 pub mod ShopEntries
 pub mod ReadBack
 pub mod AuditKeeps
-pub mod CellReports
 pub mod Numbering
 pub mod CellTexts
 pub mod CellsAnswers

@@ -23,12 +23,12 @@ use Rattle.cell_control.proofs.Reasons.{reason-cannot}
 use Rattle.cell_control.proofs.OneReason.{only_reason}
 use Rattle.byte_streams.specs.Lines.{input_lines}
 use Rattle.byte_streams.specs.Answering.{AnswerAll}
-use Rattle.cell_drive.specs.AnswerLines.{refused_line}
-use Rattle.cell_drive.specs.CellLines.{IsCellReport, IsNoCellReport, cell_prefix}
+use Rattle.event_lines.specs.AnswerLines.{refused_line}
+use Rattle.event_lines.specs.SentLines.{IsCellReport, IsNoCellReport, cell_prefix}
 use Rattle.cell_drive.specs.ManyCells.{CellsAnswer, CellsClose, accepted_lines, too_long, empty, no_report, no_cell, refused, accepted}
 use Rattle.cell_drive.specs.CellsTextLaw.{AreVerified, OneCellsTextForLines, OneCellsAnswerText}
 use Rattle.cell_drive.proofs.Numbering.{no_content}
-use Rattle.cell_drive.proofs.CellReports.{one_cell_report}
+use Rattle.event_lines.proofs.Readings.{one_cell_report}
 use Rattle.cell_drive.proofs.OneText.{one_closing}
 
 -- a cell by a well-shaped plan, as it can be in a run, and at rest
@@ -97,10 +97,6 @@ one_answered before after other r ack again keeps is also =
           (also.punctual ∙ ap (λ l. before.punctual && not l) late ∙ sym is.punctual),
     )
 
-pub some_bytes : (word rest : List ℕ) → [] ≡ word ++ 32 ∷ rest → ⊥
-some_bytes [] rest none = absurd (cc)
-some_bytes (b ∷ word) rest none = absurd (cc)
-
 module _ (cells : List Control) (number : ℕ) where
   record Refuses (content : Control) (report : Report) (text : List ℕ) (end : List Control) : Type 0 where
     reason : ReportFault
@@ -148,7 +144,7 @@ module _ (cells : List Control) (number : ℕ) where
       (IsNoCellReport (b ∷ line) × (text ≡ refused_line number (codes "BadLine")) × (end ≡ cells)) ⊎ IsTold (b ∷ line) text end
 
   told : (line text : List ℕ) (end : List Control) → IsTold line text end → AnswerTo (Some line) text end
-  told [] text end is = absurd (some_bytes is.2.1.word is.2.0 is.2.1.split)
+  told [] text end is = absurd is.2.1
   told (b ∷ line) text end is = inr is
 
   answer_to : (line : Option (List ℕ)) (text : List ℕ) (end : List Control) → CellsAnswer cells number line text end → AnswerTo line text end

@@ -18,15 +18,15 @@ use Rattle.cell_control.proofs.Reasons.{reason-cannot}
 use Rattle.cell_control.proofs.OneReason.{only_reason}
 use Rattle.cell_tables.specs.declared.entry.Entry.{Entry}
 use Rattle.cell_tables.specs.declared.entry.Entry.TheVariants.{Report as ReportEntry, Order as OrderEntry}
-use Rattle.run_log.specs.EventLines.{report_line}
+use Rattle.event_lines.specs.EventLines.{report_line, order_lines}
 use Rattle.byte_streams.specs.Lines.{input_lines}
 use Rattle.byte_streams.specs.Answering.{AnswerAll}
-use Rattle.cell_drive.specs.AnswerLines.{refused_line, order_lines}
-use Rattle.cell_drive.specs.InputLines.{IsReportLine, IsNoReport}
+use Rattle.event_lines.specs.AnswerLines.{refused_line}
+use Rattle.event_lines.specs.SentLines.{IsReportLine, IsNoReport}
 use Rattle.cell_drive.specs.DrivenLines.{LineAnswer, IsLateText, too_long, empty, no_report, refused, accepted}
 use Rattle.cell_drive.specs.AnswerText.{DrivenCell, undriven, CellAnswers, CellCloses}
 use Rattle.cell_drive.specs.OneTextLaw.{OneAnswerText, OneTextForLines}
-use Rattle.cell_drive.proofs.OneReport.{one_report, some_line}
+use Rattle.event_lines.proofs.Readings.{one_report, some_line}
 
 one_late : (p : PlannedShop) (c : Cell) (r : base.Report) (text other : List ℕ) → IsLateText p c r text → IsLateText p c r other → other ≡ text
 one_late p c r text other (inl on_time) (inl also) = also.1 ∙ sym on_time.1

@@ -15,7 +15,7 @@ use Rattle.cell_tables.specs.Moving.{IsSpotOf}
 use Rattle.cell_tables.specs.Reports.{said}
 use Rattle.cell_tables.proofs.MoveParts.{source_or_out}
 use Rattle.cell_tables.specs.declared.entry.Entry.TheVariants.{Report as ReportEntry, Order as OrderEntry}
-use Rattle.run_log.specs.LogLines.{IsEntryOf}
+use Rattle.event_lines.specs.LogLines.{IsEntryOf}
 
 pub report_of_shop : (p : PlannedShop) (c : Cell) (report : Report) → IsWellShaped p → IsSound p c → CanReport p c (said report) → IsEntryOf p (ReportEntry report)
 report_of_shop p c (Arrive job at) shaped sound can = (outside_in_shop p c job sound can.going.1.outside, can.moment.in_range)

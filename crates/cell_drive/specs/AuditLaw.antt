@@ -10,7 +10,7 @@ use Rattle.run_log.specs.declared.audit_result.Audit.{Audit}
 use Rattle.run_log.specs.declared.audit_fault.AuditFault.{AuditFault}
 use Rattle.run_log.specs.declared.audit_fault.AuditFault.TheVariants.{Memory}
 use Rattle.cell_tables.specs.Events.{events_of}
-use Rattle.run_log.specs.LogLines.{LinesTell}
+use Rattle.event_lines.specs.LogLines.{LinesTell}
 use Rattle.run_log.specs.Audits.{IsAudit, TellRun}
 use Rattle.byte_streams.specs.Lent.{Streams}
 use Rattle.cell_drive.specs.AnswerText.{DrivenCell, IsAnswerText}

@@ -8,7 +8,7 @@ use Rattle.cell_tables.specs.declared.report.Report as told
 use Rattle.cell_control.specs.Control.{Control}
 use Rattle.cell_tables.specs.Reports.{said}
 use Rattle.cell_control.specs.Promises.{IsControllerAfter}
-use Rattle.cell_drive.specs.CellLines.{IsCellReport}
+use Rattle.event_lines.specs.SentLines.{IsCellReport}
 use Rattle.cell_drive.specs.CellsTextLaw.{AreVerified, AreCellsAnswersTo}
 use Rattle.cell_drive.specs.Driving.{StaysAsPromised}
 

@@ -14,9 +14,9 @@ use Rattle.cell_tables.specs.Reports.{said}
 use Rattle.cell_control.specs.Reports.{IsFirstReason}
 use Rattle.cell_tables.specs.declared.entry.Entry.{Entry}
 use Rattle.cell_tables.specs.declared.entry.Entry.TheVariants.{Report as ReportEntry, Order as OrderEntry}
-use Rattle.run_log.specs.EventLines.{report_line}
-use Rattle.cell_drive.specs.InputLines.{IsReportLine, IsNoReport}
-use Rattle.cell_drive.specs.AnswerLines.{late_line, refused_line, order_lines, done_line, unfinished_line}
+use Rattle.event_lines.specs.EventLines.{report_line, order_lines}
+use Rattle.event_lines.specs.SentLines.{IsReportLine, IsNoReport}
+use Rattle.event_lines.specs.AnswerLines.{late_line, refused_line, done_line, unfinished_line}
 
 -- nothing where the report is punctual, and else the line that says that it is late
 abbrev pub IsLateText : PlannedShop → Cell → base.Report → List ℕ → Type 0

@@ -1,13 +1,10 @@
 -- Reached by public clauses: to be read and believed.
-pub mod InputLines
-pub mod AnswerLines
 pub mod DrivenLines
 pub mod Driven
 pub mod AnswerText
 pub mod Driving
 pub mod OneTextLaw
 pub mod AuditLaw
-pub mod CellLines
 pub mod ManyCells
 pub mod CellsTextLaw
 pub mod CellsAlone

@@ -10,11 +10,11 @@ use Rattle.cell_control.specs.Control.{Control, at_start, IsAnswered}
 use Rattle.cell_tables.specs.Reports.{said}
 use Rattle.cell_control.specs.Reports.{IsFirstReason}
 use Rattle.cell_control.specs.ReasonNames.{reason_name}
-use Rattle.run_log.specs.EventLines.{report_line, order_line}
-use Rattle.cell_drive.specs.AnswerLines.{late_line, refused_line}
+use Rattle.event_lines.specs.EventLines.{report_line, order_line}
+use Rattle.event_lines.specs.AnswerLines.{late_line, refused_line}
 use Rattle.shop_base.specs.Ends.{HasEnded}
 use Rattle.cell_drive.specs.DrivenLines.{IsClosingLine}
-use Rattle.cell_drive.specs.CellLines.{IsCellReport, IsNoCellReport, cell_prefix}
+use Rattle.event_lines.specs.SentLines.{IsCellReport, IsNoCellReport, cell_prefix}
 
 -- the cells of these plans before the first line
 abbrev pub hub_start : List VerifiedPlan → List Control

@@ -8,7 +8,7 @@ use Rattle.cell_control.specs.Control.{Control, IsControl, IsAnswered}
 use Rattle.cell_tables.specs.Reports.{said}
 use Rattle.cell_control.specs.Reports.{IsFirstReason}
 use Rattle.cell_drive.specs.DrivenLines.{closing_line}
-use Rattle.cell_drive.specs.CellLines.{cell_prefix}
+use Rattle.event_lines.specs.SentLines.{cell_prefix}
 use Rattle.cell_drive.specs.ManyCells.{CellsAnswer}
 use Rattle.cell_hub.specs.declared.ticket.Ticket.{Ticket}
 use Rattle.cell_hub.specs.declared.hub_fault.HubFault.{HubFault}

@@ -3,16 +3,15 @@
 ghost use Rattle.std.specs.Prelude.{◌≡◌, [], ◌++◌, if◌then◌else◌, OnOk};
 ghost use Rattle.std.specs.List.{flat_map};
 ghost use Rattle.cell_tables.specs.Reports.{said};
-ghost use Rattle.run_log.specs.EventLines.{report_line, order_line};
+ghost use Rattle.event_lines.specs.EventLines.{report_line, order_line};
 ghost use Rattle.byte_streams.specs.Lent.{WroteTo};
-ghost use Rattle.cell_drive.specs.AnswerLines.{late_line};
+ghost use Rattle.event_lines.specs.AnswerLines.{late_line};
 ghost use Rattle.cell_drive.specs.DrivenLines.{closing_line};
 ghost use Rattle.cell_drive.specs.ManyCells.{accepted_lines};
 
-use crate::answer_lines::{done_line, late_line, unfinished_line};
 use byte_streams::{Sink, WriteFault, put_all};
 use cell_control::{Controller, Dues, Report};
-use run_log::{LineText, put_order, put_report};
+use event_lines::{LineText, done_line, late_line, put_order, put_report, unfinished_line};
 use shop_base::MoveOrder;
 
 /// Writes the line behind the prefix. An empty one costs nothing.

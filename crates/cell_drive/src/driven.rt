@@ -6,15 +6,14 @@ ghost use Rattle.cell_tables.specs.Reports.{said};
 ghost use Rattle.cell_control.specs.Reports.{IsFirstReason};
 ghost use Rattle.run_log.specs.Log.{Notes};
 ghost use Rattle.byte_streams.specs.Lent.{WroteTo, WroteOneTo};
-ghost use Rattle.cell_drive.specs.AnswerLines.{refused_line};
+ghost use Rattle.event_lines.specs.AnswerLines.{refused_line};
 ghost use Rattle.cell_drive.specs.Driven.{IsDriven, AnswersBy, driven_by};
 
-use crate::answer_lines::refused_line;
 use crate::cell_answers::{put_accepted, put_closing};
-use crate::input_lines::report_of;
 use byte_streams::{LineHandler, Sink, WriteFault, put_all};
 use cell_control::{Ack, Controller, Dues, Report, ReportFault};
 use cell_tables::Entry;
+use event_lines::{refused_line, report_of};
 use run_log::RunLog;
 use shop_base::MoveOrder;
 use std::marker::Model;

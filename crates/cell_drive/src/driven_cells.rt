@@ -3,18 +3,17 @@
 ghost use Rattle.std.specs.Prelude.{◌≡◌, ◌↔◌, IsTrue, OnOk};
 ghost use Rattle.shop_base.specs.Ends.{HasEnded};
 ghost use Rattle.byte_streams.specs.Lent.{WroteTo, WroteOneTo};
-ghost use Rattle.cell_drive.specs.CellLines.{cell_prefix};
+ghost use Rattle.event_lines.specs.SentLines.{cell_prefix};
 ghost use Rattle.cell_drive.specs.ManyCells.{AreAllDone, accepted_lines};
 ghost use Rattle.cell_drive.specs.NumberedCells.{contents_of, AreNumbered, IfCell, closing_of, closing_text, AnswersByHub};
 
 use crate::cell_answers::{put_accepted, put_closing};
-use crate::cell_lines::cell_report_of;
 use crate::driven::put_refused;
 use crate::numbered_cells::{numbered_cell, orders_of, report_on};
 use byte_streams::{LineHandler, Sink, WriteFault};
 use cell_control::{Dues, Report};
 use cell_hub::{Hub, Ticket};
-use run_log::LineText;
+use event_lines::{cell_prefix, cell_report_of};
 use shop_base::MoveOrder;
 use std::marker::Model;
 
@@ -37,16 +36,6 @@ impl<D: Dues> Model for DrivenCells<D> {
     ghost invariant = { λ d. AreNumbered d.hub d.tickets.items };
 }
 
-/// A cell's number and a space.
-fn prefix_of(cell: u64) -> LineText
-    ensures { result ≡ cell_prefix cell }
-{
-    let mut prefix = LineText::empty();
-    prefix.put_text(b" ");
-    prefix.put_number(cell);
-    prefix
-}
-
 fn put_cell_answer<W: Sink>(
     cell: u32,
     report: Report,
@@ -57,7 +46,7 @@ fn put_cell_answer<W: Sink>(
     ensures wrote { WroteTo W.Sink result writer.old writer.new (accepted_lines (cell_prefix cell) report late orders.now) }
     ensures unfailed { OnOk result (W.failed writer.new ≡ W.failed writer.old) }
 {
-    let prefix = prefix_of(u64::from(cell));
+    let prefix = cell_prefix(u64::from(cell));
     put_accepted(prefix.bytes(), report, late, orders, writer)
 }
 
@@ -98,7 +87,7 @@ fn put_numbered_closing<D: Dues, W: Sink>(
     ensures unfailed { OnOk result (W.failed writer.new ≡ W.failed writer.old) }
 {
     match numbered_cell(hub, tickets, cell) {
-        Some(controller) => put_closing(prefix_of(cell as u64).bytes(), controller, writer),
+        Some(controller) => put_closing(cell_prefix(cell as u64).bytes(), controller, writer),
         None => Ok(()),
     }
 }

@@ -6,7 +6,7 @@ use Rattle.shop_base.specs.Run.{IsRun, ends_in}
 use Rattle.shop_base.specs.Ends.{stated_number}
 use Rattle.cell_tables.specs.declared.entry.Entry.{Entry}
 use Rattle.cell_tables.specs.Events.{events_of}
-use Rattle.run_log.specs.LogLines.{LineTells}
+use Rattle.event_lines.specs.LogLines.{LineTells}
 
 -- these entries are a run, and this is the cell at its end
 pub record IsTold (p : PlannedShop) (c : Cell) (told : List Entry) : Type 0 where

@@ -16,7 +16,8 @@ use Rattle.run_log.specs.declared.audit_fault.AuditFault.{AuditFault}
 use Rattle.run_log.specs.declared.audit_fault.AuditFault.TheVariants.{BadLine, NotExpected, Backwards, NotReady, Occupied, OutOfOrder, WrongPlace, NotClean, Memory}
 use Rattle.run_log.specs.declared.audit_result.Audit.{Audit}
 use Rattle.cell_tables.specs.Events.{events_of}
-use Rattle.run_log.specs.LogLines.{is_passed_over, TellsNoEntry, LineTells, LinesTell}
+use Rattle.event_lines.specs.AnswerLines.{is_passed_over}
+use Rattle.event_lines.specs.LogLines.{TellsNoEntry, LineTells, LinesTell}
 
 -- the activity is going on
 abbrev pub IsGoingOn : PlannedShop → Cell → Activity → Type 0

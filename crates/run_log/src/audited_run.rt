@@ -2,15 +2,15 @@
 
 ghost use Rattle.std.specs.Prelude.{◌≡◌, [], length, vec_capacity, IfOk, OnOk, IfErr};
 ghost use Rattle.text_lines.specs.Lines.{lines_of};
-ghost use Rattle.run_log.specs.LogLines.{LinesTell};
+ghost use Rattle.event_lines.specs.LogLines.{LinesTell};
 ghost use Rattle.run_log.specs.Audits.{IsLineFault, IsFirstBad, fault_line, room_for};
 ghost use Rattle.run_log.specs.Auditing.{IsTold, IsLineTaken, HasRoomForNext};
 
 use crate::audit_fault::AuditFault;
 use crate::entry_check::{check_entry, follow_entry};
 use crate::entry_room::most_entries;
-use crate::log_lines::{is_passed_over, told_entry};
 use cell_tables::{Entry, WorkCell};
+use event_lines::{is_passed_over, told_entry};
 use shop_base::Planned;
 use std::alloc::{AllocError, Global};
 use text_lines::{line_count, next_line};

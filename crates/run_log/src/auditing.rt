@@ -4,7 +4,7 @@ ghost use Rattle.std.specs.Prelude.{◌≡◌, ◌≤◌, [], ◌∷◌, length,
 ghost use Rattle.shop_base.specs.Ends.{reports_in};
 ghost use Rattle.text_lines.specs.Lines.{lines_of};
 ghost use Rattle.cell_tables.specs.Events.{event_of, events_of};
-ghost use Rattle.run_log.specs.LogLines.{LinesTell};
+ghost use Rattle.event_lines.specs.LogLines.{LinesTell};
 ghost use Rattle.run_log.specs.Audits.{IsAudit, IsAuditFault, TellRun, room_for};
 ghost use Rattle.run_log.specs.Auditing.{IsTold};
 

@@ -8,7 +8,7 @@ ghost use Rattle.shop_base.specs.Run.{CanHappen, after};
 ghost use Rattle.cell_tables.specs.Moving.{IsSpotOf};
 ghost use Rattle.cell_tables.specs.Reports.{said};
 ghost use Rattle.cell_tables.specs.Events.{event_of};
-ghost use Rattle.run_log.specs.LogLines.{AreEndsOf, IsEntryOf};
+ghost use Rattle.event_lines.specs.LogLines.{AreEndsOf, IsEntryOf};
 ghost use Rattle.run_log.specs.Audits.{IsGoingOn, IsOpen, IsItsWay, IsFaultOf, IsTargetFault, IsWayFault, fault_line};
 
 use crate::audit_fault::AuditFault;

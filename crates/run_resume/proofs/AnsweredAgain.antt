@@ -14,9 +14,9 @@ use Rattle.cell_tables.specs.Reports.{said}
 use Rattle.cell_tables.specs.declared.entry.Entry.{Entry}
 use Rattle.cell_tables.specs.declared.entry.Entry.TheVariants.{Report as ReportEntry, Order as OrderEntry}
 use Rattle.cell_tables.specs.Events.{event_of, events_of}
-use Rattle.run_log.specs.EventLines.{report_line, order_line, entry_lines}
+use Rattle.event_lines.specs.EventLines.{report_line, order_line, entry_lines, order_lines}
 use Rattle.byte_streams.specs.Answering.{AnswerAll}
-use Rattle.cell_drive.specs.AnswerLines.{late_line, order_lines}
+use Rattle.event_lines.specs.AnswerLines.{late_line}
 use Rattle.cell_drive.specs.AnswerText.{DrivenCell, CellAnswers}
 use Rattle.cell_drive.specs.DrivenLines.{LineAnswer, IsLateText}
 use Rattle.cell_drive.specs.DrivenLines as driven

@@ -12,8 +12,8 @@ use Rattle.cell_tables.specs.Reports.{said}
 use Rattle.cell_tables.specs.declared.entry.Entry.{Entry}
 use Rattle.cell_tables.specs.declared.entry.Entry.TheVariants.{Order as OrderEntry}
 use Rattle.cell_tables.specs.Events.{events_of}
-use Rattle.run_log.specs.LogLines.{LinesTell}
-use Rattle.run_log.proofs.OneReading.{tell-parts}
+use Rattle.event_lines.specs.LogLines.{LinesTell}
+use Rattle.event_lines.proofs.Readings.{tell-parts}
 use Rattle.run_log.proofs.Audits.{events-join}
 use Rattle.byte_streams.specs.Answering.{AnswerAll}
 use Rattle.cell_drive.specs.DrivenLines as lines
@@ -21,7 +21,9 @@ use Rattle.cell_drive.specs.DrivenLines.{LineAnswer}
 use Rattle.cell_drive.specs.AnswerText.{DrivenCell, undriven, CellAnswers, CellCloses}
 use Rattle.cell_drive.specs.Driving.{cell_after, IsRunOf}
 use Rattle.cell_drive.proofs.DrivenRuns.{events-orders}
-use Rattle.cell_drive.proofs.ReadBack.{answers_told, TellsFirst, tells_none, tells_both, closing_told}
+use Rattle.event_lines.specs.ReadBack.{TellsFirst}
+use Rattle.event_lines.proofs.Telling.{tells_none, tells_both}
+use Rattle.cell_drive.proofs.ReadBack.{answers_told, closing_told}
 use Rattle.run_resume.specs.CutLogs.{ended_lines}
 use Rattle.run_resume.specs.CutLaw.{ACutLogIsTakenUp, WhatWasDrivenIsTakenUp}
 use Rattle.run_resume.proofs.Parts.{entries_moved}

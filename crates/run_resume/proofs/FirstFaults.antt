@@ -14,8 +14,8 @@ use Rattle.cell_control.proofs.Reasons.{reason-cannot}
 use Rattle.cell_tables.specs.declared.entry.Entry.{Entry}
 use Rattle.cell_tables.specs.declared.entry.Entry.TheVariants.{Report as ReportEntry, Order as OrderEntry}
 use Rattle.cell_tables.specs.Events.{event_of, events_of}
-use Rattle.run_log.specs.LogLines.{LineTells, LinesTell}
-use Rattle.run_log.proofs.OneReading.{one_telling, one_reading, tell-parts}
+use Rattle.event_lines.specs.LogLines.{LineTells, LinesTell}
+use Rattle.event_lines.proofs.Readings.{one_telling, one_reading, tell-parts}
 use Rattle.run_log.proofs.Audits.{events-join, part_of_run}
 use Rattle.cell_drive.specs.Driving.{cell_after, IsRunOf, IsBeforeReport}
 use Rattle.cell_drive.proofs.DrivenRuns.{events-orders}

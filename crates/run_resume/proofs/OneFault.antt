@@ -8,8 +8,8 @@ use Rattle.cell_tables.specs.declared.entry.Entry.{Entry}
 use Rattle.cell_tables.specs.declared.entry.Entry.TheVariants.{Report as ReportEntry, Order as OrderEntry}
 use Rattle.cell_control.specs.declared.report_fault.ReportFault.{ReportFault}
 use Rattle.cell_control.proofs.OneReason.{only_reason}
-use Rattle.run_log.specs.LogLines.{LineTells}
-use Rattle.run_log.proofs.OneReading.{one_telling, one_reading}
+use Rattle.event_lines.specs.LogLines.{LineTells}
+use Rattle.event_lines.proofs.Readings.{one_telling, one_reading}
 use Rattle.cell_drive.specs.Driving.{cell_after, IsRunOf}
 use Rattle.run_resume.specs.declared.resume_fault.ResumeFault.{ResumeFault}
 use Rattle.run_resume.specs.declared.resume_fault.ResumeFault.TheVariants.{BadLine, NotOrdered, NotPossible, Memory}

@@ -17,7 +17,7 @@ use Rattle.cell_tables.specs.Reports.{said}
 use Rattle.cell_control.specs.Reports.{IsFirstReason}
 use Rattle.cell_tables.specs.declared.entry.Entry.{Entry}
 use Rattle.cell_tables.specs.declared.entry.Entry.TheVariants.{Report as ReportEntry, Order as OrderEntry}
-use Rattle.run_log.specs.LogLines.{LinesTell}
+use Rattle.event_lines.specs.LogLines.{LinesTell}
 use Rattle.cell_drive.specs.Driving.{cell_after}
 use Rattle.cell_drive.specs.Driven.{IsDriven}
 use Rattle.cell_drive.proofs.DrivenRuns.{driven-never_full}

@@ -18,11 +18,11 @@ use Rattle.cell_tables.specs.Reports.{said}
 use Rattle.cell_tables.specs.declared.entry.Entry.{Entry}
 use Rattle.cell_tables.specs.declared.entry.Entry.TheVariants.{Report as ReportEntry, Order as OrderEntry}
 use Rattle.cell_tables.specs.Events.{events_of}
-use Rattle.run_log.specs.EventLines.{entry_line, entry_lines}
-use Rattle.cell_drive.specs.AnswerLines.{late_line}
+use Rattle.event_lines.specs.EventLines.{entry_line, entry_lines}
+use Rattle.event_lines.specs.AnswerLines.{late_line}
 use Rattle.run_resume.specs.ToldLines.{told_line, told_lines}
 use Rattle.run_log.specs.Log.{Noted}
-use Rattle.run_log.specs.LogLines.{IsEntryOf, LinesTell}
+use Rattle.event_lines.specs.LogLines.{IsEntryOf, LinesTell}
 use Rattle.run_log.proofs.Audits.{events-join}
 use Rattle.byte_streams.specs.Lent.{Streams}
 use Rattle.byte_streams.specs.Lines.{input_lines}
@@ -34,7 +34,9 @@ use Rattle.cell_drive.specs.AuditLaw.{IsLogOf}
 use Rattle.cell_drive.proofs.AuditKeeps.{appended, found_where}
 use Rattle.cell_drive.proofs.DrivenEnds.{a_driven_cell_answers_so, seen_closes, cell_is, run_of}
 use Rattle.cell_drive.proofs.OneText.{one_text, one_closing}
-use Rattle.cell_drive.proofs.ReadBack.{answers_told, TellsFirst, tells_none, tells_both, tells_report, tells_order, tells_late}
+use Rattle.event_lines.specs.ReadBack.{TellsFirst}
+use Rattle.event_lines.proofs.Telling.{tells_none, tells_both, tells_entry, others_tell_none}
+use Rattle.cell_drive.proofs.ReadBack.{answers_told}
 use Rattle.cell_drive.proofs.ShopEntries.{report_of_shop, order_of_shop}
 use Rattle.run_resume.specs.Replays.{TakenUp, shop_of}
 use Rattle.run_resume.specs.Resuming.{again_text, again_of, driven_so_far, IsResumedText, GoesOn, AResumedTextIsALog, OneResumedText, AnAuditKeepsWhatWasResumed}
@@ -50,15 +52,15 @@ module _ (p : PlannedShop) (shaped : IsWellShaped p) where
   run_tells : (c : Cell) (entries : List Entry) → IsSound p c → AreEvents p c (events_of entries) → TellsFirst p (entry_lines entries) entries
   run_tells c [] sound events = tells_none p
   run_tells c (ReportEntry r ∷ entries) sound events =
-      tells_both p (entry_line (ReportEntry r)) (entry_lines entries) (ReportEntry r ∷ []) entries (tells_report p shaped r (report_of_shop p c r shaped sound events.0))
+      tells_both p (entry_line (ReportEntry r)) (entry_lines entries) (ReportEntry r ∷ []) entries (tells_entry p shaped (ReportEntry r) (report_of_shop p c r shaped sound events.0))
       (run_tells (after p c (Reported (said r))) entries (after_report-sound p c (said r) shaped sound events.0) events.1)
   run_tells c (OrderEntry o ∷ entries) sound events =
       let is_of : IsEntryOf p (OrderEntry o) = subst (λ (q : MoveOrder). IsEntryOf p (OrderEntry q)) (sym events.0.0.is_move) (order_of_shop p c o.job o.at shaped sound events.0.0.can) in
-      tells_both p (entry_line (OrderEntry o)) (entry_lines entries) (OrderEntry o ∷ []) entries (tells_order p shaped o is_of)
+      tells_both p (entry_line (OrderEntry o)) (entry_lines entries) (OrderEntry o ∷ []) entries (tells_entry p shaped (OrderEntry o) is_of)
       (run_tells (after p c (Moved o)) entries (after_move-sound p c o.job o.at shaped sound events.0.0.can events.0.1) events.1)
 
   late_part : (at : ℕ) (was_late : Bool) → TellsFirst p (cond was_late (late_line at) []) []
-  late_part at true = tells_late p at
+  late_part at true = (others_tell_none p).late at
   late_part at false = tells_none p
 
   -- with the lines that tell what was late, and an empty line behind
@@ -69,12 +71,12 @@ module _ (p : PlannedShop) (shaped : IsWellShaped p) where
   parted_tells c (ReportEntry r ∷ told) (was_late ∷ late) rest same sound events =
       subst (λ (t : List ℕ). TellsFirst p t (ReportEntry r ∷ (told ++ rest))) (sym (append_assoc (told_line (ReportEntry r) was_late) (told_lines told late) (10 ∷ entry_lines rest)))
       (tells_both p (told_line (ReportEntry r) was_late) (told_lines told late ++ (10 ∷ entry_lines rest)) (ReportEntry r ∷ []) (told ++ rest)
-      (tells_both p (entry_line (ReportEntry r)) (cond was_late (late_line (said r).at) []) (ReportEntry r ∷ []) [] (tells_report p shaped r (report_of_shop p c r shaped sound events.0)) (late_part (said r).at was_late))
+      (tells_both p (entry_line (ReportEntry r)) (cond was_late (late_line (said r).at) []) (ReportEntry r ∷ []) [] (tells_entry p shaped (ReportEntry r) (report_of_shop p c r shaped sound events.0)) (late_part (said r).at was_late))
       (parted_tells (after p c (Reported (said r))) told late rest (omega (arith, same)) (after_report-sound p c (said r) shaped sound events.0) events.1))
   parted_tells c (OrderEntry o ∷ told) (was_late ∷ late) rest same sound events =
       let is_of : IsEntryOf p (OrderEntry o) = subst (λ (q : MoveOrder). IsEntryOf p (OrderEntry q)) (sym events.0.0.is_move) (order_of_shop p c o.job o.at shaped sound events.0.0.can) in
       subst (λ (t : List ℕ). TellsFirst p t (OrderEntry o ∷ (told ++ rest))) (sym (append_assoc (entry_line (OrderEntry o)) (told_lines told late) (10 ∷ entry_lines rest)))
-      (tells_both p (entry_line (OrderEntry o)) (told_lines told late ++ (10 ∷ entry_lines rest)) (OrderEntry o ∷ []) (told ++ rest) (tells_order p shaped o is_of)
+      (tells_both p (entry_line (OrderEntry o)) (told_lines told late ++ (10 ∷ entry_lines rest)) (OrderEntry o ∷ []) (told ++ rest) (tells_entry p shaped (OrderEntry o) is_of)
       (parted_tells (after p c (Moved o)) told late rest (omega (arith, same)) (after_move-sound p c o.job o.at shaped sound events.0.0.can events.0.1) events.1))
 
 -- one controlled run behind another

@@ -1,37 +1,7 @@
 -- The lines of events that are told once more, one after another.
-use Rattle.std.proofs.Common.{◌≡◌, ℕ, zero, suc, ◌+◌, ◌<◌, Bool, List, [], ◌∷◌, ◌++◌, codes, decimal, length, take, drop, drop-cons, add-one, get_or, refl, sym, ap, ◌∙◌, arith, append_assoc}
-use Rattle.shop_base.specs.declared.move_order.MoveOrder.{MoveOrder}
-use Rattle.cell_tables.specs.declared.report.Report.{Report}
-use Rattle.cell_tables.specs.declared.report.Report.TheVariants.{Arrive, Finish, Clean}
+use Rattle.std.proofs.Common.{◌≡◌, ℕ, zero, suc, ◌+◌, ◌<◌, Bool, List, [], ◌∷◌, ◌++◌, length, take, drop, drop-cons, add-one, get_or, refl, sym, ap, ◌∙◌, arith, append_assoc}
 use Rattle.cell_tables.specs.declared.entry.Entry.{Entry}
-use Rattle.run_log.specs.EventLines.{spot_word, report_words, order_words, report_line, order_line}
-use Rattle.cell_drive.specs.AnswerLines.{late_line}
 use Rattle.run_resume.specs.ToldLines.{told_line, told_lines}
-
--- ---- a line before a text
-
-last_word : (word text : List ℕ) → (word ++ 10 ∷ []) ++ text ≡ word ++ 10 ∷ text
-last_word word text = append_assoc word (10 ∷ []) text
-
-next_word : (word rest there text : List ℕ) → rest ++ text ≡ there → (word ++ 32 ∷ rest) ++ text ≡ word ++ 32 ∷ there
-next_word word rest there text same = append_assoc word (32 ∷ rest) text ∙ ap (λ l. word ++ 32 ∷ l) same
-
-pub late_before : (at : ℕ) (text : List ℕ) → codes "late " ++ (decimal at ++ 10 ∷ text) ≡ late_line at ++ text
-late_before at text = sym (ap (λ l. codes "late " ++ l) (last_word (decimal at) text))
-
-pub report_before : (r : Report) (text : List ℕ) → report_words r (10 ∷ text) ≡ report_line r ++ text
-report_before (Arrive job at) text =
-    sym (ap (λ l. codes "report " ++ l) (next_word (decimal at) _ _ text (ap (λ l. codes "arrive " ++ l) (last_word (decimal job) text))))
-report_before (Finish job machine at) text =
-    sym (ap (λ l. codes "report " ++ l) (next_word (decimal at) _ _ text (ap (λ l. codes "finish " ++ l) (next_word (decimal job) _ _ text (last_word (decimal machine) text)))))
-report_before (Clean machine at) text =
-    sym (ap (λ l. codes "report " ++ l) (next_word (decimal at) _ _ text (ap (λ l. codes "clean " ++ l) (last_word (decimal machine) text))))
-
-pub order_before : (o : MoveOrder) (text : List ℕ) → order_words o (10 ∷ text) ≡ order_line o ++ text
-order_before o text =
-    sym (ap (λ l. codes "order " ++ l) (next_word (decimal o.at) _ _ text (next_word (decimal o.job) _ _ text (next_word (spot_word o.source) _ _ text (last_word (spot_word o.target) text)))))
-
--- ---- the lines one after another
 
 none_late : (es : List Entry) → told_lines es [] ≡ []
 none_late [] = refl

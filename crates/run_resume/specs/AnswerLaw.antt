@@ -4,8 +4,8 @@ use Rattle.shop_base.specs.Plan.{PlannedShop}
 use Rattle.shop_base.specs.Cell.{start}
 use Rattle.cell_tables.specs.declared.entry.Entry.{Entry}
 use Rattle.cell_tables.specs.declared.entry.Entry.TheVariants.{Report as ReportEntry, Order as OrderEntry}
-use Rattle.run_log.specs.EventLines.{entry_lines}
-use Rattle.cell_drive.specs.InputLines.{IsReportLine}
+use Rattle.event_lines.specs.EventLines.{entry_lines}
+use Rattle.event_lines.specs.SentLines.{IsReportLine}
 use Rattle.cell_drive.specs.AnswerText.{AreAnswersTo}
 use Rattle.run_resume.specs.CutLogs.{IsTakenUp}
 use Rattle.run_resume.specs.LateEvents.{AreLate}

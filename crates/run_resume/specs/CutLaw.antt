@@ -5,7 +5,7 @@ use Rattle.shop_base.specs.Plan.{PlannedShop, IsWellShaped}
 use Rattle.text_lines.specs.Lines.{lines_of}
 use Rattle.cell_tables.specs.declared.entry.Entry.{Entry}
 use Rattle.cell_tables.specs.declared.entry.Entry.TheVariants.{Order as OrderEntry}
-use Rattle.run_log.specs.LogLines.{LinesTell}
+use Rattle.event_lines.specs.LogLines.{LinesTell}
 use Rattle.byte_streams.specs.Answering.{AnswerAll}
 use Rattle.cell_drive.specs.AnswerText.{DrivenCell, CellAnswers, CellCloses, AreAnswersTo}
 use Rattle.cell_drive.specs.Driving.{IsRunOf}

@@ -11,7 +11,7 @@ use Rattle.cell_tables.specs.declared.entry.Entry.{Entry}
 use Rattle.cell_tables.specs.declared.entry.Entry.TheVariants.{Report as ReportEntry, Order as OrderEntry}
 use Rattle.cell_tables.specs.Events.{events_of}
 use Rattle.cell_control.specs.Reports.{IsFirstReason}
-use Rattle.run_log.specs.LogLines.{LineTells, LinesTell}
+use Rattle.event_lines.specs.LogLines.{LineTells, LinesTell}
 use Rattle.run_log.specs.Audits.{IsBadLine}
 use Rattle.cell_drive.specs.Driving.{cell_after}
 use Rattle.run_resume.specs.declared.resume_fault.ResumeFault.{ResumeFault}

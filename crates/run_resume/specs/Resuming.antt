@@ -8,7 +8,7 @@ use Rattle.run_log.specs.declared.audit_result.Audit.{Audit}
 use Rattle.run_log.specs.declared.audit_fault.AuditFault.{AuditFault}
 use Rattle.run_log.specs.declared.audit_fault.AuditFault.TheVariants.{Memory}
 use Rattle.run_log.specs.Audits.{IsAudit, TellRun}
-use Rattle.run_log.specs.EventLines.{entry_lines}
+use Rattle.event_lines.specs.EventLines.{entry_lines}
 use Rattle.byte_streams.specs.Sinks.{TookPart}
 use Rattle.byte_streams.specs.declared.drive_fault.DriveFault.{DriveFault}
 use Rattle.byte_streams.specs.declared.drive_fault.DriveFault.TheVariants.{Write}

@@ -3,8 +3,8 @@ use Rattle.std.specs.Prelude.{ℕ, List, [], ◌∷◌, ◌++◌, Bool, if◌the
 use Rattle.cell_tables.specs.Reports.{said}
 use Rattle.cell_tables.specs.declared.entry.Entry.{Entry}
 use Rattle.cell_tables.specs.declared.entry.Entry.TheVariants.{Report as ReportEntry, Order as OrderEntry}
-use Rattle.run_log.specs.EventLines.{report_line, order_line}
-use Rattle.cell_drive.specs.AnswerLines.{late_line}
+use Rattle.event_lines.specs.EventLines.{report_line, order_line}
+use Rattle.event_lines.specs.AnswerLines.{late_line}
 
 -- the line of an event, and behind that of a late report the line that it is late
 abbrev pub told_line : Entry → Bool → List ℕ

@@ -3,7 +3,7 @@
 ghost use Rattle.std.specs.Prelude.{◌≡◌, ◌*◌, ◌≤◌, [], ◌∷◌, ◌++◌, vec_capacity, IfOk, IfErr, OnOk};
 ghost use Rattle.shop_base.specs.Ends.{stated_number};
 ghost use Rattle.run_log.specs.Auditing.{IsLineTaken};
-ghost use Rattle.run_log.specs.LogLines.{LinesTell};
+ghost use Rattle.event_lines.specs.LogLines.{LinesTell};
 ghost use Rattle.run_resume.specs.CutLogs.{ended_lines, fault_line, IsFirstBad};
 ghost use Rattle.run_resume.specs.Replays.{IsReplayed, IsEntryFault, IsLineFault, taken_so_far, told_so_far};
 
@@ -12,8 +12,9 @@ use crate::same_order::is_same_order;
 use cell_control::{Controller, Dues, Report, TourneyDues};
 use cell_drive::{Driven, start_driven, take_report};
 use cell_tables::Entry;
+use event_lines::{is_passed_over, told_entry};
 use plan_verifier::Verified;
-use run_log::{RunLog, is_passed_over, told_entry};
+use run_log::RunLog;
 use shop_base::MoveOrder;
 use std::alloc::{AllocError, Global};
 use text_lines::{cut_line, without_return};

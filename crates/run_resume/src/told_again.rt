@@ -1,15 +1,13 @@
 //! The lines of the events that were told, written once more.
 
 ghost use Rattle.std.specs.Prelude.{◌≡◌, ◌+◌, ◌≤◌, ◌++◌, length, OnOk};
-ghost use Rattle.run_log.specs.EventLines.{report_line, order_line};
 ghost use Rattle.byte_streams.specs.Lent.{WroteTo};
-ghost use Rattle.cell_drive.specs.AnswerLines.{late_line};
 ghost use Rattle.run_resume.specs.declared.told_again.TheConstants.{MOST, EVENT_ROOM, LINES_ROOM};
 ghost use Rattle.run_resume.specs.ToldLines.{told_line, told_lines};
 
-use cell_tables::{Entry, Report};
-use run_log::{Sink, WriteFault, put_all, put_order_words, put_report_words};
-use shop_base::{Moment, MoveOrder};
+use byte_streams::{Sink, WriteFault, put_all};
+use cell_tables::Entry;
+use event_lines::{put_entry_line, put_late_line};
 use text_lines::LineText;
 
 /// How many events are written in one call.
@@ -24,39 +22,6 @@ const LINES_ROOM: usize = 1920;
 /// The lines of so many events.
 type Lines = LineText<LINES_ROOM>;
 
-/// Writes `late T` before what there is.
-fn put_late(lines: &mut Lines, at: Moment)
-    requires { 32 + length lines.old ≤ LINES_ROOM }
-    ensures written { lines.new ≡ late_line at ++ lines.old }
-    ensures length { length lines.new ≤ 32 + length lines.old }
-{
-    lines.put_text(b"\n");
-    lines.put_number(at);
-    lines.put_text(b"late ");
-}
-
-/// Writes the line of the report before what there is.
-#[inline(always)]
-fn put_report_line(lines: &mut Lines, report: Report)
-    requires { 64 + length lines.old ≤ LINES_ROOM }
-    ensures written { lines.new ≡ report_line report ++ lines.old }
-    ensures length { length lines.new ≤ 64 + length lines.old }
-{
-    lines.put_text(b"\n");
-    put_report_words(lines, report);
-}
-
-/// Writes the line of the order before what there is.
-#[inline(always)]
-fn put_order_line(lines: &mut Lines, order: MoveOrder)
-    requires { 64 + length lines.old ≤ LINES_ROOM }
-    ensures written { lines.new ≡ order_line order ++ lines.old }
-    ensures length { length lines.new ≤ 64 + length lines.old }
-{
-    lines.put_text(b"\n");
-    put_order_words(lines, order);
-}
-
 /// Writes the line of the event, and behind that of a late report the line that it is late, before what there is.
 #[inline(always)]
 fn put_told_line(lines: &mut Lines, entry: Entry, late: bool)
@@ -67,11 +32,11 @@ fn put_told_line(lines: &mut Lines, entry: Entry, late: bool)
     match entry {
         Entry::Report(report) => {
             if late {
-                put_late(lines, report.at());
+                put_late_line(lines, report.at());
             }
-            put_report_line(lines, report);
+            put_entry_line(lines, entry);
         }
-        Entry::Order(order) => put_order_line(lines, order),
+        Entry::Order(_) => put_entry_line(lines, entry),
     }
 }
 

@@ -1,6 +1,6 @@
 use Rattle.std.proofs.Common.{◌++◌, ap, sym, subst, ◌∙◌, List, ℕ}
 use Rattle.byte_streams.specs.Lent.{WroteTo}
-use Rattle.cell_drive.specs.AnswerLines.{unfinished_line}
+use Rattle.event_lines.specs.AnswerLines.{unfinished_line}
 use Rattle.cell_drive.proofs.Closing.{closing_unfinished}
 use Rattle.cell_drive.proofs.cell_answers.put_closing.Goals as goal
 

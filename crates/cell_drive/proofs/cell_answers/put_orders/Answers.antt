@@ -2,7 +2,7 @@ use Rattle.std.proofs.Common.{◌+◌, ◌++◌, drop, ap, ◌∙◌, arith}
 use Rattle.std.specs.List.{flat_map}
 use Rattle.std.proofs.lemmas.Result.{err_from_is_err_and}
 use Rattle.shop_base.specs.declared.move_order.MoveOrder.{MoveOrder}
-use Rattle.run_log.specs.EventLines.{order_line}
+use Rattle.event_lines.specs.EventLines.{order_line}
 use Rattle.byte_streams.proofs.Written.{AllBut-more, TookPart-rest}
 use Rattle.cell_drive.proofs.CellTexts.{next_line}
 use Rattle.cell_drive.proofs.cell_answers.put_orders.Goals as goal

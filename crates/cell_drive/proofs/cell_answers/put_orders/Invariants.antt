@@ -1,7 +1,7 @@
 use Rattle.std.proofs.Common.{◌≡◌, ◌++◌, drop}
 use Rattle.std.specs.List.{flat_map}
 use Rattle.byte_streams.specs.Sinks.{AllBut}
-use Rattle.run_log.specs.EventLines.{order_line}
+use Rattle.event_lines.specs.EventLines.{order_line}
 use Rattle.cell_drive.proofs.cell_answers.put_orders.Given as goal
 
 abbrev pub invariant-loop-order : goal.invariant-loop-order

@@ -1,5 +1,5 @@
 use Rattle.std.proofs.Common.{refl, ap, ◌∙◌}
-use Rattle.cell_drive.specs.AnswerLines.{refused_line}
+use Rattle.event_lines.specs.AnswerLines.{refused_line}
 use Rattle.byte_streams.specs.Lent.{taker_of}
 use Rattle.cell_drive.proofs.DrivenAnswers.{was_answered, answer_bad, answer_refused, answer_accepted}
 use Rattle.cell_drive.proofs.driven.answer_told.Goals as goal

@@ -1,6 +1,6 @@
 use Rattle.std.proofs.Common.{refl, ap, ◌∙◌}
 use Rattle.std.proofs.KnownBytes.{Appends-nil}
-use Rattle.cell_drive.specs.AnswerLines.{refused_line}
+use Rattle.event_lines.specs.AnswerLines.{refused_line}
 use Rattle.byte_streams.specs.Lent.{taker_of}
 use Rattle.cell_drive.proofs.DrivenAnswers.{no_bytes, some_bytes}
 use Rattle.cell_drive.proofs.CellsAnswers.{cells_answered, answer_empty, answer_bad, answer_refused, answer_accepted}

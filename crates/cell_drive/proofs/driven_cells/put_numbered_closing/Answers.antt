@@ -1,7 +1,7 @@
 use Rattle.std.proofs.Common.{◌≡◌, ◌++◌, List, ℕ, subst, ◌∙◌}
 use Rattle.cell_control.specs.Control.{Control}
 use Rattle.byte_streams.specs.Sinks.{Wrote}
-use Rattle.cell_drive.specs.CellLines.{cell_prefix}
+use Rattle.event_lines.specs.SentLines.{cell_prefix}
 use Rattle.cell_drive.specs.DrivenLines.{closing_line}
 use Rattle.cell_drive.proofs.driven_cells.put_numbered_closing.Goals as goal
 
@@ -11,4 +11,4 @@ returns-in-Some-clause-wrote g c content found =
     let same : c.in-Some.controller.now ≡ content = cc in
     subst (λ (x : Control). Wrote c.put_closing.result (g.W.Sink.failed c.put_closing.new.writer) (g.W.Sink.taken c.args.writer.now) (g.W.Sink.taken c.put_closing.new.writer) (cell_prefix c.args.cell ++ closing_line x.plan.planned x.cell)) same
     (subst (λ (prefix : List ℕ). Wrote c.put_closing.result (g.W.Sink.failed c.put_closing.new.writer) (g.W.Sink.taken c.args.writer.now) (g.W.Sink.taken c.put_closing.new.writer) (prefix ++ closing_line c.in-Some.controller.now.plan.planned c.in-Some.controller.now.cell))
-    (c.bytes.ensures ∙ c.prefix_of.ensures) c.put_closing.ensures.wrote)
+    (c.bytes.ensures ∙ c.cell_prefix.ensures) c.put_closing.ensures.wrote)

@@ -2,7 +2,7 @@ use Rattle.std.proofs.Common.{◌≡◌, ℕ, ◌-◌, List, [], ◌∷◌, leng
 use Rattle.std.proofs.Math.Seq.{take-length}
 use Rattle.std.proofs.lemmas.Result.{err_from_is_err_and}
 use Rattle.cell_tables.specs.declared.entry.Entry.{Entry}
-use Rattle.run_log.specs.EventLines.{entry_lines}
+use Rattle.event_lines.specs.EventLines.{entry_lines}
 use Rattle.byte_streams.specs.Lent.{WroteTo}
 use Rattle.cell_drive.proofs.CellTexts.{wrote_next, took_first, took_second}
 use Rattle.run_resume.proofs.resuming.put_again.Goals as goal

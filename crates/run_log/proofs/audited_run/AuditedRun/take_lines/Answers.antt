@@ -3,9 +3,9 @@ use Rattle.shop_base.specs.Plan.{PlannedShop}
 use Rattle.text_lines.specs.Lines.{lines_of}
 use Rattle.text_lines.proofs.NextLines.{lines_of-le}
 use Rattle.cell_tables.specs.declared.entry.Entry.{Entry}
-use Rattle.run_log.specs.LogLines.{LinesTell}
+use Rattle.event_lines.specs.LogLines.{LinesTell}
 use Rattle.run_log.specs.Auditing.{IsTold, IsLineTaken}
-use Rattle.run_log.proofs.OneReading.{tell-more}
+use Rattle.event_lines.proofs.Readings.{tell-more}
 use Rattle.run_log.proofs.Audits.{few_told}
 use Rattle.run_log.proofs.audited_run.AuditedRun.take_lines.Goals as goal
 

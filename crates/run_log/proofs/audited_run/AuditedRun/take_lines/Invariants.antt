@@ -1,6 +1,6 @@
 use Rattle.std.proofs.Common.{◌≡◌, ℕ, ◌≤◌, ◌++◌, List, length, vec_capacity}
 use Rattle.text_lines.specs.Lines.{lines_of}
-use Rattle.run_log.specs.LogLines.{LinesTell}
+use Rattle.event_lines.specs.LogLines.{LinesTell}
 use Rattle.run_log.specs.Auditing.{IsTold}
 use Rattle.run_log.proofs.audited_run.AuditedRun.take_lines.Given as goal
 

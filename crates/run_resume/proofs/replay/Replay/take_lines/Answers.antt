@@ -3,8 +3,8 @@ use Rattle.plan_verifier.specs.Accepted.{VerifiedPlan}
 use Rattle.shop_base.specs.Ends.{stated_number}
 use Rattle.cell_tables.specs.declared.entry.Entry.{Entry}
 use Rattle.run_log.specs.Auditing.{IsLineTaken}
-use Rattle.run_log.specs.LogLines.{LinesTell}
-use Rattle.run_log.proofs.OneReading.{tell-more}
+use Rattle.event_lines.specs.LogLines.{LinesTell}
+use Rattle.event_lines.proofs.Readings.{tell-more}
 use Rattle.run_resume.specs.CutLogs.{ended_lines, IsFirstBad}
 use Rattle.run_resume.specs.Replays.{told_part}
 use Rattle.run_resume.proofs.EndedLines.{ended-first, ended-none, ended-few}

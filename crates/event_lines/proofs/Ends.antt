@@ -1,0 +1,72 @@
+-- Which words tell what has ended, and which tell no event.
+use Rattle.std.proofs.Common.{◌≡◌, ◌≢◌, ℕ, false, true, nat_eq, List, [], ◌∷◌, ◌++◌, codes, eqb, refl, ap, subst}
+use Rattle.std.specs.List.{starts_with}
+use Rattle.std.proofs.lemmas.Bool.{eq-eqb}
+use Rattle.shop_base.specs.declared.move_order.Spot.{Spot}
+use Rattle.shop_base.specs.declared.move_order.Spot.TheVariants.{Out, At}
+use Rattle.shop_base.specs.declared.move_order.MoveOrder.{MoveOrder}
+use Rattle.cell_tables.specs.declared.report.Report.{Report}
+use Rattle.cell_tables.specs.declared.report.Report.TheVariants.{Arrive, Finish, Clean}
+use Rattle.cell_tables.specs.Reports.{said}
+use Rattle.cell_tables.specs.declared.entry.Entry.{Entry}
+use Rattle.cell_tables.specs.declared.entry.Entry.TheVariants.{Report as ReportEntry, Order as OrderEntry}
+use Rattle.event_lines.specs.Words.{Word, Text, Number, short, moment, IsReadAs}
+use Rattle.event_lines.specs.EventLines.{end_name, end_words, spot_word, move_numbers, move_words, IsEntryLine}
+use Rattle.event_lines.specs.SentLines.{IsNoReport}
+use Rattle.event_lines.specs.AnswerLines.{is_passed_over}
+use Rattle.event_lines.specs.FirstWords.{IsNeverFirst, IsOnly}
+use Rattle.event_lines.proofs.WordByWord.{only_of, text_before}
+
+-- texts with other first bytes are others
+pub unlike : (a b : ℕ) (text other : List ℕ) → eqb a b ≡ false → a ∷ text ≡ b ∷ other → ⊥
+unlike a b text other unequal same = let heads : a ≡ b = cc in let equal = eq-eqb a b heads in cc
+
+-- ---- what has ended
+
+module _ (line : List ℕ) (a : (rest : List ℕ) → line ≢ codes "arrive " ++ rest) (f : (rest : List ℕ) → line ≢ codes "finish " ++ rest) (c : (rest : List ℕ) → line ≢ codes "clean " ++ rest) where
+  pub no_end : (report : Report) → IsReadAs line (end_words report) → ⊥
+  no_end (Arrive job at) found = let first = text_before line (codes "arrive") (short job) [] found in a first.0 first.1
+  no_end (Finish job machine at) found = let first = text_before line (codes "finish") (short job) (short machine ∷ []) found in f first.0 first.1
+  no_end (Clean machine at) found = let first = text_before line (codes "clean") (short machine) [] found in c first.0 first.1
+
+  pub no_sent : IsNoReport line
+  no_sent (Arrive job at) found = let first = text_before line (codes "arrive") (short job) (moment at ∷ []) found in a first.0 first.1
+  no_sent (Finish job machine at) found = let first = text_before line (codes "finish") (short job) (short machine ∷ moment at ∷ []) found in f first.0 first.1
+  no_sent (Clean machine at) found = let first = text_before line (codes "clean") (short machine) (moment at ∷ []) found in c first.0 first.1
+
+-- ---- orders
+
+pub no_spot : (line : List ℕ) → IsNeverFirst (λ n. Number 9 n) line → ((rest : List ℕ) → line ≢ codes "out " ++ rest) → IsNeverFirst spot_word line
+no_spot line none o Out next words found = let first = text_before line (codes "out") next words found in o first.0 first.1
+no_spot line none o (At machine) next words found = none machine next words found
+
+pub no_spot_alone : (line : List ℕ) → (line ≡ codes "out" → ⊥) → ((n : ℕ) → IsOnly short line n → ⊥) → (spot : Spot) → IsOnly spot_word line spot → ⊥
+no_spot_alone line out none Out found = out (only_of line (Text (codes "out")) found)
+no_spot_alone line out none (At machine) found = none machine found
+
+-- ---- events
+
+pub only_report : (line rest : List ℕ) → line ≡ codes "report " ++ rest → ((report : Report) → IsReadAs rest (moment (said report).at ∷ end_words report) → ⊥) → (entry : Entry) → IsEntryLine line entry → ⊥
+only_report line rest is none (ReportEntry report) found = let read = subst (λ (l : List ℕ). IsEntryLine l (ReportEntry report)) is found in none report read.1
+only_report line rest is none (OrderEntry order) found = let read = subst (λ (l : List ℕ). IsEntryLine l (OrderEntry order)) is found in unlike 114 111 _ _ refl read.0
+
+pub only_order : (line rest : List ℕ) → line ≡ codes "order " ++ rest → ((order : MoveOrder) → IsReadAs rest (move_words order) → ⊥) → (entry : Entry) → IsEntryLine line entry → ⊥
+only_order line rest is none (ReportEntry report) found = let read = subst (λ (l : List ℕ). IsEntryLine l (ReportEntry report)) is found in unlike 111 114 _ _ refl read.0
+only_order line rest is none (OrderEntry order) found = let read = subst (λ (l : List ℕ). IsEntryLine l (OrderEntry order)) is found in none order read.1
+
+-- a line with neither word first tells nothing
+no_line : (line : List ℕ) → ((rest : List ℕ) → line ≢ codes "report " ++ rest) → ((rest : List ℕ) → line ≢ codes "order " ++ rest) → (entry : Entry) → IsEntryLine line entry → ⊥
+no_line line r o (ReportEntry report) found = let first = text_before line (codes "report") (moment (said report).at) (end_words report) found in r first.0 first.1
+no_line line r o (OrderEntry order) found = let first = text_before line (codes "order") (moment order.at) (move_numbers order) found in o first.0 first.1
+
+-- with the first byte of `order` it is no report, and with another no order
+pub no_line-order : (line : List ℕ) → starts_with nat_eq line (codes "o") ≡ true → ((rest : List ℕ) → line ≢ codes "order " ++ rest) → (entry : Entry) → IsEntryLine line entry → ⊥
+no_line-order line first none = no_line line (λ rest is. let other : starts_with nat_eq line (codes "o") ≡ false = ap (λ l. starts_with nat_eq l (codes "o")) is in cc) none
+
+pub no_line-report : (line : List ℕ) → starts_with nat_eq line (codes "o") ≡ false → ((rest : List ℕ) → line ≢ codes "report " ++ rest) → (entry : Entry) → IsEntryLine line entry → ⊥
+no_line-report line first none = no_line line none (λ rest is. let other : starts_with nat_eq line (codes "o") ≡ true = ap (λ l. starts_with nat_eq l (codes "o")) is in cc)
+
+-- a line that tells an entry isn't passed over
+pub told-not_passed : (line : List ℕ) (entry : Entry) → IsEntryLine line entry → is_passed_over line ≡ false
+told-not_passed line (ReportEntry report) found = let first = text_before line (codes "report") (moment (said report).at) (end_words report) found in ap is_passed_over first.1
+told-not_passed line (OrderEntry order) found = let first = text_before line (codes "order") (moment order.at) (move_numbers order) found in ap is_passed_over first.1

@@ -1,0 +1,142 @@
+-- A line has one reading.
+use Rattle.std.proofs.Common.{◌≡◌, ℕ, List, [], ◌∷◌, ◌++◌, codes, refl, sym, ap, ap₂, ◌∙◌, subst, append_assoc, append-nil}
+use Rattle.shop_base.specs.declared.move_order.Spot.{Spot}
+use Rattle.shop_base.specs.declared.move_order.Spot.TheVariants.{Out, At}
+use Rattle.shop_base.specs.declared.move_order.MoveOrder.{MoveOrder}
+use Rattle.shop_base.specs.Plan.{PlannedShop}
+use Rattle.text_lines.specs.Numbers.{IsNumeral}
+use Rattle.cell_tables.specs.declared.report.Report.{Report}
+use Rattle.cell_tables.specs.declared.report.Report.TheVariants.{Arrive, Finish, Clean}
+use Rattle.cell_tables.specs.declared.entry.Entry.{Entry}
+use Rattle.cell_tables.specs.declared.entry.Entry.TheVariants.{Report as ReportEntry, Order as OrderEntry}
+use Rattle.event_lines.specs.Words.{Word, Text, Number, short, spaced_words, IsRead, AreRead, IsReadAs}
+use Rattle.event_lines.specs.EventLines.{spot_word, told_words, order_words}
+use Rattle.event_lines.specs.SentLines.{sent_words, IsReportLine}
+use Rattle.event_lines.specs.LogLines.{LineTells, LinesTell}
+use Rattle.event_lines.specs.ReadBack.{OneEntry, OneReport, OneCellReport}
+use Rattle.event_lines.proofs.Ends.{unlike}
+
+-- two words that the same bytes are read as
+abbrev AreBoth : Word → Word → Type 0
+AreBoth (Text a) (Text b) = b ≡ a
+AreBoth (Text a) (Number most n) = IsNumeral most a n
+AreBoth (Number most n) (Text b) = IsNumeral most b n
+AreBoth (Number most n) (Number other m) = m ≡ n
+
+abbrev AllBoth : List Word → List Word → Type 0
+AllBoth [] [] = Unit {0}
+AllBoth [] (w ∷ ws) = ⊥
+AllBoth (v ∷ vs) [] = ⊥
+AllBoth (v ∷ vs) (w ∷ ws) = AreBoth v w × AllBoth vs ws
+
+both : (bytes : List ℕ) (v w : Word) → IsRead bytes v → IsRead bytes w → AreBoth v w
+both bytes (Text a) (Text b) is also = sym also ∙ is
+both bytes (Text a) (Number most n) is also = subst (λ (l : List ℕ). IsNumeral most l n) is also
+both bytes (Number most n) (Text b) is also = subst (λ (l : List ℕ). IsNumeral most l n) also is
+both bytes (Number most n) (Number other m) is also = also.value ∙ sym is.value
+
+all_both : (line : List (List ℕ)) (vs ws : List Word) → AreRead line vs → AreRead line ws → AllBoth vs ws
+all_both [] [] [] is also = tt
+all_both [] [] (w ∷ ws) is also = absurd also
+all_both [] (v ∷ vs) ws is also = absurd is
+all_both (bytes ∷ line) [] ws is also = absurd is
+all_both (bytes ∷ line) (v ∷ vs) [] is also = absurd also
+all_both (bytes ∷ line) (v ∷ vs) (w ∷ ws) is also = (both bytes v w is.0 also.0, all_both line vs ws is.1 also.1)
+
+-- ---- reports
+
+same_told : (one other : Report) → AllBoth (told_words one) (told_words other) → other ≡ one
+same_told (Arrive job at) (Arrive job' at') (_, (t, (_, (j, _)))) = ap₂ (λ x y. Arrive x y) j t
+same_told (Arrive job at) (Finish job' machine' at') (_, (_, (name, _))) = absurd (unlike 102 97 _ _ refl name)
+same_told (Arrive job at) (Clean machine' at') (_, (_, (name, _))) = absurd (unlike 99 97 _ _ refl name)
+same_told (Finish job machine at) (Arrive job' at') (_, (_, (name, _))) = absurd (unlike 97 102 _ _ refl name)
+same_told (Finish job machine at) (Finish job' machine' at') (_, (t, (_, (j, (m, _))))) = cc (t, j, m)
+same_told (Finish job machine at) (Clean machine' at') (_, (_, (name, _))) = absurd (unlike 99 102 _ _ refl name)
+same_told (Clean machine at) (Arrive job' at') (_, (_, (name, _))) = absurd (unlike 97 99 _ _ refl name)
+same_told (Clean machine at) (Finish job' machine' at') (_, (_, (name, _))) = absurd (unlike 102 99 _ _ refl name)
+same_told (Clean machine at) (Clean machine' at') (_, (t, (_, (m, _)))) = ap₂ (λ x y. Clean x y) m t
+
+same_sent : (one other : Report) → AllBoth (sent_words one) (sent_words other) → other ≡ one
+same_sent (Arrive job at) (Arrive job' at') (_, (j, (t, _))) = ap₂ (λ x y. Arrive x y) j t
+same_sent (Arrive job at) (Finish job' machine' at') (name, _) = absurd (unlike 102 97 _ _ refl name)
+same_sent (Arrive job at) (Clean machine' at') (name, _) = absurd (unlike 99 97 _ _ refl name)
+same_sent (Finish job machine at) (Arrive job' at') (name, _) = absurd (unlike 97 102 _ _ refl name)
+same_sent (Finish job machine at) (Finish job' machine' at') (_, (j, (m, (t, _)))) = cc (t, j, m)
+same_sent (Finish job machine at) (Clean machine' at') (name, _) = absurd (unlike 99 102 _ _ refl name)
+same_sent (Clean machine at) (Arrive job' at') (name, _) = absurd (unlike 97 99 _ _ refl name)
+same_sent (Clean machine at) (Finish job' machine' at') (name, _) = absurd (unlike 102 99 _ _ refl name)
+same_sent (Clean machine at) (Clean machine' at') (_, (m, (t, _))) = ap₂ (λ x y. Clean x y) m t
+
+pub one_report : OneReport
+one_report line one other is also = same_sent one other (all_both (spaced_words line) (sent_words one) (sent_words other) is also)
+
+pub one_cell_report : OneCellReport
+one_cell_report line cell cell' one other is also =
+    let same = all_both (spaced_words line) (short cell ∷ sent_words one) (short cell' ∷ sent_words other) is also in
+    (same.0, same_sent one other same.1)
+
+-- no report is an empty line
+pub some_line : (line : List ℕ) (report : Report) → IsReportLine line report → line ≡ [] → ⊥
+some_line line report is none = go report (subst (λ (l : List ℕ). IsReportLine l report) none is)
+  where
+    go : (r : Report) → IsReportLine [] r → ⊥
+    go (Arrive job at) read = read.1
+    go (Finish job machine at) read = read.1
+    go (Clean machine at) read = read.1
+
+-- ---- orders
+
+out_no_number : (n : ℕ) → IsNumeral 9 (codes "out") n → ⊥
+out_no_number n is_number = let digits = is_number.digits in absurd (cc)
+
+same_spot : (one other : Spot) → AreBoth (spot_word one) (spot_word other) → other ≡ one
+same_spot Out Out both = refl
+same_spot Out (At m) both = absurd (out_no_number m both)
+same_spot (At m) Out both = absurd (out_no_number m both)
+same_spot (At m) (At n) both = ap At both
+
+same_order : (one other : MoveOrder) → AllBoth (order_words one) (order_words other) → other ≡ one
+same_order one other (_, (at, (job, (source, (target, _))))) =
+    ap (λ (n : ℕ). let o : MoveOrder = record { job = n; source = other.source; target = other.target; at = other.at } in o) job
+    ∙ ap (λ (s : Spot). let o : MoveOrder = record { job = one.job; source = s; target = other.target; at = other.at } in o) (same_spot one.source other.source source)
+    ∙ ap (λ (s : Spot). let o : MoveOrder = record { job = one.job; source = one.source; target = s; at = other.at } in o) (same_spot one.target other.target target)
+    ∙ ap (λ (n : ℕ). let o : MoveOrder = record { job = one.job; source = one.source; target = one.target; at = n } in o) at
+
+-- ---- entries
+
+pub one_entry : OneEntry
+one_entry line (ReportEntry r) (ReportEntry s) is also = ap ReportEntry (same_told r s (all_both (spaced_words line) (told_words r) (told_words s) is also))
+one_entry line (ReportEntry r) (OrderEntry o) is also = let same = all_both (spaced_words line) (told_words r) (order_words o) is also in absurd (unlike 111 114 _ _ refl same.0)
+one_entry line (OrderEntry o) (ReportEntry r) is also = let same = all_both (spaced_words line) (order_words o) (told_words r) is also in absurd (unlike 114 111 _ _ refl same.0)
+one_entry line (OrderEntry o) (OrderEntry q) is also = ap OrderEntry (same_order o q (all_both (spaced_words line) (order_words o) (order_words q) is also))
+
+-- a line tells one list of entries
+pub one_telling : (p : PlannedShop) (line : List ℕ) (a b : List Entry) → LineTells p line a → LineTells p line b → a ≡ b
+one_telling p line [] [] h k = refl
+one_telling p line [] (e ∷ []) h k = let other = k.0 in absurd (cc)
+one_telling p line [] (e ∷ f ∷ es) h k = absurd k
+one_telling p line (e ∷ []) [] h k = let other = h.0 in absurd (cc)
+one_telling p line (e ∷ []) (f ∷ []) h k = ap (λ x. x ∷ []) (one_entry line f e k.1 h.1)
+one_telling p line (e ∷ []) (f ∷ g ∷ es) h k = absurd k
+one_telling p line (e ∷ f ∷ es) b h k = absurd h
+
+-- so do lines
+pub one_reading : (p : PlannedShop) (lines : List (List ℕ)) (a b : List Entry) → LinesTell p lines a → LinesTell p lines b → a ≡ b
+one_reading p [] a b h k = h ∙ sym k
+one_reading p (line ∷ lines) a b h k =
+    h.4 ∙ ap₂ (λ x y. x ++ y) (one_telling p line h.0 k.0 h.2 k.2) (one_reading p lines h.1 k.1 h.3 k.3) ∙ sym k.4
+
+-- one more line behind others
+pub tell-more : (p : PlannedShop) (lines : List (List ℕ)) (line : List ℕ) (told own : List Entry) → LinesTell p lines told → LineTells p line own
+    → LinesTell p (lines ++ line ∷ []) (told ++ own)
+tell-more p [] line told own tells more = (own, [], more, refl, ap (λ es. es ++ own) tells ∙ sym (append-nil own))
+tell-more p (first ∷ lines) line told own tells more =
+    (tells.0, tells.1 ++ own, tells.2, tell-more p lines line tells.1 own tells.3 more, ap (λ es. es ++ own) tells.4 ∙ append_assoc tells.0 tells.1 own)
+
+-- what lines tell, in two parts
+pub tell-parts : (p : PlannedShop) (before after : List (List ℕ)) (told : List Entry) → LinesTell p (before ++ after) told
+    → (a : List Entry) × (b : List Entry) × LinesTell p before a × LinesTell p after b × (told ≡ a ++ b)
+tell-parts p [] after told tells = ([], told, refl, tells, refl)
+tell-parts p (line ∷ before) after told tells =
+    let (a, b, first, second, split) = tell-parts p before after tells.1 tells.3 in
+    (tells.0 ++ a, b, (tells.0, a, tells.2, first, refl), second, tells.4 ∙ ap (λ es. tells.0 ++ es) split ∙ sym (append_assoc tells.0 a b))

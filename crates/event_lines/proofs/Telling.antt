@@ -1,0 +1,74 @@
+-- What a text tells whose lines were written.
+use Rattle.std.proofs.Common.{◌≡◌, ℕ, ◌<◌, ◌≤◌, List, [], ◌∷◌, ◌++◌, codes, refl, sym, arith, subst, append_assoc}
+use Rattle.shop_base.specs.declared.limits.TheConstants.{MAX_MOMENT}
+use Rattle.shop_base.specs.declared.move_order.Spot.{Spot}
+use Rattle.shop_base.specs.declared.move_order.Spot.TheVariants.{Out, At}
+use Rattle.shop_base.specs.Plan.{PlannedShop, jobs, machines, IsWellShaped}
+use Rattle.text_lines.specs.Lines.{lines_of}
+use Rattle.cell_tables.specs.declared.report.Report.{Report}
+use Rattle.cell_tables.specs.declared.report.Report.TheVariants.{Arrive, Finish, Clean}
+use Rattle.cell_tables.specs.Moving.{IsSpotOf}
+use Rattle.cell_tables.specs.Reports.{said}
+use Rattle.cell_tables.specs.declared.entry.Entry.{Entry}
+use Rattle.cell_tables.specs.declared.entry.Entry.TheVariants.{Report as ReportEntry, Order as OrderEntry}
+use Rattle.event_lines.specs.Words.{Word, Text, short, moment, words_before, line_of}
+use Rattle.event_lines.specs.EventLines.{end_words, spot_word, told_words, move_words, order_words, entry_words}
+use Rattle.event_lines.specs.AnswerLines.{late_words, refused_words, done_words, unfinished_words}
+use Rattle.event_lines.specs.LogLines.{IsEntryOf, LineTells, LinesTell}
+use Rattle.event_lines.specs.ReadBack.{IsFitting, AreFitting, TellsFirst, WrittenEntriesAreTold, OtherAnswersTellNone}
+use Rattle.event_lines.proofs.WrittenWords.{AreSpaceless, decimal_spaceless, all_spaceless, line_first, read_back}
+
+module _ (p : PlannedShop) where
+  pub tells_none : TellsFirst p [] []
+  tells_none rest later tells = tells
+
+  pub tells_both : (first second : List ℕ) (own more : List Entry) → TellsFirst p first own → TellsFirst p second more → TellsFirst p (first ++ second) (own ++ more)
+  tells_both first second own more one other rest later tells =
+      subst (λ (text : List ℕ). LinesTell p (lines_of text) ((own ++ more) ++ later)) (sym (append_assoc first second rest))
+      (subst (λ (told : List Entry). LinesTell p (lines_of (first ++ (second ++ rest))) told) (sym (append_assoc own more later))
+      (one (second ++ rest) (more ++ later) (other rest later tells)))
+
+  tells_line : (words : List Word) (own : List Entry) → AreSpaceless words → LineTells p (words_before words []) own → TellsFirst p (line_of words) own
+  tells_line words own are tells rest later after =
+      subst (λ (lines : List (List ℕ)). LinesTell p lines (own ++ later)) (sym (line_first words rest are)) (own, later, tells, after, refl)
+
+  pub others_tell_none : OtherAnswersTellNone p
+  others_tell_none = record {
+    late = λ at. tells_line (late_words at) [] (refl, (decimal_spaceless at, tt)) refl;
+    refused = λ number name is. tells_line (refused_words number name) [] (refl, (decimal_spaceless number, (is, tt))) refl;
+    done = λ at. tells_line (done_words at) [] (refl, (decimal_spaceless at, tt)) refl;
+    unfinished = λ left. tells_line (unfinished_words left) [] (refl, (decimal_spaceless left, tt)) refl;
+  }
+
+  -- ---- the words of an entry of the shop
+
+  module _ (shaped : IsWellShaped p) where
+    job_fits : (j : ℕ) → j < jobs p → IsFitting (short j)
+    job_fits j inside = let few = shaped.shop.counts.few_jobs in (omega arith, omega (arith, inside, few), omega (arith, inside, few))
+
+    machine_fits : (m : ℕ) → m < machines p → IsFitting (short m)
+    machine_fits m inside = let few = shaped.shop.counts.few_machines in (omega arith, omega (arith, inside, few), omega (arith, inside, few))
+
+    moment_fits : (at : ℕ) → at ≤ MAX_MOMENT → IsFitting (moment at)
+    moment_fits at in_range = (omega arith, omega (arith, in_range), omega (arith, in_range))
+
+    spot_fits : (spot : Spot) → IsSpotOf p spot → IsFitting (spot_word spot)
+    spot_fits Out of_shop = refl
+    spot_fits (At m) of_shop = machine_fits m of_shop
+
+    report_fits : (report : Report) → IsEntryOf p (ReportEntry report) → AreFitting (told_words report)
+    report_fits (Arrive job at) of_shop = (refl, (moment_fits at of_shop.1, (refl, (job_fits job of_shop.0, tt))))
+    report_fits (Finish job machine at) of_shop = (refl, (moment_fits at of_shop.1, (refl, (job_fits job of_shop.0.0, (machine_fits machine of_shop.0.1, tt)))))
+    report_fits (Clean machine at) of_shop = (refl, (moment_fits at of_shop.1, (refl, (machine_fits machine of_shop.0, tt))))
+
+    tells_fitting : (entry : Entry) → AreFitting (entry_words entry) → IsEntryOf p entry → TellsFirst p (line_of (entry_words entry)) (entry ∷ [])
+    tells_fitting (ReportEntry report) fit of_shop = tells_line (told_words report) (ReportEntry report ∷ []) (all_spaceless (told_words report) fit) (refl, read_back (Text (codes "report")) (moment (said report).at ∷ end_words report) fit, of_shop)
+    tells_fitting (OrderEntry o) fit of_shop = tells_line (order_words o) (OrderEntry o ∷ []) (all_spaceless (order_words o) fit) (refl, read_back (Text (codes "order")) (move_words o) fit, of_shop)
+
+    pub tells_entry : (entry : Entry) → IsEntryOf p entry → TellsFirst p (line_of (entry_words entry)) (entry ∷ [])
+    tells_entry (ReportEntry report) of_shop = tells_fitting (ReportEntry report) (report_fits report of_shop) of_shop
+    tells_entry (OrderEntry o) of_shop = tells_fitting (OrderEntry o)
+        (refl, (moment_fits o.at of_shop.3, (job_fits o.job of_shop.0, (spot_fits o.source of_shop.1, (spot_fits o.target of_shop.2, tt))))) of_shop
+
+pub written_entries_are_told : WrittenEntriesAreTold
+written_entries_are_told p entry shaped of_shop = tells_entry p shaped entry of_shop

@@ -1,0 +1,11 @@
+use Rattle.event_lines.proofs.Readings.{one_entry, one_report, one_cell_report}
+use Rattle.event_lines.proofs.laws.a_line_has_one_reading.Goals as goal
+
+pub returns-clause-told : goal.returns-clause-told
+returns-clause-told c = one_entry
+
+pub returns-clause-sent : goal.returns-clause-sent
+returns-clause-sent c = one_report
+
+pub returns-clause-on_cells : goal.returns-clause-on_cells
+returns-clause-on_cells c = one_cell_report

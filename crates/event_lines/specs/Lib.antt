@@ -1,0 +1,9 @@
+-- Reached by public clauses: to be read and believed.
+pub mod Words
+pub mod EventLines
+pub mod SentLines
+pub mod AnswerLines
+pub mod LogLines
+pub mod ReadBack
+-- Of proofs and private contracts alone.
+pub mod FirstWords

@@ -1,0 +1,23 @@
+//! The lines of a driven cell, each kind with its writer and its reader: a report as it is sent and as it is told, an order,
+//! the other answers, and a cell's number before any of these.
+#![tactic(auto)]
+
+mod answers;
+mod cell_numbers;
+mod entries;
+pub mod laws;
+mod line_text;
+mod orders;
+mod sent_reports;
+mod told_reports;
+mod words;
+
+pub use answers::{
+    done_line, is_passed_over, late_line, put_late_line, refused_line, unfinished_line,
+};
+pub use cell_numbers::{cell_prefix, cell_report_of};
+pub use entries::{put_entry, put_entry_line, told_entry};
+pub use line_text::LineText;
+pub use orders::put_order;
+pub use sent_reports::report_of;
+pub use told_reports::put_report;

@@ -1,5 +1,0 @@
-use Rattle.std.proofs.Common.{rules}
-use Rattle.run_log.proofs.event_lines.put_order_words.Goals as goal
-
-pub returns-clause-written : goal.returns-clause-written
-returns-clause-written g c = search rules depth 2
