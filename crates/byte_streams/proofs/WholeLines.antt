@@ -3,10 +3,11 @@ use Rattle.std.proofs.Common.{◌≡◌, ℕ, suc, ◌+◌, ◌-◌, ◌<◌, �
 use Rattle.std.specs.List.{onto_first, ends_with}
 use Rattle.std.proofs.Math.Seq.{take-append_seam}
 use Rattle.std.proofs.lemmas.Bool.{le-leb, lt-leb, leb-true, leb-false}
-use Rattle.text_lines.specs.Lines.{is_line_feed, parts_of, without_return}
+use Rattle.text_lines.specs.Lines.{is_line_feed, parts_of, without_return, lines_of}
 use Rattle.byte_streams.specs.Lines.{within_limit, input_lines, complete_lines}
 use Rattle.byte_streams.specs.Holding.{joined, held_line, ended, held_after}
 use Rattle.byte_streams.specs.Reading.{last_line}
+use Rattle.byte_streams.proofs.EndedLines.{take_map}
 use Rattle.byte_streams.proofs.Held.{cases_bool, joined-fits, joined-over}
 
 -- ---- what is held of the first bytes of a line
@@ -121,3 +122,4 @@ complete_lines-ended text =
     sym (ap (λ l. take (length (filter is_line_feed text)) l) (sym (input_lines-ended text))
     ∙ ap (λ (n : ℕ). take n (ended (Some []) text ++ last_line (held_after (Some []) text))) (length-feeds text (Some []))
     ∙ take-append_seam (ended (Some []) text) (last_line (held_after (Some []) text)))
+    ∙ take_map within_limit (length (filter is_line_feed text)) (lines_of text)

@@ -12,5 +12,9 @@ abbrev pub input_lines : List ℕ → List (Option (List ℕ))
 input_lines text = map within_limit (lines_of text)
 
 -- the lines of a text that are ended by a line feed: as many as there are line feeds
+abbrev pub ended_lines : List ℕ → List (List ℕ)
+ended_lines text = take (length (filter is_line_feed text)) (lines_of text)
+
+-- those lines, as they are answered
 abbrev pub complete_lines : List ℕ → List (Option (List ℕ))
-complete_lines text = take (length (filter is_line_feed text)) (input_lines text)
+complete_lines text = map within_limit (ended_lines text)

@@ -24,11 +24,11 @@ use Rattle.cell_drive.proofs.DrivenRuns.{events-orders}
 use Rattle.event_lines.specs.ReadBack.{TellsFirst}
 use Rattle.event_lines.proofs.Telling.{tells_none, tells_both}
 use Rattle.cell_drive.proofs.ReadBack.{answers_told, closing_told}
-use Rattle.run_resume.specs.CutLogs.{ended_lines}
+use Rattle.byte_streams.specs.Lines.{ended_lines}
 use Rattle.run_resume.specs.CutLaw.{ACutLogIsTakenUp, WhatWasDrivenIsTakenUp}
 use Rattle.run_resume.proofs.Parts.{entries_moved}
 use Rattle.run_resume.proofs.CutRuns.{cut_of_run}
-use Rattle.run_resume.proofs.EndedLines.{ended-more}
+use Rattle.byte_streams.proofs.EndedLines.{ended-more}
 use Rattle.run_resume.proofs.OwnRuns.{own_run}
 use Rattle.run_resume.proofs.FirstFaults.{due_events}
 

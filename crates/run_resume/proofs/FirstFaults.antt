@@ -21,7 +21,8 @@ use Rattle.cell_drive.specs.Driving.{cell_after, IsRunOf, IsBeforeReport}
 use Rattle.cell_drive.proofs.DrivenRuns.{events-orders}
 use Rattle.run_resume.specs.declared.resume_fault.ResumeFault.{ResumeFault}
 use Rattle.run_resume.specs.declared.resume_fault.ResumeFault.TheVariants.{BadLine, NotOrdered, NotPossible, Memory}
-use Rattle.run_resume.specs.CutLogs.{ended_lines, IsCutLog, IsCutLogText, IsFaultOf, IsFaultOfLine, IsFirstBad, IsResumeFault}
+use Rattle.byte_streams.specs.Lines.{ended_lines}
+use Rattle.run_resume.specs.CutLogs.{IsCutLog, IsCutLogText, IsFaultOf, IsFaultOfLine, IsFirstBad, IsResumeFault}
 use Rattle.run_resume.proofs.OwnRuns.{run_of_own}
 use Rattle.run_resume.proofs.CutRuns.{GoesOnSo, same_so_far}
 

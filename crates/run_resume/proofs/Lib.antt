@@ -1,7 +1,6 @@
 pub mod Parts
 pub mod CutRuns
 pub mod OwnRuns
-pub mod EndedLines
 pub mod LateOnes
 pub mod Replayed
 pub mod FirstFaults

@@ -9,7 +9,8 @@ use Rattle.event_lines.specs.LogLines.{LinesTell}
 use Rattle.byte_streams.specs.Answering.{AnswerAll}
 use Rattle.cell_drive.specs.AnswerText.{DrivenCell, CellAnswers, CellCloses, AreAnswersTo}
 use Rattle.cell_drive.specs.Driving.{IsRunOf}
-use Rattle.run_resume.specs.CutLogs.{ended_lines, IsCutLog}
+use Rattle.byte_streams.specs.Lines.{ended_lines}
+use Rattle.run_resume.specs.CutLogs.{IsCutLog}
 use Rattle.run_resume.specs.Resuming.{again_text, driven_so_far}
 
 -- the ended lines of these bytes are a log that is taken up, and its events, with the orders that are due, are the first of these

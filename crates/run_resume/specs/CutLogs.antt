@@ -1,25 +1,21 @@
 -- Logs that may have been cut: which of them are taken up, and what is found first in the others.
-use Rattle.std.specs.Prelude.{◌≡◌, ◌≢◌, ℕ, ◌+◌, ◌≤◌, List, [], ◌∷◌, ◌++◌, length, map, filter, take}
+use Rattle.std.specs.Prelude.{◌≡◌, ◌≢◌, ℕ, ◌+◌, ◌≤◌, List, [], ◌∷◌, ◌++◌, length, map, take}
 use Rattle.shop_base.specs.Plan.{PlannedShop}
 use Rattle.shop_base.specs.declared.move_order.MoveOrder.{MoveOrder}
 use Rattle.shop_base.specs.Report as base
 use Rattle.shop_base.specs.Run.{Event, Reported, Moved}
 use Rattle.shop_base.specs.Controlled.{IsControlledRun}
-use Rattle.text_lines.specs.Lines.{is_line_feed, lines_of}
 use Rattle.cell_tables.specs.Reports.{said}
 use Rattle.cell_tables.specs.declared.entry.Entry.{Entry}
 use Rattle.cell_tables.specs.declared.entry.Entry.TheVariants.{Report as ReportEntry, Order as OrderEntry}
 use Rattle.cell_tables.specs.Events.{events_of}
 use Rattle.cell_control.specs.Reports.{IsFirstReason}
+use Rattle.byte_streams.specs.Lines.{ended_lines}
 use Rattle.event_lines.specs.LogLines.{LineTells, LinesTell}
 use Rattle.run_log.specs.Audits.{IsBadLine}
 use Rattle.cell_drive.specs.Driving.{cell_after}
 use Rattle.run_resume.specs.declared.resume_fault.ResumeFault.{ResumeFault}
 use Rattle.run_resume.specs.declared.resume_fault.ResumeFault.TheVariants.{BadLine, NotOrdered, NotPossible, Memory}
-
--- the lines of a text that are ended by a line feed: as many first ones as there are line feeds
-abbrev pub ended_lines : List ℕ → List (List ℕ)
-ended_lines text = take (length (filter is_line_feed text)) (lines_of text)
 
 -- the reports among the events
 abbrev pub reported : List Event → List base.Report

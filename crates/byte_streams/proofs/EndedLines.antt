@@ -5,7 +5,7 @@ use Rattle.std.proofs.lemmas.Bool.{cases_Bool}
 use Rattle.text_lines.specs.Lines.{is_line_feed, parts_of, without_return, lines_of}
 use Rattle.text_lines.specs.Cuts.{HasNone, IsCutAt}
 use Rattle.text_lines.proofs.NextLines.{first_line, lines_of-le}
-use Rattle.run_resume.specs.CutLogs.{ended_lines}
+use Rattle.byte_streams.specs.Lines.{ended_lines}
 
 abbrev feeds : List ℕ → ℕ
 feeds text = length (filter is_line_feed text)
@@ -35,7 +35,7 @@ ended-few text = omega (arith, length-take-any (feeds text) (lines_of text), lin
     length-take-any (suc n) [] = omega arith
     length-take-any (suc n) (x ∷ xs) = omega (arith, length-take-any n xs)
 
-take_map : {A B : Type 0} (f : A → B) (n : ℕ) (xs : List A) → take n (map f xs) ≡ map f (take n xs)
+pub take_map : {A B : Type 0} (f : A → B) (n : ℕ) (xs : List A) → take n (map f xs) ≡ map f (take n xs)
 take_map f zero xs = refl
 take_map f (suc n) [] = refl
 take_map f (suc n) (x ∷ xs) = ap (λ ys. f x ∷ ys) (take_map f n xs)
