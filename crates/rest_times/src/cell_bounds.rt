@@ -1,0 +1,121 @@
+//! The bounds of the nodes of a cell.
+
+ghost use Rattle.std.specs.Prelude.{◌≡◌, ◌<◌, ◌≤◌, ◌↔◌, IsTrue, IfSome, max};
+ghost use Rattle.shop_base.specs.declared.limits.TheConstants.{MAX_MOMENT};
+ghost use Rattle.shop_base.specs.Plan.{jobs, machines};
+ghost use Rattle.shop_base.specs.Cell.{job_in, cleaning};
+ghost use Rattle.shop_base.specs.Movers.{due_of_job, due_of_cleaning};
+ghost use Rattle.shop_base.specs.Graph.{IsNode};
+ghost use Rattle.alt_graph.specs.Bounds.{MAX_BOUND};
+ghost use Rattle.rest_times.specs.CellBounds.{rest_bounds, is_next_in, cleaned_at, later_than};
+
+use alt_graph::Bounds;
+use cell_tables::WorkCell;
+use shop_base::{JobNo, MachineNo, Moment, Node, Planned};
+
+/// The bounds of the rest of a run, from a cell and a present moment on.
+#[derive(Drop)]
+pub(crate) struct CellBounds<'a, P: Planned> {
+    pub cell: &'a WorkCell<P>,
+    pub present: Moment,
+    ghost in_range: { present ≤ MAX_MOMENT },
+}
+
+/// When what goes on with the job is due; none where nothing does.
+fn job_due<P: Planned>(cell: &WorkCell<P>, job: JobNo) -> Option<Moment>
+    requires { job < jobs cell.now.plan }
+    ensures due { result ≡ due_of_job cell.now.plan job (job_in cell.now.cell job) }
+    ensures limited { IfSome result (λ due. due ≤ MAX_BOUND) }
+{
+    let state = cell.job_state(job);
+    if state.ready {
+        return None;
+    }
+    if state.made == 0 {
+        return Some(cell.shaped().release_of(job));
+    }
+    let step = cell.shaped().step_of(job, state.made - 1)?;
+    Some(state.since + step.nominal)
+}
+
+/// When the machine's cleaning is due; none where it isn't being cleaned.
+fn cleaning_due<P: Planned>(cell: &WorkCell<P>, machine: MachineNo) -> Option<Moment>
+    requires { machine < machines cell.now.plan }
+    ensures due { result ≡ due_of_cleaning cell.now.plan machine (cleaning cell.now.cell machine) }
+    ensures limited { IfSome result (λ due. due ≤ MAX_BOUND) }
+{
+    let from = cell.cleaned_since(machine)?;
+    Some(from + cell.shaped().clean_of(machine))
+}
+
+/// Whether the job is the next to enter the machine.
+fn is_next<P: Planned>(cell: &WorkCell<P>, machine: MachineNo, job: JobNo) -> bool
+    requires { machine < machines cell.now.plan }
+    ensures { result ≡ is_next_in cell.now.plan cell.now.cell machine job }
+{
+    match cell.next_on(machine) {
+        Some(next) => next == job,
+        None => false,
+    }
+}
+
+/// When the cleaning of the machine that the node's job enters by it is due, if it is the next entry there and the
+/// machine is being cleaned.
+fn cleaned_by<P: Planned>(cell: &WorkCell<P>, node: Node) -> Option<Moment>
+    requires { IsNode cell.now.plan node }
+    ensures due { result ≡ cleaned_at cell.now.plan cell.now.cell node }
+    ensures limited { IfSome result (λ due. due ≤ MAX_BOUND) }
+{
+    // Called for its clause alone: the plan is well shaped.
+    let _plan = cell.shaped();
+    let machine = cell.machine_at(node.job, node.place)?;
+    if is_next(cell, machine, node.job) {
+        cleaning_due(cell, machine)
+    } else {
+        None
+    }
+}
+
+/// The later of two moments.
+fn later(one: Moment, other: Moment) -> Moment
+    ensures { result ≡ max one other }
+{
+    if one < other { other } else { one }
+}
+
+/// The later of a moment and of another, if there is one.
+fn later_of(one: Moment, other: Option<Moment>) -> Moment
+    ensures { result ≡ later_than one other }
+{
+    match other {
+        Some(other) => later(one, other),
+        None => one,
+    }
+}
+
+impl<'a, P: Planned> Bounds for CellBounds<'a, P> {
+    ghost planned = { λ b. b.cell.now.plan };
+
+    ghost bounds = { λ b. rest_bounds b.cell.now.plan b.cell.now.cell b.present };
+
+    fn is_ahead(&self, node: Node) -> bool {
+        // Called for its clause alone: the cell is sound.
+        let _plan = self.cell.shaped();
+        self.cell.job_state(node.job).made <= node.place
+    }
+
+    fn bound(&self, node: Node) -> Option<Moment> {
+        // Called for its clause alone: the cell is sound.
+        let _plan = self.cell.shaped();
+        let state = self.cell.job_state(node.job);
+        if node.place < state.made {
+            return Some(state.since);
+        }
+        let cleaned = cleaned_by(self.cell, node);
+        if state.made < node.place {
+            return Some(later(self.present, cleaned?));
+        }
+        let moment = later_of(self.present, job_due(self.cell, node.job));
+        Some(later_of(moment, cleaned))
+    }
+}
