@@ -1,17 +1,16 @@
 -- Which words tell what has ended, and which tell no event.
-use Rattle.std.proofs.Common.{◌≡◌, ◌≢◌, ℕ, false, true, nat_eq, List, [], ◌∷◌, ◌++◌, codes, eqb, refl, ap, subst}
+use Rattle.std.proofs.Common.{◌≡◌, ◌≢◌, ℕ, false, true, nat_eq, List, [], ◌∷◌, ◌++◌, codes, eqb, ap}
 use Rattle.std.specs.List.{starts_with}
 use Rattle.std.proofs.lemmas.Bool.{eq-eqb}
 use Rattle.shop_base.specs.declared.move_order.Spot.{Spot}
 use Rattle.shop_base.specs.declared.move_order.Spot.TheVariants.{Out, At}
-use Rattle.shop_base.specs.declared.move_order.MoveOrder.{MoveOrder}
 use Rattle.cell_tables.specs.declared.report.Report.{Report}
 use Rattle.cell_tables.specs.declared.report.Report.TheVariants.{Arrive, Finish, Clean}
 use Rattle.cell_tables.specs.Reports.{said}
 use Rattle.cell_tables.specs.declared.entry.Entry.{Entry}
 use Rattle.cell_tables.specs.declared.entry.Entry.TheVariants.{Report as ReportEntry, Order as OrderEntry}
-use Rattle.event_lines.specs.Words.{Word, Text, Number, short, moment, IsReadAs}
-use Rattle.event_lines.specs.EventLines.{end_name, end_words, spot_word, move_numbers, move_words, IsEntryLine}
+use Rattle.event_lines.specs.Words.{Text, Number, short, moment, IsReadAs}
+use Rattle.event_lines.specs.EventLines.{end_words, spot_word, move_numbers, IsEntryLine}
 use Rattle.event_lines.specs.SentLines.{IsNoReport}
 use Rattle.event_lines.specs.AnswerLines.{is_passed_over}
 use Rattle.event_lines.specs.FirstWords.{IsNeverFirst, IsOnly}
@@ -45,14 +44,6 @@ no_spot_alone line out none Out found = out (only_of line (Text (codes "out")) f
 no_spot_alone line out none (At machine) found = none machine found
 
 -- ---- events
-
-pub only_report : (line rest : List ℕ) → line ≡ codes "report " ++ rest → ((report : Report) → IsReadAs rest (moment (said report).at ∷ end_words report) → ⊥) → (entry : Entry) → IsEntryLine line entry → ⊥
-only_report line rest is none (ReportEntry report) found = let read = subst (λ (l : List ℕ). IsEntryLine l (ReportEntry report)) is found in none report read.1
-only_report line rest is none (OrderEntry order) found = let read = subst (λ (l : List ℕ). IsEntryLine l (OrderEntry order)) is found in unlike 114 111 _ _ refl read.0
-
-pub only_order : (line rest : List ℕ) → line ≡ codes "order " ++ rest → ((order : MoveOrder) → IsReadAs rest (move_words order) → ⊥) → (entry : Entry) → IsEntryLine line entry → ⊥
-only_order line rest is none (ReportEntry report) found = let read = subst (λ (l : List ℕ). IsEntryLine l (ReportEntry report)) is found in unlike 111 114 _ _ refl read.0
-only_order line rest is none (OrderEntry order) found = let read = subst (λ (l : List ℕ). IsEntryLine l (OrderEntry order)) is found in none order read.1
 
 -- a line with neither word first tells nothing
 no_line : (line : List ℕ) → ((rest : List ℕ) → line ≢ codes "report " ++ rest) → ((rest : List ℕ) → line ≢ codes "order " ++ rest) → (entry : Entry) → IsEntryLine line entry → ⊥

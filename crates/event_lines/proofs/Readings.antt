@@ -9,7 +9,7 @@ use Rattle.cell_tables.specs.declared.report.Report.{Report}
 use Rattle.cell_tables.specs.declared.report.Report.TheVariants.{Arrive, Finish, Clean}
 use Rattle.cell_tables.specs.declared.entry.Entry.{Entry}
 use Rattle.cell_tables.specs.declared.entry.Entry.TheVariants.{Report as ReportEntry, Order as OrderEntry}
-use Rattle.event_lines.specs.Words.{Word, Text, Number, short, spaced_words, IsRead, AreRead, IsReadAs}
+use Rattle.event_lines.specs.Words.{Word, Text, Number, short, spaced_words, IsRead, AreRead}
 use Rattle.event_lines.specs.EventLines.{spot_word, told_words, order_words}
 use Rattle.event_lines.specs.SentLines.{sent_words, IsReportLine}
 use Rattle.event_lines.specs.LogLines.{LineTells, LinesTell}

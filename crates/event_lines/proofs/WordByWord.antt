@@ -2,7 +2,7 @@
 use Rattle.std.proofs.Common.{◌≡◌, ℕ, List, [], ◌∷◌, ◌++◌, refl, sym, ap, ◌∙◌, subst}
 use Rattle.std.specs.List.{onto_first, join_with_byte}
 use Rattle.std.proofs.lemmas.List.Splits.{join_with_byte-slice_split}
-use Rattle.text_lines.specs.Numbers.{IsNumberBefore, IsNumeral, value_of}
+use Rattle.text_lines.specs.Numbers.{IsNumberBefore, IsNumeral}
 use Rattle.text_lines.specs.Cuts.{HasNone, IsCutAt}
 use Rattle.text_lines.proofs.FirstWords.{no_space}
 use Rattle.event_lines.specs.Words.{Word, Text, Number, spaced_words, IsRead, AreRead, IsReadAs}

@@ -28,21 +28,12 @@ pub(crate) fn short_last(word: &[u8]) -> Option<u32>
     Some(number)
 }
 
-/// The moment that is the only word.
-#[inline(always)]
-fn moment_last(word: &[u8]) -> Option<Moment>
-    ensures { SomeIfAny result (IsOnly moment word.now) }
-{
-    let number = number_of(word, 13)?;
-    Some(number)
-}
-
 /// The number of a job or a machine, and the moment behind it.
 #[inline(always)]
 pub(crate) fn number_and_moment(words: &[u8]) -> Option<(u32, Moment)>
     ensures { SomePairIfAny result (λ n at. IsReadAs words.now (short n ∷ moment at ∷ [])) }
 {
     let (number, rest) = number_first(words, 9)?;
-    let at = moment_last(rest)?;
+    let at = number_of(rest, 13)?;
     Some((number as u32, at))
 }

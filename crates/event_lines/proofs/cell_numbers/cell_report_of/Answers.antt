@@ -1,11 +1,7 @@
-use Rattle.event_lines.specs.Words.{Text, short}
-use Rattle.event_lines.specs.EventLines.{end_name}
-use Rattle.event_lines.specs.SentLines.{sent_numbers, sent_words}
+use Rattle.event_lines.specs.Words.{short}
+use Rattle.event_lines.specs.SentLines.{sent_words}
 use Rattle.event_lines.proofs.WordByWord.{behind, before}
 use Rattle.event_lines.proofs.cell_numbers.cell_report_of.Goals as goal
-
-pub returns-in_err-cell : goal.returns-in_err-cell
-returns-in_err-cell c = rw c.from_residual.ensures (λ cell report found. c.in_err-cell.ensures.number cell (Text (end_name report)) (sent_numbers report) found)
 
 pub returns-in_err-report : goal.returns-in_err-report
 returns-in_err-report c =

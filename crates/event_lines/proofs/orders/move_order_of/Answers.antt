@@ -4,9 +4,6 @@ use Rattle.event_lines.specs.EventLines.{spot_word, move_numbers}
 use Rattle.event_lines.proofs.WordByWord.{behind, before}
 use Rattle.event_lines.proofs.orders.move_order_of.Goals as goal
 
-pub returns-in_err-at : goal.returns-in_err-at
-returns-in_err-at c = rw c.from_residual.ensures (λ o found. c.in_err-at.ensures.number o.at (short o.job) (spot_word o.source ∷ spot_word o.target ∷ []) found)
-
 pub returns-in_err-job : goal.returns-in_err-job
 returns-in_err-job c =
     rw c.from_residual-in_err-job.ensures

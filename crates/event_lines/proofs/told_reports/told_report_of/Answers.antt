@@ -1,13 +1,10 @@
 use Rattle.std.proofs.Common.{ℕ, sym, subst}
 use Rattle.cell_tables.specs.Reports.{said}
-use Rattle.event_lines.specs.Words.{Text, moment}
-use Rattle.event_lines.specs.EventLines.{end_name, end_numbers, end_words}
+use Rattle.event_lines.specs.Words.{moment}
+use Rattle.event_lines.specs.EventLines.{end_words}
 use Rattle.event_lines.specs.FirstWords.{IsFirst}
 use Rattle.event_lines.proofs.WordByWord.{behind, before, same_first}
 use Rattle.event_lines.proofs.told_reports.told_report_of.Goals as goal
-
-pub returns-in_err-at : goal.returns-in_err-at
-returns-in_err-at c = rw c.from_residual.ensures (λ report found. c.in_err-at.ensures.number (said report).at (Text (end_name report)) (end_numbers report) found)
 
 pub returns-in_err-report : goal.returns-in_err-report
 returns-in_err-report c =
