@@ -3,7 +3,7 @@ _cellplan() {
   local word=${COMP_WORDS[COMP_CWORD]} before=${COMP_WORDS[COMP_CWORD - 1]} command=${COMP_WORDS[1]} options
   COMPREPLY=()
   if [ "$COMP_CWORD" -eq 1 ]; then
-    mapfile -t COMPREPLY < <(compgen -W 'facts shape check explain schedule plan improve drive resume hub audit gantt --help --version' -- "$word")
+    mapfile -t COMPREPLY < <(compgen -W 'facts shape check explain schedule bounds plan improve drive resume hub audit gantt --help --version' -- "$word")
     return
   fi
   case $before in
@@ -12,7 +12,7 @@ _cellplan() {
   case $command in
     plan) options='--instance --rounds --help' ;;
     improve) options='--instance --rounds --seed --help' ;;
-    facts | shape | check | explain | schedule | drive | resume | hub | audit | gantt) options='--instance --help' ;;
+    facts | shape | check | explain | schedule | bounds | drive | resume | hub | audit | gantt) options='--instance --help' ;;
     *) return ;;
   esac
   case $word in

@@ -15,7 +15,7 @@ use Rattle.run_resume.specs.declared.resume_fault.ResumeFault.TheVariants.{BadLi
 use Rattle.run_resume.specs.Replays.{TakenUp}
 use Rattle.command_words.specs.declared.words.Chosen.{Chosen}
 use Rattle.command_words.specs.declared.words.CommandName.{CommandName}
-use Rattle.command_words.specs.declared.words.CommandName.TheVariants.{Input as NoWords, Facts, Shape, Check, Explain, Schedule, Plan, Improve, Drive, Resume, Hub, Audit, Gantt}
+use Rattle.command_words.specs.declared.words.CommandName.TheVariants.{Input as NoWords, Facts, Shape, Check, Explain, Schedule, Bounds, Plan, Improve, Drive, Resume, Hub, Audit, Gantt}
 use Rattle.command_answers.specs.declared.answer.Answer.{Answer}
 use Rattle.command_answers.specs.declared.cells.Cells.{Cells}
 use Rattle.command_answers.specs.declared.cells.Cells.TheVariants.{Accepted as AllAccepted, Line}
@@ -28,6 +28,7 @@ use Rattle.command_answers.specs.Shapes.{IsShapeLine, IsNotShapedLine}
 use Rattle.command_answers.specs.Checks.{IsCheckLine, IsLineOf, accepted_in, verdict_status}
 use Rattle.command_answers.specs.Explains.{IsExplanation}
 use Rattle.command_answers.specs.Timetables.{IsTimetable}
+use Rattle.command_answers.specs.BoundLines.{AreBounds}
 use Rattle.command_answers.specs.Improving.{IsStatusOf, IsBestAnswer, IsImproveAnswer, ordered}
 use Rattle.command_answers.specs.Search.{IsSearchLine, IsSearchAnswer, IsNoPlanLine}
 use Rattle.command_answers.specs.declared.logs.Telling.{Telling}
@@ -121,6 +122,13 @@ low_explained p answer (inr explained) = low_verdict explained.verdict answer.st
 low_scheduled : (p : PlannedShop) (answer : Answer) → IsTimetable p answer → answer.status ≤ 1
 low_scheduled p answer (inl not_shaped) = low_not_shaped p answer not_shaped
 low_scheduled p answer (inr scheduled) = low_verdict scheduled.verdict answer.status scheduled.scheduled.status
+
+low_bounds : (p : PlannedShop) (answer : Answer) → AreBounds p answer → answer.status ≤ 1
+low_bounds p answer (inl sound) = elim sound.1.status [
+  | inl good ↦ zero_low answer.status good.1
+  | inr never ↦ one_low answer.status never.2
+]
+low_bounds p answer (inr bad) = one_low answer.status bad.line.refused
 
 low_status : (best : PlannedShop) (status : ℕ) → IsStatusOf best status → status ≤ 1
 low_status best status (inl accepted) = zero_low status accepted.1
@@ -259,6 +267,8 @@ module _ {W : Type 0} (gives : W → List ℕ → Result (List ℕ) CommandFault
       low_both (pair_in chosen) (λ p. Told (IsOrMemory (IsExplanation p))) texts outcome texts_after (λ p mid on. low_or (IsExplanation p) outcome (low_explained p) on.0) run.0
   low Schedule chosen texts before outcome texts_after after run =
       low_both (pair_in chosen) (λ p. Told (IsOrMemory (IsTimetable p))) texts outcome texts_after (λ p mid on. low_or (IsTimetable p) outcome (low_scheduled p) on.0) run.0
+  low Bounds chosen texts before outcome texts_after after run =
+      low_both (pair_in chosen) (λ p. Told (IsOrMemory (AreBounds p))) texts outcome texts_after (λ p mid on. low_or (AreBounds p) outcome (low_bounds p) on.0) run.0
   low Plan chosen texts before outcome texts_after after run = low_seeks chosen.rounds _ texts outcome texts_after run.0
   low Improve chosen texts before outcome texts_after after run = low_improves chosen.rounds _ texts outcome texts_after run.0
   low Drive chosen texts before outcome texts_after after run = low_drives run.loaded before after outcome run.drives

@@ -19,7 +19,7 @@ use Rattle.cell_drive.proofs.DrivenEnds.{driven_text}
 use Rattle.cell_drive.proofs.OneText.{one_answer_text}
 use Rattle.command_words.specs.declared.words.Chosen.{Chosen}
 use Rattle.command_words.specs.declared.words.CommandName.{CommandName}
-use Rattle.command_words.specs.declared.words.CommandName.TheVariants.{Input, Facts, Shape, Check, Explain, Schedule, Plan, Improve, Drive, Resume, Hub, Audit, Gantt}
+use Rattle.command_words.specs.declared.words.CommandName.TheVariants.{Input, Facts, Shape, Check, Explain, Schedule, Bounds, Plan, Improve, Drive, Resume, Hub, Audit, Gantt}
 use Rattle.command_words.specs.declared.words.WordsFault.{WordsFault}
 use Rattle.command_words.specs.declared.words.WordsFault.TheVariants.{Usage, Memory as NoWordsMemory}
 use Rattle.command_words.specs.Choice.{word_of, IsChoiceOf, TellsOneOf, found_in}
@@ -52,6 +52,7 @@ is_drive Shape word = (let differ : 115 ≡ 100 = ap first word in absurd (omega
 is_drive Check word = (let differ : 99 ≡ 100 = ap first word in absurd (omega (arith, differ)))
 is_drive Explain word = (let differ : 101 ≡ 100 = ap first word in absurd (omega (arith, differ)))
 is_drive Schedule word = (let differ : 115 ≡ 100 = ap first word in absurd (omega (arith, differ)))
+is_drive Bounds word = (let differ : 98 ≡ 100 = ap first word in absurd (omega (arith, differ)))
 is_drive Plan word = (let differ : 112 ≡ 100 = ap first word in absurd (omega (arith, differ)))
 is_drive Improve word = (let differ : 105 ≡ 100 = ap first word in absurd (omega (arith, differ)))
 is_drive Resume word = (let differ : 114 ≡ 100 = ap first word in absurd (omega (arith, differ)))

@@ -31,10 +31,11 @@ use Rattle.command_answers.specs.Shapes.{IsShapeLine}
 use Rattle.command_answers.specs.Checks.{IsCheckLine}
 use Rattle.command_answers.specs.Explains.{IsExplanation}
 use Rattle.command_answers.specs.Timetables.{IsTimetable}
+use Rattle.command_answers.specs.BoundLines.{AreBounds}
 use Rattle.command_answers.specs.LogLines.{IsLogLine}
 use Rattle.command_answers.specs.Search.{IsSearchAnswer}
 use Rattle.command_answers.specs.Improving.{IsImproveAnswer, ordered}
-use Rattle.command_answers.specs.Commands.{PairOfFiles, RunsFacts, RunsShape, RunsCheck, RunsExplain, RunsSchedule, RunsLog, Loads}
+use Rattle.command_answers.specs.Commands.{PairOfFiles, RunsFacts, RunsShape, RunsCheck, RunsExplain, RunsSchedule, RunsBounds, RunsLog, Loads}
 use Rattle.command_answers.specs.declared.loading.Loaded.TheVariants.{Judged}
 use Rattle.command_answers.specs.declared.cells.Cells.{Cells}
 use Rattle.command_answers.specs.Cells.{AreAccepted, LoadsCells}
@@ -78,6 +79,9 @@ ExplainTellsInstanceFirst = TellsInstanceFirst (λ gives pair. RunsExplain gives
 
 abbrev pub ScheduleTellsInstanceFirst : Type 0
 ScheduleTellsInstanceFirst = TellsInstanceFirst (λ gives pair. RunsSchedule gives pair)
+
+abbrev pub BoundsTellInstanceFirst : Type 0
+BoundsTellInstanceFirst = TellsInstanceFirst (λ gives pair. RunsBounds gives pair)
 
 -- so it is for `audit` and for `gantt`
 abbrev pub LogTellsInstanceFirst : Type 0
@@ -150,6 +154,9 @@ ExplainAnswersPlan = AnswersPlan (λ gives pair. RunsExplain gives pair) IsExpla
 
 abbrev pub ScheduleAnswersPlan : Type 0
 ScheduleAnswersPlan = AnswersPlan (λ gives pair. RunsSchedule gives pair) IsTimetable
+
+abbrev pub BoundsAnswerPlan : Type 0
+BoundsAnswerPlan = AnswersPlan (λ gives pair. RunsBounds gives pair) AreBounds
 
 -- `audit` and `gantt`: where the plan is well shaped, what is told of the log
 abbrev pub LogIsAnswered : Type 0

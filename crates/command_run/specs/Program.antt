@@ -3,7 +3,7 @@ use Rattle.std.specs.Prelude.{◌≡◌, ℕ, List, [], Option, true, false, Res
 use Rattle.std.specs.String.{string_bytes}
 use Rattle.command_words.specs.declared.words.Chosen.{Chosen}
 use Rattle.command_words.specs.declared.words.CommandName.{CommandName}
-use Rattle.command_words.specs.declared.words.CommandName.TheVariants.{Input as NoWords, Facts, Shape, Check, Explain, Schedule, Plan, Improve, Drive, Resume, Hub, Audit, Gantt}
+use Rattle.command_words.specs.declared.words.CommandName.TheVariants.{Input as NoWords, Facts, Shape, Check, Explain, Schedule, Bounds, Plan, Improve, Drive, Resume, Hub, Audit, Gantt}
 use Rattle.command_words.specs.declared.words.WordsFault.{WordsFault}
 use Rattle.command_words.specs.declared.words.WordsFault.TheVariants.{Usage, Memory}
 use Rattle.command_words.specs.Choice.{IsChoiceOf, IsWithin, TellsOneOf, reasons_in, found_in}
@@ -13,7 +13,7 @@ use Rattle.command_answers.specs.declared.command_fault.CommandFault.{CommandFau
 use Rattle.command_answers.specs.declared.command_fault.CommandFault.TheVariants.{Memory as Wanting}
 use Rattle.command_answers.specs.declared.loading.Loaded.{Loaded}
 use Rattle.command_answers.specs.declared.logs.Telling.TheVariants.{Numbers, Drawing}
-use Rattle.command_answers.specs.Commands.{PairOfFiles, RunsFacts, RunsShape, RunsCheck, RunsExplain, RunsSchedule, RunsLog, Loads}
+use Rattle.command_answers.specs.Commands.{PairOfFiles, RunsFacts, RunsShape, RunsCheck, RunsExplain, RunsSchedule, RunsBounds, RunsLog, Loads}
 use Rattle.command_answers.specs.Cells.{LoadsCells}
 use Rattle.command_run.specs.Streams.{Streams, Devices}
 use Rattle.command_run.specs.Inputs.{RunsInput}
@@ -81,6 +81,8 @@ module _ {W : Type 0} (gives : W → List ℕ → Result (List ℕ) CommandFault
       RunsExplain gives (pair_in chosen) texts outcome texts_after × (after ≡ before)
   RunsCommand Schedule chosen texts before outcome texts_after after =
       RunsSchedule gives (pair_in chosen) texts outcome texts_after × (after ≡ before)
+  RunsCommand Bounds chosen texts before outcome texts_after after =
+      RunsBounds gives (pair_in chosen) texts outcome texts_after × (after ≡ before)
   RunsCommand Plan chosen texts before outcome texts_after after =
       SeeksPlan gives chosen.rounds (pair_in chosen) texts outcome texts_after × (after ≡ before)
   RunsCommand Improve chosen texts before outcome texts_after after =

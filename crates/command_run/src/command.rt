@@ -14,8 +14,8 @@ use crate::planners::seek_answer;
 use crate::resumes::resume_answer;
 use cell_drive::{Outlet, Source};
 use command_answers::{
-    Answered, Pair, Telling, Texts, check_answer, explain_answer, facts_answer, log_answer,
-    schedule_answer, shape_answer,
+    Answered, Pair, Telling, Texts, bounds_answer, check_answer, explain_answer, facts_answer,
+    log_answer, schedule_answer, shape_answer,
 };
 use command_words::{Chosen, CommandName};
 use std::alloc::Global;
@@ -69,6 +69,7 @@ pub(crate) fn command<T: Texts, R: Source, W: Outlet, S: Screen>(
         CommandName::Check => check_answer(alloc, texts, &pair(chosen)),
         CommandName::Explain => explain_answer(alloc, texts, &pair(chosen)),
         CommandName::Schedule => schedule_answer(alloc, texts, &pair(chosen)),
+        CommandName::Bounds => bounds_answer(alloc, texts, &pair(chosen)),
         CommandName::Plan => seek_answer(alloc, texts, &pair(chosen), chosen.rounds),
         CommandName::Improve => {
             let (rounds, seed) = (chosen.rounds, chosen.seed);

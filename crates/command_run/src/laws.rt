@@ -1,9 +1,9 @@
 //! What the program's clauses come to in plain words. Nothing is done here: a function's contract is the law.
 
-ghost use Rattle.command_run.specs.Laws.{FactsTellInstanceFirst, ShapeTellsInstanceFirst, CheckTellsInstanceFirst, ExplainTellsInstanceFirst, ScheduleTellsInstanceFirst};
+ghost use Rattle.command_run.specs.Laws.{FactsTellInstanceFirst, ShapeTellsInstanceFirst, CheckTellsInstanceFirst, ExplainTellsInstanceFirst, ScheduleTellsInstanceFirst, BoundsTellInstanceFirst};
 ghost use Rattle.command_run.specs.Laws.{LogTellsInstanceFirst, PlanTellsInstanceFirst, ImproveTellsInstanceFirst};
 ghost use Rattle.command_run.specs.Laws.{DriveTellsInstanceFirst, ResumeTellsInstanceFirst, HubTellsInstanceFirst};
-ghost use Rattle.command_run.specs.Laws.{FactsAnswerShop, ShapeAnswersPlan, CheckAnswersPlan, ExplainAnswersPlan, ScheduleAnswersPlan, LogIsAnswered};
+ghost use Rattle.command_run.specs.Laws.{FactsAnswerShop, ShapeAnswersPlan, CheckAnswersPlan, ExplainAnswersPlan, ScheduleAnswersPlan, BoundsAnswerPlan, LogIsAnswered};
 ghost use Rattle.command_run.specs.Laws.{PlanAnswersPlan, ImproveAnswersPlan, DriveDrivesPlan, ResumeGoesOn};
 ghost use Rattle.command_run.specs.Laws.{HubDrivesPlans, InputAnswersShop};
 ghost use Rattle.command_run.specs.Laws.{DriveAnswersByCheck, ResumeAnswersByCheck, HubAnswersByCheck, DriveWritesTheSame};
@@ -19,6 +19,7 @@ pub fn instance_first()
     ensures check { CheckTellsInstanceFirst }
     ensures explain { ExplainTellsInstanceFirst }
     ensures schedule { ScheduleTellsInstanceFirst }
+    ensures bounds { BoundsTellInstanceFirst }
     ensures log { LogTellsInstanceFirst }
     ensures plan { PlanTellsInstanceFirst }
     ensures improve { ImproveTellsInstanceFirst }
@@ -37,6 +38,7 @@ pub fn good_files_are_answered()
     ensures check { CheckAnswersPlan }
     ensures explain { ExplainAnswersPlan }
     ensures schedule { ScheduleAnswersPlan }
+    ensures bounds { BoundsAnswerPlan }
     ensures log { LogIsAnswered }
     ensures plan { PlanAnswersPlan }
     ensures improve { ImproveAnswersPlan }

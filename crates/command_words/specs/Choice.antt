@@ -10,7 +10,7 @@ use Rattle.clap.specs.declared.error.kind.ErrorKind.TheVariants.{DisplayHelp, Di
 use Rattle.command_words.specs.CommandLine.{command_line, most_rounds, greatest_seed}
 use Rattle.command_words.specs.declared.words.Chosen.{Chosen}
 use Rattle.command_words.specs.declared.words.CommandName.{CommandName}
-use Rattle.command_words.specs.declared.words.CommandName.TheVariants.{Input, Facts, Shape, Check, Explain, Schedule, Plan, Improve, Drive, Resume, Hub, Audit, Gantt}
+use Rattle.command_words.specs.declared.words.CommandName.TheVariants.{Input, Facts, Shape, Check, Explain, Schedule, Bounds, Plan, Improve, Drive, Resume, Hub, Audit, Gantt}
 use Rattle.command_words.specs.declared.words.WordsFault.{WordsFault}
 use Rattle.command_words.specs.declared.words.WordsFault.TheVariants.{Usage, Memory}
 
@@ -22,6 +22,7 @@ word_of Shape = Some (codes "shape")
 word_of Check = Some (codes "check")
 word_of Explain = Some (codes "explain")
 word_of Schedule = Some (codes "schedule")
+word_of Bounds = Some (codes "bounds")
 word_of Plan = Some (codes "plan")
 word_of Improve = Some (codes "improve")
 word_of Drive = Some (codes "drive")
@@ -38,6 +39,7 @@ TakesFiles Shape n = n ≡ 2
 TakesFiles Check n = n ≡ 2
 TakesFiles Explain n = n ≡ 2
 TakesFiles Schedule n = n ≡ 2
+TakesFiles Bounds n = n ≡ 2
 TakesFiles Plan n = n ≡ 2
 TakesFiles Improve n = n ≡ 2
 TakesFiles Drive n = n ≡ 2

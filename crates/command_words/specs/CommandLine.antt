@@ -6,7 +6,7 @@ use Rattle.clap.specs.Simple.{new_shape, with_subcommand}
 use Rattle.clap.specs.declared.builder.command.Command.{Command}
 use Rattle.clap.specs.declared.builder.command.Command.TheViews.{out-Command}
 use Rattle.command_words.specs.declared.words.CommandName.{CommandName}
-use Rattle.command_words.specs.declared.words.CommandName.TheVariants.{Input, Facts, Shape as ShapeName, Check, Explain, Schedule, Plan, Improve, Drive, Resume, Hub, Audit, Gantt}
+use Rattle.command_words.specs.declared.words.CommandName.TheVariants.{Input, Facts, Shape as ShapeName, Check, Explain, Schedule, Bounds, Plan, Improve, Drive, Resume, Hub, Audit, Gantt}
 use Rattle.clap.specs.declared.builder.value_parser.ValueParser.TheVariants.{Signed}
 
 -- a file that has to be named, under the name that help gives it
@@ -71,6 +71,7 @@ described ShapeName = plan_command (codes "shape") []
 described Check = plan_command (codes "check") []
 described Explain = plan_command (codes "explain") []
 described Schedule = plan_command (codes "schedule") []
+described Bounds = plan_command (codes "bounds") []
 described Plan = plan_command (codes "plan") (rounds_rule ∷ [])
 described Improve = plan_command (codes "improve") (rounds_rule ∷ seed_rule ∷ [])
 described Drive = plan_command (codes "drive") []
@@ -90,7 +91,7 @@ program_with names = fold with_subcommand (leaf bare_program) (map described nam
 -- the whole command line, with the commands in the order in which help lists them
 abbrev pub command_line : App
 command_line = program_with
-    (Facts ∷ ShapeName ∷ Check ∷ Explain ∷ Schedule ∷ Plan ∷ Improve
+    (Facts ∷ ShapeName ∷ Check ∷ Explain ∷ Schedule ∷ Bounds ∷ Plan ∷ Improve
     ∷ Drive ∷ Resume ∷ Hub ∷ Audit ∷ Gantt ∷ [])
 
 -- the command that the code builds is the described one

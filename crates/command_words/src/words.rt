@@ -29,6 +29,8 @@ pub enum CommandName {
     Explain,
     /// When what begins and ends, and how late each may end.
     Schedule,
+    /// What no plan can do, whatever its orders.
+    Bounds,
     /// The search of an accepted plan.
     Plan,
     /// The search of a better plan.
@@ -181,6 +183,7 @@ fn name_of(word: &str) -> CommandName
         "check" => CommandName::Check,
         "explain" => CommandName::Explain,
         "schedule" => CommandName::Schedule,
+        "bounds" => CommandName::Bounds,
         "plan" => CommandName::Plan,
         "improve" => CommandName::Improve,
         "drive" => CommandName::Drive,

@@ -19,7 +19,7 @@ use Rattle.clap.proofs.ValueTestLemmas.{accepts-Accepts}
 use Rattle.command_words.specs.CommandLine.{command, command_line, log_command, plan_command, most_rounds, greatest_seed, plans_rule, rounds_rule, seed_rule}
 use Rattle.command_words.specs.Choice.{FitsUpTo, Found, IsFit, TakesFiles, TellsOneOf, TellsReason, files_in, found_in, reasons_in, values_of, word_of}
 use Rattle.command_words.specs.declared.words.CommandName.{CommandName}
-use Rattle.command_words.specs.declared.words.CommandName.TheVariants.{Facts, Shape as ShapeName, Check, Explain, Schedule, Plan, Improve, Drive, Resume, Hub, Audit, Gantt}
+use Rattle.command_words.specs.declared.words.CommandName.TheVariants.{Facts, Shape as ShapeName, Check, Explain, Schedule, Bounds, Plan, Improve, Drive, Resume, Hub, Audit, Gantt}
 use Rattle.command_words.specs.declared.words.WordsFault.{WordsFault}
 use Rattle.command_words.specs.declared.words.WordsFault.TheVariants.{Usage, Memory}
 use Rattle.command_words.proofs.words.Fits.{FitFound, PlainRule, PlainRules, both_none, found_fits, least_of}
@@ -243,18 +243,21 @@ leaves = (
         (
           plan_fits (codes "schedule") Schedule refl (λ x y z p q r. omega arith),
           (
-            search_fits,
+            plan_fits (codes "bounds") Bounds refl (λ x y z p q r. omega arith),
             (
-              improvement_fits,
+              search_fits,
               (
-                plan_fits (codes "drive") Drive refl (λ x y z p q r. omega arith),
+                improvement_fits,
                 (
-                  log_fits (codes "resume") Resume refl (λ x y z p q r. omega arith),
+                  plan_fits (codes "drive") Drive refl (λ x y z p q r. omega arith),
                   (
-                    hub_fits,
+                    log_fits (codes "resume") Resume refl (λ x y z p q r. omega arith),
                     (
-                      log_fits (codes "audit") Audit refl (λ x y z p q r. omega arith),
-                      (log_fits (codes "gantt") Gantt refl (λ x y z p q r. omega arith), tt),
+                      hub_fits,
+                      (
+                        log_fits (codes "audit") Audit refl (λ x y z p q r. omega arith),
+                        (log_fits (codes "gantt") Gantt refl (λ x y z p q r. omega arith), tt),
+                      ),
                     ),
                   ),
                 ),

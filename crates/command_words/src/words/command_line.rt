@@ -163,6 +163,11 @@ fn command_of<'a>(alloc: Global, name: CommandName) -> Result<Command<'a>, Alloc
             "schedule",
             "Tells when what begins and ends, and how late it may end",
         ),
+        CommandName::Bounds => on_plan(
+            alloc,
+            "bounds",
+            "Tells before which moments no plan has the jobs out",
+        ),
         CommandName::Plan => search(alloc),
         CommandName::Improve => improvement(alloc),
         CommandName::Drive => on_plan(
@@ -206,6 +211,7 @@ pub fn whole<'a>(alloc: Global) -> Result<Command<'a>, AllocError>
         CommandName::Check,
         CommandName::Explain,
         CommandName::Schedule,
+        CommandName::Bounds,
         CommandName::Plan,
         CommandName::Improve,
         CommandName::Drive,

@@ -2,6 +2,7 @@ use Rattle.command_answers.specs.Shapes.{IsShapeLine}
 use Rattle.command_answers.specs.Checks.{IsCheckLine}
 use Rattle.command_answers.specs.Explains.{IsExplanation}
 use Rattle.command_answers.specs.Timetables.{IsTimetable}
+use Rattle.command_answers.specs.BoundLines.{AreBounds}
 use Rattle.command_run.proofs.GoodFiles.{good_facts, good_plan, good_log, good_search, good_improvement, good_drive, good_resume}
 use Rattle.command_run.proofs.GoodHubs.{good_hub}
 use Rattle.command_run.proofs.GoodInputs.{good_input}
@@ -21,6 +22,9 @@ returns-clause-explain c = λ content pair p outcome asked good run. good_plan c
 
 pub returns-clause-schedule : goal.returns-clause-schedule
 returns-clause-schedule c = λ content pair p outcome asked good run. good_plan content pair p good IsTimetable outcome asked run
+
+pub returns-clause-bounds : goal.returns-clause-bounds
+returns-clause-bounds c = λ content pair p outcome asked good run. good_plan content pair p good AreBounds outcome asked run
 
 pub returns-clause-log : goal.returns-clause-log
 returns-clause-log c = λ telling content pair log text p outcome asked good is shaped run. good_log content pair p good telling log text outcome asked is shaped run

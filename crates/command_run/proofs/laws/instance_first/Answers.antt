@@ -16,6 +16,9 @@ returns-clause-explain c = λ content pair text fault outcome asked is first run
 pub returns-clause-schedule : goal.returns-clause-schedule
 returns-clause-schedule c = λ content pair text fault outcome asked is first run. told_first content pair text fault is first _ outcome asked run
 
+pub returns-clause-bounds : goal.returns-clause-bounds
+returns-clause-bounds c = λ content pair text fault outcome asked is first run. told_first content pair text fault is first _ outcome asked run
+
 pub returns-clause-log : goal.returns-clause-log
 returns-clause-log c = λ telling log content pair text fault outcome asked is first run. told_first content pair text fault is first _ outcome asked run
 
