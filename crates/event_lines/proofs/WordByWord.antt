@@ -87,3 +87,6 @@ pub no_number : (most : ℕ) (line : List ℕ) → ((n : ℕ) (rest : List ℕ) 
 no_number most line none n next words found =
     let first = front_of line (Number most n) next words found in
     none n first.1 (record { word = first.0; numeral = first.3; split = first.2 })
+
+-- the first word and what stands behind it, or the only word
+pub ruleset word_steps = (behind, before, only_of, alone_number)

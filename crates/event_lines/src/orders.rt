@@ -53,6 +53,7 @@ pub fn put_order(line: &mut LineText, order: MoveOrder)
 }
 
 /// The spot that the word before the first space is, and the words behind it.
+#[tactic(auto, using(crate::proofs::WordByWord::text_first, crate::proofs::Ends::no_spot))]
 fn spot_first(words: &[u8]) -> Option<(Spot, &[u8])>
     ensures { TakesFirst spot_word words.now result }
 {
@@ -79,6 +80,7 @@ fn spot_last(word: &[u8]) -> Option<Spot>
 }
 
 /// The spots that two words are.
+#[tactic(auto, using(crate::proofs::WordByWord::word_steps))]
 fn spots_of(words: &[u8]) -> Option<(Spot, Spot)>
     ensures { SomePairIfAny result (λ source target. IsReadAs words.now (spot_word source ∷ spot_word target ∷ [])) }
 {
@@ -88,6 +90,7 @@ fn spots_of(words: &[u8]) -> Option<(Spot, Spot)>
 }
 
 /// The order that the words behind `order` tell.
+#[tactic(auto, using(crate::proofs::WordByWord::word_steps))]
 pub(crate) fn move_order_of(words: &[u8]) -> Option<MoveOrder>
     ensures { SomeIfAny result (λ order. IsReadAs words.now (move_words order)) }
 {

@@ -77,6 +77,7 @@ pub fn put_report(line: &mut LineText, report: Report)
 }
 
 /// What has ended at this moment, as the words tell.
+#[tactic(auto, using(crate::proofs::Ends::no_end))]
 fn ended_of(words: &[u8], at: Moment) -> Option<Report>
     ensures { SomeIfAny result (λ report. IsReadAs words.now (end_words report) × ((said report).at ≡ at)) }
 {
@@ -99,6 +100,7 @@ fn ended_of(words: &[u8], at: Moment) -> Option<Report>
 }
 
 /// The report that the words behind `report` tell.
+#[tactic(auto, using(crate::proofs::WordByWord::word_steps, crate::proofs::WordByWord::same_first))]
 pub(crate) fn told_report_of(words: &[u8]) -> Option<Report>
     ensures { SomeIfAny result (λ report. IsReadAs words.now (moment (said report).at ∷ end_words report)) }
 {

@@ -9,6 +9,7 @@ use shop_base::Moment;
 use text_lines::{number_before_space, number_of, short_number_of};
 
 /// The number before the first space, and the words behind it.
+#[tactic(auto, using(crate::proofs::WordByWord::no_number, crate::proofs::WordByWord::first_number))]
 #[inline(always)]
 pub(crate) fn number_first(words: &[u8], most: usize) -> Option<(u64, &[u8])>
     requires { most ≤ 18 }
@@ -20,6 +21,7 @@ pub(crate) fn number_first(words: &[u8], most: usize) -> Option<(u64, &[u8])>
 }
 
 /// The number of a job, a machine or a cell that is the only word.
+#[tactic(auto, using(crate::proofs::WordByWord::word_steps))]
 #[inline(always)]
 pub(crate) fn short_last(word: &[u8]) -> Option<u32>
     ensures { SomeIfAny result (IsOnly short word.now) }
@@ -29,6 +31,7 @@ pub(crate) fn short_last(word: &[u8]) -> Option<u32>
 }
 
 /// The number of a job or a machine, and the moment behind it.
+#[tactic(auto, using(crate::proofs::WordByWord::word_steps))]
 #[inline(always)]
 pub(crate) fn number_and_moment(words: &[u8]) -> Option<(u32, Moment)>
     ensures { SomePairIfAny result (λ n at. IsReadAs words.now (short n ∷ moment at ∷ [])) }

@@ -1,9 +1,0 @@
-use Rattle.event_lines.specs.Words.{short}
-use Rattle.event_lines.proofs.WordByWord.{only_of, alone_number}
-use Rattle.event_lines.proofs.words.short_last.Goals as goal
-
-pub returns-in_err-number : goal.returns-in_err-number
-returns-in_err-number c = rw c.from_residual.ensures (λ n found. c.in_err-number.ensures n (only_of c.args.word.now (short n) found))
-
-pub returns : goal.returns
-returns c = alone_number 9 c.in_ok-number.number c.args.word.now c.in_ok-number.ensures
