@@ -24,7 +24,7 @@ use Rattle.command_answers.proofs.CheckLines.{line_of_loaded}
 use Rattle.command_run.specs.Streams.{Streams}
 use Rattle.command_run.specs.Hubs.{DrivesAll}
 use Rattle.command_run.specs.Program.{RunsHub}
-use Rattle.command_run.specs.Laws.{Shelf, IsAnswered, TellsPlanOf, TellsAccepted, TellAccepted, DrivesPlans, IsNumberedLine}
+use Rattle.command_run.specs.Laws.{Shelf, IsAnswered, TellsPlanOf, TellsAcceptedPlan, TellAcceptedPlans, DrivesPlans, IsNumberedLine}
 use Rattle.plan_verifier.proofs.Reasons.{reason_refutes}
 use Rattle.command_run.proofs.GoodFiles.{answered, wanting, asked_and_read}
 
@@ -68,7 +68,7 @@ module _ (content : List ℕ → Result (List ℕ) CommandFault) (instance : Lis
   one_came path p good (Err f) before mid loaded asked is same on = wanting _ _ loaded asked (on.0 ∙ ap Err (is.only good.tell.description p.shop good.tell.shop))
 
   -- behind it come the others
-  others_come : (path : List ℕ) (p : PlannedShop) → TellsAccepted content instance name path p → (paths : List (List ℕ)) (plans : List PlannedShop) (cells : List VerifiedPlan) (before mid : List (List ℕ))
+  others_come : (path : List ℕ) (p : PlannedShop) → TellsAcceptedPlan content instance name path p → (paths : List (List ℕ)) (plans : List PlannedShop) (cells : List VerifiedPlan) (before mid : List (List ℕ))
       → ((more : List VerifiedPlan) (here : List (List ℕ)) (loaded : Result Cells CommandFault) (asked : List (List ℕ)) → LoadsEach (Shelf content) instance name more paths here loaded asked
       → IsAnswered (AreCellsOf (plans_of more ++ plans)) (here ++ paths) loaded asked)
       → (one : Result Loaded CommandFault) (loaded : Result Cells CommandFault) (asked : List (List ℕ)) → IsAnswered (IsLoaded p) (before ++ path ∷ []) one mid
@@ -87,7 +87,7 @@ module _ (content : List ℕ → Result (List ℕ) CommandFault) (instance : Lis
       (subst (λ (fs : List (List ℕ)). IsAnswered (AreCellsOf (plans_of (cells ++ v ∷ []) ++ plans)) fs loaded asked) files (rest (cells ++ v ∷ []) mid loaded asked on))
 
   -- the plans that are left are accepted, behind those that are so far
-  each_come : (paths : List (List ℕ)) (plans : List PlannedShop) → TellAccepted content instance name paths plans → (cells : List VerifiedPlan) (here : List (List ℕ)) (loaded : Result Cells CommandFault)
+  each_come : (paths : List (List ℕ)) (plans : List PlannedShop) → TellAcceptedPlans content instance name paths plans → (cells : List VerifiedPlan) (here : List (List ℕ)) (loaded : Result Cells CommandFault)
       (asked : List (List ℕ)) → LoadsEach (Shelf content) instance name cells paths here loaded asked → IsAnswered (AreCellsOf (plans_of cells ++ plans)) (here ++ paths) loaded asked
   each_come [] [] good cells here (Ok (AllAccepted all)) asked loads = (ap plans_of loads.0 ∙ sym (append-nil (plans_of cells)), loads.1 ∙ sym (append-nil here))
   each_come [] [] good cells here (Ok (Line answer)) asked loads = absurd loads.0
@@ -98,7 +98,7 @@ module _ (content : List ℕ → Result (List ℕ) CommandFault) (instance : Lis
       let one = one_came path p good.0.told loads.is.came here loads.is.mid loads.came loads.mid loads.is.is.0 loads.is.is.1 loads.is.goes_on in
       others_come path p good.0 paths plans cells here loads.mid (λ more now those files each. each_come paths plans good.1 more now those files each) loads.came loaded asked one loads.goes_on
 
-  cells_come : (path : List ℕ) (files : List (List ℕ)) (plans : List PlannedShop) → content path ≡ Ok instance → TellAccepted content instance name files plans → (came : Result (List ℕ) CommandFault)
+  cells_come : (path : List ℕ) (files : List (List ℕ)) (plans : List PlannedShop) → content path ≡ Ok instance → TellAcceptedPlans content instance name files plans → (came : Result (List ℕ) CommandFault)
       (mid : List (List ℕ)) (loaded : Result Cells CommandFault) (asked : List (List ℕ)) → Asks (Shelf content) path [] came mid → GoesOn (λ t. LoadsEach (Shelf content) t name [] files) came mid loaded asked
       → IsAnswered (AreCellsOf plans) (path ∷ files) loaded asked
   cells_come path files plans is good (Ok t) mid loaded asked given on =
@@ -108,7 +108,7 @@ module _ (content : List ℕ → Result (List ℕ) CommandFault) (instance : Lis
   cells_come path files plans is good (Err f) mid loaded asked given on = absurd (let both : Err f ≡ Ok instance = given.1.0 ∙ is in cc both)
 
   pub good_hub : (path : List ℕ) (files : List (List ℕ)) (plans : List PlannedShop) (before after : Streams) (outcome : Result Answer CommandFault) (asked : List (List ℕ)) → content path ≡ Ok instance
-      → TellAccepted content instance name files plans → RunsHub (Shelf content) path name files [] before outcome asked after → ((asked ≡ path ∷ files) × DrivesPlans plans before after outcome) ⊎ ((outcome ≡ Err Memory) × (after ≡ before))
+      → TellAcceptedPlans content instance name files plans → RunsHub (Shelf content) path name files [] before outcome asked after → ((asked ≡ path ∷ files) × DrivesPlans plans before after outcome) ⊎ ((outcome ≡ Err Memory) × (after ≡ before))
   good_hub path files plans before after outcome asked is good run =
       cells_drive (path ∷ files) plans run.loaded before after outcome asked (cells_come path files plans is good run.loads.came run.loads.mid run.loaded asked run.loads.is run.loads.goes_on) run.drives
 
@@ -143,7 +143,7 @@ module _ (content : List ℕ → Result (List ℕ) CommandFault) (instance : Lis
   ends_there cells rest (Ok (Judged (Accepted v))) mid files loaded asked is on = absurd (never is.0.well_shaped is.0.accepted.1)
 
   -- an accepted plan is passed
-  passes : (path : List ℕ) (q : PlannedShop) → TellsAccepted content instance name path q → (paths : List (List ℕ)) (cells : List VerifiedPlan) (before mid : List (List ℕ))
+  passes : (path : List ℕ) (q : PlannedShop) → TellsAcceptedPlan content instance name path q → (paths : List (List ℕ)) (cells : List VerifiedPlan) (before mid : List (List ℕ))
       → ((more : List VerifiedPlan) (here : List (List ℕ)) (loaded : Result Cells CommandFault) (asked : List (List ℕ)) → LoadsEach (Shelf content) instance name more (paths ++ file ∷ others) here loaded asked
       → IsAnswered (IsCellsLine (length more + length paths) p) (here ++ (paths ++ file ∷ [])) loaded asked)
       → (one : Result Loaded CommandFault) (loaded : Result Cells CommandFault) (asked : List (List ℕ)) → IsAnswered (IsLoaded q) (before ++ path ∷ []) one mid
@@ -160,7 +160,7 @@ module _ (content : List ℕ → Result (List ℕ) CommandFault) (instance : Lis
       subst (λ (n : ℕ). IsAnswered (IsCellsLine n p) (before ++ path ∷ (paths ++ file ∷ [])) loaded asked) number
       (subst (λ (fs : List (List ℕ)). IsAnswered (IsCellsLine (length (cells ++ v ∷ []) + length paths) p) fs loaded asked) files (rest (cells ++ v ∷ []) mid loaded asked on))
 
-  line_comes : (paths : List (List ℕ)) (plans : List PlannedShop) → TellAccepted content instance name paths plans → (cells : List VerifiedPlan) (here : List (List ℕ)) (loaded : Result Cells CommandFault)
+  line_comes : (paths : List (List ℕ)) (plans : List PlannedShop) → TellAcceptedPlans content instance name paths plans → (cells : List VerifiedPlan) (here : List (List ℕ)) (loaded : Result Cells CommandFault)
       (asked : List (List ℕ)) → LoadsEach (Shelf content) instance name cells (paths ++ file ∷ others) here loaded asked
       → IsAnswered (IsCellsLine (length cells + length paths) p) (here ++ (paths ++ file ∷ [])) loaded asked
   line_comes [] [] good cells here loaded asked loads =
@@ -173,7 +173,7 @@ module _ (content : List ℕ → Result (List ℕ) CommandFault) (instance : Lis
       let one = one_came content instance name path q good.0.told loads.is.came here loads.is.mid loads.came loads.mid loads.is.is.0 loads.is.is.1 loads.is.goes_on in
       passes path q good.0 paths cells here loads.mid (λ more now those files each. line_comes paths plans good.1 more now those files each) loads.came loaded asked one loads.goes_on
 
-  line_of_cells : (path : List ℕ) (files : List (List ℕ)) (plans : List PlannedShop) → content path ≡ Ok instance → TellAccepted content instance name files plans → (came : Result (List ℕ) CommandFault)
+  line_of_cells : (path : List ℕ) (files : List (List ℕ)) (plans : List PlannedShop) → content path ≡ Ok instance → TellAcceptedPlans content instance name files plans → (came : Result (List ℕ) CommandFault)
       (mid : List (List ℕ)) (loaded : Result Cells CommandFault) (asked : List (List ℕ)) → Asks (Shelf content) path [] came mid → GoesOn (λ t. LoadsEach (Shelf content) t name [] (files ++ file ∷ others)) came mid loaded asked
       → IsAnswered (IsCellsLine (length files) p) (path ∷ (files ++ file ∷ [])) loaded asked
   line_of_cells path files plans is good (Ok t) mid loaded asked given on =
@@ -185,7 +185,7 @@ module _ (content : List ℕ → Result (List ℕ) CommandFault) (instance : Lis
   line_of_cells path files plans is good (Err f) mid loaded asked given on = absurd (let both : Err f ≡ Ok instance = given.1.0 ∙ is in cc both)
 
   pub no_hub : (path : List ℕ) (files : List (List ℕ)) (plans : List PlannedShop) (before after : Streams) (outcome : Result Answer CommandFault) (asked : List (List ℕ)) → content path ≡ Ok instance
-      → TellAccepted content instance name files plans → RunsHub (Shelf content) path name (files ++ file ∷ others) [] before outcome asked after
+      → TellAcceptedPlans content instance name files plans → RunsHub (Shelf content) path name (files ++ file ∷ others) [] before outcome asked after
       → IsAnswered (IsNumberedLine (length files) p) (path ∷ (files ++ file ∷ [])) outcome asked × (after ≡ before)
   no_hub path files plans before after outcome asked is good run =
       line_answered (length files) p (path ∷ (files ++ file ∷ [])) run.loaded before after outcome asked

@@ -195,16 +195,16 @@ pub record TellsPlanOf (content : List ℕ → Result (List ℕ) CommandFault) (
   pub tell : TellBoth instance name plan p
 
 -- and the plan is accepted
-pub record TellsAccepted (content : List ℕ → Result (List ℕ) CommandFault) (instance : List ℕ) (name : Option (List ℕ)) (path : List ℕ) (p : PlannedShop) : Type 0 where
+pub record TellsAcceptedPlan (content : List ℕ → Result (List ℕ) CommandFault) (instance : List ℕ) (name : Option (List ℕ)) (path : List ℕ) (p : PlannedShop) : Type 0 where
   pub told : TellsPlanOf content instance name path p
   pub well_shaped : IsWellShaped p
   pub acceptable : IsAcceptable p
 
 -- the files of these paths tell these plans, one each
-abbrev pub TellAccepted : (List ℕ → Result (List ℕ) CommandFault) → List ℕ → Option (List ℕ) → List (List ℕ) → List PlannedShop → Type 0
-TellAccepted content instance name [] [] = Unit {0}
-TellAccepted content instance name (path ∷ paths) (p ∷ plans) = TellsAccepted content instance name path p × TellAccepted content instance name paths plans
-TellAccepted content instance name paths plans = ⊥
+abbrev pub TellAcceptedPlans : (List ℕ → Result (List ℕ) CommandFault) → List ℕ → Option (List ℕ) → List (List ℕ) → List PlannedShop → Type 0
+TellAcceptedPlans content instance name [] [] = Unit {0}
+TellAcceptedPlans content instance name (path ∷ paths) (p ∷ plans) = TellsAcceptedPlan content instance name path p × TellAcceptedPlans content instance name paths plans
+TellAcceptedPlans content instance name paths plans = ⊥
 
 -- the cells of these plans were driven
 abbrev pub DrivesPlans : List PlannedShop → Streams → Streams → Result Answer CommandFault → Type 0
@@ -213,7 +213,7 @@ DrivesPlans plans before after outcome = (cells : List VerifiedPlan) × (map (λ
 -- `hub`: where all plans are accepted, their cells are driven, with exactly these files asked for, unless memory runs out before, with no byte read or written
 abbrev pub HubDrivesPlans : Type 0
 HubDrivesPlans = (before after : Streams) (content : List ℕ → Result (List ℕ) CommandFault) (path instance : List ℕ) (name : Option (List ℕ)) (files : List (List ℕ)) (plans : List PlannedShop) (outcome : Result Answer CommandFault) (asked : List (List ℕ))
-    → content path ≡ Ok instance → TellAccepted content instance name files plans → RunsHub (Shelf content) path name files [] before outcome asked after
+    → content path ≡ Ok instance → TellAcceptedPlans content instance name files plans → RunsHub (Shelf content) path name files [] before outcome asked after
     → ((asked ≡ path ∷ files) × DrivesPlans plans before after outcome) ⊎ ((outcome ≡ Err Memory) × (after ≡ before))
 
 -- the whole input was read, and is answered by the line of the shop's facts; no answer is given only where a read failed or memory ran out
@@ -254,7 +254,7 @@ pub record IsNumberedLine (number : ℕ) (p : PlannedShop) (answer : Answer) : T
 abbrev pub HubAnswersByCheck : Type 0
 HubAnswersByCheck = (before after : Streams) (content : List ℕ → Result (List ℕ) CommandFault) (path instance : List ℕ) (name : Option (List ℕ)) (files : List (List ℕ)) (plans : List PlannedShop)
     (file : List ℕ) (p : PlannedShop) (others : List (List ℕ)) (outcome : Result Answer CommandFault) (asked : List (List ℕ))
-    → content path ≡ Ok instance → TellAccepted content instance name files plans → TellsPlanOf content instance name file p → (IsWellShaped p → IsAcceptable p → ⊥)
+    → content path ≡ Ok instance → TellAcceptedPlans content instance name files plans → TellsPlanOf content instance name file p → (IsWellShaped p → IsAcceptable p → ⊥)
     → RunsHub (Shelf content) path name (files ++ file ∷ others) [] before outcome asked after
     → IsAnswered (IsNumberedLine (length files) p) (path ∷ (files ++ file ∷ [])) outcome asked × (after ≡ before)
 
