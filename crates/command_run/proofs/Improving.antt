@@ -1,8 +1,9 @@
 -- A search for better plans by improvers that may answer more.
-use Rattle.std.proofs.Common.{◌≡◌, ℕ, zero, suc, List, [], ◌∷◌, Result, Ok, Err, inl, inr, length, slice_index_or, subst, refl, arith}
+use Rattle.std.proofs.Common.{◌≡◌, ℕ, zero, suc, ◌<◌, List, [], ◌∷◌, Result, Ok, Err, Some, inl, inr, length, slice_get, subst, refl, arith}
+use Rattle.std.proofs.lemmas.Option.{slice_get_within}
 use Rattle.shop_base.specs.Plan.{PlannedShop}
 use Rattle.plan_seek.specs.Orders.{Proposal}
-use Rattle.plan_improve.specs.Runs.{Asked, AfterSome, nobody, one_more, AfterRounds, no_round, round_more, Rounds}
+use Rattle.plan_improve.specs.Runs.{Asked, AfterSome, nobody, one_more, AfterRounds, no_round, round_more, RoundsTold, Rounds}
 use Rattle.plan_improve.specs.Watching.{Told as Telling}
 use Rattle.command_answers.specs.declared.answer.Answer.{Answer}
 use Rattle.command_answers.specs.declared.command_fault.CommandFault.{CommandFault}
@@ -45,21 +46,24 @@ runs_more gives made more less rounds pair before outcome after =
     then_more (ReadsBoth gives pair) (λ p. Told (IsImproveAnswer made rounds (ordered p))) (λ p. Told (IsImproveAnswer more rounds (ordered p))) before outcome after
     (λ p last is. (answer_more made more rounds less (ordered p) outcome is.0, is.1))
 
-stands_alone : (who : Unit {0}) (n : ℕ) → slice_index_or (who ∷ []) n who ≡ who
-stands_alone who zero = refl
-stands_alone who (suc n) = refl
+stands_alone : (who : Unit {0}) (n : ℕ) → n < 1 → slice_get (who ∷ []) n ≡ Some who
+stands_alone who zero lt = refl
+stands_alone who (suc n) lt = absurd (omega arith)
 
 module _ {B : Type 0} (may : B → PlannedShop → ℕ → Proposal → Type 0) (improvers : List B) (alone : length improvers ≡ 1) where
   -- what one improver makes of a plan is what one that may answer anything makes of it
   some_more : (round : ℕ) (p : PlannedShop) (n : ℕ) (r : PlannedShop) → AfterSome may improvers round p n r → AfterSome MayImprove (tt ∷ []) round p n r
   some_more round p n r nobody = nobody
-  some_more round p n r (one_more m who q s answer run inside stands given becomes) =
-      one_more m tt q s answer (some_more round p m q run) (omega (arith, alone, inside)) (stands_alone tt m) tt becomes
+  some_more round p n r (one_more m who q s answer run stands given becomes) =
+      one_more m tt q s answer (some_more round p m q run) (stands_alone tt m (omega (arith, alone, slice_get_within improvers m who stands))) tt becomes
 
   rounds_more : (p : PlannedShop) (n : ℕ) (told : List Telling) (r : PlannedShop) → AfterRounds may improvers p n told r → AfterRounds MayImprove (tt ∷ []) p n told r
   rounds_more p n told r no_round = no_round
-  rounds_more p n told r (round_more m before q s cost run is last) =
-      round_more m before q s cost (rounds_more p m before q run) is (subst (λ k. AfterSome MayImprove (tt ∷ []) m q k s) alone (some_more m q (length improvers) s last))
+  rounds_more p n told r (round_more m before q s cost at_least run is bound unmet last) =
+      round_more m before q s cost at_least (rounds_more p m before q run) is bound unmet (subst (λ k. AfterSome MayImprove (tt ∷ []) m q k s) alone (some_more m q (length improvers) s last))
+
+  told_more : (rounds : ℕ) (told : List Telling) (p q : PlannedShop) → RoundsTold may improvers rounds told p q → RoundsTold MayImprove (tt ∷ []) rounds told p q
+  told_more rounds told p q is = record { asked = is.asked; after = rounds_more p is.asked told q is.after; ends = is.ends }
 
   -- a search by one improver
   pub improves : {W : Type 0} (gives : W → List ℕ → Result (List ℕ) CommandFault → W → Type 0)
@@ -67,4 +71,4 @@ module _ {B : Type 0} (may : B → PlannedShop → ℕ → Proposal → Type 0) 
       → RunsImprove gives (Rounds may improvers rounds) rounds pair before outcome after
       → RunsImprove gives (AsksOne rounds) rounds pair before outcome after
   improves gives rounds pair before outcome after =
-      runs_more gives (Rounds may improvers rounds) (AsksOne rounds) (λ p q found. (found.0, rounds_more p rounds found.0 q found.1)) rounds pair before outcome after
+      runs_more gives (Rounds may improvers rounds) (AsksOne rounds) (λ p q found. (found.0, told_more rounds found.0 p q found.1)) rounds pair before outcome after

@@ -7,8 +7,8 @@ use plan_improve::Watch;
 use shop_base::Moment;
 use text_lines::LineText;
 
-/// The bytes of the longest line: two numbers of 10 digits, two of 20, and the words before them.
-const ROOM: usize = 86;
+/// The bytes of the longest line: two numbers of 10 digits, three of 20, and the words before them.
+const ROOM: usize = 119;
 
 /// Tells each round on a screen.
 #[derive(Drop)]
@@ -21,8 +21,10 @@ pub(crate) struct Progress<'a, S> {
 impl<S: Screen> Watch for Progress<'_, S> {
     ghost told = { λ _. None };
 
-    fn round(&mut self, round: u32, late: Moment, makespan: Moment) {
+    fn round(&mut self, round: u32, late: Moment, makespan: Moment, at_least: Moment) {
         let mut line: LineText<ROOM> = LineText::empty();
+        line.put_number(at_least);
+        line.put_text(b" of at least ");
         line.put_number(makespan);
         line.put_text(b" makespan ");
         line.put_number(late);

@@ -7,4 +7,4 @@ mod Leasts
 mod Steps
 mod Made
 mod Greater
-mod Bounded
+pub mod Bounded

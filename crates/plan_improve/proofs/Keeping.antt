@@ -1,20 +1,24 @@
 -- What is known of the best plan so far, and how an answer keeps it.
-use Rattle.std.proofs.Common.{◌≡◌, ℕ, ◌+◌, ◌-◌, ◌<◌, ◌≤◌, List, [], ◌∷◌, ◌++◌, append_assoc, Option, length, get_or, None, Some, inl, inr, arith, refl, sym, ap, ◌∙◌, subst}
+use Rattle.std.proofs.Common.{◌≡◌, ℕ, ◌+◌, ◌-◌, ◌<◌, ◌≤◌, ◌⊎◌, List, [], ◌∷◌, ◌++◌, append_assoc, Option, length, get_or, None, Some, inl, inr, arith, refl, sym, ap, ◌∙◌, subst}
 use Rattle.std.proofs.lemmas.List.{append-nil}
+use Rattle.std.proofs.lemmas.Option.{slice_get_read}
 use Rattle.shop_base.specs.Plan.{PlannedShop, jobs, budget, IsWellShaped}
 use Rattle.shop_base.specs.declared.node.Node.{Node}
 use Rattle.shop_base.specs.Ends.{sum_below}
 use Rattle.shop_base.specs.Graph.{leaving}
 use Rattle.shop_base.proofs.Sums.{sum_below_same}
 use Rattle.plan_verifier.specs.Accepted.{IsGreatest}
+use Rattle.plan_bounds.specs.Bounds.{times_of}
+use Rattle.plan_bounds.specs.Makespan.{IsBy}
 use Rattle.plan_seek.specs.Orders.{Proposal}
 use Rattle.plan_verifier.proofs.Reasons.{makespan_le}
 use Rattle.plan_improve.specs.declared.cost.Cost.{Cost}
 use Rattle.plan_improve.specs.declared.best.Best.{Best}
+use Rattle.plan_improve.specs.AtBound.{IsBound, Meets, IsAtBound}
 use Rattle.plan_improve.specs.Costs.{IsLateness, IsCost, IsLess, IsAtMost, IsBetter}
 use Rattle.plan_improve.specs.Reordered.{reordered, IsReordered}
 use Rattle.plan_improve.specs.Watching.{Told, IsToldMore}
-use Rattle.plan_improve.specs.Runs.{Becomes, no_answer, no_better, better, AfterSome, nobody, one_more, AfterRounds, no_round, round_more}
+use Rattle.plan_improve.specs.Runs.{Becomes, no_answer, no_better, better, AfterSome, nobody, one_more, AfterRounds, no_round, round_more, RoundsTold}
 use Rattle.plan_improve.specs.Keeping.{IsNext, IsLast, IsLastTold}
 
 -- the numbers stay the same from one plan to the next
@@ -111,6 +115,10 @@ next_better p x c d order is new shaped cost less = record {
   most = most_less d c less;
 }
 
+-- plans that differ in their orders alone have one bound
+pub same_bound : (p q : PlannedShop) (n : ℕ) → IsReordered p q → IsBound p n → IsBound q n
+same_bound p q n same (by, is) = (by, subst (λ t. IsBy t n by) (sym (ap times_of same)) is)
+
 -- nothing was told, and then more
 told_nothing : (before : Option (List Told)) → IsToldMore before [] before
 told_nothing None = tt
@@ -127,26 +135,42 @@ module _ {B : Type 0} (may : B → PlannedShop → ℕ → Proposal → Type 0) 
       → IsLast (λ x. AfterSome may improvers round x n) p first best → (answer : Proposal) × may who best.shaped round answer × IsNext best.shaped best.cost answer kept
       → IsLast (λ x. AfterSome may improvers round x (n + 1)) p first kept
   one_more_asked round n p first best kept who inside stands known (answer, given, next) = record {
-    run = one_more n who best.shaped kept.shaped answer known.run inside (sym stands) given next.becomes;
+    run = one_more n who best.shaped kept.shaped answer known.run (slice_get_read improvers (length improvers) n who refl inside stands) given next.becomes;
     same = reordered_on p best.shaped kept.shaped known.same (becomes_same best.shaped answer kept.shaped next.becomes);
     is = next.is;
     most = most_of_most kept.cost best.cost first next.most known.most;
   }
 
-  pub one_more_round : (before between after : Option (List Told)) (n : ℕ) (p : PlannedShop) (first : Cost) (best kept : Best)
-      → IsLastTold before between (λ told x. AfterRounds may improvers x n told) p first best → IsToldMore between (record { round = n; cost = best.cost } ∷ []) after
+  -- one more round, before which the best plan doesn't meet its bound
+  pub one_more_round : (before between after : Option (List Told)) (n at_least : ℕ) (p : PlannedShop) (first : Cost) (best kept : Best) → IsBound p at_least → (Meets best.cost at_least → ⊥)
+      → IsLastTold before between (λ told x. AfterRounds may improvers x n told) p first best → IsToldMore between (record { round = n; cost = best.cost; at_least = at_least } ∷ []) after
       → IsLast (λ x. AfterSome may improvers n x (length improvers)) best.shaped best.cost kept
       → IsLastTold before after (λ told x. AfterRounds may improvers x (n + 1) told) p first kept
-  one_more_round before between after n p first best kept known more next = record {
-    told = known.told ++ record { round = n; cost = best.cost } ∷ [];
-    more = told_on before between after known.told (record { round = n; cost = best.cost } ∷ []) known.more more;
+  one_more_round before between after n at_least p first best kept bound unmet known more next = record {
+    told = known.told ++ record { round = n; cost = best.cost; at_least = at_least } ∷ [];
+    more = told_on before between after known.told (record { round = n; cost = best.cost; at_least = at_least } ∷ []) known.more more;
     last = record {
-      run = round_more n known.told best.shaped kept.shaped best.cost known.last.run known.last.is next.run;
+      run = round_more n known.told best.shaped kept.shaped best.cost at_least known.last.run known.last.is (same_bound p best.shaped at_least known.last.same bound) unmet next.run;
       same = reordered_on p best.shaped kept.shaped known.last.same next.same;
       is = next.is;
       most = most_of_most kept.cost best.cost first next.most known.last.most;
     };
   }
+
+  -- no round more: all are asked, or the best plan meets its bound
+  pub rounds_end : (before after : Option (List Told)) (n rounds : ℕ) (p : PlannedShop) (first : Cost) (best : Best) → IsLastTold before after (λ told x. AfterRounds may improvers x n told) p first best
+      → (n ≡ rounds) ⊎ ((n < rounds) × IsAtBound best.shaped) → IsLastTold before after (RoundsTold may improvers rounds) p first best
+  rounds_end before after n rounds p first best known ends = record {
+    told = known.told;
+    more = known.more;
+    last = record { run = record { asked = n; after = known.last.run; ends = ends }; same = known.last.same; is = known.last.is; most = known.last.most };
+  }
+
+  pub bound_met : (before after : Option (List Told)) (n rounds at_least : ℕ) (p : PlannedShop) (first : Cost) (best : Best) → IsLastTold before after (λ told x. AfterRounds may improvers x n told) p first best
+      → n < rounds → IsBound p at_least → Meets best.cost at_least → IsLastTold before after (RoundsTold may improvers rounds) p first best
+  bound_met before after n rounds at_least p first best known few bound meets =
+      rounds_end before after n rounds p first best known
+      (inr (few, record { cost = best.cost; at_least = at_least; is = known.last.is; bound = same_bound p best.shaped at_least known.last.same bound; meets = meets }))
 
   pub nobody_asked : (round : ℕ) (best : Best) → IsCost best.shaped best.cost → IsLast (λ x. AfterSome may improvers round x 0) best.shaped best.cost best
   nobody_asked round best is = record { run = nobody; same = refl; is = is; most = most_same best.cost }

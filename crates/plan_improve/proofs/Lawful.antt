@@ -1,14 +1,17 @@
 -- The laws of plans that are no worse than others.
 use Rattle.std.proofs.Common.{◌≡◌, ℕ, ◌-◌, ◌<◌, ◌≤◌, inl, inr, arith, refl, ◌∙◌}
-use Rattle.shop_base.specs.Plan.{PlannedShop, jobs, budget}
+use Rattle.shop_base.specs.Plan.{PlannedShop, jobs, budget, IsWellShaped}
 use Rattle.shop_base.specs.Ends.{sum_below}
 use Rattle.shop_base.proofs.Sums.{sum_below_zero, sum_below-le}
-use Rattle.plan_verifier.specs.Accepted.{IsAcceptable}
+use Rattle.plan_verifier.specs.Accepted.{IsAcceptable, IsMakespan}
 use Rattle.plan_verifier.proofs.Reasons.{makespan_le}
+use Rattle.plan_bounds.proofs.Bounded.{no_plan_is_sooner-holds}
 use Rattle.plan_improve.specs.declared.cost.Cost.{Cost}
-use Rattle.plan_improve.specs.Costs.{IsCost, IsAtMost}
-use Rattle.plan_improve.specs.Laws.{AcceptedPlansStayAccepted, TheirMakespansNeverGrow, ASecondSearchIsNoWorse, NoWorseIsPassedOn}
-use Rattle.plan_improve.proofs.Keeping.{most_of_most, same_late, same_makespan}
+use Rattle.plan_improve.specs.Costs.{IsCost, IsLess, IsAtMost, IsBetter}
+use Rattle.plan_improve.specs.AtBound.{IsBound, IsAtBound}
+use Rattle.plan_improve.specs.Reordered.{IsReordered}
+use Rattle.plan_improve.specs.Laws.{AcceptedPlansStayAccepted, TheirMakespansNeverGrow, ASecondSearchIsNoWorse, NoWorseIsPassedOn, NobodyBettersIt}
+use Rattle.plan_improve.proofs.Keeping.{most_of_most, same_late, same_makespan, same_bound}
 
 -- a plan to be accepted is never late
 never_late : (p : PlannedShop) (c : Cost) → IsAcceptable p → IsCost p c → c.late ≡ 0
@@ -65,3 +68,19 @@ passed_on p q r one next = record {
   most = most_of_most next.cost one.cost one.other
       (same_most next.cost next.other one.cost (same_late q next.other one.cost next.than one.is) (same_makespan q next.other one.cost next.than one.is) next.most) one.most;
 }
+
+-- no plan has a makespan below its bound
+above_bound : (q : PlannedShop) (n m : ℕ) → IsWellShaped q → IsBound q n → IsMakespan q m → n ≤ m
+above_bound q n m shaped (by, is) makespan =
+    let (j, inside, way) = (no_plan_is_sooner-holds q shaped).1 (record { at_least = n; by = by }) is in
+    omega (arith, way.long, makespan.bound j way.nodes way.size inside way.path)
+
+never_less : (c d : Cost) (n : ℕ) → d.late ≡ 0 → d.makespan ≡ n → n ≤ c.makespan → IsLess c d → ⊥
+never_less c d n late makespan most (inl less) = omega arith
+never_less c d n late makespan most (inr (same, less)) = omega arith
+
+pub nobody_betters : NobodyBettersIt
+nobody_betters p q best same better =
+    never_less better.cost better.other best.at_least
+    (same_late p better.other best.cost better.than best.is ∙ best.meets.0) (same_makespan p better.other best.cost better.than best.is ∙ best.meets.1)
+    (above_bound q best.at_least better.cost.makespan better.shaped (same_bound p q best.at_least same best.bound) better.is.makespan) better.less

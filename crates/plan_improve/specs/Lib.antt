@@ -1,5 +1,6 @@
 -- Reached by public clauses: to be read and believed.
 pub mod Costs
+pub mod AtBound
 pub mod Reordered
 pub mod Watching
 pub mod Runs

@@ -2,10 +2,11 @@
 use Rattle.std.specs.Prelude.{◌≡◌, ℕ, List, ◌++◌, Option, None, Some}
 use Rattle.plan_improve.specs.declared.cost.Cost.{Cost}
 
--- a round, and what the best plan before it costs
+-- a round, what the best plan before it costs, and the bound below which no makespan can be
 pub record Told : Type 0 where
   pub round : ℕ
   pub cost : Cost
+  pub at_least : ℕ
 
 -- whoever was told these things before, where that is said, was then told those more
 abbrev pub IsToldMore : Option (List Told) → List Told → Option (List Told) → Type 0

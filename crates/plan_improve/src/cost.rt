@@ -1,5 +1,6 @@
 ghost use Rattle.std.specs.Prelude.{MatchBool};
 ghost use Rattle.plan_improve.specs.Costs.{IsLess, IsAtMost};
+ghost use Rattle.plan_improve.specs.AtBound.{Meets};
 
 use shop_base::Moment;
 
@@ -21,5 +22,15 @@ impl Cost {
             return self.makespan < other.makespan;
         }
         self.late < other.late
+    }
+
+    /// Whether no job is late, and the makespan is this bound, below which none can be.
+    pub fn meets(&self, at_least: Moment) -> bool
+        ensures { MatchBool result (Meets self.now at_least) (Meets self.now at_least → ⊥) }
+    {
+        if self.late > 0 {
+            return false;
+        }
+        self.makespan == at_least
     }
 }

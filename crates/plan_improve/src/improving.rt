@@ -4,7 +4,7 @@ ghost use Rattle.std.specs.Prelude.{◌≡◌, ◌≤◌, ◌↔◌, OnOk, IfOk,
 ghost use Rattle.plan_verifier.specs.Accepted.{HasNoCycle, IsAcceptable};
 ghost use Rattle.plan_verifier.specs.Verdicts.{SaysAccepted, OnRefused, IsReason};
 ghost use Rattle.plan_improve.specs.Reordered.{IsReordered};
-ghost use Rattle.plan_improve.specs.Runs.{AfterRounds, Rounds};
+ghost use Rattle.plan_improve.specs.Runs.{RoundsTold, Rounds};
 ghost use Rattle.plan_improve.specs.Improved.{IsNeverWorse, IsFound, IsFoundTold, IsImproveFault, judged};
 ghost use Rattle.plan_improve.specs.Keeping.{IsImprovedTold};
 
@@ -23,8 +23,9 @@ use std::alloc::{AllocError, Global};
 
 /// Improves a plan. The search begins at the plan itself or, where that has a cycle, at the serial plan. In each round
 /// from 0 on each improver is asked in order with the best plan so far, and its answer is kept exactly where the plan
-/// with these orders fits the shop, has no cycle and is less late, or as late with a shorter makespan. The best plan
-/// is judged at the end. Too many rounds are answered first, and no improver is asked then, which no clause says.
+/// with these orders fits the shop, has no cycle and is less late, or as late with a shorter makespan. Once no job of the
+/// best plan is late and its makespan is the greatest of its bounds, nobody can better it, and no improver is asked any
+/// more. The best plan is judged at the end. Too many rounds are answered first, and no improver is asked then, which no clause says.
 /// On a fault the plan comes back as it was.
 pub fn improve<W: Watch>(
     alloc: Global,
@@ -39,7 +40,7 @@ pub fn improve<W: Watch>(
     ensures found { IfOk result (λ verdict.
         IsFound (Rounds (λ b. may b) improvers.now rounds) start (judged verdict)) }
     ensures told { IfOk result (λ verdict.
-        IsFoundTold (W.told watch.old) (W.told watch.new) (λ told p. AfterRounds (λ b. may b) improvers.now p rounds told) start (judged verdict)) }
+        IsFoundTold (W.told watch.old) (W.told watch.new) (RoundsTold (λ b. may b) improvers.now rounds) start (judged verdict)) }
     ensures stays_accepted { IfOk result (λ verdict. IsAcceptable start → SaysAccepted verdict) }
     ensures exact { IfOk result (λ verdict. SaysAccepted verdict ↔ IsAcceptable (judged verdict)) }
     ensures reason { IfOk result (OnRefused IsReason) }
@@ -76,8 +77,8 @@ fn improve_on<W: Watch>(
     rounds: u32,
     watch: &mut W,
 ) -> Result<Verdict, (AllocError, Shaped)>
-    ensures improved { IfOk result (IsImprovedTold (W.told watch.old) (W.told watch.new) (λ told p.
-        AfterRounds (λ b. may b) improvers.now p rounds told) start) }
+    ensures improved { IfOk result (IsImprovedTold (W.told watch.old) (W.told watch.new)
+        (RoundsTold (λ b. may b) improvers.now rounds) start) }
     ensures handed_back { IfErr result (λ refused. IsReordered start refused.1) }
 {
     let best = begin(alloc, start)?;

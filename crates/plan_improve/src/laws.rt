@@ -1,7 +1,7 @@
 //! What follows for whoever uses a plan that was improved. Each law is the contract of a function that does nothing, so
 //! a check of this crate proves it.
 
-ghost use Rattle.plan_improve.specs.Laws.{AcceptedPlansStayAccepted, TheirMakespansNeverGrow, ASecondSearchIsNoWorse, NoWorseIsPassedOn};
+ghost use Rattle.plan_improve.specs.Laws.{AcceptedPlansStayAccepted, TheirMakespansNeverGrow, ASecondSearchIsNoWorse, NoWorseIsPassedOn, NobodyBettersIt};
 
 /// An accepted plan stays accepted, and its makespan never grows.
 pub fn accepted_plans_stay_accepted()
@@ -13,4 +13,9 @@ pub fn accepted_plans_stay_accepted()
 pub fn second_searches_are_no_worse()
     ensures second { ASecondSearchIsNoWorse }
     ensures passed_on { NoWorseIsPassedOn }
+{}
+
+/// Nobody betters a plan that meets its bound, by no orders: so a search that has found one is over.
+pub fn a_plan_at_its_bound_is_best()
+    ensures { NobodyBettersIt }
 {}

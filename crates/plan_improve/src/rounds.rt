@@ -4,17 +4,18 @@ ghost use Rattle.std.specs.Prelude.{length, IfOk, IfErr};
 ghost use Rattle.plan_seek.specs.Orders.{proposal_of};
 ghost use Rattle.plan_improve.specs.Costs.{IsCost};
 ghost use Rattle.plan_improve.specs.Reordered.{IsReordered};
-ghost use Rattle.plan_improve.specs.Runs.{AfterSome, AfterRounds};
+ghost use Rattle.plan_improve.specs.Runs.{AfterSome, RoundsTold};
 ghost use Rattle.plan_improve.specs.Keeping.{IsNextOf, IsLast, IsLastTold};
 
 use crate::best::Best;
 use crate::improver::Improver;
 use crate::judging::judge_orders;
 use crate::watch::Watch;
+use plan_bounds::least_makespan;
 use shop_base::{JobNo, Shaped};
 use std::alloc::{AllocError, Global};
 
-/// Asks in each round from 0 on, and tells the watch before each.
+/// Asks in each round from 0 on, until the best plan meets its bound, and tells the watch before each.
 pub(crate) fn ask_in_rounds<W: Watch>(
     alloc: Global,
     mut best: Best,
@@ -23,12 +24,16 @@ pub(crate) fn ask_in_rounds<W: Watch>(
     watch: &mut W,
 ) -> Result<Best, (AllocError, Shaped)>
     requires { IsCost best.shaped best.cost }
-    ensures last { IfOk result (IsLastTold (W.told watch.old) (W.told watch.new) (λ told p.
-        AfterRounds (λ b. may b) improvers.now p rounds told) best.shaped best.cost) }
+    ensures last { IfOk result (IsLastTold (W.told watch.old) (W.told watch.new)
+        (RoundsTold (λ b. may b) improvers.now rounds) best.shaped best.cost) }
     ensures handed_back { IfErr result (λ refused. IsReordered best.shaped refused.1) }
 {
+    let at_least = least_makespan(&best.shaped).at_least;
     for round in 0..rounds {
-        watch.round(round, best.cost.late, best.cost.makespan);
+        if best.cost.meets(at_least) {
+            return Ok(best);
+        }
+        watch.round(round, best.cost.late, best.cost.makespan, at_least);
         best = ask_each(alloc, best, improvers, round)?;
     }
     Ok(best)

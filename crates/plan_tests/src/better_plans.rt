@@ -83,6 +83,13 @@ const CLEANED: &[u8] =
 const CLEANED_SERIAL: &[u8] =
     b"version = 2\nrelease = [0, 0]\nbudget = [15, 15]\norder = [[0, 1], [0, 1]]\nclean = [5, 0]\n";
 
+/// No plan has job 1 out before 10.
+const AT_ITS_BOUND: &[u8] = b"release = [0, 5]\nbudget = [10, 10]\norder = [[0, 1], [0, 1]]\n";
+
+const ABOVE_IT: &[u8] = b"release = [0, 5]\nbudget = [15, 15]\norder = [[1, 0], [1, 0]]\n";
+
+const DOWN_TO_IT: &[u8] = b"release = [0, 5]\nbudget = [15, 15]\norder = [[0, 1], [0, 1]]\n";
+
 const SILENT: Answer = Answer::Silent;
 
 const SERIAL: Answer = Answer::Serial;
@@ -191,6 +198,25 @@ const SEARCHES: &[Search] = &[
         Ok(true),
         1000,
         3000,
+    ),
+    // Once the best plan meets its bound, no round is told, and nobody is asked.
+    (
+        AT_ITS_BOUND,
+        [Answer::Hungry, SILENT, SILENT],
+        2,
+        AT_ITS_BOUND,
+        Ok(true),
+        0,
+        0,
+    ),
+    (
+        ABOVE_IT,
+        [SERIAL, SILENT, SILENT],
+        2,
+        DOWN_TO_IT,
+        Ok(true),
+        1,
+        3,
     ),
     // On a fault the plan comes back as it was.
     (

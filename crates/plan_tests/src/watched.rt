@@ -13,7 +13,7 @@ pub(crate) struct Watched {
 impl Watch for Watched {
     ghost told = { λ _. None };
 
-    fn round(&mut self, round: u32, _late: Moment, _makespan: Moment) {
+    fn round(&mut self, round: u32, _late: Moment, _makespan: Moment, _at_least: Moment) {
         let told = if round == self.rounds { 1 } else { 1_000_000 };
         self.rounds = self.rounds.saturating_add(told);
     }
