@@ -1,10 +1,10 @@
 -- The bounds of a whole plan: its paths and times are those of the plan.
-use Rattle.std.proofs.Common.{◌≡◌, ℕ, zero, suc, ◌+◌, ◌≤◌, List, [], ◌∷◌, ◌++◌, ◌<◌, length, map, get_or, Option, None, Some, arith, refl, sym, ap, subst, ◌∙◌}
+use Rattle.std.proofs.Common.{◌≡◌, ℕ, zero, suc, ◌+◌, List, [], ◌∷◌, ◌<◌, length, map, get_or, Option, None, Some, arith, refl, sym, ap, subst, ◌∙◌}
 use Rattle.shop_base.specs.declared.node.Node.{Node}
 use Rattle.shop_base.specs.Plan.{PlannedShop, jobs, release, IsWellShaped}
 use Rattle.shop_base.specs.ExactLaw.{IsNeverGoneBefore}
 use Rattle.shop_base.specs.Graph.{node, leaving, IsNode, Path, begins, follows}
-use Rattle.alt_graph.specs.Bounds.{NodeBounds, AreRooted, PathFrom, begins_at, goes_along, bound_of, IsAheadOf, IsChainFrom, whole}
+use Rattle.alt_graph.specs.Bounds.{AreRooted, PathFrom, begins_at, goes_along, bound_of, IsAheadOf, IsChainFrom, whole}
 use Rattle.alt_graph.specs.Times.{NodeTimes, earliest_of, before_of, IsAttained, IsAttainedFrom, AreTimes, AreTimesFrom, AreOrdered, AreOrderedFrom, IsPathBy, IsPathFromBy}
 use Rattle.std.specs.Prelude.{◌↔◌, Result, Ok, Err, IfOk, IfSome}
 use Rattle.alt_graph.specs.Solved.{OnOrdered, OnOrderedFrom, HasCycle}

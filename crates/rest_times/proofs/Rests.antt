@@ -1,22 +1,22 @@
 -- The times from the bounds of a cell are those of the rest of its run.
-use Rattle.std.proofs.Common.{◌≡◌, ℕ, ◌+◌, ◌<◌, ◌≤◌, List, [], ◌∷◌, Option, None, Some, arith, refl, sym, ap, subst, ◌∙◌, ◌⊎◌, inl, inr}
+use Rattle.std.proofs.Common.{◌≡◌, ℕ, ◌<◌, ◌≤◌, List, [], ◌∷◌, Option, None, Some, arith, refl, sym, ap, subst, ◌∙◌, ◌⊎◌, inl, inr}
 use Rattle.std.specs.Prelude.{Result, Ok, Err, IfOk}
 use Rattle.std.specs.declared.alloc.AllocError.{AllocError}
 use Rattle.std.proofs.lemmas.Bool.{cases_order}
 use Rattle.shop_base.specs.declared.node.Node.{Node}
-use Rattle.shop_base.specs.Plan.{PlannedShop, jobs, steps}
+use Rattle.shop_base.specs.Plan.{PlannedShop, jobs}
 use Rattle.shop_base.specs.Cell.{Cell, job_in, made, since, IsGone}
 use Rattle.shop_base.specs.Activity.{Activity, Arrival, Operation, Cleaning, GoesOn}
 use Rattle.shop_base.specs.Movers.{due_of_job}
 use Rattle.shop_base.specs.Sound.{IsSound}
-use Rattle.shop_base.specs.Graph.{node, IsNode, leaving, Arc}
+use Rattle.shop_base.specs.Graph.{IsNode, leaving}
 use Rattle.shop_base.specs.Ahead.{next_node, IsAhead, HoldsUp, PathAhead, now, held, onward, MomentsFitAhead}
 use Rattle.shop_base.proofs.Cycles.{source_node}
 use Rattle.shop_base.proofs.CellFacts.{arrival_due, operation_due, job_due}
 use Rattle.shop_base.proofs.Ahead.{IsLeftIn, arc_ahead, held_left, path_left}
 use Rattle.shop_base.proofs.InTime.{present_left}
 use Rattle.alt_graph.specs.Bounds.{NodeBounds, bound_of, PathFrom, begins_at, goes_along}
-use Rattle.alt_graph.specs.Times.{NodeTimes, rank_of, earliest_of, AreTimesFrom, AreOrderedFrom}
+use Rattle.alt_graph.specs.Times.{NodeTimes, earliest_of, AreOrderedFrom}
 use Rattle.alt_graph.specs.declared.solving.Solved.{Solved}
 use Rattle.alt_graph.specs.declared.solving.Solved.TheVariants.{Ordered, Cyclic}
 use Rattle.alt_graph.specs.Solved.{OnOrderedFrom}

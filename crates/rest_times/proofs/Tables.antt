@@ -1,5 +1,5 @@
 -- What the table of a cell's bounds tells.
-use Rattle.std.proofs.Common.{◌≡◌, ℕ, ◌+◌, ◌-◌, ◌<◌, ◌≤◌, List, [], map, length, get_or, max, Bool, true, false, nat_lt, nat_eq, if◌then◌else◌, Option, None, Some, arith, refl, sym, ap, ◌∙◌, ◌⊎◌, inl, inr, lt-ltb, le-ltb, ltb-true, eq-eqb, eqb-true}
+use Rattle.std.proofs.Common.{◌≡◌, ℕ, ◌+◌, ◌-◌, ◌<◌, ◌≤◌, List, [], map, length, get_or, Bool, true, false, nat_lt, nat_eq, if◌then◌else◌, Option, None, Some, arith, refl, sym, ap, ◌∙◌, ◌⊎◌, inl, inr, lt-ltb, le-ltb, ltb-true, eq-eqb, eqb-true}
 use Rattle.std.specs.List.{range_with_len}
 use Rattle.std.proofs.lemmas.Bool.{cases_lt, cases_order, and_parts, and_from}
 use Rattle.std.proofs.lemmas.List.{get_or-map}
@@ -14,7 +14,7 @@ use Rattle.shop_base.specs.Sound.{IsSound}
 use Rattle.shop_base.specs.Graph.{node, IsNode}
 use Rattle.shop_base.specs.Ahead.{IsAhead, HoldsUp}
 use Rattle.shop_base.proofs.CellFacts.{cleaning_due, due_cleaning}
-use Rattle.alt_graph.specs.Bounds.{NodeBounds, bound_of, IsAheadOf, AreRooted}
+use Rattle.alt_graph.specs.Bounds.{bound_of, IsAheadOf, AreRooted}
 use Rattle.rest_times.specs.CellBounds.{rest_bounds, bound_in, later_than, held_to, is_next_in, cleaned_at}
 
 module _ (p : PlannedShop) (c : Cell) (t : ℕ) where

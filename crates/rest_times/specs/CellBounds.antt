@@ -1,5 +1,5 @@
 -- The bounds of the nodes of a cell from a present moment on, as a table.
-use Rattle.std.specs.Prelude.{ℕ, ◌+◌, Bool, ◌&&◌, max, nat_lt, nat_eq, if◌then◌else◌, List, map, length, Option, None, Some}
+use Rattle.std.specs.Prelude.{ℕ, ◌+◌, Bool, ◌&&◌, max, nat_lt, nat_eq, if◌then◌else◌, map, length, Option, None, Some}
 use Rattle.std.specs.List.{range_with_len}
 use Rattle.shop_base.specs.declared.node.Node.{Node}
 use Rattle.shop_base.specs.declared.job_state.JobState.{JobState}

@@ -1,7 +1,6 @@
 use Rattle.std.proofs.Common.{◌∙◌, ap, sym, subst}
 use Rattle.shop_base.specs.Plan.{PlannedShop}
 use Rattle.shop_base.specs.Graph.{IsNode}
-use Rattle.alt_graph.specs.Bounds.{IsAheadOf}
 use Rattle.alt_graph.specs.Ranking.{PlanRanking}
 use Rattle.alt_graph.proofs.ranking.Ranking.is_ahead.Goals as goal
 

@@ -1,4 +1,4 @@
-use Rattle.std.proofs.Common.{rules, ◌≡◌, ap}
+use Rattle.std.proofs.Common.{rules, ap}
 use Rattle.shop_base.specs.declared.job_state.JobState.{JobState}
 use Rattle.rest_times.proofs.Tables.{made_told}
 use Rattle.rest_times.proofs.cell_bounds.CellBoundsBounds.is_ahead.Goals as goal
