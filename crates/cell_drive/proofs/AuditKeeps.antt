@@ -17,9 +17,9 @@ use Rattle.run_log.specs.Log.{Noted}
 use Rattle.event_lines.specs.LogLines.{LinesTell}
 use Rattle.run_log.specs.Audits.{IsAudit}
 use Rattle.event_lines.proofs.Readings.{one_reading}
-use Rattle.cell_drive.specs.Driving.{cell_after, IsSoFar}
-use Rattle.cell_drive.specs.AnswerText.{seen}
-use Rattle.cell_drive.proofs.DrivenEnds.{driven_text}
+use Rattle.cell_drive.specs.OneRun.{cell_after, IsSoFar}
+use Rattle.cell_drive.specs.OneCell.{seen}
+use Rattle.cell_drive.proofs.OneRun.{driven_text}
 use Rattle.cell_drive.specs.AuditLaw.{IsLogOf, IsFoundAgain, AnAuditKeepsWhatWasDriven}
 use Rattle.cell_drive.proofs.ReadBack.{an_answer_text_is_a_log}
 

@@ -11,7 +11,7 @@ use Rattle.shop_base.proofs.StartAhead.{controlled-leavings_kept}
 use Rattle.shop_base.proofs.InTime.{leaving-in_time}
 use Rattle.plan_verifier.specs.Accepted.{VerifiedPlan, IsVerified, kept_at, rank_in}
 use Rattle.cell_control.proofs.Promises.{rests_unstuck}
-use Rattle.cell_drive.specs.Driving.{IsBeforeReport, IsAsPromised, StaysAsPromised}
+use Rattle.cell_drive.specs.OneRun.{IsBeforeReport, IsAsPromised, StaysAsPromised}
 
 -- moves and events after them, cut before a report: the cut comes after the moves
 cut_moves : (os : List MoveOrder) (es now later : List Event) → moved os ++ es ≡ now ++ later → IsBeforeReport later

@@ -1,35 +1,36 @@
 -- What a driven cell wrote, as a log is read.
-use Rattle.std.proofs.Common.{◌≡◌, ℕ, ◌+◌, List, [], ◌∷◌, ◌++◌, Option, codes, map, refl, sym, ap, ◌∙◌, subst, inl, inr, append_assoc, append-nil}
+use Rattle.std.proofs.Common.{◌≡◌, ℕ, ◌+◌, Bool, true, false, cond, List, [], ◌∷◌, ◌++◌, Option, Some, None, codes, map, refl, sym, ap, ◌∙◌, subst, inl, inr, append_assoc, append-nil}
 use Rattle.shop_base.specs.Plan.{PlannedShop, IsWellShaped}
 use Rattle.shop_base.specs.Cell.{Cell}
-use Rattle.shop_base.specs.Report as base
 use Rattle.shop_base.specs.Report.{after_report}
 use Rattle.shop_base.specs.Move.{order_for, after_move}
-use Rattle.shop_base.specs.Run.{AreEvents, after_all, IsRun, ends_in, IsAtRest}
+use Rattle.shop_base.specs.Run.{AreEvents, after_all, IsRun, ends_in}
 use Rattle.shop_base.specs.Controlled.{moved, AreMoves, orders_for, step_orders}
 use Rattle.shop_base.specs.Sound.{IsSound}
-use Rattle.shop_base.proofs.Keeping.{start-sound, after_report-sound, after_move-sound}
-use Rattle.shop_base.proofs.ControlledRuns.{events_join, after_all_join, moves-events, after_all-moves, start_at_rest}
+use Rattle.shop_base.proofs.Keeping.{after_report-sound, after_move-sound}
+use Rattle.shop_base.proofs.ControlledRuns.{events_join, after_all_join, moves-events, after_all-moves}
 use Rattle.text_lines.specs.Lines.{lines_of}
 use Rattle.cell_control.specs.declared.report_fault.ReportFault.{ReportFault}
 use Rattle.cell_control.specs.declared.report_fault.ReportFault.TheVariants.{JobOutOfRange, MachineOutOfRange, MomentTooLarge, Backwards, NotExpected, WrongKind, WrongMachine}
 use Rattle.cell_control.specs.ReasonNames.{reason_name}
+use Rattle.cell_tables.specs.declared.report.Report.{Report}
 use Rattle.cell_tables.specs.Reports.{said}
 use Rattle.cell_tables.specs.declared.entry.Entry.{Entry}
 use Rattle.cell_tables.specs.declared.entry.Entry.TheVariants.{Report as ReportEntry, Order as OrderEntry}
 use Rattle.cell_tables.specs.Events.{events_of}
 use Rattle.event_lines.specs.EventLines.{report_line, order_line, order_lines}
+use Rattle.event_lines.specs.AnswerLines.{late_line}
 use Rattle.event_lines.specs.LogLines.{LinesTell}
 use Rattle.event_lines.specs.ReadBack.{IsSpaceless, TellsFirst}
 use Rattle.event_lines.proofs.Telling.{tells_none, tells_both, tells_entry, others_tell_none}
 use Rattle.run_log.proofs.Audits.{events-join}
 use Rattle.byte_streams.specs.Lines.{input_lines}
 use Rattle.byte_streams.specs.Answering.{AnswerAll}
-use Rattle.cell_drive.specs.DrivenLines.{LineAnswer, IsLateText, too_long, empty, no_report, refused, accepted}
+use Rattle.cell_drive.specs.LineAnswers.{ReportAnswer}
 use Rattle.cell_drive.specs.AnswerText.{DrivenCell, undriven, CellAnswers, CellCloses}
 use Rattle.cell_drive.specs.AuditLaw.{AnAnswerTextIsALog}
-use Rattle.cell_drive.proofs.DrivenRuns.{events-orders}
-use Rattle.cell_drive.proofs.OneText.{stays}
+use Rattle.cell_drive.proofs.LogRoom.{events-orders}
+use Rattle.cell_drive.proofs.OneText.{IsOnCourse, start_on_course, driven_lines_keep}
 use Rattle.cell_drive.proofs.ShopEntries.{report_of_shop, order_of_shop}
 
 name_spaceless : (reason : ReportFault) → IsSpaceless (reason_name reason)
@@ -42,9 +43,9 @@ name_spaceless WrongKind = refl
 name_spaceless (WrongMachine actual) = refl
 
 module _ (p : PlannedShop) where
-  late_told : (c : Cell) (r : base.Report) (text : List ℕ) → IsLateText p c r text → TellsFirst p text []
-  late_told c r text (inl (on_time, none)) = subst (λ (t : List ℕ). TellsFirst p t []) (sym none) (tells_none p)
-  late_told c r text (inr (is_late, line)) = subst (λ (t : List ℕ). TellsFirst p t []) (sym line) ((others_tell_none p).late r.at)
+  pub late_told : (at : ℕ) (late : Bool) → TellsFirst p (cond late (late_line at) []) []
+  late_told at true = (others_tell_none p).late at
+  late_told at false = tells_none p
 
   pub closing_told : (end : DrivenCell) (text : List ℕ) → CellCloses p end text → TellsFirst p text []
   closing_told end text (inl (ended, line)) = subst (λ (t : List ℕ). TellsFirst p t []) (sym line) ((others_tell_none p).done end.cell.last)
@@ -61,32 +62,7 @@ module _ (p : PlannedShop) where
 
     -- ---- answers
 
-    answer_told : (c : Cell) (number : ℕ) (line : Option (List ℕ)) (text : List ℕ) (entries : List Entry) (end : Cell) → IsSound p c
-        → LineAnswer p c number line text entries end → TellsFirst p text entries
-    answer_told c number _ _ _ _ sound too_long = (others_tell_none p).refused number (codes "LongLine") refl
-    answer_told c number _ _ _ _ sound empty = (tells_none p)
-    answer_told c number _ _ _ _ sound (no_report line some none) = (others_tell_none p).refused number (codes "BadLine") refl
-    answer_told c number _ _ _ _ sound (refused line report reason is_line first) = (others_tell_none p).refused number (reason_name reason) (name_spaceless reason)
-    answer_told c number _ _ _ _ sound (accepted line report movers late is_line step is_late) =
-        let orders = step_orders p c (said report) movers in
-        tells_both p (report_line report) (late ++ order_lines orders) (ReportEntry report ∷ []) (map OrderEntry orders) (tells_entry p shaped (ReportEntry report) (report_of_shop p c report shaped sound step.can))
-        (tells_both p late (order_lines orders) [] (map OrderEntry orders) (late_told c (said report) late is_late)
-        (tells_moves (after_report c (said report)) (said report).at movers (after_report-sound p c (said report) shaped sound step.can) step.moves))
-
-    answer_run : (c : Cell) (number : ℕ) (line : Option (List ℕ)) (text : List ℕ) (entries : List Entry) (end : Cell)
-        → LineAnswer p c number line text entries end → AreEvents p c (events_of entries) × (end ≡ after_all p c (events_of entries))
-    answer_run c number _ _ _ _ too_long = (tt, refl)
-    answer_run c number _ _ _ _ empty = (tt, refl)
-    answer_run c number _ _ _ _ (no_report line some none) = (tt, refl)
-    answer_run c number _ _ _ _ (refused line report reason is_line first) = (tt, refl)
-    answer_run c number _ _ _ _ (accepted line report movers late is_line step is_late) =
-        let next = after_report c (said report) in
-        let moves : events_of (map OrderEntry (step_orders p c (said report) movers)) ≡ moved (step_orders p c (said report) movers) = events-orders (step_orders p c (said report) movers) in (
-          (step.can, subst (AreEvents p next) (sym moves) (moves-events p next (said report).at movers step.moves)),
-          sym (ap (after_all p next) moves ∙ after_all-moves p next (said report).at movers),
-        )
-
-    -- the answers to lines tell what came between the cells before and behind them
+    -- what was answered tells what came between the cells before and behind it
     pub record AreTold (before : DrivenCell) (text : List ℕ) (end : DrivenCell) : Type 0 where
       pub more : List Entry
       pub tells : TellsFirst p text more
@@ -94,36 +70,67 @@ module _ (p : PlannedShop) where
       pub events : AreEvents p before.cell (events_of more)
       pub cell : end.cell ≡ after_all p before.cell (events_of more)
 
-    pub answers_told : (lines : List (Option (List ℕ))) (before end : DrivenCell) (number : ℕ) (text : List ℕ) → IsSound p before.cell → IsAtRest p before.cell
-        → AnswerAll (CellAnswers p) before number lines text end → AreTold before text end
-    answers_told [] before end number text sound rest all = record {
+    nothing_told : (before : DrivenCell) (text line : List ℕ) (end : DrivenCell) → end ≡ before → text ≡ line → TellsFirst p line [] → AreTold before text end
+    nothing_told before text line end same text_is tells = record {
       more = [];
-      tells = subst (λ (t : List ℕ). TellsFirst p t []) (sym all.0) (tells_none p);
-      entries = ap (λ (d : DrivenCell). d.entries) all.1 ∙ sym (append-nil before.entries);
+      tells = subst (λ (t : List ℕ). TellsFirst p t []) (sym text_is) tells;
+      entries = ap (λ (d : DrivenCell). d.entries) same ∙ sym (append-nil before.entries);
       events = tt;
-      cell = ap (λ (d : DrivenCell). d.cell) all.1;
+      cell = ap (λ (d : DrivenCell). d.cell) same;
     }
-    answers_told (line ∷ lines) before end number text sound rest all =
-        let next = all.2 in
-        let first = all.3 in
-        let kept = stays p before.cell number shaped sound rest line all.0 first.more next.cell first.answer in
-        let others = answers_told lines next end (number + 1) all.1 kept.0 kept.1 all.4 in
-        let run = answer_run before.cell number line all.0 first.more next.cell first.answer in
+
+    report_told : (before : DrivenCell) (number : ℕ) (report : Report) (text : List ℕ) (end : DrivenCell) (more : List Entry) → IsSound p before.cell → end.entries ≡ before.entries ++ more
+        → ReportAnswer p [] before.cell number report text more end.cell → AreTold before text end
+    report_told before number report text end more sound entries (inl is) = record {
+      more = [];
+      tells = subst (λ (t : List ℕ). TellsFirst p t []) (sym is.text_is) ((others_tell_none p).refused number (reason_name is.reason) (name_spaceless is.reason));
+      entries = entries ∙ ap (λ (es : List Entry). before.entries ++ es) is.events_are;
+      events = tt;
+      cell = is.next_is;
+    }
+    report_told before number report text end more sound entries (inr is) =
+        let c = before.cell in
+        let r = said report in
+        let orders = step_orders p c r is.movers in
+        let next = after_report c r in
+        let moves : events_of (map OrderEntry orders) ≡ moved orders = events-orders orders in
+        record {
+          more = ReportEntry report ∷ map OrderEntry orders;
+          tells = subst (λ (t : List ℕ). TellsFirst p t (ReportEntry report ∷ map OrderEntry orders)) (sym is.text_is)
+              (tells_both p (report_line report) (cond is.late (late_line r.at) [] ++ order_lines orders) (ReportEntry report ∷ []) (map OrderEntry orders) (tells_entry p shaped (ReportEntry report) (report_of_shop p c report shaped sound is.step.can))
+              (tells_both p (cond is.late (late_line r.at) []) (order_lines orders) [] (map OrderEntry orders) (late_told r.at is.late)
+              (tells_moves next r.at is.movers (after_report-sound p c r shaped sound is.step.can) is.step.moves)));
+          entries = entries ∙ ap (λ (es : List Entry). before.entries ++ es) is.events_are;
+          events = (is.step.can, subst (AreEvents p next) (sym moves) (moves-events p next r.at is.movers is.step.moves));
+          cell = is.next_is ∙ sym (ap (after_all p next) moves ∙ after_all-moves p next r.at is.movers);
+        }
+
+    line_told : (before : DrivenCell) (number : ℕ) (line : Option (List ℕ)) (text : List ℕ) (end : DrivenCell) → IsSound p before.cell → CellAnswers p before number line text end → AreTold before text end
+    line_told before number None text end sound is = nothing_told before text _ end is.end_is is.text_is ((others_tell_none p).refused number (codes "LongLine") refl)
+    line_told before number (Some []) text end sound is = nothing_told before text [] end is.end_is is.text_is (tells_none p)
+    line_told before number (Some (b ∷ line)) text end sound (inl is) = nothing_told before text _ end is.1.end_is is.1.text_is ((others_tell_none p).refused number (codes "BadLine") refl)
+    line_told before number (Some (b ∷ line)) text end sound (inr is) = report_told before number is.what text end is.answer.more sound is.answer.entries is.answer.answer
+
+    pub answers_told : (lines : List (Option (List ℕ))) (before end : DrivenCell) (number : ℕ) (text : List ℕ) → IsOnCourse p before.cell
+        → AnswerAll (CellAnswers p) before number lines text end → AreTold before text end
+    answers_told [] before end number text on all = nothing_told before text [] end all.1 all.0 (tells_none p)
+    answers_told (line ∷ lines) before end number text on all =
+        let first = line_told before number line all.0 all.2 on.sound all.3 in
+        let others = answers_told lines all.2 end (number + 1) all.1 (driven_lines_keep p before number line all.0 all.2 on all.3) all.4 in
         let joined = events-join first.more others.more in
         record {
           more = first.more ++ others.more;
-          tells = subst (λ (t : List ℕ). TellsFirst p t (first.more ++ others.more)) (sym all.5)
-              (tells_both p all.0 all.1 first.more others.more (answer_told before.cell number line all.0 first.more next.cell sound first.answer) others.tells);
+          tells = subst (λ (t : List ℕ). TellsFirst p t (first.more ++ others.more)) (sym all.5) (tells_both p all.0 all.1 first.more others.more first.tells others.tells);
           entries = others.entries ∙ ap (λ (es : List Entry). es ++ others.more) first.entries ∙ append_assoc before.entries first.more others.more;
           events = subst (AreEvents p before.cell) (sym joined)
-              (events_join p before.cell (events_of first.more) (events_of others.more) run.0 (subst (λ (x : Cell). AreEvents p x (events_of others.more)) run.1 others.events));
-          cell = others.cell ∙ ap (λ (x : Cell). after_all p x (events_of others.more)) run.1
+              (events_join p before.cell (events_of first.more) (events_of others.more) first.events (subst (λ (x : Cell). AreEvents p x (events_of others.more)) first.cell others.events));
+          cell = others.cell ∙ ap (λ (x : Cell). after_all p x (events_of others.more)) first.cell
               ∙ sym (after_all_join p before.cell (events_of first.more) (events_of others.more)) ∙ ap (after_all p before.cell) (sym joined);
         }
 
 pub an_answer_text_is_a_log : AnAnswerTextIsALog
 an_answer_text_is_a_log p input text end shaped is =
-    let told = answers_told p shaped (input_lines input) (undriven p) end 1 is.answers (start-sound p shaped) (start_at_rest p) is.are_answers in
+    let told = answers_told p shaped (input_lines input) (undriven p) end 1 is.answers (start_on_course p shaped) is.are_answers in
     let tells : LinesTell p (lines_of ((is.answers ++ is.closing) ++ [])) ((told.more ++ []) ++ []) =
     tells_both p is.answers is.closing told.more [] told.tells (closing_told p end is.closing is.is_closing) [] [] refl in
     let same_text : (is.answers ++ is.closing) ++ [] ≡ text = append-nil (is.answers ++ is.closing) ∙ sym is.whole in

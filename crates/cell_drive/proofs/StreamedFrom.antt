@@ -4,7 +4,7 @@ use Rattle.byte_streams.specs.declared.drive_fault.DriveFault.{DriveFault}
 use Rattle.byte_streams.specs.declared.drive_fault.DriveFault.TheVariants.{Read, Write, InputTooLong, Memory}
 use Rattle.byte_streams.specs.Lent.{Streams}
 use Rattle.byte_streams.specs.Streams.{ComesTo, IsStreamed}
-use Rattle.cell_drive.specs.Driving.{IsStreamedFrom}
+use Rattle.cell_drive.specs.OneRun.{IsStreamedFrom}
 
 module _ {S : Type 0} (answers : S → ℕ → Option (List ℕ) → List ℕ → S → Type 0) (closes : S → List ℕ → Type 0) (start end : S) (before after : Streams) where
   -- whatever it gives back

@@ -2,30 +2,31 @@
 use Rattle.std.specs.Prelude.{◌≡◌, ℕ, List, [], ◌++◌, Option}
 use Rattle.shop_base.specs.Plan.{PlannedShop}
 use Rattle.shop_base.specs.Cell.{Cell, start}
+use Rattle.cell_tables.specs.declared.report.Report.{Report}
 use Rattle.cell_tables.specs.declared.entry.Entry.{Entry}
 use Rattle.byte_streams.specs.Lines.{input_lines}
 use Rattle.byte_streams.specs.Answering.{AnswerAll}
-use Rattle.cell_drive.specs.DrivenLines.{LineAnswer, IsClosingLine}
-use Rattle.cell_drive.specs.Driven.{DriveState}
+use Rattle.event_lines.specs.SentLines.{IsReportLine}
+use Rattle.cell_drive.specs.LineAnswers.{LineAnswer, ReportAnswer, IsClosingLine}
 
 -- a cell, and what was accepted and ordered in it
 pub record DrivenCell : Type 0 where
   pub cell : Cell
   pub entries : List Entry
 
--- those of a driven cell
-abbrev pub seen : DriveState → DrivenCell
-seen s = record { cell = s.control.cell; entries = s.log.entries }
-
 -- before the first line: the start of the cell, and no events
 abbrev pub undriven : PlannedShop → DrivenCell
 undriven p = record { cell = start p; entries = [] }
 
--- the line of this number is answered by this text, which leads to another cell with more events
-pub record CellAnswers (p : PlannedShop) (before : DrivenCell) (number : ℕ) (line : Option (List ℕ)) (text : List ℕ) (next : DrivenCell) : Type 0 where
+-- a report is answered by this text, which leads to another cell with more events
+pub record CellReports (p : PlannedShop) (before : DrivenCell) (number : ℕ) (report : Report) (text : List ℕ) (next : DrivenCell) : Type 0 where
   pub more : List Entry
-  pub answer : LineAnswer p before.cell number line text more next.cell
+  pub answer : ReportAnswer p [] before.cell number report text more next.cell
   pub entries : next.entries ≡ before.entries ++ more
+
+-- and so a line
+abbrev pub CellAnswers : PlannedShop → DrivenCell → ℕ → Option (List ℕ) → List ℕ → DrivenCell → Type 0
+CellAnswers p = LineAnswer IsReportLine (CellReports p)
 
 -- the closing line
 abbrev pub CellCloses : PlannedShop → DrivenCell → List ℕ → Type 0

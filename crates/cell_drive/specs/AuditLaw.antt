@@ -14,8 +14,8 @@ use Rattle.event_lines.specs.LogLines.{LinesTell}
 use Rattle.run_log.specs.Audits.{IsAudit, TellRun}
 use Rattle.byte_streams.specs.Lent.{Streams}
 use Rattle.cell_drive.specs.AnswerText.{DrivenCell, IsAnswerText}
-use Rattle.cell_drive.specs.declared.driving.DriveEnd.{DriveEnd}
-use Rattle.cell_drive.specs.Driving.{cell_after, IsDrive}
+use Rattle.cell_drive.specs.declared.one_run.DriveEnd.{DriveEnd}
+use Rattle.cell_drive.specs.OneRun.{cell_after, IsDrive}
 
 -- the lines of the text tell exactly what was accepted and ordered, which is a run of the plan that leads to the cell
 pub record IsLogOf (p : PlannedShop) (text : List ℕ) (end : DrivenCell) : Type 0 where

@@ -9,8 +9,9 @@ use Rattle.cell_control.specs.Control.{Control}
 use Rattle.cell_tables.specs.Reports.{said}
 use Rattle.cell_control.specs.Promises.{IsControllerAfter}
 use Rattle.event_lines.specs.SentLines.{IsCellReport}
+use Rattle.cell_drive.specs.ManyCells.{PlannedCell}
 use Rattle.cell_drive.specs.CellsTextLaw.{AreVerified, AreCellsAnswersTo}
-use Rattle.cell_drive.specs.Driving.{StaysAsPromised}
+use Rattle.cell_drive.specs.OneRun.{StaysAsPromised}
 
 -- the line is no report on the cell of this number
 abbrev pub IsNotOn : ℕ → Option (List ℕ) → Type 0
@@ -25,19 +26,21 @@ pub data HaveReports (cell : ℕ) : List (Option (List ℕ)) → List Report →
       → HaveReports cell lines reports → HaveReports cell (line ∷ lines) reports
 
 -- the cell of this number, by this plan, is as with a controller alone that was given the reports on it that these lines have: these events are their controlled run, which has ended exactly where as many reports were accepted as the stated number, and in which all stayed as the plan promises
-pub record IsAsAlone (v : VerifiedPlan) (cell : ℕ) (lines : List (Option (List ℕ))) (end : Control) : Type 0 where
+pub record IsAsAlone (v : VerifiedPlan) (cell : ℕ) (lines : List (Option (List ℕ))) (end : PlannedCell) : Type 0 where
   pub reports : List Report
   pub have : HaveReports cell lines reports
   pub events : List Event
-  pub after : IsControllerAfter v reports events end
+  pub alone : Control
+  pub after : IsControllerAfter v reports events alone
+  pub same : end ≡ record { plan = alone.plan; cell = alone.cell }
   pub counted : HasEnded v.planned end.cell ↔ (reports_in events ≡ stated_number v.planned)
   pub promised : StaysAsPromised v events
 
 -- so is the cell of each of these plans
-abbrev pub AreAsAlone : List VerifiedPlan → List (Option (List ℕ)) → List Control → Type 0
-AreAsAlone plans lines end = (cell : ℕ) (v : VerifiedPlan) → slice_get plans cell ≡ Some v → (content : Control) × (slice_get end cell ≡ Some content) × IsAsAlone v cell lines content
+abbrev pub AreAsAlone : List VerifiedPlan → List (Option (List ℕ)) → List PlannedCell → Type 0
+AreAsAlone plans lines end = (cell : ℕ) (v : VerifiedPlan) → slice_get plans cell ≡ Some v → (content : PlannedCell) × (slice_get end cell ≡ Some content) × IsAsAlone v cell lines content
 
 -- whatever lines were answered, each cell is so
 abbrev pub EachCellIsAsAlone : Type 0
-EachCellIsAsAlone = (plans : List VerifiedPlan) (lines : List (Option (List ℕ))) (text : List ℕ) (end : List Control) → AreVerified plans → AreCellsAnswersTo plans lines text end
+EachCellIsAsAlone = (plans : List VerifiedPlan) (lines : List (Option (List ℕ))) (text : List ℕ) (end : List PlannedCell) → AreVerified plans → AreCellsAnswersTo plans lines text end
     → AreAsAlone plans lines end

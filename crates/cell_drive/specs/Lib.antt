@@ -1,13 +1,13 @@
 -- Reached by public clauses: to be read and believed.
-pub mod DrivenLines
-pub mod Driven
+pub mod LineAnswers
+pub mod OneCell
 pub mod AnswerText
-pub mod Driving
+pub mod OneRun
 pub mod OneTextLaw
 pub mod AuditLaw
 pub mod ManyCells
 pub mod CellsTextLaw
 pub mod CellsAlone
-pub mod DrivingCells
+pub mod ManyRuns
 -- Of proofs and private contracts alone.
-pub mod NumberedCells
+pub mod Tickets

@@ -2,8 +2,8 @@
 use Rattle.std.specs.Prelude.{◌≡◌, ℕ, List, Option}
 use Rattle.shop_base.specs.Plan.{PlannedShop, IsWellShaped}
 use Rattle.byte_streams.specs.Answering.{AnswerAll}
-use Rattle.cell_drive.specs.Driven.{DriveState, DriveAnswer}
-use Rattle.cell_drive.specs.AnswerText.{DrivenCell, seen, CellAnswers, AreAnswersTo, IsAnswerText}
+use Rattle.cell_drive.specs.OneCell.{DriveState, DriveAnswer, seen}
+use Rattle.cell_drive.specs.AnswerText.{DrivenCell, CellAnswers, AreAnswersTo, IsAnswerText}
 
 -- an input has one answer text at most, which leads to one cell with one list of events
 abbrev pub OneAnswerText : Type 0

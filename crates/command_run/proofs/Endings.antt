@@ -1,12 +1,12 @@
 -- How each run of the program ends.
 use Rattle.std.proofs.Common.{◌≡◌, ℕ, ◌≤◌, List, [], true, false, Option, Result, Ok, Err, inl, inr, ◌⊎◌, ap, sym, ◌∙◌, subst, arith, refl}
-use Rattle.cell_drive.specs.declared.driving.DriveEnd.{DriveEnd}
+use Rattle.cell_drive.specs.declared.one_run.DriveEnd.{DriveEnd}
 use Rattle.byte_streams.specs.declared.drive_fault.DriveFault.{DriveFault}
 use Rattle.byte_streams.specs.declared.drive_fault.DriveFault.TheVariants.{Read as NotRead, Write as NotWritten, InputTooLong as TooLong, Memory as WantOfMemory}
 use Rattle.byte_streams.specs.Streams.{IsStreamed}
 use Rattle.plan_verifier.specs.Accepted.{VerifiedPlan}
-use Rattle.cell_drive.specs.Driven.{DriveAnswer, DriveCloses, drive_start}
-use Rattle.cell_drive.specs.Driving.{IsStreamedFrom}
+use Rattle.cell_drive.specs.OneCell.{DriveAnswer, DriveCloses, drive_start}
+use Rattle.cell_drive.specs.OneRun.{IsStreamedFrom}
 use Rattle.cell_drive.specs.ManyCells.{hub_start, CellsAnswer, CellsClose}
 use Rattle.plan_verifier.specs.declared.verdict.Verdict.TheVariants.{Accepted, Refused}
 use Rattle.run_resume.specs.declared.resume_fault.ResumeFault.{ResumeFault}

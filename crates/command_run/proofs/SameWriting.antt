@@ -9,13 +9,14 @@ use Rattle.shop_base.specs.Ends.{stated_number, reports_in}
 use Rattle.text_lines.specs.declared.limits.TheConstants.{MAX_INPUT}
 use Rattle.cell_tables.specs.Events.{events_of}
 use Rattle.plan_verifier.specs.Accepted.{VerifiedPlan, IsAcceptable}
-use Rattle.cell_drive.specs.declared.driving.DriveEnd.{DriveEnd}
+use Rattle.cell_drive.specs.declared.one_run.DriveEnd.{DriveEnd}
 use Rattle.byte_streams.specs.declared.drive_fault.DriveFault.{DriveFault}
 use Rattle.byte_streams.specs.declared.drive_fault.DriveFault.TheVariants.{Read as NotRead, Write as NotWritten, InputTooLong as TooLong, Memory as WantOfMemory}
 use Rattle.run_log.specs.Log.{Noted}
-use Rattle.cell_drive.specs.AnswerText.{DrivenCell, seen, IsAnswerText}
-use Rattle.cell_drive.specs.Driving.{IsSoFar}
-use Rattle.cell_drive.proofs.DrivenEnds.{driven_text}
+use Rattle.cell_drive.specs.AnswerText.{DrivenCell, IsAnswerText}
+use Rattle.cell_drive.specs.OneCell.{seen}
+use Rattle.cell_drive.specs.OneRun.{IsSoFar}
+use Rattle.cell_drive.proofs.OneRun.{driven_text}
 use Rattle.cell_drive.proofs.OneText.{one_answer_text}
 use Rattle.command_words.specs.declared.words.Chosen.{Chosen}
 use Rattle.command_words.specs.declared.words.CommandName.{CommandName}

@@ -1,9 +1,9 @@
 -- What driving the cells of several plans comes to.
 use Rattle.std.specs.Prelude.{◌≡◌, List, Bool, Result, Ok, Err}
 use Rattle.plan_verifier.specs.Accepted.{VerifiedPlan}
-use Rattle.cell_drive.specs.declared.driving_cells.HubEnd.{HubEnd}
+use Rattle.cell_drive.specs.declared.many_runs.HubEnd.{HubEnd}
 use Rattle.byte_streams.specs.declared.drive_fault.DriveFault.{DriveFault}
-pub use Rattle.cell_drive.specs.DrivingCells.{AreDrives}
+pub use Rattle.cell_drive.specs.ManyRuns.{AreDrives}
 use Rattle.command_answers.specs.declared.answer.Answer.{Answer}
 use Rattle.command_answers.specs.declared.cells.Cells.{Cells}
 use Rattle.command_answers.specs.declared.cells.Cells.TheVariants.{Accepted, Line}

@@ -1,5 +1,5 @@
 -- The events of a log that was taken up, as they were answered.
-use Rattle.std.proofs.Common.{◌≡◌, ◌↔◌, ℕ, ◌+◌, Bool, true, false, cond, List, [], ◌∷◌, ◌++◌, Option, Some, map, length, take, drop, inl, inr, refl, sym, ap, ◌∙◌, subst, append_assoc, append-nil}
+use Rattle.std.proofs.Common.{◌≡◌, ℕ, ◌+◌, Bool, false, cond, List, [], ◌∷◌, ◌++◌, Option, Some, map, length, take, drop, inr, refl, sym, ap, ◌∙◌, subst, append_assoc, append-nil}
 use Rattle.std.proofs.lemmas.List.{append_cancel_left, take-append-drop}
 use Rattle.shop_base.specs.declared.move_order.MoveOrder.{MoveOrder}
 use Rattle.shop_base.specs.Plan.{PlannedShop}
@@ -8,7 +8,6 @@ use Rattle.shop_base.specs.Report as base
 use Rattle.shop_base.specs.Report.{after_report}
 use Rattle.shop_base.specs.Run.{Event, Moved, after, after_all}
 use Rattle.shop_base.specs.Controlled.{moved, IsStep, after_step, step_orders, Leads, done, accepted, refused}
-use Rattle.shop_base.specs.Punctual.{IsPunctual}
 use Rattle.shop_base.proofs.ControlledRuns.{after_all-moves}
 use Rattle.cell_tables.specs.Reports.{said}
 use Rattle.cell_tables.specs.declared.entry.Entry.{Entry}
@@ -17,10 +16,11 @@ use Rattle.cell_tables.specs.Events.{event_of, events_of}
 use Rattle.event_lines.specs.EventLines.{report_line, order_line, entry_lines, order_lines}
 use Rattle.byte_streams.specs.Answering.{AnswerAll}
 use Rattle.event_lines.specs.AnswerLines.{late_line}
-use Rattle.cell_drive.specs.AnswerText.{DrivenCell, CellAnswers}
-use Rattle.cell_drive.specs.DrivenLines.{LineAnswer, IsLateText}
-use Rattle.cell_drive.specs.DrivenLines as driven
-use Rattle.cell_drive.specs.Driving.{cell_after}
+use Rattle.cell_drive.specs.AnswerText.{DrivenCell, CellReports, CellAnswers}
+use Rattle.event_lines.specs.SentLines.{IsReportLine}
+use Rattle.event_lines.proofs.Readings.{some_line}
+use Rattle.cell_drive.proofs.LineAnswers.{asked_line}
+use Rattle.cell_drive.specs.OneRun.{cell_after}
 use Rattle.run_resume.specs.CutLogs.{IsOwnRun}
 use Rattle.run_resume.specs.LateEvents.{AreLate}
 use Rattle.run_resume.specs.ToldLines.{told_line, told_lines}
@@ -67,10 +67,6 @@ module _ (p : PlannedShop) where
 
   -- ---- a step
 
-  late_text : (c : Cell) (r : base.Report) (late : Bool) → ((late ≡ false) ↔ IsPunctual p c r) → IsLateText p c r (cond late (late_line r.at) [])
-  late_text c r false is = inl (is.0 refl, refl)
-  late_text c r true is = inr ((λ punctual. let e = is.1 punctual in absurd (cc)), refl)
-
   -- behind the orders of a step, and their lines
   record AreLateBehind (c : Cell) (os : List MoveOrder) (later : List Entry) (late : List Bool) : Type 0 where
     rest : List Bool
@@ -115,11 +111,16 @@ module _ (p : PlannedShop) where
       let are_later : AreLate p (after_step p c r js) later behind.rest =
       subst (λ (d : Cell). AreLate p d later behind.rest) (after_all-moves p (after_report c r) r.at js)
       (subst (λ (q : base.Report). AreLate p (after_all p (after_report c q) (moved os)) later behind.rest) is_said behind.are) in
-      let text : List ℕ = cond f (late_line (said report).at) [] in
       let next : List Entry = before ++ ReportEntry report ∷ map OrderEntry os in
-      let answer : LineAnswer p c number (Some line) (report_line report ++ (text ++ order_lines os)) (ReportEntry report ∷ map OrderEntry os) (after_step p c r js) =
-      subst (λ (q : base.Report). LineAnswer p c number (Some line) (report_line report ++ (text ++ order_lines (step_orders p c q js))) (ReportEntry report ∷ map OrderEntry (step_orders p c q js)) (after_step p c q js)) is_said
-      (driven.accepted line report js text is_line (subst (λ (q : base.Report). IsStep p c q js) (sym is_said) step) (late_text c (said report) f are.0)) in
+      let text : List ℕ = cond f (late_line (said report).at) [] in
+      let said_so : List ℕ = report_line report ++ (text ++ order_lines os) in
+      let answer : CellAnswers p (driven_to c before) number (Some line) said_so (driven_to (after_step p c r js) next) =
+      subst (λ (q : base.Report). CellAnswers p (driven_to c before) number (Some line) (report_line report ++ (text ++ order_lines (step_orders p c q js))) (driven_to (after_step p c q js) (before ++ ReportEntry report ∷ map OrderEntry (step_orders p c q js)))) is_said
+      (asked_line IsReportLine (CellReports p) (driven_to c before) number line _ report (driven_to (after_step p c (said report) js) (before ++ ReportEntry report ∷ map OrderEntry (step_orders p c (said report) js))) (some_line line report is_line) is_line (record {
+        more = ReportEntry report ∷ map OrderEntry (step_orders p c (said report) js);
+        answer = inr (record { movers = js; step = subst (λ (q : base.Report). IsStep p c q js) (sym is_said) step; late = f; late_is = are.0; text_is = refl; events_are = refl; next_is = refl });
+        entries = refl;
+      })) in
       let others = answered (after_step p c r js) end rs es leads later behind.rest rest (number + 1) next events are_later
       (behind_orders os later rest (subst (λ (xs : List Entry). AreReportLines rest xs) split says)) in
       let joined : next ++ later ≡ before ++ ReportEntry report ∷ entries =
@@ -128,10 +129,10 @@ module _ (p : PlannedShop) where
       ap (λ (xs : List Entry). (report_line report ++ text) ++ told_lines xs fs) split
       ∙ told_step (report_line report) text (order_lines os) (told_lines later behind.rest) (told_lines (map OrderEntry os ++ later) fs) behind.text in
       subst (λ (ls : List (Option (List ℕ))). AnswerAll (CellAnswers p) (driven_to c before) number ls (told_lines (ReportEntry report ∷ entries) (f ∷ fs)) (driven_to end (before ++ ReportEntry report ∷ entries))) (sym whole) (
-        report_line report ++ (text ++ order_lines os),
+        said_so,
         told_lines later behind.rest,
         driven_to (after_step p c r js) next,
-        record { more = ReportEntry report ∷ map OrderEntry os; answer = answer; entries = refl },
+        answer,
         subst (λ (xs : List Entry). AnswerAll (CellAnswers p) (driven_to (after_step p c r js) next) (number + 1) rest (told_lines later behind.rest) (driven_to end xs)) joined others,
         told,
       )

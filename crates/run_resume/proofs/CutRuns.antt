@@ -10,7 +10,7 @@ use Rattle.shop_base.specs.Controlled.{moved, IsStep, after_step, step_orders, L
 use Rattle.shop_base.specs.Sound.{IsSound}
 use Rattle.shop_base.proofs.ControlledRuns.{after_step-sound}
 use Rattle.shop_base.proofs.OneStep.{one_step}
-use Rattle.cell_drive.specs.Driving.{IsBeforeReport}
+use Rattle.cell_drive.specs.OneRun.{IsBeforeReport}
 use Rattle.run_resume.proofs.Parts.{append_parts, moved_rest, moved_alone, moved_none, moved_no_report}
 
 -- the first step of a controlled run

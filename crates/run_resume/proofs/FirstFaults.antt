@@ -17,8 +17,8 @@ use Rattle.cell_tables.specs.Events.{event_of, events_of}
 use Rattle.event_lines.specs.LogLines.{LineTells, LinesTell}
 use Rattle.event_lines.proofs.Readings.{one_telling, one_reading, tell-parts}
 use Rattle.run_log.proofs.Audits.{events-join, part_of_run}
-use Rattle.cell_drive.specs.Driving.{cell_after, IsRunOf, IsBeforeReport}
-use Rattle.cell_drive.proofs.DrivenRuns.{events-orders}
+use Rattle.cell_drive.specs.OneRun.{cell_after, IsRunOf, IsBeforeReport}
+use Rattle.cell_drive.proofs.LogRoom.{events-orders}
 use Rattle.run_resume.specs.declared.resume_fault.ResumeFault.{ResumeFault}
 use Rattle.run_resume.specs.declared.resume_fault.ResumeFault.TheVariants.{BadLine, NotOrdered, NotPossible, Memory}
 use Rattle.byte_streams.specs.Lines.{ended_lines}

@@ -10,7 +10,7 @@ use Rattle.cell_control.specs.declared.report_fault.ReportFault.{ReportFault}
 use Rattle.cell_control.proofs.OneReason.{only_reason}
 use Rattle.event_lines.specs.LogLines.{LineTells}
 use Rattle.event_lines.proofs.Readings.{one_telling, one_reading}
-use Rattle.cell_drive.specs.Driving.{cell_after, IsRunOf}
+use Rattle.cell_drive.specs.OneRun.{cell_after, IsRunOf}
 use Rattle.run_resume.specs.declared.resume_fault.ResumeFault.{ResumeFault}
 use Rattle.run_resume.specs.declared.resume_fault.ResumeFault.TheVariants.{BadLine, NotOrdered, NotPossible, Memory}
 use Rattle.run_resume.specs.CutLogs.{IsCutLog, IsFaultOf, IsFaultOfLine, IsFirstBad, IsOnlyFault, fault_line}

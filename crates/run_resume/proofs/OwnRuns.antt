@@ -8,7 +8,7 @@ use Rattle.shop_base.specs.Run.{Event, Reported}
 use Rattle.shop_base.specs.Controlled.{moved, step_orders, Leads, done, accepted, refused}
 use Rattle.cell_tables.specs.declared.entry.Entry.{Entry}
 use Rattle.cell_tables.specs.Events.{events_of}
-use Rattle.cell_drive.specs.Driving.{cell_after, IsRunOf}
+use Rattle.cell_drive.specs.OneRun.{cell_after, IsRunOf}
 use Rattle.run_resume.specs.CutLogs.{reported, IsOwnRun}
 
 reported-moved : (os : List MoveOrder) (es : List Event) → reported (moved os ++ es) ≡ reported es

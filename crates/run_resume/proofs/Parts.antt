@@ -7,7 +7,7 @@ use Rattle.shop_base.specs.Controlled.{moved}
 use Rattle.cell_tables.specs.declared.entry.Entry.{Entry}
 use Rattle.cell_tables.specs.declared.entry.Entry.TheVariants.{Report as ReportEntry, Order as OrderEntry}
 use Rattle.cell_tables.specs.Events.{events_of}
-use Rattle.cell_drive.specs.Driving.{IsBeforeReport}
+use Rattle.cell_drive.specs.OneRun.{IsBeforeReport}
 
 -- two ways to part a list: one front begins the other
 pub append_parts : {A : Type 0} (a x b y : List A) → a ++ x ≡ b ++ y

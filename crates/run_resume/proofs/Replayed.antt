@@ -18,10 +18,10 @@ use Rattle.cell_control.specs.Reports.{IsFirstReason}
 use Rattle.cell_tables.specs.declared.entry.Entry.{Entry}
 use Rattle.cell_tables.specs.declared.entry.Entry.TheVariants.{Report as ReportEntry, Order as OrderEntry}
 use Rattle.event_lines.specs.LogLines.{LinesTell}
-use Rattle.cell_drive.specs.Driving.{cell_after}
-use Rattle.cell_drive.specs.Driven.{IsDriven}
-use Rattle.cell_drive.proofs.DrivenRuns.{driven-never_full}
-use Rattle.cell_drive.proofs.DrivenEnds.{run_of, cell_is}
+use Rattle.cell_drive.specs.OneRun.{cell_after}
+use Rattle.cell_drive.specs.OneCell.{IsDriven}
+use Rattle.cell_drive.proofs.LogRoom.{driven-never_full}
+use Rattle.cell_drive.proofs.OneRun.{run_of, cell_is}
 use Rattle.run_resume.specs.declared.resume_fault.ResumeFault.TheVariants.{NotPossible}
 use Rattle.run_resume.specs.CutLogs.{IsOwnRun, IsTakenUp, IsFaultOf}
 use Rattle.run_resume.specs.LateEvents.{AreLate, IsLateEvent}

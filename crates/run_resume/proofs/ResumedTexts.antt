@@ -1,5 +1,5 @@
 -- What a run that was taken up goes on to write is a log.
-use Rattle.std.proofs.Common.{◌≡◌, ℕ, ◌≤◌, List, [], ◌∷◌, ◌++◌, take, drop, Option, Ok, Bool, true, false, cond, length, length-take-le, ◌⊎◌, inl, inr, refl, sym, ap, ◌∙◌, subst, arith, append_assoc, append-nil}
+use Rattle.std.proofs.Common.{◌≡◌, ℕ, ◌≤◌, List, [], ◌∷◌, ◌++◌, take, drop, Option, Ok, Bool, cond, length, length-take-le, ◌⊎◌, inl, inr, refl, sym, ap, ◌∙◌, subst, arith, append_assoc, append-nil}
 use Rattle.std.specs.Io.KnownBytes.{Appends}
 use Rattle.std.proofs.KnownBytes.{Appends-trans}
 use Rattle.std.proofs.lemmas.List.{append_cancel_left, take-append-drop}
@@ -7,8 +7,8 @@ use Rattle.shop_base.specs.declared.move_order.MoveOrder.{MoveOrder}
 use Rattle.shop_base.specs.Plan.{PlannedShop, IsWellShaped}
 use Rattle.shop_base.specs.Cell.{Cell, start}
 use Rattle.shop_base.specs.Report as base
-use Rattle.shop_base.specs.Run.{Event, Reported, Moved, AreEvents, after, after_all, IsRun}
-use Rattle.shop_base.specs.Controlled.{Leads, done, accepted, refused, moved, step_orders, after_step}
+use Rattle.shop_base.specs.Run.{Reported, Moved, AreEvents, after, after_all, IsRun}
+use Rattle.shop_base.specs.Controlled.{Leads}
 use Rattle.shop_base.specs.Sound.{IsSound}
 use Rattle.shop_base.proofs.Keeping.{start-sound, after_report-sound, after_move-sound}
 use Rattle.shop_base.proofs.ControlledRuns.{controlled_to_run, events_join, after_all_join}
@@ -27,21 +27,22 @@ use Rattle.run_log.proofs.Audits.{events-join}
 use Rattle.byte_streams.specs.Lent.{Streams}
 use Rattle.byte_streams.specs.Lines.{input_lines}
 use Rattle.byte_streams.specs.Answering.{AnswerAll}
-use Rattle.cell_drive.specs.declared.driving.DriveEnd.{DriveEnd}
-use Rattle.cell_drive.specs.AnswerText.{DrivenCell, seen, CellAnswers, CellCloses}
-use Rattle.cell_drive.specs.Driving.{cell_after, IsRunOf}
+use Rattle.cell_drive.specs.declared.one_run.DriveEnd.{DriveEnd}
+use Rattle.cell_drive.specs.AnswerText.{DrivenCell, CellAnswers, CellCloses}
+use Rattle.cell_drive.specs.OneCell.{seen}
+use Rattle.cell_drive.specs.OneRun.{cell_after, IsRunOf}
 use Rattle.cell_drive.specs.AuditLaw.{IsLogOf}
 use Rattle.cell_drive.proofs.AuditKeeps.{appended, found_where}
-use Rattle.cell_drive.proofs.DrivenEnds.{a_driven_cell_answers_so, seen_closes, cell_is, run_of}
-use Rattle.cell_drive.proofs.OneText.{one_text, one_closing}
+use Rattle.cell_drive.proofs.OneRun.{a_driven_cell_answers_so, seen_closes, cell_is, run_of}
+use Rattle.cell_drive.proofs.OneText.{one_driven_text, one_closed}
 use Rattle.event_lines.specs.ReadBack.{TellsFirst}
-use Rattle.event_lines.proofs.Telling.{tells_none, tells_both, tells_entry, others_tell_none}
-use Rattle.cell_drive.proofs.ReadBack.{answers_told}
+use Rattle.event_lines.proofs.Telling.{tells_none, tells_both, tells_entry}
+use Rattle.cell_drive.proofs.ReadBack.{answers_told, late_told}
 use Rattle.cell_drive.proofs.ShopEntries.{report_of_shop, order_of_shop}
 use Rattle.run_resume.specs.Replays.{TakenUp, shop_of}
 use Rattle.run_resume.specs.Resuming.{again_text, again_of, driven_so_far, IsResumedText, GoesOn, AResumedTextIsALog, OneResumedText, AnAuditKeepsWhatWasResumed}
 use Rattle.run_resume.specs.CutLaw.{WhatWasResumedIsTakenUp}
-use Rattle.run_resume.proofs.CutLogs.{run_of_leads, answers_lead, closing_part, a_cut_log_is_taken_up}
+use Rattle.run_resume.proofs.CutLogs.{run_of_leads, leads_join, answers_lead, closing_part, a_cut_log_is_taken_up}
 
 -- ---- the lines of a run
 
@@ -59,10 +60,6 @@ module _ (p : PlannedShop) (shaped : IsWellShaped p) where
       tells_both p (entry_line (OrderEntry o)) (entry_lines entries) (OrderEntry o ∷ []) entries (tells_entry p shaped (OrderEntry o) is_of)
       (run_tells (after p c (Moved o)) entries (after_move-sound p c o.job o.at shaped sound events.0.0.can events.0.1) events.1)
 
-  late_part : (at : ℕ) (was_late : Bool) → TellsFirst p (cond was_late (late_line at) []) []
-  late_part at true = (others_tell_none p).late at
-  late_part at false = tells_none p
-
   -- with the lines that tell what was late, and an empty line behind
   parted_tells : (c : Cell) (told : List Entry) (late : List Bool) (rest : List Entry) → length told ≡ length late → IsSound p c → AreEvents p c (events_of (told ++ rest))
       → TellsFirst p (told_lines told late ++ (10 ∷ entry_lines rest)) (told ++ rest)
@@ -71,22 +68,13 @@ module _ (p : PlannedShop) (shaped : IsWellShaped p) where
   parted_tells c (ReportEntry r ∷ told) (was_late ∷ late) rest same sound events =
       subst (λ (t : List ℕ). TellsFirst p t (ReportEntry r ∷ (told ++ rest))) (sym (append_assoc (told_line (ReportEntry r) was_late) (told_lines told late) (10 ∷ entry_lines rest)))
       (tells_both p (told_line (ReportEntry r) was_late) (told_lines told late ++ (10 ∷ entry_lines rest)) (ReportEntry r ∷ []) (told ++ rest)
-      (tells_both p (entry_line (ReportEntry r)) (cond was_late (late_line (said r).at) []) (ReportEntry r ∷ []) [] (tells_entry p shaped (ReportEntry r) (report_of_shop p c r shaped sound events.0)) (late_part (said r).at was_late))
+      (tells_both p (entry_line (ReportEntry r)) (cond was_late (late_line (said r).at) []) (ReportEntry r ∷ []) [] (tells_entry p shaped (ReportEntry r) (report_of_shop p c r shaped sound events.0)) (late_told p (said r).at was_late))
       (parted_tells (after p c (Reported (said r))) told late rest (omega (arith, same)) (after_report-sound p c (said r) shaped sound events.0) events.1))
   parted_tells c (OrderEntry o ∷ told) (was_late ∷ late) rest same sound events =
       let is_of : IsEntryOf p (OrderEntry o) = subst (λ (q : MoveOrder). IsEntryOf p (OrderEntry q)) (sym events.0.0.is_move) (order_of_shop p c o.job o.at shaped sound events.0.0.can) in
       subst (λ (t : List ℕ). TellsFirst p t (OrderEntry o ∷ (told ++ rest))) (sym (append_assoc (entry_line (OrderEntry o)) (told_lines told late) (10 ∷ entry_lines rest)))
       (tells_both p (entry_line (OrderEntry o)) (told_lines told late ++ (10 ∷ entry_lines rest)) (OrderEntry o ∷ []) (told ++ rest) (tells_entry p shaped (OrderEntry o) is_of)
       (parted_tells (after p c (Moved o)) told late rest (omega (arith, same)) (after_move-sound p c o.job o.at shaped sound events.0.0.can events.0.1) events.1))
-
--- one controlled run behind another
-leads_join : (p : PlannedShop) (c mid end : Cell) (rs qs : List base.Report) (es fs : List Event) → Leads p c rs es mid → Leads p mid qs fs end → Leads p c (rs ++ qs) (es ++ fs) end
-leads_join p c mid end rs qs es fs (done same) later = later
-leads_join p c mid end rs qs es fs (accepted same r js us gs last step leads) later =
-    subst (λ hs. Leads p c (r ∷ us ++ qs) hs end) (ap (λ hs. Reported r ∷ hs) (sym (append_assoc (moved (step_orders p c r js)) gs fs)))
-    (accepted c r js (us ++ qs) (gs ++ fs) end step (leads_join p (after_step p c r js) mid end us qs gs fs leads later))
-leads_join p c mid end rs qs es fs (refused same r us gs last cannot leads) later =
-    refused c r (us ++ qs) (es ++ fs) end cannot (leads_join p c mid end us qs es fs leads later)
 
 -- what was taken up, and the answers behind it, tell exactly what was accepted and ordered
 record IsOn (p : PlannedShop) (text : List ℕ) (end : DrivenCell) : Type 0 where
@@ -102,7 +90,7 @@ goes_on p entries late lines answers closing end shaped run few are closes =
     let first : TellsFirst p (again_text entries late) entries =
     subst (λ (es : List Entry). TellsFirst p (again_text entries late) es) parts
     (parted_tells p shaped (start p) (take (length late) entries) late (drop (length late) entries) (length-take-le (length late) entries few) (start-sound p shaped) (subst (λ (es : List Entry). AreEvents p (start p) (events_of es)) (sym parts) events)) in
-    let on = answers_told p shaped lines (driven_so_far p entries) end 1 answers sound rest are in
+    let on = answers_told p shaped lines (driven_so_far p entries) end 1 answers (record { shaped = shaped; sound = sound; rest = rest }) are in
     let both : TellsFirst p (again_text entries late ++ (answers ++ closing)) (entries ++ (on.more ++ [])) =
     tells_both p (again_text entries late) (answers ++ closing) entries (on.more ++ []) first
     (tells_both p answers closing on.more [] on.tells (closing_part p end closing closes)) in
@@ -136,10 +124,8 @@ what_was_resumed_is_taken_up p entries late lines answers closing cut lost end s
 pub one_resumed_text : OneResumedText
 one_resumed_text p entries late input text other end last shaped run is also =
     let (events, same, sound, rest) = controlled_to_run p run.0 (events_of entries) (cell_after p entries) shaped run.1 in
-    let one = one_text p (input_lines input) (driven_so_far p entries) end last 1 is.answers also.answers shaped sound rest is.are_answers also.are_answers in
-    let closing = one_closing p end is.closing also.closing is.is_closing (subst (λ s. CellCloses p s also.closing) one.1 also.is_closing) in
-    let behind : also.answers ++ also.closing ≡ is.answers ++ is.closing = ap (λ (t : List ℕ). t ++ also.closing) one.0 ∙ ap (λ (t : List ℕ). is.answers ++ t) closing in
-    (also.whole ∙ ap (λ (t : List ℕ). again_text entries late ++ t) behind ∙ sym is.whole, one.1)
+    let one = one_driven_text p (input_lines input) (driven_so_far p entries) end last 1 is.answers also.answers (record { shaped = shaped; sound = sound; rest = rest }) is.are_answers also.are_answers in
+    (also.whole ∙ ap (λ (t : List ℕ). again_text entries late ++ t) (one_closed p end last is.answers also.answers is.closing also.closing is.is_closing also.is_closing one) ∙ sym is.whole, one.1)
 
 -- what was written is such a text of what was read
 resumed_text : (taken : TakenUp) (end : DriveEnd) (before after : Streams) (is : GoesOn taken before after (Ok end))

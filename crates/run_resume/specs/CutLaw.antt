@@ -8,7 +8,7 @@ use Rattle.cell_tables.specs.declared.entry.Entry.TheVariants.{Order as OrderEnt
 use Rattle.event_lines.specs.LogLines.{LinesTell}
 use Rattle.byte_streams.specs.Answering.{AnswerAll}
 use Rattle.cell_drive.specs.AnswerText.{DrivenCell, CellAnswers, CellCloses, AreAnswersTo}
-use Rattle.cell_drive.specs.Driving.{IsRunOf}
+use Rattle.cell_drive.specs.OneRun.{IsRunOf}
 use Rattle.byte_streams.specs.Lines.{ended_lines}
 use Rattle.run_resume.specs.CutLogs.{IsCutLog}
 use Rattle.run_resume.specs.Resuming.{again_text, driven_so_far}

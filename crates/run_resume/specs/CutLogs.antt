@@ -13,7 +13,7 @@ use Rattle.cell_control.specs.Reports.{IsFirstReason}
 use Rattle.byte_streams.specs.Lines.{ended_lines}
 use Rattle.event_lines.specs.LogLines.{LineTells, LinesTell}
 use Rattle.run_log.specs.Audits.{IsBadLine}
-use Rattle.cell_drive.specs.Driving.{cell_after}
+use Rattle.cell_drive.specs.OneRun.{cell_after}
 use Rattle.run_resume.specs.declared.resume_fault.ResumeFault.{ResumeFault}
 use Rattle.run_resume.specs.declared.resume_fault.ResumeFault.TheVariants.{BadLine, NotOrdered, NotPossible, Memory}
 

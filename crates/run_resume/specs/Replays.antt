@@ -7,7 +7,7 @@ use Rattle.cell_tables.specs.declared.entry.Entry.{Entry}
 use Rattle.cell_tables.specs.declared.entry.Entry.TheVariants.{Order as OrderEntry}
 use Rattle.cell_control.specs.Control.{Control}
 use Rattle.run_log.specs.Log.{Noted}
-use Rattle.cell_drive.specs.Driven.{DriveState, driven_by, IsDriven}
+use Rattle.cell_drive.specs.OneCell.{DriveState, driven_by, IsDriven}
 use Rattle.run_resume.specs.declared.replay.Replay.{Replay}
 use Rattle.run_resume.specs.declared.resume_fault.ResumeFault.{ResumeFault}
 use Rattle.run_resume.specs.CutLogs.{IsFaultOf, IsFaultOfLine}

@@ -12,15 +12,15 @@ use Rattle.event_lines.specs.EventLines.{entry_lines}
 use Rattle.byte_streams.specs.Sinks.{TookPart}
 use Rattle.byte_streams.specs.declared.drive_fault.DriveFault.{DriveFault}
 use Rattle.byte_streams.specs.declared.drive_fault.DriveFault.TheVariants.{Write}
-use Rattle.cell_drive.specs.declared.driving.DriveEnd.{DriveEnd}
+use Rattle.cell_drive.specs.declared.one_run.DriveEnd.{DriveEnd}
 use Rattle.byte_streams.specs.declared.rooms.TheConstants.{MAX_PIECE}
 use Rattle.byte_streams.specs.Lent.{Output, Streams}
 use Rattle.byte_streams.specs.Lines.{input_lines}
 use Rattle.byte_streams.specs.Streams.{IsStreamed}
 use Rattle.byte_streams.specs.Answering.{AnswerAll}
 use Rattle.cell_drive.specs.AnswerText.{DrivenCell, CellAnswers, CellCloses}
-use Rattle.cell_drive.specs.Driven.{DriveState, IsDriven, DriveAnswer, DriveCloses}
-use Rattle.cell_drive.specs.Driving.{cell_after, IsRunOf, IsEndOf}
+use Rattle.cell_drive.specs.OneCell.{DriveState, IsDriven, DriveAnswer, DriveCloses}
+use Rattle.cell_drive.specs.OneRun.{cell_after, IsRunOf, IsEndOf}
 use Rattle.cell_drive.specs.AuditLaw.{IsLogOf, IsFoundAgain}
 use Rattle.run_resume.specs.Replays.{TakenUp, shop_of}
 use Rattle.run_resume.specs.ToldLines.{told_lines}

@@ -1,4 +1,4 @@
-use Rattle.cell_drive.proofs.DrivenEnds.{a_driven_cell_answers_so}
+use Rattle.cell_drive.proofs.OneRun.{a_driven_cell_answers_so}
 use Rattle.cell_drive.proofs.OneText.{one_answer_text, one_text_for_lines}
 use Rattle.cell_drive.proofs.laws.one_answer_text.Goals as goal
 

@@ -1,4 +1,4 @@
-use Rattle.cell_drive.proofs.OneCellsText.{one_cells_answer_text, one_cells_text_for_lines}
+use Rattle.cell_drive.proofs.OneText.{one_cells_answer_text, one_cells_text_for_lines}
 use Rattle.cell_drive.proofs.laws.one_answer_text_of_cells.Goals as goal
 
 pub returns-clause-whole : goal.returns-clause-whole

@@ -1,5 +1,5 @@
 use Rattle.std.proofs.Common.{◌∙◌, ap}
-use Rattle.cell_drive.specs.Driven.{DriveState}
+use Rattle.cell_drive.specs.OneCell.{DriveState}
 use Rattle.run_resume.proofs.Replayed.{starts_replayed}
 use Rattle.run_resume.proofs.replay.start_replay.Goals as goal
 

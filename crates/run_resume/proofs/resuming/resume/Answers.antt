@@ -2,9 +2,9 @@ use Rattle.std.proofs.Common.{◌≡◌, ◌≤◌, List, Bool, length, sym, sub
 use Rattle.std.specs.Io.KnownBytes.{Appends}
 use Rattle.byte_streams.specs.Sinks.{TookPart}
 use Rattle.byte_streams.specs.Lent.{output_of}
-use Rattle.cell_drive.specs.declared.driving.DriveEnd.{DriveEnd}
-use Rattle.cell_drive.specs.Driven.{IsDriven, DriveAnswer, DriveCloses}
-use Rattle.cell_drive.proofs.DrivenEnds.{end_from}
+use Rattle.cell_drive.specs.declared.one_run.DriveEnd.{DriveEnd}
+use Rattle.cell_drive.specs.OneCell.{IsDriven, DriveAnswer, DriveCloses}
+use Rattle.cell_drive.proofs.OneRun.{end_from}
 use Rattle.cell_drive.proofs.StreamedFrom.{ended_so, broken_so}
 use Rattle.run_resume.specs.Resuming.{again_text}
 use Rattle.run_resume.proofs.resuming.resume.Goals as goal

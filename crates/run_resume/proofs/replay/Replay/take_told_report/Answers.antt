@@ -2,8 +2,8 @@ use Rattle.std.proofs.Common.{◌≡◌, ◌≤◌, ◌++◌, [], ◌∷◌, Lis
 use Rattle.shop_base.specs.Ends.{stated_number}
 use Rattle.plan_verifier.specs.Accepted.{VerifiedPlan}
 use Rattle.cell_tables.specs.declared.entry.Entry.TheVariants.{Report as ReportEntry, Order as OrderEntry}
-use Rattle.cell_drive.specs.Driven.{DriveState}
-use Rattle.cell_drive.proofs.DrivenRuns.{driven-never_full}
+use Rattle.cell_drive.specs.OneCell.{DriveState}
+use Rattle.cell_drive.proofs.LogRoom.{driven-never_full}
 use Rattle.run_resume.specs.Replays.{IsReplayed, told_part}
 use Rattle.run_resume.proofs.Replayed.{report_replayed, report_impossible}
 use Rattle.run_resume.proofs.replay.Replay.take_told_report.Goals as goal

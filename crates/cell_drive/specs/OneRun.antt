@@ -1,0 +1,83 @@
+-- What driving a cell comes to.
+use Rattle.std.specs.Prelude.{◌≡◌, ℕ, ◌+◌, ◌*◌, ◌<◌, ◌≤◌, ◌↔◌, List, [], ◌∷◌, ◌++◌, length, Option, Bool, IsTrue, Result, Err, IfOk}
+use Rattle.shop_base.specs.Plan.{PlannedShop, jobs}
+use Rattle.shop_base.specs.Cell.{Cell, start}
+use Rattle.shop_base.specs.Report.{Report}
+use Rattle.shop_base.specs.Run.{Event, Reported, Moved, ends_in, IsRun}
+use Rattle.shop_base.specs.Controlled.{IsControlledRun}
+use Rattle.shop_base.specs.Punctual.{ArePunctual}
+use Rattle.shop_base.specs.Ends.{stated_number, reports_in, HasEnded, IsInTime}
+use Rattle.shop_base.specs.KeptMoments.{KeepsLeaving}
+use Rattle.plan_verifier.specs.Accepted.{VerifiedPlan, kept_at}
+use Rattle.cell_control.specs.Promises.{RestsUnstuck}
+use Rattle.cell_tables.specs.declared.entry.Entry.{Entry}
+use Rattle.run_log.specs.Log.{Noted}
+use Rattle.cell_tables.specs.Events.{events_of}
+use Rattle.byte_streams.specs.declared.drive_fault.DriveFault.{DriveFault}
+use Rattle.byte_streams.specs.declared.drive_fault.DriveFault.TheVariants.{Memory}
+use Rattle.byte_streams.specs.declared.rooms.TheConstants.{MAX_PIECE}
+use Rattle.byte_streams.specs.Lent.{Streams}
+use Rattle.byte_streams.specs.Streams.{IsStreamed}
+use Rattle.cell_drive.specs.declared.one_run.DriveEnd.{DriveEnd}
+use Rattle.cell_drive.specs.OneCell.{DriveState, DriveAnswer, DriveCloses, drive_start}
+
+-- the cell after the events of a log
+abbrev pub cell_after : PlannedShop → List Entry → Cell
+cell_after p entries = ends_in p (events_of entries)
+
+-- the events are the controlled run of some reports by the plan, which leads to the cell after them
+abbrev pub IsRunOf : PlannedShop → List Entry → Type 0
+IsRunOf p entries = (reports : List Report) × IsControlledRun p reports (events_of entries) (cell_after p entries)
+
+-- the log has reserved two entries for each report of the stated number, and has no more
+pub record IsNeverFull (p : PlannedShop) (log : Noted) : Type 0 where
+  pub reserved : log.reserved ≡ 2 * stated_number p
+  pub fits : length log.entries ≤ log.reserved
+
+-- how far the run is: it is done exactly where the cell's run has ended, and exactly where as many reports were accepted as the stated number; the rest of that number is left
+pub record IsSoFar (p : PlannedShop) (entries : List Entry) (done : Bool) (last left : ℕ) : Type 0 where
+  pub ended : IsTrue done ↔ HasEnded p (cell_after p entries)
+  pub counted : IsTrue done ↔ (reports_in (events_of entries) ≡ stated_number p)
+  pub rest : reports_in (events_of entries) + left ≡ stated_number p
+  pub moment : last ≡ (cell_after p entries).last
+
+-- the next of the events is a report, or there is none
+abbrev pub IsBeforeReport : List Event → Type 0
+IsBeforeReport [] = Unit {0}
+IsBeforeReport (Reported r ∷ es) = Unit {0}
+IsBeforeReport (Moved o ∷ es) = ⊥
+
+-- what an accepted plan promises after these events: they are a run, the cell rests and isn't stuck, and while all reports were punctual each job is in time
+pub record IsAsPromised (v : VerifiedPlan) (es : List Event) : Type 0 where
+  pub run : IsRun v.planned es
+  pub rests : RestsUnstuck v.planned (ends_in v.planned es)
+  pub in_time : ArePunctual v.planned (start v.planned) es → (j : ℕ) → j < jobs v.planned
+      → KeepsLeaving v.planned (kept_at v) (ends_in v.planned es) j × IsInTime v.planned (ends_in v.planned es) j
+
+-- so it is at the start of these events, and after each of their reports with the moves that it released
+abbrev pub StaysAsPromised : VerifiedPlan → List Event → Type 0
+StaysAsPromised v events = (es later : List Event) → events ≡ es ++ later → IsBeforeReport later → IsAsPromised v es
+
+-- so it is through a log
+abbrev pub NeverWentWrong : VerifiedPlan → List Entry → Type 0
+NeverWentWrong v entries = StaysAsPromised v (events_of entries)
+
+-- what driving has come to, with the cell and the log at its end: the log and the plan; the log is the controlled run of some reports, how far that is, and that it was never full and all stayed as the plan promises
+pub record IsEndOf (v : VerifiedPlan) (s : DriveState) (end : DriveEnd) : Type 0 where
+  pub log : end.log ≡ s.log
+  pub plan : end.verified ≡ v
+  pub run : IsRunOf v.planned end.log.entries
+  pub so_far : IsSoFar v.planned end.log.entries end.done end.last end.left
+  pub never_full : IsNeverFull v.planned end.log
+  pub promised : NeverWentWrong v end.log.entries
+
+-- the answers to an input, which is read into a room of 65,536 bytes, are streamed from this start on; or memory ran out before the first byte was read, and nothing was touched
+abbrev pub IsStreamedFrom : {S T : Type 0} → (S → ℕ → Option (List ℕ) → List ℕ → S → Type 0) → (S → List ℕ → Type 0) → S → Result T DriveFault → S → Streams → Streams → Type 0
+IsStreamedFrom answers closes start (Err Memory) end before after = after ≡ before
+IsStreamedFrom answers closes start outcome end before after = IsStreamed outcome MAX_PIECE answers closes start end before after
+
+-- the cell of the plan was driven from its start to this end; or driving it was broken off by this fault
+pub record IsDrive (v : VerifiedPlan) (before after : Streams) (outcome : Result DriveEnd DriveFault) : Type 0 where
+  pub end : DriveState
+  pub streamed : IsStreamedFrom DriveAnswer DriveCloses (drive_start v) outcome end before after
+  pub came_to : IfOk outcome (IsEndOf v end)
