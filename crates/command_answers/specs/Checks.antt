@@ -6,7 +6,6 @@ use Rattle.shop_base.specs.ShapeFault.{IsFirstShapeFault}
 use Rattle.alt_graph.specs.Evidence.{IsCycle}
 use Rattle.plan_verifier.specs.declared.verdict.Verdict.{Verdict}
 use Rattle.plan_verifier.specs.declared.verdict.Verdict.TheVariants.{Accepted, Refused}
-use Rattle.plan_verifier.specs.declared.verdict.Why.TheVariants.{Cycle, Late}
 use Rattle.plan_verifier.specs.Accepted.{VerifiedPlan, IsAcceptable}
 use Rattle.plan_verifier.specs.Verdicts.{OnAccepted, OnRefused, IsFirstLate, IsReason}
 use Rattle.plan_explain.specs.FirstLines.{cycle_line, refused_late_line, TellsAccepted, IsFirstLine}

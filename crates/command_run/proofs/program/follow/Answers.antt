@@ -1,4 +1,4 @@
-use Rattle.std.proofs.Common.{◌≡◌, Err, refl, subst}
+use Rattle.std.proofs.Common.{refl, subst}
 use Rattle.command_run.specs.Unchosen.{IsOutcomeOf, Comes}
 use Rattle.command_run.specs.declared.unchosen.Unchosen.TheVariants.{Usage as Wrong}
 use Rattle.command_run.proofs.Refusing.{refused_ends, refused_words}
