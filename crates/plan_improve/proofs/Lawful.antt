@@ -7,9 +7,8 @@ use Rattle.plan_verifier.specs.Accepted.{IsAcceptable, IsMakespan}
 use Rattle.plan_verifier.proofs.Reasons.{makespan_le}
 use Rattle.plan_bounds.proofs.Bounded.{no_plan_is_sooner-holds}
 use Rattle.plan_improve.specs.declared.cost.Cost.{Cost}
-use Rattle.plan_improve.specs.Costs.{IsCost, IsLess, IsAtMost, IsBetter}
-use Rattle.plan_improve.specs.AtBound.{IsBound, IsAtBound}
-use Rattle.plan_improve.specs.Reordered.{IsReordered}
+use Rattle.plan_improve.specs.Costs.{IsCost, IsLess, IsAtMost}
+use Rattle.plan_improve.specs.AtBound.{IsBound}
 use Rattle.plan_improve.specs.Laws.{AcceptedPlansStayAccepted, TheirMakespansNeverGrow, ASecondSearchIsNoWorse, NoWorseIsPassedOn, NobodyBettersIt}
 use Rattle.plan_improve.proofs.Keeping.{most_of_most, same_late, same_makespan, same_bound}
 
