@@ -7,8 +7,9 @@ use crate::sink::{Sink, WriteFault};
 use std::alloc::Global;
 use std::io::{self, BufWriter, ErrorKind, Write};
 
-/// Any of std's writers as an outlet of bytes, which are gathered until they are to be shown or don't fit. Where it is
-/// dropped, also after a failed write, what is still gathered is written out once more, and no fault of that is told.
+/// Any of std's writers as an outlet of bytes, which are gathered until they are to be shown or don't fit. Where it
+/// is dropped, also after a failed write, what is still gathered is written out once more, and no fault of that is
+/// told. What is shown is written to the writer: where that passes it on, whoever waits for an answer has it.
 #[derive(Drop)]
 pub struct Gathered<W: Write + Drop> {
     writer: BufWriter<W>,

@@ -15,9 +15,10 @@ use std::marker::Model;
 
 /// Runs many cells, each by an accepted plan and under a ticket of its own.
 ///
-/// The cells stand in slots, which are used again after a dismissal. A ticket's serial tells its cell from the
-/// others that stood or will stand in its slot. Only [`Hub::admit`] takes memory; the other calls take as long
-/// with a thousand cells as with one.
+/// The cells stand in slots, which are used again after a dismissal. A ticket's serial tells its cell from the others
+/// that stood or will stand in its slot. Only [`Hub::admit`] takes memory; the other calls take as long with a
+/// thousand cells as with one. A contract sees it as a finite map from tickets to what their controllers hold, and
+/// the serial of the next ticket: neither slots, nor which of them are vacant.
 #[derive(Debug, Drop)]
 pub struct Hub<D: Dues> {
     alloc: Global,

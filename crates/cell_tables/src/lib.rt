@@ -1,7 +1,9 @@
-//! The cell of a run of a plan, as a value: a [`WorkCell`] tells where the jobs are and which can move, and is changed by
-//! the end of an activity and by a move. Its [`Report`]s and orders are the [`Entry`]s of a log.
+//! The cell of a run of a plan, as a value: a [`WorkCell`] tells where the jobs are and which can move, and is
+//! changed by the end of an activity and by a move. Its [`Report`]s and orders are the [`Entry`]s of a log.
 //!
 //! Moments are whole time units, counted from moment 0. Only [`WorkCell::start`] takes memory.
+//!
+//! The controller and the audit follow a run by this cell.
 #![tactic(auto)]
 
 mod entry;

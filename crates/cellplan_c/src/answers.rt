@@ -14,7 +14,8 @@ use command_answers::{Answer, CommandFault, check, explain};
 use std::alloc::Global;
 
 /// The answer of the command `check` to the two texts, or its fault's line, as the program tells it. With a name the
-/// first text is a collection with an instance of this name, and with an empty one it is one instance.
+/// first text is a collection with an instance of this name, and with an empty one it is one instance. The words
+/// behind `instance: ` and `plan: ` are in no clause.
 #[unsafe(no_mangle)]
 pub extern "C" fn cellplan_check(
     alloc: Global,

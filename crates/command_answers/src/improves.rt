@@ -19,9 +19,9 @@ use plan_verifier::Verdict;
 use shop_base::Shaped;
 use std::alloc::Global;
 
-/// The text of the best plan that a search from the plan of a file meets, for the instance of another file: accepted, or
-/// with a job that is still late. A plan without any orders is taken with the serial ones. One that isn't well shaped is
-/// answered by its first fault.
+/// The text of the best plan that a search from the plan of a file meets, for the instance of another file: accepted,
+/// or with a job that is still late. A plan without any orders is taken with the serial ones. One that isn't well
+/// shaped is answered by its first fault. More than 1000 rounds are answered by `too many rounds`.
 pub fn improve_answer<T: Texts, W: Watch>(
     alloc: Global,
     texts: &mut T,

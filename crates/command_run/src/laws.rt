@@ -1,4 +1,9 @@
-//! What the program's clauses come to in plain words. Nothing is done here: a function's contract is the law.
+//! The laws of the program. The first four speak of files that don't change (`Shelf`), and the first three also of
+//! which paths are asked for. The others speak of every run of the whole program, over any files, input, output and
+//! error output. For `audit` and `gantt` `good_files_are_answered` takes a well shaped plan. The clause of `run` says
+//! what else they do.
+
+// Nothing is done here: a function's contract is the law, so a check of this crate proves it.
 
 ghost use Rattle.command_run.specs.Laws.{FactsTellInstanceFirst, ShapeTellsInstanceFirst, CheckTellsInstanceFirst, ExplainTellsInstanceFirst, ScheduleTellsInstanceFirst, BoundsTellInstanceFirst};
 ghost use Rattle.command_run.specs.Laws.{LogTellsInstanceFirst, PlanTellsInstanceFirst, ImproveTellsInstanceFirst};
@@ -11,8 +16,9 @@ ghost use Rattle.command_run.specs.Laws.{WhatFailsIsTold, NothingIsHeldBack, Wha
 
 use command_answers::Texts;
 
-/// Where the text of the instance is refused, its first fault is told, unless memory runs out, and no other file is
-/// asked for; `drive`, `resume` and `hub` then read and write no byte.
+/// In each of the eleven commands: where the text of the instance is refused, its first fault is told, unless memory
+/// runs out, and no other file is asked for. `drive`, `resume` and `hub` then read and write no byte. (For `plan` and
+/// `improve` memory may also run out before any file is asked for.)
 pub fn instance_first()
     ensures facts { FactsTellInstanceFirst }
     ensures shape { ShapeTellsInstanceFirst }
@@ -28,10 +34,11 @@ pub fn instance_first()
     ensures hub { HubTellsInstanceFirst }
 {}
 
-/// Files that tell a shop and a plan are answered, unless memory runs out: by the command's line for that shop and that
-/// plan, or by the driven cell of the plan if it is accepted, which `resume` takes up from its log. `hub` drives the
-/// cells of its plans if all are accepted. Exactly these files are asked for, in this order. Without words an input
-/// that tells a shop is answered by its facts, unless a read fails or memory runs out.
+/// Files that tell a shop and a plan are answered, unless memory runs out, and exactly they are asked for. `plan` and
+/// `improve` answer what their search allows. An accepted plan has its cell driven by `drive`, and by `resume` from
+/// its log, unless that is refused. `hub` drives the cells of its plans, if all are accepted. Where memory runs out
+/// before a cell is driven, these three read and write no byte. Without words an input within the limit that tells a
+/// shop is answered by its facts, unless a read fails or memory runs out.
 pub fn good_files_are_answered()
     ensures facts { FactsAnswerShop }
     ensures shape { ShapeAnswersPlan }
@@ -48,34 +55,39 @@ pub fn good_files_are_answered()
     ensures input { InputAnswersShop }
 {}
 
-/// A plan that isn't accepted has no cell to be driven: it is answered by the line of `check`, unless memory runs out,
-/// the log isn't asked for, and no byte is read or written. So it is of the first such plan of `hub`, behind whose number
-/// the line stands, and after which no plan is asked for.
+/// Let the files tell a plan that isn't accepted. Then `drive` and `resume` answer the line of `check`, unless memory
+/// runs out. They ask for no further file, so not for the log, and drive no cell: up to this line no byte is read or
+/// written. So it is of the first plan of `hub` that isn't accepted: its number stands before that line, and no plan
+/// behind it is asked for.
 pub fn no_cell_without_an_accepted_plan()
     ensures drive { DriveAnswersByCheck }
     ensures resume { ResumeAnswersByCheck }
     ensures hub { HubAnswersByCheck }
 {}
 
-/// `drive` with an accepted plan, run again on the same words, files and input, writes the same bytes and ends with the
-/// same status, unless memory runs out or a device fails.
+/// Let the words ask for `drive`, the files tell an accepted plan, and the input be within its limit. Then two runs
+/// on the same words, files and input write the same bytes and end with the same status, whatever pieces the input
+/// comes in. This holds unless memory runs out or a read or write fails.
 pub fn drive_writes_the_same()
     ensures { DriveWritesTheSame }
 {}
 
-/// Each run of the program ends with 0 or 1 and tells nothing on the error output, or it ends with 2 or more, and what
-/// failed is told there with its status.
+/// A run ends with 0 or 1 and tells nothing on the error output. (The line of progress on a terminal goes to another
+/// device.) Or it ends with 2 or more, and what failed is told there: with 2 what is wrong with the words, else the
+/// line of the fault in which the command ended. In place of a refused text it may be that memory ran out, and where
+/// an answer couldn't be written, that. It is told whole, unless a write of the error output has failed.
 pub fn what_fails_is_told<T: Texts>()
     ensures { WhatFailsIsTold T.gives }
 {}
 
-/// At the end of each run nothing is held back, unless a write of the output has failed.
+/// At the end of a run nothing that the output has taken is held back, unless a write of it has failed.
 pub fn nothing_is_held_back<T: Texts>()
     ensures { NothingIsHeldBack T.gives }
 {}
 
-/// Where a run ends with 2 or more, nothing was written on the output but what driven cells answered, and the first
-/// bytes of an answer whose write failed.
+/// Where a run ends with 2 or more, only what driven cells answered was written on the output (of a run that was
+/// taken up, its events once more before that). They are the cells of the accepted plans in the files that the words
+/// name. Behind that stand at most the first bytes of the command's answer, a write of which failed.
 pub fn what_fails_is_no_answer<T: Texts>()
     ensures { WhatFailsIsNoAnswer T.gives }
 {}

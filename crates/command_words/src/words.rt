@@ -113,8 +113,9 @@ impl From<Refusal> for WordsFault {
     }
 }
 
-/// Reads the command line, of which the first word is the program's name. `WordsFault::Memory` may
-/// come in place of any other answer.
+/// Reads the command line, of which the first word is the program's name. `WordsFault::Memory` may come in place of
+/// any other answer. The number of files is one that the command takes, the rounds are at most 1000 and the seed at
+/// most 1,000,000. Exactly what `clap` refuses is refused.
 pub fn read_words(alloc: Global, words: &[&str]) -> Result<Chosen, WordsFault>
     ensures chosen { IfOk result (IsChoiceOf (found_in (map (λ word. word.now) words.now))) }
     ensures within { IfOk result IsWithin }

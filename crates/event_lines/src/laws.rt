@@ -1,11 +1,15 @@
-//! What holds of lines in general. Nothing is done here: a function's contract is the law.
+//! The laws of lines. Two laws of the lines of a driven cell, whoever writes and reads them.
+
+// Nothing is done here: a function's contract is the law, so a check of this crate proves it.
 
 ghost use Rattle.shop_base.specs.Plan.{PlannedShop};
 ghost use Rattle.event_lines.specs.ReadBack.{WhatIsWrittenIsRead, NumberedLinesAreLines, WrittenEntriesAreTold, OtherAnswersTellNone};
 ghost use Rattle.event_lines.specs.ReadBack.{OneEntry, OneReport, OneCellReport};
 
-/// What was written is read: a line, with a cell's number before it or without one, as the words that it was written with. As
-/// a log, the line of an event tells that event, and that of another answer none.
+/// A line is written with words: texts without a space, and numbers with no more digits than they may have. In front
+/// of any text it is the first line, and is read as the same words. A cell's number and a space before it make such a
+/// line too. For a well-shaped plan the line of an event of the shop tells that event, and the lines `late`,
+/// `refused`, `done` and `unfinished` tell none.
 pub fn what_is_written_is_read()
     ensures words { WhatIsWrittenIsRead }
     ensures numbered { NumberedLinesAreLines }
@@ -13,7 +17,8 @@ pub fn what_is_written_is_read()
     ensures passed_over { (p : PlannedShop) → OtherAnswersTellNone p }
 {}
 
-/// A line is read in one way: as one event of a log, as one report that is sent, and as one report on one cell.
+/// A line tells one event at most. As a line that is sent, it is one report at most, and with a cell's number one
+/// report on one cell.
 pub fn a_line_has_one_reading()
     ensures told { OneEntry }
     ensures sent { OneReport }

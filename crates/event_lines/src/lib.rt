@@ -1,5 +1,8 @@
-//! The lines of a driven cell, each kind with its writer and its reader: a report as it is sent and as it is told, an order,
-//! the other answers, and a cell's number before any of these.
+//! The lines of a driven cell, each kind with its writer and its reader: a report as it is sent and as it is told, an
+//! order, the other answers, and a cell's number before any of these.
+//!
+//! A line is words with one space between each two: texts, and numbers, which may be read with leading zeros and are
+//! written without.
 #![tactic(auto)]
 
 mod answers;

@@ -1,4 +1,6 @@
 //! Instance texts of a job shop: OR-Library's jobshop1, one instance or a collection of named ones.
+//!
+//! The grammar is a relation on the whole list of lines.
 #![tactic(auto)]
 
 mod draft;

@@ -1,14 +1,23 @@
-//! The laws of the bounds. Each is the contract of a function that does nothing, so a check of this crate proves it.
+//! The laws of bounds: of those that a shop has with its releases and cleaning times, of every well shaped plan with
+//! these, whatever its orders and budgets.
+//!
+//! A job's bound is its release and its nominal times. A machine that two or more jobs visit has one too: all its
+//! nominal times, its cleaning time once fewer than its jobs, and the least that the head of one of them and the tail
+//! of another add up to.
+
+// Nothing is done here: a function's contract is the law, so a check of this crate proves it.
 
 ghost use Rattle.plan_bounds.specs.BoundsLaw.{NoPlanIsSooner, NeverInTime};
 
-/// No plan is sooner: whatever its orders, some path to each job's leaving is at least as long as the job's bound, and
-/// some path to some job's leaving as the greatest of all bounds.
+/// Some path to each job's leaving is at least as long as the job's bound. Some path to some job's leaving is at
+/// least as long as the greatest bound of all machines and jobs. So neither the greatest length of a path to a
+/// leaving nor the greatest of them all is less.
 pub fn no_plan_is_sooner()
     ensures { NoPlanIsSooner }
 {}
 
-/// A job whose bound is past its budget is late in every plan, and no exact run has it out by its budget.
+/// A job whose bound is past its budget is late in every plan: no moments that fit meet the budgets. In no run whose
+/// reports are exact is it out by its budget.
 pub fn never_in_time()
     ensures { NeverInTime }
 {}

@@ -28,7 +28,8 @@ pub struct LeastMakespan {
     pub by: By,
 }
 
-/// The greatest of the bounds of the machines and the jobs.
+/// The greatest of the bounds of the machines and the jobs. It is that of the least machine that has it, else of the
+/// least job.
 pub fn least_makespan(shaped: &Shaped) -> LeastMakespan
     ensures { IsLeastMakespan (times_of shaped.now) result }
 {

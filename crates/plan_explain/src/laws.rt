@@ -1,23 +1,25 @@
-//! What the lines of explanations say, as laws. Each is the contract of a function that does nothing, so a
-//! check of this crate proves it. `docs/LAWS.md` says them in plain words.
+//! The laws of explanations: of the lines that `check` and `explain` write, of every well shaped plan and every
+//! verdict.
+
+// Nothing is done here: a function's contract is the law, so a check of this crate proves it.
 
 ghost use Rattle.plan_explain.specs.LineLaws.{ArcsAreToldAsTheyAre, EachLineTellsThePathUpToIt, TheLastLineTellsTheLength, TheLinesOfACycleClose, AVerdictHasOneFirstLine};
 
-/// Each arc is told as it is: a job arc with the machine and the nominal time of its step, a blocking arc
-/// with its machine, the job that leaves it and the one that enters, and its cleaning time. The time that is
-/// told is the arc's length.
+/// A job arc is told by its job, the machine and the nominal time of its step. A blocking arc is told by its machine,
+/// the job that leaves it, the one that enters and its cleaning time. The time that is told is the length of the arc.
 pub fn arcs_are_told_as_they_are()
     ensures { ArcsAreToldAsTheyAre }
 {}
 
-/// Each further line of a chain tells the length of the path up to its node: that of the path before, and
-/// the arc between. So the moments never fall along a chain.
+/// The line of a node behind a path tells the length of the path up to it: that of the path before, and the arc
+/// between. So the moments never fall along a chain.
 pub fn each_line_tells_the_path_up_to_it()
     ensures { EachLineTellsThePathUpToIt }
 {}
 
-/// The last line of a chain tells the chain's length: it is that of the arc to its last node, or of the release of
-/// its only node's job.
+/// The last line of a path is that of the arc to its last node or, of a path of one node, of the release of its job.
+/// Its moment is the path's length: of a late plan the moment at which the late job leaves, of an accepted one the
+/// makespan.
 pub fn the_last_line_tells_the_length()
     ensures { TheLastLineTellsTheLength }
 {}
@@ -27,7 +29,8 @@ pub fn the_lines_of_a_cycle_close()
     ensures { TheLinesOfACycleClose }
 {}
 
-/// A verdict has one first line: what `check` says of it, and what its explanation begins with.
+/// Two lines that are the first line of one verdict are the same: so `check` and `explain` of a verdict begin with
+/// the same line.
 pub fn a_verdict_has_one_first_line()
     ensures { AVerdictHasOneFirstLine }
 {}

@@ -4,7 +4,8 @@ use shop_base::{JobNo, Shaped};
 use std::alloc::{AllocError, Global};
 
 /// A local search from the best plan so far: simulated annealing over the orders of the machines, as plan_annealing
-/// does it. Another seed searches elsewhere, and the same one does the same again.
+/// does it. Another seed searches elsewhere, and the same one does the same again. By its clause it may answer
+/// anything: it is only proved that it is safe and ends.
 #[derive(Clone, Copy)]
 pub struct AnnealingImprover {
     seed: u32,

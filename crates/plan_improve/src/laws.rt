@@ -1,21 +1,27 @@
-//! What follows for whoever uses a plan that was improved. Each law is the contract of a function that does nothing, so
-//! a check of this crate proves it.
+//! The laws of better plans: for whoever improves a plan more than once.
+//!
+//! A plan is no worse than another where neither has a cycle, and the first is less late, or as late with no greater
+//! makespan.
+
+// Nothing is done here: a function's contract is the law, so a check of this crate proves it.
 
 ghost use Rattle.plan_improve.specs.Laws.{AcceptedPlansStayAccepted, TheirMakespansNeverGrow, ASecondSearchIsNoWorse, NoWorseIsPassedOn, NobodyBettersIt};
 
-/// An accepted plan stays accepted, and its makespan never grows.
+/// A plan that is no worse than an accepted one is accepted, and its makespan is no greater.
 pub fn accepted_plans_stay_accepted()
     ensures accepted { AcceptedPlansStayAccepted }
     ensures makespan { TheirMakespansNeverGrow }
 {}
 
-/// What a search gives of a plan without a cycle is no worse than that plan, nor than what that one was no worse than.
+/// What a search gives of a plan without a cycle is no worse than that plan. And "no worse" is passed on from the
+/// first plan to the second and the third.
 pub fn second_searches_are_no_worse()
     ensures second { ASecondSearchIsNoWorse }
     ensures passed_on { NoWorseIsPassedOn }
 {}
 
-/// Nobody betters a plan that meets its bound, by no orders: so a search that has found one is over.
+/// A plan without a cycle meets its bound where no job is late and its makespan is the greatest bound of its machines
+/// and jobs. Then no plan that differs from it in its orders alone is better.
 pub fn a_plan_at_its_bound_is_best()
     ensures { NobodyBettersIt }
 {}

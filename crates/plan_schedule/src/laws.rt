@@ -1,13 +1,15 @@
-//! The law that ties a schedule to a run. It is the contract of a function that does nothing, so a check of this crate
-//! proves it. `docs/LAWS.md` says it in plain words.
+//! The law of schedules: of the lines that `schedule` writes. Its ranks are there of each plan that is accepted or
+//! late, as `never_stuck` asks for them.
+
+// Nothing is done here: a function's contract is the law, so a check of this crate proves it.
 
 ghost use Rattle.plan_schedule.specs.ScheduleLaw.{SchedulesTellTheExactRun, SomeRunIsExact};
 
-/// Schedules tell the exact run: where ranks rise along every arc, as they do of each plan without a cycle, each event
-/// of a controlled run whose reports are exact comes at just the moment that the lines tell. A job enters each visit,
-/// its operation ends, and it leaves, as the line of the visit says; it arrives at its release; and a cleaning begins
-/// and ends as its line says. There is such a run, and in it each job is gone whose leaving is told for a moment that
-/// can be reported.
+/// Let the ranks rise along every arc, and let lines tell the greatest length of a path to each node as its moment.
+/// Then in a controlled run whose reports are exact each event comes at just the moment that they tell. A job arrives
+/// at its release, enters each of its visits and leaves it, and its operation ends between, as the line of the visit
+/// says. A cleaning begins as the job leaves, and its end is reported its time after that. There is such a run, in
+/// which each job is gone whose leaving is told for a moment that can be reported.
 pub fn schedules_tell_the_exact_run()
     ensures exact { SchedulesTellTheExactRun }
     ensures some { SomeRunIsExact }

@@ -1,6 +1,7 @@
-//! Worked examples, computed on the definitions: each function does nothing, and its contract says what
-//! the definitions make of a plan, a list of events or a list of nodes that is written out. The last one
-//! states the limits.
+//! The worked examples: small plans computed on the definitions show that these mean what they say.
+//!
+//! Each function has an empty body and a contract of such facts. The plans and lists of events are written out in
+//! `specs/Examples.antt`, the lists of nodes in the contracts. The last function states the limits.
 
 ghost use Rattle.std.specs.Prelude.{◌≡◌, ℕ, ◌≤◌, List, [], ◌∷◌, ◌++◌, take, drop, true};
 ghost use Rattle.shop_base.specs.declared.limits.TheConstants.{MAX_JOBS, MAX_MACHINES};
@@ -33,8 +34,8 @@ ghost use Rattle.shop_base.specs.Examples.{released_reports, released_log, relea
 ghost use Rattle.shop_base.specs.Examples.{refused_reports, refused_log, refused_after, refused_end};
 ghost use Rattle.shop_base.specs.Examples.{instant_reports, instant_log, instant_after, instant_end};
 
-/// Two jobs pass two machines, one behind the other. The first operation ends before its nominal time,
-/// so the run is punctual and not exact.
+/// A run of two jobs, written out event by event, is the controlled run of its reports. At some of its events it is
+/// said who holds a machine, what is due when, and when each job is gone.
 pub fn two_jobs_in_series_run()
     ensures shaped { IsWellShaped in_series }
     ensures run { IsRun in_series series_log }
@@ -57,8 +58,9 @@ pub fn two_jobs_in_series_run()
     ensures last { series_end.last ≡ 9 }
 {}
 
-/// An order is possible only if it names the job's place, the next machine of its route, and a moment
-/// that isn't past.
+/// An order with another source or target is impossible. So is one at a moment that is past or over the latest, and
+/// one for a job that isn't ready; one at a later moment is possible. A job that is gone, or isn't of the shop, has
+/// no source on a machine.
 pub fn an_order_names_just_its_move()
     ensures gone { source in_series series_end 0 ≡ Out }
     ensures absent { source in_series series_end 2 ≡ Out }
@@ -73,8 +75,7 @@ pub fn an_order_names_just_its_move()
     ensures against_plan { KeepsPlan in_series (series_after 3) 1 → ⊥ }
 {}
 
-/// With a report that comes after its due moment the run goes on as any other, but the jobs can miss
-/// their budgets.
+/// A late report is accepted, and the budgets are missed.
 pub fn a_late_report_is_still_a_run()
     ensures run { IsRun in_series late_log }
     ensures controlled { IsControlledRun in_series late_reports late_log late_end }
@@ -90,7 +91,7 @@ pub fn a_late_report_is_still_a_run()
     ensures late_by_another { IsPunctual with_cleaning (cleaned_after 11) (tidy 13 1) → ⊥ }
 {}
 
-/// A run may leave a job waiting that could move. It is then no controlled run.
+/// A run may wait though it could move; it is then no controlled run.
 pub fn a_run_need_not_be_eager()
     ensures run { IsRun in_series waiting_log }
     ensures not_at_rest { IsAtRest in_series (waiting_after 7) → ⊥ }
@@ -100,8 +101,7 @@ pub fn a_run_need_not_be_eager()
     ensures last { waiting_end.last ≡ 10 }
 {}
 
-/// Each of two jobs waits for the machine that the other holds. Their cycle has the length 0, so there
-/// are moments that fit every arc, and the run is stuck all the same.
+/// Two crossed orders make a cycle of length 0, there are moments that fit every arc, and the cell still gets stuck.
 pub fn crossed_orders_get_stuck()
     ensures shaped { IsWellShaped crossed }
     ensures cycle { IsSimpleCycle crossed (node 0 1 ∷ node 1 1 ∷ []) }
@@ -120,8 +120,7 @@ pub fn crossed_orders_get_stuck()
     ensures second_inside { IsGone crossed crossed_end 1 → ⊥ }
 {}
 
-/// Two jobs can't exchange their machines, though each move keeps the plan: moves come one after the
-/// other, and the first would go onto a machine that is held.
+/// Two parts can't exchange machines, at any moment.
 pub fn a_swap_is_no_run()
     ensures keeps_plan { KeepsPlan crossed crossed_end 0 }
     ensures held { IsOn crossed crossed_end 1 0 1 }
@@ -130,8 +129,7 @@ pub fn a_swap_is_no_run()
     ensures no_run { IsRun crossed (crossed_log ++ exchange) → ⊥ }
 {}
 
-/// Three orders can make a cycle of which no two do. The other direction, a list that comes round twice
-/// and one that isn't closed are no simple cycles.
+/// A ring of three machines makes a cycle, and lists that are nearly one are none.
 pub fn orders_in_a_ring_make_a_cycle()
     ensures shaped { IsWellShaped in_ring }
     ensures cycle { IsSimpleCycle in_ring (node 0 1 ∷ node 2 1 ∷ node 1 1 ∷ []) }
@@ -145,8 +143,7 @@ pub fn orders_in_a_ring_make_a_cycle()
         (node 0 1 ∷ node 2 1 ∷ node 1 1 ∷ node 0 1 ∷ node 2 1 ∷ node 1 1 ∷ []) → ⊥ }
 {}
 
-/// The longest paths of a plan without a cycle, and arcs that there aren't. A blocking arc begins where
-/// a job leaves the machine, and is as long as the cleaning.
+/// Arcs and lengths of paths, with and without cleaning.
 pub fn paths_of_two_jobs_in_series()
     ensures first { Path in_series (node 0 0 ∷ node 0 1 ∷ node 0 2 ∷ []) (leaving in_series 0) 5 }
     ensures second { Path in_series (node 0 0 ∷ node 0 1 ∷ node 0 2 ∷ node 1 0 ∷ node 1 1 ∷ node 1 2 ∷ [])
@@ -171,8 +168,7 @@ pub fn paths_of_two_jobs_in_series()
     ensures not_serial { IsSerial crossed → ⊥ }
 {}
 
-/// Three jobs pass three machines. The end of one operation on the last machine makes all three move,
-/// one after the other, and a controller doesn't stop before the last of these moves.
+/// A report that moves nothing, and one that moves three jobs.
 pub fn three_machine_flow_run()
     ensures shaped { IsWellShaped in_flow }
     ensures run { IsRun in_flow flow_log }
@@ -193,8 +189,7 @@ pub fn three_machine_flow_run()
     ensures last { flow_end.last ≡ 9 }
 {}
 
-/// A machine with a cleaning time is free once its job has left, and yet no job enters it before it is
-/// clean. The last cleaning is part of the run, though all jobs are gone before it. This run, too, meets every
+/// No job enters a machine that is being cleaned, and a run hasn't ended before its last cleaning has. It meets every
 /// premise of `just_in_time`.
 pub fn cleaning_delays_the_entry()
     ensures shaped { IsWellShaped with_cleaning }
@@ -224,8 +219,8 @@ pub fn cleaning_delays_the_entry()
     ensures last { cleaned_end.last ≡ 13 }
 {}
 
-/// A release is the latest moment of an arrival: a job may arrive before it, and is late after it. This run
-/// meets every premise of `just_in_time`.
+/// Releases above 0: an early arrival is possible, one after the release is late. The run meets every premise of
+/// `just_in_time`.
 pub fn jobs_arrive_by_their_releases()
     ensures shaped { IsWellShaped with_releases }
     ensures schedule { IsSchedule with_releases series_ranks released_moments }
@@ -244,9 +239,8 @@ pub fn jobs_arrive_by_their_releases()
     ensures second_out { since released_end 1 ≡ 13 }
 {}
 
-/// Reports that aren't possible add nothing to the controlled run: of what isn't going on, of another
-/// machine than the job's, of no machine of the shop, before the last moment, or past the latest moment of
-/// all.
+/// Impossible reports leave the controlled run as it is: among others an end on another machine than the job's, and
+/// an arrival of a job that is inside.
 pub fn a_report_that_is_not_possible_adds_nothing()
     ensures controlled { IsControlledRun with_cleaning refused_reports refused_log refused_end }
     ensures not_cleaned { CanReport with_cleaning (refused_after 7) (tidy 5 0) → ⊥ }
@@ -264,8 +258,7 @@ pub fn a_report_that_is_not_possible_adds_nothing()
     ensures unfinished { HasEnded with_cleaning refused_end → ⊥ }
 {}
 
-/// An operation with the nominal time 0 is reported as any other: its job enters, and leaves at the same
-/// moment.
+/// An operation with the nominal time 0.
 pub fn an_operation_without_length()
     ensures shaped { IsWellShaped instant }
     ensures controlled { IsControlledRun instant instant_reports instant_log instant_end }
@@ -276,8 +269,7 @@ pub fn an_operation_without_length()
     ensures out { IsOutByBudget instant instant_end 0 }
 {}
 
-/// The limits in numbers: the most jobs and machines of a shop, the longest nominal and cleaning times, the
-/// latest release, and the latest moment of all.
+/// The limits of an instance and of a plan, each as a number.
 pub fn the_limits_in_numbers()
     ensures jobs { MAX_JOBS ≡ 200 }
     ensures machines { MAX_MACHINES ≡ 100 }
