@@ -3,6 +3,5 @@ pub mod Held
 pub mod Told
 pub mod Taking
 pub mod Drains
-pub mod EndedLines
 pub mod WholeLines
 pub mod Streamed

@@ -7,7 +7,7 @@ use Rattle.text_lines.specs.Lines.{is_line_feed, parts_of, without_return, lines
 use Rattle.byte_streams.specs.Lines.{within_limit, input_lines, complete_lines}
 use Rattle.byte_streams.specs.Holding.{joined, held_line, ended, held_after}
 use Rattle.byte_streams.specs.Reading.{last_line}
-use Rattle.byte_streams.proofs.EndedLines.{take_map}
+use Rattle.text_lines.proofs.EndedLines.{take_map}
 use Rattle.byte_streams.proofs.Held.{cases_bool, joined-fits, joined-over}
 
 -- ---- what is held of the first bytes of a line

@@ -8,7 +8,7 @@ use Rattle.byte_streams.specs.declared.drive_fault.DriveFault.{DriveFault}
 use Rattle.run_resume.specs.declared.resume_fault.ResumeFault.{ResumeFault}
 use Rattle.run_resume.specs.declared.resume_fault.ResumeFault.TheVariants.{Memory as WantOfMemory}
 use Rattle.run_resume.specs.ResumeNames.{fault_name}
-use Rattle.byte_streams.specs.Lines.{ended_lines}
+use Rattle.text_lines.specs.Lines.{ended_lines}
 use Rattle.run_resume.specs.CutLogs.{IsTakenUp, IsResumeFault, IsOnlyFault, fault_line}
 use Rattle.run_resume.specs.LateEvents.{AreLate}
 use Rattle.run_resume.specs.Replays.{TakenUp, told_in}

@@ -12,7 +12,7 @@ use Rattle.event_lines.specs.Words.{Word, Text, Number, written, words_before, l
 use Rattle.event_lines.specs.FirstWords.{IsFirst}
 use Rattle.event_lines.specs.ReadBack.{IsSpaceless, IsFitting, AreFitting, WhatIsWrittenIsRead, NumberedLinesAreLines}
 use Rattle.event_lines.proofs.WordByWord.{words_first, alone, before}
-use Rattle.event_lines.proofs.WrittenNumbers.{decimal_digits, decimal_numeral}
+use Rattle.text_lines.proofs.WrittenNumbers.{decimal_digits, decimal_numeral}
 
 digits_spaceless : (word : List ℕ) → list_all is_digit word ≡ true → IsSpaceless word
 digits_spaceless [] all = refl

@@ -6,7 +6,7 @@ use Rattle.shop_base.specs.Report as base
 use Rattle.shop_base.specs.Run.{Event, Reported}
 use Rattle.shop_base.specs.Controlled.{Leads, accepted, done, refused, moved, step_orders, after_step, IsControlledRun}
 use Rattle.shop_base.proofs.ControlledRuns.{controlled_to_run}
-use Rattle.text_lines.specs.Lines.{lines_of}
+use Rattle.text_lines.specs.Lines.{lines_of, ended_lines}
 use Rattle.cell_tables.specs.declared.report.Report.{Report}
 use Rattle.cell_tables.specs.Reports.{said}
 use Rattle.cell_tables.specs.declared.entry.Entry.{Entry}
@@ -24,11 +24,10 @@ use Rattle.cell_drive.proofs.OneText.{start_on_course}
 use Rattle.event_lines.specs.ReadBack.{TellsFirst}
 use Rattle.event_lines.proofs.Telling.{tells_none, tells_both}
 use Rattle.cell_drive.proofs.ReadBack.{answers_told, closing_told}
-use Rattle.byte_streams.specs.Lines.{ended_lines}
 use Rattle.run_resume.specs.CutLaw.{ACutLogIsTakenUp, WhatWasDrivenIsTakenUp}
 use Rattle.run_resume.proofs.Parts.{entries_moved}
 use Rattle.run_resume.proofs.CutRuns.{cut_of_run}
-use Rattle.byte_streams.proofs.EndedLines.{ended-more}
+use Rattle.text_lines.proofs.EndedLines.{ended-more}
 use Rattle.run_resume.proofs.OwnRuns.{own_run}
 use Rattle.run_resume.proofs.FirstFaults.{due_events}
 

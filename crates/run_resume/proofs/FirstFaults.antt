@@ -21,7 +21,7 @@ use Rattle.cell_drive.specs.OneRun.{cell_after, IsRunOf, IsBeforeReport}
 use Rattle.cell_drive.proofs.LogRoom.{events-orders}
 use Rattle.run_resume.specs.declared.resume_fault.ResumeFault.{ResumeFault}
 use Rattle.run_resume.specs.declared.resume_fault.ResumeFault.TheVariants.{BadLine, NotOrdered, NotPossible, Memory}
-use Rattle.byte_streams.specs.Lines.{ended_lines}
+use Rattle.text_lines.specs.Lines.{ended_lines}
 use Rattle.run_resume.specs.CutLogs.{IsCutLog, IsCutLogText, IsFaultOf, IsFaultOfLine, IsFirstBad, IsResumeFault}
 use Rattle.run_resume.proofs.OwnRuns.{run_of_own}
 use Rattle.run_resume.proofs.CutRuns.{GoesOnSo, same_so_far}

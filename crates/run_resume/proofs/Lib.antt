@@ -8,5 +8,4 @@ pub mod OneFault
 pub mod ToldAgain
 pub mod CutLogs
 pub mod ResumedTexts
-pub mod SentAgain
 pub mod AnsweredAgain

@@ -2,14 +2,13 @@
 use Rattle.std.specs.Prelude.{◌≡◌, ℕ, List, [], ◌++◌, map, length, ◌≤◌, Bool, Option, ◌⊎◌}
 use Rattle.shop_base.specs.declared.move_order.MoveOrder.{MoveOrder}
 use Rattle.shop_base.specs.Plan.{PlannedShop, IsWellShaped}
-use Rattle.text_lines.specs.Lines.{lines_of}
+use Rattle.text_lines.specs.Lines.{lines_of, ended_lines}
 use Rattle.cell_tables.specs.declared.entry.Entry.{Entry}
 use Rattle.cell_tables.specs.declared.entry.Entry.TheVariants.{Order as OrderEntry}
 use Rattle.event_lines.specs.LogLines.{LinesTell}
 use Rattle.byte_streams.specs.Answering.{AnswerAll}
 use Rattle.cell_drive.specs.AnswerText.{DrivenCell, CellAnswers, CellCloses, AreAnswersTo}
 use Rattle.cell_drive.specs.OneRun.{IsRunOf}
-use Rattle.byte_streams.specs.Lines.{ended_lines}
 use Rattle.run_resume.specs.CutLogs.{IsCutLog}
 use Rattle.run_resume.specs.Resuming.{again_text, driven_so_far}
 

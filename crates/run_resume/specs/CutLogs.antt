@@ -10,7 +10,7 @@ use Rattle.cell_tables.specs.declared.entry.Entry.{Entry}
 use Rattle.cell_tables.specs.declared.entry.Entry.TheVariants.{Report as ReportEntry, Order as OrderEntry}
 use Rattle.cell_tables.specs.Events.{events_of}
 use Rattle.cell_control.specs.Reports.{IsFirstReason}
-use Rattle.byte_streams.specs.Lines.{ended_lines}
+use Rattle.text_lines.specs.Lines.{ended_lines}
 use Rattle.event_lines.specs.LogLines.{LineTells, LinesTell}
 use Rattle.run_log.specs.Audits.{IsBadLine}
 use Rattle.cell_drive.specs.OneRun.{cell_after}

@@ -6,5 +6,4 @@ pub mod Replays
 pub mod ToldLines
 pub mod Resuming
 pub mod CutLaw
-pub mod AgainLaw
 pub mod AnswerLaw

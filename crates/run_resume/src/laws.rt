@@ -2,7 +2,6 @@
 
 // Nothing is done here: a function's contract is the law, so a check of this crate proves it.
 
-ghost use Rattle.run_resume.specs.AgainLaw.{NoEndIsAcceptedTwice};
 ghost use Rattle.run_resume.specs.AnswerLaw.{ToldAsAnswered};
 ghost use Rattle.run_resume.specs.CutLaw.{ACutLogIsTakenUp, WhatWasDrivenIsTakenUp, WhatWasResumedIsTakenUp};
 ghost use Rattle.run_resume.specs.Resuming.{AResumedTextIsALog, AnAuditKeepsWhatWasResumed, OneResumedText};
@@ -35,11 +34,4 @@ pub fn one_resumed_text()
 pub fn an_audit_keeps_what_was_resumed()
     ensures log { AResumedTextIsALog }
     ensures audit { AnAuditKeepsWhatWasResumed }
-{}
-
-/// In any run, by any controller, an arrival or the end of an operation that was reported isn't possible again. The
-/// end of a machine's cleaning is, but only once the end of an operation on that machine was reported since, and its
-/// job has left. It isn't possible at a moment before that of a report since.
-pub fn no_end_is_accepted_twice()
-    ensures { NoEndIsAcceptedTwice }
 {}

@@ -4,7 +4,7 @@ ghost use Rattle.std.specs.Prelude.{◌≡◌, ◌*◌, ◌≤◌, [], ◌∷◌
 ghost use Rattle.shop_base.specs.Ends.{stated_number};
 ghost use Rattle.run_log.specs.Auditing.{IsLineTaken};
 ghost use Rattle.event_lines.specs.LogLines.{LinesTell};
-ghost use Rattle.byte_streams.specs.Lines.{ended_lines};
+ghost use Rattle.text_lines.specs.Lines.{ended_lines};
 ghost use Rattle.run_resume.specs.CutLogs.{fault_line, IsFirstBad};
 ghost use Rattle.run_resume.specs.Replays.{IsReplayed, IsEntryFault, IsLineFault, taken_so_far, told_so_far};
 

@@ -2,7 +2,7 @@
 
 ghost use Rattle.std.specs.Prelude.{◌≡◌, length, IfOk, IfErr};
 ghost use Rattle.shop_base.specs.Cell.{start};
-ghost use Rattle.byte_streams.specs.Lines.{ended_lines};
+ghost use Rattle.text_lines.specs.Lines.{ended_lines};
 ghost use Rattle.run_resume.specs.CutLogs.{IsTakenUp, IsResumeFault, IsOnlyFault, IsCutLogText};
 ghost use Rattle.run_resume.specs.LateEvents.{AreLate};
 ghost use Rattle.run_resume.specs.Replays.{told_in};

@@ -29,6 +29,7 @@ pub mod LowerBounds
 pub mod Cycles
 pub mod CycleLaw
 pub mod SerialLaw
+pub mod SentAgain
 pub mod Ahead
 pub mod GoingOn
 pub mod Within

@@ -16,6 +16,7 @@ ghost use Rattle.shop_base.specs.InTimeLaw.{InTime, InTimeAtTheEnd};
 ghost use Rattle.shop_base.specs.CycleLaw.{ACycleStopsEveryRun};
 ghost use Rattle.shop_base.specs.ExactLaw.{NoExactRunIsFaster, NoExactMoveIsEarlier, JustInTime};
 ghost use Rattle.shop_base.specs.SerialLaw.{TheSerialPlanHasNoCycle};
+ghost use Rattle.shop_base.specs.AgainLaw.{NoEndIsAcceptedTwice};
 ghost use Rattle.shop_base.specs.AheadLaw.{NeverStuckFromThere, EndsOnTheReportsLeft, ReportsLeftAddUp, EveryCellSettlesOnce, NoJobSettlesTwice};
 ghost use Rattle.shop_base.specs.AheadLaw.{ACutStepSettlesAsItWas, EveryListGoesOn, EveryCellHasASchedule, InTimeFromThere, NoContinuationIsFaster};
 ghost use Rattle.shop_base.specs.AheadLaw.{JustInTimeFromThere, SomeContinuationIsExact, ACycleStopsEveryContinuation, NoArcLeadsBack, TheStartIsACaseOfThese};
@@ -120,6 +121,13 @@ pub fn just_in_time()
 /// If each machine takes its jobs in ascending order, no arcs lead in a circle.
 pub fn the_serial_plan_has_no_cycle()
     ensures { TheSerialPlanHasNoCycle }
+{}
+
+/// In any run, by any controller, an arrival or the end of an operation that was reported isn't possible again. The
+/// end of a machine's cleaning is, but only once the end of an operation on that machine was reported since, and its
+/// job has left. It isn't possible at a moment before that of a report since.
+pub fn no_end_is_accepted_twice()
+    ensures { NoEndIsAcceptedTwice }
 {}
 
 // The laws of the rest of a run. These begin at the end of any run, by any controller: from that cell and a present

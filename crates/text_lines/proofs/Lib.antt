@@ -3,3 +3,5 @@ pub mod Digits
 pub mod FirstWords
 pub mod NextLines
 pub mod NumbersBefore
+pub mod WrittenNumbers
+pub mod EndedLines

@@ -1,5 +1,5 @@
 -- The lines of a text.
-use Rattle.std.specs.Prelude.{ℕ, ◌-◌, suc, Bool, ◌==◌, nat_eq, if◌then◌else◌, List, [], ◌∷◌, length, map, take}
+use Rattle.std.specs.Prelude.{ℕ, ◌-◌, suc, Bool, ◌==◌, nat_eq, if◌then◌else◌, List, [], ◌∷◌, length, map, filter, take}
 use Rattle.std.specs.List.{onto_first, ends_with}
 
 -- the byte that ends a line
@@ -18,6 +18,10 @@ without_return bytes = if ends_with nat_eq bytes (13 ∷ []) then take (length b
 -- the lines of a text
 abbrev pub lines_of : List ℕ → List (List ℕ)
 lines_of text = map without_return (parts_of is_line_feed text)
+
+-- the lines of a text that are ended by a line feed: as many as there are line feeds
+abbrev pub ended_lines : List ℕ → List (List ℕ)
+ended_lines text = take (length (filter is_line_feed text)) (lines_of text)
 
 -- a line and its number in the text
 pub record NumberedLine : Type 0 where

@@ -2,7 +2,7 @@ use Rattle.std.proofs.Common.{length, sym, subst, ◌∙◌}
 use Rattle.shop_base.specs.Plan.{IsWellShaped}
 use Rattle.plan_verifier.specs.Accepted.{VerifiedPlan}
 use Rattle.event_lines.specs.LogLines.{LinesTell}
-use Rattle.byte_streams.specs.Lines.{ended_lines}
+use Rattle.text_lines.specs.Lines.{ended_lines}
 use Rattle.run_resume.specs.CutLogs.{IsFirstBad, IsTakenUp}
 use Rattle.run_resume.specs.Replays.{told_part}
 use Rattle.run_resume.proofs.FirstFaults.{only_memory, first_fault}

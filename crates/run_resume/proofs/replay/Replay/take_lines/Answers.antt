@@ -5,10 +5,10 @@ use Rattle.cell_tables.specs.declared.entry.Entry.{Entry}
 use Rattle.run_log.specs.Auditing.{IsLineTaken}
 use Rattle.event_lines.specs.LogLines.{LinesTell}
 use Rattle.event_lines.proofs.Readings.{tell-more}
-use Rattle.byte_streams.specs.Lines.{ended_lines}
+use Rattle.text_lines.specs.Lines.{ended_lines}
 use Rattle.run_resume.specs.CutLogs.{IsFirstBad}
 use Rattle.run_resume.specs.Replays.{told_part}
-use Rattle.byte_streams.proofs.EndedLines.{ended-first, ended-none, ended-few}
+use Rattle.text_lines.proofs.EndedLines.{ended-first, ended-none, ended-few}
 use Rattle.run_resume.proofs.Replayed.{taken_up}
 use Rattle.run_resume.proofs.replay.Replay.take_lines.Goals as goal
 

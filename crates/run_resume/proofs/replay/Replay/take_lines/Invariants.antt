@@ -1,6 +1,6 @@
 use Rattle.std.proofs.Common.{◌≡◌, ℕ, ◌++◌, List, length, vec_capacity}
 use Rattle.event_lines.specs.LogLines.{LinesTell}
-use Rattle.byte_streams.specs.Lines.{ended_lines}
+use Rattle.text_lines.specs.Lines.{ended_lines}
 use Rattle.run_resume.specs.Replays.{IsReplayed, told_part}
 use Rattle.run_resume.proofs.replay.Replay.take_lines.Given as goal
 

@@ -2,10 +2,9 @@
 use Rattle.std.proofs.Common.{◌≡◌, ℕ, zero, suc, ◌≤◌, List, [], ◌∷◌, ◌++◌, length, map, filter, take, inl, inr, refl, sym, ap, ◌∙◌, arith}
 use Rattle.std.specs.List.{onto_first}
 use Rattle.std.proofs.lemmas.Bool.{cases_Bool}
-use Rattle.text_lines.specs.Lines.{is_line_feed, parts_of, without_return, lines_of}
+use Rattle.text_lines.specs.Lines.{is_line_feed, parts_of, without_return, lines_of, ended_lines}
 use Rattle.text_lines.specs.Cuts.{HasNone, IsCutAt}
 use Rattle.text_lines.proofs.NextLines.{first_line, lines_of-le}
-use Rattle.byte_streams.specs.Lines.{ended_lines}
 
 abbrev feeds : List ℕ → ℕ
 feeds text = length (filter is_line_feed text)
