@@ -12,3 +12,14 @@ pub mod CellTexts
 pub mod Closing
 pub mod ManyCells
 pub mod CellsAlone
+pub mod Parts
+pub mod CutRuns
+pub mod OwnRuns
+pub mod LateOnes
+pub mod Replayed
+pub mod FirstFaults
+pub mod OneFault
+pub mod ToldAgain
+pub mod CutLogs
+pub mod ResumedTexts
+pub mod AnsweredAgain

@@ -9,5 +9,13 @@ pub mod ManyCells
 pub mod CellsTextLaw
 pub mod CellsAlone
 pub mod ManyRuns
+pub mod CutLogs
+pub mod ResumeNames
+pub mod LateEvents
+pub mod Replays
+pub mod ToldLines
+pub mod Resuming
+pub mod CutLaw
+pub mod AnswerLaw
 -- Of proofs and private contracts alone.
 pub mod Tickets

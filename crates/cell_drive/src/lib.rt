@@ -1,4 +1,8 @@
 //! Cells driven by lines of text: reports in, move orders out, over any reader and any writer of bytes.
+//!
+//! A driven run is taken up again from its log, which may have been cut at any byte: [`take_up`] replays the log and gives what the
+//! run had come to, or the first bad line of the log. [`resume`] goes on from there: it writes the run once more, and drives it on
+//! as [`drive`] does.
 #![tactic(auto)]
 
 mod answers;
@@ -7,7 +11,13 @@ mod many_cells;
 mod many_runs;
 mod one_cell;
 mod one_run;
+mod replay;
+mod resume_fault;
+mod resuming;
+mod same_order;
+mod taking_up;
 mod tickets;
+mod told_again;
 
 pub use byte_streams::{
     DriveFault, FromRead, Gathered, LineHandler, MAX_LINE, MAX_PIECE, Outlet, ReadFault, Source,
@@ -17,3 +27,6 @@ pub use event_lines::{done_line, late_line, refused_line, report_of, unfinished_
 pub use many_runs::{HubEnd, drive_hub};
 pub use one_cell::{Driven, take_report};
 pub use one_run::{DriveEnd, drive, end_driven, start_driven};
+pub use resume_fault::ResumeFault;
+pub use resuming::resume;
+pub use taking_up::{Taken, take_up};

@@ -9,8 +9,8 @@ use Rattle.cell_drive.specs.OneCell.{DriveAnswer, DriveCloses, drive_start}
 use Rattle.cell_drive.specs.OneRun.{IsStreamedFrom}
 use Rattle.cell_drive.specs.ManyCells.{hub_start, CellsAnswer, CellsClose}
 use Rattle.plan_verifier.specs.declared.verdict.Verdict.TheVariants.{Accepted, Refused}
-use Rattle.run_resume.specs.declared.resume_fault.ResumeFault.{ResumeFault}
-use Rattle.run_resume.specs.Replays.{TakenUp}
+use Rattle.cell_drive.specs.declared.resume_fault.ResumeFault.{ResumeFault}
+use Rattle.cell_drive.specs.Replays.{TakenUp}
 use Rattle.command_words.specs.declared.words.Chosen.{Chosen}
 use Rattle.command_words.specs.declared.words.CommandName.{CommandName}
 use Rattle.command_words.specs.declared.words.CommandName.TheVariants.{Input as NoWords, Facts, Shape, Check, Explain, Schedule, Bounds, Plan as Search, Improve, Drive, Resume, Hub, Audit, Gantt}

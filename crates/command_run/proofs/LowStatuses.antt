@@ -10,9 +10,9 @@ use Rattle.plan_seek.specs.declared.seek_fault.SeekFault.TheVariants.{BadNumbers
 use Rattle.plan_improve.specs.Runs.{Asked}
 use Rattle.shop_base.specs.Plan.{PlannedShop}
 use Rattle.byte_streams.specs.declared.drive_fault.DriveFault.{DriveFault}
-use Rattle.run_resume.specs.declared.resume_fault.ResumeFault.{ResumeFault}
-use Rattle.run_resume.specs.declared.resume_fault.ResumeFault.TheVariants.{BadLine, NotOrdered, NotPossible, Memory as NoMemoryToResume}
-use Rattle.run_resume.specs.Replays.{TakenUp}
+use Rattle.cell_drive.specs.declared.resume_fault.ResumeFault.{ResumeFault}
+use Rattle.cell_drive.specs.declared.resume_fault.ResumeFault.TheVariants.{BadLine, NotOrdered, NotPossible, Memory as NoMemoryToResume}
+use Rattle.cell_drive.specs.Replays.{TakenUp}
 use Rattle.command_words.specs.declared.words.Chosen.{Chosen}
 use Rattle.command_words.specs.declared.words.CommandName.{CommandName}
 use Rattle.command_words.specs.declared.words.CommandName.TheVariants.{Input as NoWords, Facts, Shape, Check, Explain, Schedule, Bounds, Plan, Improve, Drive, Resume, Hub, Audit, Gantt}

@@ -9,7 +9,7 @@ use Rattle.plan_verifier.specs.Accepted.{VerifiedPlan, IsAcceptable}
 use Rattle.plan_verifier.specs.declared.verdict.Verdict.TheVariants.{Accepted}
 use Rattle.plan_seek.specs.Tasks.{task_in}
 use Rattle.byte_streams.specs.Sinks.{TookPart}
-use Rattle.run_resume.specs.Replays.{TakenUp}
+use Rattle.cell_drive.specs.Replays.{TakenUp}
 use Rattle.cell_drive.specs.declared.one_run.DriveEnd.{DriveEnd}
 use Rattle.cell_drive.specs.declared.many_runs.HubEnd.{HubEnd}
 use Rattle.byte_streams.specs.declared.drive_fault.DriveFault.{DriveFault}

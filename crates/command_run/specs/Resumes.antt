@@ -5,14 +5,14 @@ use Rattle.plan_verifier.specs.Accepted.{VerifiedPlan}
 use Rattle.plan_verifier.specs.declared.verdict.Verdict.TheVariants.{Accepted, Refused}
 use Rattle.cell_drive.specs.declared.one_run.DriveEnd.{DriveEnd}
 use Rattle.byte_streams.specs.declared.drive_fault.DriveFault.{DriveFault}
-use Rattle.run_resume.specs.declared.resume_fault.ResumeFault.{ResumeFault}
-use Rattle.run_resume.specs.declared.resume_fault.ResumeFault.TheVariants.{Memory as WantOfMemory}
-use Rattle.run_resume.specs.ResumeNames.{fault_name}
+use Rattle.cell_drive.specs.declared.resume_fault.ResumeFault.{ResumeFault}
+use Rattle.cell_drive.specs.declared.resume_fault.ResumeFault.TheVariants.{Memory as WantOfMemory}
+use Rattle.cell_drive.specs.ResumeNames.{fault_name}
 use Rattle.text_lines.specs.Lines.{ended_lines}
-use Rattle.run_resume.specs.CutLogs.{IsTakenUp, IsResumeFault, IsOnlyFault, fault_line}
-use Rattle.run_resume.specs.LateEvents.{AreLate}
-use Rattle.run_resume.specs.Replays.{TakenUp, told_in}
-pub use Rattle.run_resume.specs.Resuming.{IsResume}
+use Rattle.cell_drive.specs.CutLogs.{IsTakenUp, IsResumeFault, IsOnlyFault, fault_line}
+use Rattle.cell_drive.specs.LateEvents.{AreLate}
+use Rattle.cell_drive.specs.Replays.{TakenUp, told_in}
+pub use Rattle.cell_drive.specs.Resuming.{IsResume}
 use Rattle.command_answers.specs.declared.answer.Answer.{Answer}
 use Rattle.command_answers.specs.declared.command_fault.CommandFault.{CommandFault}
 use Rattle.command_answers.specs.declared.command_fault.CommandFault.TheVariants.{Memory}

@@ -6,12 +6,11 @@ ghost use Rattle.command_run.specs.Program.{RunsResume};
 
 use crate::devices::Streams;
 use crate::drives::end_answer;
-use cell_drive::{Outlet, Source};
+use cell_drive::{Outlet, ResumeFault, Source, Taken, resume, take_up};
 use command_answers::{
     Answered, CommandFault, Pair, Texts, load_files, loaded_answer, log_refused,
 };
 use plan_verifier::Verified;
-use run_resume::{ResumeFault, Taken, resume, take_up};
 use std::alloc::Global;
 
 /// Loads a plan, and if it is accepted takes up its run from the log and drives it on; else its line is the answer.

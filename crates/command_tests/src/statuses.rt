@@ -6,7 +6,7 @@ use command_words::WordsFault;
 use orlib_read::OrFault;
 use plan_seek::SeekFault;
 use plan_text::PlanFault;
-use run_resume::ResumeFault;
+use cell_drive::ResumeFault;
 use shop_base::ShopFault;
 use std::alloc::{AllocError, Global};
 use std::fmt::Display;

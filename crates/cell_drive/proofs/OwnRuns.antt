@@ -1,0 +1,30 @@
+-- Controlled runs of their own reports.
+use Rattle.std.proofs.Common.{◌≡◌, List, [], ◌∷◌, ◌++◌, refl, sym, subst}
+use Rattle.shop_base.specs.declared.move_order.MoveOrder.{MoveOrder}
+use Rattle.shop_base.specs.Plan.{PlannedShop}
+use Rattle.shop_base.specs.Cell.{Cell, start}
+use Rattle.shop_base.specs.Report.{Report}
+use Rattle.shop_base.specs.Run.{Event, Reported}
+use Rattle.shop_base.specs.Controlled.{moved, step_orders, Leads, done, accepted, refused}
+use Rattle.cell_tables.specs.declared.entry.Entry.{Entry}
+use Rattle.cell_tables.specs.Events.{events_of}
+use Rattle.cell_drive.specs.OneRun.{cell_after, IsRunOf}
+use Rattle.cell_drive.specs.CutLogs.{reported, IsOwnRun}
+
+reported-moved : (os : List MoveOrder) (es : List Event) → reported (moved os ++ es) ≡ reported es
+reported-moved [] es = refl
+reported-moved (o ∷ os) es = reported-moved os es
+
+-- without the reports that were refused it is the same run
+own_leads : (p : PlannedShop) (c : Cell) (rs : List Report) (es : List Event) (end : Cell) → Leads p c rs es end → Leads p c (reported es) es end
+own_leads p _ _ _ _ (done c) = done c
+own_leads p _ _ _ _ (accepted c r js rs es end step leads) =
+    subst (λ qs. Leads p c (r ∷ qs) (Reported r ∷ (moved (step_orders p c r js) ++ es)) end) (sym (reported-moved (step_orders p c r js) es))
+    (accepted c r js (reported es) es end step (own_leads p _ rs es end leads))
+own_leads p _ _ _ _ (refused c r rs es end cannot leads) = own_leads p c rs es end leads
+
+pub own_run : (p : PlannedShop) (entries : List Entry) → IsRunOf p entries → IsOwnRun p entries
+own_run p entries run = own_leads p (start p) run.0 (events_of entries) (cell_after p entries) run.1
+
+pub run_of_own : (p : PlannedShop) (entries : List Entry) → IsOwnRun p entries → IsRunOf p entries
+run_of_own p entries own = (reported (events_of entries), own)

@@ -1,0 +1,14 @@
+use Rattle.std.proofs.Common.{◌≡◌, length}
+use Rattle.byte_streams.specs.Sinks.{AllBut}
+use Rattle.cell_drive.specs.ToldLines.{told_lines}
+use Rattle.cell_drive.proofs.told_again.put_told.Given as goal
+
+abbrev pub invariant-rests : goal.invariant-rests
+invariant-rests g l = record {
+  so_far : AllBut (g.W.Sink.taken l.initial.writer) (g.W.Sink.taken l.writer) (told_lines l.entries l.late) (told_lines l.rest l.rest_late);
+  same : length l.rest ≡ length l.rest_late;
+  unfailed : g.W.Sink.failed l.writer ≡ g.W.Sink.failed l.initial.writer;
+}
+
+abbrev pub decreases-rests : goal.decreases-rests
+decreases-rests g l = length l.rest
