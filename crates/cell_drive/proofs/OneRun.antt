@@ -72,6 +72,7 @@ module _ (s : DriveState) (driven : IsDriven s) where
     log = log;
     plan = plan;
     run = subst (λ (l : Noted). IsRunOf p l.entries) (sym log) run_of;
+    cell = subst (λ (l : Noted). s.control.cell ≡ cell_after p l.entries) (sym log) cell_is;
     so_far = subst (λ (l : Noted). IsSoFar p l.entries end.done end.last end.left) (sym log) (so_far end.done end.last end.left ended moment count);
     never_full = subst (IsNeverFull p) (sym log) (driven-never_full s driven);
     promised = subst (λ (l : Noted). NeverWentWrong s.control.plan l.entries) (sym log)

@@ -40,7 +40,7 @@ use Rattle.event_lines.proofs.Telling.{tells_none, tells_both, tells_entry}
 use Rattle.cell_drive.proofs.ReadBack.{answers_told, late_told}
 use Rattle.cell_drive.proofs.ShopEntries.{report_of_shop, order_of_shop}
 use Rattle.cell_drive.specs.Replays.{TakenUp, shop_of}
-use Rattle.cell_drive.specs.Resuming.{again_text, again_of, driven_so_far, IsResumedText, GoesOn, AResumedTextIsALog, OneResumedText, AnAuditKeepsWhatWasResumed}
+use Rattle.cell_drive.specs.Resuming.{again_text, again_of, driven_so_far, IsResumedText, GoesOn, AResumedTextIsALog, OneResumedText, WhatWasResumedIsSuchAText, AnAuditKeepsWhatWasResumed}
 use Rattle.cell_drive.specs.CutLaw.{WhatWasResumedIsTakenUp}
 use Rattle.cell_drive.proofs.CutLogs.{run_of_leads, leads_join, answers_lead, closing_part, a_cut_log_is_taken_up}
 
@@ -127,9 +127,7 @@ one_resumed_text p entries late input text other end last shaped run is also =
     let one = one_driven_text p (input_lines input) (driven_so_far p entries) end last 1 is.answers also.answers (record { shaped = shaped; sound = sound; rest = rest }) is.are_answers also.are_answers in
     (also.whole ∙ ap (λ (t : List ℕ). again_text entries late ++ t) (one_closed p end last is.answers also.answers is.closing also.closing is.is_closing also.is_closing one) ∙ sym is.whole, one.1)
 
--- what was written is such a text of what was read
-resumed_text : (taken : TakenUp) (end : DriveEnd) (before after : Streams) (is : GoesOn taken before after (Ok end))
-    → IsResumedText (shop_of taken) taken.driven.log.entries taken.late is.streamed.input (again_of taken ++ (is.streamed.comes_to.text ++ is.streamed.comes_to.closing)) (seen is.end)
+pub resumed_text : WhatWasResumedIsSuchAText
 resumed_text taken end before after is =
     let p = shop_of taken in
     let all = is.streamed.comes_to in

@@ -14,7 +14,7 @@ AreVerified (v ∷ plans) = IsVerified v × AreVerified plans
 abbrev pub AreCellsAnswersTo : List VerifiedPlan → List (Option (List ℕ)) → List ℕ → List PlannedCell → Type 0
 AreCellsAnswersTo plans lines text end = AnswerAll CellsAnswer (hub_start plans) 1 lines text end
 
--- the first lines of an input have one text of answers at most, which leads to one list of contents
+-- the first lines of an input have one text of answers at most, which leads to one list of what the cells hold
 abbrev pub OneCellsTextForLines : Type 0
 OneCellsTextForLines = (plans : List VerifiedPlan) (lines : List (Option (List ℕ))) (text other : List ℕ) (end last : List PlannedCell)
     → AreVerified plans → AreCellsAnswersTo plans lines text end → AreCellsAnswersTo plans lines other last → (other ≡ text) × (last ≡ end)

@@ -62,11 +62,12 @@ StaysAsPromised v events = (es later : List Event) → events ≡ es ++ later �
 abbrev pub NeverWentWrong : VerifiedPlan → List Entry → Type 0
 NeverWentWrong v entries = StaysAsPromised v (events_of entries)
 
--- what driving has come to, with the cell and the log at its end: the log and the plan; the log is the controlled run of some reports, how far that is, and that it was never full and all stayed as the plan promises
+-- what driving has come to, with the cell and the log at its end: the log and the plan; the log is the controlled run of some reports, which leads to that cell; how far that is, and that it was never full and all stayed as the plan promises
 pub record IsEndOf (v : VerifiedPlan) (s : DriveState) (end : DriveEnd) : Type 0 where
   pub log : end.log ≡ s.log
   pub plan : end.verified ≡ v
   pub run : IsRunOf v.planned end.log.entries
+  pub cell : s.control.cell ≡ cell_after v.planned end.log.entries
   pub so_far : IsSoFar v.planned end.log.entries end.done end.last end.left
   pub never_full : IsNeverFull v.planned end.log
   pub promised : NeverWentWrong v end.log.entries

@@ -19,7 +19,7 @@ use Rattle.byte_streams.specs.Lines.{input_lines}
 use Rattle.byte_streams.specs.Streams.{IsStreamed}
 use Rattle.byte_streams.specs.Answering.{AnswerAll}
 use Rattle.cell_drive.specs.AnswerText.{DrivenCell, CellAnswers, CellCloses}
-use Rattle.cell_drive.specs.OneCell.{DriveState, IsDriven, DriveAnswer, DriveCloses}
+use Rattle.cell_drive.specs.OneCell.{DriveState, IsDriven, DriveAnswer, DriveCloses, seen}
 use Rattle.cell_drive.specs.OneRun.{cell_after, IsRunOf, IsEndOf}
 use Rattle.cell_drive.specs.AuditLaw.{IsLogOf, IsFoundAgain}
 use Rattle.cell_drive.specs.Replays.{TakenUp, shop_of}
@@ -73,6 +73,11 @@ AResumedTextIsALog = (p : PlannedShop) (entries : List Entry) (late : List Bool)
 abbrev pub OneResumedText : Type 0
 OneResumedText = (p : PlannedShop) (entries : List Entry) (late : List Bool) (input text other : List ℕ) (end last : DrivenCell) → IsWellShaped p
     → IsRunOf p entries → IsResumedText p entries late input text end → IsResumedText p entries late input other last → (other ≡ text) × (last ≡ end)
+
+-- what was written behind what stood there, where driving on succeeded, is such a text of what was read
+abbrev pub WhatWasResumedIsSuchAText : Type 0
+WhatWasResumedIsSuchAText = (taken : TakenUp) (end : DriveEnd) (before after : Streams) (is : GoesOn taken before after (Ok end))
+    → IsResumedText (shop_of taken) taken.driven.log.entries taken.late is.streamed.input (again_of taken ++ (is.streamed.comes_to.text ++ is.streamed.comes_to.closing)) (seen is.end)
 
 -- an audit of what was written finds what driving on came to, and its only fault is that it is out of memory
 abbrev pub AnAuditKeepsWhatWasResumed : Type 0

@@ -9,7 +9,7 @@ ghost use Rattle.cell_drive.specs.CellsAlone.{EachCellIsAsAlone};
 ghost use Rattle.cell_drive.specs.AuditLaw.{AnAnswerTextIsALog, AnAuditKeepsWhatWasDriven};
 ghost use Rattle.cell_drive.specs.AnswerLaw.{ToldAsAnswered};
 ghost use Rattle.cell_drive.specs.CutLaw.{ACutLogIsTakenUp, WhatWasDrivenIsTakenUp, WhatWasResumedIsTakenUp};
-ghost use Rattle.cell_drive.specs.Resuming.{AResumedTextIsALog, AnAuditKeepsWhatWasResumed, OneResumedText};
+ghost use Rattle.cell_drive.specs.Resuming.{AResumedTextIsALog, AnAuditKeepsWhatWasResumed, OneResumedText, WhatWasResumedIsSuchAText};
 
 pub use byte_streams::laws::the_limits_of_an_input_in_numbers;
 
@@ -66,14 +66,16 @@ pub fn told_as_answered()
 {}
 
 /// For a well-shaped plan an input has one text that answers it behind what was taken up, which leads to one cell
-/// with one list of events.
+/// with one list of events. What `resume` writes, where it succeeds, is that text of what it read.
 pub fn one_resumed_text()
-    ensures { OneResumedText }
+    ensures one { OneResumedText }
+    ensures resumed { WhatWasResumedIsSuchAText }
 {}
 
 /// What a run that was taken up writes is by itself a log of the whole run, and the events in it are a controlled
-/// run. The only fault of an audit of it with the same plan is `Memory`. It finds the events of the log, and is
-/// complete exactly where driving was done.
+/// run. Let `resume` succeed, into a writer that tells its bytes, and audit what it wrote against the same plan. The
+/// only fault of the audit is `Memory`. It finds the events of the log, and is complete exactly where driving was
+/// done.
 pub fn an_audit_keeps_what_was_resumed()
     ensures log { AResumedTextIsALog }
     ensures audit { AnAuditKeepsWhatWasResumed }

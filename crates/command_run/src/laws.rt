@@ -16,7 +16,7 @@ ghost use Rattle.command_run.specs.Laws.{WhatFailsIsTold, NothingIsHeldBack, Wha
 
 use command_answers::Texts;
 
-/// In each of the eleven commands: where the text of the instance is refused, its first fault is told, unless memory
+/// In each command over files: where the text of the instance is refused, its first fault is told, unless memory
 /// runs out, and no other file is asked for. `drive`, `resume` and `hub` then read and write no byte. (For `plan` and
 /// `improve` memory may also run out before any file is asked for.)
 pub fn instance_first()

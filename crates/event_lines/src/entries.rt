@@ -7,9 +7,8 @@ ghost use Rattle.event_lines.specs.Words.{words_before};
 ghost use Rattle.event_lines.specs.EventLines.{entry_words, entry_line, IsEntryLine};
 ghost use Rattle.event_lines.specs.LogLines.{AreEndsOf, IsEntryOf, TellsNoEntry, LineTells};
 
-use crate::line_text::LineText;
-use crate::orders::{move_order_of, put_order, put_order_words};
-use crate::told_reports::{put_report, put_report_words, told_report_of};
+use crate::orders::{move_order_of, put_order_words};
+use crate::told_reports::{put_report_words, told_report_of};
 use cell_tables::{Entry, Report};
 use shop_base::limits::MAX_MOMENT;
 use shop_base::{MoveOrder, Shaped, Spot};
@@ -28,16 +27,7 @@ fn put_entry_words<const ROOM: usize>(line: &mut text_lines::LineText<ROOM>, ent
     }
 }
 
-/// Writes the line of the entry.
-#[inline(always)]
-pub fn put_entry(line: &mut LineText, entry: Entry)
-    requires { line.old ≡ 10 ∷ [] }
-    ensures { line.new ≡ entry_line entry }
-{
-    put_entry_words(line, entry);
-}
-
-/// Writes the line of the entry before what there is.
+/// Writes the line of the entry, `report ..` or `order ..`, before what there is.
 #[inline(always)]
 pub fn put_entry_line<const ROOM: usize>(lines: &mut text_lines::LineText<ROOM>, entry: Entry)
     requires { 60 + length lines.old ≤ ROOM }

@@ -6,8 +6,8 @@ ghost use Rattle.shop_base.specs.Plan.{PlannedShop};
 ghost use Rattle.event_lines.specs.ReadBack.{WhatIsWrittenIsRead, NumberedLinesAreLines, WrittenEntriesAreTold, OtherAnswersTellNone};
 ghost use Rattle.event_lines.specs.ReadBack.{OneEntry, OneReport, OneCellReport};
 
-/// A line is written with words: texts without a space, and numbers with no more digits than they may have. In front
-/// of any text it is the first line, and is read as the same words. A cell's number and a space before it make such a
+/// A line is written with words: texts of bytes above 32, and numbers below 2^64 with no more digits than they may
+/// have. In front of any text it is the first line, and is read as the same words. A cell's number and a space before it make such a
 /// line too. For a well-shaped plan the line of an event of the shop tells that event, and the lines `late`,
 /// `refused`, `done` and `unfinished` tell none.
 pub fn what_is_written_is_read()

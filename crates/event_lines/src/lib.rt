@@ -1,5 +1,6 @@
-//! The lines of a driven cell, each kind with its writer and its reader: a report as it is sent and as it is told, an
-//! order, the other answers, and a cell's number before any of these.
+//! The lines of a driven cell: a report as it is sent, which is read; a report as it is told and an order, each with its
+//! writer and its reader; the other answers, which are written, and which a log passes over; and a cell's number before
+//! any of these.
 //!
 //! A line is words with one space between each two: texts, and numbers, which may be read with leading zeros and are
 //! written without.
@@ -19,7 +20,7 @@ pub use answers::{
     done_line, is_passed_over, late_line, put_late_line, refused_line, unfinished_line,
 };
 pub use cell_numbers::{cell_prefix, cell_report_of};
-pub use entries::{put_entry, put_entry_line, told_entry};
+pub use entries::{put_entry_line, told_entry};
 pub use line_text::LineText;
 pub use orders::put_order;
 pub use sent_reports::report_of;

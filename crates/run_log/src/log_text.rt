@@ -6,7 +6,7 @@ ghost use Rattle.event_lines.specs.EventLines.{entry_lines};
 
 use byte_streams::{Sink, WriteFault, put_all};
 use cell_tables::Entry;
-use event_lines::{LineText, put_entry};
+use event_lines::{LineText, put_entry_line};
 
 /// Writes the lines of the entries. A fault leaves the first bytes of them written.
 pub fn write_lines<W: Sink>(entries: &[Entry], writer: &mut W) -> Result<(), WriteFault>
@@ -15,8 +15,8 @@ pub fn write_lines<W: Sink>(entries: &[Entry], writer: &mut W) -> Result<(), Wri
     ensures unfailed { OnOk result (W.failed writer.new ≡ W.failed writer.old) }
 {
     for entry in entries {
-        let mut line = LineText::ended();
-        put_entry(&mut line, *entry);
+        let mut line = LineText::empty();
+        put_entry_line(&mut line, *entry);
         put_all(writer, line.bytes())?;
     }
     Ok(())
