@@ -13,7 +13,7 @@ returns-in_err-put_all-clause-wrote g c =
     rw p.1 (
       c.in_err-put_all.ensures.wrote.0,
       TookPart-rest _ _ _ _ _ _ (entry_lines (drop (i + 1) entries)) c.loop-entry.invariant.so_far c.in_err-put_all.ensures.wrote.1
-          (ap (λ l. l ++ entry_lines (drop (i + 1) entries)) (c.bytes.ensures ∙ c.put_entry_line.ensures.written ∙ alone _ _ c.empty.ensures) ∙ next_line entries i _ (omega arith)),
+          (ap (λ l. l ++ entry_lines (drop (i + 1) entries)) (c.bytes.ensures ∙ c.put_entry_line.ensures.written ∙ alone _ _ c.empty-line.ensures) ∙ next_line entries i _ (omega arith)),
     )
 
 pub loop-entry-preserved : goal.loop-entry-preserved
@@ -22,6 +22,6 @@ loop-entry-preserved g c =
     let i = c.loop-entry.entry-index in
     record {
       so_far = AllBut-more _ _ _ _ _ _ _ c.loop-entry.invariant.so_far c.in_ok-put_all.ensures.wrote
-          (ap (λ l. l ++ entry_lines (drop (i + 1) entries)) (c.bytes.ensures ∙ c.put_entry_line.ensures.written ∙ alone _ _ c.empty.ensures) ∙ next_line entries i _ (omega arith));
+          (ap (λ l. l ++ entry_lines (drop (i + 1) entries)) (c.bytes.ensures ∙ c.put_entry_line.ensures.written ∙ alone _ _ c.empty-line.ensures) ∙ next_line entries i _ (omega arith));
       unfailed = c.in_ok-put_all.ensures.unfailed ∙ c.loop-entry.invariant.unfailed;
     }
