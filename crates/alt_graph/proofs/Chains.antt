@@ -17,7 +17,7 @@ goes_none t v p b are front path = subst (λ (nodes : List Node). PathFrom p b n
 -- one node further back
 pub goes_on : (t : NodeTimes) (nodes : List Node) (u v target : Node) → before_of t v ≡ Some u → IsTimed t v → GoesOn t nodes v target → GoesOn t (nodes ++ v ∷ []) u target
 goes_on t nodes u v target is timed on p b are front path =
-    let attained : IsAttainedFrom p b t v (earliest_of t v) (Some u) = subst (λ (o : Option Node). IsAttainedFrom p b t v (earliest_of t v) o) is (are.attained v ((are.nodes v).1 timed)) in
+    let attained : IsAttainedFrom p b t v (earliest_of t v) (Some u) = subst (λ (o : Option Node). IsAttainedFrom p b t v (earliest_of t v) o) is (are.attained v ((are.ranks.nodes v).1 timed)) in
     let longer : PathFrom p b (front ++ v ∷ []) v (earliest_of t v) = subst (λ (n : ℕ). PathFrom p b (front ++ v ∷ []) v n) attained.2 (goes_along front u v (earliest_of t u) attained.0 path attained.3 attained.1) in
     let whole = on p b are (front ++ v ∷ []) longer in
     let same : (front ++ v ∷ []) ++ reverse nodes ≡ front ++ reverse (nodes ++ v ∷ []) = simp (append_assoc, reverse-append) in
@@ -27,7 +27,7 @@ goes_on t nodes u v target is timed on p b are front path =
 pub goes_all : (t : NodeTimes) (nodes : List Node) (v target : Node) → before_of t v ≡ None → IsTimed t v → GoesOn t nodes v target
     → (p : PlannedShop) (b : NodeBounds) → AreTimesFrom p b t → PathFrom p b (reverse (nodes ++ v ∷ [])) target (earliest_of t target)
 goes_all t nodes v target is timed on p b are =
-    let attained : IsAttainedFrom p b t v (earliest_of t v) None = subst (λ (o : Option Node). IsAttainedFrom p b t v (earliest_of t v) o) is (are.attained v ((are.nodes v).1 timed)) in
-    let whole = on p b are (v ∷ []) (begins_at v (earliest_of t v) ((are.nodes v).1 timed) attained) in
+    let attained : IsAttainedFrom p b t v (earliest_of t v) None = subst (λ (o : Option Node). IsAttainedFrom p b t v (earliest_of t v) o) is (are.attained v ((are.ranks.nodes v).1 timed)) in
+    let whole = on p b are (v ∷ []) (begins_at v (earliest_of t v) ((are.ranks.nodes v).1 timed) attained) in
     let same : (v ∷ []) ++ reverse nodes ≡ reverse (nodes ++ v ∷ []) = simp reverse-append in
     subst (λ (all : List Node). PathFrom p b all target (earliest_of t target)) same whole

@@ -25,7 +25,7 @@ module _ (p : PlannedShop) (b : NodeBounds) (t : NodeTimes) (are : AreTimesFrom 
           → (o : Option Node) → IsAttainedFrom p b t v (earliest_of t v) o → (nodes : List Node) × PathFrom p b nodes v (earliest_of t v)
       go below None told = (v ∷ [], begins_at v (earliest_of t v) is told)
       go below (Some u) (d, arc, at, ahead) =
-          let path = below u (omega (arith, are.ranks u v d arc)) (source_node p u v d arc) in
+          let path = below u (omega (arith, are.ranks.rise u v d arc)) (source_node p u v d arc) in
           (path.0 ++ v ∷ [], subst (λ (m : ℕ). PathFrom p b (path.0 ++ v ∷ []) v m) at (goes_along path.0 u v (earliest_of t u) d path.1 ahead arc))
 
   -- no path is longer
@@ -62,15 +62,17 @@ module _ (graph : PlanGraph) (q : PlannedShop) (b : NodeBounds) (done : List Nod
   -- ranked nodes have their times
   all_times : AreTimesFrom p b times
   all_times = record {
-    nodes = λ v. (node_timed p firsts are rows v is_ranking.size, timed_node p firsts are rows v);
-    shaped = is_ranking.sound.shaped;
-    ranks = λ u v d arc. (let is = target_node p u v d arc in (sound.placed v is (all v is)).rises u d arc);
+    ranks = record {
+      shaped = is_ranking.sound.shaped;
+      nodes = λ v. (node_timed p firsts are rows v is_ranking.size, timed_node p firsts are rows v);
+      rise = λ u v d arc. (let is = target_node p u v d arc in (sound.placed v is (all v is)).rises u d arc);
+      few = λ v is. omega (arith, sound.within v is (all v is), is_ranking.count, is_ranking.size, numbers_count p firsts are);
+      apart = λ u v one other same. sym (sound.places u one (all u one)) ∙ ap (node_at done) same ∙ sound.places v other (all v other);
+    };
     moments = record {
       bounds = λ v n is told. (sound.placed v is (all v is)).bound n told;
       arcs = λ u v d ahead arc. (let is = target_node p u v d arc in (sound.placed v is (all v is)).fits u d arc ahead);
     };
-    few = λ v is. omega (arith, sound.within v is (all v is), is_ranking.count, is_ranking.size, numbers_count p firsts are);
-    apart = λ u v one other same. sym (sound.places u one (all u one)) ∙ ap (node_at done) same ∙ sound.places v other (all v other);
     attained = λ v is. (sound.placed v is (all v is)).attained;
   }
 
@@ -84,7 +86,7 @@ module _ (graph : PlanGraph) (q : PlannedShop) (b : NodeBounds) (done : List Nod
     where
       leads : (v : Node) (o : Option Node) → IsAttainedFrom p b times v (earliest_of times v) o → LeadsBack times v o
       leads v None attained = tt
-      leads v (Some u) (d, arc, at, ahead) = (node_timed p firsts are rows u is_ranking.size (source_node p u v d arc), all_times.ranks u v d arc)
+      leads v (Some u) (d, arc, at, ahead) = (node_timed p firsts are rows u is_ranking.size (source_node p u v d arc), all_times.ranks.rise u v d arc)
 
   -- they are ordered
   pub all_ordered : AreOrderedFrom p b times

@@ -14,7 +14,7 @@ use Rattle.shop_base.proofs.Keeping.{run-sound}
 use Rattle.shop_base.proofs.Ahead.{IsLeftIn, arc_left}
 use Rattle.shop_base.proofs.Deadlines.{all_ranks, rank_within}
 use Rattle.alt_graph.specs.Sources.{IsJobArc, IsBlockingArc}
-use Rattle.alt_graph.specs.Times.{NodeTimes, rank_of, earliest_of, AreTimes}
+use Rattle.alt_graph.specs.Times.{NodeTimes, rank_of, earliest_of, AreRanks, AreTimes}
 use Rattle.alt_graph.specs.Layout.{number_of}
 use Rattle.alt_graph.specs.Latest.{IsLatest, AreLatest, HasMoment, AreInside}
 use Rattle.alt_graph.specs.LatestRows.{IsTold, AreTold, moment_in, HasRows, AreLatestFrom}
@@ -96,7 +96,7 @@ module _ (p : PlannedShop) (kept : Node → ℕ) (v : Node) where
 
 -- ---- the nodes by their ranks
 
-module _ (p : PlannedShop) (t : NodeTimes) (are : AreTimes p t) (nodes : List (Option Node)) (u : Node) (is : IsNode p u) (inside : rank_of t u < length nodes) where
+module _ (p : PlannedShop) (t : NodeTimes) (are : AreRanks p t) (nodes : List (Option Node)) (u : Node) (is : IsNode p u) (inside : rank_of t u < length nodes) where
   abbrev more : List (Option Node)
   more = set nodes (rank_of t u) (Some u)
 
@@ -136,7 +136,7 @@ latest_still p kept other v n same latest = record {
     press (inl last) = inl last
     press (inr (w, d, arc, at)) = inr (w, d, arc, omega (arith, at, same w d arc))
 
-module _ (p : PlannedShop) (t : NodeTimes) (are : AreTimes p t) (firsts moments : List ℕ) (rows : HasRows p firsts moments) (u : Node) (is : IsNode p u) (n : ℕ) where
+module _ (p : PlannedShop) (t : NodeTimes) (are : AreRanks p t) (firsts moments : List ℕ) (rows : HasRows p firsts moments) (u : Node) (is : IsNode p u) (n : ℕ) where
   abbrev now : Node → ℕ
   now = moment_in firsts moments
 
@@ -156,7 +156,7 @@ module _ (p : PlannedShop) (t : NodeTimes) (are : AreTimes p t) (firsts moments 
   latest_more left at latest below v other le = go (cases_node p firsts rows.numbers v u other is)
     where
       still : (w : Node) (d : ℕ) → Arc p v w d → after w ≡ now w
-      still w d arc = after_other w (target_node p v w d arc) (λ same. omega (arith, are.schedule.ranks v w d arc, ap (rank_of t) same, at, le))
+      still w d arc = after_other w (target_node p v w d arc) (λ same. omega (arith, are.rise v w d arc, ap (rank_of t) same, at, le))
 
       higher : v ≢ u → (rank_of t v ≡ left) ⊎ (rank_of t v ≢ left) → left + 1 ≤ rank_of t v
       higher apart (inl same) = absurd (apart (are.apart v u other is (same ∙ at)))

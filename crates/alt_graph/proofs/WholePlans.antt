@@ -5,7 +5,7 @@ use Rattle.shop_base.specs.Plan.{PlannedShop, jobs, release, IsWellShaped}
 use Rattle.shop_base.specs.ExactLaw.{IsNeverGoneBefore}
 use Rattle.shop_base.specs.Graph.{node, leaving, IsNode, Path, begins, follows}
 use Rattle.alt_graph.specs.Bounds.{AreRooted, PathFrom, begins_at, goes_along, bound_of, IsAheadOf, IsChainFrom, whole}
-use Rattle.alt_graph.specs.Times.{NodeTimes, earliest_of, before_of, IsAttained, IsAttainedFrom, AreTimes, AreTimesFrom, AreOrdered, AreOrderedFrom, IsPathBy, IsPathFromBy}
+use Rattle.alt_graph.specs.Times.{NodeTimes, earliest_of, before_of, IsAttained, IsAttainedFrom, AreRanks, AreTimes, AreTimesFrom, AreOrdered, AreOrderedFrom, IsPathBy, IsPathFromBy}
 use Rattle.std.specs.Prelude.{◌↔◌, Result, Ok, Err, IfOk, IfSome}
 use Rattle.alt_graph.specs.Solved.{OnOrdered, OnOrderedFrom, HasCycle}
 use Rattle.alt_graph.specs.Evidence.{IsCycle, IsChain, EndsIn}
@@ -14,6 +14,10 @@ use Rattle.alt_graph.specs.declared.solving.Solved.TheVariants.{Ordered, Cyclic}
 use Rattle.std.specs.declared.alloc.AllocError.{AllocError}
 use Rattle.alt_graph.proofs.NodeNumbers.{node_same}
 use Rattle.alt_graph.proofs.Paths.{first_path, chain_no_faster}
+
+-- the times of a whole plan have ranks
+pub times_ranks : (p : PlannedShop) (t : NodeTimes) → AreTimes p t → AreRanks p t
+times_ranks p t are = record { shaped = are.schedule.shaped; nodes = are.nodes; rise = are.schedule.ranks; few = are.few; apart = are.apart }
 
 abbrev bound_at : ℕ → ℕ → Option ℕ
 bound_at r zero = Some r
@@ -89,9 +93,7 @@ module _ (p : PlannedShop) (shaped : IsWellShaped p) where
 
   times_from : (t : NodeTimes) → AreTimes p t → AreTimesFrom p (whole p) t
   times_from t are = record {
-    nodes = are.nodes;
-    shaped = are.schedule.shaped;
-    ranks = are.schedule.ranks;
+    ranks = times_ranks p t are;
     moments = record {
       bounds = λ v n is told. (
           let (first, at) = bound_some (release p v.job) v.place n (sym (told_at v is) ∙ told) in
@@ -99,24 +101,22 @@ module _ (p : PlannedShop) (shaped : IsWellShaped p) where
           omega (arith, at, ap (earliest_of t) same, are.schedule.moments.releases v.job is.job));
       arcs = λ u v d ahead arc. are.schedule.moments.arcs u v d arc;
     };
-    few = are.few;
-    apart = are.apart;
     attained = λ v is. attained_from t v is (earliest_of t v) (before_of t v) (are.attained v is);
   }
 
   times_to : (t : NodeTimes) → AreTimesFrom p (whole p) t → AreTimes p t
   times_to t are = record {
-    nodes = are.nodes;
+    nodes = are.ranks.nodes;
     schedule = record {
-      shaped = are.shaped;
-      ranks = are.ranks;
+      shaped = are.ranks.shaped;
+      ranks = are.ranks.rise;
       moments = record {
         releases = λ j inside. are.moments.bounds (node j 0) (release p j) (first_node j inside) (whole_first (node j 0) (first_node j inside) refl);
         arcs = λ u v d arc. are.moments.arcs u v d (whole_ahead u) arc;
       };
     };
-    few = are.few;
-    apart = are.apart;
+    few = are.ranks.few;
+    apart = are.ranks.apart;
     attained = λ v is. attained_to t v is (earliest_of t v) (before_of t v) (are.attained v is);
   }
 

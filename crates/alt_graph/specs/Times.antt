@@ -41,6 +41,14 @@ pub record IsTimed (t : NodeTimes) (v : Node) : Type 0 where
   pub job : v.job < length t
   pub place : v.place < length (job_times t v.job)
 
+-- the nodes of the shop are known: their ranks, each its own and below the number of nodes, rise along every arc
+pub record AreRanks (p : PlannedShop) (t : NodeTimes) : Type 0 where
+  pub shaped : IsWellShaped p
+  pub nodes : (v : Node) → IsNode p v ↔ IsTimed t v
+  pub rise : RanksRise p (rank_of t)
+  pub few : (v : Node) → IsNode p v → rank_of t v < node_count p
+  pub apart : (u v : Node) → IsNode p u → IsNode p v → rank_of t u ≡ rank_of t v → u ≡ v
+
 -- n is the moment that an arc allows v, over the node before it; where there is none, v is its job's first place, and n the job's release
 abbrev pub IsAttained : PlannedShop → NodeTimes → Node → ℕ → Option Node → Type 0
 IsAttained p t v n None = (v.place ≡ 0) × (n ≡ release p v.job)
@@ -79,14 +87,10 @@ abbrev pub IsAttainedFrom : PlannedShop → NodeBounds → NodeTimes → Node �
 IsAttainedFrom p b t v n None = bound_of b v ≡ Some n
 IsAttainedFrom p b t v n (Some u) = (d : ℕ) × Arc p u v d × (earliest_of t u + d ≡ n) × (IsAheadOf b u)
 
--- the nodes of the shop are known: their ranks, each its own and below the number of nodes, rise along every arc, and their moments fit the bounds, and each moment is attained
+-- the nodes have ranks, and their moments fit the bounds, and each moment is attained
 pub record AreTimesFrom (p : PlannedShop) (b : NodeBounds) (t : NodeTimes) : Type 0 where
-  pub nodes : (v : Node) → IsNode p v ↔ IsTimed t v
-  pub shaped : IsWellShaped p
-  pub ranks : RanksRise p (rank_of t)
+  pub ranks : AreRanks p t
   pub moments : MomentsFitFrom p b (earliest_of t)
-  pub few : (v : Node) → IsNode p v → rank_of t v < node_count p
-  pub apart : (u v : Node) → IsNode p u → IsNode p v → rank_of t u ≡ rank_of t v → u ≡ v
   pub attained : (v : Node) → IsNode p v → IsAttainedFrom p b t v (earliest_of t v) (before_of t v)
 
 -- the nodes are a path from a bound to v, as long as the moment of v, by whatever shop and bounds these times have

@@ -7,7 +7,7 @@ ghost use Rattle.shop_base.specs.Graph.{Arc, IsNode, MeetBudgets, node};
 ghost use Rattle.shop_base.specs.Deadlines.{AreDeadlines};
 ghost use Rattle.alt_graph.specs.Evidence.{node_count};
 ghost use Rattle.alt_graph.specs.Sources.{IsJobArc, IsBlockingArc};
-ghost use Rattle.alt_graph.specs.Times.{AreTimes, AreOrdered, earliest_of};
+ghost use Rattle.alt_graph.specs.Times.{AreRanks, AreOrdered, earliest_of};
 ghost use Rattle.alt_graph.specs.Latest.{HasMoment, AreLatest, IsLatest, moment_of};
 ghost use Rattle.alt_graph.specs.LatestRows.{IsTold, AreTold, HasRows, moment_in};
 
@@ -49,18 +49,18 @@ impl Deadlines {
     }
 }
 
-/// The latest moments of the nodes, of the plan that these times are of: the budget of a leaving, and of each node no later
-/// than each arc out of it allows (0 where that is longer). Linear in the nodes, the arcs and the machines; it fails only
-/// where it is out of memory.
+/// The latest moments of the nodes, of the plan that these times rank: the budget of a leaving, and of each node no later
+/// than each arc out of it allows (0 where that is longer). They depend on the plan alone, so they are the same whatever
+/// bounds the times were found from. Linear in the nodes, the arcs and the machines; it fails only where it is out of memory.
 pub fn latest_moments(
     alloc: Global,
     shaped: &Shaped,
     times: &Times,
 ) -> Result<Deadlines, AllocError>
-    requires { AreOrdered shaped.now times.now }
+    requires { AreRanks shaped.now times.now }
     ensures nodes { IfOk result (λ found. (v : Node) → IsNode shaped.now v ↔ HasMoment found v) }
     ensures latest { IfOk result (λ found. AreLatest shaped.now (moment_of found)) }
-    ensures deadlines { MeetBudgets shaped.now (earliest_of times.now)
+    ensures deadlines { AreOrdered shaped.now times.now → MeetBudgets shaped.now (earliest_of times.now)
         → IfOk result (λ found. AreDeadlines shaped.now (start shaped.now) (moment_of found)) }
 {
     let graph = Graph::new(alloc, shaped)?;
@@ -85,7 +85,7 @@ fn by_rank(
     times: &Times,
     count: usize,
 ) -> Result<Vec<Option<Node>>, AllocError>
-    requires times { AreTimes shaped.now times.now }
+    requires ranks { AreRanks shaped.now times.now }
     requires count { count ≡ node_count shaped.now }
     ensures size { IfOk result (λ nodes. length nodes.items ≡ count) }
     ensures told { IfOk result (λ nodes. AreTold shaped.now times.now nodes.items) }
@@ -100,7 +100,7 @@ fn by_rank(
 
 /// Writes the nodes of the job at the places of their ranks.
 fn note_ranks(shaped: &Shaped, times: &Times, job: JobNo, nodes: &mut [Option<Node>])
-    requires times { AreTimes shaped.now times.now }
+    requires ranks { AreRanks shaped.now times.now }
     requires job { job < jobs shaped.now }
     requires size { length nodes.old ≡ node_count shaped.now }
     requires told { AreTold shaped.now times.now nodes.old }

@@ -140,10 +140,8 @@ module _ (p : PlannedShop) (c : Cell) (t : ℕ) (sound : IsSound p c) where
 
     ordered_ahead : AreOrderedAhead p c t times
     ordered_ahead = record {
-      nodes = ordered.times.nodes;
-      few = ordered.times.few;
-      apart = ordered.times.apart;
-      schedule = record { shaped = ordered.times.shaped; ranks = ordered.times.ranks; moments = moments };
+      ranks = ordered.times.ranks;
+      schedule = record { shaped = ordered.times.ranks.shaped; ranks = ordered.times.ranks.rise; moments = moments };
       reached = λ v is ahead. (let (nodes, path) = ordered.lengths.reached v is in (nodes, path_ahead nodes v (kept v) ahead path));
       greatest = none_longer;
       chains = λ nodes v is ahead chain. path_ahead nodes v (kept v) ahead (chain p b ordered.times);

@@ -1,20 +1,17 @@
 -- The ranks and the earliest moments of the rest of a run, from a cell and a present moment.
-use Rattle.std.specs.Prelude.{◌≡◌, ℕ, ◌<◌, ◌≤◌, ◌↔◌, List}
+use Rattle.std.specs.Prelude.{◌≡◌, ℕ, ◌<◌, ◌≤◌, List}
 use Rattle.shop_base.specs.declared.node.Node.{Node}
 use Rattle.shop_base.specs.Plan.{PlannedShop, jobs}
 use Rattle.shop_base.specs.Cell.{Cell, since, IsGone}
 use Rattle.shop_base.specs.Graph.{IsNode, leaving}
 use Rattle.shop_base.specs.Ahead.{IsAhead, PathAhead, IsScheduleAhead}
-use Rattle.alt_graph.specs.Evidence.{node_count}
-use Rattle.alt_graph.specs.Times.{NodeTimes, rank_of, earliest_of, IsTimed, IsPathFromBy}
+use Rattle.alt_graph.specs.Times.{NodeTimes, rank_of, earliest_of, AreRanks, IsPathFromBy}
 use Rattle.alt_graph.specs.declared.solving.Solved.{Solved}
 use Rattle.alt_graph.specs.declared.solving.Solved.TheVariants.{Ordered, Cyclic}
 
--- a schedule of what is ahead, whose moments are the greatest lengths of paths ahead; each node of the shop has a rank of its own, below the number of nodes
+-- ranks of all nodes, and a schedule of what is ahead, whose moments are the greatest lengths of paths ahead
 pub record AreOrderedAhead (p : PlannedShop) (c : Cell) (present : ℕ) (t : NodeTimes) : Type 0 where
-  pub nodes : (v : Node) → IsNode p v ↔ IsTimed t v
-  pub few : (v : Node) → IsNode p v → rank_of t v < node_count p
-  pub apart : (u v : Node) → IsNode p u → IsNode p v → rank_of t u ≡ rank_of t v → u ≡ v
+  pub ranks : AreRanks p t
   pub schedule : IsScheduleAhead p c present (rank_of t) (earliest_of t)
   pub reached : (v : Node) → IsNode p v → IsAhead c v → (nodes : List Node) × PathAhead p c present nodes v (earliest_of t v)
   pub greatest : (nodes : List Node) (v : Node) (n : ℕ) → PathAhead p c present nodes v n → n ≤ earliest_of t v

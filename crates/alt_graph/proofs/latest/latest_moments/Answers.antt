@@ -19,7 +19,7 @@ back-init c =
     let all : c.node_count.result ≡ node_count c.args.shaped.now = c.node_count.ensures.count ∙ numbers_count _ _ c.node_count.ensures.sound.firsts ∙ ap node_count c.in_ok-graph.ensures.graph.plan in
     record {
       rows = rw c.in_ok-graph.ensures.graph.plan at rows;
-      latest = λ v is le. absurd (omega (arith, c.requires.times.few v is, le, all, c.len-left.ensures, c.in_ok-order.order.ok.0, c.in_ok-order.ensures.size));
+      latest = λ v is le. absurd (omega (arith, c.requires.few v is, le, all, c.len-left.ensures, c.in_ok-order.order.ok.0, c.in_ok-order.ensures.size));
       within = omega (arith, c.len-left.ensures, c.in_ok-order.order.ok.0);
     }
 
@@ -49,8 +49,8 @@ back-preserved-in-Some c =
     let above : (c.back.left - 1) + 1 ≡ c.back.left = omega (arith, c.back-test.true) in
     let latest = rw (c.in_ok-graph.ensures.graph.plan, c.deref.ensures.value) at c.latest_of.ensures in
     rw c.number-at.ensures.number (record {
-      rows = rows_more p t c.requires.times _ _ c.back.invariant.rows c.in-Some.node told.0 c.latest_of.result;
-      latest = latest_more p t c.requires.times _ _ c.back.invariant.rows c.in-Some.node told.0 c.latest_of.result (c.back.left - 1) (sym told.1) latest (rw above c.back.invariant.latest);
+      rows = rows_more p t c.requires _ _ c.back.invariant.rows c.in-Some.node told.0 c.latest_of.result;
+      latest = latest_more p t c.requires _ _ c.back.invariant.rows c.in-Some.node told.0 c.latest_of.result (c.back.left - 1) (sym told.1) latest (rw above c.back.invariant.latest);
       within = omega (arith, within);
     })
 
@@ -58,4 +58,4 @@ pub invariant_of-result : goal.invariant_of-result
 invariant_of-result c = rw c.into_firsts-firsts.ensures (are_inside _ _ _ c.back.invariant.rows)
 
 pub returns-clause-deadlines : goal.returns-clause-deadlines
-returns-clause-deadlines c = rw c.into_firsts-firsts.ensures (λ meets. start_deadlines _ _ _ c.requires.times meets (λ v is. c.back.invariant.latest v is (omega (arith, c.back-test.false))))
+returns-clause-deadlines c = rw c.into_firsts-firsts.ensures (λ ordered meets. start_deadlines _ _ _ ordered.times meets (λ v is. c.back.invariant.latest v is (omega (arith, c.back-test.false))))

@@ -22,7 +22,7 @@ pub returns-in-None-clause-exact : goal.returns-in-None-clause-exact
 returns-in-None-clause-exact g c =
     let ordered = returns-in-None-clause-ordered g c in (
       λ never. absurd never,
-      λ cycle. ranks_exclude_cycle _ (rank_of c.into_times.result) cycle.0 ordered.times.ranks cycle.1,
+      λ cycle. ranks_exclude_cycle _ (rank_of c.into_times.result) cycle.0 ordered.times.ranks.rise cycle.1,
     )
 
 pub returns-in_ok-nodes-in-Some-clause-cyclic : goal.returns-in_ok-nodes-in-Some-clause-cyclic

@@ -2,11 +2,15 @@ use Rattle.std.proofs.Common.{Some}
 use Rattle.shop_base.specs.Cell.{start}
 use Rattle.shop_base.specs.Deadlines.{AreDeadlines}
 use Rattle.alt_graph.specs.Latest.{moment_of}
+use Rattle.alt_graph.proofs.WholePlans.{times_ranks}
 use Rattle.plan_schedule.specs.Calendars.{IsCalendarOf}
 use Rattle.plan_schedule.specs.Scheduled.{AreLinesInTime}
 use Rattle.plan_schedule.proofs.Texts.{on_ok_adds}
 use Rattle.plan_schedule.proofs.Behind.{AreLinesBy, in_time}
 use Rattle.plan_schedule.proofs.schedules.push_accepted_lines.Goals as goal
+
+pub latest_moments-requires : goal.latest_moments-requires
+latest_moments-requires c = rw (c.shaped-shaped.ensures.same, c.times-times.ensures.same) (times_ranks _ _ c.times-times.ensures.ordered.times)
 
 pub returns : goal.returns
 returns c =
@@ -15,6 +19,6 @@ returns c =
     let calendar = c.in_ok-calendar.calendar in
     let is : IsCalendarOf v.planned v.times (Some d) calendar = rw (c.shaped-shaped.ensures.same, c.times-times.ensures.same) at c.in_ok-calendar.ensures in
     let deadlines : AreDeadlines v.planned (start v.planned) (moment_of d) =
-    (rw (c.shaped-shaped.ensures.same, c.times-times.ensures.same) at c.in_ok-deadlines.ensures.deadlines) c.shaped-shaped.ensures.verified.budgets in
+    (rw (c.shaped-shaped.ensures.same, c.times-times.ensures.same) at c.in_ok-deadlines.ensures.deadlines) c.times-times.ensures.ordered c.shaped-shaped.ensures.verified.budgets in
     on_ok_adds (AreLinesBy calendar) (AreLinesInTime v.planned) c.push_jobs.result _ _ _
     (in_time v.planned v.times d calendar is c.times-times.ensures.ordered deadlines _ _) c.push_jobs.ensures
