@@ -3,38 +3,11 @@
 
 ghost use Rattle.std.specs.Prelude.{◌≡◌, ◌+◌, ◌<◌, slice_set, length};
 ghost use Rattle.shop_base.specs.Plan.{jobs, machines};
-ghost use Rattle.shop_base.specs.Cell.{job_in, cleaning};
-ghost use Rattle.shop_base.specs.Movers.{due_of_job, due_of_cleaning};
 ghost use Rattle.cell_control.specs.Steps.{IsJobRenewed, IsMachineRenewed};
 
 use crate::dues::Dues;
 use cell_tables::WorkCell;
 use shop_base::{JobNo, MachineNo, Moment, Planned};
-
-/// When the job's activity is due; none where it has none.
-fn job_due<P: Planned>(cell: &WorkCell<P>, job: JobNo) -> Option<Moment>
-    requires job { job < jobs cell.now.plan }
-    ensures { result ≡ due_of_job cell.now.plan job (job_in cell.now.cell job) }
-{
-    let state = cell.job_state(job);
-    if state.ready {
-        return None;
-    }
-    if state.made == 0 {
-        return Some(cell.shaped().release_of(job));
-    }
-    let step = cell.shaped().step_of(job, state.made - 1)?;
-    Some(state.since + step.nominal)
-}
-
-/// When the machine's cleaning is due; none where it isn't being cleaned.
-fn cleaning_due<P: Planned>(cell: &WorkCell<P>, machine: MachineNo) -> Option<Moment>
-    requires machine { machine < machines cell.now.plan }
-    ensures { result ≡ due_of_cleaning cell.now.plan machine (cleaning cell.now.cell machine) }
-{
-    let from = cell.cleaned_since(machine)?;
-    Some(from + cell.shaped().clean_of(machine))
-}
 
 /// The key of the machine's cleaning.
 pub(crate) fn cleaning_key<P: Planned>(cell: &WorkCell<P>, machine: MachineNo) -> u32
@@ -61,7 +34,7 @@ pub(crate) fn renew_job<P: Planned, D: Dues>(cell: &WorkCell<P>, dues: &mut D, j
     requires count { length (D.dues dues.old) ≡ jobs cell.now.plan + machines cell.now.plan }
     ensures { IsJobRenewed cell.now.plan cell.now.cell (D.dues dues.old) job (D.dues dues.new) }
 {
-    let due = job_due(cell, job);
+    let due = cell.job_due(job);
     renew(dues, job, due);
 }
 
@@ -75,6 +48,6 @@ pub(crate) fn renew_machine<P: Planned, D: Dues>(
     requires count { length (D.dues dues.old) ≡ jobs cell.now.plan + machines cell.now.plan }
     ensures { IsMachineRenewed cell.now.plan cell.now.cell (D.dues dues.old) machine (D.dues dues.new) }
 {
-    let due = cleaning_due(cell, machine);
+    let due = cell.cleaning_due(machine);
     renew(dues, cleaning_key(cell, machine), due);
 }

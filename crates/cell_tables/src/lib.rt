@@ -6,6 +6,7 @@
 //! The controller and the audit follow a run by this cell.
 #![tactic(auto)]
 
+mod due_moments;
 mod entry;
 mod moves;
 mod places;

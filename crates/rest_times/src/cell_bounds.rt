@@ -2,9 +2,7 @@
 
 ghost use Rattle.std.specs.Prelude.{◌≡◌, ◌<◌, ◌≤◌, ◌↔◌, IsTrue, IfSome, max};
 ghost use Rattle.shop_base.specs.declared.limits.TheConstants.{MAX_MOMENT};
-ghost use Rattle.shop_base.specs.Plan.{jobs, machines};
-ghost use Rattle.shop_base.specs.Cell.{job_in, cleaning};
-ghost use Rattle.shop_base.specs.Movers.{due_of_job, due_of_cleaning};
+ghost use Rattle.shop_base.specs.Plan.{machines};
 ghost use Rattle.shop_base.specs.Graph.{IsNode};
 ghost use Rattle.alt_graph.specs.Bounds.{MAX_BOUND};
 ghost use Rattle.rest_times.specs.CellBounds.{rest_bounds, is_next_in, cleaned_at, later_than};
@@ -19,33 +17,6 @@ pub(crate) struct CellBounds<'a, P: Planned> {
     pub cell: &'a WorkCell<P>,
     pub present: Moment,
     ghost in_range: { present ≤ MAX_MOMENT },
-}
-
-/// When what goes on with the job is due; none where nothing does.
-fn job_due<P: Planned>(cell: &WorkCell<P>, job: JobNo) -> Option<Moment>
-    requires { job < jobs cell.now.plan }
-    ensures due { result ≡ due_of_job cell.now.plan job (job_in cell.now.cell job) }
-    ensures limited { IfSome result (λ due. due ≤ MAX_BOUND) }
-{
-    let state = cell.job_state(job);
-    if state.ready {
-        return None;
-    }
-    if state.made == 0 {
-        return Some(cell.shaped().release_of(job));
-    }
-    let step = cell.shaped().step_of(job, state.made - 1)?;
-    Some(state.since + step.nominal)
-}
-
-/// When the machine's cleaning is due; none where it isn't being cleaned.
-fn cleaning_due<P: Planned>(cell: &WorkCell<P>, machine: MachineNo) -> Option<Moment>
-    requires { machine < machines cell.now.plan }
-    ensures due { result ≡ due_of_cleaning cell.now.plan machine (cleaning cell.now.cell machine) }
-    ensures limited { IfSome result (λ due. due ≤ MAX_BOUND) }
-{
-    let from = cell.cleaned_since(machine)?;
-    Some(from + cell.shaped().clean_of(machine))
 }
 
 /// Whether the job is the next to enter the machine.
@@ -70,7 +41,7 @@ fn cleaned_by<P: Planned>(cell: &WorkCell<P>, node: Node) -> Option<Moment>
     let _plan = cell.shaped();
     let machine = cell.machine_at(node.job, node.place)?;
     if is_next(cell, machine, node.job) {
-        cleaning_due(cell, machine)
+        cell.cleaning_due(machine)
     } else {
         None
     }
@@ -115,7 +86,7 @@ impl<'a, P: Planned> Bounds for CellBounds<'a, P> {
         if state.made < node.place {
             return Some(later(self.present, cleaned?));
         }
-        let moment = later_of(self.present, job_due(self.cell, node.job));
+        let moment = later_of(self.present, self.cell.job_due(node.job));
         Some(later_of(moment, cleaned))
     }
 }
