@@ -1,17 +1,9 @@
 -- How far a log has been audited.
 use Rattle.std.specs.Prelude.{◌≡◌, ℕ, ◌*◌, ◌<◌, List, ◌++◌}
 use Rattle.shop_base.specs.Plan.{PlannedShop}
-use Rattle.shop_base.specs.Cell.{Cell}
-use Rattle.shop_base.specs.Run.{IsRun, ends_in}
 use Rattle.shop_base.specs.Ends.{stated_number}
 use Rattle.cell_tables.specs.declared.entry.Entry.{Entry}
-use Rattle.cell_tables.specs.Events.{events_of}
 use Rattle.event_lines.specs.LogLines.{LineTells}
-
--- these entries are a run, and this is the cell at its end
-pub record IsTold (p : PlannedShop) (c : Cell) (told : List Entry) : Type 0 where
-  pub run : IsRun p (events_of told)
-  pub cell : c ≡ ends_in p (events_of told)
 
 -- the entries that a line tells were put behind those before
 abbrev pub IsLineTaken : PlannedShop → List ℕ → List Entry → List Entry → Type 0

@@ -111,6 +111,11 @@ pub record IsFirstBad (p : PlannedShop) (lines : List (List ℕ)) (fault : Audit
   pub run : IsRun p (events_of told)
   pub is_fault : IsLineFault p (ends_in p (events_of told)) line fault
 
+-- these entries are a run, and this is the cell at its end
+pub record IsTold (p : PlannedShop) (c : Cell) (told : List Entry) : Type 0 where
+  pub run : IsRun p (events_of told)
+  pub cell : c ≡ ends_in p (events_of told)
+
 -- what an audit found of lines that tell a run
 pub record IsAudit (p : PlannedShop) (lines : List (List ℕ)) (audit : Audit) : Type 0 where
   pub tells : LinesTell p lines audit.entries.items

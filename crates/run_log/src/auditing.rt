@@ -4,16 +4,14 @@ ghost use Rattle.std.specs.Prelude.{◌≡◌, ◌≤◌, [], ◌∷◌, length,
 ghost use Rattle.shop_base.specs.Ends.{reports_in};
 ghost use Rattle.text_lines.specs.Lines.{lines_of};
 ghost use Rattle.cell_tables.specs.Events.{event_of, events_of};
-ghost use Rattle.event_lines.specs.LogLines.{LinesTell};
 ghost use Rattle.run_log.specs.Audits.{IsAudit, IsAuditFault, TellRun, room_for};
-ghost use Rattle.run_log.specs.Auditing.{IsTold};
 
 use crate::audit_fault::AuditFault;
 use crate::audit_result::Audit;
-use crate::audited_run::AuditedRun;
 use crate::ended::has_ended;
+use crate::logged_run::{LoggedRun, read_log};
 use cell_tables::Entry;
-use shop_base::{Planned, Shaped};
+use shop_base::Shaped;
 use std::alloc::Global;
 
 /// Audits a log against a plan, which needn't be an accepted one. Empty lines and the other answers of a driven
@@ -26,7 +24,7 @@ pub fn audit(alloc: Global, shaped: &Shaped, text: &[u8]) -> Result<Audit, Audit
     ensures only { TellRun shaped.now (lines_of text.now) → IfErr result (λ fault. fault ≡ AuditFault.Memory) }
 {
     match read_log(alloc, shaped, text) {
-        Ok(AuditedRun { cell, entries }) => {
+        Ok(LoggedRun { cell, entries }) => {
             let reports = report_count(&entries);
             Ok(Audit {
                 reports,
@@ -38,19 +36,6 @@ pub fn audit(alloc: Global, shaped: &Shaped, text: &[u8]) -> Result<Audit, Audit
         }
         Err(fault) => Err(fault),
     }
-}
-
-/// The run that the log tells, if its lines tell one.
-fn read_log<P: Planned>(alloc: Global, basis: P, text: &[u8]) -> Result<AuditedRun<P>, AuditFault>
-    ensures plan { IfOk result (λ run. run.cell.plan ≡ P.planned basis) }
-    ensures told { IfOk result (λ run. IsTold (P.planned basis) run.cell.cell run.entries.items) }
-    ensures tells { IfOk result (λ run. LinesTell (P.planned basis) (lines_of text.now) run.entries.items) }
-    ensures room { IfOk result (λ run. vec_capacity run.entries ≡ room_for (P.planned basis) (lines_of text.now)) }
-    ensures fault { IfErr result (IsAuditFault (P.planned basis) (lines_of text.now)) }
-{
-    let mut run = AuditedRun::start(alloc, basis, text)?;
-    run.take_lines(text)?;
-    Ok(run)
 }
 
 /// How many reports are among the entries.

@@ -77,3 +77,43 @@ ended-more cut lost =
       ap (map without_return) same ∙ map_join without_return (take (feeds cut) (parts_of is_line_feed cut)) more
           ∙ ap (λ ps. ps ++ map without_return more) (sym (take_map without_return (feeds cut) (parts_of is_line_feed cut))),
     )
+
+-- ---- up to the last line feed
+
+abbrev no_parts : List (List ℕ)
+no_parts = []
+
+take_none : (n : ℕ) → take n no_parts ≡ no_parts
+take_none zero = refl
+take_none (suc n) = refl
+
+onto_take : (b n : ℕ) (parts : List (List ℕ)) → take (suc n) (onto_first b parts) ≡ onto_first b (take (suc n) parts)
+onto_take b n [] = ap (λ ps. (b ∷ []) ∷ ps) (take_none n)
+onto_take b n (part ∷ parts) = refl
+
+some_feed : (front rest : List ℕ) → (n : ℕ) × (feeds (front ++ 10 ∷ rest) ≡ suc n)
+some_feed [] rest = (feeds rest, refl)
+some_feed (b ∷ front) rest = elim (cases_Bool (is_line_feed b)) [
+  | inl feed ↦ (feeds (front ++ 10 ∷ rest), rw feed refl)
+  | inr other ↦ let (n, is) = some_feed front rest in (n, rw other is)
+]
+
+ended_parts : (front rest : List ℕ) → HasNone 10 rest
+    → take (feeds (front ++ 10 ∷ rest)) (parts_of is_line_feed (front ++ 10 ∷ rest)) ≡ parts_of is_line_feed (front ++ 10 ∷ [])
+ended_parts [] rest none = ap (λ n. take (suc n) ([] ∷ parts_of is_line_feed rest)) (feeds-none rest none)
+ended_parts (b ∷ front) rest none = elim (cases_Bool (is_line_feed b)) [
+  | inl feed ↦ rw feed (ap (λ ps. [] ∷ ps) (ended_parts front rest none))
+  | inr other ↦
+      let (n, some) = some_feed front rest in
+      let parts = parts_of is_line_feed (front ++ 10 ∷ rest) in
+      rw other (
+      ap (λ k. take k (onto_first b parts)) some ∙ onto_take b n parts
+      ∙ ap (onto_first b) (ap (λ k. take k parts) (sym some) ∙ ended_parts front rest none)
+      )
+]
+
+-- the lines up to the last line feed are the ended ones
+pub ended-part : (text front rest : List ℕ) → text ≡ front ++ 10 ∷ rest → HasNone 10 rest → lines_of (front ++ 10 ∷ []) ≡ ended_lines text
+ended-part text front rest split none =
+    ap (map without_return) (sym (ended_parts front rest none)) ∙ sym (take_map without_return (feeds (front ++ 10 ∷ rest)) (parts_of is_line_feed (front ++ 10 ∷ rest)))
+    ∙ ap ended_lines (sym split)

@@ -1,11 +1,11 @@
-//! The lines of a text: the first one, and how many there are.
+//! The lines of a text: the first one, how many there are, and the part in which all are ended.
 
 ghost use Rattle.std.specs.Prelude.{◌≡◌, ◌<◌, length, IfSome};
-ghost use Rattle.text_lines.specs.Lines.{without_return, lines_of};
+ghost use Rattle.text_lines.specs.Lines.{without_return, lines_of, ended_lines};
 ghost use Rattle.text_lines.specs.Searches.{GivesFirst};
 
 use crate::cuts::cut_line;
-use memchr::memchr;
+use memchr::{memchr, memrchr};
 
 /// The line without one carriage return at its end, if it has one there.
 pub fn without_return(line: &[u8]) -> &[u8]
@@ -39,4 +39,15 @@ pub fn line_count(text: &[u8]) -> usize
         rest = &rest[end + 1..];
     }
     if rest.is_empty() { count } else { count + 1 }
+}
+
+/// The bytes up to the last line feed, that one among them: all lines of this part are ended by a line feed, and what is
+/// left out is the last line that isn't, if there is one. The part is empty where there is no line feed.
+pub fn ended_part(text: &[u8]) -> &[u8]
+    ensures { lines_of result.now ≡ ended_lines text.now }
+{
+    match memrchr(b'\n', text) {
+        Some(end) => &text[..end + 1],
+        None => &[],
+    }
 }

@@ -1,14 +1,15 @@
 use Rattle.std.proofs.Common.{◌≡◌, ℕ, ◌≤◌, ◌++◌, List, length, vec_capacity}
 use Rattle.text_lines.specs.Lines.{lines_of}
 use Rattle.event_lines.specs.LogLines.{LinesTell}
-use Rattle.run_log.specs.Auditing.{IsTold}
-use Rattle.run_log.proofs.audited_run.AuditedRun.take_lines.Given as goal
+use Rattle.run_log.specs.Audits.{IsTold}
+use Rattle.run_log.proofs.logged_run.LoggedRun.take_lines.Given as goal
 
 abbrev pub invariant-loop-line : goal.invariant-loop-line
 invariant-loop-line g l = record {
   seen : List (List ℕ);
   split : lines_of l.text ≡ seen ++ lines_of l.rest;
   count : l.number ≡ length seen;
+  basis : l.self.cell.basis ≡ l.initial.self.cell.basis;
   plan : l.self.cell.plan ≡ l.initial.self.cell.plan;
   tells : LinesTell l.initial.self.cell.plan seen l.self.entries.items;
   told : IsTold l.initial.self.cell.plan l.self.cell.cell l.self.entries.items;

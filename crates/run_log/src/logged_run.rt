@@ -1,10 +1,10 @@
-//! A run as far as the lines of a log have told it.
+//! The run that a log tells.
 
 ghost use Rattle.std.specs.Prelude.{◌≡◌, [], length, vec_capacity, IfOk, OnOk, IfErr};
-ghost use Rattle.text_lines.specs.Lines.{lines_of};
+ghost use Rattle.text_lines.specs.Lines.{lines_of, ended_lines};
 ghost use Rattle.event_lines.specs.LogLines.{LinesTell};
-ghost use Rattle.run_log.specs.Audits.{IsLineFault, IsFirstBad, fault_line, room_for};
-ghost use Rattle.run_log.specs.Auditing.{IsTold, IsLineTaken, HasRoomForNext};
+ghost use Rattle.run_log.specs.Audits.{IsTold, IsLineFault, IsFirstBad, IsAuditFault, TellRun, fault_line, room_for};
+ghost use Rattle.run_log.specs.Auditing.{IsLineTaken, HasRoomForNext};
 
 use crate::audit_fault::AuditFault;
 use crate::entry_check::{check_entry, follow_entry};
@@ -13,18 +13,57 @@ use cell_tables::{Entry, WorkCell};
 use event_lines::{is_passed_over, told_entry};
 use shop_base::Planned;
 use std::alloc::{AllocError, Global};
-use text_lines::{line_count, next_line};
+use text_lines::{ended_part, line_count, next_line};
 
-/// The entries that were told, and the cell after them.
+/// A run as far as the lines of a log have told it.
 #[derive(Debug, Drop)]
-pub(crate) struct AuditedRun<P: Planned> {
+pub struct LoggedRun<P: Planned> {
+    /// The cell after the last entry, at its moment; at the start of a run where there is no entry.
     pub cell: WorkCell<P>,
+    /// Its reports and orders, in the order in which they were told.
     pub entries: Vec<Entry>,
 }
 
-impl<P: Planned> AuditedRun<P> {
+/// The run of the plan that the whole lines of a log tell, and the cell at its end. What stands behind the last line feed
+/// is torn, and isn't looked at. Of the whole lines just those are taken that an audit keeps, and the first fault of others is
+/// the audit's: the plan needn't be accepted, nor be the one by which the log was written.
+pub fn run_of_log<P: Planned>(
+    alloc: Global,
+    basis: P,
+    text: &[u8],
+) -> Result<LoggedRun<P>, AuditFault>
+    ensures basis { IfOk result (λ run. run.cell.basis ≡ basis) }
+    ensures plan { IfOk result (λ run. run.cell.plan ≡ P.planned basis) }
+    ensures tells { IfOk result (λ run. LinesTell (P.planned basis) (ended_lines text.now) run.entries.items) }
+    ensures told { IfOk result (λ run. IsTold (P.planned basis) run.cell.cell run.entries.items) }
+    ensures fault { IfErr result (IsAuditFault (P.planned basis) (ended_lines text.now)) }
+    ensures only { TellRun (P.planned basis) (ended_lines text.now) → IfErr result (λ fault. fault ≡ AuditFault.Memory) }
+{
+    read_log(alloc, basis, ended_part(text))
+}
+
+/// The run that the log tells, if all its lines tell one.
+pub(crate) fn read_log<P: Planned>(
+    alloc: Global,
+    basis: P,
+    text: &[u8],
+) -> Result<LoggedRun<P>, AuditFault>
+    ensures basis { IfOk result (λ run. run.cell.basis ≡ basis) }
+    ensures plan { IfOk result (λ run. run.cell.plan ≡ P.planned basis) }
+    ensures told { IfOk result (λ run. IsTold (P.planned basis) run.cell.cell run.entries.items) }
+    ensures tells { IfOk result (λ run. LinesTell (P.planned basis) (lines_of text.now) run.entries.items) }
+    ensures room { IfOk result (λ run. vec_capacity run.entries ≡ room_for (P.planned basis) (lines_of text.now)) }
+    ensures fault { IfErr result (IsAuditFault (P.planned basis) (lines_of text.now)) }
+{
+    let mut run = LoggedRun::start(alloc, basis, text)?;
+    run.take_lines(text)?;
+    Ok(run)
+}
+
+impl<P: Planned> LoggedRun<P> {
     /// A run that nothing is told of, with room for the entries that the lines of the text can tell.
-    pub(crate) fn start(alloc: Global, basis: P, text: &[u8]) -> Result<AuditedRun<P>, AllocError>
+    pub(crate) fn start(alloc: Global, basis: P, text: &[u8]) -> Result<LoggedRun<P>, AllocError>
+        ensures basis { IfOk result (λ run. run.cell.basis ≡ basis) }
         ensures plan { IfOk result (λ run. run.cell.plan ≡ P.planned basis) }
         ensures told { IfOk result (λ run. IsTold run.cell.plan run.cell.cell []) }
         ensures empty { IfOk result (λ run. run.entries.items ≡ []) }
@@ -34,7 +73,7 @@ impl<P: Planned> AuditedRun<P> {
             Ok(cell) => {
                 let most = most_entries(cell.shaped());
                 let entries = Vec::with_capacity(alloc, line_count(text).min(most))?;
-                Ok(AuditedRun { cell, entries })
+                Ok(LoggedRun { cell, entries })
             }
             Err(refused) => Err(refused.0),
         }
@@ -45,6 +84,7 @@ impl<P: Planned> AuditedRun<P> {
         requires told { IsTold self.old.cell.plan self.old.cell.cell [] }
         requires empty { self.old.entries.items ≡ [] }
         requires room { vec_capacity self.old.entries ≡ room_for self.old.cell.plan (lines_of text.now) }
+        ensures same_basis { OnOk result (self.new.cell.basis ≡ self.old.cell.basis) }
         ensures same_plan { OnOk result (self.new.cell.plan ≡ self.old.cell.plan) }
         ensures told { OnOk result (IsTold self.old.cell.plan self.new.cell.cell self.new.entries.items) }
         ensures tells { OnOk result (LinesTell self.old.cell.plan (lines_of text.now) self.new.entries.items) }
@@ -65,6 +105,7 @@ impl<P: Planned> AuditedRun<P> {
     fn take_line(&mut self, line: &[u8], number: usize) -> Result<(), AuditFault>
         requires told { IsTold self.old.cell.plan self.old.cell.cell self.old.entries.items }
         requires room { HasRoomForNext self.old.cell.plan (length self.old.entries.items) (vec_capacity self.old.entries) }
+        ensures same_basis { OnOk result (self.new.cell.basis ≡ self.old.cell.basis) }
         ensures same_plan { OnOk result (self.new.cell.plan ≡ self.old.cell.plan) }
         ensures told { OnOk result (IsTold self.old.cell.plan self.new.cell.cell self.new.entries.items) }
         ensures tells { OnOk result

@@ -2,9 +2,9 @@ use Rattle.std.proofs.Common.{sym, subst, ap, ◌∙◌, arith}
 use Rattle.shop_base.specs.Cell.{Cell}
 use Rattle.shop_base.specs.Run.{CanHappen, after}
 use Rattle.cell_tables.specs.Events.{event_of}
-use Rattle.run_log.specs.Auditing.{IsTold}
+use Rattle.run_log.specs.Audits.{IsTold}
 use Rattle.run_log.proofs.Audits.{run-more, ends-more, run-room}
-use Rattle.run_log.proofs.audited_run.AuditedRun.take_line.Goals as goal
+use Rattle.run_log.proofs.logged_run.LoggedRun.take_line.Goals as goal
 
 pub push_reserved-requires : goal.push_reserved-requires
 push_reserved-requires g c =

@@ -4,10 +4,11 @@ use Rattle.text_lines.specs.Lines.{lines_of}
 use Rattle.text_lines.proofs.NextLines.{lines_of-le}
 use Rattle.cell_tables.specs.declared.entry.Entry.{Entry}
 use Rattle.event_lines.specs.LogLines.{LinesTell}
-use Rattle.run_log.specs.Auditing.{IsTold, IsLineTaken}
+use Rattle.run_log.specs.Audits.{IsTold}
+use Rattle.run_log.specs.Auditing.{IsLineTaken}
 use Rattle.event_lines.proofs.Readings.{tell-more}
 use Rattle.run_log.proofs.Audits.{few_told}
-use Rattle.run_log.proofs.audited_run.AuditedRun.take_lines.Goals as goal
+use Rattle.run_log.proofs.logged_run.LoggedRun.take_lines.Goals as goal
 
 pub overflow_add-number : goal.overflow_add-number
 overflow_add-number g c =
@@ -27,6 +28,7 @@ loop-line-preserved g c =
       seen = so_far.seen ++ line ∷ [];
       split = so_far.split ∙ ap (λ (ls : List (List ℕ)). so_far.seen ++ ls) c.in-Some.ensures.line ∙ sym (append_assoc so_far.seen (line ∷ []) rest);
       count = omega (arith, so_far.count, length-append so_far.seen (line ∷ []));
+      basis = c.in_ok-take_line.ensures.same_basis ∙ so_far.basis;
       plan = c.in_ok-take_line.ensures.same_plan ∙ so_far.plan;
       tells = subst (λ (es : List Entry). LinesTell p (so_far.seen ++ line ∷ []) es) (sym taken.2) (tell-more p so_far.seen line before taken.0 so_far.tells taken.1);
       told = subst (λ (q : PlannedShop). IsTold q c.take_line.new.self.cell.cell after) so_far.plan c.in_ok-take_line.ensures.told;
