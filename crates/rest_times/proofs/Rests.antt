@@ -1,5 +1,5 @@
 -- The times from the bounds of a cell are those of the rest of its run.
-use Rattle.std.proofs.Common.{◌≡◌, ℕ, ◌<◌, ◌≤◌, List, [], ◌∷◌, Option, None, Some, arith, refl, sym, ap, subst, ◌∙◌, ◌⊎◌, inl, inr}
+use Rattle.std.proofs.Common.{◌≡◌, ℕ, ◌<◌, ◌≤◌, List, [], ◌∷◌, ◌++◌, Option, None, Some, arith, refl, sym, ap, subst, ◌∙◌, ◌⊎◌, inl, inr}
 use Rattle.std.specs.Prelude.{Result, Ok, Err, IfOk}
 use Rattle.std.specs.declared.alloc.AllocError.{AllocError}
 use Rattle.std.proofs.lemmas.Bool.{cases_order}
@@ -21,7 +21,8 @@ use Rattle.alt_graph.specs.declared.solving.Solved.{Solved}
 use Rattle.alt_graph.specs.declared.solving.Solved.TheVariants.{Ordered, Cyclic}
 use Rattle.alt_graph.specs.Solved.{OnOrderedFrom}
 use Rattle.alt_graph.proofs.NodeNumbers.{node_same}
-use Rattle.rest_times.specs.CellBounds.{rest_bounds, bound_in, later_than, held_to, cleaned_at}
+use Rattle.rest_times.specs.CellBounds.{rest_bounds, bound_in, held_to, cleaned_at}
+use Rattle.rest_times.specs.Held.{later_than, IsHeldUp, BeginHeldUp}
 use Rattle.rest_times.specs.Rest.{AreOrderedAhead, OnOrderedAhead}
 use Rattle.rest_times.proofs.Tables.{bound_passed, bound_next, bound_later, bound_told, ahead_of, of_ahead, later_is, later_above, later_other, cleaned_holds, holds_cleaned}
 
@@ -29,17 +30,17 @@ module _ (p : PlannedShop) (c : Cell) (t : ℕ) (sound : IsSound p c) where
   abbrev b : NodeBounds
   b = rest_bounds p c t
 
-  some_same : (n m : ℕ) → Some n ≡ Some m → n ≡ m
+  pub some_same : (n m : ℕ) → Some n ≡ Some m → n ≡ m
   some_same n m same = cc
 
   -- a bound of a node ahead is the length of a path ahead
-  later_path : (v : Node) (n m : ℕ) → IsLeftIn p c v → PathAhead p c t (v ∷ []) v n → (m ≡ n) ⊎ ((due : ℕ) × (cleaned_at p c v ≡ Some due) × (m ≡ due)) → PathAhead p c t (v ∷ []) v m
+  pub later_path : (v : Node) (n m : ℕ) → IsLeftIn p c v → PathAhead p c t (v ∷ []) v n → (m ≡ n) ⊎ ((due : ℕ) × (cleaned_at p c v ≡ Some due) × (m ≡ due)) → PathAhead p c t (v ∷ []) v m
   later_path v n m left path (inl same) = subst (λ k. PathAhead p c t (v ∷ []) v k) (sym same) path
   later_path v n m left path (inr (due, told, same)) =
       let (machine, going, holds) = cleaned_holds p c v due told in
       subst (λ k. PathAhead p c t (v ∷ []) v k) (sym same) (held (Cleaning machine) due v going holds)
 
-  next_path : (v : Node) (n : ℕ) → IsNode p v → made c v.job ≡ v.place → (n ≡ t) ⊎ ((due : ℕ) × (due_of_job p v.job (job_in c v.job) ≡ Some due) × (n ≡ due)) → PathAhead p c t (v ∷ []) v n
+  pub next_path : (v : Node) (n : ℕ) → IsNode p v → made c v.job ≡ v.place → (n ≡ t) ⊎ ((due : ℕ) × (due_of_job p v.job (job_in c v.job) ≡ Some due) × (n ≡ due)) → PathAhead p c t (v ∷ []) v n
   next_path v n is next (inl same) = subst (λ k. PathAhead p c t (v ∷ []) v k) (sym same) (now v is (omega arith))
   next_path v n is next (inr (due, told, same)) =
       let here : v ≡ next_node c v.job = node_same v (next_node c v.job) refl (sym next) in
@@ -70,6 +71,29 @@ module _ (p : PlannedShop) (c : Cell) (t : ℕ) (sound : IsSound p c) where
             | inl same ↦ inl same
             | inr (m, some, same) ↦ inr (m, found ∙ some, same)
           ]))
+
+  -- and such a node is held up
+  bound_held : (v : Node) (n : ℕ) → IsNode p v → IsAhead c v → bound_of b v ≡ Some n → IsHeldUp p c v
+  bound_held v n is ahead told = elim (cases_order v.place (made c v.job)) [
+    | inl same ↦ inl (sym same)
+    | inr other ↦ elim other [
+      | inl passed ↦ absurd (let here : made c v.job ≤ v.place = ahead in omega arith)
+      | inr later ↦ behind (cleaned_at p c v) refl (sym (bound_told p c t sound v is ∙ bound_later p c t v later) ∙ told)
+    ]
+  ]
+    where
+      behind : (o : Option ℕ) → cleaned_at p c v ≡ o → held_to t o ≡ Some n → IsHeldUp p c v
+      behind None none at = absurd cc
+      behind (Some due) found at = (let (m, going, holds) = cleaned_holds p c v due found in inr (m, due, going, holds))
+
+  begin_more : (nodes : List Node) (v : Node) → BeginHeldUp p c nodes → BeginHeldUp p c (nodes ++ v ∷ [])
+  begin_more [] v bad = absurd bad
+  begin_more (u ∷ us) v begun = begun
+
+  -- so a path from the bounds to a node ahead begins with one
+  begin_held : (nodes : List Node) (v : Node) (n : ℕ) → IsAhead c v → PathFrom p b nodes v n → BeginHeldUp p c nodes
+  begin_held _ _ _ ahead (begins_at v n is told) = (is, bound_held v n is ahead told)
+  begin_held _ _ _ ahead (goes_along nodes u v n d path from arc) = begin_more nodes v (begin_held nodes u n (of_ahead p c t sound u (source_node p u v d arc).job from) path)
 
   module _ (times : NodeTimes) (ordered : AreOrderedFrom p b times) where
     abbrev kept : Node → ℕ
@@ -144,7 +168,7 @@ module _ (p : PlannedShop) (c : Cell) (t : ℕ) (sound : IsSound p c) where
       schedule = record { shaped = ordered.times.ranks.shaped; ranks = ordered.times.ranks.rise; moments = moments };
       reached = λ v is ahead. (let (nodes, path) = ordered.lengths.reached v is in (nodes, path_ahead nodes v (kept v) ahead path));
       greatest = none_longer;
-      chains = λ nodes v is ahead chain. path_ahead nodes v (kept v) ahead (chain p b ordered.times);
+      chains = λ nodes v is ahead chain. (let path = chain p b ordered.times in (path_ahead nodes v (kept v) ahead path, begin_held nodes v (kept v) ahead path));
       left = gone_left;
     }
 

@@ -15,7 +15,8 @@ use Rattle.shop_base.specs.Graph.{node, IsNode}
 use Rattle.shop_base.specs.Ahead.{IsAhead, HoldsUp}
 use Rattle.shop_base.proofs.CellFacts.{cleaning_due, due_cleaning}
 use Rattle.alt_graph.specs.Bounds.{bound_of, IsAheadOf, AreRooted}
-use Rattle.rest_times.specs.CellBounds.{rest_bounds, bound_in, later_than, held_to, is_next_in, cleaned_at}
+use Rattle.rest_times.specs.CellBounds.{rest_bounds, bound_in, held_to, is_next_in, cleaned_at}
+use Rattle.rest_times.specs.Held.{later_than}
 
 module _ (p : PlannedShop) (c : Cell) (t : ℕ) where
   -- a passed node has the moment of its job's last move

@@ -8,11 +8,7 @@ use Rattle.shop_base.specs.Cell.{Cell, job_in, made, since, entries, cleaning}
 use Rattle.shop_base.specs.Movers.{due_of_job, due_of_cleaning}
 use Rattle.shop_base.specs.Graph.{node}
 use Rattle.alt_graph.specs.Bounds.{NodeBounds}
-
--- the later of a moment and of another, if there is one
-abbrev pub later_than : ℕ → Option ℕ → ℕ
-later_than n None = n
-later_than n (Some m) = max n m
+use Rattle.rest_times.specs.Held.{later_than}
 
 -- the same of the other alone: none where there is none
 abbrev pub held_to : ℕ → Option ℕ → Option ℕ

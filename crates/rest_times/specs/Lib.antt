@@ -1,4 +1,10 @@
 -- Reached by public clauses: to be read and believed.
+pub mod Held
 pub mod Rest
+pub mod RestVerdicts
+pub mod FromThere
+pub mod Leavings
+pub mod StartLaw
 -- Of proofs and private contracts alone.
 pub mod CellBounds
+pub mod PathBounds

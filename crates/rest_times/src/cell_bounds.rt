@@ -5,7 +5,8 @@ ghost use Rattle.shop_base.specs.declared.limits.TheConstants.{MAX_MOMENT};
 ghost use Rattle.shop_base.specs.Plan.{machines};
 ghost use Rattle.shop_base.specs.Graph.{IsNode};
 ghost use Rattle.alt_graph.specs.Bounds.{MAX_BOUND};
-ghost use Rattle.rest_times.specs.CellBounds.{rest_bounds, is_next_in, cleaned_at, later_than};
+ghost use Rattle.rest_times.specs.Held.{later_than};
+ghost use Rattle.rest_times.specs.CellBounds.{rest_bounds, is_next_in, cleaned_at};
 
 use alt_graph::Bounds;
 use cell_tables::WorkCell;
@@ -20,7 +21,7 @@ pub(crate) struct CellBounds<'a, P: Planned> {
 }
 
 /// Whether the job is the next to enter the machine.
-fn is_next<P: Planned>(cell: &WorkCell<P>, machine: MachineNo, job: JobNo) -> bool
+pub(crate) fn is_next<P: Planned>(cell: &WorkCell<P>, machine: MachineNo, job: JobNo) -> bool
     requires { machine < machines cell.now.plan }
     ensures { result ≡ is_next_in cell.now.plan cell.now.cell machine job }
 {
@@ -32,7 +33,7 @@ fn is_next<P: Planned>(cell: &WorkCell<P>, machine: MachineNo, job: JobNo) -> bo
 
 /// When the cleaning of the machine that the node's job enters by it is due, if it is the next entry there and the
 /// machine is being cleaned.
-fn cleaned_by<P: Planned>(cell: &WorkCell<P>, node: Node) -> Option<Moment>
+pub(crate) fn cleaned_by<P: Planned>(cell: &WorkCell<P>, node: Node) -> Option<Moment>
     requires { IsNode cell.now.plan node }
     ensures due { result ≡ cleaned_at cell.now.plan cell.now.cell node }
     ensures limited { IfSome result (λ due. due ≤ MAX_BOUND) }
@@ -48,14 +49,14 @@ fn cleaned_by<P: Planned>(cell: &WorkCell<P>, node: Node) -> Option<Moment>
 }
 
 /// The later of two moments.
-fn later(one: Moment, other: Moment) -> Moment
+pub(crate) fn later(one: Moment, other: Moment) -> Moment
     ensures { result ≡ max one other }
 {
     if one < other { other } else { one }
 }
 
 /// The later of a moment and of another, if there is one.
-fn later_of(one: Moment, other: Option<Moment>) -> Moment
+pub(crate) fn later_of(one: Moment, other: Option<Moment>) -> Moment
     ensures { result ≡ later_than one other }
 {
     match other {

@@ -2,7 +2,8 @@ use Rattle.std.proofs.Common.{◌≡◌, ◌<◌, Some, arith, sym, ap, ◌∙�
 use Rattle.shop_base.specs.declared.job_state.JobState.{JobState}
 use Rattle.shop_base.specs.Cell.{job_in, made}
 use Rattle.shop_base.specs.Movers.{due_of_job}
-use Rattle.rest_times.specs.CellBounds.{later_than, held_to, cleaned_at}
+use Rattle.rest_times.specs.CellBounds.{held_to, cleaned_at}
+use Rattle.rest_times.specs.Held.{later_than}
 use Rattle.rest_times.proofs.Tables.{bound_passed, bound_next, bound_later, bound_told}
 use Rattle.rest_times.proofs.cell_bounds.CellBoundsBounds.bound.Goals as goal
 
