@@ -4,4 +4,5 @@ pub mod Moving
 pub mod PlannedCell
 pub mod Readings
 pub mod Reports
+pub mod Standings
 pub mod Tables

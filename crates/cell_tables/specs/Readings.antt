@@ -1,7 +1,7 @@
 -- What the readers of a cell tell: who is where, and who can move.
-use Rattle.std.specs.Prelude.{◌≡◌, ℕ, ◌-◌, ◌<◌, ◌≤◌, ◌⊎◌, length, Option, MatchOption}
+use Rattle.std.specs.Prelude.{◌≡◌, ℕ, ◌-◌, ◌<◌, ◌≤◌, ◌⊎◌, length, Option, None, Some, MatchOption}
 use Rattle.shop_base.specs.Plan.{PlannedShop, order, job_at, Stands}
-use Rattle.shop_base.specs.Cell.{Cell, made, entries, IsOutside, IsOn, IsGone, IsFree}
+use Rattle.shop_base.specs.Cell.{Cell, made, entries, cleaning, IsOutside, IsOn, IsGone, IsFree}
 use Rattle.shop_base.specs.Move.{CanEnter, CanMove, KeepsPlan}
 
 -- this is the machine that job j is on, by its last move; none where j is outside or gone
@@ -16,6 +16,16 @@ IsHolder p c m holder = MatchOption holder (IsFree p c m) (λ j. IsOn p c j (mad
 abbrev pub IsNextOn : PlannedShop → Cell → ℕ → Option ℕ → Type 0
 IsNextOn p c m next =
     MatchOption next (length (order p m) ≤ length (entries c m)) (λ j. (length (entries c m) < length (order p m)) × (job_at p m (length (entries c m)) ≡ j))
+
+-- machine m is being cleaned after job j, which is the last that entered it
+pub record IsCleanedAfter (p : PlannedShop) (c : Cell) (m j : ℕ) : Type 0 where
+  pub from : ℕ
+  pub is_cleaned : cleaning c m ≡ Some from
+  pub last_in : job_at p m (length (entries c m) - 1) ≡ j
+
+-- this is the job after which machine m is being cleaned; none where it isn't
+abbrev pub IsCleanedFor : PlannedShop → Cell → ℕ → Option ℕ → Type 0
+IsCleanedFor p c m job = MatchOption job (cleaning c m ≡ None) (IsCleanedAfter p c m)
 
 -- job j can enter machine m, in whose order it is the next
 abbrev pub EntersNext : PlannedShop → Cell → ℕ → ℕ → Type 0

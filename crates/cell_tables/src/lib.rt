@@ -12,9 +12,11 @@ mod moves;
 mod places;
 mod plan_readers;
 mod report;
+mod standing;
 mod tables;
 mod work_cell;
 
 pub use entry::Entry;
 pub use report::Report;
+pub use standing::Standing;
 pub use work_cell::WorkCell;

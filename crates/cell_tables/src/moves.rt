@@ -79,7 +79,7 @@ impl<P: Planned> WorkCell<P> {
     }
 
     /// Where its next move takes the job.
-    fn target_of(&self, job: JobNo) -> Spot
+    pub(crate) fn target_of(&self, job: JobNo) -> Spot
         requires { job < jobs self.now.plan }
         ensures { result ≡ target self.now.plan self.now.cell job }
     {

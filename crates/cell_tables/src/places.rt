@@ -1,9 +1,9 @@
 //! Where the jobs of the cell are, and which can move.
 
 ghost use Rattle.std.specs.Prelude.{◌≡◌, ◌-◌, ◌<◌, ◌≤◌, ◌↔◌, length, IsTrue, None};
-ghost use Rattle.shop_base.specs.Plan.{jobs, machines, order, Visits};
+ghost use Rattle.shop_base.specs.Plan.{jobs, machines, order, job_at, Visits};
 ghost use Rattle.shop_base.specs.Cell.{made, entries, cleaning, IsOn, IsFree};
-ghost use Rattle.cell_tables.specs.Readings.{IsMachineOf, IsHolder, IsNextOn, EntersNext, CanMoveNow};
+ghost use Rattle.cell_tables.specs.Readings.{IsMachineOf, IsHolder, IsNextOn, IsCleanedFor, EntersNext, CanMoveNow};
 
 use crate::work_cell::WorkCell;
 use shop_base::{JobNo, MachineNo, Planned};
@@ -66,6 +66,26 @@ impl<P: Planned> WorkCell<P> {
     {
         let entered = self.entered(machine);
         self.order_of(machine).get(entered as usize).copied()
+    }
+
+    /// The job after which the machine is being cleaned; none where it isn't.
+    pub fn cleaned_after(&self, machine: MachineNo) -> Option<JobNo>
+        requires { machine < machines self.now.plan }
+        ensures { IsCleanedFor self.now.plan self.now.cell machine result }
+    {
+        let _plan = self.shaped();
+        let _from = self.cleaned_since(machine)?;
+        Some(self.last_in(machine))
+    }
+
+    /// The job that entered the machine last.
+    pub(crate) fn last_in(&self, machine: MachineNo) -> JobNo
+        requires machine { machine < machines self.now.plan }
+        requires entered { 0 < length (entries self.now.cell machine) }
+        ensures { result ≡ job_at self.now.plan machine (length (entries self.now.cell machine) - 1) }
+    {
+        let place = self.entered(machine) as usize - 1;
+        self.order_of(machine)[place]
     }
 
     /// Whether the job, which visits the machine next, can enter it and keep the plan.
