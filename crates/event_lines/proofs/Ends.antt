@@ -12,6 +12,9 @@ use Rattle.cell_tables.specs.declared.entry.Entry.TheVariants.{Report as ReportE
 use Rattle.event_lines.specs.Words.{Text, Number, short, moment, IsReadAs}
 use Rattle.event_lines.specs.EventLines.{end_words, spot_word, move_numbers, IsEntryLine}
 use Rattle.event_lines.specs.SentLines.{IsNoReport}
+use Rattle.event_lines.specs.declared.requests.Request.TheVariants.{Claim as ClaimRequest, Status}
+use Rattle.event_lines.specs.declared.requests.Claim.TheVariants.{Report as ReportClaim, CleanAfter}
+use Rattle.event_lines.specs.Requests.{IsNoCleanAfter, IsNoRequest}
 use Rattle.event_lines.specs.AnswerLines.{is_passed_over}
 use Rattle.event_lines.specs.FirstWords.{IsNeverFirst, IsOnly}
 use Rattle.event_lines.proofs.WordByWord.{only_of, text_before}
@@ -32,6 +35,13 @@ module _ (line : List ℕ) (a : (rest : List ℕ) → line ≢ codes "arrive " +
   no_sent (Arrive job at) found = let first = text_before line (codes "arrive") (short job) (moment at ∷ []) found in a first.0 first.1
   no_sent (Finish job machine at) found = let first = text_before line (codes "finish") (short job) (short machine ∷ moment at ∷ []) found in f first.0 first.1
   no_sent (Clean machine at) found = let first = text_before line (codes "clean") (short machine) (moment at ∷ []) found in c first.0 first.1
+
+-- ---- requests
+
+pub no_request : (line : List ℕ) → (line ≡ codes "status" → ⊥) → IsNoCleanAfter line → IsNoReport line → IsNoRequest line
+no_request line status clean_after report (ClaimRequest (ReportClaim r)) found = report r found
+no_request line status clean_after report (ClaimRequest (CleanAfter machine job at)) found = clean_after machine job at found
+no_request line status clean_after report Status found = status (only_of line (Text (codes "status")) found)
 
 -- ---- orders
 

@@ -13,7 +13,12 @@ use Rattle.event_lines.specs.Words.{Word, Text, Number, short, spaced_words, IsR
 use Rattle.event_lines.specs.EventLines.{spot_word, told_words, order_words}
 use Rattle.event_lines.specs.SentLines.{sent_words, IsReportLine}
 use Rattle.event_lines.specs.LogLines.{LineTells, LinesTell}
-use Rattle.event_lines.specs.ReadBack.{OneEntry, OneReport, OneCellReport}
+use Rattle.event_lines.specs.declared.requests.Request.{Request}
+use Rattle.event_lines.specs.declared.requests.Request.TheVariants.{Claim as ClaimRequest, Status}
+use Rattle.event_lines.specs.declared.requests.Claim.{Claim}
+use Rattle.event_lines.specs.declared.requests.Claim.TheVariants.{Report as ReportClaim, CleanAfter}
+use Rattle.event_lines.specs.Requests.{claim_words, request_words, IsRequestLine}
+use Rattle.event_lines.specs.ReadBack.{OneEntry, OneReport, OneCellReport, OneRequest, OneCellRequest}
 use Rattle.event_lines.proofs.Ends.{unlike}
 
 -- two words that the same bytes are read as
@@ -74,6 +79,55 @@ pub one_cell_report : OneCellReport
 one_cell_report line cell cell' one other is also =
     let same = all_both (spaced_words line) (short cell ∷ sent_words one) (short cell' ∷ sent_words other) is also in
     (same.0, same_sent one other same.1)
+
+-- ---- requests
+
+same_claim : (one other : Claim) → AllBoth (claim_words one) (claim_words other) → other ≡ one
+same_claim (ReportClaim one) (ReportClaim other) both = ap ReportClaim (same_sent one other both)
+same_claim (ReportClaim (Arrive job at)) (CleanAfter machine' job' at') (name, _) = absurd (unlike 99 97 _ _ refl name)
+same_claim (ReportClaim (Finish job machine at)) (CleanAfter machine' job' at') (name, _) = absurd (unlike 99 102 _ _ refl name)
+same_claim (ReportClaim (Clean machine at)) (CleanAfter machine' job' at') (_, (_, (_, more))) = absurd more
+same_claim (CleanAfter machine job at) (ReportClaim (Arrive job' at')) (name, _) = absurd (unlike 97 99 _ _ refl name)
+same_claim (CleanAfter machine job at) (ReportClaim (Finish job' machine' at')) (name, _) = absurd (unlike 102 99 _ _ refl name)
+same_claim (CleanAfter machine job at) (ReportClaim (Clean machine' at')) (_, (_, (_, more))) = absurd more
+same_claim (CleanAfter machine job at) (CleanAfter machine' job' at') (_, (m, (j, (t, _)))) = cc (m, j, t)
+
+some_words : (claim : Claim) (text : List ℕ) → AllBoth (claim_words claim) (Text text ∷ []) → ⊥
+some_words (ReportClaim (Arrive job at)) text (_, more) = more
+some_words (ReportClaim (Finish job machine at)) text (_, more) = more
+some_words (ReportClaim (Clean machine at)) text (_, more) = more
+some_words (CleanAfter machine job at) text (_, more) = more
+
+no_words : (claim : Claim) (text : List ℕ) → AllBoth (Text text ∷ []) (claim_words claim) → ⊥
+no_words (ReportClaim (Arrive job at)) text (_, more) = more
+no_words (ReportClaim (Finish job machine at)) text (_, more) = more
+no_words (ReportClaim (Clean machine at)) text (_, more) = more
+no_words (CleanAfter machine job at) text (_, more) = more
+
+same_request : (one other : Request) → AllBoth (request_words one) (request_words other) → other ≡ one
+same_request (ClaimRequest one) (ClaimRequest other) both = ap ClaimRequest (same_claim one other both)
+same_request (ClaimRequest one) Status both = absurd (some_words one (codes "status") both)
+same_request Status (ClaimRequest other) both = absurd (no_words other (codes "status") both)
+same_request Status Status both = refl
+
+pub one_request : OneRequest
+one_request line one other is also = same_request one other (all_both (spaced_words line) (request_words one) (request_words other) is also)
+
+pub one_cell_request : OneCellRequest
+one_cell_request line cell cell' one other is also =
+    let same = all_both (spaced_words line) (short cell ∷ request_words one) (short cell' ∷ request_words other) is also in
+    (same.0, same_request one other same.1)
+
+-- no request is an empty line
+pub some_request : (line : List ℕ) (request : Request) → IsRequestLine line request → line ≡ [] → ⊥
+some_request line request is none = go request (subst (λ (l : List ℕ). IsRequestLine l request) none is)
+  where
+    go : (r : Request) → IsRequestLine [] r → ⊥
+    go (ClaimRequest (ReportClaim (Arrive job at))) read = read.1
+    go (ClaimRequest (ReportClaim (Finish job machine at))) read = read.1
+    go (ClaimRequest (ReportClaim (Clean machine at))) read = read.1
+    go (ClaimRequest (CleanAfter machine job at)) read = read.1
+    go Status read = let other : codes "status" ≡ [] = sym read.0 in absurd (cc)
 
 -- no report is an empty line
 pub some_line : (line : List ℕ) (report : Report) → IsReportLine line report → line ≡ [] → ⊥

@@ -1,5 +1,5 @@
 -- What a text tells whose lines were written.
-use Rattle.std.proofs.Common.{ℕ, ◌<◌, ◌≤◌, List, [], ◌∷◌, ◌++◌, codes, refl, sym, arith, subst, append_assoc}
+use Rattle.std.proofs.Common.{◌≡◌, true, ℕ, zero, suc, ◌<◌, ◌≤◌, List, [], ◌∷◌, ◌++◌, codes, refl, sym, arith, subst, append_assoc}
 use Rattle.shop_base.specs.declared.limits.TheConstants.{MAX_MOMENT}
 use Rattle.shop_base.specs.declared.move_order.Spot.{Spot}
 use Rattle.shop_base.specs.declared.move_order.Spot.TheVariants.{Out, At}
@@ -11,12 +11,57 @@ use Rattle.cell_tables.specs.Moving.{IsSpotOf}
 use Rattle.cell_tables.specs.Reports.{said}
 use Rattle.cell_tables.specs.declared.entry.Entry.{Entry}
 use Rattle.cell_tables.specs.declared.entry.Entry.TheVariants.{Report as ReportEntry, Order as OrderEntry}
-use Rattle.event_lines.specs.Words.{Word, Text, short, moment, words_before, line_of}
+use Rattle.event_lines.specs.Words.{Word, Text, short, moment, written, words_before, line_of}
 use Rattle.event_lines.specs.EventLines.{end_words, spot_word, told_words, move_words, order_words, entry_words}
-use Rattle.event_lines.specs.AnswerLines.{late_words, refused_words, done_words, unfinished_words}
+use Rattle.cell_tables.specs.declared.standing.Standing.{Standing}
+use Rattle.cell_tables.specs.declared.standing.Standing.TheVariants.{Awaited, Outside, Worked, Done, Gone, Cleaned, Clean as CleanMachine}
+use Rattle.event_lines.specs.declared.details.Detail.{Detail}
+use Rattle.event_lines.specs.declared.details.Detail.TheVariants.{Nothing, Last, Stands}
+use Rattle.event_lines.specs.AnswerLines.{late_words, refused_words, done_words, unfinished_words, is_passed_over}
+use Rattle.event_lines.specs.StandingLines.{standing_words, detail_words, others_words, unfinished_standing_words, refused_detail_words, late_overdue_words}
 use Rattle.event_lines.specs.LogLines.{IsEntryOf, LineTells, LinesTell}
-use Rattle.event_lines.specs.ReadBack.{IsFitting, AreFitting, TellsFirst, WrittenEntriesAreTold, OtherAnswersTellNone}
+use Rattle.event_lines.specs.ReadBack.{IsSpaceless, IsFitting, AreFitting, TellsFirst, WrittenEntriesAreTold, OtherAnswersTellNone}
 use Rattle.event_lines.proofs.WrittenWords.{AreSpaceless, decimal_spaceless, all_spaceless, line_first, read_back}
+
+-- ---- words of how it stands
+
+spot_spaceless : (spot : Spot) → IsSpaceless (written (spot_word spot))
+spot_spaceless Out = refl
+spot_spaceless (At m) = decimal_spaceless m
+
+pub standing_spaceless : (standing : Standing) → AreSpaceless (standing_words standing)
+standing_spaceless (Awaited job due) = (refl, (decimal_spaceless job, (refl, (decimal_spaceless due, tt))))
+standing_spaceless (Outside job to) = (refl, (decimal_spaceless job, (refl, (refl, (refl, (refl, (spot_spaceless to, tt)))))))
+standing_spaceless (Worked job machine since due) =
+    (refl, (decimal_spaceless job, (refl, (refl, (decimal_spaceless machine, (refl, (decimal_spaceless since, (refl, (decimal_spaceless due, tt)))))))))
+standing_spaceless (Done job machine to) =
+    (refl, (decimal_spaceless job, (refl, (refl, (refl, (decimal_spaceless machine, (refl, (refl, (spot_spaceless to, tt)))))))))
+standing_spaceless (Gone job at) = (refl, (decimal_spaceless job, (refl, (refl, (refl, (decimal_spaceless at, tt))))))
+standing_spaceless (Cleaned machine job since due) =
+    (refl, (decimal_spaceless machine, (refl, (refl, (refl, (decimal_spaceless job, (refl, (decimal_spaceless since, (refl, (decimal_spaceless due, tt))))))))))
+standing_spaceless (CleanMachine machine) = (refl, (decimal_spaceless machine, (refl, (refl, tt))))
+
+passed : (standing : Standing) → is_passed_over (words_before (unfinished_standing_words standing) []) ≡ true
+passed (Awaited job due) = refl
+passed (Outside job to) = refl
+passed (Worked job machine since due) = refl
+passed (Done job machine to) = refl
+passed (Gone job at) = refl
+passed (Cleaned machine job since due) = refl
+passed (CleanMachine machine) = refl
+
+detail_spaceless : (detail : Detail) → AreSpaceless (detail_words detail)
+detail_spaceless Nothing = tt
+detail_spaceless (Last at) = (refl, (decimal_spaceless at, tt))
+detail_spaceless (Stands standing) = standing_spaceless standing
+
+others_spaceless : (others : ℕ) → AreSpaceless (others_words others)
+others_spaceless zero = tt
+others_spaceless (suc k) = (refl, (decimal_spaceless (suc k), (refl, tt)))
+
+both_spaceless : (one other : List Word) → AreSpaceless one → AreSpaceless other → AreSpaceless (one ++ other)
+both_spaceless [] other first second = second
+both_spaceless (word ∷ one) other first second = (first.0, both_spaceless one other first.1 second)
 
 module _ (p : PlannedShop) where
   pub tells_none : TellsFirst p [] []
@@ -38,6 +83,12 @@ module _ (p : PlannedShop) where
     refused = λ number name is. tells_line (refused_words number name) [] (refl, (decimal_spaceless number, (is, tt))) refl;
     done = λ at. tells_line (done_words at) [] (refl, (decimal_spaceless at, tt)) refl;
     unfinished = λ left. tells_line (unfinished_words left) [] (refl, (decimal_spaceless left, tt)) refl;
+    stands = λ standing. tells_line (unfinished_standing_words standing) [] (refl, standing_spaceless standing) (passed standing);
+    refused_for = λ number name detail is. tells_line (refused_detail_words number name detail) [] (refl, (decimal_spaceless number, (is, detail_spaceless detail))) refl;
+    late_for = λ at overdue.
+        tells_line (late_overdue_words at overdue) []
+        (refl, (decimal_spaceless at, both_spaceless (standing_words overdue.first) (others_words overdue.others) (standing_spaceless overdue.first) (others_spaceless overdue.others)))
+        refl;
   }
 
   -- ---- the words of an entry of the shop

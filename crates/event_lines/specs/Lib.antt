@@ -3,6 +3,8 @@ pub mod Words
 pub mod EventLines
 pub mod SentLines
 pub mod AnswerLines
+pub mod Requests
+pub mod StandingLines
 pub mod LogLines
 pub mod ReadBack
 -- Of proofs and private contracts alone.

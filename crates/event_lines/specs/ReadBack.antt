@@ -9,6 +9,12 @@ use Rattle.event_lines.specs.Words.{Word, Text, Number, short, line_of, IsReadAs
 use Rattle.event_lines.specs.EventLines.{entry_line, IsEntryLine}
 use Rattle.event_lines.specs.SentLines.{IsReportLine, IsCellReport, cell_prefix}
 use Rattle.event_lines.specs.AnswerLines.{late_line, refused_line, done_line, unfinished_line}
+use Rattle.cell_tables.specs.declared.standing.Standing.{Standing}
+use Rattle.event_lines.specs.declared.details.Detail.{Detail}
+use Rattle.event_lines.specs.declared.details.Overdue.{Overdue}
+use Rattle.event_lines.specs.declared.requests.Request.{Request}
+use Rattle.event_lines.specs.Requests.{IsRequestLine, IsCellRequest}
+use Rattle.event_lines.specs.StandingLines.{unfinished_standing_line, refused_detail_line, late_overdue_line}
 use Rattle.event_lines.specs.LogLines.{IsEntryOf, LinesTell}
 
 -- the bytes have no space, nor any other byte below it
@@ -53,6 +59,9 @@ pub record OtherAnswersTellNone (p : PlannedShop) : Type 0 where
   pub refused : (number : ℕ) (name : List ℕ) → IsSpaceless name → TellsFirst p (refused_line number name) []
   pub done : (at : ℕ) → TellsFirst p (done_line at) []
   pub unfinished : (left : ℕ) → TellsFirst p (unfinished_line left) []
+  pub stands : (standing : Standing) → TellsFirst p (unfinished_standing_line standing) []
+  pub refused_for : (number : ℕ) (name : List ℕ) (detail : Detail) → IsSpaceless name → TellsFirst p (refused_detail_line number name detail) []
+  pub late_for : (at : ℕ) (overdue : Overdue) → TellsFirst p (late_overdue_line at overdue) []
 
 -- a line is one entry at most, as it is told
 abbrev pub OneEntry : Type 0
@@ -62,6 +71,14 @@ OneEntry = (line : List ℕ) (one other : Entry) → IsEntryLine line one → Is
 abbrev pub OneReport : Type 0
 OneReport = (line : List ℕ) (one other : Report) → IsReportLine line one → IsReportLine line other → other ≡ one
 
--- and one on one cell
+-- and one request
+abbrev pub OneRequest : Type 0
+OneRequest = (line : List ℕ) (one other : Request) → IsRequestLine line one → IsRequestLine line other → other ≡ one
+
+-- on one cell
+abbrev pub OneCellRequest : Type 0
+OneCellRequest = (line : List ℕ) (cell cell' : ℕ) (one other : Request) → IsCellRequest line cell one → IsCellRequest line cell' other → (cell' ≡ cell) × (other ≡ one)
+
+-- and one report on one cell
 abbrev pub OneCellReport : Type 0
 OneCellReport = (line : List ℕ) (cell cell' : ℕ) (one other : Report) → IsCellReport line cell one → IsCellReport line cell' other → (cell' ≡ cell) × (other ≡ one)

@@ -4,7 +4,7 @@
 
 ghost use Rattle.shop_base.specs.Plan.{PlannedShop};
 ghost use Rattle.event_lines.specs.ReadBack.{WhatIsWrittenIsRead, NumberedLinesAreLines, WrittenEntriesAreTold, OtherAnswersTellNone};
-ghost use Rattle.event_lines.specs.ReadBack.{OneEntry, OneReport, OneCellReport};
+ghost use Rattle.event_lines.specs.ReadBack.{OneEntry, OneReport, OneCellReport, OneRequest, OneCellRequest};
 
 /// A line is written with words: texts of bytes above 32, and numbers below 2^64 with no more digits than they may
 /// have. In front of any text it is the first line, and is read as the same words. A cell's number and a space before it make such a
@@ -18,9 +18,11 @@ pub fn what_is_written_is_read()
 {}
 
 /// A line tells one event at most. As a line that is sent, it is one report at most, and with a cell's number one
-/// report on one cell.
+/// report on one cell; so with requests.
 pub fn a_line_has_one_reading()
     ensures told { OneEntry }
     ensures sent { OneReport }
     ensures on_cells { OneCellReport }
+    ensures requested { OneRequest }
+    ensures requested_on_cells { OneCellRequest }
 {}

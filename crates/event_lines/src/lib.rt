@@ -8,10 +8,12 @@
 
 mod answers;
 mod cell_numbers;
+mod details;
 mod entries;
 pub mod laws;
 mod line_text;
 mod orders;
+mod requests;
 mod sent_reports;
 mod told_reports;
 mod words;
@@ -20,8 +22,12 @@ pub use answers::{
     done_line, is_passed_over, late_line, put_late_line, refused_line, unfinished_line,
 };
 pub use cell_numbers::{cell_prefix, cell_report_of};
+pub use details::{
+    Detail, DetailText, Overdue, late_overdue_line, refused_detail_line, unfinished_standing_line,
+};
 pub use entries::{put_entry_line, told_entry};
 pub use line_text::LineText;
 pub use orders::put_order;
+pub use requests::{Claim, Request, cell_request_of, request_of};
 pub use sent_reports::report_of;
 pub use told_reports::put_report;

@@ -11,8 +11,9 @@ use crate::words::{number_first, short_last};
 use shop_base::{JobNo, MachineNo, MoveOrder, Spot};
 use text_lines::after_prefix;
 
+/// Writes a machine's number, or `out`, before what there is.
 #[inline(always)]
-fn put_spot<const ROOM: usize>(line: &mut text_lines::LineText<ROOM>, spot: Spot)
+pub(crate) fn put_spot<const ROOM: usize>(line: &mut text_lines::LineText<ROOM>, spot: Spot)
     requires { 10 + length line.old ≤ ROOM }
     ensures written { line.new ≡ written (spot_word spot) ++ line.old }
     ensures length { length line.new ≤ 10 + length line.old }

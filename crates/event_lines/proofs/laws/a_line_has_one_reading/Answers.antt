@@ -1,4 +1,4 @@
-use Rattle.event_lines.proofs.Readings.{one_entry, one_report, one_cell_report}
+use Rattle.event_lines.proofs.Readings.{one_entry, one_report, one_cell_report, one_request, one_cell_request}
 use Rattle.event_lines.proofs.laws.a_line_has_one_reading.Goals as goal
 
 pub returns-clause-told : goal.returns-clause-told
@@ -9,3 +9,9 @@ returns-clause-sent c = one_report
 
 pub returns-clause-on_cells : goal.returns-clause-on_cells
 returns-clause-on_cells c = one_cell_report
+
+pub returns-clause-requested : goal.returns-clause-requested
+returns-clause-requested c = one_request
+
+pub returns-clause-requested_on_cells : goal.returns-clause-requested_on_cells
+returns-clause-requested_on_cells c = one_cell_request

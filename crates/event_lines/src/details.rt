@@ -1,0 +1,246 @@
+//! What an answer tells behind its first words, from version 2 of the lines on: how it stands with a job or with a
+//! machine, and what is overdue.
+
+ghost use Rattle.std.specs.Prelude.{◌≡◌, ◌+◌, ◌≤◌, [], ◌∷◌, ◌++◌, length, codes, decimal};
+ghost use Rattle.event_lines.specs.Words.{words_before};
+ghost use Rattle.event_lines.specs.StandingLines.{since_words, target_words, standing_words, detail_end, others_end};
+ghost use Rattle.event_lines.specs.StandingLines.{unfinished_standing_line, refused_detail_line, late_overdue_line};
+
+use crate::orders::put_spot;
+use cell_tables::Standing;
+use shop_base::{JobNo, MachineNo, Moment, Spot};
+use text_lines::LineText;
+
+/// What the controller has instead of what was reported.
+#[derive(Clone, Copy, Debug, PartialEq, Eq)]
+pub enum Detail {
+    /// Nothing is told.
+    Nothing,
+    /// The last moment.
+    Last(Moment),
+    /// How it stands with the job or the machine.
+    Stands(Standing),
+}
+
+/// What should have ended before a moment: one, and how many others.
+#[derive(Clone, Copy, Debug, PartialEq, Eq)]
+pub struct Overdue {
+    pub first: Standing,
+    pub others: u32,
+}
+
+/// A line with such words. All are shorter than its room.
+pub type DetailText = LineText<160>;
+
+/// Writes `since S due D` before what there is.
+fn put_since<const ROOM: usize>(line: &mut LineText<ROOM>, since: Moment, due: Moment)
+    requires { 52 + length line.old ≤ ROOM }
+    ensures written { line.new ≡ words_before (since_words since due) line.old }
+    ensures length { length line.new ≤ 52 + length line.old }
+{
+    line.put_number(due);
+    line.put_text(b" due ");
+    line.put_number(since);
+    line.put_text(b"since ");
+}
+
+/// Writes `for machine M` before what there is.
+fn put_target<const ROOM: usize>(line: &mut LineText<ROOM>, target: Spot)
+    requires { 22 + length line.old ≤ ROOM }
+    ensures written { line.new ≡ words_before (target_words target) line.old }
+    ensures length { length line.new ≤ 22 + length line.old }
+{
+    put_spot(line, target);
+    line.put_text(b"for machine ");
+}
+
+fn put_worked<const ROOM: usize>(
+    line: &mut LineText<ROOM>,
+    job: JobNo,
+    machine: MachineNo,
+    since: Moment,
+    due: Moment,
+)
+    requires { 89 + length line.old ≤ ROOM }
+    ensures written { line.new ≡ words_before (standing_words (Standing.Worked job machine since due)) line.old }
+    ensures length { length line.new ≤ 89 + length line.old }
+{
+    put_since(line, since, due);
+    line.put_text(b" ");
+    line.put_short_number(machine);
+    line.put_text(b" on machine ");
+    line.put_short_number(job);
+    line.put_text(b"job ");
+}
+
+fn put_done<const ROOM: usize>(
+    line: &mut LineText<ROOM>,
+    job: JobNo,
+    machine: MachineNo,
+    target: Spot,
+)
+    requires { 65 + length line.old ≤ ROOM }
+    ensures written { line.new ≡ words_before (standing_words (Standing.Done job machine target)) line.old }
+    ensures length { length line.new ≤ 65 + length line.old }
+{
+    put_target(line, target);
+    line.put_text(b" ");
+    line.put_short_number(machine);
+    line.put_text(b" waits on machine ");
+    line.put_short_number(job);
+    line.put_text(b"job ");
+}
+
+fn put_cleaned<const ROOM: usize>(
+    line: &mut LineText<ROOM>,
+    machine: MachineNo,
+    after: JobNo,
+    since: Moment,
+    due: Moment,
+)
+    requires { 100 + length line.old ≤ ROOM }
+    ensures written { line.new ≡ words_before (standing_words (Standing.Cleaned machine after since due)) line.old }
+    ensures length { length line.new ≤ 100 + length line.old }
+{
+    put_since(line, since, due);
+    line.put_text(b" ");
+    line.put_short_number(after);
+    line.put_text(b" cleaned after job ");
+    line.put_short_number(machine);
+    line.put_text(b"machine ");
+}
+
+/// Writes the words of a job that is outside, or has been there, before what there is.
+fn put_outside<const ROOM: usize>(line: &mut LineText<ROOM>, job: JobNo, target: Spot)
+    requires { 52 + length line.old ≤ ROOM }
+    ensures written { line.new ≡ words_before (standing_words (Standing.Outside job target)) line.old }
+    ensures length { length line.new ≤ 52 + length line.old }
+{
+    put_target(line, target);
+    line.put_text(b" waits outside ");
+    line.put_short_number(job);
+    line.put_text(b"job ");
+}
+
+/// Writes the number of a job, these words with a space on each side, and a moment, before what there is.
+fn put_job_at<const ROOM: usize>(line: &mut LineText<ROOM>, job: JobNo, words: &[u8], at: Moment)
+    requires words { length words.now ≤ 13 }
+    requires room { 47 + length line.old ≤ ROOM }
+    ensures written { line.new ≡ codes "job " ++ (decimal job ++ (words.now ++ (decimal at ++ line.old))) }
+    ensures length { length line.new ≤ 47 + length line.old }
+{
+    line.put_number(at);
+    line.put_text(words);
+    line.put_short_number(job);
+    line.put_text(b"job ");
+}
+
+fn put_clean<const ROOM: usize>(line: &mut LineText<ROOM>, machine: MachineNo)
+    requires { 27 + length line.old ≤ ROOM }
+    ensures written { line.new ≡ words_before (standing_words (Standing.Clean machine)) line.old }
+    ensures length { length line.new ≤ 27 + length line.old }
+{
+    line.put_text(b" is clean");
+    line.put_short_number(machine);
+    line.put_text(b"machine ");
+}
+
+/// Writes the words of how it stands before what there is.
+fn put_standing<const ROOM: usize>(line: &mut LineText<ROOM>, standing: Standing)
+    requires { 100 + length line.old ≤ ROOM }
+    ensures written { line.new ≡ words_before (standing_words standing) line.old }
+    ensures length { length line.new ≤ 100 + length line.old }
+{
+    match standing {
+        Standing::Awaited { job, due } => put_job_at(line, job, b" arrives ", due),
+        Standing::Outside { job, target } => put_outside(line, job, target),
+        Standing::Worked {
+            job,
+            machine,
+            since,
+            due,
+        } => put_worked(line, job, machine, since, due),
+        Standing::Done {
+            job,
+            machine,
+            target,
+        } => put_done(line, job, machine, target),
+        Standing::Gone { job, at } => put_job_at(line, job, b" has left at ", at),
+        Standing::Cleaned {
+            machine,
+            after,
+            since,
+            due,
+        } => put_cleaned(line, machine, after, since, due),
+        Standing::Clean { machine } => put_clean(line, machine),
+    }
+}
+
+/// Something is so at the time: `unfinished WORDS`.
+pub fn unfinished_standing_line(standing: Standing) -> DetailText
+    ensures { result ≡ unfinished_standing_line standing }
+{
+    let mut line = DetailText::ended();
+    put_standing(&mut line, standing);
+    line.put_text(b"unfinished ");
+    line
+}
+
+/// Writes the words of a detail, if it has any, and a space before them.
+fn put_detail(line: &mut DetailText, detail: Detail)
+    requires { line.old ≡ 10 ∷ [] }
+    ensures written { line.new ≡ detail_end detail }
+    ensures length { length line.new ≤ 102 }
+{
+    match detail {
+        Detail::Nothing => {}
+        Detail::Last(at) => {
+            line.put_number(at);
+            line.put_text(b" last ");
+        }
+        Detail::Stands(standing) => {
+            put_standing(line, standing);
+            line.put_text(b" ");
+        }
+    }
+}
+
+/// The line of this number was refused: `refused LINE NAME WORDS`.
+pub fn refused_detail_line(number: u64, name: &[u8], detail: Detail) -> DetailText
+    requires { length name.now ≤ 20 }
+    ensures { result ≡ refused_detail_line number name.now detail }
+{
+    let mut line = DetailText::ended();
+    put_detail(&mut line, detail);
+    line.put_text(name);
+    line.put_text(b" ");
+    line.put_number(number);
+    line.put_text(b"refused ");
+    line
+}
+
+/// Writes ` and K more` where there are others.
+fn put_others(line: &mut DetailText, others: u32)
+    requires { line.old ≡ 10 ∷ [] }
+    ensures written { line.new ≡ others_end others }
+    ensures length { length line.new ≤ 21 }
+{
+    if others > 0 {
+        line.put_text(b" more");
+        line.put_short_number(others);
+        line.put_text(b" and ");
+    }
+}
+
+/// A report was late, since something should have ended before it: `late T WORDS`.
+pub fn late_overdue_line(at: Moment, overdue: Overdue) -> DetailText
+    ensures { result ≡ late_overdue_line at overdue }
+{
+    let mut line = DetailText::ended();
+    put_others(&mut line, overdue.others);
+    put_standing(&mut line, overdue.first);
+    line.put_text(b" ");
+    line.put_number(at);
+    line.put_text(b"late ");
+    line
+}
