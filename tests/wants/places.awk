@@ -58,7 +58,7 @@ function add(text) {
 }
 
 # the words and signs of a line: comments are dropped, a string is one sign, of which it is kept what it says
-function take(s) {
+function take(s, word) {
   while (s != "") {
     if (comments > 0) {
       if (!match(s, /\/\*|\*\//)) return
@@ -85,8 +85,9 @@ function take(s) {
       add("text")
     } else if (match(s, /^b?"/)) {
       quote = "\""
+      word = s ~ /^b/ ? "bytes" : "text"
       s = substr(s, RLENGTH + 1)
-      add("text")
+      add(word)
     } else if (match(s, /^b?'([^'\\]|\\'|\\[^']+|[\200-\377]+)'/) || match(s, /^[A-Za-z_0-9\200-\377]+/) || match(s, /^(::|=>|->|==|!=|<=|>=|&&)/)) {
       add(substr(s, 1, RLENGTH))
       s = substr(s, RLENGTH + 1)
@@ -439,7 +440,7 @@ function look_at(i, word) {
   if (word == "AllocError") look_at_alloc_error(i)
   else if (word == "Memory") look_at_memory(i)
   else if (tolower(said[i]) ~ /out of memory/ && !may_tell()) tell(i, "the line of want of memory")
-  else if (said[i] ~ wide) tell(i, "a text that is filled up")
+  else if (said[i] ~ wide && token[i] != "bytes") tell(i, "a text that is filled up")
   else if (word == "OutOfMemory" && !in_pattern()) tell(i, "OutOfMemory as a value")
   else if (word ~ /^(AllocFailed|SpawnError|from_raw_os_error)$/) tell(i, "what an AllocError could be made of")
   else if (word == "Error" && token[i - 1] == "::" && token[i - 2] == "fmt") tell(i, "what an AllocError could be made of")

@@ -1,0 +1,12 @@
+use Rattle.std.proofs.Common.{refl}
+use Rattle.run_picture.proofs.box_parts.put_title.Goals as goal
+
+pub returns-clause-written : goal.returns-clause-written
+returns-clause-written c = rw (
+  c.put_name.ensures.written,
+  c.put_text-2.ensures.written,
+  c.put_number-2.ensures.written,
+  c.put_text.ensures.written,
+  c.put_number.ensures.written,
+  c.put_over.ensures.written,
+) refl

@@ -1,0 +1,15 @@
+use Rattle.std.proofs.Common.{refl}
+use Rattle.run_picture.specs.PictureText.{head_text}
+use Rattle.run_picture.proofs.frame_text.head_line.Goals as goal
+
+pub returns : goal.returns
+unfolding head_text
+returns c = rw (
+  c.put_text-3.ensures.written,
+  c.put_number-2.ensures.written,
+  c.put_text-2.ensures.written,
+  c.put_number.ensures.written,
+  c.put_text.ensures.written,
+  c.ended-line.ensures,
+  c.height_for-height.ensures,
+) refl

@@ -1,0 +1,39 @@
+use Rattle.std.proofs.lemmas.Result.{err_from_is_err_and}
+use Rattle.run_picture.proofs.Parts.{wrote_next, took_first, took_second}
+use Rattle.run_picture.proofs.picture.put_picture.Goals as goal
+
+pub returns-in_err-put_head-clause-wrote : goal.returns-in_err-put_head-clause-wrote
+returns-in_err-put_head-clause-wrote g c =
+    let p = err_from_is_err_and c.from_residual.result c.from_residual.ensures.1 in
+    rw p.1 (c.in_err-put_head.ensures.wrote.0, took_first _ _ _ _ c.in_err-put_head.ensures.wrote.1)
+
+pub returns-in_err-put_axis-clause-wrote : goal.returns-in_err-put_axis-clause-wrote
+returns-in_err-put_axis-clause-wrote g c =
+    let p = err_from_is_err_and c.from_residual-in_err-put_axis.result c.from_residual-in_err-put_axis.ensures.1 in
+    rw p.1 (c.in_err-put_axis.ensures.wrote.0, took_second _ _ _ _ _ c.in_ok-put_head.ensures.wrote (took_first _ _ _ _ c.in_err-put_axis.ensures.wrote.1))
+
+pub returns-in_err-put_rows-clause-wrote : goal.returns-in_err-put_rows-clause-wrote
+returns-in_err-put_rows-clause-wrote g c =
+    let p = err_from_is_err_and c.from_residual-in_err-put_rows.result c.from_residual-in_err-put_rows.ensures.1 in
+    rw p.1 (
+      c.in_err-put_rows.ensures.wrote.0,
+      took_second _ _ _ _ _ c.in_ok-put_head.ensures.wrote
+          (took_second _ _ _ _ _ c.in_ok-put_axis.ensures.wrote (took_first _ _ _ _ c.in_err-put_rows.ensures.wrote.1)),
+    )
+
+pub returns-in_err-put_visits-clause-wrote : goal.returns-in_err-put_visits-clause-wrote
+returns-in_err-put_visits-clause-wrote g c =
+    let p = err_from_is_err_and c.from_residual-in_err-put_visits.result c.from_residual-in_err-put_visits.ensures.1 in
+    rw p.1 (
+      c.in_err-put_visits.ensures.wrote.0,
+      took_second _ _ _ _ _ c.in_ok-put_head.ensures.wrote
+          (took_second _ _ _ _ _ c.in_ok-put_axis.ensures.wrote
+          (took_second _ _ _ _ _ c.in_ok-put_rows.ensures.wrote (took_first _ _ _ _ c.in_err-put_visits.ensures.wrote.1))),
+    )
+
+pub returns-clause-wrote : goal.returns-clause-wrote
+returns-clause-wrote g c =
+    wrote_next c.put_all.result _ _ _ _ _ _ c.in_ok-put_head.ensures.wrote
+    (wrote_next c.put_all.result _ _ _ _ _ _ c.in_ok-put_axis.ensures.wrote
+    (wrote_next c.put_all.result _ _ _ _ _ _ c.in_ok-put_rows.ensures.wrote
+    (wrote_next c.put_all.result _ _ _ _ _ _ c.in_ok-put_visits.ensures.wrote c.put_all.ensures.wrote)))

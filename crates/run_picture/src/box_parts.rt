@@ -1,0 +1,175 @@
+//! The parts of a box's text, each written before what there is.
+
+ghost use Rattle.std.specs.Prelude.{◌≡◌, ◌+◌, ◌≤◌, length};
+ghost use Rattle.run_picture.specs.BoxText.{class_onto, path_onto, edge_onto, numbers_onto, kind_onto, title_onto, name_onto, over_onto, label_onto};
+ghost use Rattle.run_picture.specs.declared.box_parts.TheConstants.{BOX_ROOM};
+
+use crate::drawn_box::{BoxKind, DrawnBox};
+use shop_base::{JobNo, MachineNo};
+use text_lines::LineText;
+
+/// The room of a box's text, in bytes.
+pub(crate) const BOX_ROOM: usize = 800;
+
+/// The text of a box. All are shorter than its room.
+pub(crate) type BoxLine = LineText<BOX_ROOM>;
+
+/// Where a box lies, in tenths of a pixel.
+#[derive(Clone, Copy)]
+pub(crate) struct Edges {
+    pub left: u64,
+    pub right: u64,
+    pub top: u64,
+    pub bottom: u64,
+    /// Where a word in it stands.
+    pub foot: u64,
+}
+
+/// Writes the class of a box: its kind, and the number of its job's colour.
+pub(crate) fn put_class(line: &mut BoxLine, kind: BoxKind, job: JobNo)
+    requires { length line.old ≤ 700 }
+    ensures written { line.new ≡ class_onto kind job line.old }
+    ensures length { length line.new ≤ 20 + length line.old }
+{
+    match kind {
+        BoxKind::Work => {
+            line.put_short_number(job % 12);
+            line.put_text(b"work c");
+        }
+        BoxKind::Wait => {
+            line.put_short_number(job % 12);
+            line.put_text(b"wait c");
+        }
+        BoxKind::Clean => line.put_text(b"clean"),
+    }
+}
+
+/// Writes the path along the edges of a box. That on the right is left out where what it shows isn't over.
+pub(crate) fn put_path(line: &mut BoxLine, edges: Edges, over: bool)
+    requires { length line.old ≤ 600 }
+    ensures written { line.new ≡ path_onto edges over line.old }
+    ensures length { length line.new ≤ 110 + length line.old }
+{
+    put_edge(line, over);
+    line.put_number(edges.right);
+    line.put_text(b"H");
+    line.put_number(edges.bottom);
+    line.put_text(b"V");
+    line.put_number(edges.left);
+    line.put_text(b"H");
+    line.put_number(edges.top);
+    line.put_text(b" ");
+    line.put_number(edges.right);
+    line.put_text(b"M");
+}
+
+fn put_edge(line: &mut BoxLine, over: bool)
+    requires { length line.old ≤ 700 }
+    ensures written { line.new ≡ edge_onto over line.old }
+    ensures length { length line.new ≤ 1 + length line.old }
+{
+    if over {
+        line.put_text(b"Z");
+    }
+}
+
+/// Writes the numbers of a box, and its kind.
+pub(crate) fn put_numbers(line: &mut BoxLine, drawn: DrawnBox)
+    requires { length line.old ≤ 450 }
+    ensures written { line.new ≡ numbers_onto drawn line.old }
+    ensures length { length line.new ≤ 140 + length line.old }
+{
+    line.put_text(b"\"");
+    put_kind(line, drawn.kind);
+    line.put_text(b"\" data-kind=\"");
+    line.put_number(drawn.to);
+    line.put_text(b"\" data-to=\"");
+    line.put_number(drawn.from);
+    line.put_text(b"\" data-from=\"");
+    line.put_short_number(drawn.machine);
+    line.put_text(b"\" data-machine=\"");
+    line.put_short_number(drawn.job);
+    line.put_text(b" data-job=\"");
+}
+
+fn put_kind(line: &mut BoxLine, kind: BoxKind)
+    requires { length line.old ≤ 700 }
+    ensures written { line.new ≡ kind_onto kind line.old }
+    ensures length { length line.new ≤ 5 + length line.old }
+{
+    match kind {
+        BoxKind::Work => line.put_text(b"work"),
+        BoxKind::Wait => line.put_text(b"wait"),
+        BoxKind::Clean => line.put_text(b"clean"),
+    }
+}
+
+/// Writes what a box shows, in words.
+pub(crate) fn put_title(line: &mut BoxLine, drawn: DrawnBox)
+    requires { length line.old ≤ 300 }
+    ensures written { line.new ≡ title_onto drawn line.old }
+    ensures length { length line.new ≤ 110 + length line.old }
+{
+    put_over(line, drawn.over);
+    line.put_number(drawn.to);
+    line.put_text(b" to ");
+    line.put_number(drawn.from);
+    line.put_text(b" from ");
+    put_name(line, drawn.kind, drawn.job, drawn.machine);
+}
+
+fn put_over(line: &mut BoxLine, over: bool)
+    requires { length line.old ≤ 700 }
+    ensures written { line.new ≡ over_onto over line.old }
+    ensures length { length line.new ≤ 10 + length line.old }
+{
+    if !over {
+        line.put_text(b", not over");
+    }
+}
+
+fn put_name(line: &mut BoxLine, kind: BoxKind, job: JobNo, machine: MachineNo)
+    requires { length line.old ≤ 700 }
+    ensures written { line.new ≡ name_onto kind job machine line.old }
+    ensures length { length line.new ≤ 50 + length line.old }
+{
+    match kind {
+        BoxKind::Work => {
+            line.put_short_number(machine);
+            line.put_text(b" on machine ");
+            line.put_short_number(job);
+            line.put_text(b"job ");
+        }
+        BoxKind::Wait => {
+            line.put_short_number(machine);
+            line.put_text(b" waits on machine ");
+            line.put_short_number(job);
+            line.put_text(b"job ");
+        }
+        BoxKind::Clean => {
+            line.put_short_number(job);
+            line.put_text(b" cleaned after job ");
+            line.put_short_number(machine);
+            line.put_text(b"machine ");
+        }
+    }
+}
+
+/// Writes the job's number in the middle of a box.
+pub(crate) fn put_label(line: &mut BoxLine, job: JobNo, edges: Edges)
+    requires left { edges.left ≤ 11_500 }
+    requires right { edges.right ≤ 11_500 }
+    requires line { length line.old ≤ 100 }
+    ensures written { line.new ≡ label_onto job edges line.old }
+    ensures length { length line.new ≤ 110 + length line.old }
+{
+    line.put_text(b"</text>");
+    line.put_short_number(job);
+    line.put_text(b"\">");
+    line.put_number(edges.foot);
+    line.put_text(b"\" y=\"");
+    line.put_number((edges.left + edges.right) / 2);
+    line.put_text(b"\" x=\"");
+    line.put_short_number(job % 12);
+    line.put_text(b"<text class=\"t");
+}

@@ -1,0 +1,53 @@
+//! The places of the rows and of the frame, in tenths of a pixel.
+
+ghost use Rattle.std.specs.Prelude.{◌≡◌};
+ghost use Rattle.run_picture.specs.Frame.{top_of, bottom_of, foot_of, rows_end, height_for};
+
+use shop_base::MachineNo;
+
+/// Where the axis of time begins.
+pub(crate) const LEFT: u64 = 700;
+
+/// How long the axis of time is.
+pub(crate) const WIDTH: u64 = 10_800;
+
+/// Where the rows begin.
+const ROWS: u64 = 400;
+
+/// How high a row is.
+const ROW: u64 = 240;
+
+/// The upper edge of the boxes of a machine.
+pub(crate) fn top_of(machine: MachineNo) -> u64
+    ensures { result ≡ top_of machine }
+{
+    ROWS + ROW * u64::from(machine) + 20
+}
+
+/// Their lower edge.
+pub(crate) fn bottom_of(machine: MachineNo) -> u64
+    ensures { result ≡ bottom_of machine }
+{
+    ROWS + ROW * u64::from(machine) + 220
+}
+
+/// Where the words in the boxes of a machine stand.
+pub(crate) fn foot_of(machine: MachineNo) -> u64
+    ensures { result ≡ foot_of machine }
+{
+    ROWS + ROW * u64::from(machine) + 160
+}
+
+/// Where the rows of so many machines end.
+pub(crate) fn rows_end(machines: u32) -> u64
+    ensures { result ≡ rows_end machines }
+{
+    ROWS + ROW * u64::from(machines)
+}
+
+/// How high the picture is.
+pub(crate) fn height_for(machines: u32) -> u64
+    ensures { result ≡ height_for machines }
+{
+    rows_end(machines) + 100
+}
