@@ -6,6 +6,7 @@ use Rattle.shop_base.specs.Cell.{Cell, ready, cleaning, IsOutside, IsOn, IsGone}
 use Rattle.shop_base.specs.Activity.{Activity, Arrival, Operation, Cleaning}
 use Rattle.shop_base.specs.Report as base
 use Rattle.shop_base.specs.Report.{IsNextMoment}
+use Rattle.cell_tables.specs.Readings.{IsCleanedAfter}
 use Rattle.cell_control.specs.declared.report_fault.ReportFault.{ReportFault}
 use Rattle.cell_control.specs.declared.report_fault.ReportFault.TheVariants.{JobOutOfRange, MachineOutOfRange, MomentTooLarge, Backwards, NotExpected, WrongKind, WrongMachine}
 
@@ -68,6 +69,28 @@ IsFirstReason p c r (WrongMachine actual) = IsInTurn p c r × IsElsewhere p c r.
 -- no fault but this one is a first reason against the report, its fields included
 abbrev pub IsOnlyReason : PlannedShop → Cell → base.Report → ReportFault → Type 0
 IsOnlyReason p c r fault = (other : ReportFault) → IsFirstReason p c r other → other ≡ fault
+
+-- the report that machine m was cleaned after job j, at moment t, is possible
+pub record CanCleanAfter (p : PlannedShop) (c : Cell) (m j t : ℕ) : Type 0 where
+  pub after : IsCleanedAfter p c m j
+  pub moment : IsNextMoment c t
+
+-- the machine and the job are of the shop
+abbrev pub AreOfShop : PlannedShop → ℕ → ℕ → Type 0
+AreOfShop p m j = (m < machines p) × (j < jobs p)
+
+-- this is the first reason for which it isn't
+abbrev pub IsFirstCleanReason : PlannedShop → Cell → ℕ → ℕ → ℕ → ReportFault → Type 0
+IsFirstCleanReason p c m j t MachineOutOfRange = machines p ≤ m
+IsFirstCleanReason p c m j t JobOutOfRange = (m < machines p) × (jobs p ≤ j)
+IsFirstCleanReason p c m j t MomentTooLarge = AreOfShop p m j × (MAX_MOMENT < t)
+IsFirstCleanReason p c m j t (Backwards last) = AreOfShop p m j × (t ≤ MAX_MOMENT) × (t < c.last) × (last ≡ c.last)
+IsFirstCleanReason p c m j t NotExpected = AreOfShop p m j × IsNextMoment c t × (IsCleanedAfter p c m j → ⊥)
+IsFirstCleanReason p c m j t _ = ⊥
+
+-- no fault but this one is a first reason against it, its field included
+abbrev pub IsOnlyCleanReason : PlannedShop → Cell → ℕ → ℕ → ℕ → ReportFault → Type 0
+IsOnlyCleanReason p c m j t fault = (other : ReportFault) → IsFirstCleanReason p c m j t other → other ≡ fault
 
 -- this is the first reason against the moment of a report
 abbrev pub IsMomentReason : Cell → ℕ → ReportFault → Type 0

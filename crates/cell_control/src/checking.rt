@@ -3,7 +3,7 @@
 ghost use Rattle.std.specs.Prelude.{OnOk, IfErr};
 ghost use Rattle.shop_base.specs.Report.{CanReport, IsNextMoment};
 ghost use Rattle.cell_tables.specs.Reports.{said};
-ghost use Rattle.cell_control.specs.Reports.{IsFirstReason, IsMomentReason, IsJobReason, IsBusyInTurn};
+ghost use Rattle.cell_control.specs.Reports.{IsFirstReason, IsFirstCleanReason, CanCleanAfter, IsMomentReason, IsJobReason, IsBusyInTurn};
 
 use crate::report_fault::ReportFault;
 use cell_tables::{Report, WorkCell};
@@ -70,6 +70,29 @@ fn check_cleaning<P: Planned>(
     match cell.cleaned_since(machine) {
         Some(_) => Ok(()),
         None => Err(ReportFault::NotExpected),
+    }
+}
+
+/// Checks that the report of a cleaning after this job is possible.
+pub(crate) fn check_cleaning_after<P: Planned>(
+    cell: &WorkCell<P>,
+    machine: MachineNo,
+    job: JobNo,
+    at: Moment,
+) -> Result<(), ReportFault>
+    ensures possible { OnOk result (CanCleanAfter cell.now.plan cell.now.cell machine job at) }
+    ensures first { IfErr result (IsFirstCleanReason cell.now.plan cell.now.cell machine job at) }
+{
+    if machine >= cell.machine_count() {
+        return Err(ReportFault::MachineOutOfRange);
+    }
+    if job >= cell.job_count() {
+        return Err(ReportFault::JobOutOfRange);
+    }
+    check_moment(cell, at)?;
+    match cell.cleaned_after(machine) {
+        Some(after) if after == job => Ok(()),
+        _ => Err(ReportFault::NotExpected),
     }
 }
 

@@ -1,15 +1,16 @@
-ghost use Rattle.std.specs.Prelude.{◌≡◌, List, ◌+◌, ◌↔◌, IfOk, IfErr, IsOk, IsTrue};
+ghost use Rattle.std.specs.Prelude.{◌≡◌, List, ◌+◌, ◌↔◌, IfOk, IfErr, OnOk, IsOk, IsTrue};
 ghost use Rattle.shop_base.specs.Report.{CanReport};
 ghost use Rattle.shop_base.specs.Run.{Event};
 ghost use Rattle.shop_base.specs.Ends.{stated_number, HasEnded};
 ghost use Rattle.shop_base.specs.ReportsLeft.{reports_left};
 ghost use Rattle.cell_control.specs.Control.{Control, at_start, IsAnswered, IfEndsNow, IsControl};
-ghost use Rattle.cell_control.specs.Reports.{IsFirstReason, IsOnlyReason};
+ghost use Rattle.cell_control.specs.Reports.{IsFirstReason, IsOnlyReason, CanCleanAfter, IsFirstCleanReason, IsOnlyCleanReason};
 ghost use Rattle.cell_tables.specs.Reports.{said};
 ghost use Rattle.cell_control.specs.Promises.{IsCalled};
+ghost use Rattle.cell_tables.specs.Readings.{IsCleanedFor};
 ghost use Rattle.cell_control.specs.Readings.{IsPhaseOf, IsJobOn, IsDueOf, IsDueOfCleaning};
 
-use crate::checking::check_report;
+use crate::checking::{check_cleaning_after, check_report};
 use crate::due_moments::cleaning_key;
 use crate::dues::Dues;
 use crate::readings::phase_of;
@@ -90,12 +91,62 @@ impl<D: Dues> Controller<D> {
         Ok(ack)
     }
 
+    /// Whether a report is possible, or the first reason for which it isn't. Nothing changes.
+    pub fn check(&self, report: Report) -> Result<(), ReportFault>
+        ensures possible { OnOk result (CanReport self.now.plan.planned self.now.cell (said report)) }
+        ensures first_reason { IfErr result (IsFirstReason self.now.plan.planned self.now.cell (said report)) }
+    {
+        let cell = &self.cell;
+        check_report(cell, report)
+    }
+
+    /// Whether the report of a cleaning after this job is possible, or the first reason for which it isn't. Nothing changes.
+    pub fn check_clean_after(
+        &self,
+        machine: MachineNo,
+        job: JobNo,
+        at: Moment,
+    ) -> Result<(), ReportFault>
+        ensures possible { OnOk result (CanCleanAfter self.now.plan.planned self.now.cell machine job at) }
+        ensures first_reason { IfErr result (IsFirstCleanReason self.now.plan.planned self.now.cell machine job at) }
+    {
+        check_cleaning_after(&self.cell, machine, job, at)
+    }
+
+    /// Takes the report that the machine has been cleaned after this job, as [`Controller::report`] takes that of a
+    /// cleaning. It isn't expected where the machine isn't being cleaned after just that job. So none is accepted twice in
+    /// a run, at whatever moments.
+    pub fn clean_after(
+        &mut self,
+        machine: MachineNo,
+        job: JobNo,
+        at: Moment,
+    ) -> Result<Ack, ReportFault>
+        ensures possible { IsOk result ↔ CanCleanAfter self.old.plan.planned self.old.cell machine job at }
+        ensures answered { IfOk result (λ ack. IsAnswered self.old (said (Report.Clean machine at)) ack self.new) }
+        ensures first_reason { IfErr result (IsFirstCleanReason self.old.plan.planned self.old.cell machine job at) }
+        ensures only_reason { IfErr result (IsOnlyCleanReason self.old.plan.planned self.old.cell machine job at) }
+        ensures unchanged { IfErr result (λ fault. self.new ≡ self.old) }
+    {
+        let _plan = self.verified();
+        self.check_clean_after(machine, job, at)?;
+        self.report(Report::Clean { machine, at })
+    }
+
     /// The moves that the last accepted report has released, in the order in which they are made; none
     /// before the first report.
     pub fn orders(&self) -> &[MoveOrder]
         ensures { result.now ≡ self.now.orders }
     {
         self.orders.as_slice()
+    }
+
+    /// The cell, for its own readers.
+    pub fn work_cell(&self) -> &WorkCell<Verified>
+        ensures plan { result.now.plan ≡ self.now.plan.planned }
+        ensures cell { result.now.cell ≡ self.now.cell }
+    {
+        &self.cell
     }
 
     /// Where the job is; none for a number that is no job's.
@@ -137,6 +188,17 @@ impl<D: Dues> Controller<D> {
     {
         if machine < self.cell.machine_count() {
             self.dues.get(cleaning_key(&self.cell, machine))
+        } else {
+            None
+        }
+    }
+
+    /// The job after which the machine is being cleaned, the last that was on it; none where it isn't being cleaned.
+    pub fn cleaned_after(&self, machine: MachineNo) -> Option<JobNo>
+        ensures { IsCleanedFor self.now.plan.planned self.now.cell machine result }
+    {
+        if machine < self.cell.machine_count() {
+            self.cell.cleaned_after(machine)
         } else {
             None
         }

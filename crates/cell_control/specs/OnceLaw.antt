@@ -1,0 +1,25 @@
+-- The law that an end that names its job is accepted once.
+use Rattle.std.specs.Prelude.{◌≡◌, ℕ, List, ◌∷◌, ◌++◌}
+use Rattle.shop_base.specs.Plan.{PlannedShop, IsWellShaped}
+use Rattle.shop_base.specs.Cell.{Cell}
+use Rattle.shop_base.specs.Activity.{Arrival, Operation, Cleaning}
+use Rattle.shop_base.specs.Report.{Report, CanReport}
+use Rattle.shop_base.specs.Run.{Event, Reported, IsRun, ends_in}
+use Rattle.cell_tables.specs.Readings.{IsCleanedAfter}
+
+-- an end that names its job: of its arrival, of its operation on a machine, or of the cleaning of a machine after it
+pub data NamedEnd : Type 0 where
+  Arrived : (job : ℕ) → NamedEnd
+  Finished : (job machine : ℕ) → NamedEnd
+  Cleaned : (machine job : ℕ) → NamedEnd
+
+-- in this cell the report tells that end
+abbrev pub Tells : PlannedShop → Cell → Report → NamedEnd → Type 0
+Tells p c r (Arrived j) = r.ended ≡ Arrival j
+Tells p c r (Finished j m) = r.ended ≡ Operation j m
+Tells p c r (Cleaned m j) = (r.ended ≡ Cleaning m) × IsCleanedAfter p c m j
+
+-- in any run, once an end that names its job was reported, no report that tells it is possible again, at whatever moment
+abbrev pub NoNamedEndIsAcceptedTwice : Type 0
+NoNamedEndIsAcceptedTwice = (p : PlannedShop) (es fs : List Event) (r again : Report) (end : NamedEnd) → IsWellShaped p → IsRun p (es ++ Reported r ∷ fs)
+    → Tells p (ends_in p es) r end → Tells p (ends_in p (es ++ Reported r ∷ fs)) again end → CanReport p (ends_in p (es ++ Reported r ∷ fs)) again → ⊥
