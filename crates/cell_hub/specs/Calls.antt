@@ -7,7 +7,7 @@ use Rattle.cell_tables.specs.declared.report.Report.{Report}
 use Rattle.cell_control.specs.declared.report.Ack.{Ack}
 use Rattle.cell_control.specs.Control.{Control, at_start, IsAnswered}
 use Rattle.cell_tables.specs.Reports.{said}
-use Rattle.cell_control.specs.Reports.{IsFirstReason}
+use Rattle.cell_control.specs.Reports.{IsFirstReason, IsFirstCleanReason}
 use Rattle.cell_hub.specs.declared.ticket.Ticket.{Ticket}
 use Rattle.cell_hub.specs.declared.hub_fault.HubFault.{HubFault}
 use Rattle.cell_hub.specs.declared.hub_fault.HubFault.TheVariants.{NoSuchCell, SerialsSpent, Memory, Cell}
@@ -51,6 +51,13 @@ IsNotReported h t r (Cell reason) = (c : Control) × (cell_at h t ≡ Some c) ×
 -- no fault but this one is a reason why the report isn't taken, the fields of a first reason included
 abbrev pub IsOnlyRefusal : HubState → Ticket → Report → HubFault → Type 0
 IsOnlyRefusal h t r fault = (other : HubFault) → IsNotReported h t r other → other ≡ fault
+
+-- why the report that machine m was cleaned after job j isn't taken: the ticket has no cell, or its controller refuses it by the first reason
+abbrev pub IsNotCleaned : HubState → Ticket → ℕ → ℕ → ℕ → HubFault → Type 0
+IsNotCleaned h t m j at NoSuchCell = cell_at h t ≡ None
+IsNotCleaned h t m j at SerialsSpent = ⊥
+IsNotCleaned h t m j at Memory = ⊥
+IsNotCleaned h t m j at (Cell reason) = (c : Control) × (cell_at h t ≡ Some c) × IsFirstCleanReason c.plan.planned c.cell m j at reason
 
 -- what the report says to have ended goes on in the cell, and the report's moment is the last one
 pub record EndsNow (c : Control) (r : Report) : Type 0 where

@@ -1,14 +1,16 @@
 ghost use Rattle.std.specs.Prelude.{◌≡◌, ◌↔◌, None, option_copied, IfOk, IfErr, IfSome, IsOk, OnErr};
 ghost use Rattle.shop_base.specs.Report.{CanReport};
 ghost use Rattle.cell_tables.specs.Reports.{said};
+ghost use Rattle.cell_control.specs.Reports.{CanCleanAfter};
 ghost use Rattle.cell_hub.specs.Hub.{hub_from, cell_at, AreSerialsBelow};
-ghost use Rattle.cell_hub.specs.Calls.{IsAdmitted, IsNotAdmitted, IsReported, IsNotReported, IsOnlyRefusal, EndsNow, IsDismissed, IsCall, Admitted, Reported, Shown, Dismissed};
+ghost use Rattle.cell_hub.specs.Calls.{IsAdmitted, IsNotAdmitted, IsReported, IsNotReported, IsNotCleaned, IsOnlyRefusal, EndsNow, IsDismissed, IsCall, Admitted, Reported, Shown, Dismissed};
 
 use crate::hub_fault::HubFault;
 use crate::slots::{Placed, cell_in, report_in, reserve_slot, take_from};
 use crate::ticket::Ticket;
 use cell_control::{Ack, Controller, Dues, Report};
 use plan_verifier::Verified;
+use shop_base::{JobNo, MachineNo, Moment};
 use slab::Slab;
 use std::alloc::Global;
 use std::marker::Model;
@@ -97,6 +99,31 @@ impl<D: Dues> Hub<D> {
         ensures called { IsCall self.old (Reported ticket report result) self.new }
     {
         report_in(&mut self.cells, ticket, report)
+    }
+
+    /// Takes the report on the ticket's cell that the machine has been cleaned after this job, which answers it as a controller
+    /// alone does. Where it is accepted it is as a report of that cleaning.
+    pub fn clean_after(
+        &mut self,
+        ticket: Ticket,
+        machine: MachineNo,
+        job: JobNo,
+        at: Moment,
+    ) -> Result<Ack, HubFault>
+        ensures reported { IfOk result (λ ack. IsReported self.old ticket (Report.Clean machine at) ack self.new) }
+        ensures possible { IfSome (cell_at self.old ticket) (λ c. IsOk result ↔ CanCleanAfter c.plan.planned c.cell machine job at) }
+        ensures refused { IfErr result (IsNotCleaned self.old ticket machine job at) }
+        ensures unchanged { OnErr result (self.new ≡ self.old) }
+        ensures no_such_cell { (result ≡ Err HubFault.NoSuchCell) ↔ (cell_at self.old ticket ≡ None) }
+    {
+        let Some(cell) = self.cell(ticket) else {
+            return Err(HubFault::NoSuchCell);
+        };
+        let _plan = cell.verified();
+        if let Err(reason) = cell.check_clean_after(machine, job, at) {
+            return Err(HubFault::Cell(reason));
+        }
+        self.report(ticket, Report::Clean { machine, at })
     }
 
     /// The ticket's cell, if it has one.

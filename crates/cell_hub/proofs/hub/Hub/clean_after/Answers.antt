@@ -1,0 +1,23 @@
+use Rattle.std.proofs.Common.{sym}
+use Rattle.cell_control.proofs.CleanReasons.{clean_reason-cannot}
+use Rattle.cell_hub.specs.Hub.{cell_at}
+use Rattle.cell_hub.specs.Calls.{IsNotCleaned}
+use Rattle.cell_hub.proofs.Cleaned.{not_cleaned, cleaned, never_refused}
+use Rattle.cell_hub.proofs.hub.Hub.clean_after.Goals as goal
+
+pub returns-in-Err-clause-possible : goal.returns-in-Err-clause-possible
+returns-in-Err-clause-possible g c =
+    let v = c.in-Some.cell.now in
+    let control = c.verified-plan.ensures.control in
+    not_cleaned (cell_at c.args.self.now c.args.ticket) v (sym c.in-Some.ensures.cell) c.args.machine c.args.job c.args.at
+    (clean_reason-cannot v.plan.planned v.cell c.args.machine c.args.job c.args.at control.verified.schedule.shaped control.sound c.in-Err.reason c.in-Err.ensures.first_reason)
+
+pub returns-clause-possible : goal.returns-clause-possible
+returns-clause-possible g c =
+    cleaned (cell_at c.args.self.now c.args.ticket) c.in-Some.cell.now (sym c.in-Some.ensures.cell) c.args.machine c.args.job c.args.at c.report.result
+    c.in_default-check_clean_after.ensures.possible c.report.ensures.possible
+
+pub returns-clause-refused : goal.returns-clause-refused
+returns-clause-refused g c =
+    never_refused (cell_at c.args.self.now c.args.ticket) c.in-Some.cell.now (sym c.in-Some.ensures.cell) c.args.machine c.args.job c.args.at c.report.result
+    c.in_default-check_clean_after.ensures.possible c.report.ensures.possible (IsNotCleaned c.args.self.now c.args.ticket c.args.machine c.args.job c.args.at)
