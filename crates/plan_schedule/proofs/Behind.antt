@@ -14,7 +14,7 @@ abbrev pub AreLinesBy : PlanCalendar → List ℕ → Type 0
 AreLinesBy c = AreScheduleLines c.plan (earliest_of c.times) (due_at c)
 
 -- earliest moments are greatest lengths
-are_earliest : (p : PlannedShop) (t : NodeTimes) → AreOrdered p t → AreEarliest p (earliest_of t)
+pub are_earliest : (p : PlannedShop) (t : NodeTimes) → AreOrdered p t → AreEarliest p (earliest_of t)
 are_earliest p t ordered v is = record { reached = ordered.lengths.reached v is; longest = λ nodes k path. ordered.lengths.greatest nodes v k path }
 
 pub in_time : (p : PlannedShop) (t : NodeTimes) (d : NodeMoments) (c : PlanCalendar) → IsCalendarOf p t (Some d) c → AreOrdered p t → AreDeadlines p (start p) (moment_of d)

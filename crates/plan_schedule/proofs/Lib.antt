@@ -1,4 +1,5 @@
 pub mod Moments
 pub mod Texts
 pub mod Behind
+pub mod Drawing
 pub mod ExactRun

@@ -2,6 +2,7 @@
 pub mod Lines
 pub mod Schedules
 pub mod Scheduled
+pub mod DrawnVisits
 pub mod AsTold
 pub mod ScheduleLaw
 -- Of proofs and private contracts alone.

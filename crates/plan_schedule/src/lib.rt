@@ -5,7 +5,9 @@
 mod calendar;
 pub mod laws;
 mod lines;
+mod picture_visits;
 mod schedules;
 mod scheduling;
 
+pub use picture_visits::drawn_visits;
 pub use schedules::schedule;

@@ -1,0 +1,12 @@
+use Rattle.std.proofs.Common.{None}
+use Rattle.plan_schedule.specs.Calendars.{IsCalendarOf}
+use Rattle.plan_schedule.proofs.Behind.{are_earliest}
+use Rattle.plan_schedule.proofs.Drawing.{drawn_by}
+use Rattle.plan_schedule.proofs.picture_visits.drawn_visits.Goals as goal
+
+pub returns : goal.returns
+returns c =
+    let v = c.args.verified.now in
+    let calendar = c.in_ok-calendar.calendar in
+    let is : IsCalendarOf v.planned v.times None calendar = rw (c.shaped.ensures.same, c.times.ensures.same) at c.in_ok-calendar.ensures in
+    drawn_by (λ visits. visits.items) v.planned v.times calendar is (are_earliest v.planned v.times c.times.ensures.ordered) c.calendar_visits.result c.calendar_visits.ensures
