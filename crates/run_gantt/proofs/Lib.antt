@@ -4,3 +4,4 @@ pub mod Linked
 pub mod Bars
 pub mod Lines
 pub mod Showing
+pub mod FirstEntries
