@@ -1,0 +1,33 @@
+-- What a crash leaves, seen from other bytes.
+use Rattle.std.proofs.Common.{◌≡◌, ℕ, ◌≤◌, List, [], ◌++◌, length, take, Option, None, Some, IfSome, Result, Ok, Err, OnOk, refl, sym, ap, ◌∙◌, arith, append-nil}
+use Rattle.std.proofs.lemmas.List.{take_at}
+use Rattle.run_journal.specs.LogFiles.{zeros, Leaves}
+
+-- a crash that leaves just a file leaves the front of more
+pub settled_leaves : (may_leave : List ℕ → Type 0) (file more : List ℕ) → ((left : List ℕ) → may_leave left → left ≡ file) → Leaves may_leave (length file) (file ++ more)
+settled_leaves may_leave file more settled left leaves = record {
+  count = length file;
+  at_least = omega arith;
+  unwritten = 0;
+  is = settled left leaves ∙ sym (take_at file more (length file) refl) ∙ sym (append-nil (take (length file) (file ++ more)));
+}
+
+-- the same bytes, with fewer of them for certain
+pub fewer_leave : (may_leave : List ℕ → Type 0) (least fewer : ℕ) (most same : List ℕ) → fewer ≤ least → same ≡ most → Leaves may_leave least most → Leaves may_leave fewer same
+fewer_leave may_leave least fewer most same le is leaves left leave =
+    let front = leaves left leave in
+    record { count = front.count; at_least = omega (arith, le, front.at_least); unwritten = front.unwritten; is = front.is ∙ ap (λ l. take front.count l ++ zeros front.unwritten) (sym is) }
+
+-- what holds, holds on success
+pub on_ok-any : {X E P : Type 0} (r : Result X E) → P → OnOk r P
+on_ok-any (Ok x) p = p
+on_ok-any (Err e) p = tt
+
+-- from what is told of a value to something else
+pub if_some-map : {X : Type 0} {P Q : X → Type 0} (o : Option X) → ((x : X) → P x → Q x) → IfSome o P → IfSome o Q
+if_some-map None f none = none
+if_some-map (Some x) f p = f x p
+
+pub if_some-both : {X : Type 0} {P Q R : X → Type 0} (o : Option X) → ((x : X) → P x → Q x → R x) → IfSome o P → IfSome o Q → IfSome o R
+if_some-both None f p q = p
+if_some-both (Some x) f p q = f x p q

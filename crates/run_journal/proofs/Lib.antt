@@ -1,0 +1,8 @@
+mod Starts
+mod Selected
+mod Whole
+mod Fronts
+mod Steps
+mod CrashLines
+mod LeftEvents
+mod TornEnds

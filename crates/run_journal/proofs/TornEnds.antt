@@ -1,0 +1,193 @@
+-- What is left of a line that wasn't whole on the disk.
+use Rattle.std.proofs.Common.{◌≡◌, ◌≢◌, ℕ, zero, suc, ◌+◌, ◌^◌, ◌≤◌, ◌<◌, ◌==◌, ◌&&◌, ◌||◌, if◌then◌else◌, Bool, true, false, List, [], ◌∷◌, ◌++◌, length, take, drop, get_or, codes, decimal, inl, inr, refl, sym, ap, ◌∙◌, subst, arith, append_assoc, append-nil, length-append, take-append-drop}
+use Rattle.std.specs.List.{list_all}
+use Rattle.std.proofs.lemmas.Bool.{cases_Bool, ne_eqb}
+use Rattle.std.proofs.lemmas.Fmt.{decimal_nonempty}
+use Rattle.std.proofs.lemmas.List.{take-append-le, take_more}
+use Rattle.shop_base.specs.declared.move_order.Spot.{Spot}
+use Rattle.shop_base.specs.declared.move_order.Spot.TheVariants.{Out, At}
+use Rattle.text_lines.specs.Numbers.{is_digit}
+use Rattle.text_lines.proofs.WrittenNumbers.{decimal_digits}
+use Rattle.cell_tables.specs.declared.report.Report.{Report}
+use Rattle.cell_tables.specs.declared.report.Report.TheVariants.{Arrive, Finish, Clean}
+use Rattle.cell_tables.specs.declared.entry.Entry.{Entry}
+use Rattle.cell_tables.specs.declared.entry.Entry.TheVariants.{Report as ReportEntry, Order as OrderEntry}
+use Rattle.event_lines.specs.Words.{Word, written, words_before, line_of}
+use Rattle.event_lines.specs.EventLines.{spot_word, told_words, order_words, entry_words, entry_line}
+use Rattle.event_lines.specs.AnswerLines.{late_words, late_line}
+use Rattle.event_lines.specs.ReadBack.{IsFitting, AreFitting}
+use Rattle.event_lines.proofs.WrittenWords.{before-append}
+use Rattle.run_journal.specs.LogFiles.{zeros}
+use Rattle.run_journal.proofs.Starts.{any-kept}
+use Rattle.run_journal.specs.TornEnds.{stands_for, goes_on, begins, begins_report, begins_order, begins_late, without_zeros, is_torn, UnwrittenLinesAreTorn}
+
+-- ---- the first bytes of bytes
+
+no_zeros : (n : ℕ) → without_zeros (zeros n) ≡ []
+no_zeros zero = refl
+no_zeros (suc n) = rw (no_zeros n) refl
+
+unzeroed : (bytes : List ℕ) (n : ℕ) → (rest : List ℕ) × (without_zeros (bytes ++ zeros n) ++ rest ≡ bytes)
+unzeroed [] n = ([], rw (no_zeros n) refl)
+unzeroed (byte ∷ bytes) n =
+    let inner = unzeroed bytes n in
+    elim (cases_Bool (byte == 0 && length (without_zeros (bytes ++ zeros n)) == 0)) [
+      | inl none ↦ (byte ∷ bytes, rw none refl)
+      | inr some ↦ (inner.0, rw some (ap (λ l. byte ∷ l) inner.1))
+    ]
+
+some_kept : (x : ℕ) (l : List ℕ) → (length l == 0) ≡ false → (if x == 0 && length l == 0 then [] else x ∷ l) ≡ x ∷ l
+some_kept x l some = elim (cases_Bool (x == 0)) [
+  | inl is ↦ rw is (rw some refl)
+  | inr not ↦ rw not refl
+]
+
+one_zero : (xs : List ℕ) → without_zeros (xs ++ 0 ∷ []) ≡ without_zeros xs
+one_zero [] = refl
+one_zero (x ∷ xs) = ap (λ (l : List ℕ). if x == 0 && length l == 0 then [] else x ∷ l) (one_zero xs)
+
+pushed-some : (xs : List ℕ) (b : ℕ) → (length (xs ++ b ∷ []) == 0) ≡ false
+pushed-some xs b = ne_eqb (length (xs ++ b ∷ [])) 0 (λ is. omega (arith, is, length-append xs (b ∷ [])))
+
+no_zero : (xs : List ℕ) (b : ℕ) → (b == 0) ≡ false → without_zeros (xs ++ b ∷ []) ≡ xs ++ b ∷ []
+no_zero [] b other = rw other refl
+no_zero (x ∷ xs) b other = ap (λ (l : List ℕ). if x == 0 && length l == 0 then [] else x ∷ l) (no_zero xs b other) ∙ some_kept x (xs ++ b ∷ []) (pushed-some xs b)
+
+pub unzeroed-take_zero : (xs : List ℕ) (n : ℕ) → n < length xs → get_or xs n 0 ≡ 0 → without_zeros (take n xs) ≡ without_zeros (take (n + 1) xs)
+unzeroed-take_zero xs n within is = sym (ap without_zeros (take_more xs n 0 within ∙ ap (λ (b : ℕ). take n xs ++ b ∷ []) is) ∙ one_zero (take n xs))
+
+pub unzeroed-take_other : (xs : List ℕ) (n : ℕ) → n < length xs → get_or xs n 0 ≢ 0 → take (n + 1) xs ≡ without_zeros (take (n + 1) xs)
+unzeroed-take_other xs n within other =
+    let is = take_more xs n 0 within in
+    is ∙ sym (no_zero (take n xs) (get_or xs n 0) (ne_eqb (get_or xs n 0) 0 other)) ∙ sym (ap without_zeros is)
+
+-- what begins a line is begun by its own beginning
+shorter : (number : Bool) (form front rest : List ℕ) → goes_on number form (front ++ rest) ≡ true → goes_on number form front ≡ true
+shorter number form [] rest is = refl
+shorter number [] (byte ∷ front) rest is = elim (cases_Bool (number && is_digit byte)) [
+  | inl digit ↦ rw digit (shorter number [] front rest (subst (λ (t : Bool). (if t then goes_on number [] (front ++ rest) else false) ≡ true) digit is))
+  | inr other ↦ absurd (cc (subst (λ (t : Bool). (if t then goes_on number [] (front ++ rest) else false) ≡ true) other is))
+]
+shorter number (c ∷ form) (byte ∷ front) rest is = elim (cases_Bool (number && is_digit byte)) [
+  | inl digit ↦ rw digit (shorter number (c ∷ form) front rest
+      (subst (λ (t : Bool). (if t then goes_on number (c ∷ form) (front ++ rest) else (if stands_for c byte then goes_on (c == 35) form (front ++ rest) else false)) ≡ true) digit is))
+  | inr other ↦
+      let wanted : (if stands_for c byte then goes_on (c == 35) form (front ++ rest) else false) ≡ true =
+      subst (λ (t : Bool). (if t then goes_on number (c ∷ form) (front ++ rest) else (if stands_for c byte then goes_on (c == 35) form (front ++ rest) else false)) ≡ true) other is in
+      rw other (elim (cases_Bool (stands_for c byte)) [
+        | inl stands ↦ rw stands (shorter (c == 35) form front rest (subst (λ (t : Bool). (if t then goes_on (c == 35) form (front ++ rest) else false) ≡ true) stands wanted))
+        | inr not ↦ absurd (cc (subst (λ (t : Bool). (if t then goes_on (c == 35) form (front ++ rest) else false) ≡ true) not wanted))
+      ])
+]
+
+-- ---- a number
+
+both : (a b : Bool) → a && b ≡ true → (a ≡ true) × (b ≡ true)
+both true b is = (refl, is)
+both false b is = absurd (cc is)
+
+digits_on : (digits form rest : List ℕ) → list_all is_digit digits ≡ true → goes_on true form rest ≡ true → goes_on true form (digits ++ rest) ≡ true
+digits_on [] form rest all is = is
+digits_on (d ∷ digits) [] rest all is = let (first, others) = both (is_digit d) (list_all is_digit digits) all in rw first (digits_on digits [] rest others is)
+digits_on (d ∷ digits) (c ∷ form) rest all is = let (first, others) = both (is_digit d) (list_all is_digit digits) all in rw first (digits_on digits (c ∷ form) rest others is)
+
+number_on : (n : ℕ) (form rest : List ℕ) → n < 2 ^ 64 → goes_on true form rest ≡ true → goes_on false (35 ∷ form) (decimal n ++ rest) ≡ true
+number_on n form rest small is = go (decimal n) (decimal_digits n) (decimal_nonempty n small)
+  where
+    go : (digits : List ℕ) → list_all is_digit digits ≡ true → 0 < length digits → goes_on false (35 ∷ form) (digits ++ rest) ≡ true
+    go [] all some = absurd (omega (arith, some))
+    go (d ∷ digits) all some = let (first, others) = both (is_digit d) (list_all is_digit digits) all in rw first (digits_on digits form rest others is)
+
+-- ---- the lines that a log gets
+
+or-left : (a b : Bool) → a ≡ true → a || b ≡ true
+or-left a b is = ap (λ x. x || b) is
+
+or-right : (a b : Bool) → b ≡ true → a || b ≡ true
+or-right true b is = refl
+or-right false b is = is
+
+begun_report : (report : Report) → AreFitting (told_words report) → begins_report (words_before (told_words report) []) ≡ true
+begun_report (Arrive job at) (_, (t, (_, (j, _)))) = or-left _ _ (or-left _ _ (
+    number_on at (codes " arrive #") (32 ∷ (codes "arrive" ++ 32 ∷ (decimal job ++ []))) t.2 (number_on job [] [] j.2 refl)
+    ))
+begun_report (Finish job machine at) (_, (t, (_, (j, (m, _))))) = or-left _ _ (or-right _ _ (
+    number_on at (codes " finish # #") (32 ∷ (codes "finish" ++ 32 ∷ (decimal job ++ 32 ∷ (decimal machine ++ [])))) t.2
+    (number_on job (codes " #") (32 ∷ (decimal machine ++ [])) j.2 (number_on machine [] [] m.2 refl))
+    ))
+begun_report (Clean machine at) (_, (t, (_, (m, _)))) = or-right _ _ (
+    number_on at (codes " clean #") (32 ∷ (codes "clean" ++ 32 ∷ (decimal machine ++ []))) t.2 (number_on machine [] [] m.2 refl)
+    )
+
+begun_order : (at job : ℕ) (source target : Spot) → at < 2 ^ 64 → job < 2 ^ 64 → IsFitting (spot_word source) → IsFitting (spot_word target)
+    → begins_order (codes "order" ++ 32 ∷ (decimal at ++ 32 ∷ (decimal job ++ 32 ∷ (written (spot_word source) ++ 32 ∷ (written (spot_word target) ++ []))))) ≡ true
+begun_order at job (At m) (At n) t j s d = or-left _ _ (or-left _ _ (or-left _ _ (
+    number_on at (codes " # # #") (32 ∷ (decimal job ++ 32 ∷ (decimal m ++ 32 ∷ (decimal n ++ [])))) t
+    (number_on job (codes " # #") (32 ∷ (decimal m ++ 32 ∷ (decimal n ++ []))) j (number_on m (codes " #") (32 ∷ (decimal n ++ [])) s.2 (number_on n [] [] d.2 refl)))
+    )))
+begun_order at job (At m) Out t j s d = or-left _ _ (or-left _ _ (or-right _ _ (
+    number_on at (codes " # # out") (32 ∷ (decimal job ++ 32 ∷ (decimal m ++ 32 ∷ (codes "out" ++ [])))) t
+    (number_on job (codes " # out") (32 ∷ (decimal m ++ 32 ∷ (codes "out" ++ []))) j (number_on m (codes " out") (32 ∷ (codes "out" ++ [])) s.2 refl))
+    )))
+begun_order at job Out (At n) t j s d = or-left _ _ (or-right _ _ (
+    number_on at (codes " # out #") (32 ∷ (decimal job ++ 32 ∷ (codes "out" ++ 32 ∷ (decimal n ++ [])))) t
+    (number_on job (codes " out #") (32 ∷ (codes "out" ++ 32 ∷ (decimal n ++ []))) j (number_on n [] [] d.2 refl))
+    ))
+begun_order at job Out Out t j s d = or-right _ _ (
+    number_on at (codes " # out out") (32 ∷ (decimal job ++ 32 ∷ (codes "out" ++ 32 ∷ (codes "out" ++ [])))) t
+    (number_on job (codes " out out") (32 ∷ (codes "out" ++ 32 ∷ (codes "out" ++ []))) j refl)
+    )
+
+begun_late : (at : ℕ) → at < 2 ^ 64 → begins_late (words_before (late_words at) []) ≡ true
+begun_late at small = or-left _ _ (or-left _ _ (number_on at (codes " job # arrives # and # more") [] small refl))
+
+-- ---- their first bytes, and zeros
+
+module _ (front rest : List ℕ) where
+  less_report : begins_report (front ++ rest) ≡ true → begins_report front ≡ true
+  less_report is = any-kept _ _ _ _ (any-kept _ _ _ _ (shorter false (codes "report # arrive #") front rest) (shorter false (codes "report # finish # #") front rest)) (shorter false (codes "report # clean #") front rest) is
+
+  less_order : begins_order (front ++ rest) ≡ true → begins_order front ≡ true
+  less_order is = any-kept _ _ _ _ (any-kept _ _ _ _ (any-kept _ _ _ _ (shorter false (codes "order # # # #") front rest) (shorter false (codes "order # # # out") front rest)) (shorter false (codes "order # # out #") front rest))
+      (shorter false (codes "order # # out out") front rest) is
+
+  less_late : begins_late (front ++ rest) ≡ true → begins_late front ≡ true
+  less_late is = any-kept _ _ _ _ (any-kept _ _ _ _ (shorter false (codes "late # job # arrives # and # more") front rest) (shorter false (codes "late # job # on machine # since # due # and # more") front rest))
+      (shorter false (codes "late # machine # cleaned after job # since # due # and # more") front rest) is
+
+abbrev begins_any : List ℕ → Bool
+begins_any bytes = begins_report bytes || begins_order bytes || begins_late bytes
+
+less : (front rest : List ℕ) → begins_any (front ++ rest) ≡ true → begins_any front ≡ true
+less front rest is = any-kept _ _ _ _ (any-kept _ _ _ _ (less_report front rest) (less_order front rest)) (less_late front rest) is
+
+-- what is left of a line without its line feed
+left_of : (words : List Word) (count unwritten : ℕ) → begins_any (words_before words []) ≡ true → count < length (line_of words) → is_torn (take count (line_of words) ++ zeros unwritten) ≡ true
+left_of words count unwritten is within =
+    let body = words_before words [] in
+    let line : line_of words ≡ body ++ 10 ∷ [] = before-append words [] (10 ∷ []) in
+    let cut : take count (line_of words) ≡ take count body = ap (λ l. take count l) line ∙ take-append-le count body (10 ∷ []) (omega (arith, within, ap length line, length-append body (10 ∷ []))) in
+    let inner = unzeroed (take count (line_of words)) unwritten in
+    let front = without_zeros (take count (line_of words) ++ zeros unwritten) in
+    let whole : front ++ (inner.0 ++ drop count body) ≡ body = sym (append_assoc front inner.0 (drop count body)) ∙ ap (λ l. l ++ drop count body) (inner.1 ∙ cut) ∙ take-append-drop count body in
+    less front (inner.0 ++ drop count body) (ap begins_any whole ∙ is)
+
+any_report : (bytes : List ℕ) → begins_report bytes ≡ true → begins_any bytes ≡ true
+any_report bytes is = or-left (begins_report bytes || begins_order bytes) (begins_late bytes) (or-left (begins_report bytes) (begins_order bytes) is)
+
+any_order : (bytes : List ℕ) → begins_order bytes ≡ true → begins_any bytes ≡ true
+any_order bytes is = or-left (begins_report bytes || begins_order bytes) (begins_late bytes) (or-right (begins_report bytes) (begins_order bytes) is)
+
+any_late : (bytes : List ℕ) → begins_late bytes ≡ true → begins_any bytes ≡ true
+any_late bytes is = or-right (begins_report bytes || begins_order bytes) (begins_late bytes) is
+
+left_event : (entry : Entry) (count unwritten : ℕ) → AreFitting (entry_words entry) → count < length (entry_line entry) → is_torn (take count (entry_line entry) ++ zeros unwritten) ≡ true
+left_event (ReportEntry report) count unwritten fits within = left_of (told_words report) count unwritten (any_report (words_before (told_words report) []) (begun_report report fits)) within
+left_event (OrderEntry o) count unwritten fits within =
+    left_of (order_words o) count unwritten (any_order (words_before (order_words o) []) (begun_order o.at o.job o.source o.target fits.1.0.2 fits.1.1.0.2 fits.1.1.1.0 fits.1.1.1.1.0)) within
+
+left_late : (at count unwritten : ℕ) → AreFitting (late_words at) → count < length (late_line at) → is_torn (take count (late_line at) ++ zeros unwritten) ≡ true
+left_late at count unwritten fits within = left_of (late_words at) count unwritten (any_late (words_before (late_words at) []) (begun_late at fits.1.0.2)) within
+
+pub left_lines : UnwrittenLinesAreTorn
+left_lines = record { events = left_event; late = left_late }

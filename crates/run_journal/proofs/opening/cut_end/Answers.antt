@@ -1,0 +1,24 @@
+use Rattle.std.proofs.Common.{◌≡◌, ℕ, ◌≤◌, List, length, take, Some, sym, ap, ◌∙◌, subst, arith}
+use Rattle.run_journal.specs.WholeLines.{whole_lines}
+use Rattle.run_journal.proofs.Fronts.{if_some-map, if_some-both, on_ok-any}
+use Rattle.run_journal.proofs.Whole.{whole-length, take_whole, left_whole}
+use Rattle.run_journal.proofs.opening.cut_end.Goals as goal
+
+pub cut-requires-clause-within : goal.cut-requires-clause-within
+cut-requires-clause-within g c =
+    if_some-map (g.D.LogFile.seen c.args.log.now) (λ file is. omega (arith, ap length c.lines.ensures, ap (λ l. length (whole_lines l)) is, whole-length file)) c.requires.read
+
+pub returns-in_err-cut-clause-crash : goal.returns-in_err-cut-clause-crash
+returns-in_err-cut-clause-crash g c = if_some-both (g.D.LogFile.seen c.args.log.now)
+    (λ file is leaves left leave. left_whole file left _ (omega (arith, ap length c.lines.ensures, ap (λ l. length (whole_lines l)) is)) (leaves left leave))
+    c.requires.read c.cut.ensures.crash
+
+pub returns-clause-crash : goal.returns-clause-crash
+returns-clause-crash g c = if_some-both (g.D.LogFile.seen c.args.log.now)
+    (λ file is leaves left leave. left_whole file left _ (omega (arith, ap length c.lines.ensures, ap (λ l. length (whole_lines l)) is)) (leaves left (c.sync.ensures.crash left leave)))
+    c.requires.read c.cut.ensures.crash
+
+pub returns-clause-cut : goal.returns-clause-cut
+returns-clause-cut g c = on_ok-any c.sync.result (if_some-both (g.D.LogFile.seen c.args.log.now)
+    (λ file is cut. c.sync.ensures.seen ∙ cut ∙ ap Some (ap (λ (k : ℕ). take k file) (ap length (c.lines.ensures ∙ ap whole_lines is)) ∙ take_whole file))
+    c.requires.read c.in_ok-cut.ensures.cut)

@@ -1,0 +1,49 @@
+-- What a crash can leave behind the whole lines of a log.
+use Rattle.std.specs.Prelude.{◌≡◌, ℕ, ◌<◌, ◌==◌, ◌&&◌, ◌||◌, if◌then◌else◌, Bool, true, false, List, [], ◌∷◌, ◌++◌, length, take, codes}
+use Rattle.text_lines.specs.Numbers.{is_digit}
+use Rattle.cell_tables.specs.declared.entry.Entry.{Entry}
+use Rattle.event_lines.specs.EventLines.{entry_words, entry_line}
+use Rattle.event_lines.specs.AnswerLines.{late_words, late_line}
+use Rattle.event_lines.specs.ReadBack.{AreFitting}
+use Rattle.run_journal.specs.LogFiles.{zeros}
+
+-- a byte of a line's form stands for itself, but `#` for a digit
+abbrev pub stands_for : ℕ → ℕ → Bool
+stands_for form byte = if form == 35 then is_digit byte else form == byte
+
+-- the rest of a line of this form begins with these bytes; the last of those before them may be a digit of a number that goes on
+abbrev pub goes_on : Bool → List ℕ → List ℕ → Bool
+goes_on number form [] = true
+goes_on number [] (byte ∷ bytes) = if number && is_digit byte then goes_on number [] bytes else false
+goes_on number (c ∷ form) (byte ∷ bytes) = if number && is_digit byte then goes_on number (c ∷ form) bytes
+    else (if stands_for c byte then goes_on (c == 35) form bytes else false)
+
+-- a line of this form, in which `#` stands for a number, begins with these bytes
+abbrev pub begins : List ℕ → List ℕ → Bool
+begins form bytes = goes_on false form bytes
+
+-- the line of a report, of an order, or that a report was late
+abbrev pub begins_report : List ℕ → Bool
+begins_report bytes = begins (codes "report # arrive #") bytes || begins (codes "report # finish # #") bytes || begins (codes "report # clean #") bytes
+
+abbrev pub begins_order : List ℕ → Bool
+begins_order bytes = begins (codes "order # # # #") bytes || begins (codes "order # # # out") bytes || begins (codes "order # # out #") bytes || begins (codes "order # # out out") bytes
+
+abbrev pub begins_late : List ℕ → Bool
+begins_late bytes = begins (codes "late # job # arrives # and # more") bytes
+    || begins (codes "late # job # on machine # since # due # and # more") bytes
+    || begins (codes "late # machine # cleaned after job # since # due # and # more") bytes
+
+-- these bytes without the zeros at their end
+abbrev pub without_zeros : List ℕ → List ℕ
+without_zeros [] = []
+without_zeros (byte ∷ bytes) = let rest = without_zeros bytes in if byte == 0 && length rest == 0 then [] else byte ∷ rest
+
+-- a line that a log gets begins with these bytes, but for the zeros at their end
+abbrev pub is_torn : List ℕ → Bool
+is_torn end = let bytes = without_zeros end in begins_report bytes || begins_order bytes || begins_late bytes
+
+-- so it is with what is left of a line that a log gets, where its line feed isn't on the disk
+pub record UnwrittenLinesAreTorn : Type 0 where
+  pub events : (entry : Entry) (count unwritten : ℕ) → AreFitting (entry_words entry) → count < length (entry_line entry) → is_torn (take count (entry_line entry) ++ zeros unwritten) ≡ true
+  pub late : (at count unwritten : ℕ) → AreFitting (late_words at) → count < length (late_line at) → is_torn (take count (late_line at) ++ zeros unwritten) ≡ true

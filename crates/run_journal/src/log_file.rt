@@ -1,0 +1,46 @@
+ghost use Rattle.std.specs.Prelude.{◌≡◌, ℕ, ◌≤◌, ◌<◌, ◌++◌, List, length, take, Option, Some, IfOk, IfErr, IfSome, OnOk};
+ghost use Rattle.run_journal.specs.LogFiles.{Leaves, IsSettled, LeavesNoMore};
+
+use crate::file_fault::FileFault;
+use std::alloc::Global;
+
+/// A file that is appended to, and what a crash may leave of it: of the program, or of the machine.
+///
+/// Each call may fail, and from any call on all of them may. So a crash in the middle of some code is one of the runs of
+/// which its contract speaks: that in which each call behind the crash fails and does nothing. A crash in the middle of a
+/// call leaves what it may leave before that call or behind it.
+pub trait LogFile {
+    // The bytes that a read gives, where they are told.
+    ghost seen: { Self → Option (List ℕ) };
+
+    // What a crash may leave now.
+    ghost may_leave: { Self → List ℕ → Type 0 };
+
+    /// All the bytes, if there are at most so many.
+    fn read(&mut self, alloc: Global, most: usize) -> Result<Vec<u8>, FileFault>
+        ensures bytes { IfOk result (λ bytes. IfSome (seen self.old) (λ file. bytes.items ≡ file)) }
+        ensures within { IfOk result (λ bytes. length bytes.items ≤ most) }
+        ensures too_long { IfErr result (λ fault. fault ≡ FileFault.TooLong → IfSome (seen self.old) (λ file. most < length file)) }
+        ensures seen { seen self.new ≡ seen self.old }
+        ensures crash { LeavesNoMore (may_leave self.old) (may_leave self.new) };
+
+    /// Appends to a file that is synced. Until the next sync a crash may leave only the first of these bytes, and zeros
+    /// where the others were to stand.
+    fn append(&mut self, bytes: &[u8]) -> Result<(), FileFault>
+        requires { IsSettled (seen self.old) (may_leave self.old) }
+        ensures appended { OnOk result (IfSome (seen self.old) (λ file. seen self.new ≡ Some (file ++ bytes.now))) }
+        ensures crash { IfSome (seen self.old) (λ file. Leaves (may_leave self.new) (length file) (file ++ bytes.now)) };
+
+    /// Cuts a file that is synced to its first bytes. Until the next sync a crash may leave more of them.
+    fn cut(&mut self, len: usize) -> Result<(), FileFault>
+        requires settled { IsSettled (seen self.old) (may_leave self.old) }
+        requires within { IfSome (seen self.old) (λ file. len ≤ length file) }
+        ensures cut { OnOk result (IfSome (seen self.old) (λ file. seen self.new ≡ Some (take len file))) }
+        ensures crash { IfSome (seen self.old) (Leaves (may_leave self.new) len) };
+
+    /// After it a crash leaves what a read gives.
+    fn sync(&mut self) -> Result<(), FileFault>
+        ensures settled { OnOk result (IsSettled (seen self.new) (may_leave self.new)) }
+        ensures seen { seen self.new ≡ seen self.old }
+        ensures crash { LeavesNoMore (may_leave self.old) (may_leave self.new) };
+}

@@ -1,0 +1,201 @@
+//! An output of which a log gets the events, on the disk, before they are shown.
+
+ghost use Rattle.std.specs.Prelude.{◌≡◌, ◌⊎◌, ◌+◌, ◌<◌, ◌≤◌, ◌++◌, [], length, take, Some, false, IfOk, IfSome, OnOk, IsTrue};
+ghost use Rattle.std.specs.Io.KnownBytes.{Appends};
+ghost use Rattle.run_journal.specs.LogFiles.{IsSettled, Leaves};
+ghost use Rattle.run_journal.specs.Logged.{StayInStep, AreBefore};
+
+use crate::file_fault::FileFault;
+use crate::log_file::LogFile;
+use crate::selection::{DECIDING, Selection};
+use byte_streams::{Outlet, Sink, WriteFault};
+use std::alloc::{AllocError, Global};
+use std::marker::{Model, PhantomData};
+
+/// The fewest gathered bytes that are shown before the next report's answer is gathered.
+pub const FULL: usize = 65_536;
+
+/// The most bytes that are held back: room for one answer more, so that none is shown in parts.
+pub const MAX_PENDING: usize = 81_920;
+
+/// What a log held and what an output had taken before they were joined, as a type that stands for it.
+pub trait Before: Drop {
+    ghost use Rattle.std.specs.Prelude.{ℕ, List, Option};
+
+    // Both, where they are told.
+    ghost before: { Option (List ℕ × List ℕ) };
+}
+
+/// Nothing is told of it.
+#[derive(Drop)]
+pub struct Untold;
+
+impl Before for Untold {
+    ghost use Rattle.std.specs.Prelude.{None};
+
+    ghost before = { None };
+}
+
+/// An outlet with a log. Bytes are gathered until they are to be shown, or don't fit. Then the lines among them that a log
+/// gets are appended to it, it is synced, and only then all of them are shown. After a fault nothing more is appended or
+/// shown.
+#[derive(Drop)]
+pub struct Logged<W: Outlet, D: LogFile, B: Before> {
+    log: D,
+    outlet: W,
+    gathered: Vec<u8>,
+    /// How many of these bytes are out.
+    sent: usize,
+    /// What the log gets of them.
+    events: Vec<u8>,
+    selection: Selection,
+    failed: bool,
+    log_failed: bool,
+    before: PhantomData<B>,
+}
+
+impl<W: Outlet, D: LogFile, B: Before> Model for Logged<W, D, B> {
+    ghost use Rattle.std.specs.Prelude.{drop, vec_capacity};
+    ghost use Rattle.run_journal.specs.Logged.{Held, IsSound};
+
+    ghost Value = { Held };
+
+    ghost view = { λ l. record { taken = W.taken l.outlet; pending = drop l.sent l.gathered.items; failed = l.failed; log_failed = l.log_failed } };
+
+    ghost invariant = { λ l. IsSound B.before (D.seen l.log) (D.may_leave l.log) (W.taken l.outlet) l.gathered.items (vec_capacity l.gathered) (vec_capacity l.events) l.sent l.failed l.selection };
+}
+
+impl<W: Outlet + Drop, D: LogFile + Drop, B: Before> Logged<W, D, B> {
+    /// A log that is synced, and an output. All memory is taken here.
+    pub fn new(alloc: Global, log: D, outlet: W, _before: B) -> Result<Logged<W, D, B>, AllocError>
+        requires settled { IsSettled (D.seen log) (D.may_leave log) }
+        requires before { AreBefore B.before (D.seen log) (W.taken outlet) }
+        ensures taken { IfOk result (λ logged. logged.taken ≡ W.taken outlet) }
+        ensures pending { IfOk result (λ logged. logged.pending ≡ []) }
+        ensures unfailed { IfOk result (λ logged. (logged.failed ≡ false) × (logged.log_failed ≡ false)) }
+    {
+        let gathered = Vec::with_capacity(alloc, MAX_PENDING)?;
+        let events = Vec::with_capacity(alloc, MAX_PENDING + DECIDING)?;
+        let selection = Selection::new(alloc)?;
+        Ok(Logged {
+            log,
+            outlet,
+            gathered,
+            sent: 0,
+            events,
+            selection,
+            failed: false,
+            log_failed: false,
+            before: PhantomData,
+        })
+    }
+
+    /// Whether it was the log that failed.
+    pub fn has_log_failed(&self) -> bool
+        ensures { result ≡ self.now.log_failed }
+    {
+        self.log_failed
+    }
+
+    /// The log and the output. What is pending isn't written out.
+    pub fn into_parts(self) -> (D, W)
+        ensures in_step { StayInStep B.before (D.seen result.0) (D.may_leave result.0) self }
+        ensures taken { W.taken result.1 ≡ self.taken }
+    {
+        let Logged {
+            log,
+            outlet,
+            gathered: _,
+            sent: _,
+            events: _,
+            selection: _,
+            failed: _,
+            log_failed: _,
+            before: _,
+        } = self;
+        (log, outlet)
+    }
+}
+
+impl<W: Outlet, D: LogFile, B: Before> Sink for Logged<W, D, B> {
+    ghost use Rattle.std.specs.Io.KnownBytes.{append_known};
+
+    ghost taken = { λ l. append_known l.taken l.pending };
+
+    ghost failed = { λ l. l.failed };
+
+    fn put(&mut self, bytes: &[u8]) -> Result<usize, WriteFault> {
+        if self.failed {
+            return Err(WriteFault);
+        }
+        if is_shown_first(self.gathered.len(), bytes) {
+            self.show()?;
+        }
+        let count = bytes.len().min(MAX_PENDING - self.gathered.len());
+        self.gathered.extend_from_slice(&bytes[..count]).unwrap();
+        Ok(count)
+    }
+}
+
+impl<W: Outlet, D: LogFile, B: Before> Outlet for Logged<W, D, B> {
+    ghost pending = { λ l. l.pending };
+
+    fn show(&mut self) -> Result<(), WriteFault> {
+        if self.failed {
+            return Err(WriteFault);
+        }
+        // Until all has gone well.
+        self.failed = true;
+        self.events.clear();
+        self.selection.take(&self.gathered, &mut self.events);
+        let Ok(()) = keep(&mut self.log, &self.events) else {
+            self.log_failed = true;
+            return Err(WriteFault);
+        };
+        pass_on(&mut self.outlet, &self.gathered, &mut self.sent)?;
+        self.gathered.clear();
+        self.sent = 0;
+        self.failed = false;
+        Ok(())
+    }
+}
+
+/// Whether what is gathered, so many bytes, is shown before these are. A report's answer is gathered whole.
+fn is_shown_first(gathered: usize, bytes: &[u8]) -> bool
+    requires within { gathered ≤ MAX_PENDING }
+    requires some { 0 < length bytes.now }
+    ensures room { result ≡ false → gathered < MAX_PENDING }
+    ensures fits { IsTrue result → (MAX_PENDING < gathered + length bytes.now) ⊎ (FULL ≤ gathered) }
+{
+    if bytes.len() > MAX_PENDING - gathered {
+        return gathered > 0;
+    }
+    gathered >= FULL && bytes.starts_with(b"report ")
+}
+
+/// Puts these bytes into the log, and onto the disk.
+fn keep<D: LogFile>(log: &mut D, bytes: &[u8]) -> Result<(), FileFault>
+    requires { IsSettled (D.seen log.old) (D.may_leave log.old) }
+    ensures settled { OnOk result (IsSettled (D.seen log.new) (D.may_leave log.new)) }
+    ensures kept { OnOk result (IfSome (D.seen log.old) (λ file. D.seen log.new ≡ Some (file ++ bytes.now))) }
+    ensures crash { IfSome (D.seen log.old) (λ file. Leaves (D.may_leave log.new) (length file) (file ++ bytes.now)) }
+{
+    if bytes.is_empty() {
+        return Ok(());
+    }
+    log.append(bytes)?;
+    log.sync()
+}
+
+/// Gives all of these bytes to the output, which shows them, and counts those that are out.
+fn pass_on<W: Outlet>(outlet: &mut W, bytes: &[u8], sent: &mut usize) -> Result<(), WriteFault>
+    requires { sent.old ≡ 0 }
+    ensures within { sent.new ≤ length bytes.now }
+    ensures all { OnOk result (sent.new ≡ length bytes.now) }
+    ensures taken { Appends (W.taken outlet.old) (W.taken outlet.new) (take sent.new bytes.now) }
+{
+    while *sent < bytes.len() {
+        *sent += outlet.put(&bytes[*sent..])?;
+    }
+    outlet.show()
+}

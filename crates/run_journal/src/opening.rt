@@ -1,0 +1,96 @@
+//! The opening of a log that a crash may have left.
+
+ghost use Rattle.std.specs.Prelude.{◌≡◌, ◌≤◌, List, ℕ, length, take, Some, IfOk, IfSome, OnOk};
+ghost use Rattle.text_lines.specs.declared.limits.TheConstants.{MAX_INPUT};
+ghost use Rattle.run_journal.specs.LogFiles.{IsSettled, LeavesNoMore};
+ghost use Rattle.run_journal.specs.WholeLines.{whole_lines, torn_end};
+
+use crate::file_fault::FileFault;
+use crate::log_file::LogFile;
+use std::alloc::Global;
+use std::marker::Model;
+use text_lines::MAX_INPUT;
+
+/// The bytes of a log: its whole lines, and what stands behind the last of them.
+#[derive(Debug, Drop)]
+pub struct LogText {
+    bytes: Vec<u8>,
+    /// How many bytes the whole lines have.
+    whole: usize,
+}
+
+impl Model for LogText {
+    ghost use Rattle.std.specs.Prelude.{◌≡◌, ℕ, ◌≤◌, List, length, take};
+    ghost use Rattle.run_journal.specs.WholeLines.{whole_lines};
+
+    ghost Value = { List ℕ };
+
+    ghost view = { λ t. t.bytes.items };
+
+    ghost invariant = { λ t. (t.whole ≤ length t.bytes.items) × (take t.whole t.bytes.items ≡ whole_lines t.bytes.items) };
+}
+
+impl LogText {
+    /// A text with these bytes.
+    pub fn new(bytes: Vec<u8>) -> LogText
+        ensures { result ≡ bytes.items }
+    {
+        let whole = whole_len(&bytes);
+        LogText { bytes, whole }
+    }
+
+    /// The lines that are ended by a line feed.
+    pub fn lines(&self) -> &[u8]
+        ensures { result.now ≡ whole_lines self.now }
+    {
+        &self.bytes[..self.whole]
+    }
+
+    /// What stands behind the last line feed.
+    pub fn end(&self) -> &[u8]
+        ensures { result.now ≡ torn_end self.now }
+    {
+        &self.bytes[self.whole..]
+    }
+}
+
+/// The bytes of a log, which are then on the disk. Nothing is changed: whatever the file is, it may still be refused.
+pub fn read_log<D: LogFile>(alloc: Global, log: &mut D) -> Result<LogText, FileFault>
+    ensures text { IfOk result (λ text. IfSome (D.seen log.old) (λ file. text ≡ file)) }
+    ensures within { IfOk result (λ text. length text ≤ MAX_INPUT) }
+    ensures seen { D.seen log.new ≡ D.seen log.old }
+    ensures settled { OnOk result (IsSettled (D.seen log.new) (D.may_leave log.new)) }
+    ensures crash { LeavesNoMore (D.may_leave log.old) (D.may_leave log.new) }
+{
+    // A process that was killed may have left bytes that are read, but aren't on the disk yet.
+    log.sync()?;
+    let bytes = log.read(alloc, MAX_INPUT)?;
+    Ok(LogText::new(bytes))
+}
+
+/// Cuts off what stands behind the whole lines of a log that was read.
+pub fn cut_end<D: LogFile>(log: &mut D, text: &LogText) -> Result<(), FileFault>
+    requires settled { IsSettled (D.seen log.old) (D.may_leave log.old) }
+    requires read { IfSome (D.seen log.old) (λ file. text.now ≡ file) }
+    ensures cut { OnOk result (IfSome (D.seen log.old) (λ file. D.seen log.new ≡ Some (whole_lines file))) }
+    ensures settled { OnOk result (IsSettled (D.seen log.new) (D.may_leave log.new)) }
+
+    // A crash at any moment leaves the same whole lines.
+    ensures crash { IfSome (D.seen log.old) (λ file. (left : List ℕ) → D.may_leave log.new left → whole_lines left ≡ whole_lines file) }
+{
+    log.cut(text.lines().len())?;
+    // What is appended to a file whose cut isn't on the disk might stand behind the torn end.
+    log.sync()
+}
+
+/// How many bytes go up to the last line feed.
+fn whole_len(text: &[u8]) -> usize
+    ensures within { result ≤ length text.now }
+    ensures whole { take result text.now ≡ whole_lines text.now }
+{
+    let mut len = text.len();
+    while len > 0 && text[len - 1] != b'\n' {
+        len -= 1;
+    }
+    len
+}

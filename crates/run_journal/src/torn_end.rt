@@ -1,0 +1,95 @@
+//! What a crash can leave behind the whole lines of a log: the beginning of a line that the log gets, and zeros.
+
+ghost use Rattle.std.specs.Prelude.{◌≡◌, ◌≤◌, length, take};
+ghost use Rattle.run_journal.specs.TornEnds.{stands_for, begins, begins_report, begins_order, begins_late, without_zeros, is_torn};
+
+/// Whether a crash can have left these bytes behind the whole lines: those with which some line of a report, of an order
+/// or of a late report begins, or none, and then zeros, or none.
+pub fn is_torn_end(end: &[u8]) -> bool
+    ensures { result ≡ is_torn end.now }
+{
+    let bytes = without_zeros(end);
+    begins_report(bytes) || begins_order(bytes) || begins_late(bytes)
+}
+
+fn begins_report(bytes: &[u8]) -> bool
+    ensures { result ≡ begins_report bytes.now }
+{
+    begins(b"report # arrive #", bytes)
+        || begins(b"report # finish # #", bytes)
+        || begins(b"report # clean #", bytes)
+}
+
+fn begins_order(bytes: &[u8]) -> bool
+    ensures { result ≡ begins_order bytes.now }
+{
+    begins(b"order # # # #", bytes)
+        || begins(b"order # # # out", bytes)
+        || begins(b"order # # out #", bytes)
+        || begins(b"order # # out out", bytes)
+}
+
+/// What stands behind the moment is of version 2 of the lines.
+fn begins_late(bytes: &[u8]) -> bool
+    ensures { result ≡ begins_late bytes.now }
+{
+    begins(b"late # job # arrives # and # more", bytes)
+        || begins(b"late # job # on machine # since # due # and # more", bytes)
+        || begins(
+            b"late # machine # cleaned after job # since # due # and # more",
+            bytes,
+        )
+}
+
+/// Whether a line of this form, in which `#` stands for a number, begins with these bytes.
+fn begins(form: &[u8], bytes: &[u8]) -> bool
+    ensures { result ≡ begins form.now bytes.now }
+{
+    let mut wanted = form;
+    let mut number = false;
+    let mut rest = bytes;
+    while let Some((byte, after)) = rest.split_first() {
+        if !(number && byte.is_ascii_digit()) {
+            let Some((first, behind)) = wanted.split_first() else {
+                return false;
+            };
+            if !stands_for(*first, *byte) {
+                return false;
+            }
+            number = *first == b'#';
+            wanted = behind;
+        }
+        rest = after;
+    }
+    true
+}
+
+/// Whether the byte of a line is as its form says.
+fn stands_for(form: u8, byte: u8) -> bool
+    ensures { result ≡ stands_for form byte }
+{
+    if form == b'#' {
+        byte.is_ascii_digit()
+    } else {
+        form == byte
+    }
+}
+
+/// The bytes before the zeros at their end.
+fn without_zeros(bytes: &[u8]) -> &[u8]
+    ensures { result.now ≡ without_zeros bytes.now }
+{
+    &bytes[..zeroless_len(bytes)]
+}
+
+/// How many bytes stand before the zeros at their end.
+fn zeroless_len(bytes: &[u8]) -> usize
+    ensures within { result ≤ length bytes.now }
+    ensures zeroless { take result bytes.now ≡ without_zeros bytes.now }
+{
+    let mut len = bytes.len();
+    while len > 0 && bytes[len - 1] == 0 {
+        len -= 1;
+    }
+    len
+}
