@@ -1,0 +1,152 @@
+ghost use Rattle.std.specs.Prelude.{◌≡◌, ◌≤◌, true, length, take, Some};
+
+use run_journal::{FileFault, LogFile};
+use std::alloc::{AllocError, Global};
+use std::marker::Model;
+
+/// A file in memory, which fails from some call on.
+#[derive(Drop)]
+pub struct MemoryLog {
+    /// All that a crash may leave.
+    most: Vec<u8>,
+    /// How many bytes of that a read gives.
+    len: usize,
+    /// How many of them a crash leaves at least.
+    least: usize,
+    /// Whether a crash leaves just what a read gives.
+    synced: bool,
+    /// How many calls don't fail any more.
+    calls: usize,
+    /// How many bytes an append that fails appends.
+    torn: usize,
+}
+
+impl Model for MemoryLog {
+    ghost use Rattle.std.specs.Prelude.{◌≤◌, take, length};
+    ghost use Rattle.journal_tests.specs.Memory.{InMemory};
+
+    ghost Value = { InMemory };
+
+    ghost view = { λ m. record { seen = take m.len m.most.items; most = m.most.items; least = m.least; synced = m.synced } };
+
+    ghost invariant = { λ m. (m.least ≤ m.len) × (m.len ≤ length m.most.items) };
+}
+
+impl MemoryLog {
+    /// A file with these bytes, all of them on the disk. So many calls don't fail. The next, if it appends, appends so many
+    /// bytes.
+    pub fn new(bytes: Vec<u8>, calls: usize, torn: usize) -> MemoryLog
+        ensures seen { result.seen ≡ bytes.items }
+        ensures synced { result.synced ≡ true }
+    {
+        let len = bytes.len();
+        MemoryLog {
+            most: bytes,
+            len,
+            least: len,
+            synced: true,
+            calls,
+            torn,
+        }
+    }
+
+    /// How many bytes a crash leaves at least, and at most.
+    pub fn bounds(&self) -> (usize, usize) {
+        if self.synced {
+            (self.len, self.len)
+        } else {
+            (self.least, self.most.len())
+        }
+    }
+
+    /// What a crash leaves that leaves so many bytes, with so many zeros behind them where not all is on the disk.
+    pub fn after_crash(
+        &self,
+        alloc: Global,
+        count: usize,
+        unwritten: usize,
+    ) -> Result<Vec<u8>, AllocError> {
+        let count = count.min(self.most.len());
+        let mut left = self.most[..count].to_vec(alloc)?;
+        if !self.synced {
+            for _ in 0..unwritten {
+                left.push(0)?;
+            }
+        }
+        Ok(left)
+    }
+
+    /// How many calls don't fail any more.
+    pub fn calls_left(&self) -> usize {
+        self.calls
+    }
+
+    /// Counts a call, and tells whether it doesn't fail.
+    fn passes(&mut self) -> bool
+        ensures { self.new ≡ self.old }
+    {
+        if self.calls == 0 {
+            return false;
+        }
+        self.calls -= 1;
+        true
+    }
+}
+
+impl LogFile for MemoryLog {
+    ghost use Rattle.std.specs.Prelude.{Some};
+    ghost use Rattle.journal_tests.specs.Memory.{MayLeave};
+
+    ghost seen = { λ m. Some m.seen };
+
+    ghost may_leave = { MayLeave };
+
+    fn read(&mut self, alloc: Global, most: usize) -> Result<Vec<u8>, FileFault> {
+        if !self.passes() {
+            return Err(FileFault::Read);
+        }
+        if self.len > most {
+            return Err(FileFault::TooLong);
+        }
+        match self.most[..self.len].to_vec(alloc) {
+            Ok(bytes) => Ok(bytes),
+            Err(_) => Err(FileFault::Memory),
+        }
+    }
+
+    fn append(&mut self, bytes: &[u8]) -> Result<(), FileFault> {
+        let passes = self.passes();
+        let most = if passes { bytes.len() } else { self.torn };
+        let count = bytes.len().min(most);
+        self.most.truncate(self.len);
+        self.least = self.len;
+        self.synced = false;
+        if self.most.extend_from_slice(&bytes[..count]).is_err() {
+            return Err(FileFault::Memory);
+        }
+        self.len = self.most.len();
+        if passes { Ok(()) } else { Err(FileFault::Log) }
+    }
+
+    fn cut(&mut self, len: usize) -> Result<(), FileFault> {
+        let passes = self.passes();
+        self.most.truncate(self.len);
+        self.least = len;
+        self.synced = false;
+        if !passes {
+            return Err(FileFault::Log);
+        }
+        self.len = len;
+        Ok(())
+    }
+
+    fn sync(&mut self) -> Result<(), FileFault> {
+        if !self.passes() {
+            return Err(FileFault::Log);
+        }
+        self.most.truncate(self.len);
+        self.least = self.len;
+        self.synced = true;
+        Ok(())
+    }
+}
