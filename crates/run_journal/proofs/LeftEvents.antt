@@ -1,5 +1,5 @@
 -- The events that a log tells which a crash has left.
-use Rattle.std.proofs.Common.{◌≡◌, ℕ, zero, suc, ◌+◌, ◌-◌, ◌≤◌, Bool, true, false, nat_eq, if◌then◌else◌, ◌==◌, List, [], ◌∷◌, ◌++◌, length, take, drop, codes, inl, inr, refl, sym, ap, ◌∙◌, subst, arith, append_assoc, append-nil, take-append-drop}
+use Rattle.std.proofs.Common.{◌≡◌, ℕ, zero, suc, ◌+◌, ◌-◌, Bool, true, false, nat_eq, if◌then◌else◌, ◌==◌, List, [], ◌∷◌, ◌++◌, length, take, drop, codes, inl, inr, refl, sym, ap, ◌∙◌, subst, arith, append_assoc, append-nil, take-append-drop}
 use Rattle.std.specs.List.{ends_with}
 use Rattle.std.proofs.lemmas.Bool.{cases_Bool, eqb-true}
 use Rattle.std.proofs.lemmas.List.{append_cancel_left}
@@ -16,11 +16,11 @@ use Rattle.event_lines.specs.EventLines.{end_words, move_numbers, IsEntryLine}
 use Rattle.event_lines.specs.LogLines.{LineTells, LinesTell}
 use Rattle.event_lines.proofs.WordByWord.{text_before}
 use Rattle.event_lines.proofs.Readings.{one_reading, tell-parts}
-use Rattle.run_journal.specs.LogFiles.{zeros, IsLeft}
+use Rattle.run_journal.specs.LogFiles.{zeros}
 use Rattle.run_journal.specs.WholeLines.{before_any, whole_lines}
 use Rattle.run_journal.specs.LoggedLines.{is_logged, logged_line, logged}
 use Rattle.run_journal.specs.Standings.{line_behind, line_after}
-use Rattle.run_journal.specs.LeftLogs.{TellsWhatWasShown, ACrashLeavesALog}
+use Rattle.run_journal.specs.LeftLogs.{ACrashLeavesALog}
 use Rattle.run_journal.proofs.Whole.{step-whole}
 use Rattle.run_journal.proofs.Selected.{more, added, added_all, logged_line-more, logged-front}
 

@@ -1,11 +1,11 @@
 -- What a log gets of a text, taken byte by byte.
-use Rattle.std.proofs.Common.{◌≡◌, ℕ, zero, suc, ◌+◌, ◌≤◌, ◌<◌, Bool, true, false, if◌then◌else◌, ◌==◌, List, [], ◌∷◌, ◌++◌, length, inl, inr, refl, sym, ap, ◌∙◌, subst, arith, append_assoc, append-nil, length-append}
+use Rattle.std.proofs.Common.{◌≡◌, ℕ, ◌≤◌, ◌<◌, if◌then◌else◌, ◌==◌, List, [], ◌∷◌, ◌++◌, length, inl, inr, refl, sym, ap, ◌∙◌, subst, arith, append_assoc, append-nil, length-append}
 use Rattle.std.specs.List.{onto_first, flat_map}
 use Rattle.std.proofs.lemmas.Bool.{cases_Bool, eqb-true, eqb-false}
 use Rattle.run_journal.specs.declared.selection.Standing.{Standing}
 use Rattle.run_journal.specs.declared.selection.Standing.TheVariants.{Open, Logged, Passed}
 use Rattle.run_journal.specs.LoggedLines.{is_logged, logged_line, fed_lines, logged}
-use Rattle.run_journal.specs.Selecting.{Selected, at_first, decided, with_byte, got_by, behind_byte, behind_bytes, got}
+use Rattle.run_journal.specs.Selecting.{Selected, decided, with_byte, got_by, behind_byte, behind_bytes, got}
 use Rattle.run_journal.specs.Standings.{line_behind, line_after, open_line, IsStanding}
 use Rattle.run_journal.proofs.Starts.{logged-stays, logged-decided}
 

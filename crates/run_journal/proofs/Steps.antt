@@ -8,7 +8,7 @@ use Rattle.run_journal.specs.LogFiles.{Leaves, IsSettled}
 use Rattle.run_journal.specs.LoggedLines.{logged}
 use Rattle.run_journal.specs.Selecting.{Selected, at_first, behind_bytes, got}
 use Rattle.run_journal.specs.Standings.{IsStanding, open_line}
-use Rattle.run_journal.specs.Logged.{Held, AreInStep, StayInStep, AreBefore, IsSoFar, IsSound}
+use Rattle.run_journal.specs.Logged.{AreBefore, IsSoFar, IsSound}
 use Rattle.run_journal.proofs.Fronts.{settled_leaves, fewer_leave, if_some-map}
 use Rattle.run_journal.proofs.Selected.{logged-front, got_next, stands_next}
 

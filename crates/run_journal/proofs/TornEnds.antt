@@ -1,5 +1,5 @@
 -- What is left of a line that wasn't whole on the disk.
-use Rattle.std.proofs.Common.{◌≡◌, ◌≢◌, ℕ, zero, suc, ◌+◌, ◌^◌, ◌≤◌, ◌<◌, ◌==◌, ◌&&◌, ◌||◌, if◌then◌else◌, Bool, true, false, List, [], ◌∷◌, ◌++◌, length, take, drop, get_or, codes, decimal, inl, inr, refl, sym, ap, ◌∙◌, subst, arith, append_assoc, append-nil, length-append, take-append-drop}
+use Rattle.std.proofs.Common.{◌≡◌, ◌≢◌, ℕ, zero, suc, ◌+◌, ◌^◌, ◌<◌, ◌==◌, ◌&&◌, ◌||◌, if◌then◌else◌, Bool, true, false, List, [], ◌∷◌, ◌++◌, length, take, drop, get_or, codes, decimal, inl, inr, refl, sym, ap, ◌∙◌, subst, arith, append_assoc, length-append, take-append-drop}
 use Rattle.std.specs.List.{list_all}
 use Rattle.std.proofs.lemmas.Bool.{cases_Bool, ne_eqb}
 use Rattle.std.proofs.lemmas.Fmt.{decimal_nonempty}
@@ -19,7 +19,7 @@ use Rattle.event_lines.specs.ReadBack.{IsFitting, AreFitting}
 use Rattle.event_lines.proofs.WrittenWords.{before-append}
 use Rattle.run_journal.specs.LogFiles.{zeros}
 use Rattle.run_journal.proofs.Starts.{any-kept}
-use Rattle.run_journal.specs.TornEnds.{stands_for, goes_on, begins, begins_report, begins_order, begins_late, without_zeros, is_torn, UnwrittenLinesAreTorn}
+use Rattle.run_journal.specs.TornEnds.{stands_for, goes_on, begins_report, begins_order, begins_late, without_zeros, is_torn, UnwrittenLinesAreTorn}
 
 -- ---- the first bytes of bytes
 

@@ -1,5 +1,5 @@
 -- What a crash may leave of a file that is appended to.
-use Rattle.std.specs.Prelude.{◌≡◌, ℕ, zero, suc, ◌≤◌, List, [], ◌∷◌, ◌++◌, length, take, Option, IfSome}
+use Rattle.std.specs.Prelude.{◌≡◌, ℕ, zero, suc, ◌≤◌, List, [], ◌∷◌, ◌++◌, take, Option, IfSome}
 
 -- so many zero bytes, as a disk leaves them where it hadn't written yet
 abbrev pub zeros : ℕ → List ℕ

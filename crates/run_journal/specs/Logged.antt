@@ -1,5 +1,5 @@
 -- A log and an output that bytes go to, the log first.
-use Rattle.std.specs.Prelude.{◌≡◌, ℕ, ◌+◌, ◌<◌, ◌≤◌, List, ◌++◌, length, drop, Option, Some, Bool, true, false, IfSome}
+use Rattle.std.specs.Prelude.{◌≡◌, ℕ, ◌+◌, ◌<◌, ◌≤◌, List, ◌++◌, length, drop, Option, Some, Bool, false, IfSome}
 use Rattle.run_journal.specs.declared.logged.TheConstants.{MAX_PENDING}
 use Rattle.run_journal.specs.declared.selection.TheConstants.{DECIDING}
 use Rattle.run_journal.specs.LogFiles.{Leaves, IsSettled}

@@ -1,5 +1,5 @@
 -- How far it is known whether a log gets the line that is being written.
-use Rattle.std.specs.Prelude.{◌≡◌, ℕ, ◌==◌, if◌then◌else◌, List, [], ◌∷◌, ◌++◌, length}
+use Rattle.std.specs.Prelude.{ℕ, ◌==◌, if◌then◌else◌, List, [], ◌∷◌, ◌++◌, length}
 use Rattle.run_journal.specs.declared.selection.Standing.{Standing}
 use Rattle.run_journal.specs.declared.selection.Standing.TheVariants.{Open, Logged, Passed}
 use Rattle.run_journal.specs.LoggedLines.{is_logged, logged_line}

@@ -2,7 +2,6 @@
 use Rattle.std.specs.Prelude.{◌≡◌, ℕ, ◌≤◌, ◌<◌, ◌==◌, if◌then◌else◌, List, [], ◌∷◌, ◌++◌, length, true, false}
 use Rattle.run_journal.specs.declared.selection.Standing.{Standing}
 use Rattle.run_journal.specs.declared.selection.Standing.TheVariants.{Open, Logged, Passed}
-use Rattle.run_journal.specs.declared.selection.TheConstants.{DECIDING}
 use Rattle.run_journal.specs.LoggedLines.{is_logged}
 
 -- the line that is being written behind a byte, and behind bytes

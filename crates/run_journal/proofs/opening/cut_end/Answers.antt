@@ -1,4 +1,4 @@
-use Rattle.std.proofs.Common.{◌≡◌, ℕ, ◌≤◌, List, length, take, Some, sym, ap, ◌∙◌, subst, arith}
+use Rattle.std.proofs.Common.{ℕ, length, take, Some, ap, ◌∙◌, arith}
 use Rattle.run_journal.specs.WholeLines.{whole_lines}
 use Rattle.run_journal.proofs.Fronts.{if_some-map, if_some-both, on_ok-any}
 use Rattle.run_journal.proofs.Whole.{whole-length, take_whole, left_whole}

@@ -1,4 +1,4 @@
-use Rattle.std.proofs.Common.{◌≡◌, List, ℕ, ◌≤◌, ◌++◌, length, take, drop, Some, IfSome, sym, ap, ◌∙◌, subst, arith, take-append-drop, append-nil}
+use Rattle.std.proofs.Common.{◌≡◌, ◌≤◌, ◌++◌, length, take, drop, Some, IfSome, sym, ap, ◌∙◌, subst, arith, take-append-drop, append-nil}
 use Rattle.std.specs.Io.KnownBytes.{Appends, Keeps, append_known}
 use Rattle.std.specs.Vec.{vec_capacity}
 use Rattle.std.proofs.KnownBytes.{append_known-moved}

@@ -1,6 +1,6 @@
-use Rattle.std.proofs.Common.{◌≡◌, ℕ, ◌+◌, ◌≤◌, false, List, ◌++◌, length, take, drop, sym, ap, ◌∙◌, subst, arith, rules, length-append}
+use Rattle.std.proofs.Common.{◌≡◌, ◌≤◌, false, ◌++◌, length, take, drop, sym, ap, ◌∙◌, subst, arith, rules, length-append}
 use Rattle.std.specs.Vec.{vec_capacity}
-use Rattle.std.specs.Io.KnownBytes.{Appends, Keeps, append_known}
+use Rattle.std.specs.Io.KnownBytes.{Keeps, append_known}
 use Rattle.std.proofs.KnownBytes.{Keeps-refl, append_known-grown}
 use Rattle.std.proofs.lemmas.List.{length-take, drop-append-le}
 use Rattle.run_journal.specs.Logged.{Held}
