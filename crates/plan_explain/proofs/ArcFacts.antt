@@ -25,16 +25,16 @@ abbrev pub last_from : Node → List Node → Node
 last_from u [] = u
 last_from u (v ∷ vs) = last_from v vs
 
-last_more : (u : Node) (us : List Node) (v : Node) → last_from u (us ++ v ∷ []) ≡ v
+pub last_more : (u : Node) (us : List Node) (v : Node) → last_from u (us ++ v ∷ []) ≡ v
 last_more u [] v = refl
 last_more u (w ∷ ws) v = last_more w ws v
 
 module _ (p : PlannedShop) where
-  along_more : (u : Node) (us : List Node) (v : Node) → AreAlong p u us → HasArc p (last_from u us) v → AreAlong p u (us ++ v ∷ [])
+  pub along_more : (u : Node) (us : List Node) (v : Node) → AreAlong p u us → HasArc p (last_from u us) v → AreAlong p u (us ++ v ∷ [])
   along_more u [] v along arc = (arc, tt)
   along_more u (w ∷ ws) v along arc = (along.0, along_more w ws v along.1 arc)
 
-  length_more : (t : ℕ) (u : Node) (us : List Node) (v : Node) → length_from p t u (us ++ v ∷ []) ≡ length_from p t u us + time_of (told_arc p (last_from u us) v)
+  pub length_more : (t : ℕ) (u : Node) (us : List Node) (v : Node) → length_from p t u (us ++ v ∷ []) ≡ length_from p t u us + time_of (told_arc p (last_from u us) v)
   length_more t u [] v = refl
   length_more t u (w ∷ ws) v = length_more (reached_at p t u w) w ws v
 

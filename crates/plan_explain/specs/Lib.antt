@@ -6,6 +6,5 @@ pub mod Chains
 pub mod Leavings
 pub mod Explained
 pub mod LineLaws
--- Of proofs and private contracts alone.
 pub mod Added
 pub mod Moments

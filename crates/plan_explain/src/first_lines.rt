@@ -72,7 +72,8 @@ fn push_leavings(text: &mut Vec<u8>, shaped: &Shaped, times: &Times) -> Result<(
     Ok(())
 }
 
-fn push_moment(text: &mut Vec<u8>, moment: Moment) -> Result<(), AllocError>
+/// Adds a blank and the moment.
+pub fn push_moment(text: &mut Vec<u8>, moment: Moment) -> Result<(), AllocError>
     ensures { OnOk result (text.new.items ≡ text.old.items ++ codes " " ++ decimal moment) }
 {
     let mut line = Line::empty();
@@ -82,7 +83,7 @@ fn push_moment(text: &mut Vec<u8>, moment: Moment) -> Result<(), AllocError>
 }
 
 /// Adds `refused cycle n0 n1 ..`, with the cycle's nodes.
-fn push_cycle_line(text: &mut Vec<u8>, nodes: &[Node]) -> Result<(), AllocError>
+pub fn push_cycle_line(text: &mut Vec<u8>, nodes: &[Node]) -> Result<(), AllocError>
     ensures { OnOk result (text.new.items ≡ text.old.items ++ cycle_line nodes.now) }
 {
     let mut line = Line::empty();
@@ -93,7 +94,7 @@ fn push_cycle_line(text: &mut Vec<u8>, nodes: &[Node]) -> Result<(), AllocError>
 }
 
 /// Adds `refused late J L n0 n1 ..`, with the nodes of a chain to the job's leaving.
-fn push_late_line(
+pub fn push_late_line(
     text: &mut Vec<u8>,
     job: JobNo,
     leaves: Moment,

@@ -28,8 +28,8 @@ pub(crate) fn push_leaving_lines(
     Ok(())
 }
 
-/// Adds `job J leaves L budget B slack S`, or `.. late D`.
-fn push_leaving_line(
+/// Adds `job J leaves L budget B slack S`, or `.. late D` where L is past B by D.
+pub fn push_leaving_line(
     text: &mut Vec<u8>,
     job: JobNo,
     leaves: Moment,

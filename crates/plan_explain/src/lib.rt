@@ -11,5 +11,8 @@ pub mod laws;
 mod leaving_lines;
 mod words;
 
+pub use chains::push_reached_lines;
+pub use cycles::push_cycle_lines;
 pub use evidence::explain;
-pub use first_lines::first_line;
+pub use first_lines::{first_line, push_cycle_line, push_late_line, push_moment};
+pub use leaving_lines::push_leaving_line;

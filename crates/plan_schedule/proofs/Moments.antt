@@ -1,5 +1,5 @@
 -- Earliest moments are bounded, and so are their sums.
-use Rattle.std.proofs.Common.{◌≡◌, ℕ, zero, suc, ◌+◌, ◌*◌, ◌<◌, ◌≤◌, Option, None, Some, MatchOption, arith, ap}
+use Rattle.std.proofs.Common.{◌≡◌, ℕ, zero, suc, ◌+◌, ◌*◌, ◌<◌, ◌≤◌, Option, None, Some, MatchOption, arith, sym, ap, subst}
 use Rattle.shop_base.specs.declared.node.Node.{Node}
 use Rattle.shop_base.specs.declared.limits.TheConstants.{MAX_NOMINAL, MAX_RELEASE}
 use Rattle.shop_base.specs.Shop.{operations_of}
@@ -9,8 +9,9 @@ use Rattle.shop_base.proofs.Bounds.{operations_of-le}
 use Rattle.shop_base.proofs.Visits.{steps_job}
 use Rattle.shop_base.proofs.Cycles.{source_node}
 use Rattle.alt_graph.specs.Times.{NodeTimes, rank_of, earliest_of, before_of, IsAttained, AreOrdered}
+use Rattle.alt_graph.specs.Latest.{NodeMoments}
 use Rattle.alt_graph.proofs.ArcKinds.{arc_short}
-use Rattle.plan_schedule.specs.Calendars.{the_last_moment}
+use Rattle.plan_schedule.specs.Calendars.{PlanCalendar, IsCalendarOf, the_last_moment, AreSoon}
 
 module _ (p : PlannedShop) (t : NodeTimes) (ordered : AreOrdered p t) where
   -- the moment of a node with a rank below n
@@ -28,6 +29,9 @@ module _ (p : PlannedShop) (t : NodeTimes) (ordered : AreOrdered p t) where
   not_late v is =
       let shaped = ordered.times.schedule.shaped in
       omega (arith, below (jobs p + operations_of p.shop) v is (ordered.times.few v is), operations_of-le _ shaped.shop, shaped.shop.counts.few_jobs)
+
+  pub are_soon : (d : Option NodeMoments) (c : PlanCalendar) → IsCalendarOf p t d c → AreSoon c
+  are_soon d c is = subst AreSoon (sym is) not_late
 
   -- an operation has ended as its job moves on
   pub ends_before : (j k : ℕ) → k < steps p j → earliest_of t (node j k) + nominal p j k ≤ earliest_of t (node j (k + 1))

@@ -1,10 +1,11 @@
 -- What a schedule is told by: a plan, its earliest moments, and its deadlines where it is accepted.
-use Rattle.std.specs.Prelude.{◌≡◌, ℕ, ◌+◌, ◌*◌, Option, None, Some, IfSome}
+use Rattle.std.specs.Prelude.{◌≡◌, ℕ, ◌+◌, ◌*◌, ◌≤◌, Option, None, Some, IfSome}
 use Rattle.shop_base.specs.declared.node.Node.{Node}
-use Rattle.shop_base.specs.declared.limits.TheConstants.{MAX_JOBS, MAX_MACHINES, MAX_NOMINAL, MAX_RELEASE}
-use Rattle.shop_base.specs.Plan.{PlannedShop}
-use Rattle.shop_base.specs.Graph.{IsNode}
-use Rattle.alt_graph.specs.Times.{NodeTimes, AreOrdered}
+use Rattle.shop_base.specs.declared.limits.TheConstants.{MAX_JOBS, MAX_MACHINES, MAX_NOMINAL}
+use Rattle.shop_base.specs.Plan.{PlannedShop, steps}
+use Rattle.shop_base.specs.Graph.{IsNode, node}
+use Rattle.alt_graph.specs.Bounds.{MAX_BOUND}
+use Rattle.alt_graph.specs.Times.{NodeTimes, earliest_of, AreRanks}
 use Rattle.alt_graph.specs.Latest.{NodeMoments, HasMoment, moment_of}
 
 -- the moments of a plan, and its deadlines, if it has any
@@ -31,15 +32,27 @@ due_at c v = due_in c.deadlines v
 abbrev pub HasDeadlines : PlannedShop → Option NodeMoments → Type 0
 HasDeadlines p deadlines = IfSome deadlines (λ moments. (v : Node) → IsNode p v → HasMoment moments v)
 
--- the moments are the earliest, and there is a deadline for each node, or for none
+-- no moment of any plan without a cycle is later, nor of the rest of any run
+abbrev pub the_last_moment : ℕ
+the_last_moment = MAX_BOUND + MAX_NOMINAL * (MAX_JOBS + MAX_JOBS * MAX_MACHINES)
+
+-- there is a moment for each node, and a deadline for each, or for none
 pub record IsCalendar (c : PlanCalendar) : Type 0 where
-  pub ordered : AreOrdered c.plan c.times
+  pub ranks : AreRanks c.plan c.times
   pub dues : HasDeadlines c.plan c.deadlines
 
 -- the calendar of this plan, with these moments and deadlines
 abbrev pub IsCalendarOf : PlannedShop → NodeTimes → Option NodeMoments → PlanCalendar → Type 0
 IsCalendarOf p times deadlines c = c ≡ record { plan = p; times = times; deadlines = deadlines }
 
--- no moment of any plan without a cycle is later
-abbrev pub the_last_moment : ℕ
-the_last_moment = MAX_RELEASE + MAX_NOMINAL * (MAX_JOBS + MAX_JOBS * MAX_MACHINES)
+-- the moment of the node isn't later
+abbrev pub IsSoon : PlanCalendar → Node → Type 0
+IsSoon c v = earliest_of c.times v ≤ the_last_moment
+
+-- so of each place of job j
+abbrev pub AreSoonOf : PlanCalendar → ℕ → Type 0
+AreSoonOf c j = (k : ℕ) → k ≤ steps c.plan j → IsSoon c (node j k)
+
+-- so of each node
+abbrev pub AreSoon : PlanCalendar → Type 0
+AreSoon c = (v : Node) → IsNode c.plan v → IsSoon c v

@@ -5,5 +5,4 @@ pub mod Scheduled
 pub mod DrawnVisits
 pub mod AsTold
 pub mod ScheduleLaw
--- Of proofs and private contracts alone.
 pub mod Calendars

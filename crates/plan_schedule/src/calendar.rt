@@ -3,10 +3,10 @@
 ghost use Rattle.std.specs.Prelude.{◌≡◌, ◌+◌, ◌<◌, ◌≤◌, IfOk, MatchOption};
 ghost use Rattle.shop_base.specs.Shop.{step_at};
 ghost use Rattle.shop_base.specs.Plan.{jobs, steps, route, release};
-ghost use Rattle.shop_base.specs.Graph.{IsNode};
-ghost use Rattle.alt_graph.specs.Times.{AreOrdered, earliest_of};
+ghost use Rattle.shop_base.specs.Graph.{IsNode, node};
+ghost use Rattle.alt_graph.specs.Times.{AreRanks, earliest_of};
 ghost use Rattle.plan_schedule.specs.Schedules.{visit_of, IsCleaning, IsCleaningDue, HasNoCleaning};
-ghost use Rattle.plan_schedule.specs.Calendars.{IsCalendar, IsCalendarOf, seen, due_at, HasDeadlines, the_last_moment};
+ghost use Rattle.plan_schedule.specs.Calendars.{IsCalendar, IsCalendarOf, IsSoon, seen, due_at, HasDeadlines};
 
 use crate::lines::{Cleaning, Visit};
 use alt_graph::{Deadlines, Graph, Times};
@@ -14,9 +14,10 @@ use shop_base::{JobNo, Moment, Node, Shaped, Step};
 use std::alloc::{AllocError, Global};
 use std::marker::Model;
 
-/// A plan without a cycle, with the moments of the exact run, and its deadlines where it is accepted.
+/// A plan without a cycle, with a moment for each of its nodes, as those of the exact run are, and its deadlines where it is
+/// accepted. The same of the rest of a run, of which passed nodes have moments that nothing tells.
 #[derive(Drop)]
-pub(crate) struct Calendar<'a> {
+pub struct Calendar<'a> {
     graph: Graph<'a>,
     times: &'a Times,
     deadlines: Option<&'a Deadlines>,
@@ -33,14 +34,14 @@ impl<'a> Model for Calendar<'a> {
 }
 
 impl<'a> Calendar<'a> {
-    /// The calendar of a plan.
-    pub(crate) fn new(
+    /// The calendar of a plan by these moments and deadlines. It fails only where it is out of memory.
+    pub fn new(
         alloc: Global,
         shaped: &'a Shaped,
         times: &'a Times,
         deadlines: Option<&'a Deadlines>,
     ) -> Result<Calendar<'a>, AllocError>
-        requires ordered { AreOrdered shaped.now times.now }
+        requires ranks { AreRanks shaped.now times.now }
         requires deadlines { HasDeadlines shaped.now (seen deadlines (λ d. d.now)) }
         ensures { IfOk result (IsCalendarOf shaped.now times.now (seen deadlines.entry (λ d. d.now))) }
     {
@@ -60,7 +61,7 @@ impl<'a> Calendar<'a> {
     }
 
     /// How many steps the job has.
-    pub(crate) fn steps(&self, job: JobNo) -> u32
+    pub fn steps(&self, job: JobNo) -> u32
         requires { job < jobs self.now.plan }
         ensures { result ≡ steps self.now.plan job }
     {
@@ -79,6 +80,7 @@ impl<'a> Calendar<'a> {
     pub(crate) fn visit(&self, job: JobNo, place: u32) -> Visit
         requires job { job < jobs self.now.plan }
         requires place { place < steps self.now.plan job }
+        requires soon { IsSoon self.now (node job place) }
         ensures { let c = self.now in result ≡ visit_of c.plan (earliest_of c.times) (due_at c) job place }
     {
         let step = self.step(job, place);
@@ -101,6 +103,7 @@ impl<'a> Calendar<'a> {
     pub(crate) fn cleaning(&self, job: JobNo, place: u32) -> Option<Cleaning>
         requires job { job < jobs self.now.plan }
         requires place { place < steps self.now.plan job }
+        requires soon { IsSoon self.now (node job (place + 1)) }
         ensures { let c = self.now in MatchOption result (HasNoCleaning c.plan job place) (IsCleaning c.plan (earliest_of c.times) (due_at c) job place) }
     {
         let machine = self.step(job, place).machine;
@@ -143,11 +146,10 @@ impl<'a> Calendar<'a> {
         }
     }
 
-    /// The moment of the node's move in the exact run.
-    fn at(&self, node: Node) -> Moment
+    /// The moment of the node's move, in time units.
+    pub fn at(&self, node: Node) -> Moment
         requires { IsNode self.now.plan node }
-        ensures moment { result ≡ earliest_of self.now.times node }
-        ensures bounded { result ≤ the_last_moment }
+        ensures { result ≡ earliest_of self.now.times node }
     {
         match self.times.earliest(node) {
             Some(moment) => moment,
@@ -156,7 +158,7 @@ impl<'a> Calendar<'a> {
     }
 
     /// The node's deadline, if the plan is accepted.
-    pub(crate) fn due(&self, node: Node) -> Option<Moment>
+    pub fn due(&self, node: Node) -> Option<Moment>
         requires { IsNode self.now.plan node }
         ensures { result ≡ due_at self.now node }
     {

@@ -9,5 +9,8 @@ mod picture_visits;
 mod schedules;
 mod scheduling;
 
+pub use calendar::Calendar;
+pub use lines::push_arrival_line;
 pub use picture_visits::drawn_visits;
 pub use schedules::schedule;
+pub use scheduling::{push_cleaning_behind, push_visit};

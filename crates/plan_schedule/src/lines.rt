@@ -33,8 +33,8 @@ pub(crate) struct Cleaning {
     pub due: Option<Moment>,
 }
 
-/// Adds `job J arrives R by D`.
-pub(crate) fn push_arrival_line(
+/// Adds `job J arrives R by D`, without ` by D` where there is no deadline.
+pub fn push_arrival_line(
     text: &mut Vec<u8>,
     job: JobNo,
     release: Moment,

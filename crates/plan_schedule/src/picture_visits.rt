@@ -1,8 +1,10 @@
 //! The visits of the exact run, as a picture draws them.
 
-ghost use Rattle.std.specs.Prelude.{◌≡◌, ◌<◌, ◌++◌, IfOk, OnOk};
+ghost use Rattle.std.specs.Prelude.{◌≡◌, ◌+◌, ◌<◌, ◌++◌, IfOk, OnOk};
 ghost use Rattle.shop_base.specs.Plan.{jobs, steps};
+ghost use Rattle.shop_base.specs.Graph.{node};
 ghost use Rattle.alt_graph.specs.Times.{earliest_of};
+ghost use Rattle.plan_schedule.specs.Calendars.{IsSoon, AreSoon};
 ghost use Rattle.plan_schedule.specs.DrawnVisits.{told_cleaning, drawn_visit, job_visits, all_visits, AreDrawnVisits};
 
 use crate::calendar::Calendar;
@@ -23,6 +25,7 @@ pub fn drawn_visits(alloc: Global, verified: &Verified) -> Result<Vec<DrawnVisit
 
 /// The visits that a calendar tells.
 fn calendar_visits(alloc: Global, calendar: &Calendar<'_>) -> Result<Vec<DrawnVisit>, AllocError>
+    requires { AreSoon calendar.now }
     ensures { let c = calendar.now in IfOk result (λ visits. visits.items ≡ all_visits c.plan (earliest_of c.times) (jobs c.plan)) }
 {
     let mut visits = Vec::new(alloc);
@@ -38,7 +41,8 @@ fn push_job(
     calendar: &Calendar<'_>,
     job: JobNo,
 ) -> Result<(), AllocError>
-    requires { job < jobs calendar.now.plan }
+    requires job { job < jobs calendar.now.plan }
+    requires soon { AreSoon calendar.now }
     ensures { let c = calendar.now in
         OnOk result (visits.new.items ≡ visits.old.items ++ job_visits c.plan (earliest_of c.times) job (steps c.plan job)) }
 {
@@ -52,6 +56,8 @@ fn push_job(
 fn drawn_visit(calendar: &Calendar<'_>, job: JobNo, place: u32) -> DrawnVisit
     requires job { job < jobs calendar.now.plan }
     requires place { place < steps calendar.now.plan job }
+    requires begun { IsSoon calendar.now (node job place) }
+    requires left { IsSoon calendar.now (node job (place + 1)) }
     ensures { let c = calendar.now in result ≡ drawn_visit c.plan (earliest_of c.times) job place }
 {
     let visit = calendar.visit(job, place);

@@ -1,11 +1,12 @@
 //! The lines of all jobs.
 
-ghost use Rattle.std.specs.Prelude.{◌≡◌, ◌<◌, ◌++◌, OnOk};
+ghost use Rattle.std.specs.Prelude.{◌≡◌, ◌+◌, ◌<◌, ◌++◌, OnOk};
 ghost use Rattle.shop_base.specs.Plan.{jobs, steps};
+ghost use Rattle.shop_base.specs.Graph.{node};
 ghost use Rattle.alt_graph.specs.Times.{earliest_of};
 ghost use Rattle.plan_explain.specs.Added.{Adds};
-ghost use Rattle.plan_schedule.specs.Schedules.{IsVisitText, AreVisitTexts, IsJobText, AreScheduleLines};
-ghost use Rattle.plan_schedule.specs.Calendars.{due_at};
+ghost use Rattle.plan_schedule.specs.Schedules.{IsCleaningText, IsVisitText, AreVisitTexts, IsJobText, AreScheduleLines};
+ghost use Rattle.plan_schedule.specs.Calendars.{IsSoon, AreSoonOf, AreSoon, due_at};
 
 use crate::calendar::Calendar;
 use crate::lines::{push_arrival_line, push_cleaning_line, push_visit_line};
@@ -14,6 +15,7 @@ use std::alloc::AllocError;
 
 /// Adds the lines of all jobs, in ascending order.
 pub(crate) fn push_jobs(text: &mut Vec<u8>, calendar: &Calendar<'_>) -> Result<(), AllocError>
+    requires { AreSoon calendar.now }
     ensures { let c = calendar.now in
         OnOk result (Adds (AreScheduleLines c.plan (earliest_of c.times) (due_at c)) text.old.items text.new.items) }
 {
@@ -25,7 +27,8 @@ pub(crate) fn push_jobs(text: &mut Vec<u8>, calendar: &Calendar<'_>) -> Result<(
 
 /// Adds the lines of a job.
 fn push_job(text: &mut Vec<u8>, calendar: &Calendar<'_>, job: JobNo) -> Result<(), AllocError>
-    requires { job < jobs calendar.now.plan }
+    requires job { job < jobs calendar.now.plan }
+    requires soon { AreSoon calendar.now }
     ensures { let c = calendar.now in
         OnOk result (Adds (IsJobText c.plan (earliest_of c.times) (due_at c) job) text.old.items text.new.items) }
 {
@@ -36,7 +39,8 @@ fn push_job(text: &mut Vec<u8>, calendar: &Calendar<'_>, job: JobNo) -> Result<(
 
 /// Adds the lines of a job's visits, in the order of its route.
 fn push_visits(text: &mut Vec<u8>, calendar: &Calendar<'_>, job: JobNo) -> Result<(), AllocError>
-    requires { job < jobs calendar.now.plan }
+    requires job { job < jobs calendar.now.plan }
+    requires soon { AreSoonOf calendar.now job }
     ensures { let c = calendar.now in
         OnOk result (Adds (AreVisitTexts c.plan (earliest_of c.times) (due_at c) job (steps c.plan job)) text.old.items text.new.items) }
 {
@@ -47,7 +51,7 @@ fn push_visits(text: &mut Vec<u8>, calendar: &Calendar<'_>, job: JobNo) -> Resul
 }
 
 /// Adds the lines of a visit: its own, and behind it that of the cleaning, if there is one.
-fn push_visit(
+pub fn push_visit(
     text: &mut Vec<u8>,
     calendar: &Calendar<'_>,
     job: JobNo,
@@ -55,10 +59,28 @@ fn push_visit(
 ) -> Result<(), AllocError>
     requires job { job < jobs calendar.now.plan }
     requires place { place < steps calendar.now.plan job }
+    requires begun { IsSoon calendar.now (node job place) }
+    requires left { IsSoon calendar.now (node job (place + 1)) }
     ensures { let c = calendar.now in
         OnOk result (Adds (IsVisitText c.plan (earliest_of c.times) (due_at c) job place) text.old.items text.new.items) }
 {
     push_visit_line(text, calendar.visit(job, place))?;
+    push_cleaning_behind(text, calendar, job, place)
+}
+
+/// Adds the line of the cleaning behind a visit, where the machine has a cleaning time.
+pub fn push_cleaning_behind(
+    text: &mut Vec<u8>,
+    calendar: &Calendar<'_>,
+    job: JobNo,
+    place: u32,
+) -> Result<(), AllocError>
+    requires job { job < jobs calendar.now.plan }
+    requires place { place < steps calendar.now.plan job }
+    requires left { IsSoon calendar.now (node job (place + 1)) }
+    ensures { let c = calendar.now in
+        OnOk result (Adds (IsCleaningText c.plan (earliest_of c.times) (due_at c) job place) text.old.items text.new.items) }
+{
     match calendar.cleaning(job, place) {
         Some(cleaning) => push_cleaning_line(text, cleaning),
         None => Ok(()),

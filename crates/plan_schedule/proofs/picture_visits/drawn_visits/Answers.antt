@@ -1,8 +1,17 @@
 use Rattle.std.proofs.Common.{None}
+use Rattle.alt_graph.proofs.WholePlans.{times_ranks}
 use Rattle.plan_schedule.specs.Calendars.{IsCalendarOf}
+use Rattle.plan_schedule.proofs.Moments.{are_soon}
 use Rattle.plan_schedule.proofs.Behind.{are_earliest}
 use Rattle.plan_schedule.proofs.Drawing.{drawn_by}
 use Rattle.plan_schedule.proofs.picture_visits.drawn_visits.Goals as goal
+
+pub new-requires-clause-ranks : goal.new-requires-clause-ranks
+new-requires-clause-ranks c = rw (c.shaped.ensures.same, c.times.ensures.same) (times_ranks _ _ c.times.ensures.ordered.times)
+
+pub calendar_visits-requires : goal.calendar_visits-requires
+calendar_visits-requires c = are_soon c.args.verified.now.planned c.args.verified.now.times c.times.ensures.ordered None c.in_ok-calendar.calendar
+    (rw (c.shaped.ensures.same, c.times.ensures.same) at c.in_ok-calendar.ensures)
 
 pub returns : goal.returns
 returns c =

@@ -5,12 +5,20 @@ use Rattle.alt_graph.specs.Latest.{moment_of}
 use Rattle.alt_graph.proofs.WholePlans.{times_ranks}
 use Rattle.plan_schedule.specs.Calendars.{IsCalendarOf}
 use Rattle.plan_schedule.specs.Scheduled.{AreLinesInTime}
+use Rattle.plan_schedule.proofs.Moments.{are_soon}
 use Rattle.plan_schedule.proofs.Texts.{on_ok_adds}
 use Rattle.plan_schedule.proofs.Behind.{AreLinesBy, in_time}
 use Rattle.plan_schedule.proofs.schedules.push_accepted_lines.Goals as goal
 
 pub latest_moments-requires : goal.latest_moments-requires
 latest_moments-requires c = rw (c.shaped-shaped.ensures.same, c.times-times.ensures.same) (times_ranks _ _ c.times-times.ensures.ordered.times)
+
+pub new-requires-clause-ranks : goal.new-requires-clause-ranks
+new-requires-clause-ranks c = rw (c.shaped-shaped.ensures.same, c.times-times.ensures.same) (times_ranks _ _ c.times-times.ensures.ordered.times)
+
+pub push_jobs-requires : goal.push_jobs-requires
+push_jobs-requires c = are_soon c.args.verified.now.planned c.args.verified.now.times c.times-times.ensures.ordered (Some c.in_ok-deadlines.deadlines) c.in_ok-calendar.calendar
+    (rw (c.shaped-shaped.ensures.same, c.times-times.ensures.same) at c.in_ok-calendar.ensures)
 
 pub returns : goal.returns
 returns c =

@@ -3,4 +3,4 @@ use Rattle.shop_base.proofs.Sizes.{steps_few}
 use Rattle.plan_schedule.proofs.calendar.Calendar.cleaning.Goals as goal
 
 pub overflow_add-left : goal.overflow_add-left
-overflow_add-left c = omega (arith, steps_few c.args.self.now.plan c.step-machine.ensures.calendar.ordered.times.schedule.shaped c.args.job c.requires.job, c.requires.place)
+overflow_add-left c = omega (arith, steps_few c.args.self.now.plan c.step-machine.ensures.calendar.ranks.shaped c.args.job c.requires.job, c.requires.place)

@@ -4,9 +4,9 @@ use Rattle.shop_base.proofs.Sizes.{steps_few}
 use Rattle.plan_schedule.proofs.calendar.Calendar.visit.Goals as goal
 
 pub overflow_add-next : goal.overflow_add-next
-overflow_add-next c = omega (arith, steps_few c.args.self.now.plan c.step-step.ensures.calendar.ordered.times.schedule.shaped c.args.job c.requires.job, c.requires.place)
+overflow_add-next c = omega (arith, steps_few c.args.self.now.plan c.step-step.ensures.calendar.ranks.shaped c.args.job c.requires.job, c.requires.place)
 
 pub overflow_add-result : goal.overflow_add-result
 overflow_add-result c =
-    let shaped = c.step-step.ensures.calendar.ordered.times.schedule.shaped in
-    omega (arith, c.at-from.ensures.bounded, ap (λ (s : Step). s.nominal) c.step-step.ensures.step, ((shaped.shop.routes c.args.job c.requires.job).steps c.args.place c.requires.place).nominal)
+    let shaped = c.step-step.ensures.calendar.ranks.shaped in
+    omega (arith, c.at-from.ensures, c.requires.soon, ap (λ (s : Step). s.nominal) c.step-step.ensures.step, ((shaped.shop.routes c.args.job c.requires.job).steps c.args.place c.requires.place).nominal)
