@@ -1,0 +1,33 @@
+-- The first lines of verdicts on the rest of a run.
+use Rattle.std.specs.Prelude.{◌≡◌, ℕ, List}
+use Rattle.shop_base.specs.declared.node.Node.{Node}
+use Rattle.shop_base.specs.Plan.{PlannedShop}
+use Rattle.shop_base.specs.Cell.{Cell}
+use Rattle.alt_graph.specs.Times.{earliest_of}
+use Rattle.plan_explain.specs.FirstLines.{accepted_line, cycle_line, refused_late_line}
+use Rattle.rest_times.specs.Leavings.{IsMakespanAfter}
+use Rattle.rest_times.specs.declared.rest_verdict.RestVerdict.{RestVerdict}
+use Rattle.rest_times.specs.declared.rest_verdict.RestVerdict.TheVariants.{Accepted, Cycle, Late}
+use Rattle.rest_texts.specs.RestLeavings.{leavings_by, AreRestLeavings}
+
+-- the line tells these moments of leavings, and the latest of them
+abbrev pub IsAcceptedText : PlannedShop → (Node → ℕ) → List ℕ → Type 0
+IsAcceptedText p kept line = (n : ℕ) × IsMakespanAfter p kept n × (line ≡ accepted_line n (leavings_by p kept))
+
+-- the line of a verdict, by its earliest moments or its evidence
+abbrev pub IsLineByTimes : PlannedShop → RestVerdict → List ℕ → Type 0
+IsLineByTimes p (Accepted times) line = IsAcceptedText p (earliest_of times) line
+IsLineByTimes p (Cycle nodes) line = line ≡ cycle_line nodes.items
+IsLineByTimes p (Late job leaves chain times) line = line ≡ refused_late_line job leaves chain.items
+
+-- the line tells the makespan and the leavings of the rest
+pub record TellsRestAccepted (p : PlannedShop) (c : Cell) (t : ℕ) (line : List ℕ) : Type 0 where
+  pub kept : Node → ℕ
+  pub leavings : AreRestLeavings p c t kept
+  pub tells : IsAcceptedText p kept line
+
+-- the first line of a verdict on the rest
+abbrev pub IsRestFirstLine : PlannedShop → Cell → ℕ → RestVerdict → List ℕ → Type 0
+IsRestFirstLine p c t (Accepted times) line = TellsRestAccepted p c t line
+IsRestFirstLine p c t (Cycle nodes) line = line ≡ cycle_line nodes.items
+IsRestFirstLine p c t (Late job leaves chain times) line = line ≡ refused_late_line job leaves chain.items

@@ -1,0 +1,49 @@
+//! A line that tells of the rest of a run, and the words that its lines share.
+
+ghost use Rattle.std.specs.Prelude.{◌≡◌, ◌+◌, ◌≤◌, ◌++◌, length, OnOk};
+ghost use Rattle.shop_base.specs.NodeText.{node_text};
+ghost use Rattle.plan_schedule.specs.Lines.{due_words};
+ghost use Rattle.rest_texts.specs.declared.words.TheConstants.{LINE_ROOM};
+
+use shop_base::{Moment, Node};
+use std::alloc::AllocError;
+
+/// The room of a line, in bytes.
+pub(crate) const LINE_ROOM: usize = 240;
+
+/// A line of the rest of a run. All are shorter than its room.
+pub(crate) type Line = text_lines::LineText<LINE_ROOM>;
+
+/// Writes the node as `j.k`.
+pub(crate) fn put_node(line: &mut Line, node: Node)
+    requires { 21 + length line.old ≤ LINE_ROOM }
+    ensures written { line.new ≡ node_text node ++ line.old }
+    ensures length { length line.new ≤ 21 + length line.old }
+{
+    line.put_short_number(node.place);
+    line.put_text(b".");
+    line.put_short_number(node.job);
+}
+
+/// Writes the deadline, where there is one.
+pub(crate) fn put_due(line: &mut Line, due: Option<Moment>)
+    requires { length line.old ≤ 60 }
+    ensures written { line.new ≡ due_words due ++ line.old }
+    ensures length { length line.new ≤ 24 + length line.old }
+{
+    match due {
+        Some(deadline) => {
+            line.put_number(deadline);
+            line.put_text(b" by ");
+        }
+        None => {}
+    }
+}
+
+/// Adds the line.
+pub(crate) fn push_line(text: &mut Vec<u8>, line: &Line) -> Result<(), AllocError>
+    ensures { OnOk result (text.new.items ≡ text.old.items ++ line.now) }
+{
+    text.extend_from_slice(line.bytes())?;
+    Ok(())
+}
