@@ -1,4 +1,4 @@
-use Rattle.std.proofs.Common.{inl, inr, [], refl, append-nil, sym}
+use Rattle.std.proofs.Common.{inr, refl}
 use Rattle.alt_graph.specs.Times.{earliest_of}
 use Rattle.plan_schedule.specs.Lines.{cleaning_line}
 use Rattle.plan_schedule.specs.Calendars.{due_at}
