@@ -1,12 +1,12 @@
 //! The status at which each fault of a command ends the program, and what faults say.
 
 use cell_control::ReportFault;
+use cell_drive::ResumeFault;
 use command_answers::CommandFault;
 use command_words::WordsFault;
 use orlib_read::OrFault;
 use plan_seek::SeekFault;
 use plan_text::PlanFault;
-use cell_drive::ResumeFault;
 use shop_base::ShopFault;
 use std::alloc::{AllocError, Global};
 use std::fmt::Display;
