@@ -22,7 +22,7 @@ const TWO: &[u8] = b"two\n2 2\n0 3 1 2\n1 4 0 1\n";
 const CLEANED: &[u8] =
     b"version = 2\nrelease = [0, 0]\nbudget = [5, 12]\norder = [[0, 1], [0, 1]]\nclean = [0, 2]\n";
 
-fn planned(alloc: Global) -> Result<Shaped, Fail> {
+pub(super) fn planned(alloc: Global) -> Result<Shaped, Fail> {
     let shop = read_instance(alloc, TWO)?.shop;
     match shape(shop, read_plan(alloc, CLEANED)?) {
         Ok(shaped) => Ok(shaped),
