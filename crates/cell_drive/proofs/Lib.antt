@@ -23,3 +23,11 @@ pub mod ToldAgain
 pub mod CutLogs
 pub mod ResumedTexts
 pub mod AnsweredAgain
+pub mod Refusing
+pub mod StateTexts
+pub mod Stating
+pub mod OneStated
+pub mod StatedTold
+pub mod Plainly
+pub mod TakenOnce
+pub mod LateWords

@@ -47,13 +47,13 @@ module _ {S Q : Type 0} (asks : List ℕ → Q → Type 0) (answers : S → ℕ 
       let same = one_asked (b ∷ line) one.what also.what one.asked also.asked in
       one_answer start number one.what text other end last kept one.answer (subst (λ (q : Q). answers start number q other last) same also.answer)
 
-  line_keeps : (start : S) (number : ℕ) (line : Option (List ℕ)) (text : List ℕ) (end : S) → Keeps start → LineAnswer asks answers start number line text end → Keeps end
+  pub line_keeps : (start : S) (number : ℕ) (line : Option (List ℕ)) (text : List ℕ) (end : S) → Keeps start → LineAnswer asks answers start number line text end → Keeps end
   line_keeps start number None text end kept is = subst Keeps (sym is.end_is) kept
   line_keeps start number (Some []) text end kept is = subst Keeps (sym is.end_is) kept
   line_keeps start number (Some (b ∷ line)) text end kept (inl is) = subst Keeps (sym is.1.end_is) kept
   line_keeps start number (Some (b ∷ line)) text end kept (inr is) = keeps start number is.what text end kept is.answer
 
-  one_text : (lines : List (Option (List ℕ))) (start end last : S) (number : ℕ) (text other : List ℕ) → Keeps start
+  pub one_text : (lines : List (Option (List ℕ))) (start end last : S) (number : ℕ) (text other : List ℕ) → Keeps start
       → AnswerAll (LineAnswer asks answers) start number lines text end → AnswerAll (LineAnswer asks answers) start number lines other last → (other ≡ text) × (last ≡ end)
   one_text [] start end last number text other kept all also = (also.0 ∙ sym all.0, also.1 ∙ sym all.1)
   one_text (line ∷ lines) start end last number text other kept all also =
@@ -64,7 +64,7 @@ module _ {S Q : Type 0} (asks : List ℕ → Q → Type 0) (answers : S → ℕ 
 
 -- ---- reports on a cell
 
-same_truth : {P : Type 0} (a b : Bool) → ((a ≡ false) ↔ P) → ((b ≡ false) ↔ P) → b ≡ a
+pub same_truth : {P : Type 0} (a b : Bool) → ((a ≡ false) ↔ P) → ((b ≡ false) ↔ P) → b ≡ a
 same_truth true true one also = refl
 same_truth true false one also = let wrong = one.1 (also.0 refl) in absurd (cc)
 same_truth false true one also = let wrong = also.1 (one.0 refl) in absurd (cc)
@@ -76,10 +76,10 @@ pub record IsOnCourse (p : PlannedShop) (c : Cell) : Type 0 where
   pub sound : IsSound p c
   pub rest : IsAtRest p c
 
-record IsOne (text other : List ℕ) (events events' : List Entry) (next next' : Cell) : Type 0 where
-  text_is : other ≡ text
-  events_are : events' ≡ events
-  next_is : next' ≡ next
+pub record IsOne (text other : List ℕ) (events events' : List Entry) (next next' : Cell) : Type 0 where
+  pub text_is : other ≡ text
+  pub events_are : events' ≡ events
+  pub next_is : next' ≡ next
 
 module _ (p : PlannedShop) (prefix : List ℕ) (c : Cell) (number : ℕ) (report : Report) (on : IsOnCourse p c) where
   one_report_answer : (text other : List ℕ) (events events' : List Entry) (next next' : Cell)
@@ -111,7 +111,7 @@ module _ (p : PlannedShop) (prefix : List ℕ) (c : Cell) (number : ℕ) (report
 pub start_on_course : (p : PlannedShop) → IsWellShaped p → IsOnCourse p (undriven p).cell
 start_on_course p shaped = record { shaped = shaped; sound = start-sound p shaped; rest = start_at_rest p }
 
-one_closing : (p : PlannedShop) (c : Cell) (text other : List ℕ) → IsClosingLine p c text → IsClosingLine p c other → other ≡ text
+pub one_closing : (p : PlannedShop) (c : Cell) (text other : List ℕ) → IsClosingLine p c text → IsClosingLine p c other → other ≡ text
 one_closing p c text other (inl ended) (inl also) = also.1 ∙ sym ended.1
 one_closing p c text other (inl ended) (inr not_so) = absurd (not_so.0 ended.0)
 one_closing p c text other (inr unfinished) (inl not_so) = absurd (unfinished.0 not_so.0)

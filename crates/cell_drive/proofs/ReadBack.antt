@@ -5,7 +5,7 @@ use Rattle.shop_base.specs.Cell.{Cell}
 use Rattle.shop_base.specs.Report.{after_report}
 use Rattle.shop_base.specs.Move.{order_for, after_move}
 use Rattle.shop_base.specs.Run.{AreEvents, after_all, IsRun, ends_in}
-use Rattle.shop_base.specs.Controlled.{moved, AreMoves, orders_for, step_orders}
+use Rattle.shop_base.specs.Controlled.{moved, AreMoves, IsStep, after_step, orders_for, step_orders}
 use Rattle.shop_base.specs.Sound.{IsSound}
 use Rattle.shop_base.proofs.Keeping.{after_report-sound, after_move-sound}
 use Rattle.shop_base.proofs.ControlledRuns.{events_join, after_all_join, moves-events, after_all-moves}
@@ -28,12 +28,12 @@ use Rattle.byte_streams.specs.Lines.{input_lines}
 use Rattle.byte_streams.specs.Answering.{AnswerAll}
 use Rattle.cell_drive.specs.LineAnswers.{ReportAnswer}
 use Rattle.cell_drive.specs.AnswerText.{DrivenCell, undriven, CellAnswers, CellCloses}
-use Rattle.cell_drive.specs.AuditLaw.{AnAnswerTextIsALog}
+use Rattle.cell_drive.specs.AuditLaw.{AnAnswerTextIsALog, IsLogOf}
 use Rattle.cell_drive.proofs.LogRoom.{events-orders}
 use Rattle.cell_drive.proofs.OneText.{IsOnCourse, start_on_course, driven_lines_keep}
 use Rattle.cell_drive.proofs.ShopEntries.{report_of_shop, order_of_shop}
 
-name_spaceless : (reason : ReportFault) → IsSpaceless (reason_name reason)
+pub name_spaceless : (reason : ReportFault) → IsSpaceless (reason_name reason)
 name_spaceless JobOutOfRange = refl
 name_spaceless MachineOutOfRange = refl
 name_spaceless MomentTooLarge = refl
@@ -52,7 +52,7 @@ module _ (p : PlannedShop) where
   closing_told end text (inr (unfinished, line)) = subst (λ (t : List ℕ). TellsFirst p t []) (sym line) ((others_tell_none p).unfinished _)
 
   module _ (shaped : IsWellShaped p) where
-    tells_moves : (c : Cell) (t : ℕ) (js : List ℕ) → IsSound p c → AreMoves p c t js → TellsFirst p (order_lines (orders_for p c t js)) (map OrderEntry (orders_for p c t js))
+    pub tells_moves : (c : Cell) (t : ℕ) (js : List ℕ) → IsSound p c → AreMoves p c t js → TellsFirst p (order_lines (orders_for p c t js)) (map OrderEntry (orders_for p c t js))
     tells_moves c t [] sound moves = (tells_none p)
     tells_moves c t (j ∷ js) sound moves =
         let o = order_for p c j t in
@@ -70,7 +70,7 @@ module _ (p : PlannedShop) where
       pub events : AreEvents p before.cell (events_of more)
       pub cell : end.cell ≡ after_all p before.cell (events_of more)
 
-    nothing_told : (before : DrivenCell) (text line : List ℕ) (end : DrivenCell) → end ≡ before → text ≡ line → TellsFirst p line [] → AreTold before text end
+    pub nothing_told : (before : DrivenCell) (text line : List ℕ) (end : DrivenCell) → end ≡ before → text ≡ line → TellsFirst p line [] → AreTold before text end
     nothing_told before text line end same text_is tells = record {
       more = [];
       tells = subst (λ (t : List ℕ). TellsFirst p t []) (sym text_is) tells;
@@ -78,6 +78,31 @@ module _ (p : PlannedShop) where
       events = tt;
       cell = ap (λ (d : DrivenCell). d.cell) same;
     }
+
+    pub step_told : (before : DrivenCell) (report : Report) (text : List ℕ) (end : DrivenCell) (movers : List ℕ) → IsSound p before.cell → IsStep p before.cell (said report) movers
+        → TellsFirst p text (ReportEntry report ∷ map OrderEntry (step_orders p before.cell (said report) movers))
+        → end.entries ≡ before.entries ++ ReportEntry report ∷ map OrderEntry (step_orders p before.cell (said report) movers) → end.cell ≡ after_step p before.cell (said report) movers → AreTold before text end
+    step_told before report text end movers sound step tells entries next_is =
+        let c = before.cell in
+        let r = said report in
+        let next = after_report c r in
+        let moves : events_of (map OrderEntry (step_orders p c r movers)) ≡ moved (step_orders p c r movers) = events-orders (step_orders p c r movers) in
+        record {
+          more = ReportEntry report ∷ map OrderEntry (step_orders p c r movers);
+          tells = tells;
+          entries = entries;
+          events = (step.can, subst (AreEvents p next) (sym moves) (moves-events p next r.at movers step.moves));
+          cell = next_is ∙ sym (ap (after_all p next) moves ∙ after_all-moves p next r.at movers);
+        }
+
+    -- the lines of a step's moves
+    pub step_moves : (c : Cell) (report : Report) (movers : List ℕ) → IsSound p c → IsStep p c (said report) movers
+        → TellsFirst p (order_lines (step_orders p c (said report) movers)) (map OrderEntry (step_orders p c (said report) movers))
+    step_moves c report movers sound step = tells_moves (after_report c (said report)) (said report).at movers (after_report-sound p c (said report) shaped sound step.can) step.moves
+
+    -- and that of its report
+    pub step_report : (c : Cell) (report : Report) (movers : List ℕ) → IsSound p c → IsStep p c (said report) movers → TellsFirst p (report_line report) (ReportEntry report ∷ [])
+    step_report c report movers sound step = tells_entry p shaped (ReportEntry report) (report_of_shop p c report shaped sound step.can)
 
     report_told : (before : DrivenCell) (number : ℕ) (report : Report) (text : List ℕ) (end : DrivenCell) (more : List Entry) → IsSound p before.cell → end.entries ≡ before.entries ++ more
         → ReportAnswer p [] before.cell number report text more end.cell → AreTold before text end
@@ -90,20 +115,13 @@ module _ (p : PlannedShop) where
     }
     report_told before number report text end more sound entries (inr is) =
         let c = before.cell in
-        let r = said report in
-        let orders = step_orders p c r is.movers in
-        let next = after_report c r in
-        let moves : events_of (map OrderEntry orders) ≡ moved orders = events-orders orders in
-        record {
-          more = ReportEntry report ∷ map OrderEntry orders;
-          tells = subst (λ (t : List ℕ). TellsFirst p t (ReportEntry report ∷ map OrderEntry orders)) (sym is.text_is)
-              (tells_both p (report_line report) (cond is.late (late_line r.at) [] ++ order_lines orders) (ReportEntry report ∷ []) (map OrderEntry orders) (tells_entry p shaped (ReportEntry report) (report_of_shop p c report shaped sound is.step.can))
-              (tells_both p (cond is.late (late_line r.at) []) (order_lines orders) [] (map OrderEntry orders) (late_told r.at is.late)
-              (tells_moves next r.at is.movers (after_report-sound p c r shaped sound is.step.can) is.step.moves)));
-          entries = entries ∙ ap (λ (es : List Entry). before.entries ++ es) is.events_are;
-          events = (is.step.can, subst (AreEvents p next) (sym moves) (moves-events p next r.at is.movers is.step.moves));
-          cell = is.next_is ∙ sym (ap (after_all p next) moves ∙ after_all-moves p next r.at is.movers);
-        }
+        let orders = step_orders p c (said report) is.movers in
+        let late = cond is.late (late_line (said report).at) [] in
+        step_told before report text end is.movers sound is.step
+        (subst (λ (t : List ℕ). TellsFirst p t (ReportEntry report ∷ map OrderEntry orders)) (sym is.text_is)
+        (tells_both p (report_line report) (late ++ order_lines orders) (ReportEntry report ∷ []) (map OrderEntry orders) (step_report c report is.movers sound is.step)
+        (tells_both p late (order_lines orders) [] (map OrderEntry orders) (late_told (said report).at is.late) (step_moves c report is.movers sound is.step))))
+        (entries ∙ ap (λ (es : List Entry). before.entries ++ es) is.events_are) is.next_is
 
     line_told : (before : DrivenCell) (number : ℕ) (line : Option (List ℕ)) (text : List ℕ) (end : DrivenCell) → IsSound p before.cell → CellAnswers p before number line text end → AreTold before text end
     line_told before number None text end sound is = nothing_told before text _ end is.end_is is.text_is ((others_tell_none p).refused number (codes "LongLine") refl)
@@ -111,32 +129,45 @@ module _ (p : PlannedShop) where
     line_told before number (Some (b ∷ line)) text end sound (inl is) = nothing_told before text _ end is.1.end_is is.1.text_is ((others_tell_none p).refused number (codes "BadLine") refl)
     line_told before number (Some (b ∷ line)) text end sound (inr is) = report_told before number is.what text end is.answer.more sound is.answer.entries is.answer.answer
 
+    -- lines, whatever is answered to each
+    module _ (answers : DrivenCell → ℕ → Option (List ℕ) → List ℕ → DrivenCell → Type 0)
+        (keeps : (before : DrivenCell) (number : ℕ) (line : Option (List ℕ)) (text : List ℕ) (end : DrivenCell) → IsOnCourse p before.cell → answers before number line text end → IsOnCourse p end.cell)
+        (told : (before : DrivenCell) (number : ℕ) (line : Option (List ℕ)) (text : List ℕ) (end : DrivenCell) → IsSound p before.cell → answers before number line text end → AreTold before text end) where
+      pub all_told : (lines : List (Option (List ℕ))) (before end : DrivenCell) (number : ℕ) (text : List ℕ) → IsOnCourse p before.cell
+          → AnswerAll answers before number lines text end → AreTold before text end
+      all_told [] before end number text on all = nothing_told before text [] end all.1 all.0 (tells_none p)
+      all_told (line ∷ lines) before end number text on all =
+          let first = told before number line all.0 all.2 on.sound all.3 in
+          let others = all_told lines all.2 end (number + 1) all.1 (keeps before number line all.0 all.2 on all.3) all.4 in
+          let joined = events-join first.more others.more in
+          record {
+            more = first.more ++ others.more;
+            tells = subst (λ (t : List ℕ). TellsFirst p t (first.more ++ others.more)) (sym all.5) (tells_both p all.0 all.1 first.more others.more first.tells others.tells);
+            entries = others.entries ∙ ap (λ (es : List Entry). es ++ others.more) first.entries ∙ append_assoc before.entries first.more others.more;
+            events = subst (AreEvents p before.cell) (sym joined)
+                (events_join p before.cell (events_of first.more) (events_of others.more) first.events (subst (λ (x : Cell). AreEvents p x (events_of others.more)) first.cell others.events));
+            cell = others.cell ∙ ap (λ (x : Cell). after_all p x (events_of others.more)) first.cell
+                ∙ sym (after_all_join p before.cell (events_of first.more) (events_of others.more)) ∙ ap (after_all p before.cell) (sym joined);
+          }
+
     pub answers_told : (lines : List (Option (List ℕ))) (before end : DrivenCell) (number : ℕ) (text : List ℕ) → IsOnCourse p before.cell
         → AnswerAll (CellAnswers p) before number lines text end → AreTold before text end
-    answers_told [] before end number text on all = nothing_told before text [] end all.1 all.0 (tells_none p)
-    answers_told (line ∷ lines) before end number text on all =
-        let first = line_told before number line all.0 all.2 on.sound all.3 in
-        let others = answers_told lines all.2 end (number + 1) all.1 (driven_lines_keep p before number line all.0 all.2 on all.3) all.4 in
-        let joined = events-join first.more others.more in
-        record {
-          more = first.more ++ others.more;
-          tells = subst (λ (t : List ℕ). TellsFirst p t (first.more ++ others.more)) (sym all.5) (tells_both p all.0 all.1 first.more others.more first.tells others.tells);
-          entries = others.entries ∙ ap (λ (es : List Entry). es ++ others.more) first.entries ∙ append_assoc before.entries first.more others.more;
-          events = subst (AreEvents p before.cell) (sym joined)
-              (events_join p before.cell (events_of first.more) (events_of others.more) first.events (subst (λ (x : Cell). AreEvents p x (events_of others.more)) first.cell others.events));
-          cell = others.cell ∙ ap (λ (x : Cell). after_all p x (events_of others.more)) first.cell
-              ∙ sym (after_all_join p before.cell (events_of first.more) (events_of others.more)) ∙ ap (after_all p before.cell) (sym joined);
-        }
+    answers_told lines before end number text on all = all_told (CellAnswers p) (driven_lines_keep p) line_told lines before end number text on all
 
-pub an_answer_text_is_a_log : AnAnswerTextIsALog
-an_answer_text_is_a_log p input text end shaped is =
-    let told = answers_told p shaped (input_lines input) (undriven p) end 1 is.answers (start_on_course p shaped) is.are_answers in
-    let tells : LinesTell p (lines_of ((is.answers ++ is.closing) ++ [])) ((told.more ++ []) ++ []) =
-    tells_both p is.answers is.closing told.more [] told.tells (closing_told p end is.closing is.is_closing) [] [] refl in
-    let same_text : (is.answers ++ is.closing) ++ [] ≡ text = append-nil (is.answers ++ is.closing) ∙ sym is.whole in
+-- answers from the start of a run on, and the closing line, are a log
+pub log_of_told : (p : PlannedShop) (shaped : IsWellShaped p) (answers closing text : List ℕ) (end : DrivenCell) → AreTold p shaped (undriven p) answers end → CellCloses p end closing
+    → text ≡ answers ++ closing → IsLogOf p text end
+log_of_told p shaped answers closing text end told closes whole =
+    let tells : LinesTell p (lines_of ((answers ++ closing) ++ [])) ((told.more ++ []) ++ []) =
+    tells_both p answers closing told.more [] told.tells (closing_told p end closing closes) [] [] refl in
+    let same_text : (answers ++ closing) ++ [] ≡ text = append-nil (answers ++ closing) ∙ sym whole in
     let same_entries : (told.more ++ []) ++ [] ≡ end.entries = append-nil (told.more ++ []) ∙ append-nil told.more ∙ sym told.entries in
     record {
-      tells = subst (λ (t : List ℕ). LinesTell p (lines_of t) end.entries) same_text (subst (λ (es : List Entry). LinesTell p (lines_of ((is.answers ++ is.closing) ++ [])) es) same_entries tells);
+      tells = subst (λ (t : List ℕ). LinesTell p (lines_of t) end.entries) same_text (subst (λ (es : List Entry). LinesTell p (lines_of ((answers ++ closing) ++ [])) es) same_entries tells);
       run = subst (λ (es : List Entry). IsRun p (events_of es)) (sym told.entries) told.events;
       cell = told.cell ∙ ap (λ (es : List Entry). ends_in p (events_of es)) (sym told.entries);
     }
+
+pub an_answer_text_is_a_log : AnAnswerTextIsALog
+an_answer_text_is_a_log p input text end shaped is =
+    log_of_told p shaped is.answers is.closing text end (answers_told p shaped (input_lines input) (undriven p) end 1 is.answers (start_on_course p shaped) is.are_answers) is.is_closing is.whole

@@ -1,12 +1,11 @@
 -- What a run that was taken up goes on to write is a log.
-use Rattle.std.proofs.Common.{◌≡◌, ℕ, ◌≤◌, List, [], ◌∷◌, ◌++◌, take, drop, Option, Ok, Bool, cond, length, length-take-le, ◌⊎◌, inl, inr, refl, sym, ap, ◌∙◌, subst, arith, append_assoc, append-nil}
+use Rattle.std.proofs.Common.{◌≡◌, ℕ, ◌≤◌, List, [], ◌∷◌, ◌++◌, take, drop, Option, Bool, cond, length, length-take-le, ◌⊎◌, inl, inr, refl, sym, ap, ◌∙◌, subst, arith, append_assoc, append-nil}
 use Rattle.std.specs.Io.KnownBytes.{Appends}
 use Rattle.std.proofs.KnownBytes.{Appends-trans}
 use Rattle.std.proofs.lemmas.List.{append_cancel_left, take-append-drop}
 use Rattle.shop_base.specs.declared.move_order.MoveOrder.{MoveOrder}
 use Rattle.shop_base.specs.Plan.{PlannedShop, IsWellShaped}
 use Rattle.shop_base.specs.Cell.{Cell, start}
-use Rattle.shop_base.specs.Report as base
 use Rattle.shop_base.specs.Run.{Reported, Moved, AreEvents, after, after_all, IsRun}
 use Rattle.shop_base.specs.Controlled.{Leads}
 use Rattle.shop_base.specs.Sound.{IsSound}
@@ -24,10 +23,8 @@ use Rattle.cell_drive.specs.ToldLines.{told_line, told_lines}
 use Rattle.run_log.specs.Log.{Noted}
 use Rattle.event_lines.specs.LogLines.{IsEntryOf, LinesTell}
 use Rattle.run_log.proofs.Audits.{events-join}
-use Rattle.byte_streams.specs.Lent.{Streams}
 use Rattle.byte_streams.specs.Lines.{input_lines}
 use Rattle.byte_streams.specs.Answering.{AnswerAll}
-use Rattle.cell_drive.specs.declared.one_run.DriveEnd.{DriveEnd}
 use Rattle.cell_drive.specs.AnswerText.{DrivenCell, CellAnswers, CellCloses}
 use Rattle.cell_drive.specs.OneCell.{seen}
 use Rattle.cell_drive.specs.OneRun.{cell_after, IsRunOf}
@@ -39,8 +36,8 @@ use Rattle.event_lines.specs.ReadBack.{TellsFirst}
 use Rattle.event_lines.proofs.Telling.{tells_none, tells_both, tells_entry}
 use Rattle.cell_drive.proofs.ReadBack.{answers_told, late_told}
 use Rattle.cell_drive.proofs.ShopEntries.{report_of_shop, order_of_shop}
-use Rattle.cell_drive.specs.Replays.{TakenUp, shop_of}
-use Rattle.cell_drive.specs.Resuming.{again_text, again_of, driven_so_far, IsResumedText, GoesOn, AResumedTextIsALog, OneResumedText, WhatWasResumedIsSuchAText, AnAuditKeepsWhatWasResumed}
+use Rattle.cell_drive.specs.Replays.{shop_of}
+use Rattle.cell_drive.specs.Resuming.{again_text, again_of, driven_so_far, AResumedTextIsALog, OneResumedText, WhatWasResumedIsSuchAText, AnAuditKeepsWhatWasResumed}
 use Rattle.cell_drive.specs.CutLaw.{WhatWasResumedIsTakenUp}
 use Rattle.cell_drive.proofs.CutLogs.{run_of_leads, leads_join, answers_lead, closing_part, a_cut_log_is_taken_up}
 

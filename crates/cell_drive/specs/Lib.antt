@@ -17,5 +17,11 @@ pub mod ToldLines
 pub mod Resuming
 pub mod CutLaw
 pub mod AnswerLaw
+pub mod Manners
+pub mod Refusals
+pub mod States
+pub mod Stated
+pub mod StatedLaw
 -- Of proofs and private contracts alone.
 pub mod Tickets
+pub mod Judging

@@ -31,7 +31,11 @@ pub(crate) fn put_behind<W: Sink>(
 }
 
 #[inline(always)]
-fn put_report_line<W: Sink>(prefix: &[u8], report: Report, writer: &mut W) -> Result<(), WriteFault>
+pub(crate) fn put_report_line<W: Sink>(
+    prefix: &[u8],
+    report: Report,
+    writer: &mut W,
+) -> Result<(), WriteFault>
     ensures wrote { WroteTo W.Sink result writer.old writer.new (prefix.now ++ report_line report) }
     ensures unfailed { OnOk result (W.failed writer.new ≡ W.failed writer.old) }
 {
@@ -57,7 +61,7 @@ fn put_late<W: Sink>(
 }
 
 #[inline(always)]
-fn put_orders<W: Sink>(
+pub(crate) fn put_orders<W: Sink>(
     prefix: &[u8],
     orders: &[MoveOrder],
     writer: &mut W,

@@ -10,6 +10,7 @@ ghost use Rattle.cell_drive.specs.AuditLaw.{AnAnswerTextIsALog, AnAuditKeepsWhat
 ghost use Rattle.cell_drive.specs.AnswerLaw.{ToldAsAnswered};
 ghost use Rattle.cell_drive.specs.CutLaw.{ACutLogIsTakenUp, WhatWasDrivenIsTakenUp, WhatWasResumedIsTakenUp};
 ghost use Rattle.cell_drive.specs.Resuming.{AResumedTextIsALog, AnAuditKeepsWhatWasResumed, OneResumedText, WhatWasResumedIsSuchAText};
+ghost use Rattle.cell_drive.specs.StatedLaw.{OneStatedText, AStatedCellAnswersSo, AStatedTextIsALog, PlainlyAsEver, NothingIsTakenTwice, ALateReportFindsSomethingOverdue};
 
 pub use byte_streams::laws::the_limits_of_an_input_in_numbers;
 
@@ -79,4 +80,29 @@ pub fn one_resumed_text()
 pub fn an_audit_keeps_what_was_resumed()
     ensures log { AResumedTextIsALog }
     ensures audit { AnAuditKeepsWhatWasResumed }
+{}
+
+/// In each manner in which a cell of a well-shaped plan can be driven, an input has one answer text at most, which
+/// leads to one cell with one list of events, and is a log of these. What a cell that is driven so has answered is such
+/// a text.
+pub fn one_stated_text_which_is_a_log()
+    ensures one { OneStatedText }
+    ensures driven { AStatedCellAnswersSo }
+    ensures log { AStatedTextIsALog }
+{}
+
+/// In version 1 of the lines, and with no moment that leaps, each line is answered as `drive` answers it.
+pub fn plainly_as_ever()
+    ensures { PlainlyAsEver }
+{}
+
+/// However often the lines of an arrival, of a finish or of a cleaning after a job are sent to a driven cell, and with
+/// whatever moments, it takes one of them at most.
+pub fn nothing_is_taken_twice()
+    ensures { NothingIsTakenTwice }
+{}
+
+/// A late report finds something overdue, its own activity or another: so its line always tells what.
+pub fn a_late_report_finds_something_overdue()
+    ensures { ALateReportFindsSomethingOverdue }
 {}

@@ -6,15 +6,22 @@
 #![tactic(auto)]
 
 mod answers;
+mod judging;
 pub mod laws;
+mod manner;
 mod many_cells;
 mod many_runs;
 mod one_cell;
 mod one_run;
+mod refusals;
 mod replay;
 mod resume_fault;
 mod resuming;
 mod same_order;
+mod stated_cell;
+mod stated_run;
+mod states;
+mod taken_lines;
 mod taking_up;
 mod tickets;
 mod told_again;
@@ -24,9 +31,11 @@ pub use byte_streams::{
     reading_room, stream,
 };
 pub use event_lines::{done_line, late_line, refused_line, report_of, unfinished_line};
+pub use manner::Manner;
 pub use many_runs::{HubEnd, drive_hub};
 pub use one_cell::{Driven, take_report};
 pub use one_run::{DriveEnd, drive, end_driven, start_driven};
 pub use resume_fault::ResumeFault;
 pub use resuming::resume;
+pub use stated_run::drive_stated;
 pub use taking_up::{Taken, take_up};

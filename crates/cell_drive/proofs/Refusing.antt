@@ -1,0 +1,93 @@
+-- What is claimed, and why it is refused.
+use Rattle.std.proofs.Common.{◌≡◌, ◌≤◌, length, Bool, true, false, cond, sym, ap, ◌∙◌, inl, inr, arith}
+use Rattle.shop_base.specs.Plan.{PlannedShop, IsWellShaped}
+use Rattle.shop_base.specs.Cell.{Cell}
+use Rattle.shop_base.specs.Report.{CanReport}
+use Rattle.shop_base.specs.Sound.{IsSound}
+use Rattle.cell_tables.specs.declared.report.Report as reports
+use Rattle.cell_tables.specs.declared.report.Report.TheVariants.{Arrive, Finish, Clean}
+use Rattle.cell_tables.specs.Reports.{said}
+use Rattle.cell_control.specs.declared.report_fault.ReportFault.{ReportFault}
+use Rattle.cell_control.specs.declared.report_fault.ReportFault.TheVariants.{JobOutOfRange, MachineOutOfRange, MomentTooLarge, Backwards, NotExpected, WrongKind, WrongMachine}
+use Rattle.cell_control.specs.Reports.{IsOfShop}
+use Rattle.cell_control.proofs.CleanReasons.{can_clean, clean_reason-cannot, only_clean_reason}
+use Rattle.cell_control.proofs.OneReason.{only_reason}
+use Rattle.cell_control.proofs.Reasons.{reason-cannot}
+use Rattle.event_lines.specs.declared.requests.Claim.{Claim}
+use Rattle.event_lines.specs.declared.requests.Claim.TheVariants.{Report, CleanAfter}
+use Rattle.event_lines.specs.Requests.{claimed}
+use Rattle.cell_drive.specs.declared.manner.Manner.{Manner}
+use Rattle.cell_drive.specs.declared.refusals.Refusal.{Refusal}
+use Rattle.cell_drive.specs.declared.refusals.Refusal.TheVariants.{Reason, Leap}
+use Rattle.cell_drive.specs.Refusals.{CanClaim, IsClaimReason, IsRefusal, IsTaken, claim_leaps, first_refusal, is_before_leap, refusal_word}
+use Rattle.cell_drive.proofs.ShopEntries.{report_of_shop}
+
+-- what can be claimed can be reported
+pub can_report : (p : PlannedShop) (c : Cell) (claim : Claim) → CanClaim p c claim → CanReport p c (said (claimed claim))
+can_report p c (Report report) can = can
+can_report p c (CleanAfter machine job at) can = can_clean p c machine job at can
+
+-- what can be reported is of the shop
+pub reported_of_shop : (p : PlannedShop) (c : Cell) (report : reports.Report) → IsWellShaped p → IsSound p c → CanReport p c (said report) → IsOfShop p (said report).ended
+reported_of_shop p c (Arrive job at) shaped sound can = (report_of_shop p c (Arrive job at) shaped sound can).0
+reported_of_shop p c (Finish job machine at) shaped sound can = (report_of_shop p c (Finish job machine at) shaped sound can).0.0
+reported_of_shop p c (Clean machine at) shaped sound can = (report_of_shop p c (Clean machine at) shaped sound can).0
+
+module _ (p : PlannedShop) (c : Cell) where
+  -- what has a reason against it that is looked for after a leap is of the shop
+  claim_of_shop : (claim : Claim) (reason : ReportFault) → IsClaimReason p c claim reason → is_before_leap reason ≡ false → IsOfShop p (said (claimed claim)).ended
+  claim_of_shop claim JobOutOfRange is after = absurd (cc)
+  claim_of_shop claim MachineOutOfRange is after = absurd (cc)
+  claim_of_shop claim MomentTooLarge is after = absurd (cc)
+  claim_of_shop claim (Backwards last) is after = absurd (cc)
+  claim_of_shop (Report report) NotExpected is after = is.0.of_shop
+  claim_of_shop (Report report) WrongKind is after = is.0.of_shop
+  claim_of_shop (Report report) (WrongMachine actual) is after = is.0.of_shop
+  claim_of_shop (CleanAfter machine job at) NotExpected is after = is.0.0
+  claim_of_shop (CleanAfter machine job at) WrongKind is after = absurd is
+  claim_of_shop (CleanAfter machine job at) (WrongMachine actual) is after = absurd is
+
+  first_named : (before leaps : Bool) (reason given : ReportFault) → Reason reason ≡ cond before (Reason given) (cond leaps Leap (Reason given)) → reason ≡ given
+  first_named true leaps reason given same = cc
+  first_named false true reason given same = absurd (cc)
+  first_named false false reason given same = cc
+
+  -- and so is what is refused for such a reason
+  pub refused_of_shop : (manner : Manner) (claim : Claim) (reason : ReportFault) → IsRefusal manner p c claim (Reason reason) → is_before_leap reason ≡ false → IsOfShop p (said (claimed claim)).ended
+  refused_of_shop manner claim reason (inl (given, is, same)) after =
+      let named : reason ≡ given = first_named (is_before_leap given) (claim_leaps manner c claim) reason given same in
+      claim_of_shop claim given is (sym (ap is_before_leap named) ∙ after)
+  refused_of_shop manner claim reason (inr (can, does_leap, same)) after = absurd (cc)
+
+  module _ (shaped : IsWellShaped p) (sound : IsSound p c) where
+    only_claim_reason : (claim : Claim) (one other : ReportFault) → IsClaimReason p c claim one → IsClaimReason p c claim other → other ≡ one
+    only_claim_reason (Report report) one other is also = only_reason p c (said report) one is other also
+    only_claim_reason (CleanAfter machine job at) one other is also = only_clean_reason p c machine job at shaped sound one is other also
+
+    claim_reason-cannot : (claim : Claim) (reason : ReportFault) → IsClaimReason p c claim reason → CanClaim p c claim → ⊥
+    claim_reason-cannot (Report report) reason is can = reason-cannot p c (said report) reason sound is can
+    claim_reason-cannot (CleanAfter machine job at) reason is can = clean_reason-cannot p c machine job at shaped sound reason is can
+
+    module _ (manner : Manner) (claim : Claim) where
+      -- what is claimed is refused for one thing
+      pub one_refusal : (one other : Refusal) → IsRefusal manner p c claim one → IsRefusal manner p c claim other → other ≡ one
+      one_refusal one other (inl (reason, is, same)) (inl (reason', is', same')) =
+          same' ∙ ap (first_refusal (claim_leaps manner c claim)) (only_claim_reason claim reason reason' is is') ∙ sym same
+      one_refusal one other (inl (reason, is, same)) (inr (can, does_leap, same')) = absurd (claim_reason-cannot claim reason is can)
+      one_refusal one other (inr (can, does_leap, same)) (inl (reason, is, same')) = absurd (claim_reason-cannot claim reason is can)
+      one_refusal one other (inr (can, does_leap, same)) (inr (can', does_leap', same')) = same' ∙ sym same
+
+      -- or it is taken
+      pub refused_or_taken : (refusal : Refusal) → IsRefusal manner p c claim refusal → IsTaken manner p c claim → ⊥
+      refused_or_taken refusal (inl (reason, is, same)) (can, stays) = claim_reason-cannot claim reason is can
+      refused_or_taken refusal (inr (can, does_leap, same)) (can', stays) = absurd (cc)
+
+pub word_short : (refusal : Refusal) → length (refusal_word refusal) ≤ 20
+word_short (Reason JobOutOfRange) = omega arith
+word_short (Reason MachineOutOfRange) = omega arith
+word_short (Reason MomentTooLarge) = omega arith
+word_short (Reason (Backwards last)) = omega arith
+word_short (Reason NotExpected) = omega arith
+word_short (Reason WrongKind) = omega arith
+word_short (Reason (WrongMachine actual)) = omega arith
+word_short Leap = omega arith

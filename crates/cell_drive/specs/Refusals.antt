@@ -1,0 +1,91 @@
+-- Why what a line claims is refused, and what is told of it.
+use Rattle.std.specs.Prelude.{◌≡◌, ℕ, List, codes, Bool, true, false, ◌⊎◌, if◌then◌else◌}
+use Rattle.shop_base.specs.Plan.{PlannedShop}
+use Rattle.shop_base.specs.Cell.{Cell}
+use Rattle.shop_base.specs.Report.{CanReport}
+use Rattle.cell_tables.specs.declared.report.Report as reports
+use Rattle.cell_tables.specs.declared.report.Report.TheVariants.{Arrive, Finish, Clean}
+use Rattle.cell_tables.specs.Reports.{said}
+use Rattle.cell_tables.specs.declared.standing.Standing.{Standing}
+use Rattle.cell_tables.specs.Standings.{job_standing, machine_standing}
+use Rattle.cell_control.specs.declared.report_fault.ReportFault.{ReportFault}
+use Rattle.cell_control.specs.declared.report_fault.ReportFault.TheVariants.{JobOutOfRange, MachineOutOfRange, MomentTooLarge, Backwards, NotExpected, WrongKind, WrongMachine}
+use Rattle.cell_control.specs.ReasonNames.{reason_name}
+use Rattle.cell_control.specs.Reports.{IsFirstReason, CanCleanAfter, IsFirstCleanReason}
+use Rattle.event_lines.specs.declared.details.Detail.{Detail}
+use Rattle.event_lines.specs.declared.details.Detail.TheVariants.{Nothing, Last, Stands}
+use Rattle.event_lines.specs.declared.requests.Claim.{Claim}
+use Rattle.event_lines.specs.declared.requests.Claim.TheVariants.{Report, CleanAfter}
+use Rattle.event_lines.specs.Requests.{claimed}
+use Rattle.cell_drive.specs.declared.manner.Manner.{Manner}
+use Rattle.cell_drive.specs.Manners.{leap_base, leaps}
+use Rattle.cell_drive.specs.declared.refusals.Refusal.{Refusal}
+use Rattle.cell_drive.specs.declared.refusals.Refusal.TheVariants.{Reason, Leap}
+
+-- what is claimed is possible
+abbrev pub CanClaim : PlannedShop → Cell → Claim → Type 0
+CanClaim p c (Report report) = CanReport p c (said report)
+CanClaim p c (CleanAfter machine job at) = CanCleanAfter p c machine job at
+
+-- this is the first reason for which it isn't
+abbrev pub IsClaimReason : PlannedShop → Cell → Claim → ReportFault → Type 0
+IsClaimReason p c (Report report) reason = IsFirstReason p c (said report) reason
+IsClaimReason p c (CleanAfter machine job at) reason = IsFirstCleanReason p c machine job at reason
+
+-- whether its moment leaps
+abbrev pub claim_leaps : Manner → Cell → Claim → Bool
+claim_leaps manner c claim = leaps manner c.last (said (claimed claim)).at
+
+-- whether the reason is looked for before a leap: it is one against the numbers, or the moment is before the last one
+abbrev pub is_before_leap : ReportFault → Bool
+is_before_leap JobOutOfRange = true
+is_before_leap MachineOutOfRange = true
+is_before_leap MomentTooLarge = true
+is_before_leap (Backwards last) = true
+is_before_leap NotExpected = false
+is_before_leap WrongKind = false
+is_before_leap (WrongMachine actual) = false
+
+-- why that is refused which has this first reason against it, and leaps or doesn't
+abbrev pub first_refusal : Bool → ReportFault → Refusal
+first_refusal leaps reason = if is_before_leap reason then Reason reason else (if leaps then Leap else Reason reason)
+
+-- the claim is refused for this: a reason is against it, or it is possible and leaps
+abbrev pub IsRefusal : Manner → PlannedShop → Cell → Claim → Refusal → Type 0
+IsRefusal manner p c claim refusal =
+    ((reason : ReportFault) × IsClaimReason p c claim reason × (refusal ≡ first_refusal (claim_leaps manner c claim) reason))
+    ⊎ (CanClaim p c claim × (claim_leaps manner c claim ≡ true) × (refusal ≡ Leap))
+
+-- the claim is taken: it is possible, and doesn't leap
+abbrev pub IsTaken : Manner → PlannedShop → Cell → Claim → Type 0
+IsTaken manner p c claim = CanClaim p c claim × (claim_leaps manner c claim ≡ false)
+
+-- the name of the refusal, as it stands in a line
+abbrev pub refusal_word : Refusal → List ℕ
+refusal_word (Reason reason) = reason_name reason
+refusal_word Leap = codes "Leap"
+
+-- how it stands with the job or the machine of a report
+abbrev pub standing_of : PlannedShop → Cell → reports.Report → Standing
+standing_of p c (Arrive job at) = job_standing p c job
+standing_of p c (Finish job machine at) = job_standing p c job
+standing_of p c (Clean machine at) = machine_standing p c machine
+
+-- what the controller has instead of what was reported
+abbrev pub reason_detail : PlannedShop → Cell → reports.Report → ReportFault → Detail
+reason_detail p c report JobOutOfRange = Nothing
+reason_detail p c report MachineOutOfRange = Nothing
+reason_detail p c report MomentTooLarge = Nothing
+reason_detail p c report (Backwards last) = Last last
+reason_detail p c report NotExpected = Stands (standing_of p c report)
+reason_detail p c report WrongKind = Stands (standing_of p c report)
+reason_detail p c report (WrongMachine actual) = Stands (standing_of p c report)
+
+-- of a leap, the moment from which it counts
+abbrev pub told_detail : Manner → PlannedShop → Cell → reports.Report → Refusal → Detail
+told_detail manner p c report (Reason reason) = reason_detail p c report reason
+told_detail manner p c report Leap = Last (leap_base manner c.last)
+
+-- what is told behind the name of a refusal, from version 2 of the lines on
+abbrev pub refusal_detail : Manner → PlannedShop → Cell → reports.Report → Refusal → Detail
+refusal_detail manner p c report refusal = if manner.tells then told_detail manner p c report refusal else Nothing

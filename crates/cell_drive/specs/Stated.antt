@@ -1,0 +1,171 @@
+-- A cell that is driven in a manner: what is asked for, and how it is answered.
+use Rattle.std.specs.Prelude.{◌≡◌, ◌↔◌, ℕ, List, [], ◌∷◌, ◌++◌, map, Option, None, Some, Bool, true, false, ◌&&◌, ◌==◌, ◌⊎◌, if◌then◌else◌, Result, IfOk}
+use Rattle.std.specs.List.{flat_map}
+use Rattle.shop_base.specs.declared.move_order.MoveOrder.{MoveOrder}
+use Rattle.shop_base.specs.Plan.{PlannedShop}
+use Rattle.shop_base.specs.Cell.{Cell}
+use Rattle.shop_base.specs.Controlled.{IsStep, after_step, step_orders}
+use Rattle.shop_base.specs.Punctual.{IsPunctual}
+use Rattle.shop_base.specs.ReportsLeft.{reports_left}
+use Rattle.plan_verifier.specs.Accepted.{VerifiedPlan}
+use Rattle.cell_tables.specs.declared.report.Report as reports
+use Rattle.cell_tables.specs.Reports.{said}
+use Rattle.cell_tables.specs.declared.entry.Entry.{Entry}
+use Rattle.cell_tables.specs.declared.entry.Entry.TheVariants.{Report as ReportEntry, Order as OrderEntry}
+use Rattle.cell_control.specs.Control.{Control}
+use Rattle.run_log.specs.Log.{Noted}
+use Rattle.byte_streams.specs.declared.drive_fault.DriveFault.{DriveFault}
+use Rattle.byte_streams.specs.Lent.{Streams}
+use Rattle.byte_streams.specs.Lines.{input_lines}
+use Rattle.byte_streams.specs.Answering.{AnswerAll}
+use Rattle.event_lines.specs.EventLines.{report_line, order_line}
+use Rattle.event_lines.specs.AnswerLines.{late_line, done_line}
+use Rattle.event_lines.specs.SentLines.{IsReportLine}
+use Rattle.event_lines.specs.StandingLines.{refused_detail_line, late_overdue_line}
+use Rattle.event_lines.specs.Requests.{claimed, IsRequestLine}
+use Rattle.event_lines.specs.declared.details.Overdue.{Overdue}
+use Rattle.event_lines.specs.declared.requests.Claim.{Claim}
+use Rattle.event_lines.specs.declared.requests.Claim.TheVariants.{Report, CleanAfter}
+use Rattle.event_lines.specs.declared.requests.Request.{Request}
+use Rattle.event_lines.specs.declared.requests.Request.TheVariants.{Claim as ClaimRequest, Status}
+use Rattle.cell_drive.specs.declared.manner.Manner.{Manner}
+use Rattle.cell_drive.specs.declared.refusals.Refusal.{Refusal}
+use Rattle.cell_drive.specs.declared.one_run.DriveEnd.{DriveEnd}
+use Rattle.cell_drive.specs.Refusals.{IsRefusal, IsTaken, refusal_word, refusal_detail, standing_of}
+use Rattle.cell_drive.specs.States.{overdue_in, state_text}
+use Rattle.cell_drive.specs.LineAnswers.{LineAnswer}
+use Rattle.cell_drive.specs.AnswerText.{DrivenCell, undriven, CellCloses}
+use Rattle.cell_drive.specs.OneCell.{DriveState, DriveCloses, driven_by, drive_start, seen}
+use Rattle.cell_drive.specs.OneRun.{IsEndOf, IsStreamedFrom}
+
+-- the line asks for this: in version 1 of the lines a report, in version 2 whatever is a request
+abbrev pub AsksFor : Bool → List ℕ → Request → Type 0
+AsksFor true line request = IsRequestLine line request
+AsksFor false line (ClaimRequest (Report report)) = IsReportLine line report
+AsksFor false line (ClaimRequest (CleanAfter machine job at)) = ⊥
+AsksFor false line Status = ⊥
+
+-- what is told to be overdue as a report comes, from version 2 on
+abbrev pub told_overdue : Manner → PlannedShop → Cell → reports.Report → Option Overdue
+told_overdue manner p c report = if manner.tells then overdue_in p c (standing_of p c report) (said report).at else None
+
+-- whether the end of the run is told at once
+abbrev pub tells_end : Manner → PlannedShop → Cell → Bool
+tells_end manner p c = manner.tells && (reports_left p c == 0)
+
+-- `late T`, and what is overdue where that is told
+abbrev pub lateness_line : ℕ → Option Overdue → List ℕ
+lateness_line at None = late_line at
+lateness_line at (Some overdue) = late_overdue_line at overdue
+
+-- that line, with this before it, if the report was late
+abbrev pub lateness_part : List ℕ → ℕ → Bool → Option Overdue → List ℕ
+lateness_part prefix at late overdue = if late then prefix ++ lateness_line at overdue else []
+
+-- the line of the end, if it is told
+abbrev pub end_part : List ℕ → ℕ → Bool → List ℕ
+end_part prefix at ended = if ended then prefix ++ done_line at else []
+
+-- the lines that answer an accepted report, with this before each: its own line, the line that it was late, the lines of its moves, and that of the end
+abbrev pub taken_lines : List ℕ → reports.Report → Bool → Option Overdue → List MoveOrder → Bool → List ℕ
+taken_lines prefix report late overdue orders ended =
+    (prefix ++ report_line report) ++ (lateness_part prefix (said report).at late overdue
+    ++ (flat_map (λ o. prefix ++ order_line o) orders ++ end_part prefix (said report).at ended))
+
+-- the claim is refused, and nothing changes
+pub record IsClaimRefused (p : PlannedShop) (manner : Manner) (prefix : List ℕ) (c : Cell) (number : ℕ) (claim : Claim) (text : List ℕ) (events : List Entry) (next : Cell) : Type 0 where
+  pub refusal : Refusal
+  pub first : IsRefusal manner p c claim refusal
+  pub text_is : text ≡ prefix ++ refused_detail_line number (refusal_word refusal) (refusal_detail manner p c (claimed claim) refusal)
+  pub events_are : events ≡ []
+  pub next_is : next ≡ c
+
+-- the claim is taken: its report makes a step of the controlled run, with these events
+pub record IsClaimTaken (p : PlannedShop) (manner : Manner) (prefix : List ℕ) (c : Cell) (claim : Claim) (text : List ℕ) (events : List Entry) (next : Cell) : Type 0 where
+  pub taken : IsTaken manner p c claim
+  pub movers : List ℕ
+  pub step : IsStep p c (said (claimed claim)) movers
+  pub late : Bool
+  pub late_is : (late ≡ false) ↔ IsPunctual p c (said (claimed claim))
+  pub text_is : text ≡ taken_lines prefix (claimed claim) late (told_overdue manner p c (claimed claim)) (step_orders p c (said (claimed claim)) movers) (tells_end manner p next)
+  pub events_are : events ≡ ReportEntry (claimed claim) ∷ map OrderEntry (step_orders p c (said (claimed claim)) movers)
+  pub next_is : next ≡ after_step p c (said (claimed claim)) movers
+
+-- the state is told, and nothing changes
+pub record IsStateTold (p : PlannedShop) (prefix : List ℕ) (c : Cell) (text : List ℕ) (events : List Entry) (next : Cell) : Type 0 where
+  pub text_is : text ≡ state_text prefix p c
+  pub events_are : events ≡ []
+  pub next_is : next ≡ c
+
+-- in a cell a request, by its line of this number, is answered by this text, with this before each of its lines. It adds these events, and the cell is then another
+abbrev pub RequestAnswer : PlannedShop → Manner → List ℕ → Cell → ℕ → Request → List ℕ → List Entry → Cell → Type 0
+RequestAnswer p manner prefix c number (ClaimRequest claim) text events next = IsClaimRefused p manner prefix c number claim text events next ⊎ IsClaimTaken p manner prefix c claim text events next
+RequestAnswer p manner prefix c number Status text events next = IsStateTold p prefix c text events next
+
+-- so it is in a driven cell
+pub record CellRequests (p : PlannedShop) (manner : Manner) (before : DrivenCell) (number : ℕ) (request : Request) (text : List ℕ) (next : DrivenCell) : Type 0 where
+  pub more : List Entry
+  pub answer : RequestAnswer p manner [] before.cell number request text more next.cell
+  pub entries : next.entries ≡ before.entries ++ more
+
+-- and so with a line
+abbrev pub StatedAnswers : PlannedShop → Manner → DrivenCell → ℕ → Option (List ℕ) → List ℕ → DrivenCell → Type 0
+StatedAnswers p manner = LineAnswer (AsksFor manner.tells) (CellRequests p manner)
+
+-- the first lines of an input are answered by this text
+abbrev pub AreStatedTo : PlannedShop → Manner → List (Option (List ℕ)) → List ℕ → DrivenCell → Type 0
+AreStatedTo p manner lines text end = AnswerAll (StatedAnswers p manner) (undriven p) 1 lines text end
+
+-- the answer text of an input: the answers to its lines, in order, and the closing line
+pub record IsStatedText (p : PlannedShop) (manner : Manner) (input text : List ℕ) (end : DrivenCell) : Type 0 where
+  pub answers : List ℕ
+  pub are_answers : AreStatedTo p manner (input_lines input) answers end
+  pub closing : List ℕ
+  pub is_closing : CellCloses p end closing
+  pub whole : text ≡ answers ++ closing
+
+-- ---- the cell of a controller
+
+-- a driven cell, and the manner
+pub record StatedState : Type 0 where
+  pub manner : Manner
+  pub driven : DriveState
+
+-- a manner, a controller and a log, as one cell
+abbrev pub stated_by : Manner → Control → Noted → StatedState
+stated_by manner control log = record { manner = manner; driven = driven_by control log }
+
+-- before the first line
+abbrev pub stated_start : Manner → VerifiedPlan → StatedState
+stated_start manner v = record { manner = manner; driven = drive_start v }
+
+-- a request by the line of this number is answered by this text, by the cell and into the log
+pub record AnswersRequest (manner : Manner) (start : DriveState) (number : ℕ) (request : Request) (end : DriveState) (text : List ℕ) : Type 0 where
+  pub answer : CellRequests start.control.plan.planned manner (seen start) number request text (seen end)
+  pub plan : end.control.plan ≡ start.control.plan
+  pub reserved : end.log.reserved ≡ start.log.reserved
+
+-- the texts that answer a request by the line of this number, by a controller and its log before and after it
+abbrev pub RequestedBy : Manner → Control → Noted → ℕ → Request → Control → Noted → List ℕ → Type 0
+RequestedBy manner control log number request control_then log_then text = AnswersRequest manner (driven_by control log) number request (driven_by control_then log_then) text
+
+-- the line of this number is answered by this text
+pub record StatedAnswer (start : StatedState) (number : ℕ) (line : Option (List ℕ)) (text : List ℕ) (end : StatedState) : Type 0 where
+  pub answer : StatedAnswers start.driven.control.plan.planned start.manner (seen start.driven) number line text (seen end.driven)
+  pub plan : end.driven.control.plan ≡ start.driven.control.plan
+  pub reserved : end.driven.log.reserved ≡ start.driven.log.reserved
+  pub manner : end.manner ≡ start.manner
+
+-- the texts that answer a line of this number that isn't too long, by a controller and its log before and after it
+abbrev pub StatedBy : Manner → Control → Noted → ℕ → List ℕ → Control → Noted → List ℕ → Type 0
+StatedBy manner control log number line control_then log_then text = StatedAnswer (stated_by manner control log) number (Some line) text (stated_by manner control_then log_then)
+
+-- the closing line
+abbrev pub StatedCloses : StatedState → List ℕ → Type 0
+StatedCloses s = DriveCloses s.driven
+
+-- the cell of the plan was driven in this manner from its start to this end; or driving it was broken off by this fault
+pub record IsStatedDrive (v : VerifiedPlan) (manner : Manner) (before after : Streams) (outcome : Result DriveEnd DriveFault) : Type 0 where
+  pub end : StatedState
+  pub streamed : IsStreamedFrom StatedAnswer StatedCloses (stated_start manner v) outcome end before after
+  pub came_to : IfOk outcome (IsEndOf v end.driven)

@@ -1,0 +1,58 @@
+-- The laws of cells that are driven in a manner.
+use Rattle.std.specs.Prelude.{◌≡◌, ℕ, List, Option, None, Some}
+use Rattle.shop_base.specs.Plan.{PlannedShop, IsWellShaped}
+use Rattle.shop_base.specs.Cell.{Cell}
+use Rattle.shop_base.specs.Punctual.{IsPunctual}
+use Rattle.shop_base.specs.Sound.{IsSound}
+use Rattle.cell_tables.specs.Reports.{said}
+use Rattle.cell_tables.specs.declared.report.Report as reports
+use Rattle.cell_tables.specs.declared.report.Report.TheVariants.{Arrive, Finish, Clean}
+use Rattle.cell_control.specs.OnceLaw.{NamedEnd, Arrived, Finished, Cleaned}
+use Rattle.byte_streams.specs.Answering.{AnswerAll}
+use Rattle.event_lines.specs.declared.requests.Claim.{Claim}
+use Rattle.event_lines.specs.declared.requests.Claim.TheVariants.{Report, CleanAfter}
+use Rattle.event_lines.specs.declared.requests.Request.TheVariants.{Claim as ClaimRequest}
+use Rattle.cell_drive.specs.declared.manner.Manner.{Manner}
+use Rattle.cell_drive.specs.Manners.{plain_from}
+use Rattle.cell_drive.specs.AnswerText.{DrivenCell, CellAnswers}
+use Rattle.cell_drive.specs.AuditLaw.{IsLogOf}
+use Rattle.cell_drive.specs.OneCell.{seen}
+use Rattle.cell_drive.specs.Refusals.{CanClaim, IsTaken, standing_of}
+use Rattle.cell_drive.specs.States.{overdue_in}
+use Rattle.cell_drive.specs.Stated.{StatedState, StatedAnswer, StatedAnswers, CellRequests, AreStatedTo, IsStatedText}
+
+-- in each manner an input has one answer text at most, which leads to one cell with one list of events
+abbrev pub OneStatedText : Type 0
+OneStatedText = (p : PlannedShop) (manner : Manner) (input text other : List ℕ) (end last : DrivenCell)
+    → IsWellShaped p → IsStatedText p manner input text end → IsStatedText p manner input other last → (other ≡ text) × (last ≡ end)
+
+-- what a cell that is driven in a manner answers to lines is what its cell answers to them by its plan, which stays
+abbrev pub AStatedCellAnswersSo : Type 0
+AStatedCellAnswersSo = (s end : StatedState) (number : ℕ) (lines : List (Option (List ℕ))) (text : List ℕ) → AnswerAll StatedAnswer s number lines text end
+    → AnswerAll (StatedAnswers s.driven.control.plan.planned s.manner) (seen s.driven) number lines text (seen end.driven) × (end.driven.control.plan ≡ s.driven.control.plan)
+
+-- the answer text is a log of what was accepted and ordered
+abbrev pub AStatedTextIsALog : Type 0
+AStatedTextIsALog = (p : PlannedShop) (manner : Manner) (input text : List ℕ) (end : DrivenCell) → IsWellShaped p → IsStatedText p manner input text end → IsLogOf p text end
+
+-- in version 1 of the lines, and with no leap, lines are answered as `drive` answers them
+abbrev pub PlainlyAsEver : Type 0
+PlainlyAsEver = (p : PlannedShop) (from number : ℕ) (lines : List (Option (List ℕ))) (text : List ℕ) (start end : DrivenCell)
+    → AnswerAll (StatedAnswers p (plain_from from)) start number lines text end → AnswerAll (CellAnswers p) start number lines text end
+
+-- what is claimed to have ended, where the claim names its job
+abbrev pub named : Claim → Option NamedEnd
+named (Report (Arrive job at)) = Some (Arrived job)
+named (Report (Finish job machine at)) = Some (Finished job machine)
+named (Report (Clean machine at)) = None
+named (CleanAfter machine job at) = Some (Cleaned machine job)
+
+-- a claim that names its job was taken behind some lines, and then further lines were answered: what it said to have ended can't be claimed again, at whatever moment
+abbrev pub NothingIsTakenTwice : Type 0
+NothingIsTakenTwice = (p : PlannedShop) (manner : Manner) (lines later : List (Option (List ℕ))) (before after end : DrivenCell) (number next : ℕ) (texts text others : List ℕ) (claim again : Claim) (ended : NamedEnd)
+    → IsWellShaped p → AreStatedTo p manner lines texts before → IsTaken manner p before.cell claim → CellRequests p manner before number (ClaimRequest claim) text after
+    → AnswerAll (StatedAnswers p manner) after next later others end → named claim ≡ Some ended → named again ≡ Some ended → CanClaim p end.cell again → ⊥
+
+-- where a report finds nothing overdue, it is punctual: so of each late one it is told what is
+abbrev pub ALateReportFindsSomethingOverdue : Type 0
+ALateReportFindsSomethingOverdue = (p : PlannedShop) (c : Cell) (report : reports.Report) → IsSound p c → overdue_in p c (standing_of p c report) (said report).at ≡ None → IsPunctual p c (said report)

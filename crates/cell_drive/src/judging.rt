@@ -1,0 +1,83 @@
+//! Whether what is claimed is taken, and what is told of it.
+
+ghost use Rattle.std.specs.Prelude.{◌≡◌, ◌++◌, OnOk};
+ghost use Rattle.shop_base.specs.Report.{CanReport};
+ghost use Rattle.cell_tables.specs.Reports.{said};
+ghost use Rattle.byte_streams.specs.Lent.{WroteTo};
+ghost use Rattle.event_lines.specs.StandingLines.{refused_detail_line};
+ghost use Rattle.cell_drive.specs.Refusals.{refusal_word};
+ghost use Rattle.cell_drive.specs.Stated.{tells_end, told_overdue};
+ghost use Rattle.cell_drive.specs.Judging.{IsJudged};
+
+use crate::answers::put_behind;
+use crate::manner::Manner;
+use crate::refusals::{Refusal, refusal_detail, refusal_of, standing_of};
+use crate::states::overdue_in;
+use byte_streams::{Sink, WriteFault};
+use cell_control::{Controller, Dues, Report};
+use event_lines::{Claim, Detail, Overdue, refused_detail_line};
+
+/// What comes of a claim.
+#[derive(Clone, Copy)]
+pub(crate) enum Judged {
+    /// It is refused, with what is told behind the name.
+    Refused { refusal: Refusal, detail: Detail },
+    /// It is taken; what is told to be overdue, if it is late.
+    Taken { overdue: Option<Overdue> },
+}
+
+/// What is told to be overdue as the report comes.
+fn told_overdue<D: Dues>(
+    manner: Manner,
+    controller: &Controller<D>,
+    report: Report,
+) -> Option<Overdue>
+    requires { CanReport controller.now.plan.planned controller.now.cell (said report) }
+    ensures { result ≡ told_overdue manner controller.now.plan.planned controller.now.cell report }
+{
+    if !manner.tells {
+        return None;
+    }
+    let _plan = controller.verified();
+    let cell = controller.work_cell();
+    overdue_in(cell, standing_of(cell, report), report.at())
+}
+
+/// What comes of the claim. Nothing changes.
+pub(crate) fn judge<D: Dues>(manner: Manner, controller: &Controller<D>, claim: Claim) -> Judged
+    ensures { IsJudged manner controller.now.plan.planned controller.now.cell claim result }
+{
+    match refusal_of(manner, controller, claim) {
+        Some(refusal) => Judged::Refused {
+            refusal,
+            detail: refusal_detail(manner, controller, claim, refusal),
+        },
+        None => Judged::Taken {
+            overdue: told_overdue(manner, controller, claim.report()),
+        },
+    }
+}
+
+/// Refuses the line of this number.
+#[inline(never)]
+pub(crate) fn put_refusal<W: Sink>(
+    prefix: &[u8],
+    number: u64,
+    refusal: Refusal,
+    detail: Detail,
+    writer: &mut W,
+) -> Result<(), WriteFault>
+    ensures wrote { WroteTo W.Sink result writer.old writer.new
+        (prefix.now ++ refused_detail_line number (refusal_word refusal) detail) }
+    ensures unfailed { OnOk result (W.failed writer.new ≡ W.failed writer.old) }
+{
+    let line = refused_detail_line(number, refusal.name().as_bytes(), detail);
+    put_behind(prefix, line.bytes(), writer)
+}
+
+/// Whether the end of the run is told at once.
+pub(crate) fn tells_end<D: Dues>(manner: Manner, controller: &Controller<D>) -> bool
+    ensures { result ≡ tells_end manner controller.now.plan.planned controller.now.cell }
+{
+    manner.tells && controller.reports_left() == 0
+}

@@ -1,0 +1,148 @@
+//! Why what a line claims is refused, and what is told of it.
+
+ghost use Rattle.std.specs.Prelude.{◌≡◌, false, OnOk, IfErr, MatchOption};
+ghost use Rattle.cell_tables.specs.Reports.{said};
+ghost use Rattle.cell_control.specs.Reports.{IsOfShop};
+ghost use Rattle.event_lines.specs.Requests.{claimed};
+ghost use Rattle.cell_drive.specs.Refusals.{CanClaim, IsClaimReason, IsRefusal, IsTaken, claim_leaps, first_refusal, is_before_leap, reason_detail, refusal_detail, refusal_word, standing_of};
+
+use crate::manner::Manner;
+use cell_control::{Controller, Dues, Report, ReportFault};
+use cell_tables::{Standing, WorkCell};
+use event_lines::{Claim, Detail};
+use shop_base::Planned;
+
+/// Why what a line claims is refused.
+#[derive(Clone, Copy, Debug, PartialEq, Eq)]
+pub(crate) enum Refusal {
+    /// It isn't possible.
+    Reason(ReportFault),
+    /// Its moment is a leap.
+    Leap,
+}
+
+impl Refusal {
+    /// The name, as it stands in a line.
+    pub(crate) fn name(self) -> &'static str
+        ensures { result.now ≡ refusal_word self }
+    {
+        match self {
+            Refusal::Reason(reason) => reason.name(),
+            Refusal::Leap => "Leap",
+        }
+    }
+}
+
+/// Whether the reason is looked for before a leap.
+fn is_before_leap(reason: ReportFault) -> bool
+    ensures { result ≡ is_before_leap reason }
+{
+    match reason {
+        ReportFault::JobOutOfRange => true,
+        ReportFault::MachineOutOfRange => true,
+        ReportFault::MomentTooLarge => true,
+        ReportFault::Backwards { last: _ } => true,
+        ReportFault::NotExpected => false,
+        ReportFault::WrongKind => false,
+        ReportFault::WrongMachine { actual: _ } => false,
+    }
+}
+
+/// Why that is refused which has this first reason against it, and leaps or doesn't.
+fn first_refusal(leaps: bool, reason: ReportFault) -> Refusal
+    ensures { result ≡ first_refusal leaps reason }
+{
+    if is_before_leap(reason) {
+        Refusal::Reason(reason)
+    } else if leaps {
+        Refusal::Leap
+    } else {
+        Refusal::Reason(reason)
+    }
+}
+
+/// Whether what is claimed is possible, or the first reason for which it isn't.
+fn check_claim<D: Dues>(controller: &Controller<D>, claim: Claim) -> Result<(), ReportFault>
+    ensures possible { OnOk result (CanClaim controller.now.plan.planned controller.now.cell claim) }
+    ensures first_reason { IfErr result (IsClaimReason controller.now.plan.planned controller.now.cell claim) }
+{
+    match claim {
+        Claim::Report(report) => controller.check(report),
+        Claim::CleanAfter { machine, job, at } => controller.check_clean_after(machine, job, at),
+    }
+}
+
+/// Whether the moment of the claim leaps.
+fn claim_leaps<D: Dues>(manner: Manner, controller: &Controller<D>, claim: Claim) -> bool
+    ensures { result ≡ claim_leaps manner controller.now.cell claim }
+{
+    manner.leaps(controller.now(), claim.report().at())
+}
+
+/// Why the claim is refused, unless it is taken.
+pub(crate) fn refusal_of<D: Dues>(
+    manner: Manner,
+    controller: &Controller<D>,
+    claim: Claim,
+) -> Option<Refusal>
+    ensures { MatchOption result (IsTaken manner controller.now.plan.planned controller.now.cell claim)
+        (IsRefusal manner controller.now.plan.planned controller.now.cell claim) }
+{
+    let leaps = claim_leaps(manner, controller, claim);
+    match check_claim(controller, claim) {
+        Ok(()) => { if leaps { Some(Refusal::Leap) } else { None } }
+        Err(reason) => Some(first_refusal(leaps, reason)),
+    }
+}
+
+/// How it stands with the job or the machine of the report.
+pub(crate) fn standing_of<P: Planned>(cell: &WorkCell<P>, report: Report) -> Standing
+    requires { IsOfShop cell.now.plan (said report).ended }
+    ensures { result ≡ standing_of cell.now.plan cell.now.cell report }
+{
+    match report {
+        Report::Arrive { job, at: _ } => cell.job_standing(job),
+        Report::Finish {
+            job,
+            machine: _,
+            at: _,
+        } => cell.job_standing(job),
+        Report::Clean { machine, at: _ } => cell.machine_standing(machine),
+    }
+}
+
+/// What the controller has instead of what was reported. A reason that is looked for after a leap is against a report
+/// of the shop.
+fn reason_detail<P: Planned>(cell: &WorkCell<P>, report: Report, reason: ReportFault) -> Detail
+    requires { is_before_leap reason ≡ false → IsOfShop cell.now.plan (said report).ended }
+    ensures { result ≡ reason_detail cell.now.plan cell.now.cell report reason }
+{
+    match reason {
+        ReportFault::JobOutOfRange => Detail::Nothing,
+        ReportFault::MachineOutOfRange => Detail::Nothing,
+        ReportFault::MomentTooLarge => Detail::Nothing,
+        ReportFault::Backwards { last } => Detail::Last(last),
+        ReportFault::NotExpected => Detail::Stands(standing_of(cell, report)),
+        ReportFault::WrongKind => Detail::Stands(standing_of(cell, report)),
+        ReportFault::WrongMachine { actual: _ } => Detail::Stands(standing_of(cell, report)),
+    }
+}
+
+/// What is told behind the name of the refusal.
+pub(crate) fn refusal_detail<D: Dues>(
+    manner: Manner,
+    controller: &Controller<D>,
+    claim: Claim,
+    refusal: Refusal,
+) -> Detail
+    requires { IsRefusal manner controller.now.plan.planned controller.now.cell claim refusal }
+    ensures { result ≡ refusal_detail manner controller.now.plan.planned controller.now.cell (claimed claim) refusal }
+{
+    if !manner.tells {
+        return Detail::Nothing;
+    }
+    match refusal {
+        Refusal::Reason(reason) => { reason_detail(controller.work_cell(), claim.report(), reason) }
+        Refusal::Leap => Detail::Last(manner.leap_base(controller.now())),
+    }
+}
