@@ -7,12 +7,13 @@ _cellplan() {
     return
   fi
   case $before in
-    --instance | --rounds | --seed) return ;;
+    --instance | --at | --rounds | --seed) return ;;
   esac
   case $command in
     plan) options='--instance --rounds --help' ;;
     improve) options='--instance --rounds --seed --help' ;;
-    facts | shape | check | explain | schedule | bounds | drive | resume | hub | audit | gantt) options='--instance --help' ;;
+    check | explain | schedule) options='--instance --after --at --help' ;;
+    facts | shape | bounds | drive | resume | hub | audit | gantt) options='--instance --help' ;;
     *) return ;;
   esac
   case $word in

@@ -22,6 +22,8 @@ use Rattle.command_answers.specs.Search.{IsSearchAnswer}
 use Rattle.command_answers.specs.Improving.{IsImproveAnswer, ordered}
 use Rattle.command_answers.specs.declared.logs.Telling.{Telling}
 use Rattle.command_answers.specs.LogLines.{IsLogLine}
+use Rattle.command_answers.specs.declared.rests.PlanTelling.{PlanTelling}
+use Rattle.command_answers.specs.Rests.{IsRestLine}
 
 -- the file of an instance, the instance's name where that is a collection, and the file of a plan for it
 pub record PairOfFiles : Type 0 where
@@ -86,12 +88,16 @@ module _ {W : Type 0} (gives : W → List ℕ → Result (List ℕ) CommandFault
   abbrev pub RunsImprove : Asked → ℕ → PairOfFiles → W → Result Answer CommandFault → W → Type 0
   RunsImprove made rounds pair = WithBoth pair (λ p. Told (IsImproveAnswer made rounds (ordered p)))
 
-  -- the log of a well-shaped plan is asked for, and then answered; any other plan is answered by its first fault
-  abbrev pub WithLog : Telling → List ℕ → PlannedShop → W → Result Answer CommandFault → W → Type 0
-  WithLog telling path p before outcome after =
-      (IsWellShaped p × Then (Asks gives path) (λ log. Told (IsOrMemory (IsLogLine telling p log))) before outcome after)
+  -- the log of a well-shaped plan is asked for, and then answered by a line of this kind; any other plan is answered by its first fault
+  abbrev pub WithLog : (PlannedShop → List ℕ → Answer → Type 0) → List ℕ → PlannedShop → W → Result Answer CommandFault → W → Type 0
+  WithLog IsLine path p before outcome after =
+      (IsWellShaped p × Then (Asks gives path) (λ log. Told (IsOrMemory (IsLine p log))) before outcome after)
       ⊎ Told (IsOrMemory (IsNotShapedLine p)) before outcome after
 
   -- `audit` and `gantt`: both are read, and then the log
   abbrev pub RunsLog : Telling → PairOfFiles → List ℕ → W → Result Answer CommandFault → W → Type 0
-  RunsLog telling pair log = WithBoth pair (WithLog telling log)
+  RunsLog telling pair log = WithBoth pair (WithLog (IsLogLine telling) log)
+
+  -- `check`, `explain` and `schedule` of the rest of a run: both are read, and then its log
+  abbrev pub RunsRest : PlanTelling → Option ℕ → PairOfFiles → List ℕ → W → Result Answer CommandFault → W → Type 0
+  RunsRest telling at pair log = WithBoth pair (WithLog (IsRestLine telling at) log)

@@ -17,5 +17,6 @@ pub mod Documents
 pub mod Search
 pub mod Improving
 pub mod LogLines
+pub mod Rests
 pub mod Commands
 pub mod Cells

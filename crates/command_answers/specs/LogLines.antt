@@ -46,15 +46,15 @@ pub record IsLogKept (telling : Telling) (p : PlannedShop) (log : List ℕ) (ans
 abbrev pub IsFaultLine : AuditFault → Answer → Type 0
 IsFaultLine fault answer = (answer.text.items ≡ log_refused_line (fault_line fault) (fault_name fault)) × (answer.status ≡ 1)
 
--- the line of a log that tells none: its first fault
-pub record IsLogRefused (p : PlannedShop) (log : List ℕ) (answer : Answer) : Type 0 where
+-- the line of lines of a log that tell none: their first fault
+pub record IsLogRefused (p : PlannedShop) (lines : List (List ℕ)) (answer : Answer) : Type 0 where
   pub fault : AuditFault
-  pub first : IsFirstBad p (lines_of log) fault
+  pub first : IsFirstBad p lines fault
   pub line : IsFaultLine fault answer
 
 -- what is told of a log
 abbrev pub IsLogLine : Telling → PlannedShop → List ℕ → Answer → Type 0
-IsLogLine telling p log answer = IsLogKept telling p log answer ⊎ IsLogRefused p log answer
+IsLogLine telling p log answer = IsLogKept telling p log answer ⊎ IsLogRefused p (lines_of log) answer
 
 -- the fault of a command that the audit's is, if memory ran out
 abbrev pub audit_command_fault : AuditFault → Option CommandFault

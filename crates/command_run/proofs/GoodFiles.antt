@@ -13,7 +13,6 @@ use Rattle.command_answers.specs.declared.loading.Loaded.{Loaded}
 use Rattle.command_answers.specs.declared.loading.Loaded.TheVariants.{NotShaped, Judged}
 use Rattle.command_answers.specs.declared.command_fault.CommandFault.{CommandFault}
 use Rattle.command_answers.specs.declared.command_fault.CommandFault.TheVariants.{Memory}
-use Rattle.command_answers.specs.declared.logs.Telling.{Telling}
 use Rattle.command_answers.specs.Instances.{Tells}
 use Rattle.command_answers.specs.Facts.{AreFacts}
 use Rattle.command_answers.specs.Steps.{Then, GoesOn, Told, IsOrMemory}
@@ -21,10 +20,9 @@ use Rattle.command_answers.specs.Texts.{Asks}
 use Rattle.command_answers.specs.Readings.{IsInstanceRead, IsPlanRead, AreFactsAnswered}
 use Rattle.command_answers.specs.Shapes.{IsNotShapedLine}
 use Rattle.command_answers.specs.Checks.{IsLoaded, IsCheckLine}
-use Rattle.command_answers.specs.LogLines.{IsLogLine}
 use Rattle.command_answers.specs.Search.{IsSearchAnswer}
 use Rattle.command_answers.specs.Improving.{IsImproveAnswer, ordered}
-use Rattle.command_answers.specs.Commands.{PairOfFiles, ReadsPlan, ReadsBoth, WithBoth, WithLog, RunsFacts, RunsLog}
+use Rattle.command_answers.specs.Commands.{PairOfFiles, ReadsPlan, ReadsBoth, WithBoth, WithLog, RunsFacts}
 use Rattle.command_answers.proofs.CheckLines.{line_of_loaded}
 use Rattle.command_run.specs.Streams.{Streams}
 use Rattle.command_run.specs.Planners.{search_by_two, SeeksPlan}
@@ -112,17 +110,17 @@ module _ (content : List ℕ → Result (List ℕ) CommandFault) (pair : PairOfF
   shaped_after_all (Ok answer) shaped is = absurd (shape_fault_refutes p is.fault is.first shaped)
   shaped_after_all (Err fault) shaped is = ap Err is
 
-  log_came : (telling : Telling) (log text : List ℕ) (outcome : Result Answer CommandFault) (asked : List (List ℕ)) → content log ≡ Ok text → IsWellShaped p
-      → WithLog (Shelf content) telling log p (pair.path ∷ pair.plan ∷ []) outcome asked ⊎ (outcome ≡ Err Memory) → IsAnswered (IsLogLine telling p text) (pair.path ∷ pair.plan ∷ log ∷ []) outcome asked
-  log_came telling log text outcome asked is shaped (inl (inl (also, run))) =
-      let read = asked_and_read content (λ t. IsOrMemory (IsLogLine telling p t)) log text is (pair.path ∷ pair.plan ∷ []) run.came run.mid outcome asked run.is run.goes_on in
+  log_came : (IsLine : PlannedShop → List ℕ → Answer → Type 0) (log text : List ℕ) (outcome : Result Answer CommandFault) (asked : List (List ℕ)) → content log ≡ Ok text → IsWellShaped p
+      → WithLog (Shelf content) IsLine log p (pair.path ∷ pair.plan ∷ []) outcome asked ⊎ (outcome ≡ Err Memory) → IsAnswered (IsLine p text) (pair.path ∷ pair.plan ∷ log ∷ []) outcome asked
+  log_came IsLine log text outcome asked is shaped (inl (inl (also, run))) =
+      let read = asked_and_read content (λ t. IsOrMemory (IsLine p t)) log text is (pair.path ∷ pair.plan ∷ []) run.came run.mid outcome asked run.is run.goes_on in
       answered _ _ outcome asked read.0 read.1
-  log_came telling log text outcome asked is shaped (inl (inr told)) = wanting _ _ outcome asked (shaped_after_all outcome shaped told.0)
-  log_came telling log text outcome asked is shaped (inr none) = wanting _ _ outcome asked none
+  log_came IsLine log text outcome asked is shaped (inl (inr told)) = wanting _ _ outcome asked (shaped_after_all outcome shaped told.0)
+  log_came IsLine log text outcome asked is shaped (inr none) = wanting _ _ outcome asked none
 
-  pub good_log : (telling : Telling) (log text : List ℕ) (outcome : Result Answer CommandFault) (asked : List (List ℕ)) → content log ≡ Ok text → IsWellShaped p → RunsLog (Shelf content) telling pair log [] outcome asked
-      → IsAnswered (IsLogLine telling p text) (pair.path ∷ pair.plan ∷ log ∷ []) outcome asked
-  good_log telling log text outcome asked is shaped run = log_came telling log text outcome asked is shaped (with_both (WithLog (Shelf content) telling log) outcome asked run)
+  pub good_log : (IsLine : PlannedShop → List ℕ → Answer → Type 0) (log text : List ℕ) (outcome : Result Answer CommandFault) (asked : List (List ℕ)) → content log ≡ Ok text → IsWellShaped p
+      → WithBoth (Shelf content) pair (WithLog (Shelf content) IsLine log) [] outcome asked → IsAnswered (IsLine p text) (pair.path ∷ pair.plan ∷ log ∷ []) outcome asked
+  good_log IsLine log text outcome asked is shaped run = log_came IsLine log text outcome asked is shaped (with_both (WithLog (Shelf content) IsLine log) outcome asked run)
 
   pub good_search : (rounds : ℕ) (outcome : Result Answer CommandFault) (asked : List (List ℕ)) → SeeksPlan (Shelf content) rounds pair [] outcome asked
       → (IsSearchAnswer (search_by_two (task_in p)) rounds outcome × (asked ≡ pair.path ∷ pair.plan ∷ [])) ⊎ (outcome ≡ Err Memory)

@@ -1,5 +1,5 @@
 -- The status of an answer is that of a good one or of one that refuses.
-use Rattle.std.proofs.Common.{◌≡◌, ℕ, ◌≤◌, List, [], ◌∷◌, Bool, true, false, Option, None, Result, Ok, Err, inl, inr, subst, sym, arith}
+use Rattle.std.proofs.Common.{◌≡◌, ℕ, ◌≤◌, List, [], ◌∷◌, Bool, true, false, Option, None, Some, Result, Ok, Err, inl, inr, subst, sym, arith}
 use Rattle.plan_verifier.specs.Accepted.{VerifiedPlan}
 use Rattle.plan_verifier.specs.declared.verdict.Verdict.{Verdict}
 use Rattle.plan_verifier.specs.declared.verdict.Verdict.TheVariants.{Accepted, Refused}
@@ -34,15 +34,20 @@ use Rattle.command_answers.specs.Search.{IsSearchLine, IsSearchAnswer, IsNoPlanL
 use Rattle.command_answers.specs.declared.logs.Telling.{Telling}
 use Rattle.command_answers.specs.declared.logs.Telling.TheVariants.{Numbers, Drawing}
 use Rattle.command_answers.specs.LogLines.{IsLogLine}
+use Rattle.command_answers.specs.declared.rests.PlanTelling.{PlanTelling}
+use Rattle.command_answers.specs.declared.rests.PlanTelling.TheVariants.{Verdict as OfVerdict, Reasons, Moments}
+use Rattle.command_answers.specs.Rests.{IsRestLine}
 use Rattle.command_answers.specs.Commands.{PairOfFiles, WithBoth, WithLog}
 use Rattle.command_answers.specs.Cells.{IsCellLine, AfterPlan, LoadsEach}
+use Rattle.command_answers.proofs.RestAnswers.{low_rest}
 use Rattle.command_run.specs.Streams.{Streams}
 use Rattle.command_run.specs.Drives.{IsEnded, IsEndAnswer, Drives, status_at, end_of_drive}
 use Rattle.command_run.specs.Resumes.{IsFaultLine, IsFaultTold, ResumesTaken, ResumesText, Resumes}
 use Rattle.command_run.specs.Hubs.{DrivesAll, end_of_hub}
 use Rattle.command_run.specs.Planners.{search_by_two, SeeksPlan}
 use Rattle.command_run.specs.Improvers.{AsksOne, ImprovesPlan}
-use Rattle.command_run.specs.Program.{RunsCommand, file_at, name_in, pair_in, plans_in}
+use Rattle.command_run.specs.Tellings.{RunsTelling}
+use Rattle.command_run.specs.Program.{RunsCommand, file_at, log_in, name_in, pair_in, plans_in}
 
 -- the answer's status is 0 or 1
 abbrev pub IsLow : Result Answer CommandFault → Type 0
@@ -226,10 +231,22 @@ module _ {W : Type 0} (gives : W → List ℕ → Result (List ℕ) CommandFault
       → ((p : PlannedShop) (mid : W) → next p mid outcome after → IsLow outcome) → WithBoth gives pair next texts outcome after → IsLow outcome
   low_both pair next texts outcome after each run = held IsLow _ next texts outcome after low_failed each run
 
-  low_with_log : (telling : Telling) (log : List ℕ) (p : PlannedShop) (mid : W) (outcome : Result Answer CommandFault) (after : W) → WithLog gives telling log p mid outcome after → IsLow outcome
-  low_with_log telling log p mid outcome after (inl (shaped, run)) =
-      held IsLow _ (λ text. Told (IsOrMemory (IsLogLine telling p text))) mid outcome after low_failed (λ text later on. low_or (IsLogLine telling p text) outcome (low_log telling p text) on.0) run
-  low_with_log telling log p mid outcome after (inr told) = low_or (IsNotShapedLine p) outcome (low_not_shaped p) told.0
+  low_with_log : (IsLine : PlannedShop → List ℕ → Answer → Type 0) → ((p : PlannedShop) (text : List ℕ) (answer : Answer) → IsLine p text answer → answer.status ≤ 1)
+      → (log : List ℕ) (p : PlannedShop) (mid : W) (outcome : Result Answer CommandFault) (after : W) → WithLog gives IsLine log p mid outcome after → IsLow outcome
+  low_with_log IsLine each log p mid outcome after (inl (shaped, run)) =
+      held IsLow _ (λ text. Told (IsOrMemory (IsLine p text))) mid outcome after low_failed (λ text later on. low_or (IsLine p text) outcome (each p text) on.0) run
+  low_with_log IsLine each log p mid outcome after (inr told) = low_or (IsNotShapedLine p) outcome (low_not_shaped p) told.0
+
+  low_telling : (telling : PlanTelling) (at : Option ℕ) (pair : PairOfFiles) (log : Option (List ℕ)) (texts : W) (outcome : Result Answer CommandFault) (after : W)
+      → RunsTelling gives telling at pair log texts outcome after → IsLow outcome
+  low_telling telling at pair (Some log) texts outcome after run =
+      low_both pair (WithLog gives (IsRestLine telling at) log) texts outcome after (λ p mid on. low_with_log (IsRestLine telling at) (low_rest telling at) log p mid outcome after on) run
+  low_telling OfVerdict at pair None texts outcome after run =
+      low_both pair (λ p. Told (IsOrMemory (IsCheckLine p))) texts outcome after (λ p mid on. low_or (IsCheckLine p) outcome (low_check p) on.0) run
+  low_telling Reasons at pair None texts outcome after run =
+      low_both pair (λ p. Told (IsOrMemory (IsExplanation p))) texts outcome after (λ p mid on. low_or (IsExplanation p) outcome (low_explained p) on.0) run
+  low_telling Moments at pair None texts outcome after run =
+      low_both pair (λ p. Told (IsOrMemory (IsTimetable p))) texts outcome after (λ p mid on. low_or (IsTimetable p) outcome (low_scheduled p) on.0) run
 
   low_seeks : (rounds : ℕ) (pair : PairOfFiles) (texts : W) (outcome : Result Answer CommandFault) (after : W)
       → SeeksPlan gives rounds pair texts outcome after → IsLow outcome
@@ -262,11 +279,11 @@ module _ {W : Type 0} (gives : W → List ℕ → Result (List ℕ) CommandFault
   low Shape chosen texts before outcome texts_after after run =
       low_both (pair_in chosen) (λ p. Told (IsOrMemory (IsShapeLine p))) texts outcome texts_after (λ p mid on. low_or (IsShapeLine p) outcome (low_shape p) on.0) run.0
   low Check chosen texts before outcome texts_after after run =
-      low_both (pair_in chosen) (λ p. Told (IsOrMemory (IsCheckLine p))) texts outcome texts_after (λ p mid on. low_or (IsCheckLine p) outcome (low_check p) on.0) run.0
+      low_telling OfVerdict chosen.at (pair_in chosen) (log_in chosen) texts outcome texts_after run.0
   low Explain chosen texts before outcome texts_after after run =
-      low_both (pair_in chosen) (λ p. Told (IsOrMemory (IsExplanation p))) texts outcome texts_after (λ p mid on. low_or (IsExplanation p) outcome (low_explained p) on.0) run.0
+      low_telling Reasons chosen.at (pair_in chosen) (log_in chosen) texts outcome texts_after run.0
   low Schedule chosen texts before outcome texts_after after run =
-      low_both (pair_in chosen) (λ p. Told (IsOrMemory (IsTimetable p))) texts outcome texts_after (λ p mid on. low_or (IsTimetable p) outcome (low_scheduled p) on.0) run.0
+      low_telling Moments chosen.at (pair_in chosen) (log_in chosen) texts outcome texts_after run.0
   low Bounds chosen texts before outcome texts_after after run =
       low_both (pair_in chosen) (λ p. Told (IsOrMemory (AreBounds p))) texts outcome texts_after (λ p mid on. low_or (AreBounds p) outcome (low_bounds p) on.0) run.0
   low Plan chosen texts before outcome texts_after after run = low_seeks chosen.rounds _ texts outcome texts_after run.0
@@ -277,6 +294,6 @@ module _ {W : Type 0} (gives : W → List ℕ → Result (List ℕ) CommandFault
       low_drives_all run.loaded before after outcome
       (held IsLowLine _ (λ text. LoadsEach gives text (name_in chosen) [] (plans_in chosen)) texts run.loaded texts_after low_line_failed (λ text mid on. low_loaded gives text (name_in chosen) [] (plans_in chosen) mid run.loaded texts_after on) run.loads) run.drives
   low Audit chosen texts before outcome texts_after after run =
-      low_both (pair_in chosen) (WithLog gives Numbers (file_at chosen 2)) texts outcome texts_after (λ p mid on. low_with_log Numbers (file_at chosen 2) p mid outcome texts_after on) run.0
+      low_both (pair_in chosen) (WithLog gives (IsLogLine Numbers) (file_at chosen 2)) texts outcome texts_after (λ p mid on. low_with_log (IsLogLine Numbers) (low_log Numbers) (file_at chosen 2) p mid outcome texts_after on) run.0
   low Gantt chosen texts before outcome texts_after after run =
-      low_both (pair_in chosen) (WithLog gives Drawing (file_at chosen 2)) texts outcome texts_after (λ p mid on. low_with_log Drawing (file_at chosen 2) p mid outcome texts_after on) run.0
+      low_both (pair_in chosen) (WithLog gives (IsLogLine Drawing) (file_at chosen 2)) texts outcome texts_after (λ p mid on. low_with_log (IsLogLine Drawing) (low_log Drawing) (file_at chosen 2) p mid outcome texts_after on) run.0

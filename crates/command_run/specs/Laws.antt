@@ -35,7 +35,9 @@ use Rattle.command_answers.specs.BoundLines.{AreBounds}
 use Rattle.command_answers.specs.LogLines.{IsLogLine}
 use Rattle.command_answers.specs.Search.{IsSearchAnswer}
 use Rattle.command_answers.specs.Improving.{IsImproveAnswer, ordered}
-use Rattle.command_answers.specs.Commands.{PairOfFiles, RunsFacts, RunsShape, RunsCheck, RunsExplain, RunsSchedule, RunsBounds, RunsLog, Loads}
+use Rattle.command_answers.specs.declared.rests.PlanTelling.{PlanTelling}
+use Rattle.command_answers.specs.Rests.{IsRestLine}
+use Rattle.command_answers.specs.Commands.{PairOfFiles, RunsFacts, RunsShape, RunsCheck, RunsExplain, RunsSchedule, RunsBounds, RunsLog, RunsRest, Loads}
 use Rattle.command_answers.specs.declared.loading.Loaded.TheVariants.{Judged}
 use Rattle.command_answers.specs.declared.cells.Cells.{Cells}
 use Rattle.command_answers.specs.Cells.{AreAccepted, LoadsCells}
@@ -86,6 +88,10 @@ BoundsTellInstanceFirst = TellsInstanceFirst (λ gives pair. RunsBounds gives pa
 -- so it is for `audit` and for `gantt`
 abbrev pub LogTellsInstanceFirst : Type 0
 LogTellsInstanceFirst = (telling : Telling) (log : List ℕ) → TellsInstanceFirst (λ gives pair. RunsLog gives telling pair log)
+
+-- so it is for `check`, `explain` and `schedule` of the rest of a run
+abbrev pub RestTellsInstanceFirst : Type 0
+RestTellsInstanceFirst = (telling : PlanTelling) (at : Option ℕ) (log : List ℕ) → TellsInstanceFirst (λ gives pair. RunsRest gives telling at pair log)
 
 -- so it is, unless memory runs out for planners or improvers before any file is asked for
 abbrev pub TellsInstanceFirstOrNothing : ((List (List ℕ) → List ℕ → Result (List ℕ) CommandFault → List (List ℕ) → Type 0) → PairOfFiles
@@ -163,6 +169,12 @@ abbrev pub LogIsAnswered : Type 0
 LogIsAnswered = (telling : Telling) (content : List ℕ → Result (List ℕ) CommandFault) (pair : PairOfFiles) (log text : List ℕ) (p : PlannedShop) (outcome : Result Answer CommandFault) (asked : List (List ℕ))
     → TellPlan content pair p → content log ≡ Ok text → IsWellShaped p → RunsLog (Shelf content) telling pair log [] outcome asked
     → IsAnswered (IsLogLine telling p text) (pair.path ∷ pair.plan ∷ log ∷ []) outcome asked
+
+-- `check`, `explain` and `schedule` of the rest of a run: where the plan is well shaped, what is told of its log
+abbrev pub RestIsAnswered : Type 0
+RestIsAnswered = (telling : PlanTelling) (at : Option ℕ) (content : List ℕ → Result (List ℕ) CommandFault) (pair : PairOfFiles) (log text : List ℕ) (p : PlannedShop) (outcome : Result Answer CommandFault) (asked : List (List ℕ))
+    → TellPlan content pair p → content log ≡ Ok text → IsWellShaped p → RunsRest (Shelf content) telling at pair log [] outcome asked
+    → IsAnswered (IsRestLine telling at p text) (pair.path ∷ pair.plan ∷ log ∷ []) outcome asked
 
 -- `plan`: what the search allows for the numbers of this plan, with exactly these files asked for, unless memory runs out before
 abbrev pub PlanAnswersPlan : Type 0

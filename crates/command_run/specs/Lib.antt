@@ -7,6 +7,7 @@ pub mod Drives
 pub mod Resumes
 pub mod Hubs
 pub mod Ending
+pub mod Tellings
 pub mod Program
 pub mod Laws
 -- Of proofs and private contracts alone.

@@ -13,10 +13,12 @@ use Rattle.command_answers.specs.declared.command_fault.CommandFault.{CommandFau
 use Rattle.command_answers.specs.declared.command_fault.CommandFault.TheVariants.{Memory as Wanting}
 use Rattle.command_answers.specs.declared.loading.Loaded.{Loaded}
 use Rattle.command_answers.specs.declared.logs.Telling.TheVariants.{Numbers, Drawing}
-use Rattle.command_answers.specs.Commands.{PairOfFiles, RunsFacts, RunsShape, RunsCheck, RunsExplain, RunsSchedule, RunsBounds, RunsLog, Loads}
+use Rattle.command_answers.specs.declared.rests.PlanTelling.TheVariants.{Verdict, Reasons, Moments}
+use Rattle.command_answers.specs.Commands.{PairOfFiles, RunsFacts, RunsShape, RunsBounds, RunsLog, Loads}
 use Rattle.command_answers.specs.Cells.{LoadsCells}
 use Rattle.command_run.specs.Streams.{Streams, Devices}
 use Rattle.command_run.specs.Inputs.{RunsInput}
+use Rattle.command_run.specs.Tellings.{RunsTelling}
 use Rattle.command_run.specs.Planners.{SeeksPlan}
 use Rattle.command_run.specs.Improvers.{ImprovesPlan}
 use Rattle.command_run.specs.Drives.{Drives}
@@ -42,6 +44,10 @@ plans_in chosen = map string_bytes (drop 1 chosen.files.items)
 -- the name of the instance in its collection
 abbrev pub name_in : Chosen → Option (List ℕ)
 name_in chosen = option_map string_bytes chosen.instance
+
+-- the log of whose rest is asked
+abbrev pub log_in : Chosen → Option (List ℕ)
+log_in chosen = option_map string_bytes chosen.after
 
 -- the files of the instance and of the first plan
 abbrev pub pair_in : Chosen → PairOfFiles
@@ -76,11 +82,11 @@ module _ {W : Type 0} (gives : W → List ℕ → Result (List ℕ) CommandFault
   RunsCommand Shape chosen texts before outcome texts_after after =
       RunsShape gives (pair_in chosen) texts outcome texts_after × (after ≡ before)
   RunsCommand Check chosen texts before outcome texts_after after =
-      RunsCheck gives (pair_in chosen) texts outcome texts_after × (after ≡ before)
+      RunsTelling gives Verdict chosen.at (pair_in chosen) (log_in chosen) texts outcome texts_after × (after ≡ before)
   RunsCommand Explain chosen texts before outcome texts_after after =
-      RunsExplain gives (pair_in chosen) texts outcome texts_after × (after ≡ before)
+      RunsTelling gives Reasons chosen.at (pair_in chosen) (log_in chosen) texts outcome texts_after × (after ≡ before)
   RunsCommand Schedule chosen texts before outcome texts_after after =
-      RunsSchedule gives (pair_in chosen) texts outcome texts_after × (after ≡ before)
+      RunsTelling gives Moments chosen.at (pair_in chosen) (log_in chosen) texts outcome texts_after × (after ≡ before)
   RunsCommand Bounds chosen texts before outcome texts_after after =
       RunsBounds gives (pair_in chosen) texts outcome texts_after × (after ≡ before)
   RunsCommand Plan chosen texts before outcome texts_after after =

@@ -1,9 +1,11 @@
 //! The command that was chosen.
 
-ghost use Rattle.std.specs.Prelude.{◌≡◌, ◌<◌, [], length};
+ghost use Rattle.std.specs.Prelude.{◌≡◌, ◌<◌, ◌≤◌, [], length, IfSome};
 ghost use Rattle.std.specs.Option.{option_copied};
+ghost use Rattle.shop_base.specs.declared.limits.TheConstants.{MAX_MOMENT};
 ghost use Rattle.command_words.specs.Choice.{IsWithin};
-ghost use Rattle.command_run.specs.Program.{RunsCommand, file_at, name_in, pair_in};
+ghost use Rattle.command_run.specs.Tellings.{RunsTelling};
+ghost use Rattle.command_run.specs.Program.{RunsCommand, file_at, log_in, name_in, pair_in};
 
 use crate::devices::{Screen, Streams};
 use crate::drives::drive_answer;
@@ -12,10 +14,11 @@ use crate::improvers::better_answer;
 use crate::input::input_answer;
 use crate::planners::seek_answer;
 use crate::resumes::resume_answer;
+use crate::tellings::telling_answer;
 use cell_drive::{Outlet, Source};
 use command_answers::{
-    Answered, Pair, Telling, Texts, bounds_answer, check_answer, explain_answer, facts_answer,
-    log_answer, schedule_answer, shape_answer,
+    Answered, Pair, PlanTelling, Telling, Texts, bounds_answer, facts_answer, log_answer,
+    shape_answer,
 };
 use command_words::{Chosen, CommandName};
 use std::alloc::Global;
@@ -38,6 +41,16 @@ fn name(chosen: &Chosen) -> Option<&[u8]>
     }
 }
 
+/// The log of whose rest is asked.
+fn rest_log(chosen: &Chosen) -> Option<&str>
+    ensures { option_copied result ≡ log_in chosen.now }
+{
+    match &chosen.after {
+        Some(log) => Some(log.as_str()),
+        None => None,
+    }
+}
+
 /// The files of the instance and of the first plan.
 fn pair(chosen: &Chosen) -> Pair<'_>
     requires { 1 < length chosen.now.files.items }
@@ -48,6 +61,16 @@ fn pair(chosen: &Chosen) -> Pair<'_>
         name: name(chosen),
         plan: file(chosen, 1),
     }
+}
+
+/// What is told of the plan, or of the rest of a run of it.
+fn told<T: Texts>(alloc: Global, chosen: &Chosen, texts: &mut T, telling: PlanTelling) -> Answered
+    requires files { 1 < length chosen.now.files.items }
+    requires at { IfSome chosen.now.at (λ present. present ≤ MAX_MOMENT) }
+    ensures { RunsTelling T.gives telling chosen.now.at (pair_in chosen.now) (log_in chosen.now) texts.old result texts.new }
+{
+    let pair = pair(chosen);
+    telling_answer(alloc, texts, &pair, rest_log(chosen), chosen.at, telling)
 }
 
 /// Runs the command that was chosen.
@@ -66,9 +89,9 @@ pub(crate) fn command<T: Texts, R: Source, W: Outlet, S: Screen>(
         CommandName::Input => input_answer(alloc, streams),
         CommandName::Facts => facts_answer(alloc, texts, file(chosen, 0), name(chosen)),
         CommandName::Shape => shape_answer(alloc, texts, &pair(chosen)),
-        CommandName::Check => check_answer(alloc, texts, &pair(chosen)),
-        CommandName::Explain => explain_answer(alloc, texts, &pair(chosen)),
-        CommandName::Schedule => schedule_answer(alloc, texts, &pair(chosen)),
+        CommandName::Check => told(alloc, chosen, texts, PlanTelling::Verdict),
+        CommandName::Explain => told(alloc, chosen, texts, PlanTelling::Reasons),
+        CommandName::Schedule => told(alloc, chosen, texts, PlanTelling::Moments),
         CommandName::Bounds => bounds_answer(alloc, texts, &pair(chosen)),
         CommandName::Plan => seek_answer(alloc, texts, &pair(chosen), chosen.rounds),
         CommandName::Improve => {

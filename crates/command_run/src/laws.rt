@@ -1,14 +1,14 @@
 //! The laws of the program. The first four speak of files that don't change (`Shelf`), and the first three also of
 //! which paths are asked for. The others speak of every run of the whole program, over any files, input, output and
-//! error output. For `audit` and `gantt` `good_files_are_answered` takes a well shaped plan. The clause of `run` says
-//! what else they do.
+//! error output. For `audit`, `gantt` and `--after` `good_files_are_answered` takes a well shaped plan. The clause of
+//! `run` says what else they do.
 
 // Nothing is done here: a function's contract is the law, so a check of this crate proves it.
 
 ghost use Rattle.command_run.specs.Laws.{FactsTellInstanceFirst, ShapeTellsInstanceFirst, CheckTellsInstanceFirst, ExplainTellsInstanceFirst, ScheduleTellsInstanceFirst, BoundsTellInstanceFirst};
-ghost use Rattle.command_run.specs.Laws.{LogTellsInstanceFirst, PlanTellsInstanceFirst, ImproveTellsInstanceFirst};
+ghost use Rattle.command_run.specs.Laws.{LogTellsInstanceFirst, RestTellsInstanceFirst, PlanTellsInstanceFirst, ImproveTellsInstanceFirst};
 ghost use Rattle.command_run.specs.Laws.{DriveTellsInstanceFirst, ResumeTellsInstanceFirst, HubTellsInstanceFirst};
-ghost use Rattle.command_run.specs.Laws.{FactsAnswerShop, ShapeAnswersPlan, CheckAnswersPlan, ExplainAnswersPlan, ScheduleAnswersPlan, BoundsAnswerPlan, LogIsAnswered};
+ghost use Rattle.command_run.specs.Laws.{FactsAnswerShop, ShapeAnswersPlan, CheckAnswersPlan, ExplainAnswersPlan, ScheduleAnswersPlan, BoundsAnswerPlan, LogIsAnswered, RestIsAnswered};
 ghost use Rattle.command_run.specs.Laws.{PlanAnswersPlan, ImproveAnswersPlan, DriveDrivesPlan, ResumeGoesOn};
 ghost use Rattle.command_run.specs.Laws.{HubDrivesPlans, InputAnswersShop};
 ghost use Rattle.command_run.specs.Laws.{DriveAnswersByCheck, ResumeAnswersByCheck, HubAnswersByCheck, DriveWritesTheSame};
@@ -27,6 +27,7 @@ pub fn instance_first()
     ensures schedule { ScheduleTellsInstanceFirst }
     ensures bounds { BoundsTellInstanceFirst }
     ensures log { LogTellsInstanceFirst }
+    ensures rest { RestTellsInstanceFirst }
     ensures plan { PlanTellsInstanceFirst }
     ensures improve { ImproveTellsInstanceFirst }
     ensures drive { DriveTellsInstanceFirst }
@@ -47,6 +48,7 @@ pub fn good_files_are_answered()
     ensures schedule { ScheduleAnswersPlan }
     ensures bounds { BoundsAnswerPlan }
     ensures log { LogIsAnswered }
+    ensures rest { RestIsAnswered }
     ensures plan { PlanAnswersPlan }
     ensures improve { ImproveAnswersPlan }
     ensures drive { DriveDrivesPlan }

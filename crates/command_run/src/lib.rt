@@ -13,6 +13,7 @@ mod planners;
 mod program;
 mod progress;
 mod resumes;
+mod tellings;
 mod unchosen;
 
 pub use devices::{Devices, Screen, Streams};

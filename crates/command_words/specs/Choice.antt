@@ -1,13 +1,16 @@
 -- What the words of a command line ask for, by the matches that `clap` finds in them.
-use Rattle.std.specs.Prelude.{◌≡◌, ◌≢◌, ◌≤◌, ◌++◌, ℕ, Bool, true, false, List, [], Option, Some, None, String, length, map, option_map, unwrap_or, pos, codes}
+use Rattle.std.specs.Prelude.{◌≡◌, ◌≢◌, ◌≤◌, ◌++◌, ◌&&◌, ℕ, nat_le, nat_lt, if◌then◌else◌, Bool, true, false, List, [], ◌∷◌, Option, Some, None, IfSome, String, length, map, option_map, unwrap_or, pos, codes}
+use Rattle.std.specs.List.{list_all}
 use Rattle.std.specs.Option.{option_map_or}
 use Rattle.std.specs.String.{string_bytes}
 use Rattle.std.specs.declared.alloc.Global.{Global}
 use Rattle.std.specs.Str.Parse.{digits_value, without_leading_plus}
+use Rattle.text_lines.specs.Numbers.{is_digit, value_of}
+use Rattle.clap.specs.Kinds.{or_else}
 use Rattle.clap.specs.Words.{IsAmong, IsSignedIn, Kinds, Row, Text, all_of, fault_of, first_of, one_of, subcommand_of, without_minus}
 use Rattle.clap.specs.declared.error.kind.ErrorKind.{ErrorKind}
-use Rattle.clap.specs.declared.error.kind.ErrorKind.TheVariants.{DisplayHelp, DisplayVersion, OutOfMemory}
-use Rattle.command_words.specs.CommandLine.{command_line, most_rounds, greatest_seed}
+use Rattle.clap.specs.declared.error.kind.ErrorKind.TheVariants.{DisplayHelp, DisplayVersion, MissingRequiredArgument, OutOfMemory, ValueValidation}
+use Rattle.command_words.specs.CommandLine.{command_line, most_rounds, greatest_seed, latest_moment}
 use Rattle.command_words.specs.declared.words.Chosen.{Chosen}
 use Rattle.command_words.specs.declared.words.CommandName.{CommandName}
 use Rattle.command_words.specs.declared.words.CommandName.TheVariants.{Input, Facts, Shape, Check, Explain, Schedule, Bounds, Plan, Improve, Drive, Resume, Hub, Audit, Gantt}
@@ -95,23 +98,52 @@ rounds_in = number_in (codes "rounds") 20
 abbrev pub seed_in : List Row → ℕ
 seed_in = number_in (codes "seed") 0
 
--- the choice holds the command, the files, the instance's name, the rounds and the seed that were found
+-- the log of a run, of whose rest is asked
+abbrev pub after_in : List Row → Option Text
+after_in rows = first_of (codes "after") rows
+
+-- the present moment of that run
+abbrev pub at_in : List Row → Option ℕ
+at_in rows = option_map value_of (first_of (codes "at") rows)
+
+-- the choice holds the command, the files, the instance's name, the rounds, the seed, the log and the moment that were found
 pub record IsChoiceOf (found : Found) (chosen : Chosen) : Type 0 where
   pub name : word_of chosen.name ≡ word_found found
   pub files : texts_of chosen.files.items ≡ files_in (rows_found found)
   pub instance : option_map string_bytes chosen.instance ≡ instance_in (rows_found found)
   pub rounds : chosen.rounds ≡ rounds_in (rows_found found)
   pub seed : chosen.seed ≡ seed_in (rows_found found)
+  pub after : option_map string_bytes chosen.after ≡ after_in (rows_found found)
+  pub at : chosen.at ≡ at_in (rows_found found)
 
--- the choice has as many files as its command takes, no more rounds than a search may have, and no greater seed than it takes
+-- the choice has as many files as its command takes, no more rounds than a search may have, no greater seed than it takes, and no moment past the latest
 pub record IsWithin (chosen : Chosen) : Type 0 where
   pub files : TakesFiles chosen.name (length chosen.files.items)
   pub rounds : chosen.rounds ≤ most_rounds
   pub seed : chosen.seed ≤ greatest_seed
+  pub at : IfSome chosen.at (λ n. n ≤ latest_moment)
 
 -- why `clap` refuses the words, or nothing where it takes them
+abbrev pub parse_reasons_in : List Text → Kinds
+parse_reasons_in words = fault_of command_line words
+
+-- a number of 1 to 13 digits, up to the latest moment
+abbrev pub is_moment : Text → Bool
+is_moment word = (nat_lt 0 (length word) && nat_le (length word) 13) && (list_all is_digit word && nat_le (value_of word) latest_moment)
+
+-- why a word isn't taken for the present moment, or nothing: there is no log, or it isn't a moment
+abbrev pub misfit_of : Option Text → Option Text → Kinds
+misfit_of log None = []
+misfit_of None (Some word) = MissingRequiredArgument ∷ []
+misfit_of (Some log) (Some word) = if is_moment word then [] else ValueValidation ∷ []
+
+-- so of what was found
+abbrev pub misfit_in : Found → Kinds
+misfit_in found = misfit_of (after_in (rows_found found)) (first_of (codes "at") (rows_found found))
+
+-- why the words are refused, or nothing where they are taken: `clap`'s reasons, or else that a moment doesn't fit
 abbrev pub reasons_in : List Text → Kinds
-reasons_in words = fault_of command_line words
+reasons_in words = or_else (parse_reasons_in words) (misfit_in (found_in words))
 
 -- a reason that asks for a text, as `--help` and `--version` do, and is no mistake
 abbrev pub asks_for_help : ErrorKind → Bool

@@ -55,6 +55,18 @@ command name more = record (new_shape name) {
 abbrev pub plan_command : Text → List Rule → Shape
 plan_command name more = command name (file_rule (codes "PLAN") ∷ more)
 
+-- the latest moment
+abbrev pub latest_moment : ℕ
+latest_moment = 1000000000000
+
+-- `--after LOG` and `--at N`: the log of a run, and the present moment of it
+abbrev pub rest_rules : List Rule
+rest_rules = option_rule (codes "after") ∷ option_rule (codes "at") ∷ []
+
+-- a command on an instance and a plan, or on the rest of a run of it
+abbrev pub rest_command : Text → Shape
+rest_command name = plan_command name rest_rules
+
 -- a command on an instance, a plan and a log
 abbrev pub log_command : Text → Shape
 log_command name = plan_command name (file_rule (codes "LOG") ∷ [])
@@ -68,9 +80,9 @@ abbrev pub described : CommandName → Shape
 described Input = bare_program
 described Facts = command (codes "facts") []
 described ShapeName = plan_command (codes "shape") []
-described Check = plan_command (codes "check") []
-described Explain = plan_command (codes "explain") []
-described Schedule = plan_command (codes "schedule") []
+described Check = rest_command (codes "check")
+described Explain = rest_command (codes "explain")
+described Schedule = rest_command (codes "schedule")
 described Bounds = plan_command (codes "bounds") []
 described Plan = plan_command (codes "plan") (rounds_rule ∷ [])
 described Improve = plan_command (codes "improve") (rounds_rule ∷ seed_rule ∷ [])

@@ -1,18 +1,26 @@
 //! The words of the command line, and what they ask for.
 
-ghost use Rattle.std.specs.Prelude.{◌≡◌, ◌≤◌, ◌++◌, [], IfOk, IfErr, OnOk, codes, map, option_map};
+ghost use Rattle.std.specs.Prelude.{◌≡◌, ◌≤◌, ◌++◌, [], true, false, IfOk, IfErr, IfSome, MatchOption, OnOk, codes, map, option_map};
 ghost use Rattle.std.specs.String.{string_bytes};
-ghost use Rattle.clap.specs.Words.{found_of, kind_of, rows_of, subcommand_rows_of, one_of};
+ghost use Rattle.text_lines.specs.Numbers.{value_of};
+ghost use Rattle.clap.specs.Words.{first_of, found_of, kind_of, one_of, rows_of, subcommand_rows_of};
 ghost use Rattle.command_words.specs.declared.words.CommandName.{CommandName};
-ghost use Rattle.command_words.specs.CommandLine.{most_rounds, greatest_seed};
-ghost use Rattle.command_words.specs.Choice.{FitsUpTo, IsChoiceOf, IsFit, IsWithin, TellsOneOf, TellsReason, files_in, found_in, instance_in, reasons_in, rounds_in, seed_in, texts_of, values_of, word_of};
+ghost use Rattle.command_words.specs.CommandLine.{most_rounds, greatest_seed, latest_moment};
+ghost use Rattle.command_words.specs.Choice.{FitsUpTo, IsChoiceOf, IsFit, IsWithin, TellsOneOf, TellsReason, after_in, at_in, files_in, found_in, is_moment, misfit_in, misfit_of, reasons_in, rounds_in, seed_in, texts_of, values_of, word_of};
 
 mod command_line;
 
 use clap::ArgMatches;
 use clap::error::ErrorKind;
 use std::alloc::{AllocError, Global};
+use text_lines::number_of;
 use thiserror::Error;
+
+/// The latest moment.
+const LATEST: u64 = 1_000_000_000_000;
+
+/// The most digits of a moment.
+const MOST_DIGITS: usize = 13;
 
 /// The commands of the program.
 #[derive(Clone, Copy, Debug, PartialEq, Eq)]
@@ -60,6 +68,10 @@ pub struct Chosen {
     pub rounds: u32,
     /// The seed of a search's random numbers, 0 where none is given.
     pub seed: u32,
+    /// The log of a run, of whose rest is asked.
+    pub after: Option<String>,
+    /// The present moment of that run, if another one than the log's last is given.
+    pub at: Option<u64>,
 }
 
 /// Why the words choose nothing.
@@ -114,8 +126,9 @@ impl From<Refusal> for WordsFault {
 }
 
 /// Reads the command line, of which the first word is the program's name. `WordsFault::Memory` may come in place of
-/// any other answer. The number of files is one that the command takes, the rounds are at most 1000 and the seed at
-/// most 1,000,000. Exactly what `clap` refuses is refused.
+/// any other answer. The number of files is one that the command takes, the rounds are at most 1000, the seed at most
+/// 1,000,000, and the moment, a number of 1 to 13 digits, at most 1,000,000,000,000. Exactly what `clap` refuses is
+/// refused, and a moment that isn't one, or that comes without a log.
 pub fn read_words(alloc: Global, words: &[&str]) -> Result<Chosen, WordsFault>
     ensures chosen { IfOk result (IsChoiceOf (found_in (map (λ word. word.now) words.now))) }
     ensures within { IfOk result IsWithin }
@@ -124,7 +137,7 @@ pub fn read_words(alloc: Global, words: &[&str]) -> Result<Chosen, WordsFault>
 {
     let program = command_line::whole(alloc)?;
     match program.try_get_matches_from(words) {
-        Ok(matches) => Ok(chosen_by(alloc, &matches)?),
+        Ok(matches) => chosen_by(alloc, &matches),
         Err(error) => Err(fault_of(alloc, &error)),
     }
 }
@@ -141,10 +154,12 @@ fn fault_of(alloc: Global, error: &clap::Error) -> WordsFault
 }
 
 /// The choice that the matches of the whole command line make.
-fn chosen_by(alloc: Global, matches: &ArgMatches<'_>) -> Result<Chosen, AllocError>
+fn chosen_by(alloc: Global, matches: &ArgMatches<'_>) -> Result<Chosen, WordsFault>
     requires { IsFit (subcommand_rows_of matches.now) }
     ensures holds { IfOk result (IsChoiceOf (subcommand_rows_of matches.now)) }
     ensures within { IfOk result IsWithin }
+    ensures fits { IfOk result (λ _. misfit_in (subcommand_rows_of matches.now) ≡ []) }
+    ensures refused { IfErr result (TellsOneOf (misfit_in (subcommand_rows_of matches.now))) }
 {
     match matches.subcommand() {
         Some((word, matches)) => chosen_of(alloc, word, matches),
@@ -154,22 +169,28 @@ fn chosen_by(alloc: Global, matches: &ArgMatches<'_>) -> Result<Chosen, AllocErr
             instance: None,
             rounds: 20,
             seed: 0,
+            after: None,
+            at: None,
         }),
     }
 }
 
 /// The choice that the matches of one command make.
-fn chosen_of(alloc: Global, word: &str, matches: &ArgMatches<'_>) -> Result<Chosen, AllocError>
+fn chosen_of(alloc: Global, word: &str, matches: &ArgMatches<'_>) -> Result<Chosen, WordsFault>
     requires { IsFit (Some (word.now, rows_of (found_of matches.now))) }
     ensures holds { IfOk result (IsChoiceOf (Some (word.now, rows_of (found_of matches.now)))) }
     ensures within { IfOk result IsWithin }
+    ensures fits { IfOk result (λ _. misfit_in (Some (word.now, rows_of (found_of matches.now))) ≡ []) }
+    ensures refused { IfErr result (TellsOneOf (misfit_in (Some (word.now, rows_of (found_of matches.now))))) }
 {
     Ok(Chosen {
         name: name_of(word),
         files: files_of(alloc, matches)?,
-        instance: instance_of(alloc, matches)?,
+        instance: text_of(alloc, matches, "instance")?,
         rounds: rounds_of(matches),
         seed: seed_of(matches),
+        after: text_of(alloc, matches, "after")?,
+        at: at_of(alloc, matches)?,
     })
 }
 
@@ -225,12 +246,16 @@ fn add_values(
     Ok(())
 }
 
-/// The name of the instance, if it is given.
-fn instance_of(alloc: Global, matches: &ArgMatches<'_>) -> Result<Option<String>, AllocError>
-    ensures { IfOk result (λ name. option_map string_bytes name ≡ instance_in (rows_of (found_of matches.now))) }
+/// The text that is given with an option.
+fn text_of(
+    alloc: Global,
+    matches: &ArgMatches<'_>,
+    name: &str,
+) -> Result<Option<String>, AllocError>
+    ensures { IfOk result (λ text. option_map string_bytes text ≡ first_of name.now (rows_of (found_of matches.now))) }
 {
-    match matches.get_str("instance") {
-        Some(name) => Ok(Some(String::from_str(alloc, name)?)),
+    match matches.get_str(name) {
+        Some(text) => Ok(Some(String::from_str(alloc, text)?)),
         None => Ok(None),
     }
 }
@@ -251,4 +276,79 @@ fn seed_of(matches: &ArgMatches<'_>) -> u32
     ensures small { result ≤ greatest_seed }
 {
     matches.get_one::<u32>("seed").unwrap_or(0)
+}
+
+/// The present moment, if it is given, which goes with a log.
+fn at_of(alloc: Global, matches: &ArgMatches<'_>) -> Result<Option<u64>, WordsFault>
+    ensures exact { IfOk result (λ at. at ≡ at_in (rows_of (found_of matches.now))) }
+    ensures early { IfOk result (λ at. IfSome at (λ n. n ≤ latest_moment)) }
+    ensures fits { let rows = rows_of (found_of matches.now) in
+        IfOk result (λ _. misfit_of (after_in rows) (first_of (codes "at") rows) ≡ []) }
+    ensures refused { let rows = rows_of (found_of matches.now) in
+        IfErr result (TellsOneOf (misfit_of (after_in rows) (first_of (codes "at") rows))) }
+{
+    let Some(word) = matches.get_str("at") else {
+        return Ok(None);
+    };
+    let Some(_) = matches.get_str("after") else {
+        return Err(no_log(alloc));
+    };
+    match moment_of(word) {
+        Some(moment) => Ok(Some(moment)),
+        None => Err(no_moment(alloc, word)),
+    }
+}
+
+/// The moment that the word is.
+fn moment_of(word: &str) -> Option<u64>
+    ensures { MatchOption result (is_moment word.now ≡ false)
+        (λ n. (is_moment word.now ≡ true) × (n ≡ value_of word.now) × (n ≤ latest_moment)) }
+{
+    let Some(number) = number_of(word.as_bytes(), MOST_DIGITS) else {
+        return None;
+    };
+    if number > LATEST {
+        return None;
+    }
+    Some(number)
+}
+
+/// The fault of a moment without a log.
+fn no_log(alloc: Global) -> WordsFault
+    ensures { TellsReason ErrorKind.MissingRequiredArgument result }
+{
+    let parts = ["the following required arguments were not provided:\n  --after <LOG>"];
+    misfit(alloc, ErrorKind::MissingRequiredArgument, parts.as_slice())
+}
+
+/// The fault of a word that isn't a moment.
+fn no_moment(alloc: Global, word: &str) -> WordsFault
+    ensures { TellsReason ErrorKind.ValueValidation result }
+{
+    let parts = [
+        "invalid value '",
+        word,
+        "' for '--at <N>': a moment has 1 to 13 digits, and is at most 1000000000000",
+    ];
+    misfit(alloc, ErrorKind::ValueValidation, parts.as_slice())
+}
+
+/// The fault of a moment that doesn't fit, with what is said of it.
+fn misfit(alloc: Global, kind: ErrorKind, parts: &[&str]) -> WordsFault
+    ensures { TellsReason kind result }
+{
+    match error_text(alloc, parts) {
+        Ok(text) => WordsFault::from(Refusal { kind, text }),
+        Err(error) => WordsFault::from(error),
+    }
+}
+
+/// The text of an error, as `clap` writes it.
+fn error_text(alloc: Global, parts: &[&str]) -> Result<String, AllocError> {
+    let mut text = String::from_str(alloc, "error: ")?;
+    for part in parts {
+        text.push_str(*part)?;
+    }
+    text.push_str("\n\nFor more information, try '--help'.\n")?;
+    Ok(text)
 }

@@ -1,7 +1,10 @@
--- A fault that is a reason's tells of it.
-use Rattle.std.proofs.Common.{◌≡◌, subst}
+-- Which reasons a fault tells of.
+use Rattle.std.proofs.Common.{◌≡◌, ◌∙◌, [], ◌∷◌, Result, Ok, Err, IfOk, IfErr, ap, subst, sym, refl, inl}
+use Rattle.clap.specs.Words.{IsAmong, Kinds}
+use Rattle.clap.specs.Kinds.{or_else}
 use Rattle.clap.specs.declared.error.kind.ErrorKind.{ErrorKind}
-use Rattle.command_words.specs.Choice.{IsFaultOf, TellsReason}
+use Rattle.command_words.specs.Choice.{IsFaultOf, TellsOneOf, TellsReason}
+use Rattle.command_words.specs.declared.words.Chosen.{Chosen}
 use Rattle.command_words.specs.declared.words.WordsFault.{WordsFault}
 use Rattle.command_words.specs.declared.words.WordsFault.TheVariants.{Usage, Memory}
 
@@ -11,3 +14,30 @@ tells kind (Usage help text) is = is
 
 pub tells_reason : (kind same : ErrorKind) (fault : WordsFault) → kind ≡ same → IsFaultOf kind fault → TellsReason same fault
 tells_reason kind same fault e is = subst (λ k. TellsReason k fault) e (tells kind fault is)
+
+-- it tells of the only one
+pub tells_only : (kind : ErrorKind) (kinds : Kinds) (fault : WordsFault) → kinds ≡ kind ∷ [] → TellsReason kind fault → TellsOneOf kinds fault
+tells_only kind kinds fault only is = subst (λ (ks : Kinds). TellsOneOf ks fault) (sym only) (told fault is)
+  where
+    told : (f : WordsFault) → TellsReason kind f → TellsOneOf (kind ∷ []) f
+    told Memory is = tt
+    told (Usage help text) is = (kind, inl refl, is.1)
+
+-- ---- some reasons, or else others
+
+among_first : (kind : ErrorKind) (first next : Kinds) → IsAmong kind first → IsAmong kind (or_else first next)
+among_first kind [] next is = absurd is
+among_first kind (k ∷ ks) next is = is
+
+pub tells_first : (first next : Kinds) (fault : WordsFault) → TellsOneOf first fault → TellsOneOf (or_else first next) fault
+tells_first first next Memory is = tt
+tells_first first next (Usage help text) is = (is.0, among_first is.0 first next is.1, is.2)
+
+pub tells_next : (first next other : Kinds) (read : Result Chosen WordsFault) → first ≡ [] → other ≡ next → IfErr read (TellsOneOf other) → IfErr read (TellsOneOf (or_else first next))
+tells_next first next other (Ok chosen) none same is = tt
+tells_next first next other (Err fault) none same is =
+    subst (λ (ks : Kinds). TellsOneOf (or_else ks next) fault) (sym none) (subst (λ (ks : Kinds). TellsOneOf ks fault) same is)
+
+pub no_reasons : (first next other : Kinds) (read : Result Chosen WordsFault) → first ≡ [] → other ≡ next → IfOk read (λ _. other ≡ []) → IfOk read (λ _. or_else first next ≡ [])
+no_reasons first next other (Ok chosen) none same is = ap (λ (ks : Kinds). or_else ks next) none ∙ sym same ∙ is
+no_reasons first next other (Err fault) none same is = tt

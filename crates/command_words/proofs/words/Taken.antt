@@ -16,8 +16,8 @@ use Rattle.clap.specs.declared.builder.action.ArgAction.TheVariants.{Set, Help}
 use Rattle.clap.specs.declared.builder.value_parser.ValueParser.{ValueParser}
 use Rattle.clap.specs.declared.builder.value_parser.ValueParser.TheVariants.{Signed}
 use Rattle.clap.proofs.ValueTestLemmas.{accepts-Accepts}
-use Rattle.command_words.specs.CommandLine.{command, command_line, log_command, plan_command, most_rounds, greatest_seed, plans_rule, rounds_rule, seed_rule}
-use Rattle.command_words.specs.Choice.{FitsUpTo, Found, IsFit, TakesFiles, TellsOneOf, TellsReason, files_in, found_in, reasons_in, values_of, word_of}
+use Rattle.command_words.specs.CommandLine.{command, command_line, log_command, plan_command, rest_command, most_rounds, greatest_seed, plans_rule, rounds_rule, seed_rule}
+use Rattle.command_words.specs.Choice.{FitsUpTo, Found, IsFit, TakesFiles, TellsOneOf, TellsReason, files_in, found_in, parse_reasons_in, values_of, word_of}
 use Rattle.command_words.specs.declared.words.CommandName.{CommandName}
 use Rattle.command_words.specs.declared.words.CommandName.TheVariants.{Facts, Shape as ShapeName, Check, Explain, Schedule, Bounds, Plan, Improve, Drive, Resume, Hub, Audit, Gantt}
 use Rattle.command_words.specs.declared.words.WordsFault.{WordsFault}
@@ -143,6 +143,26 @@ plan_fits name named is counts = fits_leaf (as_built (plan_command name [])) nam
     (set_plain _ _ refl refl refl refl, (set_plain _ _ refl refl refl refl, (set_plain _ _ refl refl refl refl, (help_plain _ _ refl refl refl refl, tt))))
     (_, refl, refl, refl, refl, refl) (_, refl, refl, refl, refl, refl) refl tt tt counts
 
+rest_fits : (name : Text) (named : CommandName) → word_of named ≡ Some name → ((x y z : ℕ) → x ≡ 1 → y ≡ 1 → z ≡ 0 → TakesFiles named ((x + y) + z))
+    → FitsLeaf (as_built (rest_command name))
+rest_fits name named is counts = fits_leaf (as_built (rest_command name)) named one one none is refl refl (
+  set_plain _ _ refl refl refl refl,
+  (
+    set_plain _ _ refl refl refl refl,
+    (
+      set_plain _ _ refl refl refl refl,
+      (
+        set_plain _ _ refl refl refl refl,
+        (
+          set_plain _ _ refl refl refl refl,
+          (help_plain _ _ refl refl refl refl, tt),
+        ),
+      ),
+    ),
+  ),
+)
+    (_, refl, refl, refl, refl, refl) (_, refl, refl, refl, refl, refl) refl tt tt counts
+
 log_fits : (name : Text) (named : CommandName) → word_of named ≡ Some name → ((x y z : ℕ) → x ≡ 1 → y ≡ 1 → z ≡ 1 → TakesFiles named ((x + y) + z))
     → FitsLeaf (as_built (log_command name))
 log_fits name named is counts = fits_leaf (as_built (log_command name)) named one one one is refl refl (
@@ -237,11 +257,11 @@ leaves = (
   (
     plan_fits (codes "shape") ShapeName refl (λ x y z p q r. omega arith),
     (
-      plan_fits (codes "check") Check refl (λ x y z p q r. omega arith),
+      rest_fits (codes "check") Check refl (λ x y z p q r. omega arith),
       (
-        plan_fits (codes "explain") Explain refl (λ x y z p q r. omega arith),
+        rest_fits (codes "explain") Explain refl (λ x y z p q r. omega arith),
         (
-          plan_fits (codes "schedule") Schedule refl (λ x y z p q r. omega arith),
+          rest_fits (codes "schedule") Schedule refl (λ x y z p q r. omega arith),
           (
             plan_fits (codes "bounds") Bounds refl (λ x y z p q r. omega arith),
             (
@@ -270,12 +290,12 @@ leaves = (
   ),
 )
 
-pub taken_fits : (words : List Text) → reasons_in words ≡ [] → IsFit (found_in words)
+pub taken_fits : (words : List Text) → parse_reasons_in words ≡ [] → IsFit (found_in words)
 taken_fits words e = built_fits (built command_line) (argument_words (built command_line) words) leaves e
 
 -- ---- what the parse says, of the described command line
 
-pub taken : (a : App) (words : List Text) → a ≡ command_line → (is_simple_and_free a ≡ true → fault_of a words ≡ []) → reasons_in words ≡ []
+pub taken : (a : App) (words : List Text) → a ≡ command_line → (is_simple_and_free a ≡ true → fault_of a words ≡ []) → parse_reasons_in words ≡ []
 taken a words is h = sym (ap (λ x. fault_of x words) is) ∙ h (ap is_simple_and_free is)
 
 pub met : (a : App) (words : List Text) (rows : List Row) (found : Found) → a ≡ command_line
@@ -283,7 +303,7 @@ pub met : (a : App) (words : List Text) (rows : List Row) (found : Found) → a 
 met a words rows found is h = (h (ap is_simple is)).1 ∙ ap (λ x. subcommand_of x words) is
 
 pub told : (a : App) (words : List Text) (error : Error) (fault : WordsFault) → a ≡ command_line → (is_simple_and_free a ≡ true → HasKind (fault_of a words) error)
-    → TellsReason (kind_of error) fault → TellsOneOf (reasons_in words) fault
+    → TellsReason (kind_of error) fault → TellsOneOf (parse_reasons_in words) fault
 told a words error Memory is h tells = tt
 told a words error (Usage help text) is h tells = elim (h (ap is_simple_and_free is)) [
   | inl memory ↦ absurd (tells.0 memory)

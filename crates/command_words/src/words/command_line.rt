@@ -2,7 +2,7 @@
 
 ghost use Rattle.std.specs.Prelude.{◌≡◌, IfOk, [], false, codes};
 ghost use Rattle.clap.specs.Words.{rule_of};
-ghost use Rattle.command_words.specs.CommandLine.{Describes, bare_program, command, command_line, described, file_rule, leaf, log_command, option_rule, plan_command, plans_rule, program_with, rounds_rule, seed_rule};
+ghost use Rattle.command_words.specs.CommandLine.{Describes, bare_program, command, command_line, described, file_rule, leaf, log_command, option_rule, plan_command, plans_rule, program_with, rest_command, rounds_rule, seed_rule};
 
 use crate::words::CommandName;
 use clap::builder::ValueParser;
@@ -70,6 +70,24 @@ fn instance<'a>(alloc: Global) -> Arg<'a>
     option(alloc, "instance", "NAME", help)
 }
 
+/// The log of a run, of whose rest is asked.
+fn after<'a>(alloc: Global) -> Arg<'a>
+    ensures rule { rule_of result ≡ option_rule (codes "after") }
+    ensures local { result.global ≡ false }
+{
+    let help = "Ask about the rest of the run in this log";
+    option(alloc, "after", "LOG", help)
+}
+
+/// The present moment of that run.
+fn at<'a>(alloc: Global) -> Arg<'a>
+    ensures rule { rule_of result ≡ option_rule (codes "at") }
+    ensures local { result.global ≡ false }
+{
+    let help = "The present moment, by default the log's last one";
+    option(alloc, "at", "N", help)
+}
+
 /// A command on an instance.
 fn on_instance<'a>(alloc: Global, name: &'a str, about: &'a str) -> Result<Command<'a>, AllocError>
     ensures { IfOk result (Describes (leaf (command name.entry.now []))) }
@@ -89,6 +107,14 @@ fn on_plan<'a>(alloc: Global, name: &'a str, about: &'a str) -> Result<Command<'
     ensures { IfOk result (Describes (leaf (plan_command name.entry.now []))) }
 {
     on_instance(alloc, name, about)?.arg(file(alloc, "PLAN", "The plan, in TOML"))
+}
+
+/// A command on an instance and a plan, or on the rest of a run of it.
+fn on_rest<'a>(alloc: Global, name: &'a str, about: &'a str) -> Result<Command<'a>, AllocError>
+    ensures { IfOk result (Describes (leaf (rest_command name.entry.now))) }
+{
+    let plan = on_plan(alloc, name, about)?.arg(after(alloc))?;
+    plan.arg(at(alloc))
 }
 
 /// A command on an instance, a plan and a log.
@@ -148,17 +174,17 @@ fn command_of<'a>(alloc: Global, name: CommandName) -> Result<Command<'a>, Alloc
             "shape",
             "Tells whether a plan has the shape of its instance",
         ),
-        CommandName::Check => on_plan(
+        CommandName::Check => on_rest(
             alloc,
             "check",
             "Tells whether a plan never gets stuck and is in time",
         ),
-        CommandName::Explain => on_plan(
+        CommandName::Explain => on_rest(
             alloc,
             "explain",
             "Tells why a plan is accepted or refused",
         ),
-        CommandName::Schedule => on_plan(
+        CommandName::Schedule => on_rest(
             alloc,
             "schedule",
             "Tells when what begins and ends, and how late it may end",

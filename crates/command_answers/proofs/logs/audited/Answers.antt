@@ -1,4 +1,6 @@
-use Rattle.std.proofs.Common.{inl}
+use Rattle.std.proofs.Common.{inl, inr}
+use Rattle.text_lines.specs.Lines.{lines_of}
+use Rattle.command_answers.specs.LogLines.{IsLogLine}
 use Rattle.command_answers.proofs.LogAnswers.{refused_log}
 use Rattle.command_answers.proofs.logs.audited.Goals as goal
 
@@ -6,4 +8,6 @@ pub returns-in_ok-run_told-in-Ok : goal.returns-in_ok-run_told-in-Ok
 returns-in_ok-run_told-in-Ok c = inl (record { run = c.in-Ok.found; is = c.in-Ok.ensures.kept; told = c.in_ok-run_told-in-Ok.ensures })
 
 pub returns-in-Err : goal.returns-in-Err
-returns-in-Err c = refused_log c.args.telling c.args.shaped.now c.args.log.now c.in-Err.fault c.fault_told.result c.in-Err.ensures.fault c.fault_told.ensures
+returns-in-Err c =
+    refused_log c.args.shaped.now (lines_of c.args.log.now) (IsLogLine c.args.telling c.args.shaped.now c.args.log.now) (λ answer refused. inr refused)
+    c.in-Err.fault c.fault_told.result c.in-Err.ensures.fault c.fault_told.ensures

@@ -3,6 +3,8 @@ use Rattle.command_answers.specs.Checks.{IsCheckLine}
 use Rattle.command_answers.specs.Explains.{IsExplanation}
 use Rattle.command_answers.specs.Timetables.{IsTimetable}
 use Rattle.command_answers.specs.BoundLines.{AreBounds}
+use Rattle.command_answers.specs.LogLines.{IsLogLine}
+use Rattle.command_answers.specs.Rests.{IsRestLine}
 use Rattle.command_run.proofs.GoodFiles.{good_facts, good_plan, good_log, good_search, good_improvement, good_drive, good_resume}
 use Rattle.command_run.proofs.GoodHubs.{good_hub}
 use Rattle.command_run.proofs.GoodInputs.{good_input}
@@ -27,7 +29,10 @@ pub returns-clause-bounds : goal.returns-clause-bounds
 returns-clause-bounds c = λ content pair p outcome asked good run. good_plan content pair p good AreBounds outcome asked run
 
 pub returns-clause-log : goal.returns-clause-log
-returns-clause-log c = λ telling content pair log text p outcome asked good is shaped run. good_log content pair p good telling log text outcome asked is shaped run
+returns-clause-log c = λ telling content pair log text p outcome asked good is shaped run. good_log content pair p good (IsLogLine telling) log text outcome asked is shaped run
+
+pub returns-clause-rest : goal.returns-clause-rest
+returns-clause-rest c = λ telling at content pair log text p outcome asked good is shaped run. good_log content pair p good (IsRestLine telling at) log text outcome asked is shaped run
 
 pub returns-clause-plan : goal.returns-clause-plan
 returns-clause-plan c = λ rounds content pair p outcome asked good run. good_search content pair p good rounds outcome asked run

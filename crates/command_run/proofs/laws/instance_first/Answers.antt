@@ -22,6 +22,9 @@ returns-clause-bounds c = λ content pair text fault outcome asked is first run.
 pub returns-clause-log : goal.returns-clause-log
 returns-clause-log c = λ telling log content pair text fault outcome asked is first run. told_first content pair text fault is first _ outcome asked run
 
+pub returns-clause-rest : goal.returns-clause-rest
+returns-clause-rest c = λ telling at log content pair text fault outcome asked is first run. told_first content pair text fault is first _ outcome asked run
+
 pub returns-clause-plan : goal.returns-clause-plan
 returns-clause-plan c = λ rounds content pair text fault outcome asked is first run. plan_first content pair text fault is first rounds outcome asked run
 

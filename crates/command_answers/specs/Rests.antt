@@ -1,0 +1,63 @@
+-- The answers of `check`, `explain` and `schedule` of the rest of a run.
+use Rattle.std.specs.Prelude.{◌≡◌, ℕ, ◌<◌, ◌≤◌, List, ◌++◌, ◌⊎◌, Option, codes, decimal, unwrap_or}
+use Rattle.shop_base.specs.Plan.{PlannedShop}
+use Rattle.shop_base.specs.Cell.{Cell}
+use Rattle.shop_base.specs.Run.{ends_in}
+use Rattle.text_lines.specs.Lines.{ended_lines}
+use Rattle.cell_tables.specs.Events.{events_of}
+use Rattle.run_log.specs.Audits.{TellRun}
+use Rattle.rest_times.specs.declared.rest_verdict.RestVerdict.{RestVerdict}
+use Rattle.rest_times.specs.declared.rest_verdict.RestVerdict.TheVariants.{Accepted, Cycle, Late}
+use Rattle.rest_texts.specs.RestVerdicts.{IsRestJudged}
+use Rattle.rest_texts.specs.RestFirstLines.{IsRestFirstLine}
+use Rattle.rest_texts.specs.RestExplained.{IsRestExplained}
+use Rattle.rest_texts.specs.RestScheduled.{IsRestScheduled}
+use Rattle.command_answers.specs.declared.answer.Answer.{Answer}
+use Rattle.command_answers.specs.declared.rests.PlanTelling.{PlanTelling}
+use Rattle.command_answers.specs.declared.rests.PlanTelling.TheVariants.{Verdict, Reasons, Moments}
+use Rattle.command_answers.specs.LogLines.{IsLogRefused}
+
+-- the status of a verdict on the rest
+abbrev pub rest_status : RestVerdict → ℕ
+rest_status (Accepted times) = 0
+rest_status (Cycle nodes) = 1
+rest_status (Late job leaves chain times) = 1
+
+-- the text of a verdict on the rest: its first line, its explanation or its schedule
+abbrev pub IsTextOf : PlanTelling → PlannedShop → Cell → ℕ → RestVerdict → List ℕ → Type 0
+IsTextOf Verdict p c t verdict text = IsRestFirstLine p c t verdict text
+IsTextOf Reasons p c t verdict text = IsRestExplained p c t verdict text
+IsTextOf Moments p c t verdict text = IsRestScheduled p c t verdict text
+
+-- what is told of the rest from a cell c and a present moment t on: the text of the verdict on it, with its status
+pub record IsRestTold (telling : PlanTelling) (p : PlannedShop) (c : Cell) (t : ℕ) (answer : Answer) : Type 0 where
+  pub verdict : RestVerdict
+  pub judged : IsRestJudged p c t verdict
+  pub text : IsTextOf telling p c t verdict answer.text.items
+  pub status : answer.status ≡ rest_status verdict
+
+-- `log past L`
+abbrev pub log_past_line : ℕ → List ℕ
+log_past_line last = codes "log past " ++ decimal last ++ codes "\n"
+
+-- the line of a present moment before the last one
+abbrev pub IsPastLine : ℕ → Answer → Type 0
+IsPastLine last answer = (answer.text.items ≡ log_past_line last) × (answer.status ≡ 1)
+
+-- the present moment: the one that is given, or the last one of the run
+abbrev pub present_at : Option ℕ → Cell → ℕ
+present_at at c = unwrap_or at c.last
+
+-- what is told of the rest from a cell on: that the present moment is past, or else the rest from there
+abbrev pub IsCellTold : PlanTelling → Option ℕ → PlannedShop → Cell → Answer → Type 0
+IsCellTold telling at p c answer =
+    ((present_at at c < c.last) × IsPastLine c.last answer) ⊎ ((c.last ≤ present_at at c) × IsRestTold telling p c (present_at at c) answer)
+
+-- what is told of a log whose whole lines tell a run of the plan: that of the cell at its end
+pub record IsRestOfLog (telling : PlanTelling) (at : Option ℕ) (p : PlannedShop) (log : List ℕ) (answer : Answer) : Type 0 where
+  pub run : TellRun p (ended_lines log)
+  pub told : IsCellTold telling at p (ends_in p (events_of run.0)) answer
+
+-- what is told of a log: so, or the line of the first fault of its whole lines
+abbrev pub IsRestLine : PlanTelling → Option ℕ → PlannedShop → List ℕ → Answer → Type 0
+IsRestLine telling at p log answer = IsRestOfLog telling at p log answer ⊎ IsLogRefused p (ended_lines log) answer

@@ -1,0 +1,19 @@
+-- What `check`, `explain` and `schedule` do, of a plan or of the rest of a run of it.
+use Rattle.std.specs.Prelude.{ℕ, List, Option, None, Some, Result}
+use Rattle.command_answers.specs.declared.answer.Answer.{Answer}
+use Rattle.command_answers.specs.declared.command_fault.CommandFault.{CommandFault}
+use Rattle.command_answers.specs.declared.rests.PlanTelling.{PlanTelling}
+use Rattle.command_answers.specs.declared.rests.PlanTelling.TheVariants.{Verdict, Reasons, Moments}
+use Rattle.command_answers.specs.Commands.{PairOfFiles, RunsCheck, RunsExplain, RunsSchedule, RunsRest}
+
+module _ {W : Type 0} (gives : W → List ℕ → Result (List ℕ) CommandFault → W → Type 0) where
+  -- what is told of the plan
+  abbrev pub RunsOfPlan : PlanTelling → PairOfFiles → W → Result Answer CommandFault → W → Type 0
+  RunsOfPlan Verdict pair = RunsCheck gives pair
+  RunsOfPlan Reasons pair = RunsExplain gives pair
+  RunsOfPlan Moments pair = RunsSchedule gives pair
+
+  -- what is told of the plan, or of the rest of the run in a log, if there is one
+  abbrev pub RunsTelling : PlanTelling → Option ℕ → PairOfFiles → Option (List ℕ) → W → Result Answer CommandFault → W → Type 0
+  RunsTelling telling at pair None = RunsOfPlan telling pair
+  RunsTelling telling at pair (Some log) = RunsRest gives telling at pair log
