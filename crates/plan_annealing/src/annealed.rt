@@ -8,6 +8,7 @@ use crate::draws::Draws;
 use crate::moves::Moves;
 use crate::net_of_plan::{net_of, orders_of};
 use crate::passing::Pass;
+use crate::rest::Rest;
 use shop_base::{JobNo, Shaped};
 use std::alloc::{AllocError, Global};
 
@@ -25,7 +26,34 @@ pub fn annealed_orders(
 ) -> Result<Option<Vec<Vec<JobNo>>>, AllocError>
     ensures each_machine { IfOk result (λ answer. IfSome answer (λ orders. length orders.items ≡ machines shaped.now)) }
 {
-    let mut net = net_of(alloc, shaped)?;
+    annealed(alloc, shaped, None, seed, round)
+}
+
+/// The same of the rest of a run of the plan: only entries that are ahead are exchanged, a job that is gone is never late, and
+/// no job makes its next move before its bound.
+pub fn annealed_rest(
+    alloc: Global,
+    shaped: &Shaped,
+    rest: &Rest,
+    seed: u32,
+    round: u32,
+) -> Result<Option<Vec<Vec<JobNo>>>, AllocError>
+    ensures each_machine { IfOk result (λ answer. IfSome answer (λ orders. length orders.items ≡ machines shaped.now)) }
+{
+    annealed(alloc, shaped, Some(rest), seed, round)
+}
+
+/// The orders of the best plan that is met from a plan, or from what a run has left of it.
+fn annealed(
+    alloc: Global,
+    shaped: &Shaped,
+    rest: Option<&Rest>,
+    seed: u32,
+    round: u32,
+) -> Result<Option<Vec<Vec<JobNo>>>, AllocError>
+    ensures each_machine { IfOk result (λ answer. IfSome answer (λ orders. length orders.items ≡ machines shaped.now)) }
+{
+    let mut net = net_of(alloc, shaped, rest)?;
     let nodes = net.spots.len();
     let mut pass = Pass::new(alloc, nodes)?;
     let mut moves = Moves::new(alloc, nodes)?;
@@ -33,7 +61,11 @@ pub fn annealed_orders(
     if !anneal(&mut net, &mut pass, &mut moves, draws, is_hot(round)) {
         return Ok(None);
     }
-    let orders = orders_of(alloc, &mut net, shaped.machine_count())?;
+    let begun = match rest {
+        Some(_) => Some(shaped.plan()),
+        None => None,
+    };
+    let orders = orders_of(alloc, &mut net, begun, shaped.machine_count())?;
     Ok(Some(orders))
 }
 

@@ -1,5 +1,5 @@
-//! A local search for shorter plans: simulated annealing over the orders of the machines. Whoever asks for its orders
-//! judges them.
+//! A local search for shorter plans, or for a shorter rest of a run: simulated annealing over the orders of the machines.
+//! Whoever asks for its orders judges them.
 #![tactic(auto)]
 
 mod annealed;
@@ -12,7 +12,9 @@ mod net;
 mod net_of_plan;
 mod passing;
 mod price;
+mod rest;
 mod timing;
 mod turning;
 
-pub use annealed::annealed_orders;
+pub use annealed::{annealed_orders, annealed_rest};
+pub use rest::{JobRest, Rest};

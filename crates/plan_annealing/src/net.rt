@@ -9,7 +9,7 @@ pub(crate) const NONE: u32 = u32::MAX;
 /// A node: the entry of a step, or the leaving of a job.
 #[derive(Clone, Copy)]
 pub(crate) struct Spot {
-    /// The nominal time of the step before, and at a job's first node the release.
+    /// The nominal time of the step before, and at a job's first node the release or, in mid-run, its bound.
     pub lag: Moment,
     /// The cleaning time of the machine that is entered here.
     pub clean: Moment,
@@ -27,15 +27,17 @@ pub(crate) struct Spot {
     pub machine: u32,
 }
 
-/// A job: its first and its last node, and its budget.
+/// A job: its first and its last node, the machine that it is on before these, and its budget. Or a cleaning that goes on, with
+/// one node.
 #[derive(Clone, Copy)]
 pub(crate) struct Span {
     pub first: u32,
     pub last: u32,
+    pub on: u32,
     pub budget: Moment,
 }
 
-/// The nodes, job after job, and the jobs.
+/// The nodes, job after job, and the jobs; then the cleanings that go on.
 #[derive(Drop)]
 pub(crate) struct Net {
     pub spots: Vec<Spot>,
@@ -45,7 +47,7 @@ pub(crate) struct Net {
 }
 
 impl Net {
-    /// How many steps all jobs have.
+    /// How many steps all jobs have ahead.
     pub fn steps(&self) -> u64 {
         self.spots.len().wrapping_sub(self.spans.len()) as u64
     }

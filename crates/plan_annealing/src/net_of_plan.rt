@@ -1,13 +1,20 @@
-//! From a plan to its net, and from the sources of a net's nodes to orders.
+//! From a plan, or what a run has left of it, to its net, and from the sources of a net's nodes to orders.
 
 ghost use Rattle.std.specs.Prelude.{◌≡◌, length, IfOk};
 
 use crate::net::{NONE, Net, Span, Spot, count, link, spot_at};
+use crate::rest::{JobRest, Rest};
+use shop_base::limits::MAX_MOMENT;
 use shop_base::{JobNo, MachineNo, Moment, Plan, Shaped, Step};
 use std::alloc::{AllocError, Global};
 
-/// The graph of the plan.
-pub(crate) fn net_of(alloc: Global, shaped: &Shaped) -> Result<Net, AllocError> {
+/// The graph of the plan or, where a run has begun, of what is ahead of it: the first node of each job has no other before
+/// it, so nothing comes before a job that stands on a machine.
+pub(crate) fn net_of(
+    alloc: Global,
+    shaped: &Shaped,
+    rest: Option<&Rest>,
+) -> Result<Net, AllocError> {
     let mut net = Net {
         spots: Vec::new(alloc),
         spans: Vec::new(alloc),
@@ -16,31 +23,66 @@ pub(crate) fn net_of(alloc: Global, shaped: &Shaped) -> Result<Net, AllocError> 
     let shop = shaped.shop();
     for job in 0..shop.jobs() {
         if let Some(route) = shop.route(job) {
-            add_job(shaped.plan(), job, route, &mut net)?;
+            let from = job_rest(shaped.plan(), rest, job);
+            add_job(shaped.plan(), job, route, from, &mut net)?;
         }
     }
-    link_machines(shaped.plan(), shop.machines(), &mut net);
+    link_machines(shaped.plan(), rest, shop.machines(), &mut net)?;
     net.saved = vec![in alloc; NONE; net.spots.len()]?;
     Ok(net)
 }
 
-/// Adds a job's nodes.
-fn add_job(plan: &Plan, job: JobNo, route: &[Step], net: &mut Net) -> Result<(), AllocError> {
+/// How the job goes on: with its first step from its release on, where no run has begun.
+fn job_rest(plan: &Plan, rest: Option<&Rest>, job: JobNo) -> JobRest {
+    let begun = match rest {
+        Some(rest) => rest.jobs.get(job as usize).copied(),
+        None => None,
+    };
+    match begun {
+        Some(begun) => begun,
+        None => JobRest {
+            made: 0,
+            bound: moment_at(&plan.release, job),
+        },
+    }
+}
+
+/// Adds those of a job's nodes that are ahead. Of a job that is gone it adds its leaving, which is never late.
+fn add_job(
+    plan: &Plan,
+    job: JobNo,
+    route: &[Step],
+    from: JobRest,
+    net: &mut Net,
+) -> Result<(), AllocError> {
     let first = count(net.spots.len());
-    let mut lag = moment_at(&plan.release, job);
+    let mut lag = from.bound;
     let mut back = NONE;
+    let mut on = NONE;
+    let mut made = from.made;
     for step in route {
-        let number = count(net.spots.len());
-        add_spot(net, lag, back, number.wrapping_add(1), job, step.machine)?;
-        lag = step.nominal;
-        back = number;
+        if made > 0 {
+            made = made.wrapping_sub(1);
+            on = step.machine;
+        } else {
+            let number = count(net.spots.len());
+            add_spot(net, lag, back, number.wrapping_add(1), job, step.machine)?;
+            lag = step.nominal;
+            back = number;
+        }
     }
     let last = count(net.spots.len());
     add_spot(net, lag, back, NONE, job, NONE)?;
+    let is_gone = made > 0;
     net.spans.push(Span {
         first,
         last,
-        budget: moment_at(&plan.budget, job),
+        on: if is_gone { NONE } else { on },
+        budget: if is_gone {
+            MAX_MOMENT
+        } else {
+            moment_at(&plan.budget, job)
+        },
     })?;
     Ok(())
 }
@@ -74,14 +116,49 @@ fn moment_at(moments: &[Moment], number: u32) -> Moment {
 }
 
 /// Links the jobs of each machine.
-fn link_machines(plan: &Plan, machines: u32, net: &mut Net) {
+fn link_machines(
+    plan: &Plan,
+    rest: Option<&Rest>,
+    machines: u32,
+    net: &mut Net,
+) -> Result<(), AllocError> {
     for machine in 0..machines {
-        link_machine(plan, machine, net);
+        let cleaned = add_cleaning(rest, machine, net)?;
+        link_machine(plan, machine, cleaned, net);
+    }
+    Ok(())
+}
+
+/// Adds a node for the moment since when the machine is being cleaned, if it is: the one at which it was left.
+fn add_cleaning(rest: Option<&Rest>, machine: MachineNo, net: &mut Net) -> Result<u32, AllocError> {
+    let Some(since) = cleaned_since(rest, machine) else {
+        return Ok(NONE);
+    };
+    let number = count(net.spots.len());
+    add_spot(net, since, NONE, NONE, NONE, NONE)?;
+    net.spans.push(Span {
+        first: number,
+        last: number,
+        on: NONE,
+        budget: MAX_MOMENT,
+    })?;
+    Ok(number)
+}
+
+/// Since when the machine is being cleaned, if a run has begun and it is.
+fn cleaned_since(rest: Option<&Rest>, machine: MachineNo) -> Option<Moment> {
+    match rest {
+        Some(rest) => match rest.cleanings.get(machine as usize) {
+            Some(since) => *since,
+            None => None,
+        },
+        None => None,
     }
 }
 
-/// Links each job of the machine's order to the one behind it.
-fn link_machine(plan: &Plan, machine: MachineNo, net: &mut Net) {
+/// Links each job of the machine's order that hasn't entered it to the one behind it, and the first of these to the one that
+/// is on the machine, or to its cleaning.
+fn link_machine(plan: &Plan, machine: MachineNo, cleaned: u32, net: &mut Net) {
     let Some(order) = plan.order.get(machine as usize) else {
         return;
     };
@@ -89,18 +166,30 @@ fn link_machine(plan: &Plan, machine: MachineNo, net: &mut Net) {
         Some(times) => moment_at(times, machine),
         None => 0,
     };
-    let mut before = NONE;
+    let mut before = cleaned;
     for job in order {
         let entry = entry_of(net, *job, machine);
-        if let Some(spot) = net.spots.get_mut(entry as usize) {
-            spot.clean = clean;
+        if entry == NONE {
+            before = leave_of(net, *job, machine, before);
+        } else {
+            if let Some(spot) = net.spots.get_mut(entry as usize) {
+                spot.clean = clean;
+            }
+            link(&mut net.spots, before, entry);
+            before = entry.wrapping_add(1);
         }
-        link(&mut net.spots, before, entry);
-        before = entry.wrapping_add(1);
     }
 }
 
-/// The job's entry of the machine.
+/// The node at which a job that has entered the machine leaves it, where it is still on it, else the other node.
+fn leave_of(net: &Net, job: JobNo, machine: MachineNo, other: u32) -> u32 {
+    match net.spans.get(job as usize) {
+        Some(span) if span.on == machine => span.first,
+        _ => other,
+    }
+}
+
+/// The job's entry of the machine, none where it isn't ahead.
 fn entry_of(net: &Net, job: JobNo, machine: MachineNo) -> u32 {
     let Some(span) = net.spans.get(job as usize) else {
         return NONE;
@@ -113,10 +202,12 @@ fn entry_of(net: &Net, job: JobNo, machine: MachineNo) -> u32 {
     NONE
 }
 
-/// The orders of the machines in the best plan that was met.
+/// The orders of the machines in the best plan that was met. Where a run of a plan has begun, they begin with its entries so
+/// far.
 pub(crate) fn orders_of(
     alloc: Global,
     net: &mut Net,
+    begun: Option<&Plan>,
     machines: u32,
 ) -> Result<Vec<Vec<JobNo>>, AllocError>
     ensures { IfOk result (λ orders. length orders.items ≡ machines) }
@@ -127,9 +218,32 @@ pub(crate) fn orders_of(
     let mut orders = Vec::new(alloc);
     for machine in 0..machines {
         let first = firsts.get(machine as usize).copied().unwrap_or(NONE);
-        orders.push(order_of(alloc, net, first)?)?;
+        let entered = entered_on(alloc, net, begun, machine)?;
+        orders.push(order_of(net, entered, first)?)?;
     }
     Ok(orders)
+}
+
+/// The jobs that have entered the machine, in order.
+fn entered_on(
+    alloc: Global,
+    net: &Net,
+    begun: Option<&Plan>,
+    machine: MachineNo,
+) -> Result<Vec<JobNo>, AllocError> {
+    let mut entered = Vec::new(alloc);
+    let order = match begun {
+        Some(plan) => plan.order.get(machine as usize),
+        None => None,
+    };
+    if let Some(order) = order {
+        for job in order {
+            if entry_of(net, *job, machine) == NONE {
+                entered.push(*job)?;
+            }
+        }
+    }
+    Ok(entered)
 }
 
 /// Lets no node lead to another job.
@@ -139,12 +253,12 @@ fn unlink(spots: &mut [Spot]) {
     }
 }
 
-/// Links the nodes to these sources, and notes each machine's first entry.
+/// Links the nodes to these sources, and notes each machine's first entry: before its source the net has no entry.
 fn relink(spots: &mut [Spot], saved: &[u32], firsts: &mut [u32]) {
     for (number, source) in saved.iter().enumerate() {
         let entry = count(number);
         let machine = spot_at(spots, entry).machine;
-        if *source != NONE {
+        if spot_at(spots, *source).back != NONE {
             link(spots, *source, entry);
         } else if let Some(first) = firsts.get_mut(machine as usize) {
             *first = entry;
@@ -152,9 +266,9 @@ fn relink(spots: &mut [Spot], saved: &[u32], firsts: &mut [u32]) {
     }
 }
 
-/// The order of a machine that is entered here first.
-fn order_of(alloc: Global, net: &Net, first: u32) -> Result<Vec<JobNo>, AllocError> {
-    let mut order = Vec::new(alloc);
+/// The order of a machine that is entered here next, after these jobs.
+fn order_of(net: &Net, entered: Vec<JobNo>, first: u32) -> Result<Vec<JobNo>, AllocError> {
+    let mut order = entered;
     let mut entry = first;
     for _ in 0..net.spans.len() {
         if let Some(spot) = net.spots.get(entry as usize) {

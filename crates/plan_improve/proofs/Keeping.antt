@@ -49,15 +49,15 @@ lateness_once p m n one other = one.sum ∙ same ∙ sym other.sum
     same = sum_below_same _ _ (jobs p)
         (λ j inside. ap (λ leaves. leaves - budget p j) (greatest_once p (leaving p j) (one.leaves j) (other.leaves j) (one.are j inside) (other.are j inside)))
 
-less_is : (c d e : Cost) → c.late ≡ d.late → c.makespan ≡ d.makespan → IsLess d e → IsLess c e
+pub less_is : (c d e : Cost) → c.late ≡ d.late → c.makespan ≡ d.makespan → IsLess d e → IsLess c e
 less_is c d e late makespan (inl less) = inl (omega arith)
 less_is c d e late makespan (inr (same, less)) = inr (omega arith, omega arith)
 
-less_than : (c d e : Cost) → d.late ≡ e.late → d.makespan ≡ e.makespan → IsLess c d → IsLess c e
+pub less_than : (c d e : Cost) → d.late ≡ e.late → d.makespan ≡ e.makespan → IsLess c d → IsLess c e
 less_than c d e late makespan (inl less) = inl (omega arith)
 less_than c d e late makespan (inr (same, less)) = inr (omega arith, omega arith)
 
-not_both : (c d : Cost) → IsLess c d → IsAtMost d c → ⊥
+pub not_both : (c d : Cost) → IsLess c d → IsAtMost d c → ⊥
 not_both c d (inl less) (inl most) = omega arith
 not_both c d (inl less) (inr (same, most)) = omega arith
 not_both c d (inr (same, less)) (inl most) = omega arith
@@ -77,10 +77,10 @@ none_below p cost bound is most c other less = not_both cost bound (less_is cost
 not_better : (x p : PlannedShop) (bound : Cost) → IsCost p bound → ((c : Cost) → IsCost x c → IsLess c bound → ⊥) → IsBetter x p → ⊥
 not_better x p bound is none one = none one.cost one.is (less_than one.cost one.other bound (same_late p one.other bound one.than is) (same_makespan p one.other bound one.than is) one.less)
 
-most_same : (c : Cost) → IsAtMost c c
+pub most_same : (c : Cost) → IsAtMost c c
 most_same c = inr (refl, omega arith)
 
-most_less : (c d : Cost) → IsLess c d → IsAtMost c d
+pub most_less : (c d : Cost) → IsLess c d → IsAtMost c d
 most_less c d (inl less) = inl less
 most_less c d (inr (same, less)) = inr (same, omega arith)
 
@@ -120,11 +120,11 @@ pub same_bound : (p q : PlannedShop) (n : ℕ) → IsReordered p q → IsBound p
 same_bound p q n same (by, is) = (by, subst (λ t. IsBy t n by) (sym (ap times_of same)) is)
 
 -- nothing was told, and then more
-told_nothing : (before : Option (List Told)) → IsToldMore before [] before
+pub told_nothing : (before : Option (List Told)) → IsToldMore before [] before
 told_nothing None = tt
 told_nothing (Some before) = ap (λ told. Some told) (sym (append-nil before))
 
-told_on : (before between after : Option (List Told)) (one more : List Told) → IsToldMore before one between → IsToldMore between more after → IsToldMore before (one ++ more) after
+pub told_on : (before between after : Option (List Told)) (one more : List Told) → IsToldMore before one between → IsToldMore between more after → IsToldMore before (one ++ more) after
 told_on None between after one more first next = tt
 told_on (Some before) between after one more first next =
     (rw first at next) ∙ ap (λ told. Some told) (append_assoc before one more)

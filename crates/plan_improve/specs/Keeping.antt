@@ -1,25 +1,17 @@
 -- The best plan so far with its cost, while answers are judged.
-use Rattle.std.specs.Prelude.{◌≡◌, ◌↔◌, ℕ, List, Option, None, Some}
-use Rattle.shop_base.specs.Plan.{PlannedShop, IsWellShaped}
-use Rattle.shop_base.specs.Vectors.{lists_of}
+use Rattle.std.specs.Prelude.{◌↔◌, List, Option, None, Some}
+use Rattle.shop_base.specs.Plan.{PlannedShop}
 use Rattle.plan_verifier.specs.Accepted.{IsAcceptable}
 use Rattle.plan_verifier.specs.declared.verdict.Verdict.{Verdict}
 use Rattle.plan_verifier.specs.Verdicts.{SaysAccepted, OnRefused, IsReason}
 use Rattle.plan_seek.specs.Orders.{Proposal}
 use Rattle.plan_improve.specs.declared.cost.Cost.{Cost}
 use Rattle.plan_improve.specs.declared.best.Best.{Best}
-use Rattle.plan_improve.specs.declared.reordering.Replaced.{Replaced}
-use Rattle.plan_improve.specs.declared.reordering.Replaced.TheVariants.{Fits, Stays}
 use Rattle.plan_improve.specs.Costs.{IsCost, IsLess, IsAtMost, IsNoWorse}
-use Rattle.plan_improve.specs.Reordered.{reordered, IsReordered}
+use Rattle.plan_improve.specs.Reordered.{IsReordered}
 use Rattle.plan_improve.specs.Watching.{Told, IsToldMore}
 use Rattle.plan_improve.specs.Runs.{Asked, Becomes}
 use Rattle.plan_improve.specs.Improved.{IsBegin, judged}
-
--- what comes of the orders of a plan that are replaced: the plan with the new ones and the old ones, or the plan again
-abbrev pub IsReplaced : PlannedShop → List (List ℕ) → Replaced → Type 0
-IsReplaced p order (Fits shaped old) = (shaped ≡ reordered p order) × (p ≡ reordered shaped (lists_of old.items)) × IsWellShaped p × IsWellShaped shaped
-IsReplaced p order (Stays back) = (back ≡ p) × (IsWellShaped (reordered p order) → ⊥)
 
 -- this is the plan's cost if it has one that is less than the bound; else it has none
 abbrev pub IsCostBelow : PlannedShop → Cost → Option Cost → Type 0

@@ -3,23 +3,22 @@
 ghost use Rattle.std.specs.Prelude.{◌≡◌, IfOk};
 ghost use Rattle.shop_base.specs.Plan.{IsWellShaped};
 ghost use Rattle.shop_base.specs.Vectors.{lists_of};
-ghost use Rattle.plan_improve.specs.Reordered.{with_orders, reordered};
-ghost use Rattle.plan_improve.specs.Keeping.{IsReplaced};
+ghost use Rattle.plan_improve.specs.Reordered.{with_orders, reordered, IsReplaced};
 
 use shop_base::{JobNo, Plan, Shaped, Shop, shape};
 use std::alloc::{AllocError, Global};
 
 /// What came of replacing a plan's orders.
 #[derive(Drop)]
-pub(crate) enum Replaced {
+pub enum Replaced {
     /// The plan with the new orders, and the old ones.
     Fits(Shaped, Vec<Vec<JobNo>>),
     /// The new orders don't fit the shop, and the plan is as it was.
     Stays(Shaped),
 }
 
-/// The plan with other orders, where they fit the shop.
-pub(crate) fn replace(shaped: Shaped, order: Vec<Vec<JobNo>>) -> Replaced
+/// The plan with other orders, where they fit the shop. It takes no memory.
+pub fn replace(shaped: Shaped, order: Vec<Vec<JobNo>>) -> Replaced
     ensures { IsReplaced shaped (lists_of order.items) result }
 {
     // Called for its clause alone: the plan is well shaped.
@@ -32,8 +31,8 @@ pub(crate) fn replace(shaped: Shaped, order: Vec<Vec<JobNo>>) -> Replaced
     }
 }
 
-/// The plan with orders that fit it.
-pub(crate) fn put_back(shaped: Shaped, order: Vec<Vec<JobNo>>) -> Shaped
+/// The plan with orders that fit it. It takes no memory.
+pub fn put_back(shaped: Shaped, order: Vec<Vec<JobNo>>) -> Shaped
     requires { IsWellShaped (reordered shaped (lists_of order.items)) }
     ensures { result ≡ reordered shaped (lists_of order.items) }
 {

@@ -1,0 +1,68 @@
+-- With which plan a search for a better rest begins.
+use Rattle.std.proofs.Common.{◌≡◌, ℕ, ◌≤◌, ◌↔◌, nat_lt, lt-ltb, arith, false, Option, Result, Ok, Err, IfErr, List, [], ◌∷◌, length, inl, inr, refl, sym, subst}
+use Rattle.shop_base.specs.Plan.{PlannedShop, IsWellShaped}
+use Rattle.shop_base.specs.Cell.{Cell}
+use Rattle.shop_base.specs.Report.{IsNextMoment}
+use Rattle.alt_graph.specs.Solved.{HasCycle}
+use Rattle.cell_tables.specs.declared.entry.Entry.{Entry}
+use Rattle.event_lines.specs.LogLines.{LinesTell}
+use Rattle.event_lines.proofs.Readings.{one_reading}
+use Rattle.run_log.specs.Audits.{TellRun, IsTold, IsAuditFault}
+use Rattle.run_log.specs.declared.audit_fault.AuditFault.{AuditFault}
+use Rattle.run_log.specs.declared.audit_fault.AuditFault.TheVariants.{BadLine, NotExpected, Backwards, NotReady, Occupied, NotClean, OutOfOrder, WrongPlace, Memory}
+use Rattle.plan_seek.specs.Orders.{serial_order}
+use Rattle.plan_seek.specs.declared.search.TheConstants.{MAX_ROUNDS}
+use Rattle.plan_improve.specs.Reordered.{reordered}
+use Rattle.plan_improve.proofs.Serially.{serial_acyclic}
+use Rattle.rest_improve.specs.Faults.{log_fault, IsBeginFault, IsRestFault}
+use Rattle.rest_improve.specs.declared.rest_fault.RestFault.{RestFault}
+use Rattle.rest_improve.specs.declared.rest_fault.RestFault.TheVariants.{Memory as WantOfMemory}
+use Rattle.rest_improve.specs.Keeping.{HasNoCost, IsSet}
+use Rattle.rest_improve.proofs.OneCell.{tell_same, cell_once}
+
+-- a plan without a cost of which the log tells a run has a cycle
+pub has_cycle : (lines : List (List ℕ)) (p : PlannedShop) → HasNoCost lines p → TellRun p lines → HasCycle p
+has_cycle lines p (inl untold) run = absurd (untold run)
+has_cycle lines p (inr cycle) run = cycle
+
+-- lines that tell no event tell a run of any plan
+tells_nothing : (lines : List (List ℕ)) (p : PlannedShop) (order : List (List ℕ)) → LinesTell p lines [] → TellRun (reordered p order) lines
+tells_nothing lines p order none = ([], tell_same (reordered p order) p.plan.order lines [] none, tt)
+
+-- so the serial plan has a cost then
+pub serial_costs : (lines : List (List ℕ)) (start serial : PlannedShop) → IsWellShaped start → LinesTell start lines [] → serial ≡ reordered start (serial_order start.shop)
+    → HasNoCost lines serial → ⊥
+serial_costs lines start serial shaped none is (inl untold) =
+    untold (subst (λ (x : PlannedShop). TellRun x lines) (sym is) (tells_nothing lines start (serial_order start.shop) none))
+serial_costs lines start serial shaped none is (inr cycle) = serial_acyclic start shaped (subst HasCycle is cycle)
+
+-- whether lines tell an event, by what they tell
+pub event_told : (lines : List (List ℕ)) (p : PlannedShop) (told : List Entry) (n : ℕ) → LinesTell p lines told → n ≡ length told → (nat_lt 0 n ≡ false) ↔ LinesTell p lines []
+event_told lines p [] n tells is = (λ _. tells, λ _. rw is refl)
+event_told lines p (e ∷ es) n tells is = (
+  (λ none. let some = lt-ltb 0 n (omega (arith, is)) in absurd (cc (none, some))),
+  (λ empty. absurd (cc (one_reading p lines (e ∷ es) [] tells empty))),
+)
+
+-- out of memory is why no plan is given
+pub memory_rest : {A : Type 0} (lines : List (List ℕ)) (at : Option ℕ) (rounds : ℕ) (p : PlannedShop) (r : Result A RestFault) → rounds ≤ MAX_ROUNDS
+    → IfErr r (λ fault. fault ≡ WantOfMemory) → IfErr r (IsRestFault lines at rounds p)
+memory_rest lines at rounds p (Ok found) few is = tt
+memory_rest lines at rounds p (Err fault) few is = subst (IsRestFault lines at rounds p) (sym is) (few, tt)
+
+-- the present moment can be the next after the run that the lines tell by the plan
+pub set_next : (lines : List (List ℕ)) (t : ℕ) (p : PlannedShop) (c : Cell) (told : List Entry) → IsSet lines t p → LinesTell p lines told → IsTold p c told → IsNextMoment c t
+set_next lines t p c told set tells run =
+    subst (λ (x : Cell). IsNextMoment x t) (cell_once lines p set.0 c set.1 (record { told = told; tells = tells; run = run })) set.2
+
+-- the fault of a log is one of the beginning
+pub log_begin : (lines : List (List ℕ)) (at : Option ℕ) (p : PlannedShop) (fault : AuditFault) → IsAuditFault p lines fault → IsBeginFault lines at p (log_fault fault)
+log_begin lines at p Memory is = tt
+log_begin lines at p (BadLine n) is = is
+log_begin lines at p (NotExpected n) is = is
+log_begin lines at p (Backwards n) is = is
+log_begin lines at p (NotReady n) is = is
+log_begin lines at p (Occupied n) is = is
+log_begin lines at p (NotClean n) is = is
+log_begin lines at p (OutOfOrder n) is = is
+log_begin lines at p (WrongPlace n) is = is

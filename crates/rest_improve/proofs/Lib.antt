@@ -1,0 +1,7 @@
+pub mod OneCell
+pub mod RestCosts
+pub mod Soon
+pub mod Keeping
+pub mod Beginnings
+pub mod Searched
+pub mod Lawful

@@ -1,0 +1,15 @@
+use Rattle.std.proofs.Common.{ap, ◌∙◌}
+use Rattle.text_lines.specs.Lines.{ended_lines}
+use Rattle.plan_seek.specs.Orders.{serial_order}
+use Rattle.plan_improve.specs.Reordered.{reordered}
+use Rattle.plan_improve.proofs.Serially.{serial_fits}
+use Rattle.rest_improve.proofs.Beginnings.{serial_costs}
+use Rattle.rest_improve.proofs.beginning.first_serially.Goals as goal
+
+pub put_back-serial-requires : goal.put_back-serial-requires
+put_back-serial-requires c = serial_fits c.args.start _ _ c.shop.ensures.well_shaped c.shop.ensures.same c.in_ok-order.ensures
+
+pub unreachable-requires : goal.unreachable-requires
+unreachable-requires c =
+    serial_costs (ended_lines c.args.log.now) c.args.start c.put_back-serial.result c.shop.ensures.well_shaped (c.requires.event.0 c.if-begun.false)
+    (c.put_back-serial.ensures ∙ ap (reordered c.args.start) (c.in_ok-order.ensures ∙ ap serial_order c.shop.ensures.same)) (rw c.in-None.is at c.in_ok-cost.ensures.cost)

@@ -1,0 +1,20 @@
+use Rattle.std.proofs.Common.{sym, ◌∙◌}
+use Rattle.shop_base.specs.Vectors.{lists_of}
+use Rattle.text_lines.specs.Lines.{ended_lines}
+use Rattle.rest_improve.proofs.Keeping.{next_unfit, next_better, next_worse}
+use Rattle.rest_improve.proofs.judging.judge_orders.Goals as goal
+
+pub returns-in-Stays-clause-judged : goal.returns-in-Stays-clause-judged
+returns-in-Stays-clause-judged c =
+    next_unfit (ended_lines c.args.log.now) c.args.present c.args.best.shaped c.in-Stays.shaped c.args.best.cost (lists_of c.args.order.items) c.requires.cost c.in-Stays.ensures
+
+pub returns-in-Some-clause-judged : goal.returns-in-Some-clause-judged
+returns-in-Some-clause-judged c =
+    let below = rw c.in-Some.is at c.in_ok-cost-in-Fits.ensures.below in
+    next_better (ended_lines c.args.log.now) c.args.present c.args.best.shaped c.in-Fits.shaped c.args.best.cost c.in-Some.cost (lists_of c.args.order.items) c.requires.cost
+    c.in-Fits.ensures.0 c.in-Fits.ensures.3 below.0 below.1
+
+pub returns-in-None-clause-judged : goal.returns-in-None-clause-judged
+returns-in-None-clause-judged c =
+    next_worse (ended_lines c.args.log.now) c.args.present c.args.best.shaped c.in-Fits.shaped c.put_back.result c.args.best.cost (lists_of c.args.order.items) c.requires.cost
+    c.in-Fits.ensures.0 (rw c.in-None.is at c.in_ok-cost-in-Fits.ensures.below) (c.put_back.ensures ∙ sym c.in-Fits.ensures.1)

@@ -1,0 +1,33 @@
+use crate::rest_improver::RestImprover;
+use plan_annealing::{Rest, annealed_rest};
+use shop_base::{JobNo, Shaped};
+use std::alloc::{AllocError, Global};
+
+/// A local search from the best plan so far, in which only entries that are ahead are exchanged: simulated annealing over the
+/// orders of the machines, as plan_annealing does it. Another seed searches elsewhere, and the same one does the same again. By
+/// its clause it may answer anything: it is only proved that it is safe and ends.
+#[derive(Clone, Copy)]
+pub struct AnnealingRestImprover {
+    seed: u32,
+}
+
+impl AnnealingRestImprover {
+    /// The annealing whose random numbers begin from this seed.
+    pub fn new(seed: u32) -> AnnealingRestImprover {
+        AnnealingRestImprover { seed }
+    }
+}
+
+impl RestImprover for AnnealingRestImprover {
+    ghost may = { λ improver shaped round answer. Unit {0} };
+
+    fn improve_rest(
+        &self,
+        alloc: Global,
+        shaped: &Shaped,
+        rest: &Rest,
+        round: u32,
+    ) -> Result<Option<Vec<Vec<JobNo>>>, AllocError> {
+        annealed_rest(alloc, shaped, rest, self.seed, round)
+    }
+}

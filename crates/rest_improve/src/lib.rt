@@ -1,0 +1,24 @@
+//! Better plans for the rest of a run, from what its log tells and a present moment on, and never a worse one: untrusted
+//! improvers are asked for orders, and the best plan so far is kept, by which the log still tells a run.
+#![tactic(auto)]
+
+mod annealing;
+mod beginning;
+mod begun;
+mod best;
+mod costing;
+mod improved;
+mod improving;
+mod judging;
+pub mod laws;
+mod rest_fault;
+mod rest_improver;
+mod rest_of_cell;
+mod rounds;
+
+pub use annealing::AnnealingRestImprover;
+pub use improved::Improved;
+pub use improving::improve_after;
+pub use plan_annealing::{JobRest, Rest};
+pub use rest_fault::RestFault;
+pub use rest_improver::RestImprover;

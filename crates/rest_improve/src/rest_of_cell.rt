@@ -1,0 +1,45 @@
+//! What a run has left of its plan.
+
+ghost use Rattle.std.specs.Prelude.{◌<◌};
+ghost use Rattle.shop_base.specs.Plan.{jobs};
+
+use cell_tables::WorkCell;
+use plan_annealing::{JobRest, Rest};
+use shop_base::{JobNo, Moment, Planned};
+use std::alloc::{AllocError, Global};
+
+/// What is left from a cell and a present moment on.
+pub(crate) fn rest_of<P: Planned>(
+    alloc: Global,
+    cell: &WorkCell<P>,
+    present: Moment,
+) -> Result<Rest, AllocError> {
+    let mut jobs = Vec::new(alloc);
+    for job in 0..cell.job_count() {
+        jobs.push(job_rest(cell, present, job))?;
+    }
+    let mut cleanings = Vec::new(alloc);
+    for machine in 0..cell.machine_count() {
+        cleanings.push(cell.cleaned_since(machine))?;
+    }
+    Ok(Rest { jobs, cleanings })
+}
+
+/// How the job goes on: not before the present moment, and not before what goes on with it is due.
+fn job_rest<P: Planned>(cell: &WorkCell<P>, present: Moment, job: JobNo) -> JobRest
+    requires { job < jobs cell.now.plan }
+{
+    let state = cell.job_state(job);
+    let bound = if cell.step_count(job) < state.made {
+        state.since
+    } else {
+        match cell.job_due(job) {
+            Some(due) => due.max(present),
+            None => present,
+        }
+    };
+    JobRest {
+        made: state.made,
+        bound,
+    }
+}
