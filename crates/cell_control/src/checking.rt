@@ -11,10 +11,7 @@ use shop_base::limits::MAX_MOMENT;
 use shop_base::{JobNo, MachineNo, Moment, Planned};
 
 /// Checks that the report is possible.
-pub(crate) fn check_report<P: Planned>(
-    cell: &WorkCell<P>,
-    report: Report,
-) -> Result<(), ReportFault>
+pub fn check_report<P: Planned>(cell: &WorkCell<P>, report: Report) -> Result<(), ReportFault>
     ensures possible { OnOk result (CanReport cell.now.plan cell.now.cell (said report)) }
     ensures first { IfErr result (IsFirstReason cell.now.plan cell.now.cell (said report)) }
 {

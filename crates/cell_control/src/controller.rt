@@ -1,4 +1,5 @@
-ghost use Rattle.std.specs.Prelude.{◌≡◌, List, ◌+◌, ◌↔◌, IfOk, IfErr, OnOk, IsOk, IsTrue};
+ghost use Rattle.std.specs.Prelude.{◌≡◌, List, ◌+◌, ◌↔◌, max, IfOk, IfErr, OnOk, IsOk, IsTrue};
+ghost use Rattle.shop_base.specs.Plan.{jobs};
 ghost use Rattle.shop_base.specs.Report.{CanReport};
 ghost use Rattle.shop_base.specs.Run.{Event};
 ghost use Rattle.shop_base.specs.Ends.{stated_number, HasEnded};
@@ -7,12 +8,14 @@ ghost use Rattle.cell_control.specs.Control.{Control, at_start, IsAnswered, IfEn
 ghost use Rattle.cell_control.specs.Reports.{IsFirstReason, IsOnlyReason, CanCleanAfter, IsFirstCleanReason, IsOnlyCleanReason};
 ghost use Rattle.cell_tables.specs.Reports.{said};
 ghost use Rattle.cell_control.specs.Promises.{IsCalled};
+ghost use Rattle.cell_control.specs.DueMoments.{AreDueMoments};
 ghost use Rattle.cell_tables.specs.Readings.{IsCleanedFor};
 ghost use Rattle.cell_control.specs.Readings.{IsPhaseOf, IsJobOn, IsDueOf, IsDueOfCleaning};
 
 use crate::checking::{check_cleaning_after, check_report};
 use crate::due_moments::cleaning_key;
 use crate::dues::Dues;
+use crate::parts::Parts;
 use crate::readings::phase_of;
 use crate::releasing::Orders;
 use crate::report::{Ack, Phase};
@@ -241,6 +244,31 @@ impl<D: Dues> Controller<D> {
         ensures control { IsControl self.now }
     {
         self.cell.basis()
+    }
+
+    /// What the controller holds, taken out.
+    pub fn into_parts(self) -> Parts<D>
+        ensures cell { result.cell ≡ record { basis = self.plan; plan = self.plan.planned; cell = self.cell } }
+        ensures due_moments { AreDueMoments self.plan.planned self.cell (D.dues result.dues) }
+        ensures orders { result.orders.items ≡ self.orders }
+        ensures room { result.orders.capacity ≡ max 4 (jobs self.plan.planned) }
+        ensures punctual { result.punctual ≡ self.punctual }
+        ensures control { IsControl self }
+    {
+        let Controller {
+            cell,
+            dues,
+            orders,
+            accepted: _,
+            left: _,
+            punctual,
+        } = self;
+        Parts {
+            cell,
+            dues,
+            orders,
+            punctual,
+        }
     }
 
     /// The plan, taken out.

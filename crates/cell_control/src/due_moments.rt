@@ -29,7 +29,7 @@ fn renew<D: Dues>(dues: &mut D, key: u32, due: Option<Moment>)
 }
 
 /// Notes what goes on with the job, anew.
-pub(crate) fn renew_job<P: Planned, D: Dues>(cell: &WorkCell<P>, dues: &mut D, job: JobNo)
+pub fn renew_job<P: Planned, D: Dues>(cell: &WorkCell<P>, dues: &mut D, job: JobNo)
     requires job { job < jobs cell.now.plan }
     requires count { length (D.dues dues.old) ≡ jobs cell.now.plan + machines cell.now.plan }
     ensures { IsJobRenewed cell.now.plan cell.now.cell (D.dues dues.old) job (D.dues dues.new) }
@@ -39,11 +39,7 @@ pub(crate) fn renew_job<P: Planned, D: Dues>(cell: &WorkCell<P>, dues: &mut D, j
 }
 
 /// Notes what goes on with the machine, anew.
-pub(crate) fn renew_machine<P: Planned, D: Dues>(
-    cell: &WorkCell<P>,
-    dues: &mut D,
-    machine: MachineNo,
-)
+pub fn renew_machine<P: Planned, D: Dues>(cell: &WorkCell<P>, dues: &mut D, machine: MachineNo)
     requires machine { machine < machines cell.now.plan }
     requires count { length (D.dues dues.old) ≡ jobs cell.now.plan + machines cell.now.plan }
     ensures { IsMachineRenewed cell.now.plan cell.now.cell (D.dues dues.old) machine (D.dues dues.new) }

@@ -3,6 +3,8 @@
 //! A [`Controller`] is made of a `Verified` plan and takes one [`Report`] at a time. It accepts exactly the
 //! reports that are possible, and answers each with the moves that it releases.
 //!
+//! Controllers of other plans are made of the same functions: [`check_report`], [`make_step`], [`renew_job`] and [`renew_machine`].
+//!
 //! Moments are whole time units, counted from moment 0. Only [`Controller::new`] and [`Dues::sized`] take memory.
 #![tactic(auto)]
 
@@ -13,6 +15,7 @@ mod due_row;
 mod dues;
 mod ending;
 pub mod laws;
+mod parts;
 mod readings;
 mod releasing;
 mod report;
@@ -23,10 +26,16 @@ mod step;
 mod tourney_dues;
 
 pub use cell_tables::Report;
+pub use checking::check_report;
 pub use controller::Controller;
+pub use due_moments::{renew_job, renew_machine};
 pub use dues::Dues;
+pub use parts::Parts;
+pub use readings::phase_of;
+pub use releasing::Orders;
 pub use report::{Ack, Phase};
 pub use report_fault::ReportFault;
 pub use scan_dues::ScanDues;
 pub use shop_base::{MoveOrder, Spot};
+pub use step::make_step;
 pub use tourney_dues::TourneyDues;

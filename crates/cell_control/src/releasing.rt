@@ -17,7 +17,7 @@ use shop_base::{JobNo, MoveOrder, Planned, Spot};
 use smallvec::SmallVec;
 
 /// The moves that a report releases. A few stand in the value, more in memory reserved at first.
-pub(crate) type Orders = SmallVec<MoveOrder, 4>;
+pub type Orders = SmallVec<MoveOrder, 4>;
 
 /// Moves all jobs that can move, where none but the candidate can.
 pub(crate) fn release_moves<P: Planned, D: Dues>(

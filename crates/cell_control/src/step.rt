@@ -16,7 +16,7 @@ use cell_tables::{Report, WorkCell};
 use shop_base::Planned;
 
 /// Makes the step of a possible report. The orders of the last one are dropped.
-pub(crate) fn make_step<P: Planned, D: Dues>(
+pub fn make_step<P: Planned, D: Dues>(
     cell: &mut WorkCell<P>,
     dues: &mut D,
     orders: &mut Orders,

@@ -33,7 +33,7 @@ unfolding cell_of
 job-read p t j = refl
 
 -- a machine of the cell, by its row
-machine-read : (p : PlannedShop) (t : Tables) (m : ℕ) → m < length t.machines.items
+pub machine-read : (p : PlannedShop) (t : Tables) (m : ℕ) → m < length t.machines.items
     → machine_in (cell_of p t) m ≡ state_of p m (get_or t.machines.items m no_row)
 unfolding cell_of
 machine-read p t m inside =

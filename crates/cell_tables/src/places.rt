@@ -51,7 +51,7 @@ impl<P: Planned> WorkCell<P> {
     }
 
     /// How many jobs have entered the machine.
-    fn entered(&self, machine: MachineNo) -> u32
+    pub fn entered(&self, machine: MachineNo) -> u32
         requires machine { machine < machines self.now.plan }
         ensures count { result ≡ length (entries self.now.cell machine) }
         ensures few { result ≤ length (order self.now.plan machine) }

@@ -13,7 +13,7 @@ use std::alloc::{AllocError, Global};
 
 /// A machine: how many jobs have entered it, and since when it is being cleaned, if it is.
 #[derive(Clone, Copy, Debug)]
-pub(crate) struct MachineRow {
+pub struct MachineRow {
     pub entered: u32,
     pub cleaning: Option<Moment>,
 }
@@ -21,7 +21,7 @@ pub(crate) struct MachineRow {
 /// The cell in tables. Who has entered a machine follows from its order, and who is on it from the job
 /// that entered it last.
 #[derive(Debug, Drop)]
-pub(crate) struct Tables {
+pub struct Tables {
     pub jobs: Vec<JobState>,
     pub machines: Vec<MachineRow>,
     pub last: Moment,

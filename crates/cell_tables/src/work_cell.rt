@@ -30,6 +30,7 @@ impl<P: Planned> Model for WorkCell<P> {
 
 impl<P: Planned> WorkCell<P> {
     ghost use Rattle.cell_tables.specs.PlannedCell.{at_start};
+    ghost use Rattle.cell_tables.specs.Tables.{cell_of, AreSound};
 
     /// The cell at the start of a run: all jobs outside, no machine entered. Where a request for memory is
     /// refused, what leads to the plan comes back with that error; when one is, no clause says.
@@ -66,6 +67,25 @@ impl<P: Planned> WorkCell<P> {
     {
         let WorkCell { basis, tables: _ } = self;
         basis
+    }
+
+    /// The cell of these tables by a plan of which it can be the cell.
+    pub fn of_parts(basis: P, tables: Tables) -> WorkCell<P>
+        requires { AreSound (P.planned basis) tables }
+        ensures { result ≡ record { basis = basis; plan = P.planned basis; cell = cell_of (P.planned basis) tables } }
+    {
+        WorkCell { basis, tables }
+    }
+
+    /// What leads to the plan, and the tables, taken out.
+    pub fn into_parts(self) -> (P, Tables)
+        ensures basis { result.0 ≡ self.basis }
+        ensures plan { self.plan ≡ P.planned self.basis }
+        ensures cell { cell_of (P.planned self.basis) result.1 ≡ self.cell }
+        ensures sound { AreSound (P.planned self.basis) result.1 }
+    {
+        let WorkCell { basis, tables } = self;
+        (basis, tables)
     }
 
     /// The moment of the last event, 0 before the first.

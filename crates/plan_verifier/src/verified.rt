@@ -124,6 +124,16 @@ impl Verified {
         &self.times
     }
 
+    /// The plan, and the ranks and the earliest moments of its nodes, taken out.
+    pub fn into_parts(self) -> (Shaped, Times)
+        ensures plan { result.0 ≡ self.planned }
+        ensures times { result.1 ≡ self.times }
+        ensures verified { IsVerified self }
+    {
+        let Verified { shaped, times } = self;
+        (shaped, times)
+    }
+
     /// The plan, taken out.
     pub fn into_shaped(self) -> Shaped
         ensures { result ≡ self.planned }
