@@ -3,6 +3,8 @@
 #![tactic(auto)]
 
 #[cfg(test)]
+mod driven_on;
+#[cfg(test)]
 mod logs;
 #[cfg(test)]
 mod rests;

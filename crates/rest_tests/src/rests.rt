@@ -31,7 +31,7 @@ pub(super) fn planned(alloc: Global) -> Result<Shaped, Fail> {
 }
 
 /// The cell at the start.
-fn begun(alloc: Global) -> Result<WorkCell<Shaped>, Fail> {
+pub(super) fn begun(alloc: Global) -> Result<WorkCell<Shaped>, Fail> {
     match WorkCell::start(alloc, planned(alloc)?) {
         Ok(cell) => Ok(cell),
         Err((error, _)) => Err(error.into()),

@@ -1,0 +1,10 @@
+pub mod SettledCells
+pub mod NotedDues
+pub mod LeftCounts
+pub mod FieldsKept
+pub mod RestLaws
+pub mod CarriedCells
+pub mod CarriedTables
+pub mod KeptSoFar
+pub mod KeptBefore
+pub mod KeptRuns

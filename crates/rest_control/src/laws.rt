@@ -1,0 +1,32 @@
+//! The laws of controllers of the rest of a run: of their definitions. The clauses of `RestController` say that its calls are
+//! those of which these speak.
+
+// A function's contract is the law; its body does nothing, or only calls what says that the law's premise holds of a controller.
+
+ghost use Rattle.rest_control.specs.RestPromises.{RestNeverGoesWrong, CallsGoOn};
+ghost use Rattle.rest_control.specs.KeptLaw.{AKeptRunIsOneOfTheOtherPlan};
+
+use crate::rest_controller::RestController;
+use cell_control::Dues;
+
+/// Of every such controller, after any reports: its cell is at rest and not stuck, and no two jobs are on one machine. The run
+/// has ended, or something goes on that can be reported. It has ended exactly where no report is left. While none was late
+/// each job keeps to the moment kept for its leaving.
+pub fn never_goes_wrong<D: Dues>(controller: &RestController<D>)
+    ensures { RestNeverGoesWrong controller.now }
+{
+    let _plan = controller.shaped();
+}
+
+/// What a controller orders at its beginning, and calls of `report` from there, go on with the controlled run of their reports,
+/// from the cell and the moment with which it began. So each law of the rest of a run holds of them. All reports were punctual,
+/// but that what was overdue then ended then, exactly where the controller says so.
+pub fn calls_go_on()
+    ensures { CallsGoOn }
+{}
+
+/// A run that keeps another plan, as far as the cell at its end tells, is a run of that plan, and ends there with the same cell
+/// as one of that plan. So a controller that is handed over goes on with a run of the plan that it then has.
+pub fn a_kept_run_is_one_of_the_other_plan()
+    ensures { AKeptRunIsOneOfTheOtherPlan }
+{}
