@@ -1,7 +1,7 @@
 #!/usr/bin/env python3
 """A simulated floor that is driven by cellplan, and that goes on after its cellplan was killed.
 
-floor.py [FILE PLAN] [--runs N] [--seed S] [--program CELLPLAN]
+floor.py [FILE PLAN] [--runs N] [--seed S] [--bad-line] [--program CELLPLAN]
 
 FILE is an instance and PLAN a plan for it that `cellplan check` accepts; without them it is `examples/ft06.txt` with
 `examples/ft06-cleaned.toml`. Each run is one pass of all parts through the cell, with random times of which some are too long:
@@ -18,6 +18,10 @@ Each order is checked against the parts before it is carried out: the part stand
 the machine to which it goes is the next one of its route, holds no part and is clean. No report may be refused. At the end
 `cellplan audit` has to find the whole run in the last log. What is wrong ends the program with status 1.
 
+With `--bad-line` nothing is killed, but the line to cellplan loses, doubles, delays and swaps what is sent. Then the floor talks to
+`cellplan drive --lines 2`: it keeps each report until it is accepted, asks for the state where no answer comes, and sends again
+what cellplan still waits for (`Floor.serve_on_a_bad_line`).
+
 What a floor of one's own needs is in three places: `Told` follows what cellplan has said, `Floor.serve` is the loop that carries out
 orders and sends reports, and `Floor.take_up` is what has to be done before the first report after a restart.
 """
@@ -25,6 +29,7 @@ import argparse, collections, heapq, json, os, random, re, select, shutil, signa
 
 HERE = os.path.dirname(os.path.abspath(__file__))
 UNIT = 0.0005  # seconds for which a time unit of the instance lasts
+SOON = 20  # the time units after which a floor on a bad line asks for the state
 PATIENCE = 30 / UNIT  # the time units after which a floor on which nothing moves, and nothing comes, is given up
 OUTSIDE = -1  # the place of a part that hasn't entered the cell; after its last step its place is the length of its route
 
@@ -80,12 +85,19 @@ class Told:
         self.ready = [False] * len(shop.routes)
         self.cleaning = set()
         self.reports = []  # the accepted reports, in the words in which they are sent
+        self.accepted = []  # what they say to have ended
+        self.left_last = {}  # the job that left each machine last
+        self.last = 0  # the moment of the last one
         self.marked = False
         self.ended = False
+        self.goes_on = set()  # what cellplan waits for, by the lines of a state
+        self.states = None  # the states that were told, where the floor asks for them
+        self.doubtful = False  # whether a report was refused for what it says
 
     def take(self, line):
         """Follows one line, and gives the job, the source and the target of an order."""
         words = line.split(" ")
+        self.ended = False
         if words[0] == "report":
             self.report(words[1], words[2:])
         elif words[0] == "order":
@@ -93,12 +105,35 @@ class Told:
         elif line == "":
             self.marked = True
         elif words[0] in ("done", "unfinished"):
-            self.ended = True
+            self.stated(words)
+        elif words[0] == "refused" and len(words) > 3 and self.states is not None:
+            self.doubtful = True
         elif words[0] != "late":
             raise Wrong("cellplan says: " + line)
         return None
 
+    def stated(self, words):
+        """Follows a line of a state, or its end, which may be the closing line."""
+        if words[1] == "job" and words[3] == "arrives":
+            self.goes_on.add(("arrive", int(words[2])))
+        elif words[1] == "job" and words[3] == "on":
+            self.goes_on.add(("finish", int(words[2]), int(words[5])))
+        elif words[1] == "machine":
+            self.goes_on.add(("clean", int(words[2]), int(words[6])))
+        elif words[1] != "job":
+            self.ended = True
+            if self.states is not None:
+                self.states.append(self.goes_on)
+            self.goes_on = set()
+
+    def named(self, what):
+        """What an accepted report says to have ended: of a cleaning, after the job that left the machine last."""
+        numbers = [int(word) for word in what[1:]]
+        return (what[0], *numbers, self.left_last[numbers[0]]) if what[0] == "clean" else (what[0], *numbers)
+
     def report(self, moment, what):
+        self.last = int(moment)
+        self.accepted.append(self.named(what))
         self.reports.append(" ".join(what + [moment]))
         if what[0] == "clean":
             self.cleaning.remove(int(what[1]))
@@ -108,6 +143,8 @@ class Told:
     def order(self, job, source, target):
         self.places[job] += 1
         self.ready[job] = False
+        if source != "out":
+            self.left_last[int(source)] = job
         if source != "out" and self.shop.clean[int(source)] > 0:
             self.cleaning.add(int(source))
         return job, source, target
@@ -236,6 +273,47 @@ class Floor:
             elif self.now() > moved + PATIENCE:
                 raise Wrong("nothing goes on any more, and cellplan orders nothing")
 
+    def has_ended(self, told):
+        """What cellplan may still wait for and has ended on the floor."""
+        for job, place in enumerate(told.places):
+            if not told.ready[job] and self.is_past(job, place):
+                yield ("arrive", job) if place == OUTSIDE else ("finish", job, int(self.shop.spot(job, place)))
+        for machine in sorted(told.cleaning):
+            if self.is_cleaned(machine, self.shop.left(told.places, machine)):
+                yield "clean", machine, told.left_last[machine]
+
+    def serve_on_a_bad_line(self, cell, told):
+        """As `serve`, where what is sent may be lost, doubled, delayed or swapped."""
+        orders = collections.deque()
+        told.states = []
+        kept = {}  # the moment of each report that isn't accepted yet, by what has ended
+        carrier_free, asked, moved = 0, self.now(), self.now()
+        while not (self.is_done(told) and not orders):
+            self.pass_time()
+            if orders and self.now() >= carrier_free:
+                self.carry(orders.popleft(), False)
+                carrier_free = self.now() + self.rng.uniform(0, 1)
+            again = [what for what in kept if what in told.states[-1]] if told.states else []
+            fresh = [what for what in self.has_ended(told) if what not in kept]
+            kept.update((what, int(self.now())) for what in fresh)
+            sent = [" ".join(map(str, [*what, max(kept[what], told.last)])) for what in again + fresh]
+            told.states.clear()
+            if kept and (told.doubtful or self.now() > asked + SOON):
+                sent.append("status")
+                told.doubtful, asked = False, self.now()
+            cell.send(sent)
+            lines = cell.lines(UNIT)
+            orders.extend(filter(None, map(told.take, lines)))
+            for what in told.accepted:
+                if kept.pop(what, None) is None:
+                    raise Wrong("accepted, and not kept: %s" % (what,))
+                asked = self.now()
+            told.accepted.clear()
+            if lines or orders or self.ends or kept:
+                moved = self.now()
+            elif self.now() > moved + PATIENCE:
+                raise Wrong("nothing goes on any more, and cellplan orders nothing")
+
     def is_done(self, told):
         """Whether all parts are out and all machines clean, and cellplan knows it."""
         return all(place == len(route) for place, route in zip(told.places, self.shop.routes)) and not told.cleaning
@@ -285,6 +363,24 @@ class Cell:
         return lines
 
 
+class BadLine(Cell):
+    """The same behind a line that loses, doubles, delays and swaps what is sent."""
+
+    def __init__(self, words, log, rng):
+        super().__init__(words, log, False)
+        self.rng, self.delayed = rng, []  # pairs of when a line comes and the line
+
+    def send(self, lines):
+        now = time.monotonic()
+        for line in lines:
+            for _ in range(self.rng.choice([0, 1, 1, 1, 2])):
+                self.delayed.append((now + UNIT * self.rng.choice([0, 0, 0, self.rng.uniform(0, 5), self.rng.uniform(0, 50)]), line))
+        come = [line for moment, line in self.delayed if moment <= now]
+        self.delayed = [each for each in self.delayed if each[0] > now]
+        self.rng.shuffle(come)
+        super().send(come)
+
+
 class Run:
     """One pass of all parts through the cell, by three processes one after the other."""
 
@@ -322,6 +418,15 @@ class Run:
             told.take(line)
         self.look_at_the_end(cell, told)
 
+    def go_on_a_bad_line(self):
+        words = ["drive", self.options.instance, self.options.plan, "--lines", "2"]
+        cell = BadLine([self.options.program, *words], os.path.join(self.work, "run.log"), self.rng)
+        told = Told(self.shop)
+        self.floor.serve_on_a_bad_line(cell, told)
+        for line in cell.close():
+            told.take(line)
+        self.look_at_the_end(cell, told)
+
     def cut(self, cell):
         """Cuts the log's last bytes off. A log counts once its mark is out, the empty line; until then the one before it does."""
         size = os.path.getsize(cell.log) if os.path.exists(cell.log) else 0
@@ -350,6 +455,7 @@ def words():
     parser.add_argument("plan", nargs="?", default=os.path.join(HERE, "ft06-cleaned.toml"))
     parser.add_argument("--runs", type=int, default=10, help="how many passes (10)")
     parser.add_argument("--seed", type=int, default=0, help="where the random times begin (0)")
+    parser.add_argument("--bad-line", action="store_true", help="a line that loses, doubles, delays and swaps reports")
     parser.add_argument("--program", default=found_program(), help="cellplan (of the path, else of this clone)")
     options = parser.parse_args()
     if options.program is None:
@@ -363,7 +469,8 @@ def main():
         seed = options.seed + number
         with tempfile.TemporaryDirectory() as work:
             try:
-                Run(options, random.Random(seed), work).go()
+                run = Run(options, random.Random(seed), work)
+                run.go_on_a_bad_line() if options.bad_line else run.go()
             except (Wrong, OSError) as wrong:
                 print("run with seed %d: %s" % (seed, wrong))
                 return 1

@@ -7,13 +7,14 @@ _cellplan() {
     return
   fi
   case $before in
-    --instance | --at | --rounds | --seed) return ;;
+    --instance | --at | --lines | --leap | --rounds | --seed) return ;;
   esac
   case $command in
     plan) options='--instance --rounds --help' ;;
     improve) options='--instance --rounds --seed --help' ;;
     check | explain | schedule) options='--instance --after --at --help' ;;
-    facts | shape | bounds | drive | resume | hub | audit | gantt) options='--instance --help' ;;
+    drive) options='--instance --lines --leap --help' ;;
+    facts | shape | bounds | resume | hub | audit | gantt) options='--instance --help' ;;
     *) return ;;
   esac
   case $word in

@@ -16,6 +16,8 @@ complete -c cellplan -n __fish_use_subcommand -a gantt -d 'Draws a log as a Gant
 complete -c cellplan -n '__fish_seen_subcommand_from facts shape check explain schedule bounds plan improve drive resume hub audit gantt' -l instance -x -d 'The instance of this name in a collection'
 complete -c cellplan -n '__fish_seen_subcommand_from check explain schedule' -l after -r -d 'Ask about the rest of the run in this log'
 complete -c cellplan -n '__fish_seen_subcommand_from check explain schedule' -l at -x -d 'The present moment, by default the log\'s last one'
+complete -c cellplan -n '__fish_seen_subcommand_from drive' -l lines -x -d 'The version of the lines, 1 or 2'
+complete -c cellplan -n '__fish_seen_subcommand_from drive' -l leap -x -d 'Refuse a report more than S after the last one'
 complete -c cellplan -n '__fish_seen_subcommand_from plan improve' -l rounds -x -d 'The rounds of the search, 0 to 1000'
 complete -c cellplan -n '__fish_seen_subcommand_from improve' -l seed -x -d 'Other seeds search elsewhere, 0 to 1000000'
 complete -c cellplan -s h -l help -d 'Print help'

@@ -2,6 +2,7 @@
 use Rattle.std.proofs.Common.{◌≡◌, ℕ, List, Result, Ok, Err, IsErrAnd, refl, sym, subst}
 use Rattle.plan_verifier.specs.Accepted.{VerifiedPlan}
 use Rattle.plan_verifier.specs.declared.verdict.Verdict.TheVariants.{Accepted, Refused}
+use Rattle.cell_drive.specs.declared.manner.Manner.{Manner}
 use Rattle.command_answers.specs.declared.answer.Answer.{Answer}
 use Rattle.command_answers.specs.declared.command_fault.CommandFault.{CommandFault}
 use Rattle.command_answers.specs.declared.command_fault.CommandFault.TheVariants.{Memory}
@@ -20,17 +21,17 @@ memory_told Is (Err fault) wanting = wanting
 same_line : (loaded other : Loaded) (outcome : Result Answer CommandFault) → loaded ≡ other → IsLineTold other outcome → IsLineTold loaded outcome
 same_line loaded other outcome same told = subst (λ (l : Loaded). IsLineTold l outcome) (sym same) told
 
-pub drives_accepted : (loaded : Loaded) (v : VerifiedPlan) (before after : Streams) (outcome : Result Answer CommandFault) → accepted_in loaded ≡ Ok v → DrivesCell v before after outcome
-    → Drives (Ok loaded) before after outcome
-drives_accepted (NotShaped fault) v before after outcome is cell = absurd (cc is)
-drives_accepted (Judged (Refused back why)) v before after outcome is cell = absurd (cc is)
-drives_accepted (Judged (Accepted w)) v before after outcome is cell = (let same : w ≡ v = cc is in subst (λ (x : VerifiedPlan). DrivesCell x before after outcome) (sym same) cell)
+pub drives_accepted : (manner : Manner) (loaded : Loaded) (v : VerifiedPlan) (before after : Streams) (outcome : Result Answer CommandFault) → accepted_in loaded ≡ Ok v → DrivesCell manner v before after outcome
+    → Drives manner (Ok loaded) before after outcome
+drives_accepted manner (NotShaped fault) v before after outcome is cell = absurd (cc is)
+drives_accepted manner (Judged (Refused back why)) v before after outcome is cell = absurd (cc is)
+drives_accepted manner (Judged (Accepted w)) v before after outcome is cell = (let same : w ≡ v = cc is in subst (λ (x : VerifiedPlan). DrivesCell manner x before after outcome) (sym same) cell)
 
-pub drives_told : (loaded other : Loaded) (before after : Streams) (outcome : Result Answer CommandFault) → accepted_in loaded ≡ Err other → IsLineTold other outcome → after ≡ before
-    → Drives (Ok loaded) before after outcome
-drives_told (NotShaped fault) other before after outcome is told same = (same_line (NotShaped fault) other outcome (cc is) told, same)
-drives_told (Judged (Refused back why)) other before after outcome is told same = (same_line (Judged (Refused back why)) other outcome (cc is) told, same)
-drives_told (Judged (Accepted w)) other before after outcome is told same = absurd (cc is)
+pub drives_told : (manner : Manner) (loaded other : Loaded) (before after : Streams) (outcome : Result Answer CommandFault) → accepted_in loaded ≡ Err other → IsLineTold other outcome → after ≡ before
+    → Drives manner (Ok loaded) before after outcome
+drives_told manner (NotShaped fault) other before after outcome is told same = (same_line (NotShaped fault) other outcome (cc is) told, same)
+drives_told manner (Judged (Refused back why)) other before after outcome is told same = (same_line (Judged (Refused back why)) other outcome (cc is) told, same)
+drives_told manner (Judged (Accepted w)) other before after outcome is told same = absurd (cc is)
 
 module _ {W : Type 0} (gives : W → List ℕ → Result (List ℕ) CommandFault → W → Type 0) (log : List ℕ) where
   pub resumes_accepted : (loaded : Loaded) (v : VerifiedPlan) (texts : W) (before : Streams) (outcome : Result Answer CommandFault) (texts_after : W) (after : Streams) → accepted_in loaded ≡ Ok v

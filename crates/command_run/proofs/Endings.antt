@@ -1,5 +1,6 @@
 -- How each run of the program ends.
-use Rattle.std.proofs.Common.{◌≡◌, ℕ, ◌≤◌, List, [], true, false, Option, Result, Ok, Err, inl, inr, ◌⊎◌, ap, sym, ◌∙◌, subst, arith, refl}
+use Rattle.std.proofs.Common.{◌≡◌, ℕ, ◌≤◌, List, [], Bool, true, false, Option, Result, Ok, Err, inl, inr, ◌⊎◌, ap, sym, ◌∙◌, subst, arith, refl}
+use Rattle.cell_drive.specs.declared.manner.Manner.{Manner}
 use Rattle.cell_drive.specs.declared.one_run.DriveEnd.{DriveEnd}
 use Rattle.byte_streams.specs.declared.drive_fault.DriveFault.{DriveFault}
 use Rattle.byte_streams.specs.declared.drive_fault.DriveFault.TheVariants.{Read as NotRead, Write as NotWritten, InputTooLong as TooLong, Memory as WantOfMemory}
@@ -7,6 +8,7 @@ use Rattle.byte_streams.specs.Streams.{IsStreamed}
 use Rattle.plan_verifier.specs.Accepted.{VerifiedPlan}
 use Rattle.cell_drive.specs.OneCell.{DriveAnswer, DriveCloses, drive_start}
 use Rattle.cell_drive.specs.OneRun.{IsStreamedFrom}
+use Rattle.cell_drive.specs.Stated.{StatedAnswer, StatedCloses, stated_start}
 use Rattle.cell_drive.specs.ManyCells.{hub_start, CellsAnswer, CellsClose}
 use Rattle.plan_verifier.specs.declared.verdict.Verdict.TheVariants.{Accepted, Refused}
 use Rattle.cell_drive.specs.declared.resume_fault.ResumeFault.{ResumeFault}
@@ -29,11 +31,11 @@ use Rattle.command_answers.specs.Texts.{Asks}
 use Rattle.command_answers.specs.Commands.{Loads}
 use Rattle.command_answers.specs.Cells.{LoadsCells}
 use Rattle.command_run.specs.Streams.{Streams, Output, Errors, Devices}
-use Rattle.command_run.specs.Drives.{Drives}
+use Rattle.command_run.specs.Drives.{Drives, DrivesBy, is_plain}
 use Rattle.command_run.specs.Resumes.{IsTaking, IsResume, ResumesTaken, ResumesText, Resumes}
 use Rattle.command_run.specs.Hubs.{DrivesAll}
 use Rattle.command_run.specs.Ending.{Ends, IsPrinted, IsTold, IsToldAfter, IsOfText, IsLineOut}
-use Rattle.command_run.specs.Program.{AreWordsRead, RunsCommand, Follows, file_at, name_in, pair_in, plans_in}
+use Rattle.command_run.specs.Program.{AreWordsRead, RunsCommand, Follows, file_at, manner_in, name_in, pair_in, plans_in}
 use Rattle.command_run.specs.Laws.{IsOutcomeOfWords, IsFailureOf, EndsAsTold, HoldsNothing, WereDriven, WereRefused, IsUnanswered, Ran, WroteNoMore}
 use Rattle.command_run.proofs.LowStatuses.{IsLow, low}
 
@@ -87,7 +89,7 @@ module _ {W : Type 0} (gives : W → List ℕ → Result (List ℕ) CommandFault
   kept name same = inl (ap (λ (s : Streams). s.output) same)
 
   drives_written : (loaded : Result Loaded CommandFault) (later : W) (outcome : Result Answer CommandFault) → Loads gives (pair_in chosen) texts loaded later
-      → Drives loaded before after outcome → WereDriven gives Drive chosen texts before after
+      → Drives (manner_in chosen) loaded before after outcome → WereDriven gives Drive chosen texts before after
   drives_written (Err fault) later outcome loads is = kept Drive is.1
   drives_written (Ok (NotShaped fault)) later outcome loads is = kept Drive is.1
   drives_written (Ok (Judged (Refused back why))) later outcome loads is = kept Drive is.1
@@ -159,11 +161,16 @@ resume_shown t before after end (inl cut) = inr cut.1
 resume_shown t before after end (inr on) =
     streamed_shown DriveAnswer DriveCloses t.driven on.end (record { input = before.input; output = on.middle }) after end on.streamed
 
+drive_shown : (plain : Bool) (manner : Manner) (v : VerifiedPlan) (before after : Streams) (end : Result DriveEnd DriveFault) → DrivesBy plain manner v before after end → before.output.pending ≡ []
+    → HoldsNothing after.output
+drive_shown true manner v before after end is none = streamed_from_shown DriveAnswer DriveCloses (drive_start v) is.end before after end is.streamed none
+drive_shown false manner v before after end is none = streamed_from_shown StatedAnswer StatedCloses (stated_start manner v) is.end before after end is.streamed none
+
 driven_shown : {W : Type 0} (gives : W → List ℕ → Result (List ℕ) CommandFault → W → Type 0) (chosen : Chosen) (texts : W) (before after : Streams) (name : CommandName)
     → WereDriven gives name chosen texts before after → before.output.pending ≡ [] → HoldsNothing after.output
 driven_shown gives chosen texts before after name (inl same) none = inl (ap (λ (o : Output). o.pending) same ∙ none)
 driven_shown gives chosen texts before after name (inr (inl (is, drove))) none =
-    streamed_from_shown DriveAnswer DriveCloses (drive_start drove.cell) drove.is.end before after drove.end drove.is.streamed none
+    drive_shown (is_plain (manner_in chosen)) (manner_in chosen) drove.cell before after drove.end drove.is none
 driven_shown gives chosen texts before after name (inr (inr (inl (is, drove)))) none = resume_shown drove.taken before after drove.end drove.is
 driven_shown gives chosen texts before after name (inr (inr (inr (is, drove)))) none =
     streamed_from_shown CellsAnswer (CellsClose 0) (hub_start drove.cells) drove.are.end before after drove.end drove.are.streamed none

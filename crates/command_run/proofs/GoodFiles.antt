@@ -8,6 +8,7 @@ use Rattle.plan_verifier.specs.Accepted.{VerifiedPlan, IsAcceptable}
 use Rattle.plan_verifier.specs.declared.verdict.Verdict.TheVariants.{Accepted, Refused}
 use Rattle.plan_verifier.proofs.Reasons.{reason_refutes}
 use Rattle.plan_seek.specs.Tasks.{task_in}
+use Rattle.cell_drive.specs.declared.manner.Manner.{Manner}
 use Rattle.command_answers.specs.declared.answer.Answer.{Answer}
 use Rattle.command_answers.specs.declared.loading.Loaded.{Loaded}
 use Rattle.command_answers.specs.declared.loading.Loaded.TheVariants.{NotShaped, Judged}
@@ -135,18 +136,18 @@ module _ (content : List ℕ → Result (List ℕ) CommandFault) (pair : PairOfF
   -- ---- what follows what is to be said of the plan
 
   -- an accepted plan drives its cell
-  loaded_drives : (loaded : Result Loaded CommandFault) (asked : List (List ℕ)) (before after : Streams) (outcome : Result Answer CommandFault) → IsWellShaped p → IsAcceptable p
-      → IsAnswered (IsLoaded p) (pair.path ∷ pair.plan ∷ []) loaded asked → Drives loaded before after outcome
-      → ((asked ≡ pair.path ∷ pair.plan ∷ []) × ((v : VerifiedPlan) × (v.planned ≡ p) × DrivesCell v before after outcome)) ⊎ ((outcome ≡ Err Memory) × (after ≡ before))
-  loaded_drives (Err fault) asked before after outcome shaped acceptable is drives = inr (drives.0 ∙ ap Err is, drives.1)
-  loaded_drives (Ok (NotShaped fault)) asked before after outcome shaped acceptable is drives = absurd (shape_fault_refutes p fault is.0 shaped)
-  loaded_drives (Ok (Judged (Refused back why))) asked before after outcome shaped acceptable is drives = absurd (reason_refutes p why is.0.refused.1 acceptable)
-  loaded_drives (Ok (Judged (Accepted v))) asked before after outcome shaped acceptable is drives = inl (is.1, (v, is.0.accepted.0, drives))
+  loaded_drives : (manner : Manner) (loaded : Result Loaded CommandFault) (asked : List (List ℕ)) (before after : Streams) (outcome : Result Answer CommandFault) → IsWellShaped p → IsAcceptable p
+      → IsAnswered (IsLoaded p) (pair.path ∷ pair.plan ∷ []) loaded asked → Drives manner loaded before after outcome
+      → ((asked ≡ pair.path ∷ pair.plan ∷ []) × ((v : VerifiedPlan) × (v.planned ≡ p) × DrivesCell manner v before after outcome)) ⊎ ((outcome ≡ Err Memory) × (after ≡ before))
+  loaded_drives manner (Err fault) asked before after outcome shaped acceptable is drives = inr (drives.0 ∙ ap Err is, drives.1)
+  loaded_drives manner (Ok (NotShaped fault)) asked before after outcome shaped acceptable is drives = absurd (shape_fault_refutes p fault is.0 shaped)
+  loaded_drives manner (Ok (Judged (Refused back why))) asked before after outcome shaped acceptable is drives = absurd (reason_refutes p why is.0.refused.1 acceptable)
+  loaded_drives manner (Ok (Judged (Accepted v))) asked before after outcome shaped acceptable is drives = inl (is.1, (v, is.0.accepted.0, drives))
 
-  pub good_drive : (before after : Streams) (outcome : Result Answer CommandFault) (asked : List (List ℕ)) → IsWellShaped p → IsAcceptable p → RunsDrive (Shelf content) pair [] before outcome asked after
-      → ((asked ≡ pair.path ∷ pair.plan ∷ []) × ((v : VerifiedPlan) × (v.planned ≡ p) × DrivesCell v before after outcome)) ⊎ ((outcome ≡ Err Memory) × (after ≡ before))
-  good_drive before after outcome asked shaped acceptable run =
-      loaded_drives run.loaded asked before after outcome shaped acceptable (good_plan IsLoaded run.loaded asked run.loads) run.drives
+  pub good_drive : (manner : Manner) (before after : Streams) (outcome : Result Answer CommandFault) (asked : List (List ℕ)) → IsWellShaped p → IsAcceptable p → RunsDrive (Shelf content) manner pair [] before outcome asked after
+      → ((asked ≡ pair.path ∷ pair.plan ∷ []) × ((v : VerifiedPlan) × (v.planned ≡ p) × DrivesCell manner v before after outcome)) ⊎ ((outcome ≡ Err Memory) × (after ≡ before))
+  good_drive manner before after outcome asked shaped acceptable run =
+      loaded_drives manner run.loaded asked before after outcome shaped acceptable (good_plan IsLoaded run.loaded asked run.loads) run.drives
 
   -- the text of the log that came is taken up
   log_resumes : (v : VerifiedPlan) (log text : List ℕ) (came : Result (List ℕ) CommandFault) (mid asked : List (List ℕ)) (before after : Streams) (outcome : Result Answer CommandFault) → content log ≡ Ok text
@@ -182,12 +183,12 @@ module _ (content : List ℕ → Result (List ℕ) CommandFault) (pair : PairOfF
   line_told loaded (Ok answer) asked is files told = (line_of_loaded p loaded answer is told, files)
   line_told loaded (Err fault) asked is files told = told
 
-  drives_no_cell : (loaded : Result Loaded CommandFault) (asked : List (List ℕ)) (before after : Streams) (outcome : Result Answer CommandFault) → (IsWellShaped p → IsAcceptable p → ⊥)
-      → IsAnswered (IsLoaded p) (pair.path ∷ pair.plan ∷ []) loaded asked → Drives loaded before after outcome → IsAnswered (IsCheckLine p) (pair.path ∷ pair.plan ∷ []) outcome asked × (after ≡ before)
-  drives_no_cell (Err fault) asked before after outcome never is drives = (wanting (IsCheckLine p) _ outcome asked (drives.0 ∙ ap Err is), drives.1)
-  drives_no_cell (Ok (NotShaped fault)) asked before after outcome never is drives = (line_told (NotShaped fault) outcome asked is.0 is.1 drives.0, drives.1)
-  drives_no_cell (Ok (Judged (Refused back why))) asked before after outcome never is drives = (line_told (Judged (Refused back why)) outcome asked is.0 is.1 drives.0, drives.1)
-  drives_no_cell (Ok (Judged (Accepted v))) asked before after outcome never is drives = absurd (never is.0.well_shaped is.0.accepted.1)
+  drives_no_cell : (manner : Manner) (loaded : Result Loaded CommandFault) (asked : List (List ℕ)) (before after : Streams) (outcome : Result Answer CommandFault) → (IsWellShaped p → IsAcceptable p → ⊥)
+      → IsAnswered (IsLoaded p) (pair.path ∷ pair.plan ∷ []) loaded asked → Drives manner loaded before after outcome → IsAnswered (IsCheckLine p) (pair.path ∷ pair.plan ∷ []) outcome asked × (after ≡ before)
+  drives_no_cell manner (Err fault) asked before after outcome never is drives = (wanting (IsCheckLine p) _ outcome asked (drives.0 ∙ ap Err is), drives.1)
+  drives_no_cell manner (Ok (NotShaped fault)) asked before after outcome never is drives = (line_told (NotShaped fault) outcome asked is.0 is.1 drives.0, drives.1)
+  drives_no_cell manner (Ok (Judged (Refused back why))) asked before after outcome never is drives = (line_told (Judged (Refused back why)) outcome asked is.0 is.1 drives.0, drives.1)
+  drives_no_cell manner (Ok (Judged (Accepted v))) asked before after outcome never is drives = absurd (never is.0.well_shaped is.0.accepted.1)
 
   resumes_no_cell : (log : List ℕ) (loaded : Result Loaded CommandFault) (mid asked : List (List ℕ)) (before after : Streams) (outcome : Result Answer CommandFault) → (IsWellShaped p → IsAcceptable p → ⊥)
       → IsAnswered (IsLoaded p) (pair.path ∷ pair.plan ∷ []) loaded mid → Resumes (Shelf content) log loaded mid before outcome asked after
@@ -197,9 +198,9 @@ module _ (content : List ℕ → Result (List ℕ) CommandFault) (pair : PairOfF
   resumes_no_cell log (Ok (Judged (Refused back why))) mid asked before after outcome never is resumes = (line_told (Judged (Refused back why)) outcome asked is.0 (resumes.2 ∙ is.1) resumes.0, resumes.1)
   resumes_no_cell log (Ok (Judged (Accepted v))) mid asked before after outcome never is resumes = absurd (never is.0.well_shaped is.0.accepted.1)
 
-  pub no_drive : (before after : Streams) (outcome : Result Answer CommandFault) (asked : List (List ℕ)) → (IsWellShaped p → IsAcceptable p → ⊥) → RunsDrive (Shelf content) pair [] before outcome asked after
+  pub no_drive : (manner : Manner) (before after : Streams) (outcome : Result Answer CommandFault) (asked : List (List ℕ)) → (IsWellShaped p → IsAcceptable p → ⊥) → RunsDrive (Shelf content) manner pair [] before outcome asked after
       → IsAnswered (IsCheckLine p) (pair.path ∷ pair.plan ∷ []) outcome asked × (after ≡ before)
-  no_drive before after outcome asked never run = drives_no_cell run.loaded asked before after outcome never (good_plan IsLoaded run.loaded asked run.loads) run.drives
+  no_drive manner before after outcome asked never run = drives_no_cell manner run.loaded asked before after outcome never (good_plan IsLoaded run.loaded asked run.loads) run.drives
 
   pub no_resume : (log : List ℕ) (before after : Streams) (outcome : Result Answer CommandFault) (asked : List (List ℕ)) → (IsWellShaped p → IsAcceptable p → ⊥) → RunsResume (Shelf content) pair log [] before outcome asked after
       → IsAnswered (IsCheckLine p) (pair.path ∷ pair.plan ∷ []) outcome asked × (after ≡ before)

@@ -10,6 +10,7 @@ use Rattle.plan_seek.specs.declared.seek_fault.SeekFault.TheVariants.{BadNumbers
 use Rattle.plan_improve.specs.Runs.{Asked}
 use Rattle.shop_base.specs.Plan.{PlannedShop}
 use Rattle.byte_streams.specs.declared.drive_fault.DriveFault.{DriveFault}
+use Rattle.cell_drive.specs.declared.manner.Manner.{Manner}
 use Rattle.cell_drive.specs.declared.resume_fault.ResumeFault.{ResumeFault}
 use Rattle.cell_drive.specs.declared.resume_fault.ResumeFault.TheVariants.{BadLine, NotOrdered, NotPossible, Memory as NoMemoryToResume}
 use Rattle.cell_drive.specs.Replays.{TakenUp}
@@ -47,7 +48,7 @@ use Rattle.command_run.specs.Hubs.{DrivesAll, end_of_hub}
 use Rattle.command_run.specs.Planners.{search_by_two, SeeksPlan}
 use Rattle.command_run.specs.Improvers.{AsksOne, ImprovesPlan}
 use Rattle.command_run.specs.Tellings.{RunsTelling}
-use Rattle.command_run.specs.Program.{RunsCommand, file_at, log_in, name_in, pair_in, plans_in}
+use Rattle.command_run.specs.Program.{RunsCommand, file_at, log_in, manner_in, name_in, pair_in, plans_in}
 
 -- the answer's status is 0 or 1
 abbrev pub IsLow : Result Answer CommandFault → Type 0
@@ -166,12 +167,12 @@ low_end : (done : Result Bool DriveFault) (outcome : Result Answer CommandFault)
 low_end (Ok done) outcome is = low_ended done outcome is
 low_end (Err fault) outcome is = subst IsLow (sym is) tt
 
-low_drives : (loaded : Result Loaded CommandFault) (before after : Streams) (outcome : Result Answer CommandFault) → Drives loaded before after outcome → IsLow outcome
-low_drives (Err fault) before after outcome is = subst IsLow (sym is.0) tt
-low_drives (Ok (NotShaped fault)) before after outcome is = low_or (IsLineOf (NotShaped fault)) outcome (low_line_of (NotShaped fault)) is.0
-low_drives (Ok (Judged (Refused back why))) before after outcome is =
+low_drives : (manner : Manner) (loaded : Result Loaded CommandFault) (before after : Streams) (outcome : Result Answer CommandFault) → Drives manner loaded before after outcome → IsLow outcome
+low_drives manner (Err fault) before after outcome is = subst IsLow (sym is.0) tt
+low_drives manner (Ok (NotShaped fault)) before after outcome is = low_or (IsLineOf (NotShaped fault)) outcome (low_line_of (NotShaped fault)) is.0
+low_drives manner (Ok (Judged (Refused back why))) before after outcome is =
     low_or (IsLineOf (Judged (Refused back why))) outcome (low_line_of (Judged (Refused back why))) is.0
-low_drives (Ok (Judged (Accepted v))) before after outcome is = low_end (end_of_drive is.end) outcome is.answer
+low_drives manner (Ok (Judged (Accepted v))) before after outcome is = low_end (end_of_drive is.end) outcome is.answer
 
 -- ---- taking up
 
@@ -288,7 +289,7 @@ module _ {W : Type 0} (gives : W → List ℕ → Result (List ℕ) CommandFault
       low_both (pair_in chosen) (λ p. Told (IsOrMemory (AreBounds p))) texts outcome texts_after (λ p mid on. low_or (AreBounds p) outcome (low_bounds p) on.0) run.0
   low Plan chosen texts before outcome texts_after after run = low_seeks chosen.rounds _ texts outcome texts_after run.0
   low Improve chosen texts before outcome texts_after after run = low_improves chosen.rounds _ texts outcome texts_after run.0
-  low Drive chosen texts before outcome texts_after after run = low_drives run.loaded before after outcome run.drives
+  low Drive chosen texts before outcome texts_after after run = low_drives (manner_in chosen) run.loaded before after outcome run.drives
   low Resume chosen texts before outcome texts_after after run = low_resumes _ run.loaded run.texts_mid before outcome texts_after after run.resumes
   low Hub chosen texts before outcome texts_after after run =
       low_drives_all run.loaded before after outcome

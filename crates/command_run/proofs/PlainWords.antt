@@ -3,6 +3,7 @@ use Rattle.std.proofs.Common.{◌≡◌, ℕ, List, [], ◌∷◌, ◌⊎◌, Op
 use Rattle.shop_base.specs.Plan.{PlannedShop}
 use Rattle.orlib_read.specs.declared.named.Named.{Named}
 use Rattle.orlib_read.specs.declared.or_fault.OrFault.{OrFault}
+use Rattle.cell_drive.specs.declared.manner.Manner.{Manner}
 use Rattle.command_answers.specs.declared.answer.Answer.{Answer}
 use Rattle.command_answers.specs.declared.cells.Cells.{Cells}
 use Rattle.command_answers.specs.declared.loading.Loaded.{Loaded}
@@ -44,12 +45,12 @@ stopped fault (Ok a) next mid after outcome (inr told) on = absurd (cc told)
 stopped fault (Err f) next mid after outcome (inl told) on = (on.1, inl ((let one : f ≡ (Instance fault) = cc told in on.0 ∙ ap (λ x. Err x) one)))
 stopped fault (Err f) next mid after outcome (inr told) on = (on.1, inr ((let one : f ≡ Memory = cc told in on.0 ∙ ap (λ x. Err x) one)))
 
-drives_stopped : (fault : OrFault) (loaded : Result Loaded CommandFault) (before after : Streams) (outcome : Result Answer CommandFault)
-    → IsToldOf fault loaded → Drives loaded before after outcome → IsToldOf fault outcome × (after ≡ before)
-drives_stopped fault (Ok loaded) before after outcome (inl told) is = absurd (cc told)
-drives_stopped fault (Ok loaded) before after outcome (inr told) is = absurd (cc told)
-drives_stopped fault (Err f) before after outcome (inl told) is = (inl ((let one : f ≡ (Instance fault) = cc told in is.0 ∙ ap (λ x. Err x) one)), is.1)
-drives_stopped fault (Err f) before after outcome (inr told) is = (inr ((let one : f ≡ Memory = cc told in is.0 ∙ ap (λ x. Err x) one)), is.1)
+drives_stopped : (manner : Manner) (fault : OrFault) (loaded : Result Loaded CommandFault) (before after : Streams) (outcome : Result Answer CommandFault)
+    → IsToldOf fault loaded → Drives manner loaded before after outcome → IsToldOf fault outcome × (after ≡ before)
+drives_stopped manner fault (Ok loaded) before after outcome (inl told) is = absurd (cc told)
+drives_stopped manner fault (Ok loaded) before after outcome (inr told) is = absurd (cc told)
+drives_stopped manner fault (Err f) before after outcome (inl told) is = (inl ((let one : f ≡ (Instance fault) = cc told in is.0 ∙ ap (λ x. Err x) one)), is.1)
+drives_stopped manner fault (Err f) before after outcome (inr told) is = (inr ((let one : f ≡ Memory = cc told in is.0 ∙ ap (λ x. Err x) one)), is.1)
 
 resumes_stopped : {W : Type 0} (gives : W → List ℕ → Result (List ℕ) CommandFault → W → Type 0) (log : List ℕ) (fault : OrFault) (loaded : Result Loaded CommandFault) (mid last : W) (before after : Streams) (outcome : Result Answer CommandFault)
     → IsToldOf fault loaded → Resumes gives log loaded mid before outcome last after → IsToldOf fault outcome × (after ≡ before) × (last ≡ mid)
@@ -131,11 +132,11 @@ module _ (content : List ℕ → Result (List ℕ) CommandFault) (pair : PairOfF
   improve_first rounds outcome asked (inl run) = inl (told_first _ outcome asked run)
   improve_first rounds outcome asked (inr wanting) = inr wanting
 
-  pub drive_first : (before after : Streams) (outcome : Result Answer CommandFault) (asked : List (List ℕ)) → RunsDrive (Shelf content) pair [] before outcome asked after
+  pub drive_first : (manner : Manner) (before after : Streams) (outcome : Result Answer CommandFault) (asked : List (List ℕ)) → RunsDrive (Shelf content) manner pair [] before outcome asked after
       → IsInstanceTold pair.path fault outcome asked × (after ≡ before)
-  drive_first before after outcome asked run =
+  drive_first manner before after outcome asked run =
       let loaded = told_first _ run.loaded asked run.loads in
-      let end = drives_stopped fault run.loaded before after outcome loaded.1 run.drives in
+      let end = drives_stopped manner fault run.loaded before after outcome loaded.1 run.drives in
       ((loaded.0, end.0), end.1)
 
   pub resume_first : (log : List ℕ) (before after : Streams) (outcome : Result Answer CommandFault) (asked : List (List ℕ))

@@ -9,12 +9,14 @@ use Rattle.shop_base.specs.Ends.{stated_number, reports_in}
 use Rattle.text_lines.specs.declared.limits.TheConstants.{MAX_INPUT}
 use Rattle.cell_tables.specs.Events.{events_of}
 use Rattle.plan_verifier.specs.Accepted.{VerifiedPlan, IsAcceptable}
+use Rattle.cell_drive.specs.declared.manner.Manner.{Manner}
 use Rattle.cell_drive.specs.declared.one_run.DriveEnd.{DriveEnd}
 use Rattle.byte_streams.specs.declared.drive_fault.DriveFault.{DriveFault}
 use Rattle.byte_streams.specs.declared.drive_fault.DriveFault.TheVariants.{Read as NotRead, Write as NotWritten, InputTooLong as TooLong, Memory as WantOfMemory}
 use Rattle.run_log.specs.Log.{Noted}
 use Rattle.cell_drive.specs.AnswerText.{DrivenCell, IsAnswerText}
 use Rattle.cell_drive.specs.OneCell.{seen}
+use Rattle.cell_drive.specs.Manners.{plain_from}
 use Rattle.cell_drive.specs.OneRun.{IsSoFar}
 use Rattle.cell_drive.proofs.OneRun.{driven_text}
 use Rattle.cell_drive.proofs.OneText.{one_answer_text}
@@ -31,7 +33,7 @@ use Rattle.command_answers.specs.Commands.{PairOfFiles}
 use Rattle.command_run.specs.Streams.{Streams, Output, Errors}
 use Rattle.command_run.specs.Drives.{IsDrive, IsEnded, IsEndAnswer, DrivesCell, status_at, end_of_drive}
 use Rattle.command_run.specs.Ending.{IsTold, IsPrinted, IsToldAfter, Ends}
-use Rattle.command_run.specs.Program.{AreWordsRead, RunsDrive, RunsCommand, Follows, pair_in}
+use Rattle.command_run.specs.Program.{AreWordsRead, RunsDrive, RunsCommand, Follows, is_second, manner_in, pair_in}
 use Rattle.command_run.specs.Laws.{Shelf, TellPlan, AskForDrive, RunsWell}
 use Rattle.command_run.proofs.GoodFiles.{good_drive}
 
@@ -69,6 +71,12 @@ same_pair words pair chosen ask is =
     let of : List ℕ → Option (List ℕ) → List ℕ → PairOfFiles = λ a b c. record { path = a; name = b; plan = c } in
     ap (λ a. of a (option_map string_bytes chosen.instance) (get_or (map string_bytes chosen.files.items) 1 [])) path
     ∙ ap (λ b. of pair.path b (get_or (map string_bytes chosen.files.items) 1 [])) name ∙ ap (λ c. of pair.path pair.name c) plan
+
+-- in version 1 of the lines, and with no moment that leaps
+plain_manner : (words : List (List ℕ)) (pair : PairOfFiles) (chosen : Chosen) → AskForDrive words pair → IsChoiceOf (found_in words) chosen → manner_in chosen ≡ plain_from 0
+plain_manner words pair chosen ask is =
+    ap (λ (v : Option ℕ). record { tells = is_second v; longest = chosen.leap; from = 0 }) (is.lines ∙ ask.lines)
+    ∙ ap (λ (l : Option ℕ). record { tells = false; longest = l; from = 0 }) (is.leap ∙ ask.leap)
 
 -- ---- the bytes
 
@@ -158,7 +166,7 @@ module _ (content : List ℕ → Result (List ℕ) CommandFault) (words : List (
   drive_wrote v mid outcome (Err WantOfMemory) same is answer same_input ends =
       absurd (well.no_want (memory_ends outcome mid.output well.after.streams.output well.before.errors well.after.errors status answer ends))
 
-  cell_wrote : (mid : Streams) (outcome : Result Answer CommandFault) → ((v : VerifiedPlan) × (v.planned ≡ p) × DrivesCell v well.before.streams mid outcome) ⊎ (outcome ≡ Err Memory) → well.after.streams.input ≡ mid.input
+  cell_wrote : (mid : Streams) (outcome : Result Answer CommandFault) → ((v : VerifiedPlan) × (v.planned ≡ p) × DrivesCell (plain_from 0) v well.before.streams mid outcome) ⊎ (outcome ≡ Err Memory) → well.after.streams.input ≡ mid.input
       → Ends outcome mid.output well.after.streams.output well.before.errors well.after.errors status → Wrote p input status written
   cell_wrote mid outcome (inl (v, same, cell)) same_input ends = drive_wrote v mid outcome cell.end same cell.is cell.answer same_input ends
   cell_wrote mid outcome (inr none) same_input ends =
@@ -168,12 +176,13 @@ module _ (content : List ℕ → Result (List ℕ) CommandFault) (words : List (
       → Follows (Shelf content) read well.before status well.after → Wrote p input status written
   follows_wrote pair (Ok chosen) ask good shaped acceptable are follows =
       let name = is_drive chosen.name (are.chosen.name ∙ ask.drive) in
-      let runs : RunsDrive (Shelf content) (pair_in chosen) well.before.texts well.before.streams follows.outcome well.after.texts follows.mid =
+      let runs : RunsDrive (Shelf content) (manner_in chosen) (pair_in chosen) well.before.texts well.before.streams follows.outcome well.after.texts follows.mid =
       subst (λ n. RunsCommand (Shelf content) n chosen well.before.texts well.before.streams follows.outcome well.after.texts follows.mid) name follows.runs in
-      let drive : RunsDrive (Shelf content) pair [] well.before.streams follows.outcome well.after.texts follows.mid =
-      subst (λ (q : PairOfFiles). RunsDrive (Shelf content) q [] well.before.streams follows.outcome well.after.texts follows.mid) (same_pair words pair chosen ask are.chosen)
-      (subst (λ (asked : List (List ℕ)). RunsDrive (Shelf content) (pair_in chosen) asked well.before.streams follows.outcome well.after.texts follows.mid) well.unasked runs) in
-      cell_wrote follows.mid follows.outcome (driven_or_not (good_drive content pair p good well.before.streams follows.mid follows.outcome well.after.texts shaped acceptable drive)) follows.input follows.ends
+      let drive : RunsDrive (Shelf content) (plain_from 0) pair [] well.before.streams follows.outcome well.after.texts follows.mid =
+      subst (λ (q : PairOfFiles). RunsDrive (Shelf content) (plain_from 0) q [] well.before.streams follows.outcome well.after.texts follows.mid) (same_pair words pair chosen ask are.chosen)
+      (subst (λ (m : Manner). RunsDrive (Shelf content) m (pair_in chosen) [] well.before.streams follows.outcome well.after.texts follows.mid) (plain_manner words pair chosen ask are.chosen)
+      (subst (λ (asked : List (List ℕ)). RunsDrive (Shelf content) (manner_in chosen) (pair_in chosen) asked well.before.streams follows.outcome well.after.texts follows.mid) well.unasked runs)) in
+      cell_wrote follows.mid follows.outcome (driven_or_not (good_drive content pair p good (plain_from 0) well.before.streams follows.mid follows.outcome well.after.texts shaped acceptable drive)) follows.input follows.ends
   follows_wrote pair (Err (Usage help text)) ask good shaped acceptable are follows =
       absurd (let told = subst (λ kinds. TellsOneOf kinds (Usage help text)) ask.taken are.refused in told.1)
   follows_wrote pair (Err NoWordsMemory) ask good shaped acceptable are follows = absurd (well.no_want (memory_status well.before.errors well.after.errors status follows.0.1))

@@ -1,10 +1,12 @@
 -- What driving the cell of an accepted plan comes to.
-use Rattle.std.specs.Prelude.{◌≡◌, ℕ, [], Bool, true, false, Result, Ok, Err}
+use Rattle.std.specs.Prelude.{◌≡◌, ℕ, ◌&&◌, [], Bool, true, false, not, is_none, Result, Ok, Err}
 use Rattle.plan_verifier.specs.declared.verdict.Verdict.TheVariants.{Accepted, Refused}
 use Rattle.plan_verifier.specs.Accepted.{VerifiedPlan}
 use Rattle.cell_drive.specs.declared.one_run.DriveEnd.{DriveEnd}
 use Rattle.byte_streams.specs.declared.drive_fault.DriveFault.{DriveFault}
 use Rattle.byte_streams.specs.declared.drive_fault.DriveFault.TheVariants.{Read as NotRead, Write as NotWritten, InputTooLong as TooLong, Memory as WantOfMemory}
+use Rattle.cell_drive.specs.declared.manner.Manner.{Manner}
+use Rattle.cell_drive.specs.Stated.{IsStatedDrive}
 pub use Rattle.cell_drive.specs.OneRun.{IsDrive}
 use Rattle.command_answers.specs.declared.answer.Answer.{Answer}
 use Rattle.command_answers.specs.declared.command_fault.CommandFault.{CommandFault}
@@ -41,19 +43,31 @@ abbrev pub end_of_drive : Result DriveEnd DriveFault → Result Bool DriveFault
 end_of_drive (Ok end) = Ok end.done
 end_of_drive (Err fault) = Err fault
 
--- the cell was driven, and the status says whether its run has ended
-pub record DrivesCell (v : VerifiedPlan) (before after : Streams) (outcome : Result Answer CommandFault) : Type 0 where
+-- version 1 of the lines, and no moment that leaps
+abbrev pub is_plain : Manner → Bool
+is_plain manner = not manner.tells && is_none manner.longest
+
+-- the cell was driven as ever, or in this manner
+abbrev pub DrivesBy : Bool → Manner → VerifiedPlan → Streams → Streams → Result DriveEnd DriveFault → Type 0
+DrivesBy true manner v before after end = IsDrive v before after end
+DrivesBy false manner v before after end = IsStatedDrive v manner before after end
+
+abbrev pub IsDriveIn : Manner → VerifiedPlan → Streams → Streams → Result DriveEnd DriveFault → Type 0
+IsDriveIn manner = DrivesBy (is_plain manner) manner
+
+-- the cell was driven in this manner, and the status says whether its run has ended
+pub record DrivesCell (manner : Manner) (v : VerifiedPlan) (before after : Streams) (outcome : Result Answer CommandFault) : Type 0 where
   pub end : Result DriveEnd DriveFault
-  pub is : IsDrive v before after end
+  pub is : IsDriveIn manner v before after end
   pub answer : IsEndAnswer (end_of_drive end) outcome
 
 -- the line of a plan that isn't accepted, unless memory ran out
 abbrev pub IsLineTold : Loaded → Result Answer CommandFault → Type 0
 IsLineTold loaded = IsOrMemory (IsLineOf loaded)
 
--- what follows what is to be said of the plan: an accepted one drives the cell; any other is answered by its line, with no byte read or written
-abbrev pub Drives : Result Loaded CommandFault → Streams → Streams → Result Answer CommandFault → Type 0
-Drives (Err fault) before after outcome = (outcome ≡ Err fault) × (after ≡ before)
-Drives (Ok (NotShaped fault)) before after outcome = IsLineTold (NotShaped fault) outcome × (after ≡ before)
-Drives (Ok (Judged (Refused back why))) before after outcome = IsLineTold (Judged (Refused back why)) outcome × (after ≡ before)
-Drives (Ok (Judged (Accepted v))) before after outcome = DrivesCell v before after outcome
+-- what follows what is to be said of the plan: an accepted one drives the cell in this manner; any other is answered by its line, with no byte read or written
+abbrev pub Drives : Manner → Result Loaded CommandFault → Streams → Streams → Result Answer CommandFault → Type 0
+Drives manner (Err fault) before after outcome = (outcome ≡ Err fault) × (after ≡ before)
+Drives manner (Ok (NotShaped fault)) before after outcome = IsLineTold (NotShaped fault) outcome × (after ≡ before)
+Drives manner (Ok (Judged (Refused back why))) before after outcome = IsLineTold (Judged (Refused back why)) outcome × (after ≡ before)
+Drives manner (Ok (Judged (Accepted v))) before after outcome = DrivesCell manner v before after outcome

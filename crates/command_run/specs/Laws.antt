@@ -10,11 +10,12 @@ use Rattle.plan_verifier.specs.declared.verdict.Verdict.TheVariants.{Accepted}
 use Rattle.plan_seek.specs.Tasks.{task_in}
 use Rattle.byte_streams.specs.Sinks.{TookPart}
 use Rattle.cell_drive.specs.Replays.{TakenUp}
+use Rattle.cell_drive.specs.declared.manner.Manner.{Manner}
 use Rattle.cell_drive.specs.declared.one_run.DriveEnd.{DriveEnd}
 use Rattle.cell_drive.specs.declared.many_runs.HubEnd.{HubEnd}
 use Rattle.byte_streams.specs.declared.drive_fault.DriveFault.{DriveFault}
 use Rattle.command_words.specs.declared.words.CommandName.TheVariants.{Drive, Resume, Hub}
-use Rattle.command_words.specs.Choice.{word_of, word_found, rows_found, files_in, instance_in, reasons_in, found_in, IsChoiceOf, TellsOneOf}
+use Rattle.command_words.specs.Choice.{word_of, word_found, rows_found, files_in, instance_in, lines_in, leap_in, reasons_in, found_in, IsChoiceOf, TellsOneOf}
 use Rattle.command_words.specs.declared.words.Chosen.{Chosen}
 use Rattle.command_words.specs.declared.words.CommandName.{CommandName}
 use Rattle.command_words.specs.declared.words.WordsFault.{WordsFault}
@@ -45,11 +46,11 @@ use Rattle.command_run.specs.Streams.{Streams, Input, Output, Errors, Devices}
 use Rattle.command_run.specs.Inputs.{RunsInput}
 use Rattle.command_run.specs.Planners.{search_by_two, SeeksPlan}
 use Rattle.command_run.specs.Improvers.{AsksOne, ImprovesPlan}
-use Rattle.command_run.specs.Drives.{IsDrive, DrivesCell}
+use Rattle.command_run.specs.Drives.{IsDriveIn, DrivesCell}
 use Rattle.command_run.specs.Resumes.{IsResume, ResumesText, IsTaking}
 use Rattle.command_run.specs.Hubs.{AreDrives, DrivesCells}
 use Rattle.command_run.specs.Ending.{WasTold, IsLineOut, IsOfText}
-use Rattle.command_run.specs.Program.{RunsDrive, RunsResume, RunsHub, RunsProgram, RunsCommand, file_at, name_in, pair_in, plans_in}
+use Rattle.command_run.specs.Program.{RunsDrive, RunsResume, RunsHub, RunsProgram, RunsCommand, file_at, manner_in, name_in, pair_in, plans_in}
 
 -- ---- what is told first where the files don't change
 
@@ -114,7 +115,7 @@ TellsInstanceFirstUnread runs = (before after : Streams) (content : List ℕ →
     → IsInstanceTold pair.path fault outcome asked × (after ≡ before)
 
 abbrev pub DriveTellsInstanceFirst : Type 0
-DriveTellsInstanceFirst = TellsInstanceFirstUnread (λ gives pair. RunsDrive gives pair)
+DriveTellsInstanceFirst = (manner : Manner) → TellsInstanceFirstUnread (λ gives pair. RunsDrive gives manner pair)
 
 abbrev pub ResumeTellsInstanceFirst : Type 0
 ResumeTellsInstanceFirst = (log : List ℕ) → TellsInstanceFirstUnread (λ gives pair. RunsResume gives pair log)
@@ -190,9 +191,9 @@ ImproveAnswersPlan = (rounds : ℕ) (content : List ℕ → Result (List ℕ) Co
 
 -- `drive`: where the plan is accepted, its cell is driven, with exactly these files asked for, unless memory runs out before, with no byte read or written
 abbrev pub DriveDrivesPlan : Type 0
-DriveDrivesPlan = (before after : Streams) (content : List ℕ → Result (List ℕ) CommandFault) (pair : PairOfFiles) (p : PlannedShop) (outcome : Result Answer CommandFault) (asked : List (List ℕ))
-    → TellPlan content pair p → IsWellShaped p → IsAcceptable p → RunsDrive (Shelf content) pair [] before outcome asked after
-    → ((asked ≡ pair.path ∷ pair.plan ∷ []) × ((v : VerifiedPlan) × (v.planned ≡ p) × DrivesCell v before after outcome)) ⊎ ((outcome ≡ Err Memory) × (after ≡ before))
+DriveDrivesPlan = (manner : Manner) (before after : Streams) (content : List ℕ → Result (List ℕ) CommandFault) (pair : PairOfFiles) (p : PlannedShop) (outcome : Result Answer CommandFault) (asked : List (List ℕ))
+    → TellPlan content pair p → IsWellShaped p → IsAcceptable p → RunsDrive (Shelf content) manner pair [] before outcome asked after
+    → ((asked ≡ pair.path ∷ pair.plan ∷ []) × ((v : VerifiedPlan) × (v.planned ≡ p) × DrivesCell manner v before after outcome)) ⊎ ((outcome ≡ Err Memory) × (after ≡ before))
 
 -- `resume`: where the plan is accepted, its log is asked for and taken up, and driven on if it can be, unless memory runs out before, with no byte read or written
 abbrev pub ResumeGoesOn : Type 0
@@ -250,7 +251,7 @@ AnswersByCheck runs = (before after : Streams) (content : List ℕ → Result (L
     → IsAnswered (IsCheckLine p) (pair.path ∷ pair.plan ∷ []) outcome asked × (after ≡ before)
 
 abbrev pub DriveAnswersByCheck : Type 0
-DriveAnswersByCheck = AnswersByCheck (λ gives pair. RunsDrive gives pair)
+DriveAnswersByCheck = (manner : Manner) → AnswersByCheck (λ gives pair. RunsDrive gives manner pair)
 
 abbrev pub ResumeAnswersByCheck : Type 0
 ResumeAnswersByCheck = (log : List ℕ) → AnswersByCheck (λ gives pair. RunsResume gives pair log)
@@ -272,10 +273,12 @@ HubAnswersByCheck = (before after : Streams) (content : List ℕ → Result (Lis
 
 -- ---- that a driven cell writes the same
 
--- the words ask for `drive` with these files
+-- the words ask for `drive` with these files, and neither for version 2 of the lines nor for a longest time
 pub record AskForDrive (words : List (List ℕ)) (pair : PairOfFiles) : Type 0 where
   pub taken : reasons_in words ≡ []
   pub drive : word_found (found_in words) ≡ word_of Drive
+  pub lines : lines_in (rows_found (found_in words)) ≡ None
+  pub leap : leap_in (rows_found (found_in words)) ≡ None
   pub path : pair.path ≡ get_or (files_in (rows_found (found_in words))) 0 []
   pub name : pair.name ≡ instance_in (rows_found (found_in words))
   pub plan : pair.plan ≡ get_or (files_in (rows_found (found_in words))) 1 []
@@ -344,12 +347,12 @@ pub record WereRefused {W : Type 0} (words : List (List ℕ)) (before : Devices 
 
 module _ {W : Type 0} (gives : W → List ℕ → Result (List ℕ) CommandFault → W → Type 0) where
   -- the plan is accepted, and its cell was driven to this end or up to this fault
-  pub record DroveCell (pair : PairOfFiles) (texts : W) (before after : Streams) : Type 0 where
+  pub record DroveCell (manner : Manner) (pair : PairOfFiles) (texts : W) (before after : Streams) : Type 0 where
     pub cell : VerifiedPlan
     pub later : W
     pub loads : Loads gives pair texts (Ok (Judged (Accepted cell))) later
     pub end : Result DriveEnd DriveFault
-    pub is : IsDrive cell before after end
+    pub is : IsDriveIn manner cell before after end
 
   -- the plan is accepted, its run was taken up from the log, and driven on to this end or up to this fault
   pub record DroveOn (pair : PairOfFiles) (log : List ℕ) (texts : W) (before after : Streams) : Type 0 where
@@ -377,7 +380,7 @@ module _ {W : Type 0} (gives : W → List ℕ → Result (List ℕ) CommandFault
   -- nothing was written; or the command drives cells, and those of its files were driven
   abbrev pub WereDriven : CommandName → Chosen → W → Streams → Streams → Type 0
   WereDriven name chosen texts before after = (after.output ≡ before.output)
-      ⊎ (((name ≡ Drive) × DroveCell (pair_in chosen) texts before after)
+      ⊎ (((name ≡ Drive) × DroveCell (manner_in chosen) (pair_in chosen) texts before after)
       ⊎ (((name ≡ Resume) × DroveOn (pair_in chosen) (file_at chosen 2) texts before after)
       ⊎ ((name ≡ Hub) × DroveCells (file_at chosen 0) (name_in chosen) (plans_in chosen) texts before after)))
 

@@ -1,6 +1,7 @@
 -- What the whole program does: what it answers to the words of its command line, and how it ends.
-use Rattle.std.specs.Prelude.{◌≡◌, ℕ, List, [], Option, true, false, Result, Ok, Err, IfOk, IfErr, get_or, map, option_map, drop}
+use Rattle.std.specs.Prelude.{◌≡◌, ℕ, ◌==◌, Bool, List, [], Option, None, Some, true, false, Result, Ok, Err, IfOk, IfErr, get_or, map, option_map, drop}
 use Rattle.std.specs.String.{string_bytes}
+use Rattle.cell_drive.specs.declared.manner.Manner.{Manner}
 use Rattle.command_words.specs.declared.words.Chosen.{Chosen}
 use Rattle.command_words.specs.declared.words.CommandName.{CommandName}
 use Rattle.command_words.specs.declared.words.CommandName.TheVariants.{Input as NoWords, Facts, Shape, Check, Explain, Schedule, Bounds, Plan, Improve, Drive, Resume, Hub, Audit, Gantt}
@@ -49,16 +50,25 @@ name_in chosen = option_map string_bytes chosen.instance
 abbrev pub log_in : Chosen → Option (List ℕ)
 log_in chosen = option_map string_bytes chosen.after
 
+-- version 2
+abbrev pub is_second : Option ℕ → Bool
+is_second None = false
+is_second (Some version) = version == 2
+
+-- the manner in which a cell is driven
+abbrev pub manner_in : Chosen → Manner
+manner_in chosen = record { tells = is_second chosen.lines; longest = chosen.leap; from = 0 }
+
 -- the files of the instance and of the first plan
 abbrev pub pair_in : Chosen → PairOfFiles
 pair_in chosen = record { path = file_at chosen 0; name = name_in chosen; plan = file_at chosen 1 }
 
 module _ {W : Type 0} (gives : W → List ℕ → Result (List ℕ) CommandFault → W → Type 0) where
   -- the plan is loaded, and then the input is read
-  pub record RunsDrive (pair : PairOfFiles) (texts : W) (before : Streams) (outcome : Result Answer CommandFault) (texts_after : W) (after : Streams) : Type 0 where
+  pub record RunsDrive (manner : Manner) (pair : PairOfFiles) (texts : W) (before : Streams) (outcome : Result Answer CommandFault) (texts_after : W) (after : Streams) : Type 0 where
     pub loaded : Result Loaded CommandFault
     pub loads : Loads gives pair texts loaded texts_after
-    pub drives : Drives loaded before after outcome
+    pub drives : Drives manner loaded before after outcome
 
   -- the plan is loaded, then its log taken up, and then the input is read
   pub record RunsResume (pair : PairOfFiles) (log : List ℕ) (texts : W) (before : Streams) (outcome : Result Answer CommandFault) (texts_after : W) (after : Streams) : Type 0 where
@@ -94,7 +104,7 @@ module _ {W : Type 0} (gives : W → List ℕ → Result (List ℕ) CommandFault
   RunsCommand Improve chosen texts before outcome texts_after after =
       ImprovesPlan gives chosen.rounds (pair_in chosen) texts outcome texts_after × (after ≡ before)
   RunsCommand Drive chosen texts before outcome texts_after after =
-      RunsDrive (pair_in chosen) texts before outcome texts_after after
+      RunsDrive (manner_in chosen) (pair_in chosen) texts before outcome texts_after after
   RunsCommand Resume chosen texts before outcome texts_after after =
       RunsResume (pair_in chosen) (file_at chosen 2) texts before outcome texts_after after
   RunsCommand Hub chosen texts before outcome texts_after after =

@@ -5,7 +5,7 @@ ghost use Rattle.std.specs.Option.{option_copied};
 ghost use Rattle.shop_base.specs.declared.limits.TheConstants.{MAX_MOMENT};
 ghost use Rattle.command_words.specs.Choice.{IsWithin};
 ghost use Rattle.command_run.specs.Tellings.{RunsTelling};
-ghost use Rattle.command_run.specs.Program.{RunsCommand, file_at, log_in, name_in, pair_in};
+ghost use Rattle.command_run.specs.Program.{RunsCommand, file_at, is_second, log_in, manner_in, name_in, pair_in};
 
 use crate::devices::{Screen, Streams};
 use crate::drives::drive_answer;
@@ -15,7 +15,7 @@ use crate::input::input_answer;
 use crate::planners::seek_answer;
 use crate::resumes::resume_answer;
 use crate::tellings::telling_answer;
-use cell_drive::{Outlet, Source};
+use cell_drive::{Manner, Outlet, Source};
 use command_answers::{
     Answered, Pair, PlanTelling, Telling, Texts, bounds_answer, facts_answer, log_answer,
     shape_answer,
@@ -73,6 +73,27 @@ fn told<T: Texts>(alloc: Global, chosen: &Chosen, texts: &mut T, telling: PlanTe
     telling_answer(alloc, texts, &pair, rest_log(chosen), chosen.at, telling)
 }
 
+/// Whether this is version 2.
+fn is_second(version: Option<u64>) -> bool
+    ensures { result ≡ is_second version }
+{
+    match version {
+        Some(version) => version == 2,
+        None => false,
+    }
+}
+
+/// The manner in which a cell is driven.
+fn manner(chosen: &Chosen) -> Manner
+    ensures { result ≡ manner_in chosen.now }
+{
+    Manner {
+        tells: is_second(chosen.lines),
+        longest: chosen.leap,
+        from: 0,
+    }
+}
+
 /// Runs the command that was chosen.
 pub(crate) fn command<T: Texts, R: Source, W: Outlet, S: Screen>(
     alloc: Global,
@@ -98,7 +119,7 @@ pub(crate) fn command<T: Texts, R: Source, W: Outlet, S: Screen>(
             let (rounds, seed) = (chosen.rounds, chosen.seed);
             better_answer(alloc, texts, &pair(chosen), rounds, seed, screen)
         }
-        CommandName::Drive => drive_answer(alloc, texts, &pair(chosen), streams),
+        CommandName::Drive => { drive_answer(alloc, texts, &pair(chosen), manner(chosen), streams) }
         CommandName::Resume => {
             let log = file(chosen, 2);
             resume_answer(alloc, texts, &pair(chosen), log, streams)

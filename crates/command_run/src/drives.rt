@@ -1,14 +1,16 @@
 //! The command `drive`, and what the other ones that drive cells share with it.
 
 ghost use Rattle.std.specs.Prelude.{◌≡◌, []};
-ghost use Rattle.command_run.specs.Drives.{IsEndAnswer, drive_command_fault, status_at, end_of_drive};
+ghost use Rattle.byte_streams.specs.Lent.{streams_of};
+ghost use Rattle.command_run.specs.Drives.{IsDriveIn, IsEndAnswer, drive_command_fault, is_plain, status_at, end_of_drive};
 ghost use Rattle.command_run.specs.Program.{RunsDrive};
 
 use crate::devices::Streams;
-use cell_drive::{DriveEnd, DriveFault, Outlet, Source, drive};
+use cell_drive::{DriveEnd, DriveFault, Manner, Outlet, Source, drive, drive_stated};
 use command_answers::{
     Answer, Answered, CommandFault, GOOD, Pair, REFUSED, Texts, load_files, loaded_answer,
 };
+use plan_verifier::Verified;
 use std::alloc::Global;
 
 /// A fault of a driven run as one of a command.
@@ -28,18 +30,50 @@ impl From<DriveFault> for Told {
     }
 }
 
+/// Whether the lines are those of version 1, and no moment leaps.
+fn is_plain(manner: Manner) -> bool
+    ensures { result ≡ is_plain manner }
+{
+    !manner.tells && manner.longest.is_none()
+}
+
+/// Drives the cell of an accepted plan in this manner.
+fn drive_in<R: Source, W: Outlet>(
+    alloc: Global,
+    verified: Verified,
+    manner: Manner,
+    reader: &mut R,
+    writer: &mut W,
+) -> Result<DriveEnd, DriveFault>
+    ensures { IsDriveIn manner verified (streams_of R.Source W.Sink W.pending reader.old writer.old)
+        (streams_of R.Source W.Sink W.pending reader.new writer.new) result }
+{
+    if is_plain(manner) {
+        drive(alloc, verified, reader, writer)
+    } else {
+        drive_stated(alloc, verified, manner, reader, writer)
+    }
+}
+
 /// Loads a plan, and drives its cell to the end of the input if it is accepted; else its line is the answer.
 pub(crate) fn drive_answer<T: Texts, R: Source, W: Outlet>(
     alloc: Global,
     texts: &mut T,
     pair: &Pair<'_>,
+    manner: Manner,
     streams: &mut Streams<R, W>,
 ) -> Answered
-    ensures { RunsDrive T.gives pair.now texts.old streams.old result texts.new streams.new }
+    ensures { RunsDrive T.gives manner pair.now texts.old streams.old result texts.new streams.new }
 {
     match load_files(alloc, texts, pair)?.accepted() {
         Ok(verified) => {
-            let end = drive(alloc, verified, &mut streams.input, &mut streams.output);
+            let end = drive_in(
+                alloc,
+                verified,
+                manner,
+                &mut streams.input,
+                &mut streams.output,
+            );
             end_answer(alloc, end)
         }
         Err(other) => Ok(loaded_answer(alloc, &other)?),

@@ -106,7 +106,15 @@ after_in rows = first_of (codes "after") rows
 abbrev pub at_in : List Row → Option ℕ
 at_in rows = option_map value_of (first_of (codes "at") rows)
 
--- the choice holds the command, the files, the instance's name, the rounds, the seed, the log and the moment that were found
+-- the version of the lines of a driven cell
+abbrev pub lines_in : List Row → Option ℕ
+lines_in rows = option_map value_of (first_of (codes "lines") rows)
+
+-- the longest time from one report to the next
+abbrev pub leap_in : List Row → Option ℕ
+leap_in rows = option_map value_of (first_of (codes "leap") rows)
+
+-- the choice holds the command, the files, the instance's name, the rounds, the seed, the log, the moment, the version of the lines and the longest time that were found
 pub record IsChoiceOf (found : Found) (chosen : Chosen) : Type 0 where
   pub name : word_of chosen.name ≡ word_found found
   pub files : texts_of chosen.files.items ≡ files_in (rows_found found)
@@ -115,13 +123,16 @@ pub record IsChoiceOf (found : Found) (chosen : Chosen) : Type 0 where
   pub seed : chosen.seed ≡ seed_in (rows_found found)
   pub after : option_map string_bytes chosen.after ≡ after_in (rows_found found)
   pub at : chosen.at ≡ at_in (rows_found found)
+  pub lines : chosen.lines ≡ lines_in (rows_found found)
+  pub leap : chosen.leap ≡ leap_in (rows_found found)
 
--- the choice has as many files as its command takes, no more rounds than a search may have, no greater seed than it takes, and no moment past the latest
+-- the choice has as many files as its command takes, no more rounds than a search may have, no greater seed than it takes, no moment past the latest, and no longer time than that
 pub record IsWithin (chosen : Chosen) : Type 0 where
   pub files : TakesFiles chosen.name (length chosen.files.items)
   pub rounds : chosen.rounds ≤ most_rounds
   pub seed : chosen.seed ≤ greatest_seed
   pub at : IfSome chosen.at (λ n. n ≤ latest_moment)
+  pub leap : IfSome chosen.leap (λ n. n ≤ latest_moment)
 
 -- why `clap` refuses the words, or nothing where it takes them
 abbrev pub parse_reasons_in : List Text → Kinds
@@ -137,11 +148,24 @@ misfit_of log None = []
 misfit_of None (Some word) = MissingRequiredArgument ∷ []
 misfit_of (Some log) (Some word) = if is_moment word then [] else ValueValidation ∷ []
 
+-- a number of so many digits at most, from the least to the most
+abbrev pub is_number : ℕ → ℕ → ℕ → Text → Bool
+is_number digits least most word = (nat_lt 0 (length word) && nat_le (length word) digits) && (list_all is_digit word && (nat_le least (value_of word) && nat_le (value_of word) most))
+
+-- why a word isn't taken for such a number, or nothing
+abbrev pub number_misfit : ℕ → ℕ → ℕ → Option Text → Kinds
+number_misfit digits least most None = []
+number_misfit digits least most (Some word) = if is_number digits least most word then [] else ValueValidation ∷ []
+
+-- so of the words of a driven cell: version 1 or 2, and a time from 1 to the latest moment
+abbrev pub driven_misfit : List Row → Kinds
+driven_misfit rows = or_else (number_misfit 1 1 2 (first_of (codes "lines") rows)) (number_misfit 13 1 latest_moment (first_of (codes "leap") rows))
+
 -- so of what was found
 abbrev pub misfit_in : Found → Kinds
-misfit_in found = misfit_of (after_in (rows_found found)) (first_of (codes "at") (rows_found found))
+misfit_in found = or_else (misfit_of (after_in (rows_found found)) (first_of (codes "at") (rows_found found))) (driven_misfit (rows_found found))
 
--- why the words are refused, or nothing where they are taken: `clap`'s reasons, or else that a moment doesn't fit
+-- why the words are refused, or nothing where they are taken: `clap`'s reasons, or else that a number doesn't fit
 abbrev pub reasons_in : List Text → Kinds
 reasons_in words = or_else (parse_reasons_in words) (misfit_in (found_in words))
 

@@ -67,6 +67,10 @@ rest_rules = option_rule (codes "after") ∷ option_rule (codes "at") ∷ []
 abbrev pub rest_command : Text → Shape
 rest_command name = plan_command name rest_rules
 
+-- `--lines V` and `--leap S`: the version of the lines of a driven cell, and the longest time from one report to the next
+abbrev pub driven_rules : List Rule
+driven_rules = option_rule (codes "lines") ∷ option_rule (codes "leap") ∷ []
+
 -- a command on an instance, a plan and a log
 abbrev pub log_command : Text → Shape
 log_command name = plan_command name (file_rule (codes "LOG") ∷ [])
@@ -86,7 +90,7 @@ described Schedule = rest_command (codes "schedule")
 described Bounds = plan_command (codes "bounds") []
 described Plan = plan_command (codes "plan") (rounds_rule ∷ [])
 described Improve = plan_command (codes "improve") (rounds_rule ∷ seed_rule ∷ [])
-described Drive = plan_command (codes "drive") []
+described Drive = plan_command (codes "drive") driven_rules
 described Resume = log_command (codes "resume")
 described Hub = command (codes "hub") (plans_rule ∷ [])
 described Audit = log_command (codes "audit")

@@ -1,12 +1,12 @@
 //! The words of the command line, and what they ask for.
 
-ghost use Rattle.std.specs.Prelude.{◌≡◌, ◌≤◌, ◌++◌, [], true, false, IfOk, IfErr, IfSome, MatchOption, OnOk, codes, map, option_map};
+ghost use Rattle.std.specs.Prelude.{◌≡◌, ◌≤◌, ◌++◌, [], true, false, IfOk, IfErr, IfSome, MatchOption, OnOk, Some, codes, map, option_map};
 ghost use Rattle.std.specs.String.{string_bytes};
 ghost use Rattle.text_lines.specs.Numbers.{value_of};
 ghost use Rattle.clap.specs.Words.{first_of, found_of, kind_of, one_of, rows_of, subcommand_rows_of};
 ghost use Rattle.command_words.specs.declared.words.CommandName.{CommandName};
 ghost use Rattle.command_words.specs.CommandLine.{most_rounds, greatest_seed, latest_moment};
-ghost use Rattle.command_words.specs.Choice.{FitsUpTo, IsChoiceOf, IsFit, IsWithin, TellsOneOf, TellsReason, after_in, at_in, files_in, found_in, is_moment, misfit_in, misfit_of, reasons_in, rounds_in, seed_in, texts_of, values_of, word_of};
+ghost use Rattle.command_words.specs.Choice.{FitsUpTo, IsChoiceOf, IsFit, IsWithin, TellsOneOf, TellsReason, after_in, at_in, files_in, found_in, is_moment, is_number, leap_in, lines_in, misfit_in, misfit_of, number_misfit, reasons_in, rounds_in, seed_in, texts_of, values_of, word_of};
 
 mod command_line;
 
@@ -21,6 +21,14 @@ const LATEST: u64 = 1_000_000_000_000;
 
 /// The most digits of a moment.
 const MOST_DIGITS: usize = 13;
+
+/// Which numbers an option takes: of so many digits at most, from the least to the most.
+#[derive(Clone, Copy)]
+struct NumberForm {
+    digits: usize,
+    least: u64,
+    most: u64,
+}
 
 /// The commands of the program.
 #[derive(Clone, Copy, Debug, PartialEq, Eq)]
@@ -72,6 +80,10 @@ pub struct Chosen {
     pub after: Option<String>,
     /// The present moment of that run, if another one than the log's last is given.
     pub at: Option<u64>,
+    /// The version of the lines of a driven cell, 1 or 2, if one is given.
+    pub lines: Option<u64>,
+    /// The longest time from one report to the next, at least 1, if one is given.
+    pub leap: Option<u64>,
 }
 
 /// Why the words choose nothing.
@@ -128,7 +140,7 @@ impl From<Refusal> for WordsFault {
 /// Reads the command line, of which the first word is the program's name. `WordsFault::Memory` may come in place of
 /// any other answer. The number of files is one that the command takes, the rounds are at most 1000, the seed at most
 /// 1,000,000, and the moment, a number of 1 to 13 digits, at most 1,000,000,000,000. Exactly what `clap` refuses is
-/// refused, and a moment that isn't one, or that comes without a log.
+/// refused, a moment that isn't one, or that comes without a log, and a version of the lines or a longest time that isn't one.
 pub fn read_words(alloc: Global, words: &[&str]) -> Result<Chosen, WordsFault>
     ensures chosen { IfOk result (IsChoiceOf (found_in (map (λ word. word.now) words.now))) }
     ensures within { IfOk result IsWithin }
@@ -171,6 +183,8 @@ fn chosen_by(alloc: Global, matches: &ArgMatches<'_>) -> Result<Chosen, WordsFau
             seed: 0,
             after: None,
             at: None,
+            lines: None,
+            leap: None,
         }),
     }
 }
@@ -191,6 +205,8 @@ fn chosen_of(alloc: Global, word: &str, matches: &ArgMatches<'_>) -> Result<Chos
         seed: seed_of(matches),
         after: text_of(alloc, matches, "after")?,
         at: at_of(alloc, matches)?,
+        lines: lines_of(alloc, matches)?,
+        leap: leap_of(alloc, matches)?,
     })
 }
 
@@ -331,6 +347,105 @@ fn no_moment(alloc: Global, word: &str) -> WordsFault
         "' for '--at <N>': a moment has 1 to 13 digits, and is at most 1000000000000",
     ];
     misfit(alloc, ErrorKind::ValueValidation, parts.as_slice())
+}
+
+/// The version of the lines, if it is given.
+fn lines_of(alloc: Global, matches: &ArgMatches<'_>) -> Result<Option<u64>, WordsFault>
+    ensures exact { IfOk result (λ version. version ≡ lines_in (rows_of (found_of matches.now))) }
+    ensures fits { IfOk result (λ _. number_misfit 1 1 2 (first_of (codes "lines") (rows_of (found_of matches.now))) ≡ []) }
+    ensures refused { IfErr result (TellsOneOf (number_misfit 1 1 2 (first_of (codes "lines") (rows_of (found_of matches.now))))) }
+{
+    let form = NumberForm {
+        digits: 1,
+        least: 1,
+        most: 2,
+    };
+    let wanted = "' for '--lines <V>': the versions are 1 and 2";
+    number_given(alloc, matches, "lines", form, wanted)
+}
+
+/// The longest time from one report to the next, if it is given.
+fn leap_of(alloc: Global, matches: &ArgMatches<'_>) -> Result<Option<u64>, WordsFault>
+    ensures exact { IfOk result (λ longest. longest ≡ leap_in (rows_of (found_of matches.now))) }
+    ensures early { IfOk result (λ longest. IfSome longest (λ n. n ≤ latest_moment)) }
+    ensures fits { IfOk result (λ _. number_misfit 13 1 latest_moment (first_of (codes "leap") (rows_of (found_of matches.now))) ≡ []) }
+    ensures refused { IfErr result (TellsOneOf (number_misfit 13 1 latest_moment (first_of (codes "leap") (rows_of (found_of matches.now))))) }
+{
+    let form = NumberForm {
+        digits: MOST_DIGITS,
+        least: 1,
+        most: LATEST,
+    };
+    let wanted = "' for '--leap <S>': it has 1 to 13 digits, and is from 1 to 1000000000000";
+    number_given(alloc, matches, "leap", form, wanted)
+}
+
+/// The number that is given with an option, if it is. It has to be one of this form.
+fn number_given(
+    alloc: Global,
+    matches: &ArgMatches<'_>,
+    name: &str,
+    form: NumberForm,
+    wanted: &str,
+) -> Result<Option<u64>, WordsFault>
+    requires { form.digits ≤ 18 }
+    ensures exact { IfOk result (λ number. number ≡ option_map value_of (first_of name.now (rows_of (found_of matches.now)))) }
+    ensures small { IfOk result (λ number. IfSome number (λ n. n ≤ form.most)) }
+    ensures fits { IfOk result (λ _. number_misfit form.digits form.least form.most (first_of name.now (rows_of (found_of matches.now))) ≡ []) }
+    ensures refused { IfErr result (TellsOneOf (number_misfit form.digits form.least form.most (first_of name.now (rows_of (found_of matches.now))))) }
+{
+    match matches.get_str(name) {
+        Some(word) => number_told(alloc, word, form, wanted),
+        None => Ok(None),
+    }
+}
+
+/// The number that the word is. It has to be one of this form.
+fn number_told(
+    alloc: Global,
+    word: &str,
+    form: NumberForm,
+    wanted: &str,
+) -> Result<Option<u64>, WordsFault>
+    requires { form.digits ≤ 18 }
+    ensures exact { IfOk result (λ number. number ≡ Some (value_of word.now)) }
+    ensures small { IfOk result (λ number. IfSome number (λ n. n ≤ form.most)) }
+    ensures fits { IfOk result (λ _. number_misfit form.digits form.least form.most (Some word.now) ≡ []) }
+    ensures refused { IfErr result (TellsOneOf (number_misfit form.digits form.least form.most (Some word.now))) }
+{
+    match number_in_form(word, form) {
+        Some(number) => Ok(Some(number)),
+        None => Err(no_number(alloc, word, wanted)),
+    }
+}
+
+/// The number of this form that the word is.
+fn number_in_form(word: &str, form: NumberForm) -> Option<u64>
+    requires { form.digits ≤ 18 }
+    ensures { MatchOption result (is_number form.digits form.least form.most word.now ≡ false)
+        (λ n. (is_number form.digits form.least form.most word.now ≡ true) × (n ≡ value_of word.now) × (n ≤ form.most)) }
+{
+    let Some(number) = number_of(word.as_bytes(), form.digits) else {
+        return None;
+    };
+    if number < form.least {
+        return None;
+    }
+    if number > form.most {
+        return None;
+    }
+    Some(number)
+}
+
+/// The fault of a word that isn't such a number.
+fn no_number(alloc: Global, word: &str, wanted: &str) -> WordsFault
+    ensures { TellsReason ErrorKind.ValueValidation result }
+{
+    misfit(
+        alloc,
+        ErrorKind::ValueValidation,
+        ["invalid value '", word, wanted].as_slice(),
+    )
 }
 
 /// The fault of a moment that doesn't fit, with what is said of it.

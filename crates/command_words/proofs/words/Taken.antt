@@ -16,7 +16,7 @@ use Rattle.clap.specs.declared.builder.action.ArgAction.TheVariants.{Set, Help}
 use Rattle.clap.specs.declared.builder.value_parser.ValueParser.{ValueParser}
 use Rattle.clap.specs.declared.builder.value_parser.ValueParser.TheVariants.{Signed}
 use Rattle.clap.proofs.ValueTestLemmas.{accepts-Accepts}
-use Rattle.command_words.specs.CommandLine.{command, command_line, log_command, plan_command, rest_command, most_rounds, greatest_seed, plans_rule, rounds_rule, seed_rule}
+use Rattle.command_words.specs.CommandLine.{command, command_line, driven_rules, log_command, plan_command, rest_command, most_rounds, greatest_seed, plans_rule, rounds_rule, seed_rule}
 use Rattle.command_words.specs.Choice.{FitsUpTo, Found, IsFit, TakesFiles, TellsOneOf, TellsReason, files_in, found_in, parse_reasons_in, values_of, word_of}
 use Rattle.command_words.specs.declared.words.CommandName.{CommandName}
 use Rattle.command_words.specs.declared.words.CommandName.TheVariants.{Facts, Shape as ShapeName, Check, Explain, Schedule, Bounds, Plan, Improve, Drive, Resume, Hub, Audit, Gantt}
@@ -163,6 +163,25 @@ rest_fits name named is counts = fits_leaf (as_built (rest_command name)) named 
 )
     (_, refl, refl, refl, refl, refl) (_, refl, refl, refl, refl, refl) refl tt tt counts
 
+drive_fits : FitsLeaf (as_built (plan_command (codes "drive") driven_rules))
+drive_fits = fits_leaf (as_built (plan_command (codes "drive") driven_rules)) Drive one one none refl refl refl (
+  set_plain _ _ refl refl refl refl,
+  (
+    set_plain _ _ refl refl refl refl,
+    (
+      set_plain _ _ refl refl refl refl,
+      (
+        set_plain _ _ refl refl refl refl,
+        (
+          set_plain _ _ refl refl refl refl,
+          (help_plain _ _ refl refl refl refl, tt),
+        ),
+      ),
+    ),
+  ),
+)
+    (_, refl, refl, refl, refl, refl) (_, refl, refl, refl, refl, refl) refl tt tt (λ x y z p q r. omega arith)
+
 log_fits : (name : Text) (named : CommandName) → word_of named ≡ Some name → ((x y z : ℕ) → x ≡ 1 → y ≡ 1 → z ≡ 1 → TakesFiles named ((x + y) + z))
     → FitsLeaf (as_built (log_command name))
 log_fits name named is counts = fits_leaf (as_built (log_command name)) named one one one is refl refl (
@@ -269,7 +288,7 @@ leaves = (
               (
                 improvement_fits,
                 (
-                  plan_fits (codes "drive") Drive refl (λ x y z p q r. omega arith),
+                  drive_fits,
                   (
                     log_fits (codes "resume") Resume refl (λ x y z p q r. omega arith),
                     (

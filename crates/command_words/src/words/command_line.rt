@@ -88,6 +88,24 @@ fn at<'a>(alloc: Global) -> Arg<'a>
     option(alloc, "at", "N", help)
 }
 
+/// The version of the lines of a driven cell.
+fn lines<'a>(alloc: Global) -> Arg<'a>
+    ensures rule { rule_of result ≡ option_rule (codes "lines") }
+    ensures local { result.global ≡ false }
+{
+    let help = "The version of the lines, 1 or 2";
+    option(alloc, "lines", "V", help)
+}
+
+/// The longest time from one report to the next.
+fn leap<'a>(alloc: Global) -> Arg<'a>
+    ensures rule { rule_of result ≡ option_rule (codes "leap") }
+    ensures local { result.global ≡ false }
+{
+    let help = "Refuse a report more than S after the last one";
+    option(alloc, "leap", "S", help)
+}
+
 /// A command on an instance.
 fn on_instance<'a>(alloc: Global, name: &'a str, about: &'a str) -> Result<Command<'a>, AllocError>
     ensures { IfOk result (Describes (leaf (command name.entry.now []))) }
@@ -149,6 +167,15 @@ fn hub<'a>(alloc: Global) -> Result<Command<'a>, AllocError>
     on_instance(alloc, "hub", about)?.arg(plans(alloc))
 }
 
+/// One driven cell.
+fn driven<'a>(alloc: Global) -> Result<Command<'a>, AllocError>
+    ensures { IfOk result (Describes (leaf (described CommandName.Drive))) }
+{
+    let about = "Drives a cell by a plan: reports come in, move orders go out";
+    let plan = on_plan(alloc, "drive", about)?.arg(lines(alloc))?;
+    plan.arg(leap(alloc))
+}
+
 /// The program before it has a command.
 fn bare<'a>(alloc: Global) -> Command<'a>
     ensures { Describes (leaf bare_program) result }
@@ -196,11 +223,7 @@ fn command_of<'a>(alloc: Global, name: CommandName) -> Result<Command<'a>, Alloc
         ),
         CommandName::Plan => search(alloc),
         CommandName::Improve => improvement(alloc),
-        CommandName::Drive => on_plan(
-            alloc,
-            "drive",
-            "Drives a cell by a plan: reports come in, move orders go out",
-        ),
+        CommandName::Drive => driven(alloc),
         CommandName::Resume => on_log(
             alloc,
             "resume",

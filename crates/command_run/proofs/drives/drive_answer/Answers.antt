@@ -15,9 +15,9 @@ pub returns-in-Ok : goal.returns-in-Ok
 returns-in-Ok g c = record {
   loaded = Ok c.in_ok-load_files.field-0;
   loads = rw (← c.in_ok-load_files.was) c.load_files.ensures;
-  drives = drives_accepted c.in_ok-load_files.field-0 c.in-Ok.verified c.args.streams.now _ c.end_answer.result (sym c.accepted.ensures ∙ c.in-Ok.is) (rw (← c.streams.view_is) (record {
-    end = c.drive-end.result;
-    is = c.drive-end.ensures.driven;
+  drives = drives_accepted c.args.manner c.in_ok-load_files.field-0 c.in-Ok.verified c.args.streams.now _ c.end_answer.result (sym c.accepted.ensures ∙ c.in-Ok.is) (rw (← c.streams.view_is) (record {
+    end = c.drive_in-end.result;
+    is = c.drive_in-end.ensures;
     answer = c.end_answer.ensures;
   }));
 }
@@ -26,7 +26,7 @@ pub returns-in_err-loaded_answer-in-Err : goal.returns-in_err-loaded_answer-in-E
 returns-in_err-loaded_answer-in-Err g c = record {
   loaded = Ok c.in_ok-load_files.field-0;
   loads = rw (← c.in_ok-load_files.was) c.load_files.ensures;
-  drives = drives_told c.in_ok-load_files.field-0 c.in-Err.other _ _ c.from_residual-in_err-loaded_answer-in-Err.result (sym c.accepted.ensures ∙ c.in-Err.is)
+  drives = drives_told c.args.manner c.in_ok-load_files.field-0 c.in-Err.other _ _ c.from_residual-in_err-loaded_answer-in-Err.result (sym c.accepted.ensures ∙ c.in-Err.is)
       (memory_told (IsLineOf c.in-Err.other) _ c.from_residual-in_err-loaded_answer-in-Err.ensures.1) refl;
 }
 
@@ -34,5 +34,5 @@ pub returns-in_ok-loaded_answer-in-Err : goal.returns-in_ok-loaded_answer-in-Err
 returns-in_ok-loaded_answer-in-Err g c = record {
   loaded = Ok c.in_ok-load_files.field-0;
   loads = rw (← c.in_ok-load_files.was) c.load_files.ensures;
-  drives = drives_told c.in_ok-load_files.field-0 c.in-Err.other _ _ (Ok c.in_ok-loaded_answer-in-Err.field-0) (sym c.accepted.ensures ∙ c.in-Err.is) c.in_ok-loaded_answer-in-Err.ensures refl;
+  drives = drives_told c.args.manner c.in_ok-load_files.field-0 c.in-Err.other _ _ (Ok c.in_ok-loaded_answer-in-Err.field-0) (sym c.accepted.ensures ∙ c.in-Err.is) c.in_ok-loaded_answer-in-Err.ensures refl;
 }

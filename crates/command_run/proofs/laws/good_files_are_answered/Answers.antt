@@ -41,7 +41,7 @@ pub returns-clause-improve : goal.returns-clause-improve
 returns-clause-improve c = λ rounds content pair p outcome asked good run. good_improvement content pair p good rounds outcome asked run
 
 pub returns-clause-drive : goal.returns-clause-drive
-returns-clause-drive c = λ before after content pair p outcome asked good shaped acceptable run. good_drive content pair p good before after outcome asked shaped acceptable run
+returns-clause-drive c = λ manner before after content pair p outcome asked good shaped acceptable run. good_drive content pair p good manner before after outcome asked shaped acceptable run
 
 pub returns-clause-resume : goal.returns-clause-resume
 returns-clause-resume c = λ before after content pair log text p outcome asked good shaped acceptable is run. good_resume content pair p good before after log text outcome asked shaped acceptable is run

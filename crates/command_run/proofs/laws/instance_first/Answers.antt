@@ -32,7 +32,7 @@ pub returns-clause-improve : goal.returns-clause-improve
 returns-clause-improve c = λ rounds content pair text fault outcome asked is first run. improve_first content pair text fault is first rounds outcome asked run
 
 pub returns-clause-drive : goal.returns-clause-drive
-returns-clause-drive c = λ before after content pair text fault outcome asked is first run. drive_first content pair text fault is first before after outcome asked run
+returns-clause-drive c = λ manner before after content pair text fault outcome asked is first run. drive_first content pair text fault is first manner before after outcome asked run
 
 pub returns-clause-resume : goal.returns-clause-resume
 returns-clause-resume c = λ log before after content pair text fault outcome asked is first run. resume_first content pair text fault is first log before after outcome asked run

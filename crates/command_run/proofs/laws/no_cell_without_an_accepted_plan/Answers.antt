@@ -3,7 +3,7 @@ use Rattle.command_run.proofs.GoodHubs.{no_hub}
 use Rattle.command_run.proofs.laws.no_cell_without_an_accepted_plan.Goals as goal
 
 pub returns-clause-drive : goal.returns-clause-drive
-returns-clause-drive c = λ before after content pair p outcome asked good never run. no_drive content pair p good before after outcome asked never run
+returns-clause-drive c = λ manner before after content pair p outcome asked good never run. no_drive content pair p good manner before after outcome asked never run
 
 pub returns-clause-resume : goal.returns-clause-resume
 returns-clause-resume c = λ log before after content pair p outcome asked good never run. no_resume content pair p good log before after outcome asked never run
