@@ -4,5 +4,6 @@ pub mod SearchLines
 pub mod ImproveLines
 pub mod LogAnswers
 pub mod RestAnswers
+pub mod ImproveRestLines
 pub mod CellPlans
 pub mod BoundTexts

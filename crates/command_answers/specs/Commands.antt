@@ -24,6 +24,8 @@ use Rattle.command_answers.specs.declared.logs.Telling.{Telling}
 use Rattle.command_answers.specs.LogLines.{IsLogLine}
 use Rattle.command_answers.specs.declared.rests.PlanTelling.{PlanTelling}
 use Rattle.command_answers.specs.Rests.{IsRestLine}
+use Rattle.command_answers.specs.ImprovingRests.{RestAsked, IsRestAnswer}
+use Rattle.text_lines.specs.Lines.{ended_lines}
 
 -- the file of an instance, the instance's name where that is a collection, and the file of a plan for it
 pub record PairOfFiles : Type 0 where
@@ -101,3 +103,12 @@ module _ {W : Type 0} (gives : W → List ℕ → Result (List ℕ) CommandFault
   -- `check`, `explain` and `schedule` of the rest of a run: both are read, and then its log
   abbrev pub RunsRest : PlanTelling → Option ℕ → PairOfFiles → List ℕ → W → Result Answer CommandFault → W → Type 0
   RunsRest telling at pair log = WithBoth pair (WithLog (IsRestLine telling at) log)
+
+  -- `improve` of the rest of a run: both are read, then its log where the plan is well shaped, and what the search from this plan comes to is answered, or from the serial plan where it has no orders at all
+  abbrev pub WithRest : RestAsked → Option ℕ → ℕ → List ℕ → PlannedShop → W → Result Answer CommandFault → W → Type 0
+  WithRest made at rounds path p before outcome after =
+      (IsWellShaped p × Then (Asks gives path) (λ log. Told (IsRestAnswer made at rounds (ended_lines log) p)) before outcome after)
+      ⊎ Told (IsOrMemory (IsNotShapedLine p)) before outcome after
+
+  abbrev pub RunsImproveRest : RestAsked → Option ℕ → ℕ → PairOfFiles → List ℕ → W → Result Answer CommandFault → W → Type 0
+  RunsImproveRest made at rounds pair log = WithBoth pair (λ p. WithRest made at rounds log (ordered p))

@@ -18,5 +18,6 @@ pub mod Search
 pub mod Improving
 pub mod LogLines
 pub mod Rests
+pub mod ImprovingRests
 pub mod Commands
 pub mod Cells

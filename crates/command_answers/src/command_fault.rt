@@ -5,6 +5,7 @@ ghost use Rattle.command_answers.specs.Instances.{instance_command_fault};
 ghost use Rattle.command_answers.specs.Plans.{plan_command_fault};
 ghost use Rattle.command_answers.specs.Search.{search_command_fault};
 ghost use Rattle.command_answers.specs.Improving.{improve_command_fault};
+ghost use Rattle.command_answers.specs.ImprovingRests.{rest_command_fault};
 ghost use Rattle.command_answers.specs.LogLines.{audit_command_fault};
 ghost use Rattle.command_answers.specs.Statuses.{status_of};
 
@@ -12,6 +13,7 @@ use orlib_read::OrFault;
 use plan_improve::ImproveFault;
 use plan_seek::SeekFault;
 use plan_text::PlanFault;
+use rest_improve::RestFault;
 use run_log::AuditFault;
 use std::alloc::AllocError;
 use std::io::{self, ErrorKind};
@@ -103,6 +105,17 @@ impl From<ImproveFault> for Unanswered {
         match told {
             ImproveFault::Memory => Unanswered(Some(CommandFault::Memory)),
             ImproveFault::TooManyRounds => Unanswered(None),
+        }
+    }
+}
+
+impl From<RestFault> for Unanswered {
+    ghost from_gives = { λ told unanswered. unanswered.0 ≡ rest_command_fault told };
+
+    fn from(told: RestFault) -> Unanswered {
+        match told {
+            RestFault::Memory => Unanswered(Some(CommandFault::Memory)),
+            _ => Unanswered(None),
         }
     }
 }

@@ -54,7 +54,7 @@ fn better_answer<W: Watch>(
 }
 
 /// The plan itself or, where it has no orders at all, the serial plan with its numbers.
-fn with_orders(alloc: Global, both: Both) -> Outcome<Both>
+pub(crate) fn with_orders(alloc: Global, both: Both) -> Outcome<Both>
     ensures { IsOrMemory (λ with. with ≡ ordered both) result }
 {
     let read = &both;

@@ -1,0 +1,141 @@
+-- The answers of the command `improve` of the rest of a run.
+use Rattle.std.proofs.Common.{◌≡◌, ◌⊎◌, ◌<◌, ◌≤◌, ℕ, List, Option, Some, None, Result, Ok, Err, refl, sym, inl, inr, arith, subst}
+use Rattle.shop_base.specs.Plan.{PlannedShop}
+use Rattle.shop_base.specs.Cell.{Cell}
+use Rattle.shop_base.specs.Run.{ends_in}
+use Rattle.cell_tables.specs.Events.{events_of}
+use Rattle.shop_base.specs.declared.limits.TheConstants.{MAX_MOMENT}
+use Rattle.std.specs.Prelude.{IfSome}
+use Rattle.alt_graph.specs.Evidence.{IsCycle}
+use Rattle.alt_graph.specs.Solved.{HasCycle}
+use Rattle.alt_graph.proofs.WholePlans.{cycle_has}
+use Rattle.run_log.specs.Audits.{TellRun, IsFirstBad, IsAuditFault}
+use Rattle.run_log.specs.declared.audit_fault.AuditFault.{AuditFault}
+use Rattle.run_log.specs.declared.audit_fault.AuditFault.TheVariants.{BadLine, NotExpected, Backwards, NotReady, Occupied, NotClean, OutOfOrder, WrongPlace, Memory as LogMemory}
+use Rattle.plan_seek.specs.declared.search.TheConstants.{MAX_ROUNDS}
+use Rattle.plan_improve.specs.Reordered.{IsReordered}
+use Rattle.rest_times.specs.declared.rest_verdict.RestVerdict.{RestVerdict}
+use Rattle.rest_times.specs.declared.rest_verdict.RestVerdict.TheVariants.{Accepted, Cycle, Late}
+use Rattle.rest_times.specs.RestVerdicts.{IsAcceptableAhead, IsRestAccepted}
+use Rattle.rest_improve.specs.declared.rest_fault.RestFault.{RestFault}
+use Rattle.rest_improve.specs.declared.rest_fault.RestFault.TheVariants.{TooManyRounds, Log, Past, MomentTooLarge, Memory as WantOfMemory}
+use Rattle.rest_improve.specs.Costs.{IsCellOf}
+use Rattle.rest_improve.specs.Faults.{IsRestFault, IsMomentFault}
+use Rattle.rest_improve.specs.Improved.{HasNoBegin, IsFound, IsNeverWorse, IsVerdictOn, present_of}
+use Rattle.command_answers.specs.declared.answer.Answer.{Answer}
+use Rattle.command_answers.specs.declared.command_fault.CommandFault.{CommandFault}
+use Rattle.command_answers.specs.declared.command_fault.CommandFault.TheVariants.{Instance, Plan, Read, Write, InputTooLong, Memory}
+use Rattle.command_answers.specs.Documents.{IsDocumentAnswer}
+use Rattle.command_answers.specs.LogLines.{IsLogRefused}
+use Rattle.command_answers.specs.Rests.{IsPastLine}
+use Rattle.command_answers.proofs.LogAnswers.{refused_log}
+use Rattle.command_answers.specs.Steps.{IsOrMemory}
+use Rattle.command_answers.specs.ImprovingRests.{RestAsked, IsBestRest, IsRestStatus, IsRestAnswer, IsJudgedAnswer, IsUnfoundAnswer}
+
+-- the cell of lines that tell a run
+cell_there : (lines : List (List ℕ)) (start : PlannedShop) → TellRun start lines → (c : Cell) × IsCellOf lines start c
+cell_there lines start run = (ends_in start (events_of run.0), record { told = run.0; tells = run.1; run = record { run = run.2; cell = refl } })
+
+-- a first bad line is a fault of the audit
+audit_of : (p : PlannedShop) (lines : List (List ℕ)) (fault : AuditFault) → IsFirstBad p lines fault → IsAuditFault p lines fault
+audit_of p lines LogMemory is = tt
+audit_of p lines (BadLine n) is = is
+audit_of p lines (NotExpected n) is = is
+audit_of p lines (Backwards n) is = is
+audit_of p lines (NotReady n) is = is
+audit_of p lines (Occupied n) is = is
+audit_of p lines (NotClean n) is = is
+audit_of p lines (OutOfOrder n) is = is
+audit_of p lines (WrongPlace n) is = is
+
+-- a moment that is past is one that is given
+past_given : (at : Option ℕ) (last moment : ℕ) → IsMomentFault at last (Past moment) → (present_of at last < last) × (moment ≡ last)
+past_given None last moment is = absurd is
+past_given (Some n) last moment is = is
+
+-- a moment within the limit isn't too large
+never_large : (at : Option ℕ) (last : ℕ) → IfSome at (λ n. n ≤ MAX_MOMENT) → IsMomentFault at last MomentTooLarge → ⊥
+never_large None last early is = is
+never_large (Some n) last early is = omega (arith, is.1, early)
+
+module _ (made : RestAsked) (at : Option ℕ) (rounds : ℕ) (lines : List (List ℕ)) (start : PlannedShop) where
+  -- the text of a plan whose rest was judged
+  text_is : (c : Cell) (best : PlannedShop) (status : ℕ) (outcome : Result Answer CommandFault) → rounds ≤ MAX_ROUNDS → IsCellOf lines start c
+      → IsBestRest made lines (present_of at c.last) c start best → IsRestStatus best c (present_of at c.last) status → IsDocumentAnswer best.plan status outcome
+      → IsRestAnswer made at rounds lines start outcome
+  text_is c best status (Ok answer) few here is says text = inl (record {
+    few_rounds = few;
+    cell = c;
+    run = here;
+    best = best;
+    is = is;
+    text = record { line = text.line; read_back = text.read_back; ends = refl };
+    status = rw text.ends says;
+  })
+  text_is c best status (Err (Instance fault)) few here is says text = text
+  text_is c best status (Err Read) few here is says text = text
+  text_is c best status (Err Write) few here is says text = text
+  text_is c best status (Err InputTooLong) few here is says text = text
+  text_is c best status (Err (Plan fault)) few here is says text = (text.0, record { cell = c; run = here; best = best; is = is; unreadable = text.1 })
+  text_is c best status (Err Memory) few here is says text = tt
+
+  module _ (best : PlannedShop) (few : rounds ≤ MAX_ROUNDS) (same : IsReordered start best) (begun : TellRun start lines) (kept : TellRun best lines)
+      (acyclic : (HasCycle best → ⊥) ⊎ HasNoBegin lines start) (stays : HasNoBegin lines start → best ≡ start)
+      (never_worse : (c : Cell) → IsCellOf lines start c → IsNeverWorse lines (present_of at c.last) start best)
+      (found : (c : Cell) → IsCellOf lines start c → HasNoBegin lines start ⊎ IsFound (made lines (present_of at c.last)) lines start best) where
+    -- a plan without a cycle is the best one
+    best_is : (c : Cell) → IsCellOf lines start c → (HasCycle best → ⊥) → (IsAcceptableAhead start c (present_of at c.last) → IsAcceptableAhead best c (present_of at c.last))
+        → IsBestRest made lines (present_of at c.last) c start best
+    best_is c here none accepted = record {
+      same = same;
+      kept = kept;
+      acyclic = none;
+      never_worse = never_worse c here;
+      found = elim (found c here) [
+        | inl no_begin ↦ absurd (none (subst HasCycle (sym (stays no_begin)) no_begin.0))
+        | inr is ↦ is
+      ];
+      stays_accepted = accepted;
+    }
+
+    pub judged_is : (verdict : RestVerdict) (outcome : Result Answer CommandFault) → ((c : Cell) → IsCellOf lines start c → IsVerdictOn best c (present_of at c.last) verdict)
+        → ((c : Cell) → IsCellOf lines start c → IsAcceptableAhead start c (present_of at c.last) → IsRestAccepted verdict)
+        → IsJudgedAnswer best verdict outcome → IsRestAnswer made at rounds lines start outcome
+    judged_is (Accepted times) outcome judged accepted text =
+        let (c, here) = cell_there lines start begun in
+        let v = judged c here in
+        text_is c best 0 outcome few here (best_is c here v.accepted.1.acyclic (λ _. v.accepted.1)) (inl (v.accepted.1, refl)) text
+    judged_is (Late job leaves chain times) outcome judged accepted text =
+        let (c, here) = cell_there lines start begun in
+        let v = judged c here in
+        text_is c best 1 outcome few here (best_is c here v.refused.0.acyclic (λ is. v.exact.0 (accepted c here is))) (inr ((λ is. v.exact.1 is), refl)) text
+    judged_is (Cycle nodes) (Ok answer) judged accepted line =
+        let (c, here) = cell_there lines start begun in
+        let cycle : IsCycle best nodes.items = (judged c here).refused in
+        let none : HasNoBegin lines start = elim acyclic [ inl free ↦ absurd (free (cycle_has best nodes.items cycle)) | inr is ↦ is ] in
+        inr (inl (record { none = none; nodes = nodes.items; cycle = subst (λ (x : PlannedShop). IsCycle x nodes.items) (stays none) cycle; line = line }))
+    judged_is (Cycle nodes) (Err fault) judged accepted line = subst (λ (x : CommandFault). IsRestAnswer made at rounds lines start (Err x)) (sym line) tt
+
+  -- a line, or that memory ran out
+  line_is : (IsLine : Answer → Type 0) (outcome : Result Answer CommandFault) → ((answer : Answer) → IsLine answer → IsRestAnswer made at rounds lines start (Ok answer))
+      → IsOrMemory IsLine outcome → IsRestAnswer made at rounds lines start outcome
+  line_is IsLine (Ok answer) each line = each answer line
+  line_is IsLine (Err fault) each line = subst (λ (x : CommandFault). IsRestAnswer made at rounds lines start (Err x)) (sym line) tt
+
+  -- what is told where no plan is given
+  pub unfound_is : (fault : RestFault) (outcome : Result Answer CommandFault) → IfSome at (λ n. n ≤ MAX_MOMENT) → IsRestFault lines at rounds start fault → IsUnfoundAnswer fault outcome
+      → IsRestAnswer made at rounds lines start outcome
+  unfound_is TooManyRounds outcome early why told =
+      line_is _ outcome (λ answer line. inr (inr (inr (inr (record { many_rounds = why; line = line.0; refused = line.1 }))))) told
+  unfound_is (Log fault) outcome early why told =
+      line_is (IsLogRefused start lines) outcome (λ answer line. inr (inr (inl line))) (refused_log start lines (IsLogRefused start lines) (λ answer line. line) fault outcome (audit_of start lines fault why.1) told)
+  unfound_is (Past last) outcome early why told =
+      let before = past_given at why.1.0.last last why.1.2 in
+      line_is _ outcome (λ answer line. inr (inr (inr (inl (record { cell = why.1.0; run = why.1.1; before = before.0; line = subst (λ n. IsPastLine n answer) before.1 line }))))) told
+  unfound_is MomentTooLarge outcome early why told = absurd (never_large at why.1.0.last early why.1.2)
+  unfound_is WantOfMemory outcome early why told = subst (IsRestAnswer made at rounds lines start) (sym told) tt
+
+  pub not_large : (fault : RestFault) → IfSome at (λ n. n ≤ MAX_MOMENT) → IsRestFault lines at rounds start fault → fault ≡ MomentTooLarge → ⊥
+  not_large fault early why is =
+      let large : IsRestFault lines at rounds start MomentTooLarge = subst (IsRestFault lines at rounds start) is why in
+      never_large at large.1.0.last early large.1.2

@@ -1,0 +1,117 @@
+-- The answers of the command `improve` of the rest of a run.
+use Rattle.std.specs.Prelude.{◌≡◌, ◌<◌, ◌≤◌, ◌⊎◌, ℕ, List, Option, Some, None, Result, Ok, Err, codes}
+use Rattle.shop_base.specs.declared.node.Node.{Node}
+use Rattle.shop_base.specs.Plan.{PlannedShop}
+use Rattle.shop_base.specs.Cell.{Cell}
+use Rattle.alt_graph.specs.Evidence.{IsCycle}
+use Rattle.alt_graph.specs.Solved.{HasCycle}
+use Rattle.run_log.specs.Audits.{TellRun}
+use Rattle.plan_text.specs.declared.plan_fault.PlanFault.TheVariants.{NotReadBack}
+use Rattle.plan_text.specs.Lines.{plan_lines}
+use Rattle.plan_text.specs.Documents.{IsPlanText}
+use Rattle.plan_explain.specs.FirstLines.{cycle_line}
+use Rattle.plan_seek.specs.Orders.{Proposal}
+use Rattle.plan_seek.specs.declared.search.TheConstants.{MAX_ROUNDS}
+use Rattle.plan_improve.specs.Reordered.{IsReordered}
+use Rattle.plan_improve.specs.Runs.{Asked}
+use Rattle.rest_times.specs.declared.rest_verdict.RestVerdict.{RestVerdict}
+use Rattle.rest_times.specs.declared.rest_verdict.RestVerdict.TheVariants.{Accepted, Cycle, Late}
+use Rattle.rest_times.specs.RestVerdicts.{IsAcceptableAhead}
+use Rattle.rest_improve.specs.declared.rest_fault.RestFault.{RestFault}
+use Rattle.rest_improve.specs.declared.rest_fault.RestFault.TheVariants.{TooManyRounds, Log, Past, MomentTooLarge, Memory as WantOfMemory}
+use Rattle.rest_improve.specs.Costs.{IsCellOf}
+use Rattle.rest_improve.specs.Runs.{Rounds}
+use Rattle.rest_improve.specs.Improved.{HasNoBegin, IsFound, IsNeverWorse, present_of}
+use Rattle.command_answers.specs.declared.answer.Answer.{Answer}
+use Rattle.command_answers.specs.declared.command_fault.CommandFault.{CommandFault}
+use Rattle.command_answers.specs.declared.command_fault.CommandFault.TheVariants.{Plan, Memory}
+use Rattle.command_answers.specs.Documents.{IsDocumentOf, IsDocumentAnswer}
+use Rattle.command_answers.specs.Improving.{IsTooManyLine}
+use Rattle.command_answers.specs.LogLines.{IsFaultTold, IsLogRefused}
+use Rattle.command_answers.specs.Rests.{IsPastLine}
+use Rattle.command_answers.specs.Steps.{IsOrMemory}
+
+-- what plans a search makes of one, for the rest of the run that these lines tell, from a present moment on
+abbrev pub RestAsked : Type 1
+RestAsked = List (List ℕ) → ℕ → Asked
+
+-- what so many rounds of questions to these improvers make of a plan
+abbrev pub RestRoundsOf : {B : Type 0} → ℕ → (B → PlannedShop → ℕ → Proposal → Type 0) → List B → RestAsked
+RestRoundsOf rounds may improvers lines t = Rounds lines t may improvers rounds
+
+-- the best plan that is met for the rest: only the orders may differ, the log tells a run of it, no cycle, never worse for the rest than the one with which the search begins, exactly what the questions make of that, and its rest is accepted if the start's is
+pub record IsBestRest (made : RestAsked) (lines : List (List ℕ)) (t : ℕ) (c : Cell) (start best : PlannedShop) : Type 0 where
+  pub same : IsReordered start best
+  pub kept : TellRun best lines
+  pub acyclic : HasCycle best → ⊥
+  pub never_worse : IsNeverWorse lines t start best
+  pub found : IsFound (made lines t) lines start best
+  pub stays_accepted : IsAcceptableAhead start c t → IsAcceptableAhead best c t
+
+-- the status tells an accepted rest from one of which a job is late
+abbrev pub IsRestStatus : PlannedShop → Cell → ℕ → ℕ → Type 0
+IsRestStatus best c t status = (IsAcceptableAhead best c t × (status ≡ 0)) ⊎ ((IsAcceptableAhead best c t → ⊥) × (status ≡ 1))
+
+module _ (made : RestAsked) (at : Option ℕ) (rounds : ℕ) (lines : List (List ℕ)) (start : PlannedShop) where
+  -- the text of the best plan for the rest from the cell of the log, after at most as many rounds as may be asked for
+  pub record IsBestRestText (answer : Answer) : Type 0 where
+    pub few_rounds : rounds ≤ MAX_ROUNDS
+    pub cell : Cell
+    pub run : IsCellOf lines start cell
+    pub best : PlannedShop
+    pub is : IsBestRest made lines (present_of at cell.last) cell start best
+    pub text : IsDocumentOf best.plan answer.status answer
+    pub status : IsRestStatus best cell (present_of at cell.last) answer.status
+
+  -- the best plan has a text that isn't read as this plan
+  pub record IsBestRestUnreadable : Type 0 where
+    pub cell : Cell
+    pub run : IsCellOf lines start cell
+    pub best : PlannedShop
+    pub is : IsBestRest made lines (present_of at cell.last) cell start best
+    pub unreadable : IsPlanText (plan_lines best.plan) best.plan → ⊥
+
+-- `refused cycle n0 n1 ..`
+abbrev pub IsCycleLine : List Node → Answer → Type 0
+IsCycleLine nodes answer = (answer.text.items ≡ cycle_line nodes) × (answer.status ≡ 1)
+
+-- the line of a plan with a cycle, where the lines tell an event
+pub record IsRestCycle (lines : List (List ℕ)) (start : PlannedShop) (answer : Answer) : Type 0 where
+  pub none : HasNoBegin lines start
+  pub nodes : List Node
+  pub cycle : IsCycle start nodes
+  pub line : IsCycleLine nodes answer
+
+-- the line of a present moment that is given and is before the last one
+pub record IsRestPast (at : Option ℕ) (lines : List (List ℕ)) (start : PlannedShop) (answer : Answer) : Type 0 where
+  pub cell : Cell
+  pub run : IsCellOf lines start cell
+  pub before : present_of at cell.last < cell.last
+  pub line : IsPastLine cell.last answer
+
+-- what is answered of a plan that is well shaped: the text of the best plan; or a line, of a cycle, of the log's first fault, of a moment that is past, or of too many rounds; that the text isn't read as that plan; or that memory ran out
+abbrev pub IsRestAnswer : RestAsked → Option ℕ → ℕ → List (List ℕ) → PlannedShop → Result Answer CommandFault → Type 0
+IsRestAnswer made at rounds lines start (Ok answer) =
+    IsBestRestText made at rounds lines start answer ⊎ (IsRestCycle lines start answer ⊎ (IsLogRefused start lines answer ⊎ (IsRestPast at lines start answer ⊎ IsTooManyLine rounds answer)))
+IsRestAnswer made at rounds lines start (Err Memory) = Unit {0}
+IsRestAnswer made at rounds lines start (Err (Plan fault)) = (fault ≡ NotReadBack) × IsBestRestUnreadable made at rounds lines start
+IsRestAnswer made at rounds lines start (Err other) = ⊥
+
+-- what is answered of a plan with the verdict on its rest: its text, or the line of a cycle
+abbrev pub IsJudgedAnswer : PlannedShop → RestVerdict → Result Answer CommandFault → Type 0
+IsJudgedAnswer best (Accepted times) outcome = IsDocumentAnswer best.plan 0 outcome
+IsJudgedAnswer best (Cycle nodes) outcome = IsOrMemory (IsCycleLine nodes.items) outcome
+IsJudgedAnswer best (Late job leaves chain times) outcome = IsDocumentAnswer best.plan 1 outcome
+
+-- the fault of a command that the search's is, if memory ran out
+abbrev pub rest_command_fault : RestFault → Option CommandFault
+rest_command_fault WantOfMemory = Some Memory
+rest_command_fault fault = None
+
+-- what is answered where no plan is given
+abbrev pub IsUnfoundAnswer : RestFault → Result Answer CommandFault → Type 0
+IsUnfoundAnswer TooManyRounds outcome = IsOrMemory (λ answer. (answer.text.items ≡ codes "too many rounds\n") × (answer.status ≡ 1)) outcome
+IsUnfoundAnswer (Log fault) outcome = IsFaultTold fault outcome
+IsUnfoundAnswer (Past last) outcome = IsOrMemory (IsPastLine last) outcome
+IsUnfoundAnswer MomentTooLarge outcome = Unit {0}
+IsUnfoundAnswer WantOfMemory outcome = outcome ≡ Err Memory

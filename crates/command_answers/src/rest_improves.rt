@@ -1,0 +1,140 @@
+//! The command `improve` of the rest of a run.
+
+ghost use Rattle.std.specs.Prelude.{◌≡◌, ◌≤◌, IfOk, IfSome, None};
+ghost use Rattle.shop_base.specs.declared.limits.TheConstants.{MAX_MOMENT};
+ghost use Rattle.text_lines.specs.Lines.{ended_lines};
+ghost use Rattle.rest_improve.specs.declared.rest_fault.RestFault.TheVariants.{MomentTooLarge};
+ghost use Rattle.command_answers.specs.ImprovingRests.{RestRoundsOf, IsRestAnswer, IsJudgedAnswer, IsUnfoundAnswer, IsCycleLine, rest_command_fault};
+ghost use Rattle.command_answers.specs.Commands.{RunsImproveRest, WithRest};
+
+use crate::answer::{Answer, Answered, GOOD, REFUSED};
+use crate::both::{Both, Pair, read_both};
+use crate::command_fault::Unanswered;
+use crate::improves::with_orders;
+use crate::lines::{document_answer, line_answer};
+use crate::logs::fault_told;
+use crate::rests::past_answer;
+use crate::shapes::not_shaped_answer;
+use crate::texts::Texts;
+use plan_explain::push_cycle_line;
+use plan_improve::Watch;
+use rest_improve::{Improved, RestFault, RestImprover, improve_after};
+use rest_times::RestVerdict;
+use shop_base::{Moment, Node, Shaped};
+use std::alloc::{AllocError, Global};
+
+/// The text of the best plan that a search from the plan of a file meets for the rest of the run in the log of another, for
+/// the instance of a third: its rest accepted, or with a job that is still late. A plan without any orders is taken with the
+/// serial ones. What stands behind the log's last line feed isn't looked at. A log that tells no run of that plan is answered
+/// by its first bad line, a present moment before the log's last one by `log past L`, and a plan with a cycle, where the log
+/// tells an event, by the line of `check`.
+pub fn improve_rest_answer<T: Texts, W: Watch>(
+    alloc: Global,
+    texts: &mut T,
+    pair: &Pair<'_>,
+    log: &str,
+    at: Option<Moment>,
+    improvers: &[Box<dyn RestImprover>],
+    rounds: u32,
+    watch: &mut W,
+) -> Answered
+    requires { IfSome at (λ present. present ≤ MAX_MOMENT) }
+    ensures { RunsImproveRest T.gives (RestRoundsOf rounds (λ b. may b) improvers.now) at rounds pair.now log.now texts.old result texts.new }
+{
+    let both = read_both(alloc, texts, pair)?;
+    let both = with_orders(alloc, both)?;
+    better_rest_answer(alloc, texts, both, log, at, improvers, rounds, watch)
+}
+
+/// The answer of the search from a plan for the rest of the run in a log, if it is well shaped, else its first fault.
+fn better_rest_answer<T: Texts, W: Watch>(
+    alloc: Global,
+    texts: &mut T,
+    both: Both,
+    log: &str,
+    at: Option<Moment>,
+    improvers: &[Box<dyn RestImprover>],
+    rounds: u32,
+    watch: &mut W,
+) -> Answered
+    requires { IfSome at (λ present. present ≤ MAX_MOMENT) }
+    ensures { WithRest T.gives (RestRoundsOf rounds (λ b. may b) improvers.now) at rounds log.now both texts.old result texts.new }
+{
+    match both.shaped() {
+        Ok(start) => {
+            let text = texts.text(alloc, log)?;
+            found_answer(alloc, start, &text, at, improvers, rounds, watch)
+        }
+        Err(fault) => Ok(not_shaped_answer(alloc, fault)?),
+    }
+}
+
+/// The answer of the search from a plan for the rest of the run in a log.
+fn found_answer<W: Watch>(
+    alloc: Global,
+    start: Shaped,
+    log: &[u8],
+    at: Option<Moment>,
+    improvers: &[Box<dyn RestImprover>],
+    rounds: u32,
+    watch: &mut W,
+) -> Answered
+    requires { IfSome at (λ present. present ≤ MAX_MOMENT) }
+    ensures { IsRestAnswer (RestRoundsOf rounds (λ b. may b) improvers.now) at rounds (ended_lines log.now) start result }
+{
+    match improve_after(alloc, start, log, at, improvers, rounds, watch) {
+        Ok(found) => judged_answer(alloc, &found),
+        Err(fault) => unfound_answer(alloc, fault),
+    }
+}
+
+/// The text of a plan whose rest was judged, or the line of its cycle.
+fn judged_answer(alloc: Global, found: &Improved) -> Answered
+    ensures { IsJudgedAnswer found.now.shaped found.now.verdict result }
+{
+    match &found.verdict {
+        RestVerdict::Accepted(_) => document_answer(alloc, found.shaped.plan(), GOOD),
+        RestVerdict::Cycle(nodes) => Ok(cycle_answer(alloc, nodes)?),
+        RestVerdict::Late {
+            job: _,
+            leaves: _,
+            chain: _,
+            times: _,
+        } => document_answer(alloc, found.shaped.plan(), REFUSED),
+    }
+}
+
+/// The line of a cycle.
+fn cycle_answer(alloc: Global, nodes: &[Node]) -> Result<Answer, AllocError>
+    ensures { IfOk result (IsCycleLine nodes.now) }
+{
+    let (mut text, status) = (Vec::new(alloc), REFUSED);
+    push_cycle_line(&mut text, nodes)?;
+    Ok(Answer { text, status })
+}
+
+/// What is told where no plan is given, unless memory ran out.
+fn unfound_answer(alloc: Global, fault: RestFault) -> Answered
+    requires { fault ≡ MomentTooLarge → ⊥ }
+    ensures { IsUnfoundAnswer fault result }
+{
+    match Unanswered::from(fault).0 {
+        Some(wanting) => Err(wanting),
+        None => refused_answer(alloc, fault),
+    }
+}
+
+/// The line that says why no plan is given.
+fn refused_answer(alloc: Global, fault: RestFault) -> Answered
+    requires moment { fault ≡ MomentTooLarge → ⊥ }
+    requires memory { rest_command_fault fault ≡ None }
+    ensures { IsUnfoundAnswer fault result }
+{
+    match fault {
+        RestFault::TooManyRounds => Ok(line_answer(alloc, b"too many rounds\n", REFUSED)?),
+        RestFault::Log(fault) => fault_told(alloc, fault),
+        RestFault::Past { last } => Ok(past_answer(alloc, last)?),
+        RestFault::MomentTooLarge => unreachable!(),
+        RestFault::Memory => unreachable!(),
+    }
+}
