@@ -178,6 +178,9 @@ uint32_t cellplan_cell_due(struct cellplan_cell *cell, uint32_t job, uint64_t *a
    where it isn't being cleaned. */
 uint32_t cellplan_cell_clean_due(struct cellplan_cell *cell, uint32_t machine, uint64_t *at);
 
+/* The job after which the machine is being cleaned, the last that was on it. NONE where it isn't being cleaned. */
+uint32_t cellplan_cell_cleaned_after(struct cellplan_cell *cell, uint32_t machine, uint32_t *job);
+
 /* The moment of the last accepted report, 0 before the first. */
 uint32_t cellplan_cell_now(struct cellplan_cell *cell, uint64_t *at);
 

@@ -279,8 +279,12 @@ static void gone(struct cellplan_cell *cell) {
   same("a cleaning", cellplan_cell_clean_due(cell, 1, &at), CELLPLAN_GOOD);
   same("its due moment", at, 7);
   same("no machine to clean", cellplan_cell_clean_due(cell, 2, &at), CELLPLAN_NONE);
+  same("after a job", cellplan_cell_cleaned_after(cell, 1, &number), CELLPLAN_GOOD);
+  same("after job 0", number, 0);
+  same("no cleaning of machine 0", cellplan_cell_cleaned_after(cell, 0, &number), CELLPLAN_NONE);
   reported(cell, CELLPLAN_CLEAN, 0, 1, 7, CELLPLAN_GOOD, 0, 1, false);
   same("cleaned", cellplan_cell_clean_due(cell, 1, &at), CELLPLAN_NONE);
+  same("cleaned after no job", cellplan_cell_cleaned_after(cell, 1, &number), CELLPLAN_NONE);
   same("the next job", cellplan_cell_holder(cell, 1, &number), CELLPLAN_GOOD);
   same("its number", number, 1);
 }
@@ -313,6 +317,7 @@ static void without_a_cell(struct cellplan_cell *cell) {
   same("no holder", cellplan_cell_holder(cell, 0, &number), CELLPLAN_NO_CELL);
   same("no due", cellplan_cell_due(cell, 0, &at), CELLPLAN_NO_CELL);
   same("no clean due", cellplan_cell_clean_due(cell, 0, &at), CELLPLAN_NO_CELL);
+  same("no job before", cellplan_cell_cleaned_after(cell, 0, &number), CELLPLAN_NO_CELL);
   same("no now", cellplan_cell_now(cell, &at), CELLPLAN_NO_CELL);
   same("no left", cellplan_cell_reports_left(cell, &at), CELLPLAN_NO_CELL);
   same("no punctual", cellplan_cell_punctual(cell, &yes), CELLPLAN_NO_CELL);

@@ -3,6 +3,7 @@
 ghost use Rattle.std.specs.Prelude.{◌≡◌, ◌↔◌, IsTrue};
 ghost use Rattle.shop_base.specs.Plan.{jobs, machines};
 ghost use Rattle.shop_base.specs.Ends.{HasEnded};
+ghost use Rattle.cell_tables.specs.Readings.{IsCleanedFor};
 ghost use Rattle.cell_control.specs.Readings.{IsJobOn, IsDueOf, IsDueOfCleaning};
 ghost use Rattle.cellplan_c.specs.Readings.{Finds, Tells, IsPhaseTold, IsLeaveOf, AreReportsLeft};
 
@@ -83,6 +84,24 @@ pub extern "C" fn cellplan_cell_clean_due(
     let found = inner.controller.clean_due(machine);
     cell.put(inner);
     put_found(found, at)
+}
+
+/// The job after which the machine is being cleaned; none where it isn't being cleaned.
+#[unsafe(no_mangle)]
+pub extern "C" fn cellplan_cell_cleaned_after(
+    alloc: Global,
+    cell: &mut Cell,
+    machine: u32,
+    job: &mut u32,
+) -> u32
+    ensures { Finds cell.old cell.new result job.old job.new (λ held. IsCleanedFor held.plan.planned held.cell machine) }
+{
+    let Some(inner) = cell.take(alloc) else {
+        return NO_CELL;
+    };
+    let found = inner.controller.cleaned_after(machine);
+    cell.put(inner);
+    put_found(found, job)
 }
 
 /// The moment of the last accepted report, 0 before the first.
