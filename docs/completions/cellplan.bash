@@ -11,7 +11,7 @@ _cellplan() {
   esac
   case $command in
     plan) options='--instance --rounds --help' ;;
-    improve) options='--instance --rounds --seed --help' ;;
+    improve) options='--instance --after --at --rounds --seed --help' ;;
     check | explain | schedule) options='--instance --after --at --help' ;;
     drive) options='--instance --lines --leap --help' ;;
     facts | shape | bounds | resume | hub | audit | gantt) options='--instance --help' ;;

@@ -46,7 +46,7 @@ runs_more gives made more less rounds pair before outcome after =
     then_more (ReadsBoth gives pair) (λ p. Told (IsImproveAnswer made rounds (ordered p))) (λ p. Told (IsImproveAnswer more rounds (ordered p))) before outcome after
     (λ p last is. (answer_more made more rounds less (ordered p) outcome is.0, is.1))
 
-stands_alone : (who : Unit {0}) (n : ℕ) → n < 1 → slice_get (who ∷ []) n ≡ Some who
+pub stands_alone : (who : Unit {0}) (n : ℕ) → n < 1 → slice_get (who ∷ []) n ≡ Some who
 stands_alone who zero lt = refl
 stands_alone who (suc n) lt = absurd (omega arith)
 

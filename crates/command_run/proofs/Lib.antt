@@ -1,5 +1,6 @@
 pub mod Planning
 pub mod Improving
+pub mod ImprovingRests
 pub mod PlainWords
 pub mod Telling
 pub mod Accepting

@@ -38,7 +38,7 @@ use Rattle.command_answers.specs.LogLines.{IsLogLine}
 use Rattle.command_answers.specs.declared.rests.PlanTelling.{PlanTelling}
 use Rattle.command_answers.specs.declared.rests.PlanTelling.TheVariants.{Verdict as OfVerdict, Reasons, Moments}
 use Rattle.command_answers.specs.Rests.{IsRestLine}
-use Rattle.command_answers.specs.Commands.{PairOfFiles, WithBoth, WithLog}
+use Rattle.command_answers.specs.Commands.{PairOfFiles, WithBoth, WithLog, WithRest}
 use Rattle.command_answers.specs.Cells.{IsCellLine, AfterPlan, LoadsEach}
 use Rattle.command_answers.proofs.RestAnswers.{low_rest}
 use Rattle.command_run.specs.Streams.{Streams}
@@ -46,7 +46,9 @@ use Rattle.command_run.specs.Drives.{IsEnded, IsEndAnswer, Drives, status_at, en
 use Rattle.command_run.specs.Resumes.{IsFaultLine, IsFaultTold, ResumesTaken, ResumesText, Resumes}
 use Rattle.command_run.specs.Hubs.{DrivesAll, end_of_hub}
 use Rattle.command_run.specs.Planners.{search_by_two, SeeksPlan}
-use Rattle.command_run.specs.Improvers.{AsksOne, ImprovesPlan}
+use Rattle.text_lines.specs.Lines.{ended_lines}
+use Rattle.command_answers.specs.ImprovingRests.{RestAsked, IsRestAnswer}
+use Rattle.command_run.specs.Improvers.{AsksOne, AsksOneForRest, ImprovesPlan, ImprovesRest, Improves}
 use Rattle.command_run.specs.Tellings.{RunsTelling}
 use Rattle.command_run.specs.Program.{RunsCommand, file_at, log_in, manner_in, name_in, pair_in, plans_in}
 
@@ -144,6 +146,18 @@ low_best : (made : Asked) (rounds : ℕ) (start : PlannedShop) (outcome : Result
 low_best made rounds start (Ok answer) (inl text) = low_status text.best answer.status text.status
 low_best made rounds start (Ok answer) (inr line) = one_low answer.status line.refused
 low_best made rounds start (Err fault) is = tt
+
+low_rest_answer : (made : RestAsked) (at : Option ℕ) (rounds : ℕ) (lines : List (List ℕ)) (start : PlannedShop) (outcome : Result Answer CommandFault)
+    → IsRestAnswer made at rounds lines start outcome → IsLow outcome
+low_rest_answer made at rounds lines start (Ok answer) (inl text) = elim text.status [
+  | inl good ↦ zero_low answer.status good.1
+  | inr late ↦ one_low answer.status late.1
+]
+low_rest_answer made at rounds lines start (Ok answer) (inr (inl cycle)) = one_low answer.status cycle.line.1
+low_rest_answer made at rounds lines start (Ok answer) (inr (inr (inl refused))) = one_low answer.status refused.line.1
+low_rest_answer made at rounds lines start (Ok answer) (inr (inr (inr (inl past)))) = one_low answer.status past.line.1
+low_rest_answer made at rounds lines start (Ok answer) (inr (inr (inr (inr many)))) = one_low answer.status many.refused
+low_rest_answer made at rounds lines start (Err fault) is = tt
 
 low_improved : (made : Asked) (rounds : ℕ) (start : PlannedShop) (outcome : Result Answer CommandFault) → IsImproveAnswer made rounds start outcome → IsLow outcome
 low_improved made rounds start outcome (inl best) = low_best made rounds start outcome best.1
@@ -261,6 +275,24 @@ module _ {W : Type 0} (gives : W → List ℕ → Result (List ℕ) CommandFault
       low_both pair (λ p. Told (IsImproveAnswer (AsksOne rounds) rounds (ordered p))) texts outcome after (λ p mid on. low_improved (AsksOne rounds) rounds (ordered p) outcome on.0) run
   low_improves rounds pair texts outcome after (inr wanting) = subst IsLow (sym wanting.0) tt
 
+  low_with_rest : (at : Option ℕ) (rounds : ℕ) (log : List ℕ) (p : PlannedShop) (mid : W) (outcome : Result Answer CommandFault) (after : W)
+      → WithRest gives (AsksOneForRest rounds) at rounds log p mid outcome after → IsLow outcome
+  low_with_rest at rounds log p mid outcome after (inl (shaped, is)) =
+      held IsLow _ (λ text. Told (IsRestAnswer (AsksOneForRest rounds) at rounds (ended_lines text) p)) mid outcome after low_failed
+      (λ text later on. low_rest_answer (AsksOneForRest rounds) at rounds (ended_lines text) p outcome on.0) is
+  low_with_rest at rounds log p mid outcome after (inr told) = low_or (IsNotShapedLine p) outcome (low_not_shaped p) told.0
+
+  low_rest_improves : (at : Option ℕ) (rounds : ℕ) (pair : PairOfFiles) (log : List ℕ) (texts : W) (outcome : Result Answer CommandFault) (after : W)
+      → ImprovesRest gives at rounds pair log texts outcome after → IsLow outcome
+  low_rest_improves at rounds pair log texts outcome after (inl run) =
+      low_both pair (λ p. WithRest gives (AsksOneForRest rounds) at rounds log (ordered p)) texts outcome after (λ p mid on. low_with_rest at rounds log (ordered p) mid outcome after on) run
+  low_rest_improves at rounds pair log texts outcome after (inr wanting) = subst IsLow (sym wanting.0) tt
+
+  low_bettered : (at : Option ℕ) (rounds : ℕ) (pair : PairOfFiles) (log : Option (List ℕ)) (texts : W) (outcome : Result Answer CommandFault) (after : W)
+      → Improves gives at rounds pair log texts outcome after → IsLow outcome
+  low_bettered at rounds pair None texts outcome after run = low_improves rounds pair texts outcome after run
+  low_bettered at rounds pair (Some log) texts outcome after run = low_rest_improves at rounds pair log texts outcome after run
+
   low_resumes : (log : List ℕ) (loaded : Result Loaded CommandFault) (texts : W) (before : Streams) (outcome : Result Answer CommandFault) (texts_after : W) (after : Streams)
       → Resumes gives log loaded texts before outcome texts_after after → IsLow outcome
   low_resumes log (Err fault) texts before outcome texts_after after is = subst IsLow (sym is.0) tt
@@ -288,7 +320,7 @@ module _ {W : Type 0} (gives : W → List ℕ → Result (List ℕ) CommandFault
   low Bounds chosen texts before outcome texts_after after run =
       low_both (pair_in chosen) (λ p. Told (IsOrMemory (AreBounds p))) texts outcome texts_after (λ p mid on. low_or (AreBounds p) outcome (low_bounds p) on.0) run.0
   low Plan chosen texts before outcome texts_after after run = low_seeks chosen.rounds _ texts outcome texts_after run.0
-  low Improve chosen texts before outcome texts_after after run = low_improves chosen.rounds _ texts outcome texts_after run.0
+  low Improve chosen texts before outcome texts_after after run = low_bettered chosen.at chosen.rounds (pair_in chosen) (log_in chosen) texts outcome texts_after run.0
   low Drive chosen texts before outcome texts_after after run = low_drives (manner_in chosen) run.loaded before after outcome run.drives
   low Resume chosen texts before outcome texts_after after run = low_resumes _ run.loaded run.texts_mid before outcome texts_after after run.resumes
   low Hub chosen texts before outcome texts_after after run =

@@ -1,12 +1,14 @@
 -- The improver that is asked for better plans.
-use Rattle.std.specs.Prelude.{◌≡◌, ◌⊎◌, ℕ, List, [], ◌∷◌, Result, Err}
+use Rattle.std.specs.Prelude.{◌≡◌, ◌⊎◌, ℕ, List, [], ◌∷◌, Option, None, Some, Result, Err}
 use Rattle.shop_base.specs.Plan.{PlannedShop}
 use Rattle.plan_seek.specs.Orders.{Proposal}
 use Rattle.plan_improve.specs.Runs.{Asked, Rounds}
 use Rattle.command_answers.specs.declared.answer.Answer.{Answer}
 use Rattle.command_answers.specs.declared.command_fault.CommandFault.{CommandFault}
 use Rattle.command_answers.specs.declared.command_fault.CommandFault.TheVariants.{Memory}
-use Rattle.command_answers.specs.Commands.{PairOfFiles, RunsImprove}
+use Rattle.rest_improve.specs.Runs.{Rounds as RoundsAfter}
+use Rattle.command_answers.specs.ImprovingRests.{RestAsked}
+use Rattle.command_answers.specs.Commands.{PairOfFiles, RunsImprove, RunsImproveRest}
 
 -- what the improver may answer: anything
 abbrev pub MayImprove : Unit {0} → PlannedShop → ℕ → Proposal → Type 0
@@ -20,3 +22,17 @@ AsksOne rounds = Rounds MayImprove (tt ∷ []) rounds
 abbrev pub ImprovesPlan : {W : Type 0} → (W → List ℕ → Result (List ℕ) CommandFault → W → Type 0) → ℕ → PairOfFiles → W → Result Answer CommandFault → W → Type 0
 ImprovesPlan gives rounds pair before outcome after =
     RunsImprove gives (AsksOne rounds) rounds pair before outcome after ⊎ ((outcome ≡ Err Memory) × (after ≡ before))
+
+-- the same for the rest of a run
+abbrev pub AsksOneForRest : ℕ → RestAsked
+AsksOneForRest rounds lines t = RoundsAfter lines t MayImprove (tt ∷ []) rounds
+
+-- a better plan for the rest of the run in a log is sought by the one improver, unless memory runs out before any file is asked for
+abbrev pub ImprovesRest : {W : Type 0} → (W → List ℕ → Result (List ℕ) CommandFault → W → Type 0) → Option ℕ → ℕ → PairOfFiles → List ℕ → W → Result Answer CommandFault → W → Type 0
+ImprovesRest gives at rounds pair log before outcome after =
+    RunsImproveRest gives (AsksOneForRest rounds) at rounds pair log before outcome after ⊎ ((outcome ≡ Err Memory) × (after ≡ before))
+
+-- a better plan is sought or, where a log is given, one for the rest of its run
+abbrev pub Improves : {W : Type 0} → (W → List ℕ → Result (List ℕ) CommandFault → W → Type 0) → Option ℕ → ℕ → PairOfFiles → Option (List ℕ) → W → Result Answer CommandFault → W → Type 0
+Improves gives at rounds pair None = ImprovesPlan gives rounds pair
+Improves gives at rounds pair (Some log) = ImprovesRest gives at rounds pair log

@@ -21,7 +21,7 @@ use Rattle.command_run.specs.Streams.{Streams, Devices}
 use Rattle.command_run.specs.Inputs.{RunsInput}
 use Rattle.command_run.specs.Tellings.{RunsTelling}
 use Rattle.command_run.specs.Planners.{SeeksPlan}
-use Rattle.command_run.specs.Improvers.{ImprovesPlan}
+use Rattle.command_run.specs.Improvers.{Improves}
 use Rattle.command_run.specs.Drives.{Drives}
 use Rattle.command_run.specs.Resumes.{Resumes}
 use Rattle.command_run.specs.Hubs.{DrivesAll}
@@ -102,7 +102,7 @@ module _ {W : Type 0} (gives : W → List ℕ → Result (List ℕ) CommandFault
   RunsCommand Plan chosen texts before outcome texts_after after =
       SeeksPlan gives chosen.rounds (pair_in chosen) texts outcome texts_after × (after ≡ before)
   RunsCommand Improve chosen texts before outcome texts_after after =
-      ImprovesPlan gives chosen.rounds (pair_in chosen) texts outcome texts_after × (after ≡ before)
+      Improves gives chosen.at chosen.rounds (pair_in chosen) (log_in chosen) texts outcome texts_after × (after ≡ before)
   RunsCommand Drive chosen texts before outcome texts_after after =
       RunsDrive (manner_in chosen) (pair_in chosen) texts before outcome texts_after after
   RunsCommand Resume chosen texts before outcome texts_after after =

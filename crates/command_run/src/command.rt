@@ -4,13 +4,14 @@ ghost use Rattle.std.specs.Prelude.{◌≡◌, ◌<◌, ◌≤◌, [], length, I
 ghost use Rattle.std.specs.Option.{option_copied};
 ghost use Rattle.shop_base.specs.declared.limits.TheConstants.{MAX_MOMENT};
 ghost use Rattle.command_words.specs.Choice.{IsWithin};
+ghost use Rattle.command_run.specs.Improvers.{Improves};
 ghost use Rattle.command_run.specs.Tellings.{RunsTelling};
 ghost use Rattle.command_run.specs.Program.{RunsCommand, file_at, is_second, log_in, manner_in, name_in, pair_in};
 
 use crate::devices::{Screen, Streams};
 use crate::drives::drive_answer;
 use crate::hubs::hub_answer;
-use crate::improvers::better_answer;
+use crate::improvers::{better_answer, better_rest_answer};
 use crate::input::input_answer;
 use crate::planners::seek_answer;
 use crate::resumes::resume_answer;
@@ -94,6 +95,27 @@ fn manner(chosen: &Chosen) -> Manner
     }
 }
 
+/// The search for a better plan, or for a better rest of a run.
+fn bettered<T: Texts, S: Screen>(
+    alloc: Global,
+    chosen: &Chosen,
+    texts: &mut T,
+    screen: &mut S,
+) -> Answered
+    requires files { 1 < length chosen.now.files.items }
+    requires at { IfSome chosen.now.at (λ present. present ≤ MAX_MOMENT) }
+    ensures { Improves T.gives chosen.now.at chosen.now.rounds (pair_in chosen.now) (log_in chosen.now) texts.old result texts.new }
+{
+    let pair = pair(chosen);
+    let (rounds, seed) = (chosen.rounds, chosen.seed);
+    match rest_log(chosen) {
+        Some(log) => {
+            better_rest_answer(alloc, texts, &pair, log, chosen.at, rounds, seed, screen)
+        }
+        None => better_answer(alloc, texts, &pair, rounds, seed, screen),
+    }
+}
+
 /// Runs the command that was chosen.
 pub(crate) fn command<T: Texts, R: Source, W: Outlet, S: Screen>(
     alloc: Global,
@@ -115,10 +137,7 @@ pub(crate) fn command<T: Texts, R: Source, W: Outlet, S: Screen>(
         CommandName::Schedule => told(alloc, chosen, texts, PlanTelling::Moments),
         CommandName::Bounds => bounds_answer(alloc, texts, &pair(chosen)),
         CommandName::Plan => seek_answer(alloc, texts, &pair(chosen), chosen.rounds),
-        CommandName::Improve => {
-            let (rounds, seed) = (chosen.rounds, chosen.seed);
-            better_answer(alloc, texts, &pair(chosen), rounds, seed, screen)
-        }
+        CommandName::Improve => bettered(alloc, chosen, texts, screen),
         CommandName::Drive => { drive_answer(alloc, texts, &pair(chosen), manner(chosen), streams) }
         CommandName::Resume => {
             let log = file(chosen, 2);

@@ -1,11 +1,15 @@
 //! The command `improve`.
 
-ghost use Rattle.command_run.specs.Improvers.{ImprovesPlan};
+ghost use Rattle.std.specs.Prelude.{◌≤◌, IfSome};
+ghost use Rattle.shop_base.specs.declared.limits.TheConstants.{MAX_MOMENT};
+ghost use Rattle.command_run.specs.Improvers.{ImprovesPlan, ImprovesRest};
 
 use crate::devices::Screen;
 use crate::progress::Progress;
-use command_answers::{Answered, Pair, Texts, improve_answer};
+use command_answers::{Answered, Pair, Texts, improve_answer, improve_rest_answer};
 use plan_improve::{AnnealingImprover, Improver};
+use rest_improve::{AnnealingRestImprover, RestImprover};
+use shop_base::Moment;
 use std::alloc::{AllocError, Global};
 
 /// The search for a better plan by the annealing. Each round is told on the screen, which is blank at the end.
@@ -24,6 +28,38 @@ pub(crate) fn better_answer<T: Texts, S: Screen>(
     improvers.push(annealing).map_err(AllocError::from)?;
     let mut progress = Progress { screen, rounds };
     let answer = improve_answer(alloc, texts, pair, &improvers, rounds, &mut progress);
+    progress.screen.show(b"");
+    answer
+}
+
+/// The same for the rest of the run in a log, from a moment on.
+pub(crate) fn better_rest_answer<T: Texts, S: Screen>(
+    alloc: Global,
+    texts: &mut T,
+    pair: &Pair<'_>,
+    log: &str,
+    at: Option<Moment>,
+    rounds: u32,
+    seed: u32,
+    screen: &mut S,
+) -> Answered
+    requires { IfSome at (λ present. present ≤ MAX_MOMENT) }
+    ensures { ImprovesRest T.gives at rounds pair.now log.now texts.old result texts.new }
+{
+    let mut improvers: Vec<Box<dyn RestImprover>> = Vec::new(alloc);
+    let annealing = Box::new(alloc, AnnealingRestImprover::new(seed)).map_err(AllocError::from)?;
+    improvers.push(annealing).map_err(AllocError::from)?;
+    let mut progress = Progress { screen, rounds };
+    let answer = improve_rest_answer(
+        alloc,
+        texts,
+        pair,
+        log,
+        at,
+        &improvers,
+        rounds,
+        &mut progress,
+    );
     progress.screen.show(b"");
     answer
 }

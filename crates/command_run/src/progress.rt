@@ -23,8 +23,10 @@ impl<S: Screen> Watch for Progress<'_, S> {
 
     fn round(&mut self, round: u32, late: Moment, makespan: Moment, at_least: Moment) {
         let mut line: LineText<ROOM> = LineText::empty();
-        line.put_number(at_least);
-        line.put_text(b" of at least ");
+        if at_least > 0 {
+            line.put_number(at_least);
+            line.put_text(b" of at least ");
+        }
         line.put_number(makespan);
         line.put_text(b" makespan ");
         line.put_number(late);

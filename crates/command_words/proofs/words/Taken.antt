@@ -16,7 +16,7 @@ use Rattle.clap.specs.declared.builder.action.ArgAction.TheVariants.{Set, Help}
 use Rattle.clap.specs.declared.builder.value_parser.ValueParser.{ValueParser}
 use Rattle.clap.specs.declared.builder.value_parser.ValueParser.TheVariants.{Signed}
 use Rattle.clap.proofs.ValueTestLemmas.{accepts-Accepts}
-use Rattle.command_words.specs.CommandLine.{command, command_line, driven_rules, log_command, plan_command, rest_command, most_rounds, greatest_seed, plans_rule, rounds_rule, seed_rule}
+use Rattle.command_words.specs.CommandLine.{command, command_line, driven_rules, log_command, plan_command, rest_command, described, most_rounds, greatest_seed, plans_rule, rounds_rule, seed_rule}
 use Rattle.command_words.specs.Choice.{FitsUpTo, Found, IsFit, TakesFiles, TellsOneOf, TellsReason, files_in, found_in, parse_reasons_in, values_of, word_of}
 use Rattle.command_words.specs.declared.words.CommandName.{CommandName}
 use Rattle.command_words.specs.declared.words.CommandName.TheVariants.{Facts, Shape as ShapeName, Check, Explain, Schedule, Bounds, Plan, Improve, Drive, Resume, Hub, Audit, Gantt}
@@ -212,18 +212,24 @@ search_fits = fits_leaf (as_built (plan_command (codes "plan") (rounds_rule ∷ 
 )
     (_, refl, refl, refl, refl, refl) (_, refl, refl, refl, refl, refl) refl refl tt (λ x y z p q r. omega arith)
 
-improvement_fits : FitsLeaf (as_built (plan_command (codes "improve") (rounds_rule ∷ seed_rule ∷ [])))
-improvement_fits = fits_leaf (as_built (plan_command (codes "improve") (rounds_rule ∷ seed_rule ∷ []))) Improve one one none refl refl refl (
+improvement_fits : FitsLeaf (as_built (described Improve))
+improvement_fits = fits_leaf (as_built (described Improve)) Improve one one none refl refl refl (
   set_plain _ _ refl refl refl refl,
   (
     set_plain _ _ refl refl refl refl,
     (
       set_plain _ _ refl refl refl refl,
       (
-        record { own = refl; missing = refl; action = inl refl; defaults = inr (omega arith, omega arith) },
+        set_plain _ _ refl refl refl refl,
         (
-          record { own = refl; missing = refl; action = inl refl; defaults = inr (omega arith, omega arith) },
-          (help_plain _ _ refl refl refl refl, tt),
+          set_plain _ _ refl refl refl refl,
+          (
+            record { own = refl; missing = refl; action = inl refl; defaults = inr (omega arith, omega arith) },
+            (
+              record { own = refl; missing = refl; action = inl refl; defaults = inr (omega arith, omega arith) },
+              (help_plain _ _ refl refl refl refl, tt),
+            ),
+          ),
         ),
       ),
     ),

@@ -155,7 +155,7 @@ fn improvement<'a>(alloc: Global) -> Result<Command<'a>, AllocError>
     ensures { IfOk result (Describes (leaf (described CommandName.Improve))) }
 {
     let about = "Looks for better orders than those of PLAN";
-    let search = on_plan(alloc, "improve", about)?.arg(rounds(alloc))?;
+    let search = on_rest(alloc, "improve", about)?.arg(rounds(alloc))?;
     search.arg(seed(alloc))
 }
 

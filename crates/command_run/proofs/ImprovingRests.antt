@@ -1,0 +1,86 @@
+-- A search for a better rest of a run by improvers that may answer more.
+use Rattle.std.proofs.Common.{◌≡◌, ℕ, List, [], ◌∷◌, Option, Result, Ok, Err, inl, inr, length, subst, arith}
+use Rattle.std.proofs.lemmas.Option.{slice_get_within}
+use Rattle.shop_base.specs.Plan.{PlannedShop}
+use Rattle.shop_base.specs.Cell.{Cell}
+use Rattle.text_lines.specs.Lines.{ended_lines}
+use Rattle.plan_seek.specs.Orders.{Proposal}
+use Rattle.plan_improve.specs.Watching.{Told as Telling}
+use Rattle.rest_improve.specs.Runs.{AfterSome, nobody, one_more, AfterRounds, no_round, round_more}
+use Rattle.command_answers.specs.declared.answer.Answer.{Answer}
+use Rattle.command_answers.specs.declared.command_fault.CommandFault.{CommandFault}
+use Rattle.command_answers.specs.declared.command_fault.CommandFault.TheVariants.{Instance, Plan, Read, Write, InputTooLong, Memory}
+use Rattle.command_answers.specs.Improving.{ordered}
+use Rattle.command_answers.specs.ImprovingRests.{RestAsked, RestRoundsOf, IsBestRest, IsRestAnswer}
+use Rattle.command_answers.specs.Steps.{Told}
+use Rattle.command_answers.specs.Texts.{Asks}
+use Rattle.command_answers.specs.Commands.{PairOfFiles, ReadsBoth, WithRest, RunsImproveRest}
+use Rattle.command_run.specs.Improvers.{MayImprove, AsksOneForRest}
+use Rattle.command_run.proofs.Improving.{stands_alone}
+use Rattle.command_run.proofs.Planning.{then_more}
+
+module _ (made more : RestAsked) (less : (lines : List (List ℕ)) (t : ℕ) (p q : PlannedShop) → made lines t p q → more lines t p q) (at : Option ℕ) (rounds : ℕ) where
+  best_more : (lines : List (List ℕ)) (t : ℕ) (c : Cell) (start best : PlannedShop) → IsBestRest made lines t c start best → IsBestRest more lines t c start best
+  best_more lines t c start best is = record {
+    same = is.same;
+    kept = is.kept;
+    acyclic = is.acyclic;
+    never_worse = is.never_worse;
+    found = record { begin = is.found.begin; begins_at = is.found.begins_at; run = less lines t is.found.begin best is.found.run };
+    stays_accepted = is.stays_accepted;
+  }
+
+  answer_more : (lines : List (List ℕ)) (start : PlannedShop) (outcome : Result Answer CommandFault) → IsRestAnswer made at rounds lines start outcome → IsRestAnswer more at rounds lines start outcome
+  answer_more lines start (Ok answer) (inl text) = inl (record {
+    few_rounds = text.few_rounds;
+    cell = text.cell;
+    run = text.run;
+    best = text.best;
+    is = best_more lines _ text.cell start text.best text.is;
+    text = text.text;
+    status = text.status;
+  })
+  answer_more lines start (Ok answer) (inr line) = inr line
+  answer_more lines start (Err (Plan fault)) is =
+      (is.0, record { cell = is.1.cell; run = is.1.run; best = is.1.best; is = best_more lines _ is.1.cell start is.1.best is.1.is; unreadable = is.1.unreadable })
+  answer_more lines start (Err Memory) is = is
+  answer_more lines start (Err (Instance fault)) is = is
+  answer_more lines start (Err Read) is = is
+  answer_more lines start (Err Write) is = is
+  answer_more lines start (Err InputTooLong) is = is
+
+  module _ {W : Type 0} (gives : W → List ℕ → Result (List ℕ) CommandFault → W → Type 0) where
+    with_more : (log : List ℕ) (p : PlannedShop) (before : W) (outcome : Result Answer CommandFault) (after : W)
+        → WithRest gives made at rounds log p before outcome after → WithRest gives more at rounds log p before outcome after
+    with_more log p before outcome after (inl (shaped, run)) =
+        inl (
+          shaped,
+          then_more (Asks gives log) (λ text. Told (IsRestAnswer made at rounds (ended_lines text) p)) (λ text. Told (IsRestAnswer more at rounds (ended_lines text) p)) before outcome after
+              (λ text last is. (answer_more (ended_lines text) p outcome is.0, is.1)) run,
+        )
+    with_more log p before outcome after (inr line) = inr line
+
+    runs_more : (pair : PairOfFiles) (log : List ℕ) (before : W) (outcome : Result Answer CommandFault) (after : W)
+        → RunsImproveRest gives made at rounds pair log before outcome after → RunsImproveRest gives more at rounds pair log before outcome after
+    runs_more pair log before outcome after =
+        then_more (ReadsBoth gives pair) (λ p. WithRest gives made at rounds log (ordered p)) (λ p. WithRest gives more at rounds log (ordered p)) before outcome after
+        (λ p last is. with_more log (ordered p) last outcome after is)
+
+module _ (lines : List (List ℕ)) (t : ℕ) {B : Type 0} (may : B → PlannedShop → ℕ → Proposal → Type 0) (improvers : List B) (alone : length improvers ≡ 1) where
+  -- what one improver makes of a plan is what one that may answer anything makes of it
+  some_more : (round : ℕ) (p : PlannedShop) (n : ℕ) (r : PlannedShop) → AfterSome lines t may improvers round p n r → AfterSome lines t MayImprove (tt ∷ []) round p n r
+  some_more round p n r nobody = nobody
+  some_more round p n r (one_more m who q s answer run stands given becomes) =
+      one_more m tt q s answer (some_more round p m q run) (stands_alone tt m (omega (arith, alone, slice_get_within improvers m who stands))) tt becomes
+
+  rounds_more : (p : PlannedShop) (n : ℕ) (told : List Telling) (r : PlannedShop) → AfterRounds lines t may improvers p n told r → AfterRounds lines t MayImprove (tt ∷ []) p n told r
+  rounds_more p n told r no_round = no_round
+  rounds_more p n told r (round_more m before q s cost run is last) =
+      round_more m before q s cost (rounds_more p m before q run) is (subst (λ k. AfterSome lines t MayImprove (tt ∷ []) m q k s) alone (some_more m q (length improvers) s last))
+
+-- a search by one improver
+pub improves_rest : {W B : Type 0} (gives : W → List ℕ → Result (List ℕ) CommandFault → W → Type 0) (may : B → PlannedShop → ℕ → Proposal → Type 0) (improvers : List B) → length improvers ≡ 1
+    → (at : Option ℕ) (rounds : ℕ) (pair : PairOfFiles) (log : List ℕ) (before : W) (outcome : Result Answer CommandFault) (after : W)
+    → RunsImproveRest gives (RestRoundsOf rounds may improvers) at rounds pair log before outcome after → RunsImproveRest gives (AsksOneForRest rounds) at rounds pair log before outcome after
+improves_rest gives may improvers alone at rounds pair log before outcome after =
+    runs_more (RestRoundsOf rounds may improvers) (AsksOneForRest rounds) (λ lines t p q found. (found.0, rounds_more lines t may improvers alone p rounds found.0 q found.1)) at rounds gives pair log before outcome after
