@@ -12,9 +12,11 @@ _cellplan() {
   case $command in
     plan) options='--instance --rounds --help' ;;
     improve) options='--instance --after --at --rounds --seed --help' ;;
-    check | explain | schedule) options='--instance --after --at --help' ;;
+    check | explain) options='--instance --after --at --help' ;;
+    schedule) options='--instance --after --at --svg --help' ;;
     drive) options='--instance --lines --leap --help' ;;
-    facts | shape | bounds | resume | hub | audit | gantt) options='--instance --help' ;;
+    gantt) options='--instance --svg --help' ;;
+    facts | shape | bounds | resume | hub | audit) options='--instance --help' ;;
     *) return ;;
   esac
   case $word in

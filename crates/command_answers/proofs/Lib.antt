@@ -5,5 +5,6 @@ pub mod ImproveLines
 pub mod LogAnswers
 pub mod RestAnswers
 pub mod ImproveRestLines
+pub mod PictureAnswers
 pub mod CellPlans
 pub mod BoundTexts

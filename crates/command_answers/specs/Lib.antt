@@ -20,4 +20,5 @@ pub mod LogLines
 pub mod Rests
 pub mod ImprovingRests
 pub mod Commands
+pub mod Pictures
 pub mod Cells

@@ -28,14 +28,18 @@ use Rattle.command_answers.specs.declared.loading.Loaded.{Loaded}
 use Rattle.command_answers.specs.declared.loading.Loaded.TheVariants.{NotShaped, Judged}
 use Rattle.command_answers.specs.Statuses.{status_of}
 use Rattle.command_answers.specs.Texts.{Asks}
+use Rattle.command_answers.specs.declared.pictures.Drawn.{Drawn}
+use Rattle.command_answers.specs.declared.pictures.Drawn.TheVariants.{Picture, Line as LineDrawn}
 use Rattle.command_answers.specs.Commands.{Loads}
+use Rattle.command_answers.specs.Pictures.{DrawsLog, DrawsSchedule}
 use Rattle.command_answers.specs.Cells.{LoadsCells}
 use Rattle.command_run.specs.Streams.{Streams, Output, Errors, Devices}
+use Rattle.command_run.specs.Pictures.{Draws, IsPictureOut, RunsTimetable, RunsDrawing}
 use Rattle.command_run.specs.Drives.{Drives, DrivesBy, is_plain}
 use Rattle.command_run.specs.Resumes.{IsTaking, IsResume, ResumesTaken, ResumesText, Resumes}
 use Rattle.command_run.specs.Hubs.{DrivesAll}
 use Rattle.command_run.specs.Ending.{Ends, IsPrinted, IsTold, IsToldAfter, IsOfText, IsLineOut}
-use Rattle.command_run.specs.Program.{AreWordsRead, RunsCommand, Follows, file_at, manner_in, name_in, pair_in, plans_in}
+use Rattle.command_run.specs.Program.{AreWordsRead, RunsCommand, Follows, file_at, log_in, manner_in, name_in, pair_in, plans_in}
 use Rattle.command_run.specs.Laws.{IsOutcomeOfWords, IsFailureOf, EndsAsTold, HoldsNothing, WereDriven, WereRefused, IsUnanswered, Ran, WroteNoMore}
 use Rattle.command_run.proofs.LowStatuses.{IsLow, low}
 
@@ -100,7 +104,7 @@ module _ {W : Type 0} (gives : W → List ℕ → Result (List ℕ) CommandFault
   hub_written (Err fault) later outcome loads is = kept Hub is.1
   hub_written (Ok (Line answer)) later outcome loads is = kept Hub is.1
   hub_written (Ok (AllAccepted cells)) later outcome loads is =
-      inr (inr (inr (refl, record { cells = cells.items; loaded = Ok (AllAccepted cells); later = later; loads = loads; accepted = refl; end = is.end; are = is.are })))
+      inr (inr (inr (inl (refl, record { cells = cells.items; loaded = Ok (AllAccepted cells); later = later; loads = loads; accepted = refl; end = is.end; are = is.are }))))
 
   module _ (v : VerifiedPlan) (mid : W) (loads : Loads gives (pair_in chosen) texts (Ok (Judged (Accepted v))) mid) (later : W) (outcome : Result Answer CommandFault) where
     taken_written : (text : List ℕ) (taken : Result TakenUp ResumeFault) → Asks gives (file_at chosen 2) mid (Ok text) later → IsTaking v text taken
@@ -121,6 +125,30 @@ module _ {W : Type 0} (gives : W → List ℕ → Result (List ℕ) CommandFault
   resumes_written (Ok (Judged (Refused back why))) mid later outcome loads is = kept Resume is.1
   resumes_written (Ok (Judged (Accepted v))) mid later outcome loads is = text_written v mid loads later outcome is.text is.asks is.resumes
 
+  schedule_drawn : (drawn : Result Drawn CommandFault) (later : W) (outcome : Result Answer CommandFault) → DrawsSchedule gives (pair_in chosen) texts drawn later
+      → Draws drawn before after outcome → WereDriven gives Schedule chosen texts before after
+  schedule_drawn (Err fault) later outcome came is = kept Schedule is.1
+  schedule_drawn (Ok (LineDrawn answer)) later outcome came is = kept Schedule is.1
+  schedule_drawn (Ok (Picture picture)) later outcome came is =
+      inr (inr (inr (inr (inl (refl, record { picture = picture; later = later; came = came; outcome = outcome; out = is.1 })))))
+
+  log_drawn : (drawn : Result Drawn CommandFault) (later : W) (outcome : Result Answer CommandFault) → DrawsLog gives (pair_in chosen) (file_at chosen 2) texts drawn later
+      → Draws drawn before after outcome → WereDriven gives Gantt chosen texts before after
+  log_drawn (Err fault) later outcome came is = kept Gantt is.1
+  log_drawn (Ok (LineDrawn answer)) later outcome came is = kept Gantt is.1
+  log_drawn (Ok (Picture picture)) later outcome came is =
+      inr (inr (inr (inr (inr (refl, record { picture = picture; later = later; came = came; outcome = outcome; out = is.1 })))))
+
+  timetable_written : (svg : Bool) (later : W) (outcome : Result Answer CommandFault) → RunsTimetable gives svg chosen.at (pair_in chosen) (log_in chosen) texts before outcome later after
+      → WereDriven gives Schedule chosen texts before after
+  timetable_written false later outcome run = kept Schedule run.1
+  timetable_written true later outcome run = schedule_drawn run.drawn later outcome run.came run.draws
+
+  drawing_written : (svg : Bool) (later : W) (outcome : Result Answer CommandFault) → RunsDrawing gives svg (pair_in chosen) (file_at chosen 2) texts before outcome later after
+      → WereDriven gives Gantt chosen texts before after
+  drawing_written false later outcome run = kept Gantt run.1
+  drawing_written true later outcome run = log_drawn run.drawn later outcome run.came run.draws
+
   written : (name : CommandName) (later : W) (outcome : Result Answer CommandFault)
       → RunsCommand gives name chosen texts before outcome later after → WereDriven gives name chosen texts before after
   written NoWords later outcome run = inl run.1
@@ -128,7 +156,7 @@ module _ {W : Type 0} (gives : W → List ℕ → Result (List ℕ) CommandFault
   written Shape later outcome run = kept Shape run.1
   written Check later outcome run = kept Check run.1
   written Explain later outcome run = kept Explain run.1
-  written Schedule later outcome run = kept Schedule run.1
+  written Schedule later outcome run = timetable_written chosen.svg later outcome run
   written Bounds later outcome run = kept Bounds run.1
   written Search later outcome run = kept Search run.1
   written Improve later outcome run = kept Improve run.1
@@ -136,7 +164,7 @@ module _ {W : Type 0} (gives : W → List ℕ → Result (List ℕ) CommandFault
   written Resume later outcome run = resumes_written run.loaded run.texts_mid later outcome run.loads run.resumes
   written Hub later outcome run = hub_written run.loaded later outcome run.loads run.drives
   written Audit later outcome run = kept Audit run.1
-  written Gantt later outcome run = kept Gantt run.1
+  written Gantt later outcome run = drawing_written chosen.svg later outcome run
 
 -- ---- what is shown
 
@@ -166,14 +194,20 @@ drive_shown : (plain : Bool) (manner : Manner) (v : VerifiedPlan) (before after 
 drive_shown true manner v before after end is none = streamed_from_shown DriveAnswer DriveCloses (drive_start v) is.end before after end is.streamed none
 drive_shown false manner v before after end is none = streamed_from_shown StatedAnswer StatedCloses (stated_start manner v) is.end before after end is.streamed none
 
+picture_shown : (picture : List ℕ) (before after : Output) (outcome : Result Answer CommandFault) → IsPictureOut picture before after outcome → HoldsNothing after
+picture_shown picture before after (Ok answer) out = inl out.4
+picture_shown picture before after (Err fault) out = inr out.2
+
 driven_shown : {W : Type 0} (gives : W → List ℕ → Result (List ℕ) CommandFault → W → Type 0) (chosen : Chosen) (texts : W) (before after : Streams) (name : CommandName)
     → WereDriven gives name chosen texts before after → before.output.pending ≡ [] → HoldsNothing after.output
 driven_shown gives chosen texts before after name (inl same) none = inl (ap (λ (o : Output). o.pending) same ∙ none)
 driven_shown gives chosen texts before after name (inr (inl (is, drove))) none =
     drive_shown (is_plain (manner_in chosen)) (manner_in chosen) drove.cell before after drove.end drove.is none
 driven_shown gives chosen texts before after name (inr (inr (inl (is, drove)))) none = resume_shown drove.taken before after drove.end drove.is
-driven_shown gives chosen texts before after name (inr (inr (inr (is, drove)))) none =
+driven_shown gives chosen texts before after name (inr (inr (inr (inl (is, drove))))) none =
     streamed_from_shown CellsAnswer (CellsClose 0) (hub_start drove.cells) drove.are.end before after drove.end drove.are.streamed none
+driven_shown gives chosen texts before after name (inr (inr (inr (inr (inl (is, drew)))))) none = picture_shown drew.picture before.output after.output drew.outcome drew.out
+driven_shown gives chosen texts before after name (inr (inr (inr (inr (inr (is, drew)))))) none = picture_shown drew.picture before.output after.output drew.outcome drew.out
 
 printed_shown : (answer : Answer) (printed : Result ℕ CommandFault) (before after : Output) → IsPrinted answer before after printed → HoldsNothing after
 printed_shown answer (Ok status) before after is = inl is.3

@@ -14,6 +14,8 @@ use Rattle.command_answers.specs.declared.loading.Loaded.{Loaded}
 use Rattle.command_answers.specs.declared.loading.Loaded.TheVariants.{NotShaped, Judged}
 use Rattle.command_answers.specs.declared.command_fault.CommandFault.{CommandFault}
 use Rattle.command_answers.specs.declared.command_fault.CommandFault.TheVariants.{Memory}
+use Rattle.command_answers.specs.declared.pictures.Drawn.{Drawn}
+use Rattle.command_answers.specs.declared.pictures.Drawn.TheVariants.{Picture, Line}
 use Rattle.command_answers.specs.Instances.{Tells}
 use Rattle.command_answers.specs.Facts.{AreFacts}
 use Rattle.command_answers.specs.Steps.{Then, GoesOn, Told, IsOrMemory}
@@ -24,14 +26,16 @@ use Rattle.command_answers.specs.Checks.{IsLoaded, IsCheckLine}
 use Rattle.command_answers.specs.Search.{IsSearchAnswer}
 use Rattle.command_answers.specs.Improving.{IsImproveAnswer, ordered}
 use Rattle.command_answers.specs.Commands.{PairOfFiles, ReadsPlan, ReadsBoth, WithBoth, WithLog, RunsFacts}
+use Rattle.command_answers.specs.Pictures.{IsLogDrawn, IsPlanDrawn, IsUnshapedDrawn, WithDrawnLog, DrawsLog, DrawsSchedule}
 use Rattle.command_answers.proofs.CheckLines.{line_of_loaded}
 use Rattle.command_run.specs.Streams.{Streams}
 use Rattle.command_run.specs.Planners.{search_by_two, SeeksPlan}
 use Rattle.command_run.specs.Improvers.{AsksOne, ImprovesPlan}
+use Rattle.command_run.specs.Pictures.{Draws, RunsPicture}
 use Rattle.command_run.specs.Drives.{DrivesCell, Drives, IsLineTold}
 use Rattle.command_run.specs.Resumes.{ResumesText, Resumes}
 use Rattle.command_run.specs.Program.{RunsDrive, RunsResume}
-use Rattle.command_run.specs.Laws.{Shelf, TellPlan, IsAnswered}
+use Rattle.command_run.specs.Laws.{Shelf, TellPlan, IsAnswered, IsDrawn}
 
 -- the answer is one of these, or memory ran out
 pub answered : {A : Type 0} (Is : A → Type 0) (files : List (List ℕ)) (outcome : Result A CommandFault) (asked : List (List ℕ)) → IsOrMemory Is outcome → asked ≡ files → IsAnswered Is files outcome asked
@@ -40,6 +44,12 @@ answered Is files (Err fault) asked is same = is
 
 pub wanting : {A : Type 0} (Is : A → Type 0) (files : List (List ℕ)) (outcome : Result A CommandFault) (asked : List (List ℕ)) → outcome ≡ Err Memory → IsAnswered Is files outcome asked
 wanting Is files outcome asked is = subst (λ r. IsAnswered Is files r asked) (sym is) refl
+
+-- what came was drawn
+came_drawn : (Is : Drawn → Type 0) (files : List (List ℕ)) (drawn : Result Drawn CommandFault) (before after : Streams) (outcome : Result Answer CommandFault) (asked : List (List ℕ))
+    → IsAnswered Is files drawn asked → Draws drawn before after outcome → IsDrawn Is files before outcome asked after
+came_drawn Is files (Ok drawn) before after outcome asked is draws = inl (is.1, (drawn, is.0, draws))
+came_drawn Is files (Err fault) before after outcome asked is draws = inr (draws.0 ∙ ap Err is, draws.1)
 
 module _ (content : List ℕ → Result (List ℕ) CommandFault) where
   -- a file that is there was asked for, and what it tells was read
@@ -122,6 +132,29 @@ module _ (content : List ℕ → Result (List ℕ) CommandFault) (pair : PairOfF
   pub good_log : (IsLine : PlannedShop → List ℕ → Answer → Type 0) (log text : List ℕ) (outcome : Result Answer CommandFault) (asked : List (List ℕ)) → content log ≡ Ok text → IsWellShaped p
       → WithBoth (Shelf content) pair (WithLog (Shelf content) IsLine log) [] outcome asked → IsAnswered (IsLine p text) (pair.path ∷ pair.plan ∷ log ∷ []) outcome asked
   good_log IsLine log text outcome asked is shaped run = log_came IsLine log text outcome asked is shaped (with_both (WithLog (Shelf content) IsLine log) outcome asked run)
+
+  pub good_schedule_picture : (before after : Streams) (outcome : Result Answer CommandFault) (asked : List (List ℕ)) → RunsPicture (DrawsSchedule (Shelf content) pair) [] before outcome asked after
+      → IsDrawn (IsPlanDrawn p) (pair.path ∷ pair.plan ∷ []) before outcome asked after
+  good_schedule_picture before after outcome asked run =
+      came_drawn (IsPlanDrawn p) _ run.drawn before after outcome asked (good_plan IsPlanDrawn run.drawn asked run.came) run.draws
+
+  drawn_after_all : (drawn : Result Drawn CommandFault) → IsWellShaped p → IsOrMemory (IsUnshapedDrawn p) drawn → drawn ≡ Err Memory
+  drawn_after_all (Ok (Picture picture)) shaped is = absurd is
+  drawn_after_all (Ok (Line answer)) shaped is = absurd (shape_fault_refutes p is.fault is.first shaped)
+  drawn_after_all (Err fault) shaped is = ap Err is
+
+  drawn_log_came : (log text : List ℕ) (drawn : Result Drawn CommandFault) (asked : List (List ℕ)) → content log ≡ Ok text → IsWellShaped p
+      → WithDrawnLog (Shelf content) log p (pair.path ∷ pair.plan ∷ []) drawn asked ⊎ (drawn ≡ Err Memory) → IsAnswered (IsLogDrawn p text) (pair.path ∷ pair.plan ∷ log ∷ []) drawn asked
+  drawn_log_came log text drawn asked is shaped (inl (inl (also, run))) =
+      let read = asked_and_read content (λ t. IsOrMemory (IsLogDrawn p t)) log text is (pair.path ∷ pair.plan ∷ []) run.came run.mid drawn asked run.is run.goes_on in
+      answered _ _ drawn asked read.0 read.1
+  drawn_log_came log text drawn asked is shaped (inl (inr told)) = wanting _ _ drawn asked (drawn_after_all drawn shaped told.0)
+  drawn_log_came log text drawn asked is shaped (inr none) = wanting _ _ drawn asked none
+
+  pub good_log_picture : (before after : Streams) (log text : List ℕ) (outcome : Result Answer CommandFault) (asked : List (List ℕ)) → content log ≡ Ok text → IsWellShaped p
+      → RunsPicture (DrawsLog (Shelf content) pair log) [] before outcome asked after → IsDrawn (IsLogDrawn p text) (pair.path ∷ pair.plan ∷ log ∷ []) before outcome asked after
+  good_log_picture before after log text outcome asked is shaped run =
+      came_drawn (IsLogDrawn p text) _ run.drawn before after outcome asked (drawn_log_came log text run.drawn asked is shaped (with_both (WithDrawnLog (Shelf content) log) run.drawn asked run.came)) run.draws
 
   pub good_search : (rounds : ℕ) (outcome : Result Answer CommandFault) (asked : List (List ℕ)) → SeeksPlan (Shelf content) rounds pair [] outcome asked
       → (IsSearchAnswer (search_by_two (task_in p)) rounds outcome × (asked ≡ pair.path ∷ pair.plan ∷ [])) ⊎ (outcome ≡ Err Memory)

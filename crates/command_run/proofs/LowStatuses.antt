@@ -38,10 +38,14 @@ use Rattle.command_answers.specs.LogLines.{IsLogLine}
 use Rattle.command_answers.specs.declared.rests.PlanTelling.{PlanTelling}
 use Rattle.command_answers.specs.declared.rests.PlanTelling.TheVariants.{Verdict as OfVerdict, Reasons, Moments}
 use Rattle.command_answers.specs.Rests.{IsRestLine}
+use Rattle.command_answers.specs.declared.pictures.Drawn.{Drawn}
+use Rattle.command_answers.specs.declared.pictures.Drawn.TheVariants.{Picture, Line as LineDrawn}
+use Rattle.command_answers.specs.Pictures.{IsLogDrawn, IsPlanDrawn, IsUnshapedDrawn, WithDrawnLog, DrawsLog, DrawsSchedule}
 use Rattle.command_answers.specs.Commands.{PairOfFiles, WithBoth, WithLog, WithRest}
 use Rattle.command_answers.specs.Cells.{IsCellLine, AfterPlan, LoadsEach}
 use Rattle.command_answers.proofs.RestAnswers.{low_rest}
-use Rattle.command_run.specs.Streams.{Streams}
+use Rattle.command_run.specs.Streams.{Streams, Output}
+use Rattle.command_run.specs.Pictures.{Draws, IsPictureOut, RunsTimetable, RunsDrawing}
 use Rattle.command_run.specs.Drives.{IsEnded, IsEndAnswer, Drives, status_at, end_of_drive}
 use Rattle.command_run.specs.Resumes.{IsFaultLine, IsFaultTold, ResumesTaken, ResumesText, Resumes}
 use Rattle.command_run.specs.Hubs.{DrivesAll, end_of_hub}
@@ -167,6 +171,41 @@ low_line_of : (loaded : Loaded) (answer : Answer) → IsLineOf loaded answer →
 low_line_of (NotShaped fault) answer is = one_low answer.status is.refused
 low_line_of (Judged verdict) answer is = low_verdict verdict answer.status is.1
 
+-- ---- pictures
+
+-- the line in place of a picture
+abbrev IsLowDrawn : Result Drawn CommandFault → Type 0
+IsLowDrawn (Ok (LineDrawn answer)) = answer.status ≤ 1
+IsLowDrawn (Ok (Picture picture)) = Unit {0}
+IsLowDrawn (Err fault) = Unit {0}
+
+low_drawn_failed : (fault : CommandFault) → IsLowDrawn (Err fault)
+low_drawn_failed fault = tt
+
+low_plan_drawn : (p : PlannedShop) (drawn : Result Drawn CommandFault) → IsOrMemory (IsPlanDrawn p) drawn → IsLowDrawn drawn
+low_plan_drawn p (Ok (LineDrawn answer)) is = one_low answer.status is.1
+low_plan_drawn p (Ok (Picture picture)) is = tt
+low_plan_drawn p (Err fault) is = tt
+
+low_log_drawn : (p : PlannedShop) (log : List ℕ) (drawn : Result Drawn CommandFault) → IsOrMemory (IsLogDrawn p log) drawn → IsLowDrawn drawn
+low_log_drawn p log (Ok (LineDrawn answer)) is = one_low answer.status is.line.1
+low_log_drawn p log (Ok (Picture picture)) is = tt
+low_log_drawn p log (Err fault) is = tt
+
+low_unshaped_drawn : (p : PlannedShop) (drawn : Result Drawn CommandFault) → IsOrMemory (IsUnshapedDrawn p) drawn → IsLowDrawn drawn
+low_unshaped_drawn p (Ok (LineDrawn answer)) is = low_not_shaped p answer is
+low_unshaped_drawn p (Ok (Picture picture)) is = tt
+low_unshaped_drawn p (Err fault) is = tt
+
+low_picture : (picture : List ℕ) (before after : Output) (outcome : Result Answer CommandFault) → IsPictureOut picture before after outcome → IsLow outcome
+low_picture picture before after (Ok answer) is = zero_low answer.status is.1
+low_picture picture before after (Err fault) is = tt
+
+low_draws : (drawn : Result Drawn CommandFault) (before after : Streams) (outcome : Result Answer CommandFault) → IsLowDrawn drawn → Draws drawn before after outcome → IsLow outcome
+low_draws (Ok (LineDrawn answer)) before after outcome low is = subst IsLow (sym is.0) low
+low_draws (Ok (Picture picture)) before after outcome low is = low_picture picture before.output after.output outcome is.1
+low_draws (Err fault) before after outcome low is = subst IsLow (sym is.0) tt
+
 -- ---- driving
 
 low_at : (done : Bool) → status_at done ≤ 1
@@ -263,6 +302,32 @@ module _ {W : Type 0} (gives : W → List ℕ → Result (List ℕ) CommandFault
   low_telling Moments at pair None texts outcome after run =
       low_both pair (λ p. Told (IsOrMemory (IsTimetable p))) texts outcome after (λ p mid on. low_or (IsTimetable p) outcome (low_scheduled p) on.0) run
 
+  low_with_drawn_log : (log : List ℕ) (p : PlannedShop) (mid : W) (drawn : Result Drawn CommandFault) (after : W) → WithDrawnLog gives log p mid drawn after → IsLowDrawn drawn
+  low_with_drawn_log log p mid drawn after (inl (shaped, run)) =
+      held IsLowDrawn _ (λ text. Told (IsOrMemory (IsLogDrawn p text))) mid drawn after low_drawn_failed (λ text later on. low_log_drawn p text drawn on.0) run
+  low_with_drawn_log log p mid drawn after (inr told) = low_unshaped_drawn p drawn told.0
+
+  low_schedule_picture : (pair : PairOfFiles) (texts : W) (drawn : Result Drawn CommandFault) (after : W) → DrawsSchedule gives pair texts drawn after → IsLowDrawn drawn
+  low_schedule_picture pair texts drawn after came =
+      held IsLowDrawn _ (λ p. Told (IsOrMemory (IsPlanDrawn p))) texts drawn after low_drawn_failed (λ p mid on. low_plan_drawn p drawn on.0) came
+
+  low_log_picture : (pair : PairOfFiles) (log : List ℕ) (texts : W) (drawn : Result Drawn CommandFault) (after : W) → DrawsLog gives pair log texts drawn after → IsLowDrawn drawn
+  low_log_picture pair log texts drawn after came =
+      held IsLowDrawn _ (WithDrawnLog gives log) texts drawn after low_drawn_failed (λ p mid on. low_with_drawn_log log p mid drawn after on) came
+
+  low_timetable : (svg : Bool) (at : Option ℕ) (pair : PairOfFiles) (log : Option (List ℕ)) (texts : W) (before : Streams) (outcome : Result Answer CommandFault) (texts_after : W) (after : Streams)
+      → RunsTimetable gives svg at pair log texts before outcome texts_after after → IsLow outcome
+  low_timetable false at pair log texts before outcome texts_after after run = low_telling Moments at pair log texts outcome texts_after run.0
+  low_timetable true at pair log texts before outcome texts_after after run =
+      low_draws run.drawn before after outcome (low_schedule_picture pair texts run.drawn texts_after run.came) run.draws
+
+  low_drawing : (svg : Bool) (pair : PairOfFiles) (log : List ℕ) (texts : W) (before : Streams) (outcome : Result Answer CommandFault) (texts_after : W) (after : Streams)
+      → RunsDrawing gives svg pair log texts before outcome texts_after after → IsLow outcome
+  low_drawing false pair log texts before outcome texts_after after run =
+      low_both pair (WithLog gives (IsLogLine Drawing) log) texts outcome texts_after (λ p mid on. low_with_log (IsLogLine Drawing) (low_log Drawing) log p mid outcome texts_after on) run.0
+  low_drawing true pair log texts before outcome texts_after after run =
+      low_draws run.drawn before after outcome (low_log_picture pair log texts run.drawn texts_after run.came) run.draws
+
   low_seeks : (rounds : ℕ) (pair : PairOfFiles) (texts : W) (outcome : Result Answer CommandFault) (after : W)
       → SeeksPlan gives rounds pair texts outcome after → IsLow outcome
   low_seeks rounds pair texts outcome after (inl run) =
@@ -315,8 +380,7 @@ module _ {W : Type 0} (gives : W → List ℕ → Result (List ℕ) CommandFault
       low_telling OfVerdict chosen.at (pair_in chosen) (log_in chosen) texts outcome texts_after run.0
   low Explain chosen texts before outcome texts_after after run =
       low_telling Reasons chosen.at (pair_in chosen) (log_in chosen) texts outcome texts_after run.0
-  low Schedule chosen texts before outcome texts_after after run =
-      low_telling Moments chosen.at (pair_in chosen) (log_in chosen) texts outcome texts_after run.0
+  low Schedule chosen texts before outcome texts_after after run = low_timetable chosen.svg chosen.at (pair_in chosen) (log_in chosen) texts before outcome texts_after after run
   low Bounds chosen texts before outcome texts_after after run =
       low_both (pair_in chosen) (λ p. Told (IsOrMemory (AreBounds p))) texts outcome texts_after (λ p mid on. low_or (AreBounds p) outcome (low_bounds p) on.0) run.0
   low Plan chosen texts before outcome texts_after after run = low_seeks chosen.rounds _ texts outcome texts_after run.0
@@ -328,5 +392,4 @@ module _ {W : Type 0} (gives : W → List ℕ → Result (List ℕ) CommandFault
       (held IsLowLine _ (λ text. LoadsEach gives text (name_in chosen) [] (plans_in chosen)) texts run.loaded texts_after low_line_failed (λ text mid on. low_loaded gives text (name_in chosen) [] (plans_in chosen) mid run.loaded texts_after on) run.loads) run.drives
   low Audit chosen texts before outcome texts_after after run =
       low_both (pair_in chosen) (WithLog gives (IsLogLine Numbers) (file_at chosen 2)) texts outcome texts_after (λ p mid on. low_with_log (IsLogLine Numbers) (low_log Numbers) (file_at chosen 2) p mid outcome texts_after on) run.0
-  low Gantt chosen texts before outcome texts_after after run =
-      low_both (pair_in chosen) (WithLog gives (IsLogLine Drawing) (file_at chosen 2)) texts outcome texts_after (λ p mid on. low_with_log (IsLogLine Drawing) (low_log Drawing) (file_at chosen 2) p mid outcome texts_after on) run.0
+  low Gantt chosen texts before outcome texts_after after run = low_drawing chosen.svg (pair_in chosen) (file_at chosen 2) texts before outcome texts_after after run

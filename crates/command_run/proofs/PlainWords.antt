@@ -7,6 +7,7 @@ use Rattle.cell_drive.specs.declared.manner.Manner.{Manner}
 use Rattle.command_answers.specs.declared.answer.Answer.{Answer}
 use Rattle.command_answers.specs.declared.cells.Cells.{Cells}
 use Rattle.command_answers.specs.declared.loading.Loaded.{Loaded}
+use Rattle.command_answers.specs.declared.pictures.Drawn.{Drawn}
 use Rattle.command_answers.specs.declared.command_fault.CommandFault.{CommandFault}
 use Rattle.command_answers.specs.declared.command_fault.CommandFault.TheVariants.{Instance, Plan, Read, Write, InputTooLong, Memory}
 use Rattle.command_answers.specs.Instances.{IsFirstInstanceFault, IsInstanceRefusal}
@@ -17,6 +18,7 @@ use Rattle.command_answers.specs.Commands.{PairOfFiles, ReadsInstance, ReadsBoth
 use Rattle.command_answers.specs.Cells.{LoadsEach}
 use Rattle.command_run.specs.Streams.{Streams}
 use Rattle.command_run.specs.Drives.{Drives}
+use Rattle.command_run.specs.Pictures.{Draws, RunsPicture}
 use Rattle.command_run.specs.Hubs.{DrivesAll}
 use Rattle.command_run.specs.Resumes.{Resumes}
 use Rattle.command_run.specs.Planners.{SeeksPlan}
@@ -51,6 +53,13 @@ drives_stopped manner fault (Ok loaded) before after outcome (inl told) is = abs
 drives_stopped manner fault (Ok loaded) before after outcome (inr told) is = absurd (cc told)
 drives_stopped manner fault (Err f) before after outcome (inl told) is = (inl ((let one : f ≡ (Instance fault) = cc told in is.0 ∙ ap (λ x. Err x) one)), is.1)
 drives_stopped manner fault (Err f) before after outcome (inr told) is = (inr ((let one : f ≡ Memory = cc told in is.0 ∙ ap (λ x. Err x) one)), is.1)
+
+draws_stopped : (fault : OrFault) (drawn : Result Drawn CommandFault) (before after : Streams) (outcome : Result Answer CommandFault)
+    → IsToldOf fault drawn → Draws drawn before after outcome → IsToldOf fault outcome × (after ≡ before)
+draws_stopped fault (Ok drawn) before after outcome (inl told) is = absurd (cc told)
+draws_stopped fault (Ok drawn) before after outcome (inr told) is = absurd (cc told)
+draws_stopped fault (Err f) before after outcome (inl told) is = (inl ((let one : f ≡ (Instance fault) = cc told in is.0 ∙ ap (λ x. Err x) one)), is.1)
+draws_stopped fault (Err f) before after outcome (inr told) is = (inr ((let one : f ≡ Memory = cc told in is.0 ∙ ap (λ x. Err x) one)), is.1)
 
 resumes_stopped : {W : Type 0} (gives : W → List ℕ → Result (List ℕ) CommandFault → W → Type 0) (log : List ℕ) (fault : OrFault) (loaded : Result Loaded CommandFault) (mid last : W) (before after : Streams) (outcome : Result Answer CommandFault)
     → IsToldOf fault loaded → Resumes gives log loaded mid before outcome last after → IsToldOf fault outcome × (after ≡ before) × (last ≡ mid)
@@ -138,6 +147,13 @@ module _ (content : List ℕ → Result (List ℕ) CommandFault) (pair : PairOfF
       let loaded = told_first _ run.loaded asked run.loads in
       let end = drives_stopped manner fault run.loaded before after outcome loaded.1 run.drives in
       ((loaded.0, end.0), end.1)
+
+  pub picture_first : (next : PlannedShop → List (List ℕ) → Result Drawn CommandFault → List (List ℕ) → Type 0) (before after : Streams) (outcome : Result Answer CommandFault) (asked : List (List ℕ))
+      → RunsPicture (WithBoth (Shelf content) pair next) [] before outcome asked after → IsInstanceTold pair.path fault outcome asked × (after ≡ before)
+  picture_first next before after outcome asked run =
+      let came = told_first next run.drawn asked run.came in
+      let end = draws_stopped fault run.drawn before after outcome came.1 run.draws in
+      ((came.0, end.0), end.1)
 
   pub resume_first : (log : List ℕ) (before after : Streams) (outcome : Result Answer CommandFault) (asked : List (List ℕ))
       → RunsResume (Shelf content) pair log [] before outcome asked after → IsInstanceTold pair.path fault outcome asked × (after ≡ before)

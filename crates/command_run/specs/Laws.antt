@@ -14,7 +14,7 @@ use Rattle.cell_drive.specs.declared.manner.Manner.{Manner}
 use Rattle.cell_drive.specs.declared.one_run.DriveEnd.{DriveEnd}
 use Rattle.cell_drive.specs.declared.many_runs.HubEnd.{HubEnd}
 use Rattle.byte_streams.specs.declared.drive_fault.DriveFault.{DriveFault}
-use Rattle.command_words.specs.declared.words.CommandName.TheVariants.{Drive, Resume, Hub}
+use Rattle.command_words.specs.declared.words.CommandName.TheVariants.{Schedule, Drive, Resume, Hub, Gantt}
 use Rattle.command_words.specs.Choice.{word_of, word_found, rows_found, files_in, instance_in, lines_in, leap_in, reasons_in, found_in, IsChoiceOf, TellsOneOf}
 use Rattle.command_words.specs.declared.words.Chosen.{Chosen}
 use Rattle.command_words.specs.declared.words.CommandName.{CommandName}
@@ -24,6 +24,8 @@ use Rattle.command_answers.specs.declared.answer.Answer.{Answer}
 use Rattle.command_answers.specs.declared.command_fault.CommandFault.{CommandFault}
 use Rattle.command_answers.specs.declared.command_fault.CommandFault.TheVariants.{Instance, Read, Memory, Write}
 use Rattle.command_answers.specs.declared.logs.Telling.{Telling}
+use Rattle.command_answers.specs.declared.pictures.Drawn.{Drawn}
+use Rattle.command_answers.specs.declared.pictures.Drawn.TheVariants.{Picture}
 use Rattle.command_answers.specs.Texts.{Asks}
 use Rattle.command_answers.specs.Instances.{Tells, IsFirstInstanceFault}
 use Rattle.command_answers.specs.Plans.{TellBoth}
@@ -39,6 +41,7 @@ use Rattle.command_answers.specs.Improving.{IsImproveAnswer, ordered}
 use Rattle.command_answers.specs.declared.rests.PlanTelling.{PlanTelling}
 use Rattle.command_answers.specs.Rests.{IsRestLine}
 use Rattle.command_answers.specs.Commands.{PairOfFiles, RunsFacts, RunsShape, RunsCheck, RunsExplain, RunsSchedule, RunsBounds, RunsLog, RunsRest, Loads}
+use Rattle.command_answers.specs.Pictures.{IsLogDrawn, IsPlanDrawn, DrawsLog, DrawsSchedule}
 use Rattle.command_answers.specs.declared.loading.Loaded.TheVariants.{Judged}
 use Rattle.command_answers.specs.declared.cells.Cells.{Cells}
 use Rattle.command_answers.specs.Cells.{AreAccepted, LoadsCells}
@@ -46,6 +49,7 @@ use Rattle.command_run.specs.Streams.{Streams, Input, Output, Errors, Devices}
 use Rattle.command_run.specs.Inputs.{RunsInput}
 use Rattle.command_run.specs.Planners.{search_by_two, SeeksPlan}
 use Rattle.command_run.specs.Improvers.{AsksOne, ImprovesPlan}
+use Rattle.command_run.specs.Pictures.{IsPictureOut, Draws, RunsPicture}
 use Rattle.command_run.specs.Drives.{IsDriveIn, DrivesCell}
 use Rattle.command_run.specs.Resumes.{IsResume, ResumesText, IsTaking}
 use Rattle.command_run.specs.Hubs.{AreDrives, DrivesCells}
@@ -120,6 +124,13 @@ DriveTellsInstanceFirst = (manner : Manner) → TellsInstanceFirstUnread (λ giv
 abbrev pub ResumeTellsInstanceFirst : Type 0
 ResumeTellsInstanceFirst = (log : List ℕ) → TellsInstanceFirstUnread (λ gives pair. RunsResume gives pair log)
 
+-- so it is where pictures are asked for
+abbrev pub ScheduleDrawsInstanceFirst : Type 0
+ScheduleDrawsInstanceFirst = TellsInstanceFirstUnread (λ gives pair. RunsPicture (DrawsSchedule gives pair))
+
+abbrev pub LogDrawsInstanceFirst : Type 0
+LogDrawsInstanceFirst = (log : List ℕ) → TellsInstanceFirstUnread (λ gives pair. RunsPicture (DrawsLog gives pair log))
+
 -- of any number of plans
 abbrev pub HubTellsInstanceFirst : Type 0
 HubTellsInstanceFirst = (plans : List (List ℕ)) → TellsInstanceFirstUnread (λ gives pair. RunsHub gives pair.path pair.name (pair.plan ∷ plans))
@@ -176,6 +187,23 @@ abbrev pub RestIsAnswered : Type 0
 RestIsAnswered = (telling : PlanTelling) (at : Option ℕ) (content : List ℕ → Result (List ℕ) CommandFault) (pair : PairOfFiles) (log text : List ℕ) (p : PlannedShop) (outcome : Result Answer CommandFault) (asked : List (List ℕ))
     → TellPlan content pair p → content log ≡ Ok text → IsWellShaped p → RunsRest (Shelf content) telling at pair log [] outcome asked
     → IsAnswered (IsRestLine telling at p text) (pair.path ∷ pair.plan ∷ log ∷ []) outcome asked
+
+-- one of these was drawn, for which these files were asked for; nothing is only where memory ran out, with no byte read or written
+abbrev pub IsDrawn : (Drawn → Type 0) → List (List ℕ) → Streams → Result Answer CommandFault → List (List ℕ) → Streams → Type 0
+IsDrawn Is files before outcome asked after =
+    ((asked ≡ files) × ((drawn : Drawn) × Is drawn × Draws (Ok drawn) before after outcome)) ⊎ ((outcome ≡ Err Memory) × (after ≡ before))
+
+-- `schedule --svg`: what comes of the plan is drawn
+abbrev pub ScheduleIsDrawn : Type 0
+ScheduleIsDrawn = (before after : Streams) (content : List ℕ → Result (List ℕ) CommandFault) (pair : PairOfFiles) (p : PlannedShop) (outcome : Result Answer CommandFault) (asked : List (List ℕ))
+    → TellPlan content pair p → RunsPicture (DrawsSchedule (Shelf content) pair) [] before outcome asked after
+    → IsDrawn (IsPlanDrawn p) (pair.path ∷ pair.plan ∷ []) before outcome asked after
+
+-- `gantt --svg`: where the plan is well shaped, what comes of the log is drawn
+abbrev pub LogIsDrawn : Type 0
+LogIsDrawn = (before after : Streams) (content : List ℕ → Result (List ℕ) CommandFault) (pair : PairOfFiles) (log text : List ℕ) (p : PlannedShop) (outcome : Result Answer CommandFault) (asked : List (List ℕ))
+    → TellPlan content pair p → content log ≡ Ok text → IsWellShaped p → RunsPicture (DrawsLog (Shelf content) pair log) [] before outcome asked after
+    → IsDrawn (IsLogDrawn p text) (pair.path ∷ pair.plan ∷ log ∷ []) before outcome asked after
 
 -- `plan`: what the search allows for the numbers of this plan, with exactly these files asked for, unless memory runs out before
 abbrev pub PlanAnswersPlan : Type 0
@@ -377,12 +405,22 @@ module _ {W : Type 0} (gives : W → List ℕ → Result (List ℕ) CommandFault
     pub end : Result HubEnd DriveFault
     pub are : AreDrives cells before after end
 
-  -- nothing was written; or the command drives cells, and those of its files were driven
+  -- a picture was written, or its first bytes up to a write that failed
+  pub record DrewPicture (comes : W → Result Drawn CommandFault → W → Type 0) (texts : W) (before after : Streams) : Type 0 where
+    pub picture : List ℕ
+    pub later : W
+    pub came : comes texts (Ok (Picture picture)) later
+    pub outcome : Result Answer CommandFault
+    pub out : IsPictureOut picture before.output after.output outcome
+
+  -- nothing was written; or the command drives cells, and those of its files were driven; or its files were drawn
   abbrev pub WereDriven : CommandName → Chosen → W → Streams → Streams → Type 0
   WereDriven name chosen texts before after = (after.output ≡ before.output)
       ⊎ (((name ≡ Drive) × DroveCell (manner_in chosen) (pair_in chosen) texts before after)
       ⊎ (((name ≡ Resume) × DroveOn (pair_in chosen) (file_at chosen 2) texts before after)
-      ⊎ ((name ≡ Hub) × DroveCells (file_at chosen 0) (name_in chosen) (plans_in chosen) texts before after)))
+      ⊎ (((name ≡ Hub) × DroveCells (file_at chosen 0) (name_in chosen) (plans_in chosen) texts before after)
+      ⊎ (((name ≡ Schedule) × DrewPicture (DrawsSchedule gives (pair_in chosen)) texts before after)
+      ⊎ ((name ≡ Gantt) × DrewPicture (DrawsLog gives (pair_in chosen) (file_at chosen 2)) texts before after)))))
 
   -- the command that the words choose was run to an outcome
   pub record RanCommand (words : List (List ℕ)) (texts : W) (before : Streams) (outcome : Result Answer CommandFault) (texts_after : W) (after : Streams) : Type 0 where
@@ -405,7 +443,7 @@ module _ {W : Type 0} (gives : W → List ℕ → Result (List ℕ) CommandFault
     pub failed : IsFailureOf outcome after.streams.output fault
     pub told : IsLineOut fault before.errors after.errors status
 
-  -- nothing was written but what driven cells answered, and after it at most the first bytes of an answer whose write failed
+  -- nothing was written but what driven cells answered, or a picture, and after it at most the first bytes of an answer whose write failed
   pub record WroteNoMore (words : List (List ℕ)) (before after : Devices W) : Type 0 where
     pub outcome : Result Answer CommandFault
     pub mid : Streams
@@ -426,7 +464,7 @@ module _ {W : Type 0} (gives : W → List ℕ → Result (List ℕ) CommandFault
   NothingIsHeldBack = (words : List (List ℕ)) (before : Devices W) (status : ℕ) (after : Devices W) → before.streams.output.pending ≡ [] → RunsProgram gives words before status after
       → HoldsNothing after.streams.output
 
-  -- where the status is 2 or more, nothing was written but what driven cells answered, and the first bytes of an answer whose write failed
+  -- where the status is 2 or more, nothing was written but what driven cells answered, or a picture, and the first bytes of an answer whose write failed
   abbrev pub WhatFailsIsNoAnswer : Type 0
   WhatFailsIsNoAnswer = (words : List (List ℕ)) (before : Devices W) (status : ℕ) (after : Devices W) → 2 ≤ status → RunsProgram gives words before status after
       → WereRefused words before status after ⊎ WroteNoMore words before after

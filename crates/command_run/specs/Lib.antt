@@ -1,6 +1,7 @@
 -- Reached by public clauses: to be read and believed.
 pub mod Streams
 pub mod Inputs
+pub mod Pictures
 pub mod Planners
 pub mod Improvers
 pub mod Drives

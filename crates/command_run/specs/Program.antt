@@ -13,13 +13,14 @@ use Rattle.command_answers.specs.declared.cells.Cells.{Cells}
 use Rattle.command_answers.specs.declared.command_fault.CommandFault.{CommandFault}
 use Rattle.command_answers.specs.declared.command_fault.CommandFault.TheVariants.{Memory as Wanting}
 use Rattle.command_answers.specs.declared.loading.Loaded.{Loaded}
-use Rattle.command_answers.specs.declared.logs.Telling.TheVariants.{Numbers, Drawing}
-use Rattle.command_answers.specs.declared.rests.PlanTelling.TheVariants.{Verdict, Reasons, Moments}
+use Rattle.command_answers.specs.declared.logs.Telling.TheVariants.{Numbers}
+use Rattle.command_answers.specs.declared.rests.PlanTelling.TheVariants.{Verdict, Reasons}
 use Rattle.command_answers.specs.Commands.{PairOfFiles, RunsFacts, RunsShape, RunsBounds, RunsLog, Loads}
 use Rattle.command_answers.specs.Cells.{LoadsCells}
 use Rattle.command_run.specs.Streams.{Streams, Devices}
 use Rattle.command_run.specs.Inputs.{RunsInput}
 use Rattle.command_run.specs.Tellings.{RunsTelling}
+use Rattle.command_run.specs.Pictures.{RunsTimetable, RunsDrawing}
 use Rattle.command_run.specs.Planners.{SeeksPlan}
 use Rattle.command_run.specs.Improvers.{Improves}
 use Rattle.command_run.specs.Drives.{Drives}
@@ -96,7 +97,7 @@ module _ {W : Type 0} (gives : W → List ℕ → Result (List ℕ) CommandFault
   RunsCommand Explain chosen texts before outcome texts_after after =
       RunsTelling gives Reasons chosen.at (pair_in chosen) (log_in chosen) texts outcome texts_after × (after ≡ before)
   RunsCommand Schedule chosen texts before outcome texts_after after =
-      RunsTelling gives Moments chosen.at (pair_in chosen) (log_in chosen) texts outcome texts_after × (after ≡ before)
+      RunsTimetable gives chosen.svg chosen.at (pair_in chosen) (log_in chosen) texts before outcome texts_after after
   RunsCommand Bounds chosen texts before outcome texts_after after =
       RunsBounds gives (pair_in chosen) texts outcome texts_after × (after ≡ before)
   RunsCommand Plan chosen texts before outcome texts_after after =
@@ -112,7 +113,7 @@ module _ {W : Type 0} (gives : W → List ℕ → Result (List ℕ) CommandFault
   RunsCommand Audit chosen texts before outcome texts_after after =
       RunsLog gives Numbers (pair_in chosen) (file_at chosen 2) texts outcome texts_after × (after ≡ before)
   RunsCommand Gantt chosen texts before outcome texts_after after =
-      RunsLog gives Drawing (pair_in chosen) (file_at chosen 2) texts outcome texts_after × (after ≡ before)
+      RunsDrawing gives chosen.svg (pair_in chosen) (file_at chosen 2) texts before outcome texts_after after
 
   -- the command is run, and then its answer printed, or its fault told
   pub record Commands (chosen : Chosen) (before : Devices W) (status : ℕ) (after : Devices W) : Type 0 where

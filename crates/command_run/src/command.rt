@@ -13,6 +13,7 @@ use crate::drives::drive_answer;
 use crate::hubs::hub_answer;
 use crate::improvers::{better_answer, better_rest_answer};
 use crate::input::input_answer;
+use crate::pictures::{drawing_answer, timetable_answer};
 use crate::planners::seek_answer;
 use crate::resumes::resume_answer;
 use crate::tellings::telling_answer;
@@ -134,7 +135,10 @@ pub(crate) fn command<T: Texts, R: Source, W: Outlet, S: Screen>(
         CommandName::Shape => shape_answer(alloc, texts, &pair(chosen)),
         CommandName::Check => told(alloc, chosen, texts, PlanTelling::Verdict),
         CommandName::Explain => told(alloc, chosen, texts, PlanTelling::Reasons),
-        CommandName::Schedule => told(alloc, chosen, texts, PlanTelling::Moments),
+        CommandName::Schedule => {
+            let (pair, log) = (pair(chosen), rest_log(chosen));
+            timetable_answer(alloc, texts, &pair, log, chosen.at, chosen.svg, streams)
+        }
         CommandName::Bounds => bounds_answer(alloc, texts, &pair(chosen)),
         CommandName::Plan => seek_answer(alloc, texts, &pair(chosen), chosen.rounds),
         CommandName::Improve => bettered(alloc, chosen, texts, screen),
@@ -153,7 +157,7 @@ pub(crate) fn command<T: Texts, R: Source, W: Outlet, S: Screen>(
         }
         CommandName::Gantt => {
             let log = file(chosen, 2);
-            log_answer(alloc, texts, &pair(chosen), log, Telling::Drawing)
+            drawing_answer(alloc, texts, &pair(chosen), log, chosen.svg, streams)
         }
     }
 }

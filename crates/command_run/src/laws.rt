@@ -8,6 +8,7 @@
 ghost use Rattle.command_run.specs.Laws.{FactsTellInstanceFirst, ShapeTellsInstanceFirst, CheckTellsInstanceFirst, ExplainTellsInstanceFirst, ScheduleTellsInstanceFirst, BoundsTellInstanceFirst};
 ghost use Rattle.command_run.specs.Laws.{LogTellsInstanceFirst, RestTellsInstanceFirst, PlanTellsInstanceFirst, ImproveTellsInstanceFirst};
 ghost use Rattle.command_run.specs.Laws.{DriveTellsInstanceFirst, ResumeTellsInstanceFirst, HubTellsInstanceFirst};
+ghost use Rattle.command_run.specs.Laws.{ScheduleDrawsInstanceFirst, LogDrawsInstanceFirst, ScheduleIsDrawn, LogIsDrawn};
 ghost use Rattle.command_run.specs.Laws.{FactsAnswerShop, ShapeAnswersPlan, CheckAnswersPlan, ExplainAnswersPlan, ScheduleAnswersPlan, BoundsAnswerPlan, LogIsAnswered, RestIsAnswered};
 ghost use Rattle.command_run.specs.Laws.{PlanAnswersPlan, ImproveAnswersPlan, DriveDrivesPlan, ResumeGoesOn};
 ghost use Rattle.command_run.specs.Laws.{HubDrivesPlans, InputAnswersShop};
@@ -17,8 +18,8 @@ ghost use Rattle.command_run.specs.Laws.{WhatFailsIsTold, NothingIsHeldBack, Wha
 use command_answers::Texts;
 
 /// In each command over files: where the text of the instance is refused, its first fault is told, unless memory
-/// runs out, and no other file is asked for. `drive`, `resume` and `hub` then read and write no byte. (For `plan` and
-/// `improve` memory may also run out before any file is asked for.)
+/// runs out, and no other file is asked for. `drive`, `resume`, `hub` and a command with `--svg` then read and write no
+/// byte. (For `plan` and `improve` memory may also run out before any file is asked for.)
 pub fn instance_first()
     ensures facts { FactsTellInstanceFirst }
     ensures shape { ShapeTellsInstanceFirst }
@@ -28,6 +29,8 @@ pub fn instance_first()
     ensures bounds { BoundsTellInstanceFirst }
     ensures log { LogTellsInstanceFirst }
     ensures rest { RestTellsInstanceFirst }
+    ensures schedule_picture { ScheduleDrawsInstanceFirst }
+    ensures log_picture { LogDrawsInstanceFirst }
     ensures plan { PlanTellsInstanceFirst }
     ensures improve { ImproveTellsInstanceFirst }
     ensures drive { DriveTellsInstanceFirst }
@@ -37,9 +40,10 @@ pub fn instance_first()
 
 /// Files that tell a shop and a plan are answered, unless memory runs out, and exactly they are asked for. `plan` and
 /// `improve` answer what their search allows. An accepted plan has its cell driven by `drive`, and by `resume` from
-/// its log, unless that is refused. `hub` drives the cells of its plans, if all are accepted. Where memory runs out
-/// before a cell is driven, these three read and write no byte. Without words an input within the limit that tells a
-/// shop is answered by its facts, unless a read fails or memory runs out.
+/// its log, unless that is refused. `hub` drives the cells of its plans, if all are accepted. With `--svg` an accepted
+/// plan is drawn by `schedule`, and a log that isn't refused by `gantt`. Where memory runs out before a cell is driven
+/// or a picture drawn, no byte is read or written. Without words an input within the limit that tells a shop is answered
+/// by its facts, unless a read fails or memory runs out.
 pub fn good_files_are_answered()
     ensures facts { FactsAnswerShop }
     ensures shape { ShapeAnswersPlan }
@@ -49,6 +53,8 @@ pub fn good_files_are_answered()
     ensures bounds { BoundsAnswerPlan }
     ensures log { LogIsAnswered }
     ensures rest { RestIsAnswered }
+    ensures schedule_picture { ScheduleIsDrawn }
+    ensures log_picture { LogIsDrawn }
     ensures plan { PlanAnswersPlan }
     ensures improve { ImproveAnswersPlan }
     ensures drive { DriveDrivesPlan }
@@ -89,8 +95,9 @@ pub fn nothing_is_held_back<T: Texts>()
 {}
 
 /// Where a run ends with 2 or more, only what driven cells answered was written on the output (of a run that was
-/// taken up, its events once more before that). They are the cells of the accepted plans in the files that the words
-/// name. Behind that stand at most the first bytes of the command's answer, a write of which failed.
+/// taken up, its events once more before that), or a picture, whole or up to a write that failed. They are the cells of
+/// the accepted plans, and the picture of the plan or the log, in the files that the words name. Behind that stand at
+/// most the first bytes of the command's answer, a write of which failed.
 pub fn what_fails_is_no_answer<T: Texts>()
     ensures { WhatFailsIsNoAnswer T.gives }
 {}

@@ -1,5 +1,5 @@
 -- What the words of a command line ask for, by the matches that `clap` finds in them.
-use Rattle.std.specs.Prelude.{◌≡◌, ◌≢◌, ◌≤◌, ◌++◌, ◌&&◌, ℕ, nat_le, nat_lt, if◌then◌else◌, Bool, true, false, List, [], ◌∷◌, Option, Some, None, IfSome, String, length, map, option_map, unwrap_or, pos, codes}
+use Rattle.std.specs.Prelude.{◌≡◌, ◌≢◌, ◌≤◌, ◌++◌, ◌&&◌, ℕ, nat_le, nat_lt, if◌then◌else◌, Bool, true, false, List, [], ◌∷◌, Option, Some, None, IfSome, String, bytes_eq, length, map, option_map, unwrap_or, pos, codes}
 use Rattle.std.specs.List.{list_all}
 use Rattle.std.specs.Option.{option_map_or}
 use Rattle.std.specs.String.{string_bytes}
@@ -9,7 +9,7 @@ use Rattle.text_lines.specs.Numbers.{is_digit, value_of}
 use Rattle.clap.specs.Kinds.{or_else}
 use Rattle.clap.specs.Words.{IsAmong, IsSignedIn, Kinds, Row, Text, all_of, fault_of, first_of, one_of, subcommand_of, without_minus}
 use Rattle.clap.specs.declared.error.kind.ErrorKind.{ErrorKind}
-use Rattle.clap.specs.declared.error.kind.ErrorKind.TheVariants.{DisplayHelp, DisplayVersion, MissingRequiredArgument, OutOfMemory, ValueValidation}
+use Rattle.clap.specs.declared.error.kind.ErrorKind.TheVariants.{ArgumentConflict, DisplayHelp, DisplayVersion, MissingRequiredArgument, OutOfMemory, ValueValidation}
 use Rattle.command_words.specs.CommandLine.{command_line, most_rounds, greatest_seed, latest_moment}
 use Rattle.command_words.specs.declared.words.Chosen.{Chosen}
 use Rattle.command_words.specs.declared.words.CommandName.{CommandName}
@@ -114,7 +114,11 @@ lines_in rows = option_map value_of (first_of (codes "lines") rows)
 abbrev pub leap_in : List Row → Option ℕ
 leap_in rows = option_map value_of (first_of (codes "leap") rows)
 
--- the choice holds the command, the files, the instance's name, the rounds, the seed, the log, the moment, the version of the lines and the longest time that were found
+-- whether a picture is asked for: the switch is `true`
+abbrev pub svg_in : List Row → Bool
+svg_in rows = option_map_or (λ text. bytes_eq text (codes "true")) (first_of (codes "svg") rows) false
+
+-- the choice holds the command, the files, the instance's name, the rounds, the seed, the log, the moment, the version of the lines, the longest time and the switch that were found
 pub record IsChoiceOf (found : Found) (chosen : Chosen) : Type 0 where
   pub name : word_of chosen.name ≡ word_found found
   pub files : texts_of chosen.files.items ≡ files_in (rows_found found)
@@ -125,6 +129,7 @@ pub record IsChoiceOf (found : Found) (chosen : Chosen) : Type 0 where
   pub at : chosen.at ≡ at_in (rows_found found)
   pub lines : chosen.lines ≡ lines_in (rows_found found)
   pub leap : chosen.leap ≡ leap_in (rows_found found)
+  pub svg : chosen.svg ≡ svg_in (rows_found found)
 
 -- the choice has as many files as its command takes, no more rounds than a search may have, no greater seed than it takes, no moment past the latest, and no longer time than that
 pub record IsWithin (chosen : Chosen) : Type 0 where
@@ -161,11 +166,24 @@ number_misfit digits least most (Some word) = if is_number digits least most wor
 abbrev pub driven_misfit : List Row → Kinds
 driven_misfit rows = or_else (number_misfit 1 1 2 (first_of (codes "lines") rows)) (number_misfit 13 1 latest_moment (first_of (codes "leap") rows))
 
+-- a picture of the rest of a run is asked for, and there is none
+abbrev pub has_conflict : Option Text → Bool → Bool
+has_conflict None svg = false
+has_conflict (Some log) svg = svg
+
+-- so of the matches of a command
+abbrev pub is_conflict : List Row → Bool
+is_conflict rows = has_conflict (after_in rows) (svg_in rows)
+
+-- why its matches aren't taken: for that picture, or for the moment
+abbrev pub misfits_of : List Row → Kinds
+misfits_of rows = if is_conflict rows then ArgumentConflict ∷ [] else misfit_of (after_in rows) (first_of (codes "at") rows)
+
 -- so of what was found
 abbrev pub misfit_in : Found → Kinds
-misfit_in found = or_else (misfit_of (after_in (rows_found found)) (first_of (codes "at") (rows_found found))) (driven_misfit (rows_found found))
+misfit_in found = or_else (misfits_of (rows_found found)) (driven_misfit (rows_found found))
 
--- why the words are refused, or nothing where they are taken: `clap`'s reasons, or else that a number doesn't fit
+-- why the words are refused, or nothing where they are taken: `clap`'s reasons, or else that what they ask for doesn't fit together
 abbrev pub reasons_in : List Text → Kinds
 reasons_in words = or_else (parse_reasons_in words) (misfit_in (found_in words))
 

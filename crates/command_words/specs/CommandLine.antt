@@ -8,6 +8,7 @@ use Rattle.clap.specs.declared.builder.command.Command.TheViews.{out-Command}
 use Rattle.command_words.specs.declared.words.CommandName.{CommandName}
 use Rattle.command_words.specs.declared.words.CommandName.TheVariants.{Input, Facts, Shape as ShapeName, Check, Explain, Schedule, Bounds, Plan, Improve, Drive, Resume, Hub, Audit, Gantt}
 use Rattle.clap.specs.declared.builder.value_parser.ValueParser.TheVariants.{Signed}
+use Rattle.clap.specs.declared.builder.action.ArgAction.TheVariants.{SetTrue}
 
 -- a file that has to be named, under the name that help gives it
 abbrev pub file_rule : Text → Rule
@@ -45,6 +46,10 @@ seed_rule = record (option_rule (codes "seed")) {
   defaults = codes "0" ∷ [];
 }
 
+-- `--svg`, a switch
+abbrev pub svg_rule : Rule
+svg_rule = record (new_rule (codes "svg")) { long = Some (codes "svg"); action = Some SetTrue }
+
 -- a command with `--instance NAME` and the instance's file, and what it takes besides
 abbrev pub command : Text → List Rule → Shape
 command name more = record (new_shape name) {
@@ -59,21 +64,17 @@ plan_command name more = command name (file_rule (codes "PLAN") ∷ more)
 abbrev pub latest_moment : ℕ
 latest_moment = 1000000000000
 
--- `--after LOG` and `--at N`: the log of a run, and the present moment of it
-abbrev pub rest_rules : List Rule
-rest_rules = option_rule (codes "after") ∷ option_rule (codes "at") ∷ []
-
--- a command on an instance and a plan, or on the rest of a run of it
-abbrev pub rest_command : Text → Shape
-rest_command name = plan_command name rest_rules
+-- a command on an instance and a plan, or with `--after LOG` and `--at N` on the rest of a run of it, and what it takes besides
+abbrev pub rest_command : Text → List Rule → Shape
+rest_command name more = plan_command name (option_rule (codes "after") ∷ option_rule (codes "at") ∷ more)
 
 -- `--lines V` and `--leap S`: the version of the lines of a driven cell, and the longest time from one report to the next
 abbrev pub driven_rules : List Rule
 driven_rules = option_rule (codes "lines") ∷ option_rule (codes "leap") ∷ []
 
--- a command on an instance, a plan and a log
-abbrev pub log_command : Text → Shape
-log_command name = plan_command name (file_rule (codes "LOG") ∷ [])
+-- a command on an instance, a plan and a log, and what it takes besides
+abbrev pub log_command : Text → List Rule → Shape
+log_command name more = plan_command name (file_rule (codes "LOG") ∷ more)
 
 -- the program itself, which takes no word but a command, and has `--help` and `--version`
 abbrev pub bare_program : Shape
@@ -84,17 +85,17 @@ abbrev pub described : CommandName → Shape
 described Input = bare_program
 described Facts = command (codes "facts") []
 described ShapeName = plan_command (codes "shape") []
-described Check = rest_command (codes "check")
-described Explain = rest_command (codes "explain")
-described Schedule = rest_command (codes "schedule")
+described Check = rest_command (codes "check") []
+described Explain = rest_command (codes "explain") []
+described Schedule = rest_command (codes "schedule") (svg_rule ∷ [])
 described Bounds = plan_command (codes "bounds") []
 described Plan = plan_command (codes "plan") (rounds_rule ∷ [])
 described Improve = plan_command (codes "improve") (option_rule (codes "after") ∷ option_rule (codes "at") ∷ rounds_rule ∷ seed_rule ∷ [])
 described Drive = plan_command (codes "drive") driven_rules
-described Resume = log_command (codes "resume")
+described Resume = log_command (codes "resume") []
 described Hub = command (codes "hub") (plans_rule ∷ [])
-described Audit = log_command (codes "audit")
-described Gantt = log_command (codes "gantt")
+described Audit = log_command (codes "audit") []
+described Gantt = log_command (codes "gantt") (svg_rule ∷ [])
 
 -- a command line of one command alone
 abbrev pub leaf : Shape → App

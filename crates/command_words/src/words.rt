@@ -6,7 +6,7 @@ ghost use Rattle.text_lines.specs.Numbers.{value_of};
 ghost use Rattle.clap.specs.Words.{first_of, found_of, kind_of, one_of, rows_of, subcommand_rows_of};
 ghost use Rattle.command_words.specs.declared.words.CommandName.{CommandName};
 ghost use Rattle.command_words.specs.CommandLine.{most_rounds, greatest_seed, latest_moment};
-ghost use Rattle.command_words.specs.Choice.{FitsUpTo, IsChoiceOf, IsFit, IsWithin, TellsOneOf, TellsReason, after_in, at_in, files_in, found_in, is_moment, is_number, leap_in, lines_in, misfit_in, misfit_of, number_misfit, reasons_in, rounds_in, seed_in, texts_of, values_of, word_of};
+ghost use Rattle.command_words.specs.Choice.{FitsUpTo, IsChoiceOf, IsFit, IsWithin, TellsOneOf, TellsReason, after_in, at_in, files_in, found_in, is_conflict, is_moment, is_number, leap_in, lines_in, misfit_in, misfit_of, misfits_of, number_misfit, reasons_in, rounds_in, seed_in, svg_in, texts_of, values_of, word_of};
 
 mod command_line;
 
@@ -84,6 +84,8 @@ pub struct Chosen {
     pub lines: Option<u64>,
     /// The longest time from one report to the next, at least 1, if one is given.
     pub leap: Option<u64>,
+    /// Whether a picture is drawn in place of the text.
+    pub svg: bool,
 }
 
 /// Why the words choose nothing.
@@ -140,7 +142,8 @@ impl From<Refusal> for WordsFault {
 /// Reads the command line, of which the first word is the program's name. `WordsFault::Memory` may come in place of
 /// any other answer. The number of files is one that the command takes, the rounds are at most 1000, the seed at most
 /// 1,000,000, and the moment, a number of 1 to 13 digits, at most 1,000,000,000,000. Exactly what `clap` refuses is
-/// refused, a moment that isn't one, or that comes without a log, and a version of the lines or a longest time that isn't one.
+/// refused, a moment that isn't one, or that comes without a log, a picture of the rest of a run, and a version of the
+/// lines or a longest time that isn't one.
 pub fn read_words(alloc: Global, words: &[&str]) -> Result<Chosen, WordsFault>
     ensures chosen { IfOk result (IsChoiceOf (found_in (map (λ word. word.now) words.now))) }
     ensures within { IfOk result IsWithin }
@@ -185,6 +188,7 @@ fn chosen_by(alloc: Global, matches: &ArgMatches<'_>) -> Result<Chosen, WordsFau
             at: None,
             lines: None,
             leap: None,
+            svg: false,
         }),
     }
 }
@@ -204,9 +208,10 @@ fn chosen_of(alloc: Global, word: &str, matches: &ArgMatches<'_>) -> Result<Chos
         rounds: rounds_of(matches),
         seed: seed_of(matches),
         after: text_of(alloc, matches, "after")?,
-        at: at_of(alloc, matches)?,
+        at: rest_at(alloc, matches)?,
         lines: lines_of(alloc, matches)?,
         leap: leap_of(alloc, matches)?,
+        svg: svg_of(matches),
     })
 }
 
@@ -294,6 +299,39 @@ fn seed_of(matches: &ArgMatches<'_>) -> u32
     matches.get_one::<u32>("seed").unwrap_or(0)
 }
 
+/// Whether a picture is asked for.
+fn svg_of(matches: &ArgMatches<'_>) -> bool
+    ensures { result ≡ svg_in (rows_of (found_of matches.now)) }
+{
+    match matches.get_str("svg") {
+        Some(value) => value == "true",
+        None => false,
+    }
+}
+
+/// Whether a picture of the rest of a run is asked for.
+fn is_conflict(matches: &ArgMatches<'_>) -> bool
+    ensures { result ≡ is_conflict (rows_of (found_of matches.now)) }
+{
+    match matches.get_str("after") {
+        Some(_) => svg_of(matches),
+        None => false,
+    }
+}
+
+/// The present moment, if it is given. There is no picture of the rest of a run.
+fn rest_at(alloc: Global, matches: &ArgMatches<'_>) -> Result<Option<u64>, WordsFault>
+    ensures exact { IfOk result (λ at. at ≡ at_in (rows_of (found_of matches.now))) }
+    ensures early { IfOk result (λ at. IfSome at (λ n. n ≤ latest_moment)) }
+    ensures fits { IfOk result (λ _. misfits_of (rows_of (found_of matches.now)) ≡ []) }
+    ensures refused { IfErr result (TellsOneOf (misfits_of (rows_of (found_of matches.now)))) }
+{
+    if is_conflict(matches) {
+        return Err(no_picture(alloc));
+    }
+    at_of(alloc, matches)
+}
+
 /// The present moment, if it is given, which goes with a log.
 fn at_of(alloc: Global, matches: &ArgMatches<'_>) -> Result<Option<u64>, WordsFault>
     ensures exact { IfOk result (λ at. at ≡ at_in (rows_of (found_of matches.now))) }
@@ -327,6 +365,14 @@ fn moment_of(word: &str) -> Option<u64>
         return None;
     }
     Some(number)
+}
+
+/// The fault of a picture of the rest of a run.
+fn no_picture(alloc: Global) -> WordsFault
+    ensures { TellsReason ErrorKind.ArgumentConflict result }
+{
+    let parts = ["the argument '--after <LOG>' cannot be used with '--svg'"];
+    misfit(alloc, ErrorKind::ArgumentConflict, parts.as_slice())
 }
 
 /// The fault of a moment without a log.

@@ -17,7 +17,7 @@ use Rattle.clap.specs.Takes.{is_given}
 use Rattle.clap.specs.Kinds.{Kinds, or_else, range_kinds, check_kinds}
 use Rattle.clap.specs.Faults.{action_fault, bundle_step_fault, check_fault, default_fault, defaults_fault, flags_fault, level_fault, long_fault, option_fault, other_fault, positional_fault, react_fault, settle_fault, short_fault, step_fault, turn_fault, use_fault, values_fault, walk_fault, word_fault}
 use Rattle.clap.specs.declared.builder.action.ArgAction.{ArgAction}
-use Rattle.clap.specs.declared.builder.action.ArgAction.TheVariants.{Set, Append, Help}
+use Rattle.clap.specs.declared.builder.action.ArgAction.TheVariants.{Set, Append, SetTrue, Help}
 use Rattle.clap.specs.declared.error.kind.ErrorKind.{ErrorKind}
 use Rattle.clap.specs.declared.parser.matches.ValueSource.{ValueSource}
 use Rattle.clap.specs.declared.parser.matches.ValueSource.TheVariants.{DefaultValue, CommandLine}
@@ -40,12 +40,28 @@ abbrev pub FitRows : List Rule → List Row → Type 0
 FitRows c [] = Unit {0}
 FitRows c (r ∷ rs) = FitRow c r × FitRows c rs
 
--- an argument of the fair kinds, alone with its id
-pub record PlainRule (c : List Rule) (a : Rule) : Type 0 where
-  pub own : arg_by_id c a.id ≡ Some a
+-- an argument whose values are those that it is used with
+pub record IsValued (a : Rule) : Type 0 where
   pub missing : a.missing ≡ []
   pub action : (action_of a ≡ Set) ⊎ ((action_of a ≡ Append) ⊎ (action_of a ≡ Help))
   pub defaults : (is_empty a.defaults ≡ true) ⊎ ((least_of a ≤ length a.defaults) × (length a.defaults ≤ most_values a))
+
+-- a switch, which is used without a value
+pub record IsSwitch (a : Rule) : Type 0 where
+  pub least : least_of a ≡ 0
+  pub action : action_of a ≡ SetTrue
+
+-- an argument of the fair kinds, alone with its id
+pub record PlainRule (c : List Rule) (a : Rule) : Type 0 where
+  pub own : arg_by_id c a.id ≡ Some a
+  pub kind : IsValued a ⊎ IsSwitch a
+
+-- nothing limits the values of a switch
+switch_most : (a : Rule) (n : ℕ) → IsSwitch a → action_of a ≡ Set → n ≤ most_values a
+switch_most a n switch sets = (let bad : Set ≡ SetTrue = sym sets ∙ switch.action in cc)
+
+switch_least : (a : Rule) (n : ℕ) → IsSwitch a → least_of a ≤ n
+switch_least a n switch = omega (arith, switch.least)
 
 abbrev pub PlainRules : List Rule → List Rule → Type 0
 PlainRules c [] = Unit {0}
@@ -126,11 +142,11 @@ join_passes a (x ∷ xs) ys d e =
     ap (λ k. or_else k (values_fault a (xs ++ ys))) p.0 ∙ join_passes a xs ys p.1 e
 
 -- the row that a first use makes
-new_row : (c : List Rule) (a : Rule) (s : ValueSource) (vs : List Text) → PlainRule c a → least_of a ≤ length vs → length vs ≤ most_values a → values_fault a vs ≡ []
+new_row : (c : List Rule) (a : Rule) (s : ValueSource) (vs : List Text) → PlainRule c a → least_of a ≤ length vs → (action_of a ≡ Set → length vs ≤ most_values a) → values_fault a vs ≡ []
     → FitRow c (record { id = a.id; values = vs; count = None; source = Some s; reading = reading_by a })
-new_row c a s vs fair low high passes = (a, fair.own, record { least = low; most = λ _. high; passes = passes; reading = refl })
+new_row c a s vs fair low high passes = (a, fair.own, record { least = low; most = high; passes = passes; reading = refl })
 
-set_fits : (c : List Rule) (a : Rule) (vs : List Text) (rows : List Row) → PlainRule c a → least_of a ≤ length vs → length vs ≤ most_values a
+set_fits : (c : List Rule) (a : Rule) (vs : List Text) (rows : List Row) → PlainRule c a → least_of a ≤ length vs → (action_of a ≡ Set → length vs ≤ most_values a)
     → has_row a.id rows ≡ false → values_fault a vs ≡ [] → FitRows c rows → FitRows c (with_values a.id (reading_by a) CommandLine vs (without a.id rows))
 set_fits c a vs rows fair low high none passes h =
     let one = new_row c a CommandLine vs fair low high passes in
@@ -140,7 +156,7 @@ set_fits c a vs rows fair low high none passes h =
 append_fits : (c : List Rule) (a : Rule) (vs : List Text) (rows : List Row) → PlainRule c a → action_of a ≡ Append → least_of a ≤ length vs → length vs ≤ most_values a
     → values_fault a vs ≡ [] → FitRows c rows → FitRows c (with_values a.id (reading_by a) CommandLine vs rows)
 append_fits c a vs rows fair appends low high passes h =
-    more_fits c a.id CommandLine vs _ rows more h (new_row c a CommandLine vs fair low high passes, tt)
+    more_fits c a.id CommandLine vs _ rows more h (new_row c a CommandLine vs fair low (λ _. high) passes, tt)
   where
     more : (r : Row) → r.id ≡ a.id → FitRow c r → FitRow c (record r { values = r.values ++ vs; source = Some (stronger r.source CommandLine) })
     more r is f =
@@ -163,14 +179,14 @@ not_repeated false again once e = refl
 not_repeated true true once e = once
 not_repeated true false once e = cc
 
-used_fits : (c : List Rule) (again : Bool) → again ≡ false → (a : Rule) (values : List Text) (rows : List Row) → PlainRule c a → use_fault again a values rows ≡ []
+valued_fits : (c : List Rule) (again : Bool) → again ≡ false → (a : Rule) (values : List Text) (rows : List Row) → PlainRule c a → IsValued a → use_fault again a values rows ≡ []
     → FitRows c rows → FitRows c (used a values rows)
-used_fits c again once a values rows fair e h =
+valued_fits c again once a values rows fair valued e h =
     let parts = both_none (range_kinds (least_of a) (most_values a) (length values)) (action_fault (action_of a) again a (values_or_missing a values) rows) e in
     let range = in_range (least_of a) (most_values a) (length values) parts.0 in
-    let same = given a values fair.missing in
+    let same = given a values valued.missing in
     let acts : action_fault (action_of a) again a values rows ≡ [] = subst (λ (vs : List Text). action_fault (action_of a) again a vs rows ≡ []) same parts.1 in
-    subst (λ (vs : List Text). FitRows c (used_as (action_of a) a.id (reading_by a) vs rows)) (sym same) (by_action range.0 range.1 acts fair.action)
+    subst (λ (vs : List Text). FitRows c (used_as (action_of a) a.id (reading_by a) vs rows)) (sym same) (by_action range.0 range.1 acts valued.action)
   where
     by_action : least_of a ≤ length values → length values ≤ most_values a → action_fault (action_of a) again a values rows ≡ []
         → (action_of a ≡ Set) ⊎ ((action_of a ≡ Append) ⊎ (action_of a ≡ Help)) → FitRows c (used_as (action_of a) a.id (reading_by a) values rows)
@@ -178,7 +194,7 @@ used_fits c again once a values rows fair e h =
         let as_set : action_fault Set again a values rows ≡ [] = subst (λ (x : ArgAction). action_fault x again a values rows ≡ []) sets acts in
         let parts = both_none _ (values_fault a values) as_set in
         subst (λ (x : ArgAction). FitRows c (used_as x a.id (reading_by a) values rows)) (sym sets)
-        (set_fits c a values rows fair low high (not_repeated (has_row a.id rows) again once parts.0) parts.1 h)
+        (set_fits c a values rows fair low (λ _. high) (not_repeated (has_row a.id rows) again once parts.0) parts.1 h)
     by_action low high acts (inr (inl appends)) =
         let passes : action_fault Append again a values rows ≡ [] = subst (λ (x : ArgAction). action_fault x again a values rows ≡ []) appends acts in
         subst (λ (x : ArgAction). FitRows c (used_as x a.id (reading_by a) values rows)) (sym appends)
@@ -186,6 +202,23 @@ used_fits c again once a values rows fair e h =
     by_action low high acts (inr (inr helps)) =
         let bad : action_fault Help again a values rows ≡ [] = subst (λ (x : ArgAction). action_fault x again a values rows ≡ []) helps acts in
         cc
+
+switch_fits : (c : List Rule) (again : Bool) → again ≡ false → (a : Rule) (values : List Text) (rows : List Row) → PlainRule c a → IsSwitch a → use_fault again a values rows ≡ []
+    → FitRows c rows → FitRows c (used a values rows)
+switch_fits c again once a values rows fair switch e h =
+    let vs = values_or_missing a values in
+    let parts = both_none (range_kinds (least_of a) (most_values a) (length values)) (action_fault (action_of a) again a (values_or_missing a values) rows) e in
+    let acts : action_fault SetTrue again a vs rows ≡ [] = subst (λ (x : ArgAction). action_fault x again a vs rows ≡ []) switch.action parts.1 in
+    let faults = both_none _ (values_fault a vs) acts in
+    subst (λ (x : ArgAction). FitRows c (used_as x a.id (reading_by a) vs rows)) (sym switch.action)
+    (set_fits c a vs rows fair (switch_least a (length vs) switch) (switch_most a (length vs) switch) (not_repeated (has_row a.id rows) again once faults.0) faults.1 h)
+
+used_fits : (c : List Rule) (again : Bool) → again ≡ false → (a : Rule) (values : List Text) (rows : List Row) → PlainRule c a → use_fault again a values rows ≡ []
+    → FitRows c rows → FitRows c (used a values rows)
+used_fits c again once a values rows fair e h = elim fair.kind [
+  | inl valued ↦ valued_fits c again once a values rows fair valued e h
+  | inr switch ↦ switch_fits c again once a values rows fair switch e h
+]
 
 -- ---- the walk
 
@@ -350,10 +383,21 @@ nonempty v vs = go (is_empty (v ∷ vs)) refl
     go true is = let bad = eqb-true (length (v ∷ vs)) 0 is in absurd (omega arith)
     go false is = refl
 
+-- the defaults of an argument are none, or as many as it takes
+abbrev HasRoomForDefaults : Rule → List Text → Type 0
+HasRoomForDefaults a ds = (is_empty ds ≡ true) ⊎ ((least_of a ≤ length ds) × (action_of a ≡ Set → length ds ≤ most_values a))
+
+default_room : (a : Rule) → IsValued a ⊎ IsSwitch a → HasRoomForDefaults a a.defaults
+default_room a (inl valued) = elim valued.defaults [
+  | inl none ↦ inl none
+  | inr range ↦ inr (range.0, λ _. range.1)
+]
+default_room a (inr switch) = inr (switch_least a (length a.defaults) switch, switch_most a (length a.defaults) switch)
+
 default_fits : (c : List Rule) (a : Rule) (rows : List Row) → PlainRule c a → default_fault rows a ≡ [] → FitRows c rows → FitRows c (with_default rows a)
 default_fits c a rows fair e ok = go (has_row a.id rows) refl e
   where
-    first : (ds : List Text) → has_row a.id rows ≡ false → (is_empty ds ≡ true) ⊎ ((least_of a ≤ length ds) × (length ds ≤ most_values a))
+    first : (ds : List Text) → has_row a.id rows ≡ false → HasRoomForDefaults a ds
         → cond (is_empty ds) [] (or_else (Rattle.clap.specs.Kinds.request_kinds (action_of a)) (values_fault a ds)) ≡ []
         → FitRows c (Rattle.clap.specs.Walk.default_rows a.id (reading_by a) ds rows)
     first [] none d e = ok
@@ -367,7 +411,7 @@ default_fits c a rows fair e ok = go (has_row a.id rows) refl e
         → cond (b || is_empty a.defaults) [] (or_else (Rattle.clap.specs.Kinds.request_kinds (action_of a)) (values_fault a a.defaults)) ≡ []
         → FitRows c (cond b rows (Rattle.clap.specs.Walk.default_rows a.id (reading_by a) a.defaults rows))
     go true is e = ok
-    go false is e = first a.defaults is fair.defaults e
+    go false is e = first a.defaults is (default_room a fair.kind) e
 
 defaults_fit : (c xs : List Rule) (rows : List Row) → PlainRules c xs → defaults_fault rows xs ≡ [] → FitRows c rows → FitRows c (fold with_default rows xs)
 unfolding defaults_fault

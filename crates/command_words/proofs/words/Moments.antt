@@ -1,12 +1,13 @@
 -- Words that are moments, and what is said of those that aren't.
-use Rattle.std.proofs.Common.{◌≡◌, ◌≤◌, ◌<◌, ◌∙◌, ◌&&◌, ℕ, true, false, nat_le, nat_lt, [], ◌∷◌, length, Option, Some, None, ap, subst, sym, arith, refl}
+use Rattle.std.proofs.Common.{◌≡◌, ◌≤◌, ◌<◌, ◌∙◌, ◌&&◌, ℕ, true, false, nat_le, nat_lt, List, [], ◌∷◌, length, Option, Some, None, Result, IfOk, IfErr, ap, subst, sym, arith, refl, codes}
 use Rattle.std.specs.List.{list_all}
 use Rattle.std.proofs.lemmas.Bool.{and_from, and_parts, false_from_ne_true, lt-ltb, le-leb, leb-true, ltb-true, cond-true, cond-false}
 use Rattle.text_lines.specs.Numbers.{IsNumeral, is_digit, value_of}
-use Rattle.clap.specs.Words.{Text}
-use Rattle.clap.specs.declared.error.kind.ErrorKind.TheVariants.{MissingRequiredArgument, ValueValidation}
+use Rattle.clap.specs.Words.{Kinds, Row, Text, first_of}
+use Rattle.clap.specs.declared.error.kind.ErrorKind.TheVariants.{ArgumentConflict, MissingRequiredArgument, ValueValidation}
 use Rattle.command_words.specs.CommandLine.{latest_moment}
-use Rattle.command_words.specs.Choice.{is_moment, misfit_of}
+use Rattle.command_words.specs.Choice.{TellsOneOf, after_in, is_conflict, is_moment, misfit_of, misfits_of}
+use Rattle.command_words.specs.declared.words.WordsFault.{WordsFault}
 
 -- a number of 1 to 13 digits that isn't past the latest moment is one
 pub moment_from : (word : Text) (n : ℕ) → IsNumeral 13 word n → n ≤ latest_moment → is_moment word ≡ true
@@ -47,3 +48,19 @@ lacks_log log word moment none said = ap (λ l. misfit_of l word) none ∙ ap (m
 pub lacks_moment : (log word : Option Text) (text moment : Text) → log ≡ Some text → word ≡ Some moment → is_moment moment ≡ false → misfit_of log word ≡ ValueValidation ∷ []
 lacks_moment log word text moment given said isnt =
     ap (λ l. misfit_of l word) given ∙ ap (misfit_of (Some text)) said ∙ cond-false (is_moment moment) [] (ValueValidation ∷ []) isnt
+
+-- ---- a picture of the rest of a run
+
+pub conflicting : (rows : List Row) → is_conflict rows ≡ true → misfits_of rows ≡ ArgumentConflict ∷ []
+conflicting rows is = cond-true (is_conflict rows) (ArgumentConflict ∷ []) (misfit_of (after_in rows) (first_of (codes "at") rows)) is
+
+apart : (rows : List Row) → is_conflict rows ≡ false → misfits_of rows ≡ misfit_of (after_in rows) (first_of (codes "at") rows)
+apart rows isnt = cond-false (is_conflict rows) (ArgumentConflict ∷ []) (misfit_of (after_in rows) (first_of (codes "at") rows)) isnt
+
+pub fits_apart : (rows : List Row) (read : Result (Option ℕ) WordsFault) → is_conflict rows ≡ false → IfOk read (λ _. misfit_of (after_in rows) (first_of (codes "at") rows) ≡ [])
+    → IfOk read (λ _. misfits_of rows ≡ [])
+fits_apart rows read isnt fits = subst (λ (kinds : Kinds). IfOk read (λ _. kinds ≡ [])) (sym (apart rows isnt)) fits
+
+pub refused_apart : (rows : List Row) (read : Result (Option ℕ) WordsFault) → is_conflict rows ≡ false → IfErr read (TellsOneOf (misfit_of (after_in rows) (first_of (codes "at") rows)))
+    → IfErr read (TellsOneOf (misfits_of rows))
+refused_apart rows read isnt refused = subst (λ (kinds : Kinds). IfErr read (TellsOneOf kinds)) (sym (apart rows isnt)) refused

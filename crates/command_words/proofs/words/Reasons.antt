@@ -1,5 +1,5 @@
 -- Which reasons a fault tells of.
-use Rattle.std.proofs.Common.{◌≡◌, ◌∙◌, [], ◌∷◌, Result, Ok, Err, IfOk, IfErr, ap, subst, sym, refl, inl}
+use Rattle.std.proofs.Common.{◌≡◌, ◌∙◌, [], ◌∷◌, Result, Ok, Err, IfOk, IfErr, IsErrAnd, ap, subst, sym, refl, inl}
 use Rattle.clap.specs.Words.{IsAmong, Kinds}
 use Rattle.clap.specs.Kinds.{or_else}
 use Rattle.clap.specs.declared.error.kind.ErrorKind.{ErrorKind}
@@ -41,3 +41,15 @@ tells_next first next other (Err fault) none same is =
 pub no_reasons : (first next other : Kinds) (read : Result Chosen WordsFault) → first ≡ [] → other ≡ next → IfOk read (λ _. other ≡ []) → IfOk read (λ _. or_else first next ≡ [])
 no_reasons first next other (Ok chosen) none same is = ap (λ (ks : Kinds). or_else ks next) none ∙ sym same ∙ is
 no_reasons first next other (Err fault) none same is = tt
+
+-- a fault of the first, or of the second where the first finds none, is passed on
+pub passed_first : (first next : Kinds) (read : Result Chosen WordsFault) (fault : WordsFault) → IsErrAnd read (λ passed. passed ≡ fault) → TellsOneOf first fault → IfErr read (TellsOneOf (or_else first next))
+passed_first first next (Ok chosen) fault passed is = tt
+passed_first first next (Err told) fault passed is = tells_first first next told (subst (λ (f : WordsFault). TellsOneOf first f) (sym passed) is)
+
+pub passed_second : (first second third : Kinds) (read : Result Chosen WordsFault) (fault : WordsFault) → first ≡ [] → IsErrAnd read (λ passed. passed ≡ fault) → TellsOneOf second fault
+    → IfErr read (TellsOneOf (or_else first (or_else second third)))
+passed_second first second third (Ok chosen) fault none passed is = tt
+passed_second first second third (Err told) fault none passed is =
+    subst (λ (ks : Kinds). TellsOneOf (or_else ks (or_else second third)) told) (sym none)
+    (tells_first second third told (subst (λ (f : WordsFault). TellsOneOf second f) (sym passed) is))

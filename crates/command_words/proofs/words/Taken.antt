@@ -12,11 +12,11 @@ use Rattle.clap.specs.Kinds.{value_kinds}
 use Rattle.clap.specs.Faults.{built_fault, entered_fault, fault_of, is_simple_and_free, level_fault, walk_fault, values_fault}
 use Rattle.clap.specs.Words.{HasKind, IsAmong, kind_of}
 use Rattle.clap.specs.declared.error.Error.{Error}
-use Rattle.clap.specs.declared.builder.action.ArgAction.TheVariants.{Set, Help}
+use Rattle.clap.specs.declared.builder.action.ArgAction.TheVariants.{Set, SetTrue, Help}
 use Rattle.clap.specs.declared.builder.value_parser.ValueParser.{ValueParser}
 use Rattle.clap.specs.declared.builder.value_parser.ValueParser.TheVariants.{Signed}
 use Rattle.clap.proofs.ValueTestLemmas.{accepts-Accepts}
-use Rattle.command_words.specs.CommandLine.{command, command_line, driven_rules, log_command, plan_command, rest_command, described, most_rounds, greatest_seed, plans_rule, rounds_rule, seed_rule}
+use Rattle.command_words.specs.CommandLine.{command, command_line, driven_rules, log_command, plan_command, rest_command, described, most_rounds, greatest_seed, plans_rule, rounds_rule, seed_rule, svg_rule}
 use Rattle.command_words.specs.Choice.{FitsUpTo, Found, IsFit, TakesFiles, TellsOneOf, TellsReason, files_in, found_in, parse_reasons_in, values_of, word_of}
 use Rattle.command_words.specs.declared.words.CommandName.{CommandName}
 use Rattle.command_words.specs.declared.words.CommandName.TheVariants.{Facts, Shape as ShapeName, Check, Explain, Schedule, Bounds, Plan, Improve, Drive, Resume, Hub, Audit, Gantt}
@@ -127,10 +127,16 @@ abbrev as_built : Shape → Shape
 as_built s = built_leaf (inherited (with_leaf_noted (marked_built command_line.top)) s)
 
 set_plain : (c : List Rule) (a : Rule) → arg_by_id c a.id ≡ Some a → a.missing ≡ [] → action_of a ≡ Set → is_empty a.defaults ≡ true → PlainRule c a
-set_plain c a own missing sets defaults = record { own = own; missing = missing; action = inl sets; defaults = inl defaults }
+set_plain c a own missing sets defaults = record { own = own; kind = inl (record { missing = missing; action = inl sets; defaults = inl defaults }) }
+
+number_plain : (c : List Rule) (a : Rule) → arg_by_id c a.id ≡ Some a → a.missing ≡ [] → action_of a ≡ Set → least_of a ≤ length a.defaults → length a.defaults ≤ most_values a → PlainRule c a
+number_plain c a own missing sets least most = record { own = own; kind = inl (record { missing = missing; action = inl sets; defaults = inr (least, most) }) }
+
+switch_plain : (c : List Rule) (a : Rule) → arg_by_id c a.id ≡ Some a → least_of a ≡ 0 → action_of a ≡ SetTrue → PlainRule c a
+switch_plain c a own least sets = record { own = own; kind = inr (record { least = least; action = sets }) }
 
 help_plain : (c : List Rule) (a : Rule) → arg_by_id c a.id ≡ Some a → a.missing ≡ [] → action_of a ≡ Help → is_empty a.defaults ≡ true → PlainRule c a
-help_plain c a own missing helps defaults = record { own = own; missing = missing; action = inr (inr helps); defaults = inl defaults }
+help_plain c a own missing helps defaults = record { own = own; kind = inl (record { missing = missing; action = inr (inr helps); defaults = inl defaults }) }
 
 facts_fits : FitsLeaf (as_built (command (codes "facts") []))
 facts_fits = fits_leaf (as_built (command (codes "facts") [])) Facts one none none refl refl refl
@@ -144,8 +150,8 @@ plan_fits name named is counts = fits_leaf (as_built (plan_command name [])) nam
     (_, refl, refl, refl, refl, refl) (_, refl, refl, refl, refl, refl) refl tt tt counts
 
 rest_fits : (name : Text) (named : CommandName) → word_of named ≡ Some name → ((x y z : ℕ) → x ≡ 1 → y ≡ 1 → z ≡ 0 → TakesFiles named ((x + y) + z))
-    → FitsLeaf (as_built (rest_command name))
-rest_fits name named is counts = fits_leaf (as_built (rest_command name)) named one one none is refl refl (
+    → FitsLeaf (as_built (rest_command name []))
+rest_fits name named is counts = fits_leaf (as_built (rest_command name [])) named one one none is refl refl (
   set_plain _ _ refl refl refl refl,
   (
     set_plain _ _ refl refl refl refl,
@@ -183,8 +189,8 @@ drive_fits = fits_leaf (as_built (plan_command (codes "drive") driven_rules)) Dr
     (_, refl, refl, refl, refl, refl) (_, refl, refl, refl, refl, refl) refl tt tt (λ x y z p q r. omega arith)
 
 log_fits : (name : Text) (named : CommandName) → word_of named ≡ Some name → ((x y z : ℕ) → x ≡ 1 → y ≡ 1 → z ≡ 1 → TakesFiles named ((x + y) + z))
-    → FitsLeaf (as_built (log_command name))
-log_fits name named is counts = fits_leaf (as_built (log_command name)) named one one one is refl refl (
+    → FitsLeaf (as_built (log_command name []))
+log_fits name named is counts = fits_leaf (as_built (log_command name [])) named one one one is refl refl (
   set_plain _ _ refl refl refl refl,
   (
     set_plain _ _ refl refl refl refl,
@@ -199,6 +205,41 @@ log_fits name named is counts = fits_leaf (as_built (log_command name)) named on
 )
     (_, refl, refl, refl, refl, refl) (_, refl, refl, refl, refl, refl) (_, refl, refl, refl, refl, refl) tt tt counts
 
+timetable_fits : FitsLeaf (as_built (rest_command (codes "schedule") (svg_rule ∷ [])))
+timetable_fits = fits_leaf (as_built (rest_command (codes "schedule") (svg_rule ∷ []))) Schedule one one none refl refl refl (
+  set_plain _ _ refl refl refl refl,
+  (
+    set_plain _ _ refl refl refl refl,
+    (
+      set_plain _ _ refl refl refl refl,
+      (
+        set_plain _ _ refl refl refl refl,
+        (
+          set_plain _ _ refl refl refl refl,
+          (switch_plain _ _ refl refl refl, (help_plain _ _ refl refl refl refl, tt)),
+        ),
+      ),
+    ),
+  ),
+)
+    (_, refl, refl, refl, refl, refl) (_, refl, refl, refl, refl, refl) refl tt tt (λ x y z p q r. omega arith)
+
+drawing_fits : FitsLeaf (as_built (log_command (codes "gantt") (svg_rule ∷ [])))
+drawing_fits = fits_leaf (as_built (log_command (codes "gantt") (svg_rule ∷ []))) Gantt one one one refl refl refl (
+  set_plain _ _ refl refl refl refl,
+  (
+    set_plain _ _ refl refl refl refl,
+    (
+      set_plain _ _ refl refl refl refl,
+      (
+        set_plain _ _ refl refl refl refl,
+        (switch_plain _ _ refl refl refl, (help_plain _ _ refl refl refl refl, tt)),
+      ),
+    ),
+  ),
+)
+    (_, refl, refl, refl, refl, refl) (_, refl, refl, refl, refl, refl) (_, refl, refl, refl, refl, refl) tt tt (λ x y z p q r. omega arith)
+
 search_fits : FitsLeaf (as_built (plan_command (codes "plan") (rounds_rule ∷ [])))
 search_fits = fits_leaf (as_built (plan_command (codes "plan") (rounds_rule ∷ []))) Plan one one none refl refl refl (
   set_plain _ _ refl refl refl refl,
@@ -206,7 +247,7 @@ search_fits = fits_leaf (as_built (plan_command (codes "plan") (rounds_rule ∷ 
     set_plain _ _ refl refl refl refl,
     (
       set_plain _ _ refl refl refl refl,
-      (record { own = refl; missing = refl; action = inl refl; defaults = inr (omega arith, omega arith) }, (help_plain _ _ refl refl refl refl, tt)),
+      (number_plain _ _ refl refl refl (omega arith) (omega arith), (help_plain _ _ refl refl refl refl, tt)),
     ),
   ),
 )
@@ -224,9 +265,9 @@ improvement_fits = fits_leaf (as_built (described Improve)) Improve one one none
         (
           set_plain _ _ refl refl refl refl,
           (
-            record { own = refl; missing = refl; action = inl refl; defaults = inr (omega arith, omega arith) },
+            number_plain _ _ refl refl refl (omega arith) (omega arith),
             (
-              record { own = refl; missing = refl; action = inl refl; defaults = inr (omega arith, omega arith) },
+              number_plain _ _ refl refl refl (omega arith) (omega arith),
               (help_plain _ _ refl refl refl refl, tt),
             ),
           ),
@@ -242,7 +283,7 @@ hub_fits = fits_leaf (as_built (command (codes "hub") (plans_rule ∷ []))) Hub 
   set_plain _ _ refl refl refl refl,
   (
     set_plain _ _ refl refl refl refl,
-    (record { own = refl; missing = refl; action = inr (inl refl); defaults = inl refl }, (help_plain _ _ refl refl refl refl, tt)),
+    (record { own = refl; kind = inl (record { missing = refl; action = inr (inl refl); defaults = inl refl }) }, (help_plain _ _ refl refl refl refl, tt)),
   ),
 )
     (_, refl, refl, refl, refl, refl) (_, refl, refl, refl) refl tt tt (λ x y z p q r. omega arith)
@@ -286,7 +327,7 @@ leaves = (
       (
         rest_fits (codes "explain") Explain refl (λ x y z p q r. omega arith),
         (
-          rest_fits (codes "schedule") Schedule refl (λ x y z p q r. omega arith),
+          timetable_fits,
           (
             plan_fits (codes "bounds") Bounds refl (λ x y z p q r. omega arith),
             (
@@ -301,7 +342,7 @@ leaves = (
                       hub_fits,
                       (
                         log_fits (codes "audit") Audit refl (λ x y z p q r. omega arith),
-                        (log_fits (codes "gantt") Gantt refl (λ x y z p q r. omega arith), tt),
+                        (drawing_fits, tt),
                       ),
                     ),
                   ),

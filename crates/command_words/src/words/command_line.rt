@@ -2,11 +2,11 @@
 
 ghost use Rattle.std.specs.Prelude.{◌≡◌, IfOk, [], false, codes};
 ghost use Rattle.clap.specs.Words.{rule_of};
-ghost use Rattle.command_words.specs.CommandLine.{Describes, bare_program, command, command_line, described, file_rule, leaf, log_command, option_rule, plan_command, plans_rule, program_with, rest_command, rounds_rule, seed_rule};
+ghost use Rattle.command_words.specs.CommandLine.{Describes, bare_program, command, command_line, described, file_rule, leaf, log_command, option_rule, plan_command, plans_rule, program_with, rest_command, rounds_rule, seed_rule, svg_rule};
 
 use crate::words::CommandName;
 use clap::builder::ValueParser;
-use clap::{Arg, Command};
+use clap::{Arg, ArgAction, Command};
 use std::alloc::{AllocError, Global};
 
 /// The version of the program, which is that of the file `VERSION`.
@@ -59,6 +59,17 @@ fn seed<'a>(alloc: Global) -> Arg<'a>
     option(alloc, "seed", "S", help)
         .value_parser(ValueParser::Signed(0, 1_000_000))
         .default_value("0")
+}
+
+/// Whether a picture is drawn.
+fn svg<'a>(alloc: Global) -> Arg<'a>
+    ensures rule { rule_of result ≡ svg_rule }
+    ensures local { result.global ≡ false }
+{
+    Arg::new(alloc, "svg")
+        .long("svg")
+        .action(ArgAction::SetTrue)
+        .help("Draw a picture, an SVG document, in place of the text")
 }
 
 /// The name of an instance in a collection.
@@ -129,7 +140,7 @@ fn on_plan<'a>(alloc: Global, name: &'a str, about: &'a str) -> Result<Command<'
 
 /// A command on an instance and a plan, or on the rest of a run of it.
 fn on_rest<'a>(alloc: Global, name: &'a str, about: &'a str) -> Result<Command<'a>, AllocError>
-    ensures { IfOk result (Describes (leaf (rest_command name.entry.now))) }
+    ensures { IfOk result (Describes (leaf (rest_command name.entry.now []))) }
 {
     let plan = on_plan(alloc, name, about)?.arg(after(alloc))?;
     plan.arg(at(alloc))
@@ -137,9 +148,25 @@ fn on_rest<'a>(alloc: Global, name: &'a str, about: &'a str) -> Result<Command<'
 
 /// A command on an instance, a plan and a log.
 fn on_log<'a>(alloc: Global, name: &'a str, about: &'a str) -> Result<Command<'a>, AllocError>
-    ensures { IfOk result (Describes (leaf (log_command name.entry.now))) }
+    ensures { IfOk result (Describes (leaf (log_command name.entry.now []))) }
 {
     on_plan(alloc, name, about)?.arg(file(alloc, "LOG", "The log of a run, as drive writes it"))
+}
+
+/// The schedule of a plan.
+fn timetable<'a>(alloc: Global) -> Result<Command<'a>, AllocError>
+    ensures { IfOk result (Describes (leaf (described CommandName.Schedule))) }
+{
+    let about = "Tells when what begins and ends, and how late it may end";
+    on_rest(alloc, "schedule", about)?.arg(svg(alloc))
+}
+
+/// The drawing of a log.
+fn drawing<'a>(alloc: Global) -> Result<Command<'a>, AllocError>
+    ensures { IfOk result (Describes (leaf (described CommandName.Gantt))) }
+{
+    let about = "Draws a log as a Gantt chart, in text or as a picture";
+    on_log(alloc, "gantt", about)?.arg(svg(alloc))
 }
 
 /// The search of a plan.
@@ -211,11 +238,7 @@ fn command_of<'a>(alloc: Global, name: CommandName) -> Result<Command<'a>, Alloc
             "explain",
             "Tells why a plan is accepted or refused",
         ),
-        CommandName::Schedule => on_rest(
-            alloc,
-            "schedule",
-            "Tells when what begins and ends, and how late it may end",
-        ),
+        CommandName::Schedule => timetable(alloc),
         CommandName::Bounds => on_plan(
             alloc,
             "bounds",
@@ -235,7 +258,7 @@ fn command_of<'a>(alloc: Global, name: CommandName) -> Result<Command<'a>, Alloc
             "audit",
             "Tells whether a log is that of a run of the plan",
         ),
-        CommandName::Gantt => on_log(alloc, "gantt", "Draws a log as a Gantt chart in text"),
+        CommandName::Gantt => drawing(alloc),
     }
 }
 

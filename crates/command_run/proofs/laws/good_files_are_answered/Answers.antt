@@ -5,7 +5,7 @@ use Rattle.command_answers.specs.Timetables.{IsTimetable}
 use Rattle.command_answers.specs.BoundLines.{AreBounds}
 use Rattle.command_answers.specs.LogLines.{IsLogLine}
 use Rattle.command_answers.specs.Rests.{IsRestLine}
-use Rattle.command_run.proofs.GoodFiles.{good_facts, good_plan, good_log, good_search, good_improvement, good_drive, good_resume}
+use Rattle.command_run.proofs.GoodFiles.{good_facts, good_plan, good_log, good_schedule_picture, good_log_picture, good_search, good_improvement, good_drive, good_resume}
 use Rattle.command_run.proofs.GoodHubs.{good_hub}
 use Rattle.command_run.proofs.GoodInputs.{good_input}
 use Rattle.command_run.proofs.laws.good_files_are_answered.Goals as goal
@@ -33,6 +33,12 @@ returns-clause-log c = λ telling content pair log text p outcome asked good is 
 
 pub returns-clause-rest : goal.returns-clause-rest
 returns-clause-rest c = λ telling at content pair log text p outcome asked good is shaped run. good_log content pair p good (IsRestLine telling at) log text outcome asked is shaped run
+
+pub returns-clause-schedule_picture : goal.returns-clause-schedule_picture
+returns-clause-schedule_picture c = λ before after content pair p outcome asked good run. good_schedule_picture content pair p good before after outcome asked run
+
+pub returns-clause-log_picture : goal.returns-clause-log_picture
+returns-clause-log_picture c = λ before after content pair log text p outcome asked good is shaped run. good_log_picture content pair p good before after log text outcome asked is shaped run
 
 pub returns-clause-plan : goal.returns-clause-plan
 returns-clause-plan c = λ rounds content pair p outcome asked good run. good_search content pair p good rounds outcome asked run

@@ -1,4 +1,4 @@
-use Rattle.command_run.proofs.PlainWords.{told_first, facts_first, plan_first, improve_first, drive_first, resume_first, hub_first}
+use Rattle.command_run.proofs.PlainWords.{told_first, facts_first, plan_first, improve_first, picture_first, drive_first, resume_first, hub_first}
 use Rattle.command_run.proofs.laws.instance_first.Goals as goal
 
 pub returns-clause-facts : goal.returns-clause-facts
@@ -24,6 +24,12 @@ returns-clause-log c = λ telling log content pair text fault outcome asked is f
 
 pub returns-clause-rest : goal.returns-clause-rest
 returns-clause-rest c = λ telling at log content pair text fault outcome asked is first run. told_first content pair text fault is first _ outcome asked run
+
+pub returns-clause-schedule_picture : goal.returns-clause-schedule_picture
+returns-clause-schedule_picture c = λ before after content pair text fault outcome asked is first run. picture_first content pair text fault is first _ before after outcome asked run
+
+pub returns-clause-log_picture : goal.returns-clause-log_picture
+returns-clause-log_picture c = λ log before after content pair text fault outcome asked is first run. picture_first content pair text fault is first _ before after outcome asked run
 
 pub returns-clause-plan : goal.returns-clause-plan
 returns-clause-plan c = λ rounds content pair text fault outcome asked is first run. plan_first content pair text fault is first rounds outcome asked run

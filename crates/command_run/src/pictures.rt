@@ -1,0 +1,87 @@
+//! The commands `schedule` and `gantt`, whose answers are texts or pictures.
+
+ghost use Rattle.std.specs.Prelude.{◌≤◌, IfSome};
+ghost use Rattle.std.specs.Option.{option_copied};
+ghost use Rattle.shop_base.specs.declared.limits.TheConstants.{MAX_MOMENT};
+ghost use Rattle.command_run.specs.Streams.{output_of};
+ghost use Rattle.command_run.specs.Pictures.{Draws, IsPictureOut, RunsDrawing, RunsTimetable};
+
+use crate::devices::Streams;
+use crate::drives::ended;
+use crate::tellings::telling_answer;
+use cell_drive::{Outlet, Source};
+use command_answers::{
+    Answered, CommandFault, Drawn, Outcome, Pair, PlanTelling, Telling, Texts, log_answer,
+    log_picture, schedule_picture,
+};
+use run_picture::Picture;
+use shop_base::Moment;
+use std::alloc::Global;
+
+/// The schedule of a plan, or of the rest of the run in a log, or a picture of the plan's exact run.
+pub(crate) fn timetable_answer<T: Texts, R: Source, W: Outlet>(
+    alloc: Global,
+    texts: &mut T,
+    pair: &Pair<'_>,
+    log: Option<&str>,
+    at: Option<Moment>,
+    svg: bool,
+    streams: &mut Streams<R, W>,
+) -> Answered
+    requires { IfSome at (λ present. present ≤ MAX_MOMENT) }
+    ensures { RunsTimetable T.gives svg at pair.now (option_copied log.entry) texts.old streams.old result texts.new streams.new }
+{
+    if svg {
+        let drawn = schedule_picture(alloc, texts, pair);
+        drawn_answer(alloc, drawn, streams)
+    } else {
+        telling_answer(alloc, texts, pair, log, at, PlanTelling::Moments)
+    }
+}
+
+/// The drawing of a log: in text, or as a picture.
+pub(crate) fn drawing_answer<T: Texts, R: Source, W: Outlet>(
+    alloc: Global,
+    texts: &mut T,
+    pair: &Pair<'_>,
+    log: &str,
+    svg: bool,
+    streams: &mut Streams<R, W>,
+) -> Answered
+    ensures { RunsDrawing T.gives svg pair.now log.now texts.old streams.old result texts.new streams.new }
+{
+    if svg {
+        let drawn = log_picture(alloc, texts, pair, log);
+        drawn_answer(alloc, drawn, streams)
+    } else {
+        log_answer(alloc, texts, pair, log, Telling::Drawing)
+    }
+}
+
+/// Draws a picture. A line in its place is the answer.
+fn drawn_answer<R: Source, W: Outlet>(
+    alloc: Global,
+    drawn: Outcome<Drawn>,
+    streams: &mut Streams<R, W>,
+) -> Answered
+    ensures { Draws drawn streams.old streams.new result }
+{
+    match drawn {
+        Ok(Drawn::Picture(picture)) => put_picture(alloc, &picture, &mut streams.output),
+        Ok(Drawn::Line(answer)) => Ok(answer),
+        Err(fault) => Err(fault),
+    }
+}
+
+/// Writes a picture, and shows it.
+fn put_picture<W: Outlet>(alloc: Global, picture: &Picture, output: &mut W) -> Answered
+    ensures { IsPictureOut picture.now (output_of W.Sink W.pending output.old) (output_of W.Sink W.pending output.new) result }
+{
+    match picture.put(output) {
+        Ok(()) => match output.show() {
+            Ok(()) => Ok(ended(alloc, true)),
+            Err(_) => Err(CommandFault::Write),
+        },
+        Err(_) => Err(CommandFault::Write),
+    }
+}
