@@ -3,8 +3,12 @@
 #![tactic(auto)]
 
 #[cfg(test)]
+mod better_rests;
+#[cfg(test)]
 mod driven_on;
 #[cfg(test)]
 mod logs;
 #[cfg(test)]
 mod rests;
+#[cfg(test)]
+mod told;

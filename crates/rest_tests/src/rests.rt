@@ -22,12 +22,17 @@ const TWO: &[u8] = b"two\n2 2\n0 3 1 2\n1 4 0 1\n";
 const CLEANED: &[u8] =
     b"version = 2\nrelease = [0, 0]\nbudget = [5, 12]\norder = [[0, 1], [0, 1]]\nclean = [0, 2]\n";
 
-pub(super) fn planned(alloc: Global) -> Result<Shaped, Fail> {
-    let shop = read_instance(alloc, TWO)?.shop;
-    match shape(shop, read_plan(alloc, CLEANED)?) {
+/// The plan of a text, shaped for the instance of the other.
+pub(super) fn shaped_as(alloc: Global, instance: &[u8], plan: &[u8]) -> Result<Shaped, Fail> {
+    let shop = read_instance(alloc, instance)?.shop;
+    match shape(shop, read_plan(alloc, plan)?) {
         Ok(shaped) => Ok(shaped),
         Err(refused) => Err(refused.fault.into()),
     }
+}
+
+pub(super) fn planned(alloc: Global) -> Result<Shaped, Fail> {
+    shaped_as(alloc, TWO, CLEANED)
 }
 
 /// The cell at the start.

@@ -1,0 +1,79 @@
+//! A better plan for the rest of a run, found by the annealing where there is memory enough.
+
+use crate::rests::shaped_as;
+use crate::told::Told;
+use plan_text::{PlanFault, plan_document};
+use rest_improve::{AnnealingRestImprover, Improved, RestImprover, improve_after};
+use rest_times::RestVerdict;
+use shop_base::Shaped;
+use std::alloc::{AllocError, Global};
+use std::test::Fail;
+
+/// Job 0 goes over both machines, job 1 the other way round, and job 2 over machine 0 alone.
+const RUSH: &[u8] = b"rush\n3 2\n0 3 1 2\n1 4 0 1\n0 2\n";
+
+/// Job 0 is on machine 1 since 3, and job 1 waits outside.
+const LOG: &[u8] = b"report 0 arrive 0\norder 0 0 out 0\nreport 0 arrive 1\n\
+    report 3 finish 0 0\norder 3 0 0 1\n";
+
+/// Job 2 comes last, and is late.
+const AT_THE_END: &[u8] =
+    b"release = [0, 0, 0]\nbudget = [5, 12, 8]\norder = [[0, 1, 2], [0, 1]]\n";
+
+const BETWEEN: &[u8] = b"release = [0, 0, 0]\nbudget = [5, 12, 8]\norder = [[0, 2, 1], [0, 1]]\n";
+
+/// Job 1 is late in each rest. It could be in time only before job 0, which has entered both machines.
+const URGENT_AT_THE_END: &[u8] =
+    b"release = [0, 0, 0]\nbudget = [99, 5, 99]\norder = [[0, 1, 2], [0, 1]]\n";
+
+const URGENT_BETWEEN: &[u8] =
+    b"release = [0, 0, 0]\nbudget = [99, 5, 99]\norder = [[0, 2, 1], [0, 1]]\n";
+
+/// The annealing alone.
+fn annealing(alloc: Global) -> Result<Vec<Box<dyn RestImprover>>, AllocError> {
+    let mut improvers: Vec<Box<dyn RestImprover>> = Vec::new(alloc);
+    improvers.push(Box::new(alloc, AnnealingRestImprover::new(0))?)?;
+    Ok(improvers)
+}
+
+/// Whether this plan was found, and whether its rest is accepted.
+fn found(alloc: Global, improved: &Improved, plan: &[u8]) -> Result<(bool, bool), PlanFault> {
+    let text = plan_document(alloc, improved.shaped.plan())?;
+    let accepted = match improved.verdict {
+        RestVerdict::Accepted(_) => true,
+        _ => false,
+    };
+    Ok((text.as_bytes() == plan, accepted))
+}
+
+/// The same of a search from this plan on in two rounds, from moment 4 on.
+fn improved(
+    alloc: Global,
+    start: Shaped,
+    plan: &[u8],
+    watch: &mut Told,
+) -> Result<(bool, bool), Fail> {
+    let improvers = annealing(alloc)?;
+    let improved = improve_after(alloc, start, LOG, Some(4), &improvers, 2, watch)?;
+    Ok(found(alloc, &improved, plan)?)
+}
+
+#[test]
+fn a_late_rest_is_mended(rt: HostRuntime) -> Result<(), Fail> {
+    let mut watch = Told::nothing();
+    let start = shaped_as(rt.alloc(), RUSH, AT_THE_END)?;
+    let end = improved(rt.alloc(), start, BETWEEN, &mut watch)?;
+    assert!(rt; end == (true, true));
+    assert!(rt; watch.costs() == [(4, 12), (0, 10)]);
+    Ok(())
+}
+
+#[test]
+fn a_rest_is_shortened(rt: HostRuntime) -> Result<(), Fail> {
+    let mut watch = Told::nothing();
+    let start = shaped_as(rt.alloc(), RUSH, URGENT_AT_THE_END)?;
+    let end = improved(rt.alloc(), start, URGENT_BETWEEN, &mut watch)?;
+    assert!(rt; end == (true, false));
+    assert!(rt; watch.costs() == [(5, 12), (5, 10)]);
+    Ok(())
+}
