@@ -7,9 +7,9 @@ use crate::sink::{Sink, WriteFault};
 use std::alloc::Global;
 use std::io::{self, BufWriter, ErrorKind, Write};
 
-/// Any of std's writers as an outlet of bytes, which are gathered until they are to be shown or don't fit. Where it
-/// is dropped, also after a failed write, what is still gathered is written out once more, and no fault of that is
-/// told. What is shown is written to the writer: where that passes it on, whoever waits for an answer has it.
+/// Any of std's writers as an outlet, which gathers bytes until they are to be shown or there is no more room. When it
+/// is dropped, even after a failed write, it tries once more to write what is still gathered, and tells no fault. To
+/// show bytes is to write them to the writer: if that passes them on, whoever waits for an answer has it.
 #[derive(Drop)]
 pub struct Gathered<W: Write + Drop> {
     writer: BufWriter<W>,
@@ -17,7 +17,7 @@ pub struct Gathered<W: Write + Drop> {
 }
 
 impl<W: Write + Drop> Gathered<W> {
-    /// The device, of which no write has failed yet. So many bytes are gathered at most.
+    /// The device, of which no write has failed yet. At most `most` bytes are gathered.
     pub fn new(alloc: Global, most: usize, device: W) -> io::Result<Gathered<W>>
         ensures device { IfOk result (λ gathered. gathering_for gathered ≡ device) }
         ensures shown { IfOk result (λ gathered. ⟦<Gathered<W> as Outlet>⟧.pending gathered ≡ []) }

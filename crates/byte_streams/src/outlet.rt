@@ -3,12 +3,12 @@ ghost use Rattle.std.specs.Io.KnownBytes.{Keeps};
 
 use crate::sink::{Sink, WriteFault};
 
-/// What takes bytes and may hold the last of them back, until they are to be shown.
+/// What takes bytes, and may hold the last of them back until they are to be shown.
 pub trait Outlet: Sink {
     // The bytes that it has taken and not shown yet.
     ghost pending: { Self → List ℕ };
 
-    /// Shows all that it has taken. A fault may have shown some of it.
+    /// Shows all that it has taken. At a fault some of it may have been shown.
     fn show(&mut self) -> Result<(), WriteFault>
         ensures taken { Keeps (Self.taken self.old) (Self.taken self.new) }
         ensures shown { OnOk result (pending self.new ≡ []) }

@@ -17,8 +17,8 @@ pub trait Source {
     // Whether a call has failed.
     ghost failed: { Self → Bool };
 
-    /// Puts the next bytes into the front of the room, and tells how many, none only at the end. A fault gives
-    /// none. It may wait, so it is asked only once all that was answered is shown.
+    /// Puts the next bytes into the front of the room, and returns how many: 0 only at the end. At a fault there are
+    /// none. It may wait for them, so it is called only once all answers are shown.
     fn get<W: Outlet>(&mut self, room: &mut [u8], outlet: &W) -> Result<usize, ReadFault>
         requires room { 0 < length room.old }
         requires shown { W.pending outlet.now ≡ [] }

@@ -129,13 +129,13 @@ fn finish<H: LineHandler, W: Outlet>(
     writer.show()
 }
 
-/// Answers each line that the reader gives, and writes the closing text behind the last answer. What is read at a
-/// time lies in the room.
+/// Answers each line that the reader gives, and writes the closing text after the last answer. The room holds what is
+/// read at a time.
 ///
 /// A line is answered once its line feed is read, or at the end of the input if bytes are left. One carriage return
 /// before the line feed, or at the end, isn't part of the line. All that was answered is shown before the reader is
-/// asked for more, and at the end. Behind a failed write no line is taken. `Memory` is never answered: one line is
-/// held at a time. Past the limit of an input at most as many bytes more were read as the room for a piece has.
+/// asked for more, and at the end. After a failed write no line is taken. `Memory` is never answered, since only one
+/// line is held at a time. Past the limit of an input at most as many bytes are read as the room has.
 pub fn stream<H: LineHandler, R: Source, W: Outlet>(
     handler: &mut H,
     reader: &mut R,

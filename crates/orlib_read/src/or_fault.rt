@@ -2,32 +2,32 @@ use shop_base::{JobNo, ShopFault};
 use std::alloc::AllocError;
 use thiserror::Error;
 
-/// Why a text is no instance: what is wrong first in reading order. Lines and the words of a line are
-/// numbered from 1, jobs from 0.
+/// Why a text isn't an instance: the first fault in reading order. Lines and the words of a line are numbered
+/// from 1, jobs from 0.
 #[derive(Clone, Copy, Debug, PartialEq, Eq, Error)]
 pub enum OrFault {
     /// No instance line of the collection has the name.
     #[error("NoInstance")]
     NoInstance,
-    /// The lines end before there is a size line.
+    /// There is no size line.
     #[error("NoSizes")]
     NoSizes,
     /// The size line isn't exactly two numbers.
     #[error("BadSizes line {line}")]
     BadSizes { line: usize },
-    /// The lines end before the job has one.
+    /// The lines end before that of this job.
     #[error("MissingJob job {job}")]
     MissingJob { job: JobNo },
-    /// The word of a job line isn't a number.
+    /// This word of a job line isn't a number.
     #[error("BadNumber line {line} word {word}")]
     BadNumber { line: usize, word: usize },
-    /// The job line has an odd number of words.
+    /// A job line has an odd number of words.
     #[error("OddWords line {line}")]
     OddWords { line: usize },
     /// A line that isn't filler follows the last job line.
     #[error("Extra line {line}")]
     Extra { line: usize },
-    /// The numbers make no shop.
+    /// The numbers don't make a shop.
     #[error("Shop {0}")]
     Shop(ShopFault),
     /// Out of memory.

@@ -21,8 +21,8 @@ use std::alloc::Global;
 
 /// Reads one instance: a description, if there is one, the size line, and a line per job.
 ///
-/// Lines of `+` alone and lines without words are passed over everywhere, instance lines before the
-/// first other line.
+/// Lines of `+` signs alone and lines without words are skipped everywhere, instance lines only before the first
+/// other line.
 pub fn read_instance(alloc: Global, text: &[u8]) -> Result<Named, OrFault>
     // What is read is the text's instance, and the text's instance is read.
     ensures found { IfOk result (λ named. IsInstance text.now named.description.items named.shop) }
@@ -35,8 +35,8 @@ pub fn read_instance(alloc: Global, text: &[u8]) -> Result<Named, OrFault>
     named(alloc, instance_draft(alloc, text))
 }
 
-/// Reads the instance that stands in a collection between the first instance line of this name and the
-/// next instance line. What stands before, and after its last job line, isn't read.
+/// Reads one instance of a collection: the lines between the first instance line of this name and the next instance
+/// line. What comes before them, or after the last job line, isn't read.
 pub fn read_from_collection(alloc: Global, text: &[u8], name: &[u8]) -> Result<Named, OrFault>
     // What is read is the instance of that name, and the instance of that name is read.
     ensures found { IfOk result (λ named. IsInstanceOf text.now name.now named.description.items named.shop) }

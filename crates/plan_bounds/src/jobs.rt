@@ -7,7 +7,7 @@ ghost use Rattle.plan_bounds.specs.Bounds.{times_of, job_bound};
 
 use shop_base::{JobNo, Moment, Shaped, Step};
 
-/// The job's bound, in whole time units from moment 0: in no plan with these releases can it have left before.
+/// The job's bound, in whole time units from moment 0: no plan with these releases has it out earlier.
 pub fn job_bound(shaped: &Shaped, job: JobNo) -> Moment
     requires { job < jobs shaped.now }
     ensures { result ≡ job_bound (times_of shaped.now) job }

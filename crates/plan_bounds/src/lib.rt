@@ -1,5 +1,5 @@
-//! What no plan can do, whatever its orders: bounds from below on the leaving of each job and on the makespan of
-//! a shop with given releases and cleaning times. No call of this crate can answer that it is out of memory.
+//! What no plan can do, whatever its orders: lower bounds of the moment at which each job leaves, and of the makespan,
+//! for a shop with given releases and cleaning times. No call of this crate can run out of memory.
 #![tactic(auto)]
 
 mod jobs;

@@ -13,13 +13,13 @@ use shop_base::{JobNo, MachineNo, Moment, Shaped};
 /// Whose bound it is.
 #[derive(Clone, Copy, Debug, PartialEq, Eq, Drop)]
 pub enum By {
-    /// That of a machine.
+    /// A machine.
     Machine(MachineNo),
-    /// That of a job.
+    /// A job.
     Job(JobNo),
 }
 
-/// A bound from below on the makespan: in no plan with these releases and cleaning times have all jobs left before.
+/// A lower bound of the makespan: no plan with these releases and cleaning times has all jobs out earlier.
 #[derive(Clone, Copy, Debug, PartialEq, Eq, Drop)]
 pub struct LeastMakespan {
     /// The moment, in whole time units from moment 0.
@@ -28,8 +28,7 @@ pub struct LeastMakespan {
     pub by: By,
 }
 
-/// The greatest of the bounds of the machines and the jobs. It is that of the least machine that has it, else of the
-/// least job.
+/// The greatest of the bounds of the machines and the jobs, with the least machine that has it, else the least job.
 pub fn least_makespan(shaped: &Shaped) -> LeastMakespan
     ensures { IsLeastMakespan (times_of shaped.now) result }
 {

@@ -24,10 +24,10 @@ pub fn the_most_rounds_in_numbers()
     ensures { MAX_ROUNDS ≡ 1000 }
 {}
 
-/// Looks for a plan with these numbers that is accepted. In each round from 0 on each proposer is asked in order, and
-/// the first proposal that is accepted is given; last comes the serial plan, in which each machine takes its jobs in
-/// ascending order. A fault of the numbers, and then too many rounds, is answered first, and no proposer is asked
-/// then, which no clause says. Where there is no plan, everything is given back. `Exhausted` says that each turn may
+/// Looks for an accepted plan with these numbers. In each round, from 0 on, it asks the proposers in order, and returns
+/// the first proposal that is accepted; last it tries the serial plan, in which each machine takes its jobs in
+/// ascending order. If the numbers have a fault, or else if the rounds are too many, that is the answer, and no proposer
+/// is asked (which no clause says). If no plan is found, everything is given back. `Exhausted` means that each turn may
 /// have failed, and that the serial plan is late.
 pub fn seek(
     alloc: Global,

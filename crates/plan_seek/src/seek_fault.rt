@@ -5,8 +5,8 @@ use thiserror::Error;
 /// Why no plan was found: the first reason, the numbers before the rounds and both before the search.
 #[derive(Clone, Copy, Debug, PartialEq, Eq, Error)]
 pub enum SeekFault {
-    /// A release, a budget or a cleaning time is missing, too many or over its limit: the first reason of
-    /// these that `shape` has.
+    /// There are too few or too many releases, budgets or cleaning times, or one is over its limit: the first
+    /// such fault that `shape` would find.
     #[error("BadNumbers {0}")]
     BadNumbers(ShapeFault),
     /// No proposal was accepted, and the serial plan is late.

@@ -6,8 +6,8 @@ use crate::proposer::Proposer;
 use shop_base::{JobNo, Shop};
 use std::alloc::{AllocError, Global};
 
-/// A planner whose machines all take their jobs in one row: in round 0 the jobs ascending, and in each later round
-/// from the next job on, ascending and then from job 0 on. It proposes exactly these lists.
+/// A planner that gives all machines their jobs in the same order: ascending, in round `r` from job `r` on, with job 0
+/// after the last. It proposes exactly these lists.
 #[derive(Clone, Copy, Debug, Default)]
 pub struct ShiftProposer;
 

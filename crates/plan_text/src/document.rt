@@ -116,8 +116,8 @@ fn plan_lines(alloc: Global, plan: &Plan) -> Result<String, AllocError>
 
 /// Writes a plan as the text of a TOML document, in three lines, or five for a plan with cleaning.
 ///
-/// The text is read again, and given only where the same plan came back, as it doesn't where a moment is
-/// over TOML's greatest integer.
+/// The text is read again, and returned only if that gives the same plan. It doesn't if a moment is greater than TOML's
+/// greatest integer.
 pub fn plan_document(alloc: Global, plan: &Plan) -> Result<String, PlanFault>
     // The text is the plan's lines, and they are read as this plan.
     ensures lines { IfOk result (λ text. string_bytes text ≡ plan_lines plan.now) }

@@ -6,21 +6,21 @@ use std::alloc::AllocError;
 use std::fmt;
 use thiserror::Error;
 
-/// Why a text is no plan, or a plan has no text: the first reason, in the order in which they stand here.
-/// In `release`, `budget`, `order` and `clean`, one after the other, it is the first from the first
-/// element on. Rows and places are numbered from 0; `row` is the machine, for elements of `order`.
+/// Why a text isn't a plan, or a plan has no text: the first fault, in the order of these variants. Of several in the
+/// lists it is the first one, with `release` read before `budget`, `order` and `clean`. Rows and places are numbered
+/// from 0; for elements of `order`, `row` is the machine.
 #[derive(Clone, Copy, Debug, PartialEq, Eq, Error)]
 pub enum PlanFault {
-    /// The bytes are no TOML document.
+    /// The bytes aren't a TOML document.
     #[error("NotToml")]
     NotToml,
     /// There is a version, and it isn't the whole number 1 or 2.
     #[error("BadVersion")]
     BadVersion,
-    /// A key isn't one of the version's.
+    /// A key isn't one of this version.
     #[error("UnknownKey")]
     UnknownKey,
-    /// The key isn't there.
+    /// The key is missing.
     #[error("MissingKey key {key}")]
     MissingKey {
         key: PlanKey,
@@ -38,7 +38,7 @@ pub enum PlanFault {
         row: Option<usize>,
         place: usize,
     },
-    /// The element is negative, or over what a moment or the number of a job can be.
+    /// The element is negative, or greater than a moment or the number of a job can be.
     #[error("OutOfRange key {key}{} place {place}", RowText(*.row))]
     OutOfRange {
         key: PlanKey,
@@ -48,7 +48,7 @@ pub enum PlanFault {
     /// Out of memory.
     #[error("Memory")]
     Memory,
-    /// The plan's text isn't read as this plan.
+    /// The text of the plan would be read as another plan, or as none.
     #[error("NotReadBack")]
     NotReadBack,
 }

@@ -97,7 +97,7 @@ fn table_of(alloc: Global, text: &[u8]) -> Result<Table, PlanFault>
 
 /// Reads a plan from the text of a TOML document.
 ///
-/// The counts aren't checked here: the shape of a plan is.
+/// It doesn't count: whether there is a release for each job, and the like, is for `shape` to check.
 pub fn read_plan(alloc: Global, text: &[u8]) -> Result<Plan, PlanFault>
     // What is read is the text's plan, and the text's plan is read.
     ensures found { IfOk result (λ plan. IsPlanText text.now plan) }

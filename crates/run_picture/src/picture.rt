@@ -36,8 +36,8 @@ impl Model for Picture {
 }
 
 impl Picture {
-    /// The picture of these visits to so many machines. Each machine has a row with its number, and the axis of time
-    /// goes from 0 to the last moment. The boxes of the visits stand in their order.
+    /// The picture of these visits to machines numbered from 0. Each machine has a row with its number, and the axis of
+    /// time goes from 0 to the last moment. The boxes come in the order of the visits.
     pub fn new(machines: u32, last: Moment, visits: Vec<DrawnVisit>) -> Picture
         ensures { IsPicture machines last visits.items result }
     {

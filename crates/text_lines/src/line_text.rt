@@ -3,8 +3,8 @@ ghost use Rattle.std.specs.Prelude.{◌≡◌, ◌+◌, ◌<◌, ◌≤◌, [], 
 use itoa::write_digits;
 use std::marker::Model;
 
-/// A line of text, in room for so many bytes. It is written from its end to its front, since a number is
-/// written from its last digit on.
+/// A line of text, with room for `ROOM` bytes. It is written from its end to its front, since a number is written from
+/// its last digit on.
 #[derive(Drop)]
 pub struct LineText<const ROOM: usize> {
     bytes: [u8; ROOM],

@@ -14,7 +14,7 @@ pub fn without_return(line: &[u8]) -> &[u8]
     line.strip_suffix(b"\r").unwrap_or(line)
 }
 
-/// The first line of a text, and the text behind it; none where nothing is left.
+/// The first line of a text, and the text after it; none if nothing is left.
 pub fn next_line(text: &[u8]) -> Option<(&[u8], &[u8])>
     ensures line { GivesFirst (λ line. line.now) (λ rest. lines_of rest.now) result (lines_of text.now) }
     ensures shorter { IfSome result (λ found. length found.1.now < length text.now) }
@@ -41,8 +41,8 @@ pub fn line_count(text: &[u8]) -> usize
     if rest.is_empty() { count } else { count + 1 }
 }
 
-/// The bytes up to the last line feed, that one among them: all lines of this part are ended by a line feed, and what is
-/// left out is the last line that isn't, if there is one. The part is empty where there is no line feed.
+/// The bytes up to the last line feed, which is the last of them: each line of this part ends with a line feed, and a
+/// last line that doesn't is left out. The part is empty if there is no line feed.
 pub fn ended_part(text: &[u8]) -> &[u8]
     ensures { lines_of result.now ≡ ended_lines text.now }
 {

@@ -11,7 +11,7 @@ fn is_digit(byte: u8) -> bool
     byte.is_ascii_digit()
 }
 
-/// The number that the word is, in decimal with at most so many digits, leading zeros among them.
+/// The number that the word is, in decimal, with at most `most` digits, leading zeros included.
 pub fn number_of(word: &[u8], most: usize) -> Option<u64>
     requires { most ≤ 18 }
     ensures number { SomeIfAny result (IsNumeral most word.now) }
@@ -40,7 +40,7 @@ pub fn short_number_of(word: &[u8]) -> Option<u32>
     }
 }
 
-/// The number before the first space, in decimal with at most so many digits, and the bytes behind that space.
+/// The number before the first space, in decimal, with at most `most` digits, and the bytes after that space.
 pub fn number_before_space(bytes: &[u8], most: usize) -> Option<(u64, &[u8])>
     requires { most ≤ 18 }
     ensures number { SomeWithRestIfAny result (IsNumberBefore most bytes.now) }

@@ -55,7 +55,7 @@ fn seed<'a>(alloc: Global) -> Arg<'a>
     ensures rule { rule_of result ≡ seed_rule }
     ensures local { result.global ≡ false }
 {
-    let help = "Other seeds search elsewhere, 0 to 1000000";
+    let help = "The seed of the search, 0 to 1000000";
     option(alloc, "seed", "S", help)
         .value_parser(ValueParser::Signed(0, 1_000_000))
         .default_value("0")
@@ -77,7 +77,7 @@ fn instance<'a>(alloc: Global) -> Arg<'a>
     ensures rule { rule_of result ≡ option_rule (codes "instance") }
     ensures local { result.global ≡ false }
 {
-    let help = "The instance of this name in a collection";
+    let help = "The name of the instance in a collection";
     option(alloc, "instance", "NAME", help)
 }
 
@@ -157,7 +157,7 @@ fn on_log<'a>(alloc: Global, name: &'a str, about: &'a str) -> Result<Command<'a
 fn timetable<'a>(alloc: Global) -> Result<Command<'a>, AllocError>
     ensures { IfOk result (Describes (leaf (described CommandName.Schedule))) }
 {
-    let about = "Tells when what begins and ends, and how late it may end";
+    let about = "Prints when each activity begins and ends, and how late it may end";
     on_rest(alloc, "schedule", about)?.arg(svg(alloc))
 }
 
@@ -211,7 +211,7 @@ fn bare<'a>(alloc: Global) -> Command<'a>
         .version(VERSION)
         .about("Checks plans of a blocking job shop, and drives robot cells by them")
         .after_help(
-            "Without a command it reads an instance from the standard input, as facts does.",
+            "Without a command, it reads an instance from the standard input and answers like facts.",
         )
         .disable_help_subcommand(true)
 }
@@ -222,27 +222,27 @@ fn command_of<'a>(alloc: Global, name: CommandName) -> Result<Command<'a>, Alloc
 {
     match name {
         CommandName::Input => Ok(bare(alloc)),
-        CommandName::Facts => on_instance(alloc, "facts", "Tells the size of an instance"),
+        CommandName::Facts => on_instance(alloc, "facts", "Prints the size of an instance"),
         CommandName::Shape => on_plan(
             alloc,
             "shape",
-            "Tells whether a plan has the shape of its instance",
+            "Says whether a plan fits its instance",
         ),
         CommandName::Check => on_rest(
             alloc,
             "check",
-            "Tells whether a plan never gets stuck and is in time",
+            "Says whether a plan can lock, and when each job is out",
         ),
         CommandName::Explain => on_rest(
             alloc,
             "explain",
-            "Tells why a plan is accepted or refused",
+            "Says why a plan is accepted or refused",
         ),
         CommandName::Schedule => timetable(alloc),
         CommandName::Bounds => on_plan(
             alloc,
             "bounds",
-            "Tells before which moments no plan has the jobs out",
+            "Prints moments before which no plan has the jobs out",
         ),
         CommandName::Plan => search(alloc),
         CommandName::Improve => improvement(alloc),
@@ -250,13 +250,13 @@ fn command_of<'a>(alloc: Global, name: CommandName) -> Result<Command<'a>, Alloc
         CommandName::Resume => on_log(
             alloc,
             "resume",
-            "Drives a cell on, from the log of a run that was cut off",
+            "Continues a driven run from its log",
         ),
         CommandName::Hub => hub(alloc),
         CommandName::Audit => on_log(
             alloc,
             "audit",
-            "Tells whether a log is that of a run of the plan",
+            "Says whether a log is a run of the plan",
         ),
         CommandName::Gantt => drawing(alloc),
     }
