@@ -19,7 +19,7 @@ pub(crate) fn arc_length(shaped: &Shaped, from: Node, to: Node) -> Option<Moment
     }
 }
 
-/// The length of the blocking arc: the one job enters the machine that the other leaves, directly behind it.
+/// The length of the blocking arc: the one job enters the machine that the other leaves, directly after it.
 fn blocking_arc(shaped: &Shaped, from: Node, to: Node) -> Option<Moment>
     ensures { MatchOption result ((d : ℕ) → IsBlockingArc shaped.now from to d → ⊥) (IsBlockingArc shaped.now from to) }
 {
@@ -34,7 +34,7 @@ fn blocking_arc(shaped: &Shaped, from: Node, to: Node) -> Option<Moment>
     Some(shaped.clean_of(left))
 }
 
-/// Whether a job stands directly behind another in an order.
+/// Whether a job comes directly after another in an order.
 fn is_behind(order: &[JobNo], ahead: JobNo, job: JobNo) -> bool
     ensures { IsTrue result ↔ IsBehind order.now ahead job }
 {

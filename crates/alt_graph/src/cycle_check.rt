@@ -12,8 +12,8 @@ use crate::arcs::arc_length;
 use crate::node_order::is_before;
 use shop_base::{Node, Shaped};
 
-/// Whether the nodes are a cycle of the graph, written from its least node on: no node stands twice, and
-/// arcs lead from each node to the next and from the last to the first. Where they are, no controller
+/// Whether the nodes are a cycle of the graph, written from its least node on: no node comes twice, and
+/// arcs lead from each node to the next and from the last to the first. If they are, no controller
 /// makes a move of them, nor brings all jobs to their end.
 pub fn check_cycle(shaped: &Shaped, nodes: &[Node]) -> bool
     ensures exact { IsTrue result ↔ IsCycle shaped.now nodes.now }
@@ -65,7 +65,7 @@ fn arcs_lead(shaped: &Shaped, from: Node, along: &[Node], to: Node) -> bool
     arc_length(shaped, last, to).is_some()
 }
 
-/// Whether no node stands twice. A list that is too long is refused at its first repetition.
+/// Whether no node comes twice. A list that is too long is refused at its first repetition.
 fn are_distinct(nodes: &[Node]) -> bool
     ensures { IsTrue result ↔ AreDistinct nodes.now }
 {

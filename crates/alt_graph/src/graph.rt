@@ -33,7 +33,7 @@ impl<'a> Model for Graph<'a> {
 }
 
 impl<'a> Graph<'a> {
-    /// The graph of a planned shop, in time and memory linear in its nodes and machines. It fails only where it is out of memory.
+    /// The graph of a planned shop, in time and memory linear in its nodes and machines. Fails only when out of memory.
     pub fn new(alloc: Global, shaped: &'a Shaped) -> Result<Graph<'a>, AllocError>
         ensures graph { IfOk result (IsGraphOf shaped.now) }
         ensures well_shaped { IsWellShaped shaped.now }

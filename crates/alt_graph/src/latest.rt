@@ -49,9 +49,10 @@ impl Deadlines {
     }
 }
 
-/// The latest moments of the nodes, of the plan that these times rank: the budget of a leaving, and of each node no later
-/// than each arc out of it allows (0 where that is longer). They depend on the plan alone, so they are the same whatever
-/// bounds the times were found from. Linear in the nodes, the arcs and the machines; it fails only where it is out of memory.
+/// The latest moments of the nodes of the plan that these times rank: a leaving's is its budget, and each node's is no
+/// later than each arc out of it allows (0 where that is longer). They depend on the plan alone, so they are the same
+/// whatever bounds the times were found from. Linear in the nodes, the arcs and the machines; fails only when out of
+/// memory.
 pub fn latest_moments(
     alloc: Global,
     shaped: &Shaped,
@@ -117,7 +118,7 @@ fn note_ranks(shaped: &Shaped, times: &Times, job: JobNo, nodes: &mut [Option<No
     }
 }
 
-/// The latest moment of the node, by those of the nodes to which arcs lead from it.
+/// The latest moment of the node, by the latest moments of the nodes to which arcs lead from it.
 fn latest_of(graph: &Graph<'_>, moments: &[Moment], node: Node) -> Moment
     requires node { IsNode graph.now.plan node }
     requires rows { HasRows graph.now.plan graph.now.firsts moments.now }
@@ -136,7 +137,7 @@ fn latest_of(graph: &Graph<'_>, moments: &[Moment], node: Node) -> Moment
     }
 }
 
-/// The latest moment of the node by the next place of its job, or its job's budget where it is the leaving.
+/// The latest moment of the node by the next place of its job, or its job's budget if it is the leaving.
 fn latest_in_job(graph: &Graph<'_>, moments: &[Moment], node: Node) -> Moment
     requires node { IsNode graph.now.plan node }
     requires rows { HasRows graph.now.plan graph.now.firsts moments.now }
@@ -162,7 +163,7 @@ fn nominal_at(shaped: &Shaped, node: Node) -> Moment
     }
 }
 
-/// The cleaning time of the machine that the node's job leaves by it, 0 where it leaves none.
+/// The cleaning time of the machine that the node's job leaves by it, 0 if it leaves none.
 fn clean_behind(shaped: &Shaped, node: Node) -> Moment
     ensures { (w : Node) (d : ℕ) → IsBlockingArc shaped.now node w d → d ≡ result }
 {

@@ -1,4 +1,4 @@
-//! Where each machine stands on the jobs' routes, and each job in the machines' orders, to be looked up.
+//! Where each machine is on the jobs' routes, and each job in the machines' orders, to be looked up.
 
 ghost use Rattle.std.specs.Prelude.{◌≡◌, ℕ, ◌+◌, ◌*◌, ◌<◌, ◌≢◌, IfOk};
 ghost use Rattle.shop_base.specs.Plan.{jobs, machines, route, order, IsWellShaped};
@@ -35,7 +35,7 @@ impl Lookups {
     }
 }
 
-/// Where the machine and the job stand in a table.
+/// Where the machine and the job are in a table.
 pub(crate) fn slot(machine: MachineNo, job: JobNo) -> usize
     ensures { result ≡ slot_of machine job }
 {

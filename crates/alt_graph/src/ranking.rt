@@ -202,7 +202,7 @@ impl<'a, B: Bounds> Ranking<'a, B> {
         self.rows[self.graph.number(node)]
     }
 
-    /// The longest path to the node, none where an arc to it comes from a node without a rank.
+    /// The longest path to the node; `None` if an arc to it comes from a node without a rank.
     fn longest_to(&self, node: Node) -> Option<Longest>
         requires { IsNode self.now.plan node }
         ensures { MatchOption result (WaitsFor self.now UNRANKED node) (IsLongest self.now (Arc self.now.plan) node) }
@@ -214,7 +214,7 @@ impl<'a, B: Bounds> Ranking<'a, B> {
         }
     }
 
-    /// The longest path to the node over the place before it in its job, or from its bound; none where the place
+    /// The longest path to the node over the place before it in its job, or from its bound; `None` if the place
     /// before has no rank.
     fn longest_in_job(&self, node: Node) -> Option<Longest>
         requires { IsNode self.now.plan node }
@@ -251,8 +251,8 @@ impl<'a, B: Bounds> Ranking<'a, B> {
         self.bounds.is_ahead(node)
     }
 
-    /// The longer of a path and one over an arc, where that comes from a node ahead; none where it comes from a
-    /// node without a rank.
+    /// The longer of a path and one over an arc, if that comes from a node ahead; `None` if it comes from a node
+    /// without a rank.
     fn longest_with(&self, base: Longest, source: ArcIn) -> Option<Longest>
         requires node { IsNode self.now.plan source.node }
         requires short { source.length ≤ MAX_NOMINAL }
@@ -266,7 +266,7 @@ impl<'a, B: Bounds> Ranking<'a, B> {
         }
     }
 
-    /// The longest path over an arc, none where it comes from a node without a rank.
+    /// The longest path over an arc; `None` if it comes from a node without a rank.
     fn longest_over(&self, source: ArcIn) -> Option<Longest>
         requires node { IsNode self.now.plan source.node }
         requires short { source.length ≤ MAX_NOMINAL }

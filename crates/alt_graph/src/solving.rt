@@ -21,7 +21,7 @@ pub enum Solved {
 }
 
 /// Ranks the nodes of the graph and finds the greatest lengths of the paths to them, or finds a cycle, in
-/// time and memory linear in the nodes, the arcs and the machines. It fails only where it is out of memory.
+/// time and memory linear in the nodes, the arcs and the machines. Fails only when out of memory.
 pub fn solve(alloc: Global, shaped: &Shaped) -> Result<Solved, AllocError>
     ensures ordered { IfOk result (OnOrdered shaped.now) }
     ensures cyclic { IfOk result (OnCyclic shaped.now) }

@@ -14,7 +14,7 @@ pub struct FromRead<R> {
 impl<R: Read> FromRead<R> {
     ghost use Rattle.byte_streams.specs.Devices.{device_of};
 
-    /// The device, of which no read has failed yet.
+    /// The source for a device. No read of it has failed yet.
     pub fn new(device: R) -> FromRead<R>
         ensures device { device_of result ≡ device }
         ensures left { ⟦<FromRead<R> as Source>⟧.left result ≡ R.remaining device }

@@ -8,7 +8,7 @@ use std::alloc::Global;
 use std::io::{self, BufWriter, ErrorKind, Write};
 
 /// Any of std's writers as an outlet, which gathers bytes until they are to be shown or there is no more room. When it
-/// is dropped, even after a failed write, it tries once more to write what is still gathered, and tells no fault. To
+/// is dropped, even after a failed write, it tries once more to write what is still gathered, and reports no fault. To
 /// show bytes is to write them to the writer: if that passes them on, whoever waits for an answer has it.
 #[derive(Drop)]
 pub struct Gathered<W: Write + Drop> {
@@ -17,7 +17,7 @@ pub struct Gathered<W: Write + Drop> {
 }
 
 impl<W: Write + Drop> Gathered<W> {
-    /// The device, of which no write has failed yet. At most `most` bytes are gathered.
+    /// The outlet for a device. No write to it has failed yet. At most `most` bytes are gathered.
     pub fn new(alloc: Global, most: usize, device: W) -> io::Result<Gathered<W>>
         ensures device { IfOk result (λ gathered. gathering_for gathered ≡ device) }
         ensures shown { IfOk result (λ gathered. ⟦<Gathered<W> as Outlet>⟧.pending gathered ≡ []) }

@@ -13,7 +13,7 @@ pub struct IntoSink<W> {
 impl<W: Write> IntoSink<W> {
     ghost use Rattle.byte_streams.specs.Devices.{device_behind};
 
-    /// The device, of which no write has failed yet.
+    /// The sink for a device. No write to it has failed yet.
     pub fn new(device: W) -> IntoSink<W>
         ensures device { device_behind result ≡ device }
         ensures taken { ⟦<IntoSink<W> as Sink>⟧.taken result ≡ W.contents device }

@@ -28,7 +28,7 @@ pub trait LineHandler {
     fn answer_long<W: Sink>(&mut self, number: u64, writer: &mut W) -> Result<(), WriteFault>
         ensures { WasAnswered answers self.old number None self.new W.Sink result writer.old writer.new };
 
-    /// Writes the closing text, which stands behind the last answer.
+    /// Writes the closing text, which comes after the last answer.
     fn put_closing<W: Sink>(&self, writer: &mut W) -> Result<(), WriteFault>
         ensures { WroteOneTo W.Sink result writer.old writer.new (closes self.now) };
 }

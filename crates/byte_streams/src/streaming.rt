@@ -27,7 +27,7 @@ fn past_limit<W: Outlet>(writer: &mut W) -> DriveFault
     }
 }
 
-/// Takes what was read, as far as so many bytes are left of the limit, and tells how many then are.
+/// Takes what was read, up to the number of bytes that are left of the limit, and returns how many are left then.
 fn take_read<H: LineHandler, W: Outlet>(
     handler: &mut H,
     input: &mut Input,

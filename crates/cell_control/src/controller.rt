@@ -28,7 +28,7 @@ use shop_base::{JobNo, MachineNo, Moment, MoveOrder};
 use std::alloc::{AllocError, Global};
 use std::marker::Model;
 
-/// Runs a cell by an accepted plan: it is told what ends, and orders the moves that then keep the plan.
+/// Runs a cell by an accepted plan: it gets reports of what has ended, and orders the moves that then keep the plan.
 ///
 /// It is made of a [`Verified`] plan. After each report the cell is at rest, and until the run has ended
 /// something goes on that can be reported; so the cell never locks, whatever ends first. Only
@@ -74,9 +74,9 @@ impl<D: Dues> Controller<D> {
         })
     }
 
-    /// Takes a report. Where it is possible, its activity has ended, and the moves are made that then
-    /// keep the plan, until no further one can be made: they stand in [`Controller::orders`]. Where it
-    /// isn't possible, the first reason is told, of which there is exactly one, and nothing changes.
+    /// Takes a report. If it is possible, its activity has ended, and the moves are made that then keep
+    /// the plan, until no further one can be made: they are in [`Controller::orders`]. If it isn't
+    /// possible, the call returns the first reason, which is unique, and nothing changes.
     pub fn report(&mut self, report: Report) -> Result<Ack, ReportFault>
         ensures possible { IsOk result ↔ CanReport self.old.plan.planned self.old.cell (said report) }
         ensures answered { IfOk result (λ ack. IsAnswered self.old (said report) ack self.new) }
@@ -116,9 +116,9 @@ impl<D: Dues> Controller<D> {
         check_cleaning_after(&self.cell, machine, job, at)
     }
 
-    /// Takes the report that the machine has been cleaned after this job, as [`Controller::report`] takes that of a
-    /// cleaning. It isn't expected where the machine isn't being cleaned after just that job. So none is accepted twice in
-    /// a run, at whatever moments.
+    /// Takes the report that the machine has been cleaned after this job, as [`Controller::report`] takes the report of
+    /// a cleaning. It is expected only while the machine is being cleaned after just that job. So none is accepted
+    /// twice in a run, at whatever moments.
     pub fn clean_after(
         &mut self,
         machine: MachineNo,
@@ -174,7 +174,7 @@ impl<D: Dues> Controller<D> {
         }
     }
 
-    /// When the job's activity is due; none where it has none, since it is ready or gone or no job.
+    /// When the job's activity is due; `None` if it has none, since it is ready or gone or no job.
     pub fn due(&self, job: JobNo) -> Option<Moment>
         ensures { IsDueOf self.now.plan.planned self.now.cell job result }
     {
@@ -185,7 +185,7 @@ impl<D: Dues> Controller<D> {
         }
     }
 
-    /// When the machine's cleaning is due; none where it isn't being cleaned.
+    /// When the machine's cleaning is due; `None` if it isn't being cleaned.
     pub fn clean_due(&self, machine: MachineNo) -> Option<Moment>
         ensures { IsDueOfCleaning self.now.plan.planned self.now.cell machine result }
     {
@@ -196,7 +196,7 @@ impl<D: Dues> Controller<D> {
         }
     }
 
-    /// The job after which the machine is being cleaned, the last that was on it; none where it isn't being cleaned.
+    /// The job after which the machine is being cleaned, the last that was on it; `None` if it isn't being cleaned.
     pub fn cleaned_after(&self, machine: MachineNo) -> Option<JobNo>
         ensures { IsCleanedFor self.now.plan.planned self.now.cell machine result }
     {

@@ -1,5 +1,5 @@
-//! The due moments of the cell's activities: the key of a job is its number, that of the cleaning of a
-//! machine the machine's number after all jobs'.
+//! The due moments of the cell's activities. The key of a job is its number; the key of a machine's
+//! cleaning is the number of jobs plus the machine's number.
 
 ghost use Rattle.std.specs.Prelude.{◌≡◌, ◌+◌, ◌<◌, slice_set, length};
 ghost use Rattle.shop_base.specs.Plan.{jobs, machines};

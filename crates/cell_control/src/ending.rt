@@ -13,7 +13,7 @@ use crate::dues::Dues;
 use cell_tables::{Report, WorkCell};
 use shop_base::{JobNo, Planned};
 
-/// Ends the activity of a possible report, and tells the job that may be able to move then.
+/// Ends the activity of a possible report, and returns the job that may be able to move then.
 pub(crate) fn end_activity<P: Planned, D: Dues>(
     cell: &mut WorkCell<P>,
     dues: &mut D,

@@ -1,4 +1,5 @@
-//! The control of a cell by an accepted plan: it is told what ends, and orders the moves that keep the plan.
+//! The control of a cell by an accepted plan: it gets reports of what has ended, and orders the moves that keep the
+//! plan.
 //!
 //! A [`Controller`] is made of a `Verified` plan and takes one [`Report`] at a time. It accepts exactly the
 //! reports that are possible, and answers each with the moves that it releases.

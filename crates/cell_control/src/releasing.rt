@@ -16,7 +16,7 @@ use cell_tables::WorkCell;
 use shop_base::{JobNo, MoveOrder, Planned, Spot};
 use smallvec::SmallVec;
 
-/// The moves that a report releases. A few stand in the value, more in memory reserved at first.
+/// The moves that a report releases. A few are kept in the value, more in memory reserved at first.
 pub type Orders = SmallVec<MoveOrder, 4>;
 
 /// Moves all jobs that can move, where none but the candidate can.

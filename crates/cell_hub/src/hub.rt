@@ -17,10 +17,10 @@ use std::marker::Model;
 
 /// Runs many cells, each by an accepted plan and under a ticket of its own.
 ///
-/// The cells stand in slots, which are used again after a dismissal. A ticket's serial tells its cell from the others
-/// that stood or will stand in its slot. Only [`Hub::admit`] takes memory; the other calls take as long with a
-/// thousand cells as with one. A contract sees it as a finite map from tickets to what their controllers hold, and
-/// the serial of the next ticket: neither slots, nor which of them are vacant.
+/// The cells are in slots, which are used again after a dismissal. A ticket's serial tells its cell from the others
+/// that were or will be in its slot. Only [`Hub::admit`] takes memory; the other calls take as long with a
+/// thousand cells as with one. A contract sees the hub as a finite map from tickets to what their controllers hold,
+/// and the serial of the next ticket: neither slots, nor which of them are vacant.
 #[derive(Debug, Drop)]
 pub struct Hub<D: Dues> {
     alloc: Global,
@@ -86,8 +86,8 @@ impl<D: Dues> Hub<D> {
         }
     }
 
-    /// Takes a report on the ticket's cell, which answers it as a controller alone does: it is accepted exactly where it is
-    /// possible in that cell.
+    /// Takes a report on the ticket's cell, which answers it as a controller alone does: it is accepted exactly if it
+    /// is possible in that cell.
     pub fn report(&mut self, ticket: Ticket, report: Report) -> Result<Ack, HubFault>
         ensures reported { IfOk result (λ ack. IsReported self.old ticket report ack self.new) }
         ensures possible { IfSome (cell_at self.old ticket) (λ c. IsOk result ↔ CanReport c.plan.planned c.cell (said report)) }

@@ -8,7 +8,7 @@ use thiserror::Error;
 /// Why a hub refuses a call.
 #[derive(Clone, Copy, Debug, PartialEq, Eq, Error)]
 pub enum HubFault {
-    /// No cell stands under the ticket: it was dismissed, or never admitted.
+    /// There is no cell under the ticket: it was dismissed, or never admitted.
     #[error("NoSuchCell")]
     NoSuchCell,
     /// All serials were given; `u64::MAX` is none.
@@ -34,7 +34,7 @@ impl From<AllocError> for HubFault {
 }
 
 impl HubFault {
-    /// The name of the fault; where the cell refuses the report, that of its reason.
+    /// The name of the fault; if the cell refuses the report, the name of its reason.
     pub fn name(self) -> &'static str
         ensures { result.now ≡ refusal_name self }
     {

@@ -19,7 +19,7 @@ pub fn cells_are_apart()
 {}
 
 /// As long as a ticket has a cell, this is the cell at the end of the controlled run of the ticket's plan by the
-/// reports on the ticket. As many of them were accepted as stand in that run.
+/// reports on the ticket. As many of them were accepted as are in that run.
 pub fn calls_make_the_controlled_runs()
     ensures { CallsMakeTheControlledRuns }
 {}

@@ -10,8 +10,8 @@ use crate::work_cell::WorkCell;
 use shop_base::{JobNo, MachineNo, Moment, Planned};
 
 impl<P: Planned> WorkCell<P> {
-    /// When the job's activity is due, in time units from moment 0: its arrival at its release, its operation its nominal time
-    /// after the entry. None where it has no activity.
+    /// When the job's activity is due, in time units from moment 0: its arrival at its release, its operation its
+    /// nominal time after the entry. `None` if it has no activity.
     pub fn job_due(&self, job: JobNo) -> Option<Moment>
         requires { job < jobs self.now.plan }
         ensures due { result ≡ due_of_job self.now.plan job (job_in self.now.cell job) }
@@ -28,7 +28,7 @@ impl<P: Planned> WorkCell<P> {
         Some(state.since + step.nominal)
     }
 
-    /// When the machine's cleaning is due: its cleaning time after it began. None where it isn't being cleaned.
+    /// When the machine's cleaning is due: its cleaning time after it began. `None` if it isn't being cleaned.
     pub fn cleaning_due(&self, machine: MachineNo) -> Option<Moment>
         requires { machine < machines self.now.plan }
         ensures due { result ≡ due_of_cleaning self.now.plan machine (cleaning self.now.cell machine) }

@@ -1,6 +1,6 @@
-//! The cell of a run of a plan, as a value: a [`WorkCell`] tells where the jobs are and which can move, and is
-//! changed by the end of an activity and by a move. Its [`Report`]s and orders are the [`Entry`]s of a log. It can be taken
-//! apart into its [`Tables`], and made of such.
+//! The cell of a run of a plan, as a value: a [`WorkCell`] says where the jobs are and which can move, and is
+//! changed by the end of an activity and by a move. Its [`Report`]s and orders are the [`Entry`]s of a log. A cell can
+//! be taken apart into its [`Tables`], and made of such.
 //!
 //! Moments are whole time units, counted from moment 0. Only [`WorkCell::start`] takes memory.
 //!

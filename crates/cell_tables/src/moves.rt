@@ -29,7 +29,7 @@ impl<P: Planned> WorkCell<P> {
         }
     }
 
-    /// Moves a job that can move at this moment, and tells the order.
+    /// Moves a job that can move at this moment, and returns the order.
     pub fn make_move(&mut self, job: JobNo, at: Moment) -> MoveOrder
         requires can { CanMove self.old.plan self.old.cell job at }
         requires keeps { KeepsPlan self.old.plan self.old.cell job }

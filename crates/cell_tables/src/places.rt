@@ -9,7 +9,7 @@ use crate::work_cell::WorkCell;
 use shop_base::{JobNo, MachineNo, Planned};
 
 impl<P: Planned> WorkCell<P> {
-    /// The machine that the job is on; none where it is outside or gone.
+    /// The machine that the job is on; `None` if it is outside or gone.
     pub fn machine_of(&self, job: JobNo) -> Option<MachineNo>
         requires { job < jobs self.now.plan }
         ensures { IsMachineOf self.now.plan self.now.cell job result }
@@ -59,7 +59,7 @@ impl<P: Planned> WorkCell<P> {
         self.tables.machines[machine as usize].entered
     }
 
-    /// The job that is to enter the machine next, none where all jobs of its order have entered it.
+    /// The job that is to enter the machine next; `None` if all jobs of its order have entered it.
     pub fn next_on(&self, machine: MachineNo) -> Option<JobNo>
         requires { machine < machines self.now.plan }
         ensures { IsNextOn self.now.plan self.now.cell machine result }
@@ -68,7 +68,7 @@ impl<P: Planned> WorkCell<P> {
         self.order_of(machine).get(entered as usize).copied()
     }
 
-    /// The job after which the machine is being cleaned; none where it isn't.
+    /// The job after which the machine is being cleaned; `None` if it isn't.
     pub fn cleaned_after(&self, machine: MachineNo) -> Option<JobNo>
         requires { machine < machines self.now.plan }
         ensures { IsCleanedFor self.now.plan self.now.cell machine result }

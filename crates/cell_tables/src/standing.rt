@@ -1,4 +1,4 @@
-//! How it stands with a job or with a machine: what goes on, since when and until when, or what it waits for.
+//! The state of a job or a machine: what goes on, since when and until when, or what it waits for.
 
 ghost use Rattle.std.specs.Prelude.{◌≡◌, ◌<◌};
 ghost use Rattle.shop_base.specs.Plan.{jobs, machines};
@@ -7,7 +7,7 @@ ghost use Rattle.cell_tables.specs.Standings.{outside_standing, job_standing, ma
 use crate::work_cell::WorkCell;
 use shop_base::{JobNo, MachineNo, Moment, Planned, Spot};
 
-/// How it stands with a job or with a machine.
+/// The state of a job or a machine.
 #[derive(Clone, Copy, Debug, PartialEq, Eq)]
 pub enum Standing {
     /// The job hasn't arrived; it should by its release.
@@ -83,7 +83,7 @@ impl Standing {
 }
 
 impl<P: Planned> WorkCell<P> {
-    /// How it stands with the job.
+    /// The state of the job.
     pub fn job_standing(&self, job: JobNo) -> Standing
         requires { job < jobs self.now.plan }
         ensures { result ≡ job_standing self.now.plan self.now.cell job }
@@ -113,7 +113,7 @@ impl<P: Planned> WorkCell<P> {
         }
     }
 
-    /// How it stands with a job that hasn't entered the cell.
+    /// The state of a job that hasn't entered the cell.
     fn standing_outside(&self, job: JobNo, ready: bool) -> Standing
         requires { job < jobs self.now.plan }
         ensures { result ≡ outside_standing self.now.plan self.now.cell job ready }
@@ -131,7 +131,7 @@ impl<P: Planned> WorkCell<P> {
         }
     }
 
-    /// How it stands with the machine.
+    /// The state of the machine.
     pub fn machine_standing(&self, machine: MachineNo) -> Standing
         requires { machine < machines self.now.plan }
         ensures { result ≡ machine_standing self.now.plan self.now.cell machine }

@@ -69,7 +69,7 @@ impl<P: Planned> WorkCell<P> {
         basis
     }
 
-    /// The cell of these tables by a plan of which it can be the cell.
+    /// The cell of these tables, by a plan whose cell it can be.
     pub fn of_parts(basis: P, tables: Tables) -> WorkCell<P>
         requires { AreSound (P.planned basis) tables }
         ensures { result ≡ record { basis = basis; plan = P.planned basis; cell = cell_of (P.planned basis) tables } }

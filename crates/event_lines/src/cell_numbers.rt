@@ -1,4 +1,4 @@
-//! The number of a cell before a line, where there are several cells.
+//! The number of a cell before a line, if there are several cells.
 
 ghost use Rattle.std.specs.Prelude.{◌≡◌, MatchOption};
 ghost use Rattle.event_lines.specs.SentLines.{IsCellReport, IsNoCellReport, cell_prefix};
@@ -8,7 +8,7 @@ use crate::sent_reports::report_of;
 use crate::words::number_first;
 use cell_tables::Report;
 
-/// What stands before a line of an answer: the cell's number and a space.
+/// What comes before a line of an answer: the cell's number and a space.
 pub fn cell_prefix(cell: u64) -> LineText
     ensures { result ≡ cell_prefix cell }
 {

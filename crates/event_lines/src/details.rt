@@ -1,5 +1,5 @@
-//! What an answer tells behind its first words, from version 2 of the lines on: how it stands with a job or with a
-//! machine, and what is overdue.
+//! What an answer says after its first words, from version 2 of the lines on: the state of a job or a machine, and
+//! what is overdue.
 
 ghost use Rattle.std.specs.Prelude.{◌≡◌, ◌+◌, ◌≤◌, [], ◌∷◌, ◌++◌, length, codes, decimal};
 ghost use Rattle.event_lines.specs.Words.{words_before};
@@ -14,11 +14,11 @@ use text_lines::LineText;
 /// What the controller has instead of what was reported.
 #[derive(Clone, Copy, Debug, PartialEq, Eq)]
 pub enum Detail {
-    /// Nothing is told.
+    /// Nothing is added.
     Nothing,
     /// The last moment.
     Last(Moment),
-    /// How it stands with the job or the machine.
+    /// The state of the job or the machine.
     Stands(Standing),
 }
 
@@ -145,7 +145,7 @@ fn put_clean<const ROOM: usize>(line: &mut LineText<ROOM>, machine: MachineNo)
     line.put_text(b"machine ");
 }
 
-/// Writes the words of how it stands before what there is.
+/// Writes the words of the state before what the line has.
 fn put_standing<const ROOM: usize>(line: &mut LineText<ROOM>, standing: Standing)
     requires { 100 + length line.old ≤ ROOM }
     ensures written { line.new ≡ words_before (standing_words standing) line.old }
@@ -219,7 +219,7 @@ pub fn refused_detail_line(number: u64, name: &[u8], detail: Detail) -> DetailTe
     line
 }
 
-/// Writes ` and K more` where there are others.
+/// Writes ` and K more` if there are others.
 fn put_others(line: &mut DetailText, others: u32)
     requires { line.old ≡ 10 ∷ [] }
     ensures written { line.new ≡ others_end others }

@@ -1,4 +1,4 @@
-//! An event of a log: a report as it is told, or an order.
+//! An event of a log: a report as it is logged, or an order.
 
 ghost use Rattle.std.specs.Prelude.{◌≡◌, ◌+◌, ◌≤◌, ◌↔◌, [], ◌∷◌, ◌++◌, length, MatchOption, IsTrue};
 ghost use Rattle.text_lines.specs.Searches.{SomeIfAny};
@@ -93,7 +93,7 @@ fn is_entry_of(shaped: &Shaped, entry: Entry) -> bool
     }
 }
 
-/// The entry of the shop that the line tells; no such line is passed over. It is read for each line of a log.
+/// The entry of the shop in this line; no such line is passed over. Each line of a log is read by this.
 #[inline(always)]
 pub fn told_entry(shaped: &Shaped, line: &[u8]) -> Option<Entry>
     ensures { MatchOption result (TellsNoEntry shaped.now line.now) (λ entry. LineTells shaped.now line.now (entry ∷ [])) }

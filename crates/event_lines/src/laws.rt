@@ -8,8 +8,8 @@ ghost use Rattle.event_lines.specs.ReadBack.{OneEntry, OneReport, OneCellReport,
 
 /// A line is written with words: texts of bytes above 32, and numbers below 2^64 with no more digits than they may
 /// have. In front of any text it is the first line, and is read as the same words. A cell's number and a space before it make such a
-/// line too. For a well-shaped plan the line of an event of the shop tells that event, and the lines `late`,
-/// `refused`, `done` and `unfinished` tell none.
+/// line too. For a well-shaped plan the line of an event of the shop gives that event, and the lines `late`,
+/// `refused`, `done` and `unfinished` give none.
 pub fn what_is_written_is_read()
     ensures words { WhatIsWrittenIsRead }
     ensures numbered { NumberedLinesAreLines }
@@ -17,8 +17,8 @@ pub fn what_is_written_is_read()
     ensures passed_over { (p : PlannedShop) → OtherAnswersTellNone p }
 {}
 
-/// A line tells one event at most. As a line that is sent, it is one report at most, and with a cell's number one
-/// report on one cell; so with requests.
+/// A line gives one event at most. As a line that is sent, it is one report at most, and with a cell's number one
+/// report on one cell; requests likewise.
 pub fn a_line_has_one_reading()
     ensures told { OneEntry }
     ensures sent { OneReport }

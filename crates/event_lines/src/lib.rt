@@ -1,6 +1,6 @@
-//! The lines of a driven cell: a report as it is sent, which is read; a report as it is told and an order, each with its
-//! writer and its reader; the other answers, which are written, and which a log passes over; and a cell's number before
-//! any of these.
+//! The lines of a driven cell: a report as it is sent, which is read; a report as it is logged and an order, each with
+//! its writer and its reader; the other answers, which are written, and which a log passes over; and a cell's number
+//! before any of these.
 //!
 //! A line is words with one space between each two: texts, and numbers, which may be read with leading zeros and are
 //! written without.

@@ -53,7 +53,7 @@ pub fn put_order(line: &mut LineText, order: MoveOrder)
     put_order_words(line, order);
 }
 
-/// The spot that the word before the first space is, and the words behind it.
+/// The spot that the word before the first space is, and the words after it.
 #[tactic(auto, using(crate::proofs::WordByWord::text_first, crate::proofs::Ends::no_spot))]
 fn spot_first(words: &[u8]) -> Option<(Spot, &[u8])>
     ensures { TakesFirst spot_word words.now result }
@@ -90,7 +90,7 @@ fn spots_of(words: &[u8]) -> Option<(Spot, Spot)>
     Some((source, target))
 }
 
-/// The order that the words behind `order` tell.
+/// The order that the words after `order` give.
 #[tactic(auto, using(crate::proofs::WordByWord::word_steps))]
 pub(crate) fn move_order_of(words: &[u8]) -> Option<MoveOrder>
     ensures { SomeIfAny result (λ order. IsReadAs words.now (move_words order)) }

@@ -1,4 +1,4 @@
-//! A report as it is told: `report T arrive J`, `report T finish J M` or `report T clean M`.
+//! A report as it is logged: `report T arrive J`, `report T finish J M` or `report T clean M`.
 
 ghost use Rattle.std.specs.Prelude.{◌≡◌, ◌+◌, ◌≤◌, [], ◌∷◌, ◌++◌, length, codes, decimal};
 ghost use Rattle.text_lines.specs.Searches.{SomeIfAny};
@@ -76,7 +76,7 @@ pub fn put_report(line: &mut LineText, report: Report)
     put_report_words(line, report);
 }
 
-/// What has ended at this moment, as the words tell.
+/// What has ended at this moment, by these words.
 #[tactic(auto, using(crate::proofs::Ends::no_end))]
 fn ended_of(words: &[u8], at: Moment) -> Option<Report>
     ensures { SomeIfAny result (λ report. IsReadAs words.now (end_words report) × ((said report).at ≡ at)) }
@@ -99,7 +99,7 @@ fn ended_of(words: &[u8], at: Moment) -> Option<Report>
     Some(Report::Clean { machine, at })
 }
 
-/// The report that the words behind `report` tell.
+/// The report that the words after `report` give.
 #[tactic(auto, using(crate::proofs::WordByWord::word_steps, crate::proofs::WordByWord::same_first))]
 pub(crate) fn told_report_of(words: &[u8]) -> Option<Report>
     ensures { SomeIfAny result (λ report. IsReadAs words.now (moment (said report).at ∷ end_words report)) }

@@ -8,7 +8,7 @@ ghost use Rattle.event_lines.specs.FirstWords.{TakesFirst, IsOnly};
 use shop_base::Moment;
 use text_lines::{number_before_space, number_of, short_number_of};
 
-/// The number before the first space, and the words behind it.
+/// The number before the first space, and the words after it.
 #[tactic(auto, using(crate::proofs::WordByWord::no_number, crate::proofs::WordByWord::first_number))]
 #[inline(always)]
 pub(crate) fn number_first(words: &[u8], most: usize) -> Option<(u64, &[u8])>
@@ -30,7 +30,7 @@ pub(crate) fn short_last(word: &[u8]) -> Option<u32>
     Some(number)
 }
 
-/// The number of a job or a machine, and the moment behind it.
+/// The number of a job or a machine, and the moment after it.
 #[tactic(auto, using(crate::proofs::WordByWord::word_steps))]
 #[inline(always)]
 pub(crate) fn number_and_moment(words: &[u8]) -> Option<(u32, Moment)>

@@ -2,7 +2,7 @@
 
 use shop_base::Step;
 
-/// What stands before the job lines.
+/// What comes before the job lines.
 #[derive(Clone, Copy)]
 pub(crate) struct Head<'a> {
     pub description: &'a [u8],

@@ -1,4 +1,4 @@
-//! The kinds of lines that are told apart: instance lines and size lines.
+//! The kinds of lines that are distinguished: instance lines and size lines.
 
 ghost use Rattle.std.specs.Prelude.{◌≡◌, is_some};
 ghost use Rattle.orlib_read.specs.Words.{words_of};

@@ -15,7 +15,7 @@ pub enum OrFault {
     /// The size line isn't exactly two numbers.
     #[error("BadSizes line {line}")]
     BadSizes { line: usize },
-    /// The lines end before that of this job.
+    /// The lines end before the line of this job.
     #[error("MissingJob job {job}")]
     MissingJob { job: JobNo },
     /// This word of a job line isn't a number.

@@ -28,7 +28,7 @@ fn word_end(line: &[u8]) -> Option<usize>
     line.iter().position(|byte| is_blank(*byte))
 }
 
-/// The bytes before a place and those after it; where there is no place, all bytes and none.
+/// The bytes before a place and the bytes after it; if there is no place, all bytes and none.
 fn split_around(bytes: &[u8], place: Option<usize>) -> (&[u8], &[u8])
     requires { IfSome place (λ place. place < length bytes.now) }
     ensures before { (ends : ℕ → Bool) → place ≡ position ends bytes.now → result.0.now ≡ before_first ends bytes.now }
@@ -40,7 +40,7 @@ fn split_around(bytes: &[u8], place: Option<usize>) -> (&[u8], &[u8])
     }
 }
 
-/// The next word and the bytes after it, none where only blanks are left.
+/// The next word and the bytes after it; `None` if only blanks are left.
 pub(crate) fn next_word(line: &[u8]) -> Option<(&[u8], &[u8])>
     ensures word { GivesFirst (λ word. word.now) (λ rest. words_of rest.now) result (words_of line.now) }
     ensures shorter { IfSome result (λ found. length found.1.now < length line.now) }

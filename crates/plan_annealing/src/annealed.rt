@@ -12,12 +12,12 @@ use crate::rest::Rest;
 use shop_base::{JobNo, Shaped};
 use std::alloc::{AllocError, Global};
 
-/// An order for each machine, as they are in the best plan that an annealing from this one meets, none where that one is
-/// the best. In a neighbour of a plan two jobs that meet on a critical path have changed places, and one of the two has
-/// moved on other machines where it had to. Better is a lesser total lateness or, with the same, a lesser makespan. Every
-/// fourth round (1, 5, ..) is hotter, and all late jobs count in it. It looks at some 20 million nodes at most, and tries
-/// no more neighbours than 50 times the square of the number of operations. Another seed or round searches elsewhere, and
-/// the same ones do the same again. It is proved only that there are as many orders as machines, or none.
+/// The order of each machine in the best plan that an annealing from this one meets; `None` if this one is the best. In
+/// a neighbour of a plan two jobs that meet on a critical path have changed places, and one of the two has moved on
+/// other machines where it had to. Better is a lesser total lateness or, with the same, a lesser makespan. Every fourth
+/// round (1, 5, ..) is hotter, and all late jobs count in it. A round looks at some 20 million nodes at most, and tries
+/// no more neighbours than 50 times the square of the number of operations. Another seed or round searches elsewhere,
+/// and the same ones do the same again. It is proved only that there are as many orders as machines, or none.
 pub fn annealed_orders(
     alloc: Global,
     shaped: &Shaped,
@@ -29,8 +29,8 @@ pub fn annealed_orders(
     annealed(alloc, shaped, None, seed, round)
 }
 
-/// The same of the rest of a run of the plan: only entries that are ahead are exchanged, a job that is gone is never late, and
-/// no job makes its next move before its bound.
+/// The same for the rest of a run of the plan: only entries that are ahead are exchanged, a job that is gone is never
+/// late, and no job makes its next move before its bound.
 pub fn annealed_rest(
     alloc: Global,
     shaped: &Shaped,

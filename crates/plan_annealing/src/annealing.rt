@@ -21,7 +21,7 @@ const NEIGHBOURS: u64 = 50;
 /// How many are drawn at most for each that may be tried.
 const DRAWS: u64 = 4;
 
-/// The temperature at the begin, in hundredths of the mean time of a step, and that of a hot round.
+/// The temperature at the beginning, in hundredths of the mean time of a step; `HOT` is that of a hot round.
 const WARM: u64 = 80;
 
 const HOT: u64 = 240;
@@ -138,8 +138,8 @@ fn most_neighbours(net: &Net) -> u64 {
         .wrapping_mul(net.steps())
 }
 
-/// Draws neighbours at one temperature until so many nodes were looked at or so many neighbours were tried. One that is
-/// known to be past the limit isn't tried again.
+/// Draws neighbours at one temperature until `looks` nodes were looked at or `neighbours` neighbours were tried in all.
+/// One that is known to be past the limit isn't tried again.
 fn run_phase(
     net: &mut Net,
     pass: &mut Pass,
@@ -166,7 +166,7 @@ fn run_phase(
     }
 }
 
-/// Makes a neighbour, and goes on from there where it is within the limit. Else gives what it weighs at least.
+/// Makes a neighbour, and goes on from there if it is within the limit. Else returns what it weighs at least.
 #[inline(never)]
 fn try_neighbour(
     net: &mut Net,

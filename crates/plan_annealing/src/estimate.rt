@@ -4,9 +4,9 @@ use crate::net::{Spot, spot_at};
 use crate::timing::{Row, head_in, tail_in};
 use shop_base::Moment;
 
-/// What the plan weighs at least once the job that enters here comes before the one that stands before it: the length
-/// of the path over both of them, which goes on in that other job, or to the next job on this machine. Where the job
-/// moves on other machines too it may come to less.
+/// What the plan weighs at least once the job that enters here comes before the one now before it: the length of the
+/// path over both of them, which goes on in that other job, or to the next job on this machine. If the job moves on
+/// other machines too, the plan may weigh less.
 pub(crate) fn weight_after_swap(spots: &[Spot], rows: &[Row], entry: u32) -> Moment {
     let enters = spot_at(spots, entry);
     let other_leaves = spot_at(spots, enters.source);

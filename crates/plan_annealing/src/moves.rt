@@ -6,8 +6,8 @@ use crate::timing::Row;
 use shop_base::Moment;
 use std::alloc::{AllocError, Global};
 
-/// How often a move looks at a node, on average, before it is cut off. The plan may have a cycle then, and where it has,
-/// the move is taken back.
+/// How often a move looks at a node, on average, before it is cut off. The plan may have a cycle then; if it has, the
+/// move is taken back.
 const LOOKS_A_NODE: u64 = 8;
 
 /// Whether a node was met in this move, and with which bound: to the left the last node of the moving job from which a
@@ -134,7 +134,7 @@ impl Moves {
         }
     }
 
-    /// The next node that is to be looked at, none where all were.
+    /// The next node that is to be looked at; `None` if all were.
     #[inline]
     pub fn next(&mut self) -> Option<u32> {
         self.looks = self.looks.wrapping_add(1);

@@ -89,7 +89,7 @@ pub(crate) fn count(length: usize) -> u32 {
     (length & 0xffff_ffff) as u32
 }
 
-/// The node of this number, one of no job where there is none.
+/// The node of this number; if there is none, one of no job.
 #[inline]
 pub(crate) fn spot_at(spots: &[Spot], number: u32) -> Spot {
     match spots.get(number as usize) {
@@ -108,7 +108,7 @@ pub(crate) fn spot_at(spots: &[Spot], number: u32) -> Spot {
     }
 }
 
-/// Lets the one node be the source of the other, where there are such nodes.
+/// Makes the one node the source of the other, if there are such nodes.
 #[inline]
 pub(crate) fn link(spots: &mut [Spot], from: u32, to: u32) {
     if let Some(spot) = spots.get_mut(from as usize) {
@@ -119,8 +119,8 @@ pub(crate) fn link(spots: &mut [Spot], from: u32, to: u32) {
     }
 }
 
-/// Lets the job that enters here come before the one that stands before it in the machine's order. Gives the entry of
-/// that one: a second call there takes the first one back.
+/// Puts the job that enters here before the one now before it in the machine's order. Returns that one's entry: a
+/// second call there takes the first one back.
 pub(crate) fn swap(spots: &mut [Spot], entry: u32) -> u32 {
     let from = spot_at(spots, entry).source;
     let other = spot_at(spots, from).back;

@@ -8,8 +8,8 @@ use shop_base::limits::MAX_MOMENT;
 use shop_base::{JobNo, MachineNo, Moment, Plan, Shaped, Step};
 use std::alloc::{AllocError, Global};
 
-/// The graph of the plan or, where a run has begun, of what is ahead of it: the first node of each job has no other before
-/// it, so nothing comes before a job that stands on a machine.
+/// The graph of the plan or, if a run has begun, of what is ahead of it: the first node of each job has no other before
+/// it, so nothing comes before a job that is on a machine.
 pub(crate) fn net_of(
     alloc: Global,
     shaped: &Shaped,
@@ -47,7 +47,7 @@ fn job_rest(plan: &Plan, rest: Option<&Rest>, job: JobNo) -> JobRest {
     }
 }
 
-/// Adds those of a job's nodes that are ahead. Of a job that is gone it adds its leaving, which is never late.
+/// Adds a job's nodes that are ahead. For a job that is gone it adds the leaving, which is never late.
 fn add_job(
     plan: &Plan,
     job: JobNo,
@@ -110,7 +110,7 @@ fn add_spot(
     Ok(())
 }
 
-/// The moment of this number, 0 where there is none.
+/// The moment of this number, 0 if there is none.
 fn moment_at(moments: &[Moment], number: u32) -> Moment {
     moments.get(number as usize).copied().unwrap_or(0)
 }
@@ -156,8 +156,8 @@ fn cleaned_since(rest: Option<&Rest>, machine: MachineNo) -> Option<Moment> {
     }
 }
 
-/// Links each job of the machine's order that hasn't entered it to the one behind it, and the first of these to the one that
-/// is on the machine, or to its cleaning.
+/// Links each job of the machine's order that hasn't entered it to the one after it, and the first of these to the one
+/// that is on the machine, or to its cleaning.
 fn link_machine(plan: &Plan, machine: MachineNo, cleaned: u32, net: &mut Net) {
     let Some(order) = plan.order.get(machine as usize) else {
         return;
@@ -181,7 +181,7 @@ fn link_machine(plan: &Plan, machine: MachineNo, cleaned: u32, net: &mut Net) {
     }
 }
 
-/// The node at which a job that has entered the machine leaves it, where it is still on it, else the other node.
+/// The node at which a job that has entered the machine leaves it, if it is still on it, else the other node.
 fn leave_of(net: &Net, job: JobNo, machine: MachineNo, other: u32) -> u32 {
     match net.spans.get(job as usize) {
         Some(span) if span.on == machine => span.first,
@@ -189,7 +189,7 @@ fn leave_of(net: &Net, job: JobNo, machine: MachineNo, other: u32) -> u32 {
     }
 }
 
-/// The job's entry of the machine, none where it isn't ahead.
+/// The job's entry of the machine, `NONE` if it isn't ahead.
 fn entry_of(net: &Net, job: JobNo, machine: MachineNo) -> u32 {
     let Some(span) = net.spans.get(job as usize) else {
         return NONE;

@@ -1,9 +1,9 @@
 //! The greatest lengths of the paths to the nodes and from them, kept from one plan to its neighbour.
 //!
-//! The nodes stand in an order along which all arcs lead. A move changes arcs from nodes and to nodes between two places,
+//! The nodes are in an order along which all arcs lead. A move changes arcs from nodes and to nodes between two places,
 //! so a pass finds the moments there. A node that is met before the source of an arc to it is put off until that one has
-//! its moment. What follows the nodes behind is as it was, so then it is known whether a path is past a limit, and the
-//! moments behind are found only where none is.
+//! its moment. What follows the later nodes is as it was, so then it is known whether a path is past a limit, and the
+//! later moments are found only if none is.
 
 use crate::neighbours::Neighbours;
 use crate::net::{NONE, Net, Spot, count, spot_at};
@@ -91,7 +91,7 @@ impl Pass {
         is_within && self.waiting == 0
     }
 
-    /// Finds the moments behind that part.
+    /// Finds the moments after that part.
     pub fn go_on(&mut self, spots: &[Spot]) {
         let free = Part {
             first: 0,
@@ -115,7 +115,7 @@ impl Pass {
         self.looks = self.looks.wrapping_add(u64::from(looks));
     }
 
-    /// Finds how long the paths from the nodes up to this place are, where those behind are known.
+    /// Finds how long the paths from the nodes up to this place are, if the later nodes' are known.
     pub fn find_tails(&mut self, spots: &[Spot], last: u32) {
         for turn in 0..last.wrapping_add(1) {
             let at = self.node_at(last.wrapping_sub(turn));

@@ -3,7 +3,7 @@
 use crate::net::{NONE, Spot, spot_at};
 use shop_base::Moment;
 
-/// Added to the place of a node that is put off: it is behind all places then.
+/// Added to the place of a node that is put off: it is after all places then.
 pub(crate) const OFF: u32 = 0x8000_0000;
 
 /// What is known of a node.
@@ -55,7 +55,7 @@ pub(crate) fn head_in(rows: &[Row], number: u32) -> Moment {
     }
 }
 
-/// Finds the node's moment, if those before it have theirs: they stand up to this place, and aren't put off. Its row
+/// Finds the node's moment, if the nodes before it have theirs: they are up to this place, and aren't put off. Its row
 /// before that goes to this turn of the old ones.
 #[inline(always)]
 pub(crate) fn time(
@@ -108,7 +108,7 @@ pub(crate) fn time(
     }
 }
 
-/// The greatest length that is known of a path from a node: along its job, or on from a node behind the last place.
+/// The greatest length that is known of a path from a node: along its job, or on from a node after the last place.
 #[inline(always)]
 fn known_rest(spots: &[Spot], rows: &[Row], spot: &Spot, last: u32) -> Moment {
     let along = spot_at(spots, spot.next)
@@ -120,7 +120,7 @@ fn known_rest(spots: &[Spot], rows: &[Row], spot: &Spot, last: u32) -> Moment {
     spot.rest.max(along).max(across)
 }
 
-/// The greatest length of a path from a node behind the last place, 0 for another node.
+/// The greatest length of a path from a node after the last place, 0 for another node.
 #[inline(always)]
 fn tail_behind(rows: &[Row], at: u32, last: u32) -> Moment {
     match rows.get(at as usize) {
@@ -129,7 +129,7 @@ fn tail_behind(rows: &[Row], at: u32, last: u32) -> Moment {
     }
 }
 
-/// The greatest length of a path from a node, by those of the nodes after it.
+/// The greatest length of a path from a node, by the lengths from the nodes after it.
 #[inline(always)]
 pub(crate) fn tail_of(spots: &[Spot], rows: &[Row], at: u32) -> Moment {
     let spot = spot_at(spots, at);

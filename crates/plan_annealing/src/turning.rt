@@ -1,9 +1,9 @@
-//! Neighbours of a plan: two jobs that meet on a machine change places, and where that makes a cycle, the one of them
+//! Neighbours of a plan: two jobs that meet on a machine change places, and if that makes a cycle, the one of them
 //! that moves does so on other machines too (job insertion: Groeflin and Klinkert, A new neighborhood and tabu search
 //! for the blocking job shop, Discrete Applied Mathematics 157, 2009).
 //!
-//! Of two nodes on a path the later one's moment is no less, what follows it is no longer, and it comes behind in the
-//! order of the nodes. So where a node comes after the bound of a search, in the plan before the move, the search needn't
+//! Of two nodes on a path the later one's moment is no less, what follows it is no longer, and it comes later in the
+//! order of the nodes. So if a node comes after the bound of a search, in the plan before the move, the search needn't
 //! go on from there.
 
 use crate::moves::Moves;
@@ -70,8 +70,8 @@ fn reach_left(moves: &mut Moves, rows: &[Row], at: u32, bound: u32) {
     }
 }
 
-/// Moves the job that stands before the one that enters here to the right, past it, and past further ones on this
-/// machine and on others until there is no cycle, or the plan is past the limit.
+/// Moves the job before the one that enters here to the right, past it, and past further ones on this machine and on
+/// others until there is no cycle, or the plan is past the limit.
 pub(crate) fn move_right(
     moves: &mut Moves,
     net: &mut Net,
@@ -90,7 +90,7 @@ pub(crate) fn move_right(
     }
 }
 
-/// Looks from where paths lead to a node that the moving job has come behind.
+/// Looks from where paths lead to a node that the moving job now comes after.
 #[inline]
 fn look_right(moves: &mut Moves, net: &mut Net, rows: &[Row], job: u32, at: u32) {
     let bound = moves.met(at).unwrap_or(0);
@@ -107,7 +107,7 @@ fn look_right(moves: &mut Moves, net: &mut Net, rows: &[Row], job: u32, at: u32)
     }
 }
 
-/// Lets the job that enters here come behind the one after it, and behind further ones that were met.
+/// Puts the job that enters here after the one that follows it, and after further ones that were met.
 fn turn_right(moves: &mut Moves, net: &mut Net, rows: &[Row], entry: u32) {
     for _ in 0..net.spans.len() {
         let leave = spot_at(&net.spots, entry).next;

@@ -81,7 +81,7 @@ fn more_visits(shaped: &Shaped, machine: MachineNo, job: JobNo, visits: Visits) 
     }
 }
 
-/// The lesser of two moments, of which either may be none.
+/// The lesser of two moments. Either may be `None`.
 fn lesser(one: Option<Moment>, other: Option<Moment>) -> Option<Moment>
     ensures { result ≡ lesser_of one other }
 {

@@ -1,4 +1,4 @@
-//! The arc between two nodes, as it is told.
+//! The arc between two nodes, as an explanation shows it.
 
 ghost use Rattle.std.specs.Prelude.{◌≡◌, ◌<◌};
 ghost use Rattle.shop_base.specs.Plan.{steps};
@@ -7,7 +7,7 @@ ghost use Rattle.plan_explain.specs.Arcs.{told_arc, told_job_arc, told_blocking_
 
 use shop_base::{JobNo, MachineNo, Moment, Node, Shaped};
 
-/// An arc of the graph, told by machines and jobs.
+/// An arc of the graph, shown by machines and jobs.
 #[derive(Clone, Copy)]
 pub(crate) enum ToldArc {
     /// From a place of a job to its next one: the machine of its step there, and the step's nominal time.
@@ -47,8 +47,8 @@ impl ToldArc {
     }
 }
 
-/// The arc from one node to the other. A job never stands behind itself, so that one between two places of
-/// a job is a job arc.
+/// The arc from one node to the other. A job never comes after itself in an order, so an arc between two
+/// places of a job is a job arc.
 pub(crate) fn told_arc(shaped: &Shaped, from: Node, to: Node) -> ToldArc
     requires { HasArc shaped.now from to }
     ensures { result ≡ told_arc shaped.now from to }

@@ -51,7 +51,7 @@ fn push_release_line(text: &mut Vec<u8>, first: Node, release: Moment) -> Result
     push_line(text, &line)
 }
 
-/// Adds the lines of the nodes along a path behind one that is reached at a moment: of each the moment at which it is
+/// Adds the lines of the nodes along a path, after one that is reached at a moment: for each the moment at which it is
 /// reached, in time units, the node, and the arc from the node before.
 pub fn push_reached_lines(
     text: &mut Vec<u8>,

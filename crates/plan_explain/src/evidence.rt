@@ -18,8 +18,8 @@ use shop_base::{JobNo, Moment, Node, Shaped};
 use std::alloc::{AllocError, Global};
 
 /// Why a plan is accepted or refused. After [`first_line`] come the arcs of a cycle; or each job's leaving, its
-/// budget and what is left to it or by how much it is late, and the arcs of a chain: of the one to the late
-/// job's leaving that the first line tells, or of a longest one to the leaving of the least job that leaves
+/// budget and what is left to it or by how much it is late, and the arcs of a chain: the one to the late
+/// job's leaving that the first line gives, or a longest one to the leaving of the least job that leaves
 /// last. A refusal has the evidence that `verify` gave.
 pub fn explain(alloc: Global, verdict: &Verdict) -> Result<Vec<u8>, AllocError>
     requires { OnRefused IsReason verdict.now }
@@ -30,7 +30,7 @@ pub fn explain(alloc: Global, verdict: &Verdict) -> Result<Vec<u8>, AllocError>
     Ok(text)
 }
 
-/// Adds the lines behind the first one.
+/// Adds the lines after the first one.
 fn push_lines_behind(alloc: Global, text: &mut Vec<u8>, verdict: &Verdict) -> Result<(), AllocError>
     requires { OnRefused IsReason verdict.now }
     ensures { OnOk result (Adds (AreBehind verdict.now) text.old.items text.new.items) }

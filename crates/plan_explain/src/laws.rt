@@ -5,20 +5,20 @@
 
 ghost use Rattle.plan_explain.specs.LineLaws.{ArcsAreToldAsTheyAre, EachLineTellsThePathUpToIt, TheLastLineTellsTheLength, TheLinesOfACycleClose, AVerdictHasOneFirstLine};
 
-/// A job arc is told by its job, the machine and the nominal time of its step. A blocking arc is told by its machine,
-/// the job that leaves it, the one that enters and its cleaning time. The time that is told is the length of the arc.
+/// A job arc is shown by its job, the machine and the nominal time of its step. A blocking arc is shown by its machine,
+/// the job that leaves it, the one that enters and its cleaning time. The time shown is the length of the arc.
 pub fn arcs_are_told_as_they_are()
     ensures { ArcsAreToldAsTheyAre }
 {}
 
-/// The line of a node behind a path tells the length of the path up to it: that of the path before, and the arc
+/// The line of a node after a path gives the length of the path up to it: the length of the path before, plus the arc
 /// between. So the moments never fall along a chain.
 pub fn each_line_tells_the_path_up_to_it()
     ensures { EachLineTellsThePathUpToIt }
 {}
 
-/// The last line of a path is that of the arc to its last node or, of a path of one node, of the release of its job.
-/// Its moment is the path's length: of a late plan the moment at which the late job leaves, of an accepted one the
+/// The last line of a path is the line of the arc to its last node or, for a path of one node, of its job's release.
+/// Its moment is the path's length: for a late plan the moment at which the late job leaves, for an accepted one the
 /// makespan.
 pub fn the_last_line_tells_the_length()
     ensures { TheLastLineTellsTheLength }

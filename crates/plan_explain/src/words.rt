@@ -26,7 +26,7 @@ pub(crate) fn put_node(line: &mut Line, node: Node)
     line.put_short_number(node.job);
 }
 
-/// Writes that the machine is cleaned, where it has a cleaning time.
+/// Writes that the machine is cleaned, if it has a cleaning time.
 fn put_clean(line: &mut Line, clean: Moment)
     requires { length line.old ≤ 1 }
     ensures written { line.new ≡ clean_words clean ++ line.old }

@@ -13,7 +13,7 @@ use plan_seek::serial_orders;
 use shop_base::Shaped;
 use std::alloc::{AllocError, Global};
 
-/// The plan itself or, where it has a cycle, the serial plan; on a fault either.
+/// The plan itself or, if it has a cycle, the serial plan; on a fault either.
 pub(crate) fn begin(alloc: Global, start: Shaped) -> Result<Best, (AllocError, Shaped)>
     ensures begun { IfOk result (λ best. IsBegin start best.shaped × IsCost best.shaped best.cost) }
     ensures handed_back { IfErr result (λ refused. IsReordered start refused.1) }

@@ -12,7 +12,7 @@ use plan_verifier::{later, leave_time};
 use shop_base::Shaped;
 use std::alloc::{AllocError, Global};
 
-/// The plan's cost, none where it has a cycle.
+/// The plan's cost; `None` if it has a cycle.
 pub(crate) fn cost_of(alloc: Global, shaped: &Shaped) -> Result<Option<Cost>, AllocError>
     ensures { IfOk result (λ cost. MatchOption cost (HasCycle shaped.now) (IsCost shaped.now)) }
 {

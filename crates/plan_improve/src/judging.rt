@@ -12,7 +12,7 @@ use crate::reordering::{Replaced, put_back, replace};
 use shop_base::{JobNo, Shaped};
 use std::alloc::{AllocError, Global};
 
-/// The plan with these orders where it is better, else the best plan again; on a fault either.
+/// The plan with these orders if it is better, else the best plan again; on a fault either.
 pub(crate) fn judge_orders(
     alloc: Global,
     best: Best,

@@ -15,7 +15,7 @@ use plan_bounds::least_makespan;
 use shop_base::{JobNo, Shaped};
 use std::alloc::{AllocError, Global};
 
-/// Asks in each round from 0 on, until the best plan meets its bound, and tells the watch before each.
+/// Asks in each round from 0 on, until the best plan meets its bound, and calls the watch before each.
 pub(crate) fn ask_in_rounds<W: Watch>(
     alloc: Global,
     mut best: Best,

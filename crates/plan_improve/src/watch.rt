@@ -4,7 +4,7 @@ ghost use Rattle.plan_improve.specs.Watching.{Told, IsToldMore};
 
 use shop_base::Moment;
 
-/// Whoever is told how far a search is. It changes nothing of the search.
+/// A watcher that gets how far a search has come. It changes nothing in the search.
 pub trait Watch {
     // What it was told so far, where that is said.
     ghost told: { Self → Option (List Told) };

@@ -1,4 +1,4 @@
-//! The moments that a schedule tells.
+//! The moments that a schedule shows.
 
 ghost use Rattle.std.specs.Prelude.{◌≡◌, ◌+◌, ◌<◌, ◌≤◌, IfOk, MatchOption};
 ghost use Rattle.shop_base.specs.Shop.{step_at};
@@ -14,8 +14,8 @@ use shop_base::{JobNo, Moment, Node, Shaped, Step};
 use std::alloc::{AllocError, Global};
 use std::marker::Model;
 
-/// A plan without a cycle, with a moment for each of its nodes, as those of the exact run are, and its deadlines where it is
-/// accepted. The same of the rest of a run, of which passed nodes have moments that nothing tells.
+/// A plan without a cycle, with a moment for each of its nodes, as in the exact run, and its deadlines if it is
+/// accepted. Or the same for the rest of a run; its passed nodes have moments that no line shows.
 #[derive(Drop)]
 pub struct Calendar<'a> {
     graph: Graph<'a>,
@@ -34,7 +34,7 @@ impl<'a> Model for Calendar<'a> {
 }
 
 impl<'a> Calendar<'a> {
-    /// The calendar of a plan by these moments and deadlines. It fails only where it is out of memory.
+    /// The calendar of a plan by these moments and deadlines. Fails only when out of memory.
     pub fn new(
         alloc: Global,
         shaped: &'a Shaped,
@@ -99,7 +99,7 @@ impl<'a> Calendar<'a> {
         }
     }
 
-    /// The cleaning behind that visit, if the machine has a cleaning time.
+    /// The cleaning after that visit, if the machine has a cleaning time.
     pub(crate) fn cleaning(&self, job: JobNo, place: u32) -> Option<Cleaning>
         requires job { job < jobs self.now.plan }
         requires place { place < steps self.now.plan job }
@@ -124,7 +124,7 @@ impl<'a> Calendar<'a> {
         })
     }
 
-    /// The deadline of the cleaning behind a node by which its job leaves a machine, if another job waits for it.
+    /// The deadline of the cleaning after a node by which its job leaves a machine, if another job waits for it.
     fn cleaning_due(&self, left: Node) -> Option<Moment>
         ensures { let c = self.now in IsCleaningDue c.plan (due_at c) left result }
     {

@@ -33,7 +33,7 @@ pub(crate) struct Cleaning {
     pub due: Option<Moment>,
 }
 
-/// Adds `job J arrives R by D`, without ` by D` where there is no deadline.
+/// Adds `job J arrives R by D`, without ` by D` if there is no deadline.
 pub fn push_arrival_line(
     text: &mut Vec<u8>,
     job: JobNo,
@@ -85,7 +85,7 @@ pub(crate) fn push_cleaning_line(text: &mut Vec<u8>, cleaning: Cleaning) -> Resu
     push_line(text, &line)
 }
 
-/// Writes the deadline, where there is one.
+/// Writes the deadline, if there is one.
 fn put_due(line: &mut Line, due: Option<Moment>)
     requires { length line.old ≤ 30 }
     ensures written { line.new ≡ due_words due ++ line.old }

@@ -14,8 +14,8 @@ use run_picture::{Cleaned, DrawnVisit};
 use shop_base::JobNo;
 use std::alloc::{AllocError, Global};
 
-/// The visits of the exact run of an accepted plan, as a picture draws them: those of each job in ascending order, in
-/// the order of its route, each with the cleaning behind it.
+/// The visits of the exact run of an accepted plan, as a picture draws them: the jobs in ascending order, each job's
+/// visits in the order of its route, each with the cleaning after it.
 pub fn drawn_visits(alloc: Global, verified: &Verified) -> Result<Vec<DrawnVisit>, AllocError>
     ensures { IfOk result (λ visits. AreDrawnVisits verified.now.planned visits.items) }
 {
@@ -23,7 +23,7 @@ pub fn drawn_visits(alloc: Global, verified: &Verified) -> Result<Vec<DrawnVisit
     calendar_visits(alloc, &calendar)
 }
 
-/// The visits that a calendar tells.
+/// The visits in a calendar.
 fn calendar_visits(alloc: Global, calendar: &Calendar<'_>) -> Result<Vec<DrawnVisit>, AllocError>
     requires { AreSoon calendar.now }
     ensures { let c = calendar.now in IfOk result (λ visits. visits.items ≡ all_visits c.plan (earliest_of c.times) (jobs c.plan)) }

@@ -15,10 +15,10 @@ use shop_base::Shaped;
 use std::alloc::{AllocError, Global};
 
 /// When what begins and ends, and how late it may end: after the verdict's first line the lines of each job in
-/// ascending order, its arrival, its visits in the order of its route, and behind each visit of a machine with
-/// a cleaning time the cleaning. Moments are whole time units, those of the exact run, in which each activity
-/// takes its nominal time; behind them stand the deadlines where the plan is accepted. A plan with a cycle has
-/// its first line alone, as no run of it has moments for all.
+/// ascending order, its arrival, its visits in the order of its route, and after each visit of a machine with
+/// a cleaning time the cleaning. Moments are whole time units of the exact run, in which each activity takes
+/// its nominal time; if the plan is accepted, the deadlines follow them. A plan with a cycle has only its
+/// first line, as no run of it has moments for all.
 pub fn schedule(alloc: Global, verdict: &Verdict) -> Result<Vec<u8>, AllocError>
     requires { OnRefused IsReason verdict.now }
     ensures { IfOk result (λ text. IsScheduled verdict.now text.items) }
@@ -28,7 +28,7 @@ pub fn schedule(alloc: Global, verdict: &Verdict) -> Result<Vec<u8>, AllocError>
     Ok(text)
 }
 
-/// Adds the lines behind the first one.
+/// Adds the lines after the first one.
 fn push_lines_behind(alloc: Global, text: &mut Vec<u8>, verdict: &Verdict) -> Result<(), AllocError>
     requires { OnRefused IsReason verdict.now }
     ensures { OnOk result (Adds (AreScheduledBehind verdict.now) text.old.items text.new.items) }

@@ -50,7 +50,7 @@ fn push_visits(text: &mut Vec<u8>, calendar: &Calendar<'_>, job: JobNo) -> Resul
     Ok(())
 }
 
-/// Adds the lines of a visit: its own, and behind it that of the cleaning, if there is one.
+/// Adds the lines of a visit: its own and, if there is a cleaning, the cleaning's after it.
 pub fn push_visit(
     text: &mut Vec<u8>,
     calendar: &Calendar<'_>,
@@ -68,7 +68,7 @@ pub fn push_visit(
     push_cleaning_behind(text, calendar, job, place)
 }
 
-/// Adds the line of the cleaning behind a visit, where the machine has a cleaning time.
+/// Adds the line of the cleaning after a visit, if the machine has a cleaning time.
 pub fn push_cleaning_behind(
     text: &mut Vec<u8>,
     calendar: &Calendar<'_>,

@@ -41,7 +41,7 @@ fn order_from(
     Ok(order)
 }
 
-/// Adds those of the jobs from `from` on and below `to` that the machine has.
+/// Adds the machine's jobs from `from` on and below `to`.
 fn add_visitors(
     shop: &Shop,
     machine: MachineNo,

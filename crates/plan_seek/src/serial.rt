@@ -16,7 +16,7 @@ use plan_verifier::{Verdict, Verified, verify};
 use shop_base::{JobNo, Shaped, Shop, shape};
 use std::alloc::{AllocError, Global};
 
-/// The serial plan, where it isn't late.
+/// The serial plan, if it isn't late.
 pub(crate) fn try_serial(alloc: Global, task: Task) -> Result<Verified, NotFound>
     requires { AreSoundNumbers task }
     ensures { IsSerialOutcome task result }

@@ -93,7 +93,7 @@ impl SimulatedCell {
         next
     }
 
-    /// The step that the job enters next, none where it leaves the cell or is gone.
+    /// The step that the job enters next; `None` if it leaves the cell or is gone.
     pub fn next_step(&self, shop: &Shop, job: JobNo) -> Option<Step> {
         let part = self.parts.get(job as usize)?;
         shop.route(job)?.get(part.entered).copied()
@@ -189,7 +189,7 @@ impl SimulatedCell {
     }
 }
 
-/// The sooner of two moments, of which there may be only the second.
+/// The sooner of two moments, or the second if there is no first.
 fn sooner(one: Option<Moment>, other: Moment) -> Moment {
     match one {
         Some(moment) if moment < other => moment,

@@ -6,7 +6,7 @@ use crate::simulated_cell::SimulatedCell;
 use shop_base::{JobNo, MachineNo, Shop};
 use std::alloc::{AllocError, Global};
 
-/// A move: the job, and the machine that it enters, none where it leaves the cell.
+/// A move: the job, and the machine that it enters; `None` if it leaves the cell.
 #[derive(Clone, Copy)]
 pub(crate) struct Passage {
     pub job: JobNo,

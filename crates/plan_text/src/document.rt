@@ -91,7 +91,7 @@ fn push_three_lines(text: &mut String, plan: &Plan) -> Result<(), AllocError>
     push_order_line(text, &plan.order)
 }
 
-/// The line of version 2, that of plans with cleaning.
+/// The line of version 2, the version of plans with cleaning.
 fn push_version(text: &mut String) -> Result<(), AllocError>
     ensures { OnOk result (string_bytes text.new ≡ string_bytes text.old ++ version_line) }
 {

@@ -21,7 +21,7 @@ pub(crate) fn value_of<'a>(table: &'a Table, key: &str) -> Option<&'a Value>
     table.get(key)
 }
 
-/// Whether the table's version is 2, that of plans with cleaning.
+/// Whether the table's version is 2, the version of plans with cleaning.
 pub(crate) fn check_version(table: &Table) -> Result<bool, PlanFault>
     ensures faults { PassesExactly (version_faults (version_in (table_view table.now))) result }
     ensures value { IfOk result (λ cleaning. cleaning ≡ has_cleaning (version_in (table_view table.now))) }

@@ -77,7 +77,7 @@ impl From<toml::de::Error> for PlanFault {
     }
 }
 
-/// The row in a fault's text, where there is one.
+/// The row in a fault's text, if there is one.
 #[derive(Drop)]
 struct RowText(Option<usize>);
 

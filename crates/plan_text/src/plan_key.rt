@@ -20,7 +20,7 @@ pub enum PlanKey {
 }
 
 impl PlanKey {
-    /// The key as it stands in a text.
+    /// The key as it is in a text.
     pub fn name(self) -> &'static str
         ensures { result.now ≡ name_of self }
     {

@@ -57,8 +57,8 @@ impl Verified {
         }
     }
 
-    /// The earliest moment of the node's move, in time units: the greatest length of a path to it. None for a node that isn't of
-    /// the shop.
+    /// The earliest moment of the node's move, in time units: the greatest length of a path to it. `None` for a node
+    /// that isn't of the shop.
     pub fn earliest(&self, node: Node) -> Option<Moment>
         ensures greatest { let p = self.now.planned in
             MatchOption result (IsNode p node → ⊥) (λ n. IsNode p node × IsGreatest p node n) }
@@ -67,9 +67,10 @@ impl Verified {
         self.times.earliest(node)
     }
 
-    /// The deadlines of all nodes: the latest moments at which their moves can be made so that each job is out by its budget.
-    /// As long as every activity ends by the deadline of the move that it holds up, every job is, however long it took. They are
-    /// found anew by each call, in time and memory linear in the nodes and machines; it fails only where it is out of memory.
+    /// The deadlines of all nodes: the latest moments at which their moves can be made so that each job is out by its
+    /// budget. As long as every activity ends by the deadline of the move that it holds up, every job is, however long
+    /// it took. Each call finds them anew, in time and memory linear in the nodes and machines; it fails only when out
+    /// of memory.
     pub fn deadlines(&self, alloc: Global) -> Result<Deadlines, AllocError>
         ensures nodes { IfOk result (λ found. (v : Node) → IsNode self.now.planned v ↔ HasMoment found v) }
         ensures fit { IfOk result (λ found. FitBudgets self.now.planned (moment_of found)) }

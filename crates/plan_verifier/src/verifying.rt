@@ -15,8 +15,8 @@ use alt_graph::{Solved, Times, solve};
 use shop_base::{JobNo, Shaped};
 use std::alloc::{AllocError, Global};
 
-/// Judges a plan. The cycle is looked for first, and the first late job second. Out of memory, the plan comes back. A
-/// cycle stops every run, and no exact run has the late job gone earlier than is told, so that no exact run of a
+/// Judges a plan: looks first for a cycle, then for the first late job. When out of memory, it gives the plan back. A
+/// cycle stops every run, and in no exact run is the late job gone earlier than the verdict says, so no exact run of a
 /// refused plan has every job out by its budget.
 pub fn verify(alloc: Global, shaped: Shaped) -> Result<Verdict, (AllocError, Shaped)>
     ensures accepted { IfOk result (OnAccepted (λ verified. (verified.planned ≡ shaped) × IsAcceptable shaped)) }

@@ -21,7 +21,7 @@ pub(crate) struct Edges {
     pub right: u64,
     pub top: u64,
     pub bottom: u64,
-    /// Where a word in it stands.
+    /// Where a word is in it.
     pub foot: u64,
 }
 

@@ -58,7 +58,7 @@ fn box_line(edges: Edges, drawn: DrawnBox) -> BoxLine
     line
 }
 
-/// Writes the job's number in the box of an operation, where there is room.
+/// Writes the job's number in the box of an operation, if there is room.
 fn put_number(line: &mut BoxLine, kind: BoxKind, job: JobNo, edges: Edges)
     requires left { edges.left ≤ 11_500 }
     requires right { edges.right ≤ 11_500 }

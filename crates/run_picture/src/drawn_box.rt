@@ -17,7 +17,7 @@ pub(crate) enum BoxKind {
     Clean,
 }
 
-/// A box: what it shows, of which job on which machine, from when to when, and whether it is over then.
+/// A box: what it shows, for which job on which machine, from when to when, and whether it is over then.
 #[derive(Clone, Copy)]
 pub(crate) struct DrawnBox {
     pub kind: BoxKind,
@@ -81,7 +81,7 @@ pub(crate) fn clean_box(last: Moment, visit: DrawnVisit) -> Option<DrawnBox>
     })
 }
 
-/// When something ends: as it is told, else at the last moment.
+/// When something ends: at its end if that is known, else at the last moment.
 fn end_of(last: Moment, end: Option<Moment>) -> Moment
     ensures { result ≡ end_of last end }
 {

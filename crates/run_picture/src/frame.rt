@@ -31,14 +31,14 @@ pub(crate) fn bottom_of(machine: MachineNo) -> u64
     ROWS + ROW * u64::from(machine) + 220
 }
 
-/// Where the words in the boxes of a machine stand.
+/// Where the words in the boxes of a machine are.
 pub(crate) fn foot_of(machine: MachineNo) -> u64
     ensures { result ≡ foot_of machine }
 {
     ROWS + ROW * u64::from(machine) + 160
 }
 
-/// Where the rows of so many machines end.
+/// Where the rows of this number of machines end.
 pub(crate) fn rows_end(machines: u32) -> u64
     ensures { result ≡ rows_end machines }
 {

@@ -1,4 +1,4 @@
-//! What stands around the boxes, in text.
+//! What is around the boxes, in text.
 
 ghost use Rattle.std.specs.Prelude.{◌≡◌};
 ghost use Rattle.run_picture.specs.PictureText.{style_text, colour_text, head_text, ground_text, moment_text, row_text};

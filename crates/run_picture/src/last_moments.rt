@@ -6,7 +6,7 @@ ghost use Rattle.run_picture.specs.LastMoments.{moment_or_none, clean_end_or_non
 use crate::visit::{Cleaned, DrawnVisit};
 use shop_base::Moment;
 
-/// The greatest moment that the visits tell, 0 where they tell none.
+/// The greatest moment in the visits, 0 if there is none.
 pub fn last_moment(visits: &[DrawnVisit]) -> Moment
     ensures { result ≡ last_of visits.now }
 {
@@ -17,7 +17,7 @@ pub fn last_moment(visits: &[DrawnVisit]) -> Moment
     last
 }
 
-/// The greatest moment that a visit tells.
+/// The greatest moment in a visit.
 fn last_of_visit(visit: DrawnVisit) -> Moment
     ensures { result ≡ last_of_visit visit }
 {

@@ -77,7 +77,7 @@ fn put_picture<W: Sink>(
     put_all(output, b"</svg>\n")
 }
 
-/// Writes what stands before the axis.
+/// Writes what comes before the axis.
 fn put_head<W: Sink>(output: &mut W, machines: u32) -> Result<(), WriteFault>
     ensures wrote { WroteTo W.Sink result output.old output.new (frame_text machines) }
     ensures unfailed { OnOk result (W.failed output.new ≡ W.failed output.old) }

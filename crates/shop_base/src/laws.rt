@@ -54,7 +54,7 @@ pub fn every_run_is_sound()
     ensures { EveryRunIsSound }
 {}
 
-/// After a move that is possible in a run, the jobs that have entered its target are those of before, and behind them
+/// After a move that is possible in a run, the jobs that have entered its target are the same as before, followed by
 /// the job itself. By this list the definition says whether the move keeps the plan.
 pub fn a_move_enters_its_target()
     ensures { AMoveEntersItsTarget }
@@ -125,7 +125,7 @@ pub fn the_serial_plan_has_no_cycle()
 
 /// In any run, by any controller, an arrival or the end of an operation that was reported isn't possible again. The
 /// end of a machine's cleaning is, but only once the end of an operation on that machine was reported since, and its
-/// job has left. It isn't possible at a moment before that of a report since.
+/// job has left. Even then it isn't possible at a moment before any report since.
 pub fn no_end_is_accepted_twice()
     ensures { NoEndIsAcceptedTwice }
 {}

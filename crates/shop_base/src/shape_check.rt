@@ -72,7 +72,7 @@ fn check_order(
     Ok(())
 }
 
-/// Checks each place of the machine's order, and marks the jobs that stand in it.
+/// Checks each place of the machine's order, and marks the jobs in it.
 fn check_places(
     shop: &Shop,
     plan: &Plan,

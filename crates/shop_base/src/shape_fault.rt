@@ -32,7 +32,7 @@ pub enum ShapeFault {
     /// The route of the job at this place doesn't visit the machine.
     #[error("NotOnRoute machine {machine} place {place}")]
     NotOnRoute { machine: MachineNo, place: usize },
-    /// The job at this place stands earlier in the machine's order.
+    /// The job at this place is also earlier in the machine's order.
     #[error("JobTwice machine {machine} place {place}")]
     JobTwice { machine: MachineNo, place: usize },
     /// The route of the job visits the machine, whose order lacks the job.

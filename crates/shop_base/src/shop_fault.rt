@@ -23,7 +23,7 @@ pub enum ShopFault {
     /// The machine of the step isn't one of the shop's.
     #[error("MachineOutOfRange job {job} step {step}")]
     MachineOutOfRange { job: JobNo, step: usize },
-    /// The machine of the step stands earlier in the route.
+    /// The machine of the step is also earlier in the route.
     #[error("MachineTwice job {job} step {step}")]
     MachineTwice { job: JobNo, step: usize },
     /// The nominal time of the step is over the limit.

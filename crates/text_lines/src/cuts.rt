@@ -1,11 +1,11 @@
-//! Bytes that are cut at a line feed, at a space or behind a prefix.
+//! Bytes that are cut at a line feed, at a space or after a prefix.
 
 ghost use Rattle.std.specs.Prelude.{◌≡◌, ◌<◌, ◌==◌, ◌++◌, length, position, IfSome, MatchOption};
 ghost use Rattle.text_lines.specs.Cuts.{HasNone, IsCutAt, LacksPrefix};
 
 use memchr::memchr;
 
-/// The bytes before the first line feed and those after it; none if there is no line feed.
+/// The bytes before the first line feed and the bytes after it; `None` if there is no line feed.
 pub fn cut_line(bytes: &[u8]) -> Option<(&[u8], &[u8])>
     ensures { MatchOption result (HasNone 10 bytes.now) (λ found. IsCutAt 10 bytes.now found.0.now found.1.now) }
 {
@@ -27,7 +27,7 @@ fn word_end(line: &[u8]) -> Option<usize>
     line.iter().position(|byte| *byte == b' ')
 }
 
-/// The bytes before the first space and those after it; none if there is no space.
+/// The bytes before the first space and the bytes after it; `None` if there is no space.
 pub fn cut_word(line: &[u8]) -> Option<(&[u8], &[u8])>
     ensures { MatchOption result (HasNone 32 line.now) (λ found. IsCutAt 32 line.now found.0.now found.1.now) }
 {
@@ -37,7 +37,7 @@ pub fn cut_word(line: &[u8]) -> Option<(&[u8], &[u8])>
     }
 }
 
-/// The bytes after this prefix; none if the line doesn't begin with it.
+/// The bytes after this prefix; `None` if the line doesn't begin with it.
 pub fn after_prefix<'a>(line: &'a [u8], prefix: &[u8]) -> Option<&'a [u8]>
     ensures { MatchOption result (LacksPrefix prefix.now line.now) (λ rest. line.now ≡ prefix.now ++ rest.now) }
 {

@@ -35,7 +35,7 @@ impl<const ROOM: usize> LineText<ROOM> {
         }
     }
 
-    /// No bytes, for what stands before a line.
+    /// No bytes, for what comes before a line.
     pub fn empty() -> LineText<ROOM>
         ensures { result ≡ [] }
     {

@@ -14,7 +14,7 @@ pub fn without_return(line: &[u8]) -> &[u8]
     line.strip_suffix(b"\r").unwrap_or(line)
 }
 
-/// The first line of a text, and the text after it; none if nothing is left.
+/// The first line of a text, and the text after it; `None` if nothing is left.
 pub fn next_line(text: &[u8]) -> Option<(&[u8], &[u8])>
     ensures line { GivesFirst (λ line. line.now) (λ rest. lines_of rest.now) result (lines_of text.now) }
     ensures shorter { IfSome result (λ found. length found.1.now < length text.now) }

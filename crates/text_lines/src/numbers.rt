@@ -57,7 +57,7 @@ pub fn number_before_space(bytes: &[u8], most: usize) -> Option<(u64, &[u8])>
     None
 }
 
-/// The number that the digits before this end are, and the bytes behind it, if there are digits and a space ends them.
+/// The number that the digits before this end are, and the bytes after it, if there are digits and a space ends them.
 fn ended_number(bytes: &[u8], end: usize, value: u64) -> Option<(u64, &[u8])>
     requires end { end < length bytes.now }
     requires digits { list_all is_digit (take end bytes.now) ≡ true }
