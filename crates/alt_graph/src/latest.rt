@@ -153,7 +153,7 @@ fn latest_in_job(graph: &Graph<'_>, moments: &[Moment], node: Node) -> Moment
     }
 }
 
-/// The nominal time of the step that begins at the node, 0 where none does.
+/// The nominal time of the step that begins at the node, 0 if none does.
 fn nominal_at(shaped: &Shaped, node: Node) -> Moment
     ensures { (w : Node) (d : ℕ) → IsJobArc shaped.now node w d → d ≡ result }
 {

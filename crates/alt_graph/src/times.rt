@@ -46,7 +46,7 @@ impl Times {
         Times { firsts, rows }
     }
 
-    /// The node's rank, which rises strictly along every arc; none for a node that isn't of the shop.
+    /// The node's rank, which rises strictly along every arc; `None` for a node that isn't of the shop.
     pub fn rank(&self, node: Node) -> Option<u32>
         ensures { MatchOption result (IsTimed self.now node → ⊥) (λ rank. IsTimed self.now node × (rank ≡ rank_of self.now node)) }
     {
@@ -68,8 +68,8 @@ impl Times {
         }
     }
 
-    /// A path of the greatest length to the node, from a bounded node on (of a whole plan a job's first place); none for
-    /// a node that isn't of the shop, and then never an error.
+    /// A path of the greatest length to the node, from a bounded node on (of a whole plan a job's first place); `None`
+    /// for a node that isn't of the shop, and then never an error.
     pub fn chain(&self, alloc: Global, node: Node) -> Result<Option<Vec<Node>>, AllocError>
         ensures outside { (IsTimed self.now node → ⊥) → result ≡ Ok None }
         ensures inside { IsTimed self.now node → IfOk result IsSome }

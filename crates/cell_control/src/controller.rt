@@ -56,8 +56,8 @@ impl<D: Dues> Model for Controller<D> {
 
 impl<D: Dues> Controller<D> {
     /// The controller of an accepted plan before the first report: all jobs outside, no machine entered.
-    /// It takes all memory that later calls need, and none of them can answer that it is out of memory. Where a request for
-    /// memory is refused, the plan comes back with that error; when one is, no clause says.
+    /// It takes all memory that later calls need, and none of them can answer that it is out of memory. If a request
+    /// for memory is refused, the plan comes back with that error; when one is, no clause says.
     pub fn new(alloc: Global, verified: Verified) -> Result<Controller<D>, (AllocError, Verified)>
         ensures start { IfOk result (λ controller. controller ≡ at_start verified) }
         ensures handed_back { IfErr result (λ refused. refused.1 ≡ verified) }
@@ -152,7 +152,7 @@ impl<D: Dues> Controller<D> {
         &self.cell
     }
 
-    /// Where the job is; none for a number that is no job's.
+    /// Where the job is; `None` for a number that is no job's.
     pub fn phase(&self, job: JobNo) -> Option<Phase>
         ensures { IsPhaseOf self.now.plan.planned self.now.cell job result }
     {
@@ -163,7 +163,7 @@ impl<D: Dues> Controller<D> {
         }
     }
 
-    /// The job that is on the machine, if one is; none for a number that is no machine's.
+    /// The job that is on the machine, if one is; `None` for a number that is no machine's.
     pub fn holder(&self, machine: MachineNo) -> Option<JobNo>
         ensures { IsJobOn self.now.plan.planned self.now.cell machine result }
     {

@@ -13,7 +13,7 @@ use cell_control::{Controller, Dues, Report};
 use event_lines::{LineText, done_line, late_line, put_order, put_report, unfinished_line};
 use shop_base::MoveOrder;
 
-/// Writes the line behind the prefix. An empty one costs nothing.
+/// Writes the line after the prefix. An empty prefix costs nothing.
 #[inline(always)]
 pub(crate) fn put_behind<W: Sink>(
     prefix: &[u8],

@@ -1,4 +1,4 @@
-//! Whether what is claimed is taken, and what is told of it.
+//! Whether what is claimed is taken, and what the answer says of it.
 
 ghost use Rattle.std.specs.Prelude.{◌≡◌, ◌++◌, OnOk};
 ghost use Rattle.shop_base.specs.Report.{CanReport};
@@ -20,13 +20,13 @@ use event_lines::{Claim, Detail, Overdue, refused_detail_line};
 /// What comes of a claim.
 #[derive(Clone, Copy)]
 pub(crate) enum Judged {
-    /// It is refused, with what is told behind the name.
+    /// It is refused, with what the line says after the name.
     Refused { refusal: Refusal, detail: Detail },
-    /// It is taken; what is told to be overdue, if it is late.
+    /// It is taken; what the line says is overdue, if it is late.
     Taken { overdue: Option<Overdue> },
 }
 
-/// What is told to be overdue as the report comes.
+/// What the line says is overdue as the report comes.
 fn told_overdue<D: Dues>(
     manner: Manner,
     controller: &Controller<D>,
@@ -75,7 +75,7 @@ pub(crate) fn put_refusal<W: Sink>(
     put_behind(prefix, line.bytes(), writer)
 }
 
-/// Whether the end of the run is told at once.
+/// Whether the end of the run is written at once.
 pub(crate) fn tells_end<D: Dues>(manner: Manner, controller: &Controller<D>) -> bool
     ensures { result ≡ tells_end manner controller.now.plan.planned controller.now.cell }
 {

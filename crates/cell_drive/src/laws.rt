@@ -37,15 +37,15 @@ pub fn each_cell_is_as_alone()
     ensures { EachCellIsAsAlone }
 {}
 
-/// For a well-shaped plan the lines of an answer text tell, in order, exactly the reports that were accepted and the
+/// For a well-shaped plan the lines of an answer text record, in order, exactly the reports that were accepted and the
 /// moves that were ordered. These are a run of the plan, which leads to the cell at the end.
 pub fn an_answer_text_is_a_log()
     ensures { AnAnswerTextIsALog }
 {}
 
-/// Let `drive` succeed, into a writer that tells its bytes, and audit what it wrote against the same plan. The only
-/// fault of the audit is `Memory`. It finds the events of the log, how many reports were accepted and moves ordered,
-/// the last moment, and `complete` exactly where driving was `done`.
+/// Let `drive` succeed, into a writer whose bytes are known, and audit what it wrote against the same plan. The only
+/// fault of the audit is `Memory`. The audit finds the events of the log, how many reports were accepted and moves
+/// ordered, the last moment, and `complete` exactly if driving was `done`.
 pub fn an_audit_keeps_what_was_driven()
     ensures { AnAuditKeepsWhatWasDriven }
 {}
@@ -60,22 +60,22 @@ pub fn a_cut_log_is_taken_up()
 {}
 
 /// Let a log be taken up, and let the lines of an input be the reports of its run, one after another. The events that
-/// are told again, and then the orders that are due, are what `drive` answers to those lines. The mark between them
-/// isn't.
+/// are written again, and then the orders that are due, are what `drive` answers to those lines. The mark between
+/// them isn't.
 pub fn told_as_answered()
     ensures { ToldAsAnswered }
 {}
 
-/// For a well-shaped plan an input has one text that answers it behind what was taken up, which leads to one cell
-/// with one list of events. What `resume` writes, where it succeeds, is that text of what it read.
+/// For a well-shaped plan an input has one text that answers it after what was taken up, which leads to one cell
+/// with one list of events. What `resume` writes, if it succeeds, is that text for what it read.
 pub fn one_resumed_text()
     ensures one { OneResumedText }
     ensures resumed { WhatWasResumedIsSuchAText }
 {}
 
 /// What a run that was taken up writes is by itself a log of the whole run, and the events in it are a controlled
-/// run. Let `resume` succeed, into a writer that tells its bytes, and audit what it wrote against the same plan. The
-/// only fault of the audit is `Memory`. It finds the events of the log, and is complete exactly where driving was
+/// run. Let `resume` succeed, into a writer whose bytes are known, and audit what it wrote against the same plan. The
+/// only fault of the audit is `Memory`. The audit finds the events of the log, and is complete exactly if driving was
 /// done.
 pub fn an_audit_keeps_what_was_resumed()
     ensures log { AResumedTextIsALog }
@@ -102,7 +102,7 @@ pub fn nothing_is_taken_twice()
     ensures { NothingIsTakenTwice }
 {}
 
-/// A late report finds something overdue, its own activity or another: so its line always tells what.
+/// A late report finds something overdue, its own activity or another: so its line always says what.
 pub fn a_late_report_finds_something_overdue()
     ensures { ALateReportFindsSomethingOverdue }
 {}

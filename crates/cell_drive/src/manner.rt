@@ -8,7 +8,7 @@ use shop_base::Moment;
 /// In which manner a cell is driven: which version of the lines it reads and writes, and which moments it refuses.
 #[derive(Clone, Copy, Debug, PartialEq, Eq)]
 pub struct Manner {
-    /// Version 2 of the lines: more can be asked for, and more is told. Else it is version 1.
+    /// Version 2 of the lines: more can be asked for, and the answers say more. Else it is version 1.
     pub tells: bool,
     /// The longest time that may pass from one accepted report to the next; without one any may.
     pub longest: Option<Moment>,
@@ -17,14 +17,14 @@ pub struct Manner {
 }
 
 impl Manner {
-    /// The moment from which a leap counts, where `last` is that of the last accepted report.
+    /// The moment from which a leap counts, if `last` is the moment of the last accepted report.
     pub(crate) fn leap_base(self, last: Moment) -> Moment
         ensures { result ≡ leap_base self last }
     {
         if last < self.from { self.from } else { last }
     }
 
-    /// Whether a report at this moment is a leap, where `last` is that of the last accepted one.
+    /// Whether a report at this moment is a leap, if `last` is the moment of the last accepted one.
     pub(crate) fn leaps(self, last: Moment, at: Moment) -> bool
         ensures { result ≡ leaps self last at }
     {

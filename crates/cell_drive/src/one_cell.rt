@@ -44,7 +44,7 @@ fn note(log: &mut RunLog, report: Report, orders: &[MoveOrder])
     log.note_orders(orders).unwrap();
 }
 
-/// Takes a report. Where it is accepted, it is noted with the moves that it releases.
+/// Takes a report. If it is accepted, it is noted with the moves that it releases.
 pub fn take_report<D: Dues>(
     controller: &mut Controller<D>,
     log: &mut RunLog,
@@ -77,7 +77,7 @@ pub(crate) fn put_refused<W: Sink>(
     put_all(writer, refused_line(number, name).bytes())
 }
 
-/// Answers a line that isn't empty. It stands apart, so that empty lines cost little.
+/// Answers a line that isn't empty. This is a function of its own so that empty lines cost little.
 #[inline(never)]
 fn answer_told<D: Dues, W: Sink>(
     controller: &mut Controller<D>,

@@ -1,4 +1,4 @@
-//! Why what a line claims is refused, and what is told of it.
+//! Why what a line claims is refused, and what the answer says of it.
 
 ghost use Rattle.std.specs.Prelude.{◌≡◌, false, OnOk, IfErr, MatchOption};
 ghost use Rattle.cell_tables.specs.Reports.{said};
@@ -22,7 +22,7 @@ pub(crate) enum Refusal {
 }
 
 impl Refusal {
-    /// The name, as it stands in a line.
+    /// The name, as it is in a line.
     pub(crate) fn name(self) -> &'static str
         ensures { result.now ≡ refusal_word self }
     {
@@ -95,7 +95,7 @@ pub(crate) fn refusal_of<D: Dues>(
     }
 }
 
-/// How it stands with the job or the machine of the report.
+/// The state of the job or the machine of the report.
 pub(crate) fn standing_of<P: Planned>(cell: &WorkCell<P>, report: Report) -> Standing
     requires { IsOfShop cell.now.plan (said report).ended }
     ensures { result ≡ standing_of cell.now.plan cell.now.cell report }
@@ -128,7 +128,7 @@ fn reason_detail<P: Planned>(cell: &WorkCell<P>, report: Report, reason: ReportF
     }
 }
 
-/// What is told behind the name of the refusal.
+/// What the line says after the name of the refusal.
 pub(crate) fn refusal_detail<D: Dues>(
     manner: Manner,
     controller: &Controller<D>,

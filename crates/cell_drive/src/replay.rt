@@ -1,4 +1,4 @@
-//! A run as far as the lines of its log have told it again.
+//! A run as far as the lines of its log that were read record it.
 
 ghost use Rattle.std.specs.Prelude.{◌≡◌, ◌*◌, ◌≤◌, [], ◌∷◌, ◌++◌, vec_capacity, IfOk, IfErr, OnOk};
 ghost use Rattle.shop_base.specs.Ends.{stated_number};
@@ -21,8 +21,8 @@ use shop_base::MoveOrder;
 use std::alloc::{AllocError, Global};
 use text_lines::{cut_line, without_return};
 
-/// A cell, the log of what was accepted and ordered in it, and how much of that the lines have told: of each entry that was
-/// told, whether it is a report that was late. The entries behind these are orders, which are due.
+/// A cell, the log of what was accepted and ordered in it, and how much of that the lines have recorded: for each
+/// recorded entry, whether it is a report that was late. The entries after these are orders, which are due.
 #[derive(Drop)]
 pub(crate) struct Replay<D: Dues> {
     pub controller: Controller<D>,
@@ -30,7 +30,7 @@ pub(crate) struct Replay<D: Dues> {
     pub late: Vec<bool>,
 }
 
-/// A run that nothing is told of yet, with room for all of it.
+/// A run with nothing recorded yet, with room for all of it.
 pub(crate) fn start_replay(
     alloc: Global,
     verified: Verified,
@@ -80,7 +80,7 @@ impl<D: Dues> Replay<D> {
         Ok(())
     }
 
-    /// Takes the entry that the line of this number tells, if it isn't passed over.
+    /// Takes the entry in the line of this number, if it isn't passed over.
     fn take_line(&mut self, line: &[u8], number: usize) -> Result<(), ResumeFault>
         requires replayed { IsReplayed self.old.controller self.old.log self.old.late.items }
         requires room { 2 * stated_number self.old.controller.plan.planned ≤ vec_capacity self.old.late }
@@ -129,7 +129,7 @@ impl<D: Dues> Replay<D> {
         }
     }
 
-    /// Takes an order, where it is the next that is due.
+    /// Takes an order, if it is the next that is due.
     fn take_told_order(&mut self, order: MoveOrder, number: usize) -> Result<(), ResumeFault>
         requires replayed { IsReplayed self.old.controller self.old.log self.old.late.items }
         requires room { 2 * stated_number self.old.controller.plan.planned ≤ vec_capacity self.old.late }

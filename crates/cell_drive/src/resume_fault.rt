@@ -9,7 +9,7 @@ use thiserror::Error;
 /// Why a log isn't taken up: the only fault of its first bad line. Lines are numbered from 1.
 #[derive(Clone, Copy, Debug, PartialEq, Eq, Error)]
 pub enum ResumeFault {
-    /// The line tells no event, a job or machine that isn't of the shop, or a moment past the latest.
+    /// The line records no event, or it names a job or machine that isn't of the shop, or a moment past the latest.
     #[error("BadLine line {line}")]
     BadLine { line: usize },
     /// The line is an order that isn't the next one that is due, or a report while orders of the last one are due.
@@ -35,7 +35,7 @@ impl From<AllocError> for ResumeFault {
 }
 
 impl ResumeFault {
-    /// The name of the fault, without its line. Of a report that isn't possible it is that of the reason.
+    /// The name of the fault, without its line. For a report that isn't possible it is the name of the reason.
     pub fn name(self) -> &'static str
         ensures { result.now ≡ fault_name self }
     {
@@ -47,7 +47,7 @@ impl ResumeFault {
         }
     }
 
-    /// The line of the fault, 0 where it is out of memory.
+    /// The line of the fault, 0 when out of memory.
     pub fn line(self) -> usize
         ensures { result ≡ fault_line self }
     {

@@ -13,7 +13,7 @@ use cell_control::Dues;
 use cell_tables::Entry;
 use run_log::{Sink, WriteFault, put_all, write_lines};
 
-/// Writes the events that were told, an empty line, and the orders that are due.
+/// Writes the recorded events, an empty line, and the orders that are due.
 fn put_again<W: Sink>(entries: &[Entry], late: &[bool], writer: &mut W) -> Result<(), WriteFault>
     requires { length late.now ≤ length entries.now }
     ensures wrote { WroteTo W.Sink result writer.old writer.new (again_text entries.now late.now) }
@@ -38,10 +38,12 @@ fn put_taken<D: Dues, W: Sink>(
     put_again(driven.log.entries(), late, writer)
 }
 
-/// Goes on with a run that was taken up: writes its events once more, with an empty line, the mark, before the orders that
-/// the log didn't tell, and then drives it on as `drive` does. What is written is by itself a log of the whole run.
+/// Goes on with a run that was taken up: writes its events once more, with an empty line, the mark, before the orders
+/// that the log didn't record, and then drives it on as `drive` does. What is written is by itself a log of the whole
+/// run.
 ///
-/// `Memory` is never answered. A closing line is written only where nothing has failed before it. After a fault the plan is gone.
+/// `Memory` is never answered. A closing line is written only if nothing has failed before it. After a fault the plan
+/// is gone.
 pub fn resume<R: Source, W: Outlet>(
     taken: Taken,
     reader: &mut R,

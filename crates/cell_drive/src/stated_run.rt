@@ -14,9 +14,9 @@ use std::alloc::Global;
 /// Drives the cell of an accepted plan, as [`crate::drive`] does, in this manner.
 ///
 /// In version 2 of the lines there are `clean MACHINE JOB MOMENT`, the cleaning after that job, and `status`, which asks
-/// for the state; each refusal and each late report is told with what the controller has, and `done MOMENT` at once. A
-/// report whose moment is further than `longest` from the last accepted one is refused as `Leap`, after `Backwards` in
-/// the order of reasons.
+/// for the state; each refusal and each late report is written with what the controller has, and `done MOMENT` at once.
+/// A report whose moment is further than `longest` from the last accepted one is refused as `Leap`, after `Backwards`
+/// in the order of reasons.
 pub fn drive_stated<R: Source, W: Outlet>(
     alloc: Global,
     verified: Verified,

@@ -155,7 +155,7 @@ fn jobs_overdue<P: Planned>(cell: &WorkCell<P>, at: Moment) -> Option<Overdue>
     found
 }
 
-/// What is overdue, with that of the machines.
+/// What is overdue, including what is overdue of the machines.
 fn machines_overdue<P: Planned>(
     cell: &WorkCell<P>,
     of_jobs: Option<Overdue>,
@@ -183,7 +183,7 @@ fn own_first(found: Option<Overdue>, own: Standing, at: Moment) -> Option<Overdu
     }
 }
 
-/// What should have ended before this moment, as a report comes on which it stands so.
+/// What should have ended before this moment, when a report comes whose job or machine is in state `own`.
 pub(crate) fn overdue_in<P: Planned>(
     cell: &WorkCell<P>,
     own: Standing,

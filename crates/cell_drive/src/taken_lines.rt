@@ -11,7 +11,7 @@ use cell_control::Report;
 use event_lines::{Overdue, done_line, late_line, late_overdue_line};
 use shop_base::MoveOrder;
 
-/// Writes the line that the report was late, if it was, and in it what was overdue, if that is told.
+/// Writes the line that the report was late, if it was, and in it what was overdue, if that is given.
 fn put_lateness<W: Sink>(
     prefix: &[u8],
     report: Report,
@@ -37,7 +37,7 @@ fn put_lateness<W: Sink>(
     }
 }
 
-/// Writes the line of the end of the run, if it is told.
+/// Writes the line of the end of the run, if there is to be one.
 fn put_end<W: Sink>(
     prefix: &[u8],
     report: Report,
@@ -53,7 +53,7 @@ fn put_end<W: Sink>(
     put_behind(prefix, done_line(report.at()).bytes(), writer)
 }
 
-/// Writes the line of the report, the line that it was late, the lines of the orders, and that of the end.
+/// Writes the line of the report, the line that it was late, the lines of the orders, and the line of the end.
 pub(crate) fn put_taken<W: Sink>(
     prefix: &[u8],
     report: Report,

@@ -21,7 +21,7 @@ use std::marker::Model;
 pub struct Taken {
     /// The cell, and the log of what was accepted and ordered in it: all orders of the last report are there.
     pub(crate) driven: Driven<TourneyDues>,
-    /// Of each entry of it that was told, whether it is a report that was late. The others are orders, which are due.
+    /// For each recorded entry of it, whether it is a report that was late. The others are orders, which are due.
     pub(crate) late: Vec<bool>,
     /// Where what is read lies at a time, once the run goes on.
     pub(crate) room: Vec<u8>,
@@ -39,11 +39,10 @@ impl Model for Taken {
     ghost invariant = { λ t. IsReplayed t.driven.control t.driven.log t.late.items × (vec_len t.room ≡ MAX_PIECE) };
 }
 
-/// Takes up a run where its log ends, which may have been cut at any byte: what stands behind the last line feed isn't
+/// Takes up a run where its log ends, which may have been cut at any byte: what comes after the last line feed isn't
 /// looked at. The events of the log have to be the first of a controlled run in which all of their reports are accepted.
 ///
-/// All memory is taken before the first line is looked at: what a run takes that begins, and one byte for each of its
-/// entries.
+/// All memory is taken before the first line is looked at: what a new run takes, and one byte for each of its entries.
 pub fn take_up(alloc: Global, verified: Verified, text: &[u8]) -> Result<Taken, ResumeFault>
     ensures taken { IfOk result (λ taken.
         IsTakenUp verified.planned (ended_lines text.now) taken.driven.log.entries (length taken.late)) }

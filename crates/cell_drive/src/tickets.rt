@@ -76,7 +76,7 @@ impl From<NotAdmitted> for DriveFault {
     }
 }
 
-/// Adds the cell of the plan behind the others.
+/// Adds the cell of the plan after the others.
 fn admit_cell<D: Dues>(
     hub: &mut Hub<D>,
     tickets: &mut Vec<Ticket>,

@@ -1,4 +1,4 @@
-//! The lines of the events that were told, written once more.
+//! The lines of the recorded events, written once more.
 
 ghost use Rattle.std.specs.Prelude.{◌≡◌, ◌+◌, ◌≤◌, ◌++◌, length, OnOk};
 ghost use Rattle.byte_streams.specs.Lent.{WroteTo};
@@ -16,13 +16,13 @@ const MOST: usize = 20;
 /// The most bytes that the lines of one event have.
 const EVENT_ROOM: usize = 96;
 
-/// The room for the lines of so many events.
+/// The room for the lines of `MOST` events.
 const LINES_ROOM: usize = 1920;
 
-/// The lines of so many events.
+/// The lines of `MOST` events at most.
 type Lines = LineText<LINES_ROOM>;
 
-/// Writes the line of the event, and behind that of a late report the line that it is late, before what there is.
+/// Writes the line of the event, and after a late report's the line that it is late, before what there is.
 #[inline(always)]
 fn put_told_line(lines: &mut Lines, entry: Entry, late: bool)
     requires { EVENT_ROOM + length lines.old ≤ LINES_ROOM }
@@ -56,7 +56,7 @@ fn put_few<W: Sink>(entries: &[Entry], late: &[bool], writer: &mut W) -> Result<
     put_all(writer, lines.bytes())
 }
 
-/// Writes the lines of the events that were told.
+/// Writes the lines of the recorded events.
 pub(crate) fn put_told<W: Sink>(
     entries: &[Entry],
     late: &[bool],

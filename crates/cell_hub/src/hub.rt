@@ -101,8 +101,8 @@ impl<D: Dues> Hub<D> {
         report_in(&mut self.cells, ticket, report)
     }
 
-    /// Takes the report on the ticket's cell that the machine has been cleaned after this job, which answers it as a controller
-    /// alone does. Where it is accepted it is as a report of that cleaning.
+    /// Takes the report on the ticket's cell that the machine has been cleaned after this job; the cell answers it as a
+    /// controller alone does. If it is accepted, it counts as a report of that cleaning.
     pub fn clean_after(
         &mut self,
         ticket: Ticket,

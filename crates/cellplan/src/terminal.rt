@@ -3,7 +3,7 @@
 use command_run::Screen;
 use std::io::{self, IsTerminal, Write};
 
-/// A device on which a line is written over the last one, where it is a terminal.
+/// A device on which a line is written over the last one, if it is a terminal.
 #[derive(Drop)]
 pub struct Terminal<E> {
     device: E,

@@ -13,9 +13,9 @@ use crate::rooms::put_answer;
 use command_answers::{Answer, CommandFault, check, explain};
 use std::alloc::Global;
 
-/// The answer of the command `check` to the two texts, or its fault's line, as the program tells it. With a name the
+/// The answer of the command `check` to the two texts, or its fault's line, as the program writes it. With a name the
 /// first text is a collection with an instance of this name, and with an empty one it is one instance. The words
-/// behind `instance: ` and `plan: ` are in no clause.
+/// after `instance: ` and `plan: ` are in no clause.
 #[unsafe(no_mangle)]
 pub extern "C" fn cellplan_check(
     alloc: Global,
@@ -32,8 +32,8 @@ pub extern "C" fn cellplan_check(
     put_answer(told(alloc, answered), line, length)
 }
 
-/// The answer of the command `explain` to the two texts, or its fault's line, as the program tells it. The name is as
-/// that of [`cellplan_check`].
+/// The answer of the command `explain` to the two texts, or its fault's line, as the program writes it. The name is as
+/// for [`cellplan_check`].
 #[unsafe(no_mangle)]
 pub extern "C" fn cellplan_explain(
     alloc: Global,

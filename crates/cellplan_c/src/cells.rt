@@ -26,8 +26,8 @@ use command_answers::{Loaded, load};
 use plan_verifier::{Verdict, Verified};
 use std::alloc::{AllocError, Global};
 
-/// Makes the controller of an accepted plan, and puts it in the place of what the cell held. The line of a plan that
-/// isn't accepted, and that of a fault, is told by [`crate::answers::cellplan_check`].
+/// Makes the controller of an accepted plan, and puts it in the place of what the cell held. For the line of a plan
+/// that isn't accepted, or of a fault, call [`crate::answers::cellplan_check`].
 #[unsafe(no_mangle)]
 pub extern "C" fn cellplan_cell_new(
     alloc: Global,
@@ -61,8 +61,8 @@ pub extern "C" fn cellplan_cell_free(alloc: Global, cell: &mut Cell)
     drop(cell.take(alloc));
 }
 
-/// Puts the controller of an accepted plan in the place of what the cell held. The answer is the status of what is said
-/// of the plan, or that of the request for memory that was refused.
+/// Puts the controller of an accepted plan in the place of what the cell held. Returns the status of what is said of
+/// the plan, or of the request for memory that was refused.
 fn begun(alloc: Global, loaded: Loaded, cell: &mut Cell) -> u32
     ensures status { (result ≡ 4) ⊎ (result ≡ loaded_status loaded) }
     ensures started { result ≡ 0 → Holding cell.new (IsControllerOf loaded) }

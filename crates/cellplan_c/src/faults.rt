@@ -9,8 +9,8 @@ use crate::statuses::FAULT;
 use command_answers::{Answer, CommandFault};
 use std::alloc::{AllocError, Global};
 
-/// The line that the program tells of a text's fault on its standard error, as an answer with its status. A fault of no
-/// text is passed on.
+/// The line that the program writes for a text's fault on its standard error, as an answer with its status. A fault of
+/// no text is passed on.
 pub fn fault_answer(alloc: Global, fault: CommandFault) -> Result<Answer, CommandFault>
     ensures told { IfOk result (IsTextFaultTold fault) }
     ensures untold { IfErr result (IsUntold fault) }

@@ -2,7 +2,7 @@
 //!
 //! `include/cellplan.h` declares the calls, and says what no clause can: how a cell begins, that buffers are apart,
 //! and that one call at a time is in a cell. Each call that works a cell takes its controller out, calls cell_control,
-//! and puts it back; so the clauses of that library stand here again.
+//! and puts it back; so the clauses of that library are repeated here.
 #![tactic(auto)]
 
 mod answers;

@@ -10,10 +10,10 @@ use crate::rooms::put_text;
 use crate::statuses::{GOOD, NONE};
 use crate::told::reason_by;
 
-/// The version of the calls. One that changes what a call takes or answers is told by a new number.
+/// The version of the calls. A change of what a call takes or answers gets a new number.
 pub const VERSION: u32 = 1;
 
-/// The version of the calls, which is that of the header that they were built beside.
+/// The version of the calls, the same as in the header that they were built beside.
 #[unsafe(no_mangle)]
 pub extern "C" fn cellplan_version() -> u32
     ensures { result ≡ 1 }
@@ -21,7 +21,7 @@ pub extern "C" fn cellplan_version() -> u32
     VERSION
 }
 
-/// The name of the reason with this number; none for a number that is no reason's.
+/// The name of the reason with this number; `NONE` for a number that is no reason's.
 #[unsafe(no_mangle)]
 pub extern "C" fn cellplan_reason(number: u32, name: &mut [u8], length: &mut usize) -> u32
     ensures each { (fault : ReportFault) → fault_number fault ≡ number

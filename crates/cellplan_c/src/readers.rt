@@ -13,7 +13,7 @@ use crate::statuses::{GOOD, NO_CELL, NONE};
 use crate::told::{Phase, phase_told};
 use std::alloc::Global;
 
-/// Where the job is; none for a number that is no job's.
+/// Where the job is; `NONE` for a number that is no job's.
 #[unsafe(no_mangle)]
 pub extern "C" fn cellplan_cell_phase(
     alloc: Global,
@@ -37,7 +37,7 @@ pub extern "C" fn cellplan_cell_phase(
     }
 }
 
-/// The job that is on the machine; none where there is none, or for a number that is no machine's.
+/// The job that is on the machine; `NONE` if there is none, or if the number is no machine's.
 #[unsafe(no_mangle)]
 pub extern "C" fn cellplan_cell_holder(
     alloc: Global,
@@ -55,7 +55,7 @@ pub extern "C" fn cellplan_cell_holder(
     put_found(found, job)
 }
 
-/// When the job's activity is due; none where it has none, since it is ready or gone or no job.
+/// When the job's activity is due; `NONE` if it has none, since it is ready or gone or no job.
 #[unsafe(no_mangle)]
 pub extern "C" fn cellplan_cell_due(alloc: Global, cell: &mut Cell, job: u32, at: &mut u64) -> u32
     ensures { Finds cell.old cell.new result at.old at.new (λ held. IsDueOf held.plan.planned held.cell job) }
@@ -68,7 +68,7 @@ pub extern "C" fn cellplan_cell_due(alloc: Global, cell: &mut Cell, job: u32, at
     put_found(found, at)
 }
 
-/// When the machine's cleaning is due; none where it isn't being cleaned.
+/// When the machine's cleaning is due; `NONE` if it isn't being cleaned.
 #[unsafe(no_mangle)]
 pub extern "C" fn cellplan_cell_clean_due(
     alloc: Global,
@@ -86,7 +86,7 @@ pub extern "C" fn cellplan_cell_clean_due(
     put_found(found, at)
 }
 
-/// The job after which the machine is being cleaned; none where it isn't being cleaned.
+/// The job after which the machine is being cleaned; `NONE` if it isn't being cleaned.
 #[unsafe(no_mangle)]
 pub extern "C" fn cellplan_cell_cleaned_after(
     alloc: Global,
@@ -182,7 +182,7 @@ pub extern "C" fn cellplan_cell_machines(alloc: Global, cell: &mut Cell, count: 
     GOOD
 }
 
-/// The job's earliest leaving by the plan; none for a number that is no job's.
+/// The job's earliest leaving by the plan; `NONE` for a number that is no job's.
 #[unsafe(no_mangle)]
 pub extern "C" fn cellplan_cell_leaves(
     alloc: Global,

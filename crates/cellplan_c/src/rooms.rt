@@ -36,8 +36,8 @@ pub fn put_text(text: &[u8], status: u32, room: &mut [u8], needed: &mut usize) -
     status
 }
 
-/// Writes the answer's text, if there is one and room for it. The answer is its status, or that of the fault, or that
-/// there is no room.
+/// Writes the answer's text, if there is one and room for it. Returns the answer's status, or the fault's, or the
+/// status that there is no room.
 pub fn put_answer(told: Result<Answer, CommandFault>, room: &mut [u8], needed: &mut usize) -> u32
     ensures fault { IfErr told (λ fault. (result ≡ status_of fault) × (needed.new ≡ 0) × (room.new ≡ room.old)) }
     ensures put { IfOk told (λ answer. IsPut answer.text.items answer.status result room.old room.new needed.new) }

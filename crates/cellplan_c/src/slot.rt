@@ -35,7 +35,7 @@ impl Slot {
         }
     }
 
-    /// Keeps where the box lies, and not its allocator: that is the heap, of which there is one.
+    /// Keeps where the box lies, and not its allocator: there is only one heap.
     pub fn of_lain(lain: Lain<Inner, Global>) -> Slot
         ensures { result.held ≡ Some lain.value }
     {

@@ -1,4 +1,4 @@
-//! The statuses of the calls: those of the program, and further ones below the numbers of the reasons.
+//! The statuses of the calls: the program's, and further ones below the numbers of the reasons.
 
 ghost use Rattle.std.specs.Prelude.{◌≡◌};
 
@@ -14,7 +14,7 @@ pub const REFUSED: u32 = 1;
 /// The text of the instance or of the plan is refused.
 pub const FAULT: u8 = 3;
 
-/// There is no room for the text; how much it needs is told.
+/// There is no room for the text; the call says how much it needs.
 pub const NO_ROOM: u32 = 6;
 
 /// There is none of what was asked for.

@@ -71,7 +71,7 @@ pub fn reason_by(number: u32) -> Option<ReportFault>
     }
 }
 
-/// The moment or the machine that a reason names, and 0 where it names none.
+/// The moment or the machine that a reason names, 0 if it names none.
 pub fn fault_detail(fault: ReportFault) -> u64
     ensures { result ≡ fault_detail fault }
 {

@@ -16,5 +16,5 @@ pub type Answered = Outcome<Answer>;
 /// The status of a good answer.
 pub const GOOD: u8 = 0;
 
-/// The status of an answer that refuses a plan or a log, or tells of a run that isn't finished.
+/// The status of an answer that refuses a plan or a log, or is about a run that isn't finished.
 pub const REFUSED: u8 = 1;

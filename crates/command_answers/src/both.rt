@@ -15,8 +15,8 @@ use shop_base::{Plan, ShapeFault, Shaped, Shop, shape};
 use std::alloc::Global;
 use std::marker::Model;
 
-/// The file of an instance and that of a plan for it. Without a name the first tells one instance, else a collection with
-/// an instance of this name.
+/// The file of an instance and the file of a plan for it. Without a name the first holds one instance, else a
+/// collection with an instance of this name.
 #[derive(Drop)]
 pub struct Pair<'a> {
     pub instance: &'a str,
@@ -33,7 +33,7 @@ impl<'a> Model for Pair<'a> {
     ghost view = { λ p. record { path = p.instance.now; name = option_copied p.name; plan = p.plan.now } };
 }
 
-/// A shop and a plan for it, as two texts tell them.
+/// A shop and a plan for it, as two texts give them.
 #[derive(Drop)]
 pub(crate) struct Both {
     pub shop: Shop,
@@ -61,7 +61,7 @@ impl Both {
     }
 }
 
-/// The instance and the plan that the two files tell.
+/// The instance and the plan in the two files.
 pub(crate) fn read_both<T: Texts>(alloc: Global, texts: &mut T, pair: &Pair<'_>) -> Outcome<Both>
     ensures { ReadsBoth T.gives pair.now texts.old result texts.new }
 {

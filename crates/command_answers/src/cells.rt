@@ -23,8 +23,8 @@ pub enum Cells {
     Line(Answer),
 }
 
-/// The verdicts on the plans of these files, for the instance that the file of a path tells. A plan's file is asked for
-/// once the plan before it is accepted.
+/// The verdicts on the plans of these files, for the instance in the file of a path. A plan's file is asked for once
+/// the plan before it is accepted.
 pub fn load_cells<T: Texts>(
     alloc: Global,
     texts: &mut T,
@@ -38,7 +38,7 @@ pub fn load_cells<T: Texts>(
     load_each(alloc, texts, &text, name, plans)
 }
 
-/// The verdicts on the plans of these files, for the instance that the text tells.
+/// The verdicts on the plans of these files, for the instance in the text.
 fn load_each<T: Texts>(
     alloc: Global,
     texts: &mut T,
@@ -59,7 +59,7 @@ fn load_each<T: Texts>(
     Ok(Cells::Accepted(cells))
 }
 
-/// The verdict on the plan of a file, for the instance that the text tells.
+/// The verdict on the plan of a file, for the instance in the text.
 fn load_one<T: Texts>(
     alloc: Global,
     texts: &mut T,

@@ -19,7 +19,7 @@ use std::alloc::AllocError;
 use std::io::{self, ErrorKind};
 use thiserror::Error;
 
-/// Why a command has no answer. `Memory` may stand in place of any other answer.
+/// Why a command has no answer. `Memory` may come in place of any other answer.
 #[derive(Clone, Copy, Debug, PartialEq, Eq, Error)]
 pub enum CommandFault {
     /// The instance's text is refused, for another cause than memory.

@@ -14,7 +14,7 @@ use crate::shapes::not_shaped_answer;
 use crate::texts::Texts;
 use std::alloc::{AllocError, Global};
 
-/// Why a plan is accepted or refused for an instance, both given as texts: the line of its verdict, and behind it
+/// Why a plan is accepted or refused for an instance, both given as texts: the line of its verdict, and after it
 /// the arcs of the evidence in lines that name machines and jobs. Without a name the first text is one instance,
 /// else a collection with an instance of this name.
 pub fn explain(alloc: Global, instance: &[u8], name: Option<&[u8]>, plan: &[u8]) -> Answered

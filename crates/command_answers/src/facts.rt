@@ -24,7 +24,7 @@ pub fn facts_of(alloc: Global, text: &[u8], name: Option<&[u8]>) -> Answered
     Ok(Answer { text, status: GOOD })
 }
 
-/// The facts of the instance that the file of this path tells.
+/// The facts of the instance in the file of this path.
 pub fn facts_answer<T: Texts>(
     alloc: Global,
     texts: &mut T,

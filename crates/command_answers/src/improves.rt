@@ -53,7 +53,7 @@ fn better_answer<W: Watch>(
     }
 }
 
-/// The plan itself or, where it has no orders at all, the serial plan with its numbers.
+/// The plan itself or, if it has no orders at all, the serial plan with its numbers.
 pub(crate) fn with_orders(alloc: Global, both: Both) -> Outcome<Both>
     ensures { IsOrMemory (λ with. with ≡ ordered both) result }
 {

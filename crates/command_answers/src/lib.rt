@@ -1,10 +1,10 @@
 //! The answers of the commands of `cellplan`, as functions over the files that are asked for.
 //!
-//! What comes of texts belongs to the shop and the plan that they tell, and comes wherever they tell them, unless
-//! memory runs out. A fault is the instance's first, or the plan's first where the instance tells a shop.
+//! What comes of texts belongs to the shop and the plan that they give, and comes whenever they give them, unless
+//! memory runs out. A fault is the instance's first, or the plan's first if the instance gives a shop.
 //!
-//! A command over files asks for the instance's file and reads it, then for the plan's, and then for the log's where
-//! the plan is well shaped. The first that can't be had, or tells no instance or no plan, ends it with its fault.
+//! A command over files asks for the instance's file and reads it, then for the plan's, and then for the log's if the
+//! plan is well shaped. The first that can't be had, or gives no instance or no plan, ends the command with its fault.
 #![tactic(auto)]
 
 mod answer;

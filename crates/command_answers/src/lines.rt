@@ -37,7 +37,7 @@ pub(crate) fn line_answer(alloc: Global, line: &[u8], status: u8) -> Result<Answ
     Ok(Answer { text, status })
 }
 
-/// The line of a fault of a plan's shape, behind these words.
+/// The line of a fault of a plan's shape, after these words.
 pub(crate) fn fault_answer(
     alloc: Global,
     what: &[u8],

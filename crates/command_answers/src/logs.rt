@@ -16,7 +16,7 @@ use run_log::{Audit, AuditFault, audit};
 use shop_base::Shaped;
 use std::alloc::{AllocError, Global};
 
-/// What is told of a log that tells a run.
+/// What is answered for a log that records a run.
 #[derive(Clone, Copy, Debug, PartialEq, Eq)]
 pub enum Telling {
     /// Its numbers, as `audit` does.
@@ -25,7 +25,7 @@ pub enum Telling {
     Drawing,
 }
 
-/// Whether the log of a file tells a run of the plan of another for the instance of a third, by any controller.
+/// Whether the log of a file records a run of the plan of another for the instance of a third, by any controller.
 pub fn log_answer<T: Texts>(
     alloc: Global,
     texts: &mut T,
@@ -44,7 +44,7 @@ pub fn log_answer<T: Texts>(
     }
 }
 
-/// What is told of a log that is audited against a plan.
+/// What is answered for a log that is audited against a plan.
 fn audited(alloc: Global, shaped: &Shaped, log: &[u8], telling: Telling) -> Answered
     ensures { IsOrMemory (IsLogLine telling shaped.now log.now) result }
 {
@@ -54,7 +54,7 @@ fn audited(alloc: Global, shaped: &Shaped, log: &[u8], telling: Telling) -> Answ
     }
 }
 
-/// What is told of the run of a log.
+/// What is answered for the run of a log.
 fn run_told(
     alloc: Global,
     shaped: &Shaped,
@@ -94,7 +94,7 @@ fn end_words(complete: bool) -> &'static str
     }
 }
 
-/// The line of a log that tells no run.
+/// The line of a log that records no run.
 pub(crate) fn fault_told(alloc: Global, fault: AuditFault) -> Answered
     ensures { IsFaultTold fault result }
 {

@@ -26,8 +26,8 @@ pub enum Drawn {
     Line(Answer),
 }
 
-/// Draws the run that the log of one file tells, of the plan of another, for the instance of a third. A plan that isn't
-/// well shaped, or a log that tells no run of it, has a line instead.
+/// Draws the run that the log of one file records, of the plan of another, for the instance of a third. A plan that
+/// isn't well shaped, or a log that records no run of it, has a line instead.
 pub fn log_picture<T: Texts>(
     alloc: Global,
     texts: &mut T,

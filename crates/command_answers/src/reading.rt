@@ -11,7 +11,7 @@ use std::alloc::Global;
 use std::io::{self, Read};
 use text_lines::MAX_INPUT;
 
-/// The bytes that a reader gives until its end. The kit's files don't tell their bytes, and a body that always
+/// The bytes that a reader gives until its end. No clause says what bytes the kit's files have, and a body that always
 /// answered `Read` would meet these clauses too: only tests show that what can be read is read.
 pub fn read_whole<R: Read + Drop>(alloc: Global, reader: R) -> Outcome<Vec<u8>>
     ensures within { IfOk result (λ bytes. vec_len bytes ≤ MAX_INPUT) }

@@ -11,7 +11,7 @@ use plan_text::read_plan;
 use shop_base::Plan;
 use std::alloc::Global;
 
-/// The instance that the text tells.
+/// The instance in the text.
 pub(crate) fn load_instance(alloc: Global, text: &[u8], name: Option<&[u8]>) -> Outcome<Named>
     ensures { IsInstanceRead text.now (option_copied name.entry) result }
 {
@@ -21,14 +21,14 @@ pub(crate) fn load_instance(alloc: Global, text: &[u8], name: Option<&[u8]>) -> 
     }
 }
 
-/// The plan that the text tells.
+/// The plan in the text.
 pub(crate) fn load_plan(alloc: Global, text: &[u8]) -> Outcome<Plan>
     ensures { IsPlanRead text.now result }
 {
     Ok(read_plan(alloc, text)?)
 }
 
-/// The instance that the file of this path tells.
+/// The instance in the file of this path.
 pub(crate) fn instance<T: Texts>(
     alloc: Global,
     texts: &mut T,
@@ -41,7 +41,7 @@ pub(crate) fn instance<T: Texts>(
     load_instance(alloc, &text, name)
 }
 
-/// The plan that the file of this path tells.
+/// The plan in the file of this path.
 pub(crate) fn plan<T: Texts>(alloc: Global, texts: &mut T, path: &str) -> Outcome<Plan>
     ensures { ReadsPlan T.gives path.now texts.old result texts.new }
 {

@@ -25,9 +25,9 @@ use std::alloc::{AllocError, Global};
 
 /// The text of the best plan that a search from the plan of a file meets for the rest of the run in the log of another, for
 /// the instance of a third: its rest accepted, or with a job that is still late. A plan without any orders is taken with the
-/// serial ones. What stands behind the log's last line feed isn't looked at. A log that tells no run of that plan is answered
-/// by its first bad line, a present moment before the log's last one by `log past L`, and a plan with a cycle, where the log
-/// tells an event, by the line of `check`.
+/// serial ones. What comes after the log's last line feed isn't looked at. A log that records no run of that plan is
+/// answered by its first bad line, a present moment before the log's last one by `log past L`, and a plan with a cycle,
+/// if the log records an event, by the line of `check`.
 pub fn improve_rest_answer<T: Texts, W: Watch>(
     alloc: Global,
     texts: &mut T,
@@ -113,7 +113,7 @@ fn cycle_answer(alloc: Global, nodes: &[Node]) -> Result<Answer, AllocError>
     Ok(Answer { text, status })
 }
 
-/// What is told where no plan is given, unless memory ran out.
+/// What is answered if no plan is given, unless memory ran out.
 fn unfound_answer(alloc: Global, fault: RestFault) -> Answered
     requires { fault ≡ MomentTooLarge → ⊥ }
     ensures { IsUnfoundAnswer fault result }

@@ -21,7 +21,7 @@ use run_log::run_of_log;
 use shop_base::{Moment, Shaped};
 use std::alloc::{AllocError, Global};
 
-/// What is told of a plan, or of the rest of a run of it.
+/// What is answered for a plan, or for the rest of a run of it.
 #[derive(Clone, Copy, Debug, PartialEq, Eq)]
 pub enum PlanTelling {
     /// The verdict, as `check` does.
@@ -32,9 +32,9 @@ pub enum PlanTelling {
     Moments,
 }
 
-/// What is told of the rest of the run in the log of a file, by the plan of another for the instance of a third: from a
-/// present moment on, or from the last one of that run. What stands behind the log's last line feed isn't looked at. A
-/// present moment before the last one gets the line `log past L`.
+/// What is answered for the rest of the run in the log of a file, by the plan of another for the instance of a third:
+/// from a present moment on, or from the last one of that run. What comes after the log's last line feed isn't looked
+/// at. A present moment before the last one gets the line `log past L`.
 pub fn rest_answer<T: Texts>(
     alloc: Global,
     texts: &mut T,
@@ -55,7 +55,7 @@ pub fn rest_answer<T: Texts>(
     }
 }
 
-/// What is told of the rest of the run in a log.
+/// What is answered for the rest of the run in a log.
 fn log_told(
     alloc: Global,
     shaped: Shaped,
@@ -72,7 +72,7 @@ fn log_told(
     }
 }
 
-/// What is told of the rest from a cell on, if the present moment isn't before its last one.
+/// What is answered for the rest from a cell on, if the present moment isn't before its last one.
 fn cell_told(
     alloc: Global,
     cell: &WorkCell<Shaped>,
@@ -112,7 +112,7 @@ pub(crate) fn past_answer(alloc: Global, last: Moment) -> Result<Answer, AllocEr
     Ok(Answer { text, status })
 }
 
-/// What is told of the rest from a cell and a present moment on.
+/// What is answered for the rest from a cell and a present moment on.
 fn rest_told(
     alloc: Global,
     cell: &WorkCell<Shaped>,

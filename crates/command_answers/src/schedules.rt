@@ -16,7 +16,7 @@ use crate::texts::Texts;
 use std::alloc::{AllocError, Global};
 
 /// When what of a plan begins and ends in the exact run, and how late it may end, for an instance, both given as texts:
-/// the line of the plan's verdict, and behind it, if the plan has no cycle, the lines of each job. Without a name the
+/// the line of the plan's verdict, and after it, if the plan has no cycle, the lines of each job. Without a name the
 /// first text is one instance, else a collection with an instance of this name.
 pub fn schedule(alloc: Global, instance: &[u8], name: Option<&[u8]>, plan: &[u8]) -> Answered
     ensures { AreTextsAnswered instance.now (option_copied name.entry) plan.now IsTimetable result }

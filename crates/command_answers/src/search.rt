@@ -13,10 +13,10 @@ use crate::texts::Texts;
 use plan_seek::{Proposer, SeekFault, seek};
 use std::alloc::Global;
 
-/// A plan with the releases, budgets and cleaning times of the one that a file tells, that is accepted for the
-/// instance of another file, as its text: the first proposal that is accepted, or else the serial plan. The orders of
-/// the given plan are read and not used. The words behind `bad numbers ` are in no clause. The text is read again:
-/// where it isn't that plan's, `NotReadBack` is told.
+/// A plan with the releases, budgets and cleaning times of the one in a file, that is accepted for the instance of
+/// another file, as its text: the first proposal that is accepted, or else the serial plan. The orders of the given
+/// plan are read and not used. The words after `bad numbers ` are in no clause. The text is read again: if it isn't
+/// that plan's, the fault is `NotReadBack`.
 pub fn plan_answer<T: Texts>(
     alloc: Global,
     texts: &mut T,

@@ -11,8 +11,8 @@ use crate::texts::Texts;
 use shop_base::ShapeFault;
 use std::alloc::{AllocError, Global};
 
-/// Whether the plan of a file is well shaped for the instance of another, and if not, its first fault. Which words
-/// stand behind `not shaped ` is in no clause.
+/// Whether the plan of a file is well shaped for the instance of another, and if not, its first fault. The words
+/// after `not shaped ` are in no clause.
 pub fn shape_answer<T: Texts>(alloc: Global, texts: &mut T, pair: &Pair<'_>) -> Answered
     ensures { RunsShape T.gives pair.now texts.old result texts.new }
 {

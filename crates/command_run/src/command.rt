@@ -65,7 +65,7 @@ fn pair(chosen: &Chosen) -> Pair<'_>
     }
 }
 
-/// What is told of the plan, or of the rest of a run of it.
+/// What is answered for the plan, or for the rest of a run of it.
 fn told<T: Texts>(alloc: Global, chosen: &Chosen, texts: &mut T, telling: PlanTelling) -> Answered
     requires files { 1 < length chosen.now.files.items }
     requires at { IfSome chosen.now.at (λ present. present ≤ MAX_MOMENT) }

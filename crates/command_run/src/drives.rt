@@ -30,7 +30,7 @@ impl From<DriveFault> for Told {
     }
 }
 
-/// Whether the lines are those of version 1, and no moment leaps.
+/// Whether the lines are of version 1, and no moment leaps.
 fn is_plain(manner: Manner) -> bool
     ensures { result ≡ is_plain manner }
 {

@@ -10,7 +10,7 @@ use command_answers::{Answer, Answered, CommandFault, Outcome};
 use run_log::{Sink, put_all};
 use std::alloc::{AllocError, Global};
 
-/// Prints the answer or tells the fault, and gives the status that the program ends with.
+/// Prints the answer or the fault, and returns the status that the program ends with.
 pub(crate) fn end<R: Source, W: Outlet, E: Sink>(
     alloc: Global,
     outcome: Answered,
@@ -42,8 +42,8 @@ fn print<W: Outlet>(answer: &Answer, output: &mut W) -> Outcome<u8>
     }
 }
 
-/// Says on the standard error why there is no answer, and gives the status that the program ends with. Nothing is left
-/// to do where that can't be written. Where memory runs out for the line of a refused text, that is told.
+/// Says on the standard error why there is no answer, and returns the status that the program ends with. If that can't
+/// be written, nothing is left to do. If memory runs out for the line of a refused text, it says that instead.
 pub fn tell<E: Sink>(alloc: Global, fault: &CommandFault, errors: &mut E) -> u8
     ensures { IsTold fault.now (errors_of E.Sink errors.old) (errors_of E.Sink errors.new) result }
 {
@@ -88,7 +88,7 @@ fn refusal_line(
     Ok(line)
 }
 
-/// What is said of a fault. The line is that of a refused text.
+/// What is said of a fault. The line is a refused text's.
 fn error_line<'a>(fault: &CommandFault, line: &'a [u8]) -> &'a [u8]
     requires { IsTextLine fault.now line.now }
     ensures { IsErrorLine fault.now result.now }

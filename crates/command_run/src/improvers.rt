@@ -12,7 +12,7 @@ use rest_improve::{AnnealingRestImprover, RestImprover};
 use shop_base::Moment;
 use std::alloc::{AllocError, Global};
 
-/// The search for a better plan by the annealing. Each round is told on the screen, which is blank at the end.
+/// The search for a better plan by the annealing. Each round is shown on the screen, which is blank at the end.
 pub(crate) fn better_answer<T: Texts, S: Screen>(
     alloc: Global,
     texts: &mut T,

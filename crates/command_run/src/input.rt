@@ -11,7 +11,7 @@ use command_answers::{Answered, CommandFault, Outcome, facts_of};
 use std::alloc::Global;
 use text_lines::MAX_INPUT;
 
-/// The facts of the instance that the input tells.
+/// The facts of the instance in the input.
 pub(crate) fn input_answer<R: Source, W: Outlet>(
     alloc: Global,
     streams: &mut Streams<R, W>,

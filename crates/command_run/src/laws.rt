@@ -17,7 +17,7 @@ ghost use Rattle.command_run.specs.Laws.{WhatFailsIsTold, NothingIsHeldBack, Wha
 
 use command_answers::Texts;
 
-/// In each command over files: where the text of the instance is refused, its first fault is told, unless memory
+/// In each command over files: if the text of the instance is refused, its first fault is reported, unless memory
 /// runs out, and no other file is asked for. `drive`, `resume`, `hub` and a command with `--svg` then read and write no
 /// byte. (For `plan` and `improve` memory may also run out before any file is asked for.)
 pub fn instance_first()
@@ -38,12 +38,12 @@ pub fn instance_first()
     ensures hub { HubTellsInstanceFirst }
 {}
 
-/// Files that tell a shop and a plan are answered, unless memory runs out, and exactly they are asked for. `plan` and
+/// Files that give a shop and a plan are answered, unless memory runs out, and exactly they are asked for. `plan` and
 /// `improve` answer what their search allows. An accepted plan has its cell driven by `drive`, and by `resume` from
 /// its log, unless that is refused. `hub` drives the cells of its plans, if all are accepted. With `--svg` an accepted
-/// plan is drawn by `schedule`, and a log that isn't refused by `gantt`. Where memory runs out before a cell is driven
-/// or a picture drawn, no byte is read or written. Without words an input within the limit that tells a shop is answered
-/// by its facts, unless a read fails or memory runs out.
+/// plan is drawn by `schedule`, and a log that isn't refused by `gantt`. If memory runs out before a cell is driven
+/// or a picture drawn, no byte is read or written. Without words an input within the limit that gives a shop is
+/// answered by its facts, unless a read fails or memory runs out.
 pub fn good_files_are_answered()
     ensures facts { FactsAnswerShop }
     ensures shape { ShapeAnswersPlan }
@@ -63,28 +63,28 @@ pub fn good_files_are_answered()
     ensures input { InputAnswersShop }
 {}
 
-/// Let the files tell a plan that isn't accepted. Then `drive` and `resume` answer the line of `check`, unless memory
+/// Let the files give a plan that isn't accepted. Then `drive` and `resume` answer the line of `check`, unless memory
 /// runs out. They ask for no further file, so not for the log, and drive no cell: up to this line no byte is read or
-/// written. So it is of the first plan of `hub` that isn't accepted: its number stands before that line, and no plan
-/// behind it is asked for.
+/// written. The same holds for the first plan of `hub` that isn't accepted: its number comes before that line, and no
+/// plan after it is asked for.
 pub fn no_cell_without_an_accepted_plan()
     ensures drive { DriveAnswersByCheck }
     ensures resume { ResumeAnswersByCheck }
     ensures hub { HubAnswersByCheck }
 {}
 
-/// Let the words ask for `drive`, without version 2 of the lines and without a longest time, the files tell an accepted
-/// plan, and the input be within its limit. Then two runs
-/// on the same words, files and input write the same bytes and end with the same status, whatever pieces the input
-/// comes in. This holds unless memory runs out or a read or write fails.
+/// Let the words ask for `drive`, without version 2 of the lines and without a longest time, let the files give an
+/// accepted plan, and let the input be within its limit. Then two runs on the same words, files and input write the
+/// same bytes and end with the same status, whatever pieces the input comes in. This holds unless memory runs out or a
+/// read or write fails.
 pub fn drive_writes_the_same()
     ensures { DriveWritesTheSame }
 {}
 
-/// A run ends with 0 or 1 and tells nothing on the error output. (The line of progress on a terminal goes to another
-/// device.) Or it ends with 2 or more, and what failed is told there: with 2 what is wrong with the words, else the
-/// line of the fault in which the command ended. In place of a refused text it may be that memory ran out, and where
-/// an answer couldn't be written, that. It is told whole, unless a write of the error output has failed.
+/// A run ends with 0 or 1 and writes nothing on the error output. (The line of progress on a terminal goes to another
+/// device.) Or it ends with 2 or more, and what failed is written there: with 2 what is wrong with the words, else the
+/// line of the fault in which the command ended. In place of a refused text it may be that memory ran out, and if
+/// an answer couldn't be written, that. This is written whole, unless a write of the error output has failed.
 pub fn what_fails_is_told<T: Texts>()
     ensures { WhatFailsIsTold T.gives }
 {}
@@ -94,10 +94,10 @@ pub fn nothing_is_held_back<T: Texts>()
     ensures { NothingIsHeldBack T.gives }
 {}
 
-/// Where a run ends with 2 or more, only what driven cells answered was written on the output (of a run that was
+/// If a run ends with 2 or more, only what driven cells answered was written on the output (for a run that was
 /// taken up, its events once more before that), or a picture, whole or up to a write that failed. They are the cells of
-/// the accepted plans, and the picture of the plan or the log, in the files that the words name. Behind that stand at
-/// most the first bytes of the command's answer, a write of which failed.
+/// the accepted plans, and the picture of the plan or the log, in the files that the words name. After that come at
+/// most the first bytes of the command's answer, if a write of it failed.
 pub fn what_fails_is_no_answer<T: Texts>()
     ensures { WhatFailsIsNoAnswer T.gives }
 {}

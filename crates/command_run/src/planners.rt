@@ -6,7 +6,7 @@ use command_answers::{Answered, Pair, Texts, plan_answer};
 use plan_seek::{GreedyProposer, Proposer, ShiftProposer};
 use std::alloc::{AllocError, Global};
 
-/// The search for a plan, in which the greedy planner is asked before that of the shifted rows.
+/// The search for a plan, in which the greedy planner is asked before the planner of the shifted rows.
 pub(crate) fn seek_answer<T: Texts>(
     alloc: Global,
     texts: &mut T,

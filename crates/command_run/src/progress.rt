@@ -1,4 +1,4 @@
-//! How far a search is, told on a screen.
+//! How far a search is, shown on a screen.
 
 ghost use Rattle.std.specs.Prelude.{None};
 

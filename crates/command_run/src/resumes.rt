@@ -50,7 +50,7 @@ fn resume_log<T: Texts, R: Source, W: Outlet>(
     }
 }
 
-/// Takes up the run that the text tells, and gives the text back.
+/// Takes up the run that the text records, and gives the text back.
 fn taken_up(alloc: Global, verified: Verified, text: Vec<u8>) -> Result<Taken, ResumeFault>
     ensures { IsTaking verified text.items result }
 {

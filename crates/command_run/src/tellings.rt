@@ -11,7 +11,7 @@ use command_answers::{
 use shop_base::Moment;
 use std::alloc::Global;
 
-/// What is told of the plan of a file, or of the rest of the run in a log.
+/// What is answered for the plan of a file, or for the rest of the run in a log.
 pub(crate) fn telling_answer<T: Texts>(
     alloc: Global,
     texts: &mut T,
@@ -29,7 +29,7 @@ pub(crate) fn telling_answer<T: Texts>(
     }
 }
 
-/// What is told of the plan of a file.
+/// What is answered for the plan of a file.
 fn of_plan<T: Texts>(
     alloc: Global,
     texts: &mut T,

@@ -22,7 +22,7 @@ const LATEST: u64 = 1_000_000_000_000;
 /// The most digits of a moment.
 const MOST_DIGITS: usize = 13;
 
-/// Which numbers an option takes: of so many digits at most, from the least to the most.
+/// Which numbers an option takes: of at most `digits` digits, from the least to the most.
 #[derive(Clone, Copy)]
 struct NumberForm {
     digits: usize,
@@ -57,7 +57,7 @@ pub enum CommandName {
     Resume,
     /// Several cells, one for each plan.
     Hub,
-    /// Whether a log is that of a run.
+    /// Whether a log is the log of a run.
     Audit,
     /// A log as a chart.
     Gantt,
@@ -72,9 +72,9 @@ pub struct Chosen {
     pub files: Vec<String>,
     /// The name of the instance in its collection.
     pub instance: Option<String>,
-    /// The rounds of a search, 20 where none are given.
+    /// The rounds of a search, 20 if none are given.
     pub rounds: u32,
-    /// The seed of a search's random numbers, 0 where none is given.
+    /// The seed of a search's random numbers, 0 if none is given.
     pub seed: u32,
     /// The log of a run, of whose rest is asked.
     pub after: Option<String>,
@@ -139,10 +139,10 @@ impl From<Refusal> for WordsFault {
     }
 }
 
-/// Reads the command line, of which the first word is the program's name. `WordsFault::Memory` may come in place of
-/// any other answer. The number of files is one that the command takes, the rounds are at most 1000, the seed at most
-/// 1,000,000, and the moment, a number of 1 to 13 digits, at most 1,000,000,000,000. Exactly what `clap` refuses is
-/// refused, a moment that isn't one, or that comes without a log, a picture of the rest of a run, and a version of the
+/// Reads the command line, whose first word is the program's name. `WordsFault::Memory` may come in place of any other
+/// answer. The number of files is one that the command takes, the rounds are at most 1000, the seed at most 1,000,000,
+/// and the moment, a number of 1 to 13 digits, at most 1,000,000,000,000. Exactly these are refused: what `clap`
+/// refuses, a moment that isn't one, or that comes without a log, a picture of the rest of a run, and a version of the
 /// lines or a longest time that isn't one.
 pub fn read_words(alloc: Global, words: &[&str]) -> Result<Chosen, WordsFault>
     ensures chosen { IfOk result (IsChoiceOf (found_in (map (λ word. word.now) words.now))) }

@@ -21,7 +21,7 @@ const NEIGHBOURS: u64 = 50;
 /// How many are drawn at most for each that may be tried.
 const DRAWS: u64 = 4;
 
-/// The temperature at the beginning, in hundredths of the mean time of a step; `HOT` is that of a hot round.
+/// The temperature at the beginning, in hundredths of the mean time of a step; a hot round's is `HOT`.
 const WARM: u64 = 80;
 
 const HOT: u64 = 240;

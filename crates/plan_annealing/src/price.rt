@@ -6,7 +6,7 @@ use shop_base::limits::MAX_MOMENT;
 /// What the annealing lessens.
 #[derive(Clone, Copy, PartialEq, Eq)]
 pub(crate) enum Aim {
-    /// The most by which a job leaves past its budget or, where none does, the least by which it leaves before it.
+    /// The most by which a job leaves past its budget or, if none does, the least by which it leaves before it.
     Budgets,
     /// The makespan and the total lateness together.
     Makespan,
@@ -55,7 +55,7 @@ impl Price {
         price
     }
 
-    /// Whether it is less: the total lateness decides, and where that is the same, the makespan.
+    /// Whether it is less: the total lateness decides, and if that is the same, the makespan.
     pub fn is_less(&self, other: &Price) -> bool {
         self.total < other.total || self.total == other.total && self.makespan < other.makespan
     }

@@ -8,7 +8,7 @@ use crate::visits::visits_of;
 use shop_base::{MachineNo, Moment, Shaped};
 
 /// The machine's bound, in whole time units from moment 0: no plan with these releases and cleaning times has all of
-/// its jobs out earlier. None if fewer than two jobs visit the machine.
+/// its jobs out earlier. `None` if fewer than two jobs visit the machine.
 pub fn machine_bound(shaped: &Shaped, machine: MachineNo) -> Option<Moment>
     requires { machine < machines shaped.now }
     ensures { let t = times_of shaped.now in MatchOption result (HasNoBound t machine) (IsMachineBound t machine) }

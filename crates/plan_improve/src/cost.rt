@@ -14,7 +14,7 @@ pub struct Cost {
 }
 
 impl Cost {
-    /// Whether it is less: the lateness decides, and where that is the same, the makespan.
+    /// Whether it is less: the lateness decides, and if that is the same, the makespan.
     pub fn is_less(&self, other: &Cost) -> bool
         ensures { MatchBool result (IsLess self.now other.now) (IsAtMost other.now self.now) }
     {

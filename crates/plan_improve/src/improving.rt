@@ -21,8 +21,8 @@ use plan_verifier::{Verdict, verify};
 use shop_base::Shaped;
 use std::alloc::{AllocError, Global};
 
-/// Improves a plan. The search begins at the plan itself or, where that has a cycle, at the serial plan. In each
-/// round from 0 on each improver is asked in order with the best plan so far, and its answer is kept exactly where
+/// Improves a plan. The search begins at the plan itself or, if that has a cycle, at the serial plan. In each
+/// round from 0 on each improver is asked in order with the best plan so far, and its answer is kept exactly if
 /// the plan with these orders fits the shop, has no cycle and is less late, or as late with a shorter makespan. Once
 /// no job of the best plan is late and its makespan is the greatest of its bounds, nobody can better it, and no
 /// further round begins. The best plan is judged at the end. Too many rounds are answered first, and no

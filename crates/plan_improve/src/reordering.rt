@@ -17,7 +17,7 @@ pub enum Replaced {
     Stays(Shaped),
 }
 
-/// The plan with other orders, where they fit the shop. It takes no memory.
+/// The plan with other orders, if they fit the shop. Takes no memory.
 pub fn replace(shaped: Shaped, order: Vec<Vec<JobNo>>) -> Replaced
     ensures { IsReplaced shaped (lists_of order.items) result }
 {

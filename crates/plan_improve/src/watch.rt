@@ -9,9 +9,9 @@ pub trait Watch {
     // What it was told so far, where that is said.
     ghost told: { Self → Option (List Told) };
 
-    /// Called before each round, which is numbered from 0, with the total lateness (0 where no job is late) and the
-    /// makespan of the best plan so far, and with a bound: whatever the orders, no makespan is less. Of the rest of a run it
-    /// is 0.
+    /// Called before each round, which is numbered from 0, with the total lateness (0 if no job is late) and the
+    /// makespan of the best plan so far, and with a bound: whatever the orders, no makespan is less. For the rest of a
+    /// run the bound is 0.
     fn round(&mut self, round: u32, late: Moment, makespan: Moment, at_least: Moment)
         ensures told { IsToldMore (told self.old)
             (record { round = round; cost = record { late = late; makespan = makespan }; at_least = at_least } ∷ []) (told self.new) };

@@ -40,8 +40,8 @@ impl Verified {
     }
 
     /// The moment by which the job has left as long as no activity outlasts its nominal time and each report
-    /// is followed by the moves that it makes possible, and before which it can't leave where each activity
-    /// takes its full time; none for a number that is no job's.
+    /// is followed by the moves that it makes possible, and before which it can't leave if each activity
+    /// takes its full time; `None` for a number that is no job's.
     pub fn earliest_leave(&self, job: JobNo) -> Option<Moment>
         ensures greatest { let p = self.now.planned in
             MatchOption result (jobs p ≤ job) (λ n. (job < jobs p) × IsGreatest p (leaving p job) n) }

@@ -1,4 +1,4 @@
-//! The tables of a cell as those of another plan.
+//! The tables of a cell as another plan's tables.
 
 ghost use Rattle.std.specs.Prelude.{◌≡◌, ◌<◌, ◌≤◌, length, IfOk, IfErr, IfSome};
 ghost use Rattle.shop_base.specs.declared.limits.TheConstants.{MAX_MOMENT};
@@ -37,7 +37,7 @@ pub(crate) fn carry<P: Planned>(
     })
 }
 
-/// A row for each of so many jobs.
+/// A row for each of `count` jobs.
 fn carry_jobs<P: Planned>(
     alloc: Global,
     cell: &WorkCell<P>,

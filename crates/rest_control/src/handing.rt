@@ -26,7 +26,7 @@ pub(crate) struct Taken<D: Dues> {
     pub prepared: Prepared<D>,
 }
 
-/// Takes the cell over, where the run so far keeps the plan and that has no cycle. Where it is refused the plan comes back.
+/// Takes the cell over, if the run so far keeps the plan and that has no cycle. If it is refused, the plan comes back.
 pub(crate) fn take_over<P: Planned, D: Dues>(
     alloc: Global,
     cell: &WorkCell<P>,

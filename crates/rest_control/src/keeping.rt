@@ -163,7 +163,7 @@ fn cleaning_keeps<P: Planned>(cell: &WorkCell<P>, shaped: &Shaped, machine: Mach
     true
 }
 
-/// The cleaning time of the machine, 0 where there is none.
+/// The cleaning time of the machine, 0 if there is none.
 fn cleaning_time(shaped: &Shaped, machine: MachineNo) -> Moment
     ensures { result ≡ clean shaped.now machine }
 {

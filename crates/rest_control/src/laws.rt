@@ -1,5 +1,5 @@
-//! The laws of controllers of the rest of a run: of their definitions. The clauses of `RestController` say that its calls are
-//! those of which these speak.
+//! The laws of controllers of the rest of a run, stated of their definitions. The clauses of `RestController` say that
+//! its calls are as these definitions say.
 
 // A function's contract is the law; its body does nothing, or only calls what says that the law's premise holds of a controller.
 
@@ -25,8 +25,8 @@ pub fn calls_go_on()
     ensures { CallsGoOn }
 {}
 
-/// A run that keeps another plan, as far as the cell at its end tells, is a run of that plan, and ends there with the same cell
-/// as one of that plan. So a controller that is handed over goes on with a run of the plan that it then has.
+/// A run that keeps another plan, as far as the cell at its end shows, is a run of that plan, and ends there with the
+/// same cell as one of that plan. So a controller that is handed over goes on with a run of the plan that it then has.
 pub fn a_kept_run_is_one_of_the_other_plan()
     ensures { AKeptRunIsOneOfTheOtherPlan }
 {}

@@ -33,11 +33,13 @@ use shop_base::{JobNo, MachineNo, Moment, MoveOrder, Shaped};
 use std::alloc::Global;
 use std::marker::Model;
 
-/// Runs the rest of a run by a plan without a cycle: it is told what ends, and orders the moves that then keep the plan.
+/// Runs the rest of a run by a plan without a cycle: it gets reports of what has ended, and orders the moves that then
+/// keep the plan.
 ///
-/// It keeps the ranks of the plan and a moment for each node that is ahead where it begins, the earliest. After each report the
-/// cell is at rest, and until the run has ended something goes on that can be reported; so the cell never locks. While no report
-/// is late each job is out by the moment kept for it. Only [`RestController::begin`] and [`RestController::hand_over`] take memory.
+/// It keeps the ranks of the plan and a moment for each node that is ahead where it begins, the earliest. After each
+/// report the cell is at rest, and until the run has ended something goes on that can be reported; so the cell never
+/// locks. While no report is late each job is out by the moment kept for it. Only [`RestController::begin`] and
+/// [`RestController::hand_over`] take memory.
 #[derive(Debug, Drop)]
 pub struct RestController<D: Dues> {
     cell: WorkCell<Shaped>,
@@ -60,9 +62,9 @@ impl<D: Dues> Model for RestController<D> {
 }
 
 impl<D: Dues> RestController<D> {
-    /// Begins with a cell in mid-run and a present moment, which isn't before the last one. All jobs that can move are moved at
-    /// that moment, always the first of them, until the cell is at rest: these moves stand in [`RestController::orders`]. It
-    /// asks for no budgets. Where it is refused the cell comes back as it was.
+    /// Begins with a cell in mid-run and a present moment, which isn't before the last one. All jobs that can move are
+    /// moved at that moment, always the first of them, until the cell is at rest: these moves are in
+    /// [`RestController::orders`]. No budgets are asked for. If the call is refused, the cell comes back as it was.
     pub fn begin(
         alloc: Global,
         cell: WorkCell<Shaped>,
@@ -107,7 +109,7 @@ impl<D: Dues> RestController<D> {
         }
     }
 
-    /// A controller of an accepted plan, from where it is. It takes no memory.
+    /// A controller of an accepted plan, from where it is. Takes no memory.
     pub fn of(controller: Controller<D>) -> RestController<D>
         ensures { result ≡ rest_of controller }
     {
@@ -129,10 +131,10 @@ impl<D: Dues> RestController<D> {
         }
     }
 
-    /// Changes to another plan, of the same shop or of another one, at a moment that isn't before the last one. The cell is as
-    /// it was, as one of that plan, and settles as where a controller begins. The run so far has to keep the plan, as far as the
-    /// cell tells, and the plan to have no cycle; budgets aren't asked for. Where it is refused the controller is as it was, and
-    /// the plan comes back.
+    /// Changes to another plan, of the same shop or of another one, at a moment that isn't before the last one. The
+    /// cell is as it was, as one of that plan, and settles as when a controller begins. The run so far has to keep the
+    /// plan, as far as the cell shows, and the plan must have no cycle; budgets aren't asked for. If the call is
+    /// refused, the controller is as it was, and the plan comes back.
     pub fn hand_over(
         &mut self,
         alloc: Global,
@@ -154,8 +156,8 @@ impl<D: Dues> RestController<D> {
         }
     }
 
-    /// Takes a report, as `Controller::report` does. Where it is possible, its activity has ended, and the moves are made that
-    /// then keep the plan. Where it isn't, the first reason is told, and nothing changes.
+    /// Takes a report, as `Controller::report` does. If it is possible, its activity has ended, and the moves are made
+    /// that then keep the plan. If it isn't, the call returns the first reason, and nothing changes.
     pub fn report(&mut self, report: Report) -> Result<Ack, ReportFault>
         ensures possible { IsOk result ↔ CanReport self.old.planned self.old.cell (said report) }
         ensures answered { IfOk result (λ ack. IsRestAnswered self.old (said report) ack self.new) }
@@ -185,7 +187,7 @@ impl<D: Dues> RestController<D> {
         &self.cell
     }
 
-    /// Where the job is; none for a number that is no job's.
+    /// Where the job is; `None` for a number that is no job's.
     pub fn phase(&self, job: JobNo) -> Option<Phase>
         ensures { IsPhaseOf self.now.planned self.now.cell job result }
     {
@@ -196,7 +198,7 @@ impl<D: Dues> RestController<D> {
         }
     }
 
-    /// The job that is on the machine, if one is; none for a number that is no machine's.
+    /// The job that is on the machine, if one is; `None` for a number that is no machine's.
     pub fn holder(&self, machine: MachineNo) -> Option<JobNo>
         ensures { IsJobOn self.now.planned self.now.cell machine result }
     {
@@ -207,7 +209,7 @@ impl<D: Dues> RestController<D> {
         }
     }
 
-    /// When the job's activity is due; none where it has none, since it is ready or gone or no job.
+    /// When the job's activity is due; `None` if it has none, since it is ready or gone or no job.
     pub fn due(&self, job: JobNo) -> Option<Moment>
         ensures { IsDueOf self.now.planned self.now.cell job result }
     {
@@ -218,7 +220,7 @@ impl<D: Dues> RestController<D> {
         }
     }
 
-    /// When the machine's cleaning is due; none where it isn't being cleaned.
+    /// When the machine's cleaning is due; `None` if it isn't being cleaned.
     pub fn clean_due(&self, machine: MachineNo) -> Option<Moment>
         ensures { IsDueOfCleaning self.now.planned self.now.cell machine result }
     {

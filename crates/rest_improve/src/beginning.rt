@@ -27,7 +27,7 @@ pub(crate) enum First {
     Stays(Shaped),
 }
 
-/// The plan itself or, where it has a cycle and the log tells no event, the serial plan.
+/// The plan itself or, if it has a cycle and the log records no event, the serial plan.
 pub(crate) fn first_plan(
     alloc: Global,
     start: Shaped,
@@ -49,7 +49,7 @@ pub(crate) fn first_plan(
     }
 }
 
-/// The serial plan, where the log tells no event.
+/// The serial plan, if the log records no event.
 fn first_serially(
     alloc: Global,
     start: Shaped,

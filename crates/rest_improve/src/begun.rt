@@ -20,11 +20,11 @@ use std::alloc::Global;
 pub(crate) struct Begun {
     pub present: Moment,
     pub rest: Rest,
-    /// Whether its log tells an event.
+    /// Whether its log records an event.
     pub has_event: bool,
 }
 
-/// The run that the log tells by the plan, at the moment that is given or else at its last one.
+/// The run that the log records by the plan, at the moment that is given or else at its last one.
 pub(crate) fn begun_at(
     alloc: Global,
     start: &Shaped,

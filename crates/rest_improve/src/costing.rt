@@ -22,7 +22,8 @@ use run_log::{AuditFault, run_of_log};
 use shop_base::{JobNo, Moment, Planned, Shaped};
 use std::alloc::{AllocError, Global};
 
-/// The cost of the rest of the run that the log tells by this plan; none where it tells none, or the plan has a cycle.
+/// The cost of the rest of the run that the log records by this plan; `None` if it records none, or the plan has a
+/// cycle.
 pub(crate) fn cost_after(
     alloc: Global,
     shaped: &Shaped,
@@ -64,7 +65,7 @@ pub(crate) fn cost_below(
     }
 }
 
-/// No cost, where the log tells no run of the plan.
+/// No cost, if the log records no run of the plan.
 fn no_run(fault: AuditFault) -> Result<Option<Cost>, RestFault>
     ensures { IsNoRun fault result }
 {
@@ -74,7 +75,7 @@ fn no_run(fault: AuditFault) -> Result<Option<Cost>, RestFault>
     }
 }
 
-/// The cost of the rest from a cell and a present moment on, none where the plan has a cycle.
+/// The cost of the rest from a cell and a present moment on; `None` if the plan has a cycle.
 fn cost_from<P: Planned>(
     alloc: Global,
     cell: &WorkCell<P>,

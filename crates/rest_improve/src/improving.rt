@@ -28,14 +28,15 @@ use run_log::{LoggedRun, run_of_log};
 use shop_base::{Moment, Shaped};
 use std::alloc::Global;
 
-/// Improves a plan for the rest of the run that the log's whole lines tell, from a moment on, or else from its last one. The
-/// search begins at the plan itself or, where that has a cycle and the log tells no event, at the serial plan. Where it tells
-/// one no other plan is known, so then that one is judged alone. In each round from 0 on each improver is asked in order with the
-/// best plan so far, and its answer is kept exactly where the plan with these orders fits the shop, the log tells a run of it
-/// too, it has no cycle, and its rest is less late, or as late with a shorter makespan: jobs that are gone are never late. The
-/// best plan is judged at the end. The watch is told 0 as the bound of each round. Too many rounds are answered first, and no
-/// improver is asked then, which no clause says. The best plan is exactly the best of the beginning and of answers that the
-/// improvers may give, the first among equals, each allowed for the best plan up to there.
+/// Improves a plan for the rest of the run that the log's whole lines record, from a moment on, or else from its last
+/// one. The search begins at the plan itself or, if that has a cycle and the log records no event, at the serial plan.
+/// If the log records one, no other plan is known, so the plan with the cycle is judged alone. In each round from 0 on
+/// each improver is asked in order with the best plan so far, and its answer is kept exactly if the plan with these
+/// orders fits the shop, the log records a run of it too, it has no cycle, and its rest is less late, or as late with a
+/// shorter makespan: jobs that are gone are never late. The best plan is judged at the end. The watch gets 0 as the
+/// bound of each round. Too many rounds are answered first, and no improver is asked then, which no clause says. The
+/// best plan is exactly the best of the beginning and of answers that the improvers may give, the first among equals,
+/// each allowed for the best plan up to there.
 pub fn improve_after<W: Watch>(
     alloc: Global,
     start: Shaped,
@@ -71,7 +72,7 @@ pub fn improve_after<W: Watch>(
     improve_from(alloc, start, log, &begun, improvers, rounds, watch)
 }
 
-/// Improves a plan of which the log tells a run.
+/// Improves a plan if the log records a run of it.
 fn improve_from<W: Watch>(
     alloc: Global,
     start: Shaped,
@@ -97,7 +98,7 @@ fn improve_from<W: Watch>(
     }
 }
 
-/// The plan, with the verdict on the rest of the run that the log tells by it.
+/// The plan, with the verdict on the rest of the run that the log records by it.
 fn judged(alloc: Global, shaped: Shaped, log: &[u8], present: Moment) -> Result<Improved, RestFault>
     requires { IsSet (ended_lines log.now) present shaped }
     ensures judged { IfOk result (IsJudgedOn (ended_lines log.now) present shaped) }

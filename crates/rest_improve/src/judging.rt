@@ -15,7 +15,7 @@ use plan_improve::{Replaced, put_back, replace};
 use shop_base::{JobNo, Moment};
 use std::alloc::Global;
 
-/// The plan with these orders where the log tells a run of it whose rest is better, else the best plan again.
+/// The plan with these orders if the log records a run of it whose rest is better, else the best plan again.
 pub(crate) fn judge_orders(
     alloc: Global,
     best: Best,

@@ -7,8 +7,8 @@
 
 ghost use Rattle.rest_improve.specs.Laws.{EachOrderHasOneCell, AcceptedRestsStayAccepted};
 
-/// Lines that tell a run of a plan and one of another that differs in its orders alone tell one cell: which of the plans is
-/// asked makes no difference.
+/// Lines that record a run of a plan and one of another that differs in its orders alone lead to one cell: which of
+/// the plans is asked makes no difference.
 pub fn a_log_has_one_cell()
     ensures { EachOrderHasOneCell }
 {}

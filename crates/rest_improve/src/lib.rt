@@ -1,5 +1,5 @@
-//! Better plans for the rest of a run, from what its log tells and a present moment on, and never a worse one: untrusted
-//! improvers are asked for orders, and the best plan so far is kept, by which the log still tells a run.
+//! Better plans for the rest of a run, from what its log records and a present moment on, and never a worse one:
+//! untrusted improvers are asked for orders, and the best plan so far is kept, by which the log still records a run.
 #![tactic(auto)]
 
 mod annealing;

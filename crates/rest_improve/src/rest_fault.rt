@@ -9,7 +9,7 @@ pub enum RestFault {
     /// There are more than `MAX_ROUNDS` rounds.
     #[error("TooManyRounds")]
     TooManyRounds,
-    /// The log's whole lines tell no run of the plan: the first fault of the first bad one.
+    /// The log's whole lines record no run of the plan: the first fault of the first bad one.
     #[error("Log {0}")]
     Log(AuditFault),
     /// The present moment is before the last one of the log.

@@ -19,7 +19,7 @@ use plan_improve::Watch;
 use shop_base::{JobNo, Shaped};
 use std::alloc::{AllocError, Global};
 
-/// Asks in each round from 0 on, and tells the watch before each.
+/// Asks in each round from 0 on, and calls the watch before each.
 pub(crate) fn ask_in_rounds<W: Watch>(
     alloc: Global,
     mut best: Best,

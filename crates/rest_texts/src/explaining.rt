@@ -23,11 +23,11 @@ use rest_times::{RestVerdict, last_to_leave, leave_time_after};
 use shop_base::{JobNo, Moment, Node, Planned};
 use std::alloc::{AllocError, Global};
 
-/// Why the rest of a run is accepted or refused, from a cell and the present moment on. After [`first_line_after`] come the arcs
-/// of a cycle; or each job's leaving, its budget and what is left to it or by how much it is late, of a job that is gone when
-/// it left; and the arcs of a chain, behind what its first node waits for: of the chain to the late job's leaving that the
-/// first line tells, or of a longest one to the leaving of the least job that leaves last of those that aren't gone. Where all
-/// are gone there is no chain.
+/// Why the rest of a run is accepted or refused, from a cell and the present moment on. After [`first_line_after`] come
+/// the arcs of a cycle; or each job's leaving, its budget and what is left to it or by how much it is late, and when it
+/// left if it is gone; and what the first node of a chain waits for, followed by the chain's arcs. The chain is the one
+/// to the late job's leaving that the first line gives, or a longest one to the leaving of the least job that leaves
+/// last of those that aren't gone. If all are gone there is no chain.
 pub fn explain_after<P: Planned>(
     alloc: Global,
     cell: &WorkCell<P>,
@@ -43,7 +43,7 @@ pub fn explain_after<P: Planned>(
     Ok(text)
 }
 
-/// Adds the lines behind the first one.
+/// Adds the lines after the first one.
 fn push_lines_behind<P: Planned>(
     alloc: Global,
     text: &mut Vec<u8>,

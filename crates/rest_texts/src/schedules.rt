@@ -21,10 +21,10 @@ use rest_times::{RestVerdict, deadlines_after};
 use shop_base::{Moment, Planned};
 use std::alloc::{AllocError, Global};
 
-/// When what is left of a run begins and ends, and how late it may end, from a cell and the present moment on: after the
-/// verdict's first line the lines of each job in ascending order, and behind them those of the cleanings that go on. What is
-/// overdue is taken to end at the present moment. Moments are whole time units; of each move ahead it is the earliest.
-/// Deadlines stand behind them where the rest is accepted. A plan with a cycle has its first line alone.
+/// When what is left of a run begins and ends, and how late it may end, from a cell and the present moment on: after
+/// the verdict's first line the lines of each job in ascending order, and then the lines of the cleanings that go on.
+/// What is overdue is taken to end at the present moment. Moments are whole time units, the earliest for each move
+/// ahead. If the rest is accepted, the deadlines follow them. A plan with a cycle has only its first line.
 pub fn schedule_after<P: Planned>(
     alloc: Global,
     cell: &WorkCell<P>,
@@ -40,7 +40,7 @@ pub fn schedule_after<P: Planned>(
     Ok(text)
 }
 
-/// Adds the lines behind the first one.
+/// Adds the lines after the first one.
 fn push_lines_behind<P: Planned>(
     alloc: Global,
     text: &mut Vec<u8>,
@@ -80,7 +80,7 @@ fn push_lines_in_time<P: Planned>(
     push_lines(alloc, text, cell, present, times, Some(&deadlines))
 }
 
-/// Adds the lines of all jobs and those of the cleanings that go on, by these moments and deadlines.
+/// Adds the lines of all jobs and of the cleanings that go on, by these moments and deadlines.
 fn push_lines<'a, P: Planned>(
     alloc: Global,
     text: &mut Vec<u8>,

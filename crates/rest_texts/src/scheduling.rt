@@ -105,7 +105,7 @@ fn push_visits(
     Ok(())
 }
 
-/// Adds the lines of the visit that the job is in: its own, and behind it that of the cleaning, if there is one.
+/// Adds the lines of the visit that the job is in: its own and, if there is a cleaning, the cleaning's after it.
 fn push_entered<P: Planned>(
     text: &mut Vec<u8>,
     cell: &WorkCell<P>,

@@ -1,4 +1,4 @@
-//! A line that tells of the rest of a run, and the words that its lines share.
+//! A line about the rest of a run, and the words that its lines share.
 
 ghost use Rattle.std.specs.Prelude.{◌≡◌, ◌+◌, ◌≤◌, ◌++◌, length, OnOk};
 ghost use Rattle.shop_base.specs.NodeText.{node_text};
@@ -25,7 +25,7 @@ pub(crate) fn put_node(line: &mut Line, node: Node)
     line.put_short_number(node.job);
 }
 
-/// Writes the deadline, where there is one.
+/// Writes the deadline, if there is one.
 pub(crate) fn put_due(line: &mut Line, due: Option<Moment>)
     requires { length line.old ≤ 60 }
     ensures written { line.new ≡ due_words due ++ line.old }

@@ -22,10 +22,10 @@ use cell_tables::WorkCell;
 use shop_base::{JobNo, Moment, Planned};
 use std::alloc::{AllocError, Global};
 
-/// Judges the rest of a run, from a cell at the end of any run that keeps its plan, and a present moment that isn't before the
-/// last one of that run. The cycle is looked for first, and the first late job second; jobs that are gone aren't judged. What
-/// goes on ends when it is due, and what is overdue at the present moment. Linear in the nodes, the arcs and the machines; it
-/// fails only where it is out of memory.
+/// Judges the rest of a run, from a cell at the end of any run that keeps its plan, and a present moment that isn't
+/// before the last one of that run. Looks first for a cycle, then for the first late job; jobs that are gone aren't
+/// judged. What goes on ends when it is due, and what is overdue at the present moment. Linear in the nodes, the arcs
+/// and the machines; fails only when out of memory.
 pub fn verify_after<P: Planned>(
     alloc: Global,
     cell: &WorkCell<P>,

@@ -39,7 +39,7 @@ pub fn makespan_after<P: Planned>(cell: &WorkCell<P>, times: &Times) -> Moment
     makespan
 }
 
-/// The least job that leaves last of those that aren't gone; none where all are gone.
+/// The least job that leaves last among the jobs that aren't gone; `None` if all are gone.
 pub fn last_to_leave<P: Planned>(cell: &WorkCell<P>, times: &Times) -> Option<JobNo>
     requires { AreRanks cell.now.plan times.now }
     ensures { let p = cell.now.plan in let c = cell.now.cell in

@@ -55,9 +55,9 @@ pub struct NodeBound {
     pub overdue: Option<Moment>,
 }
 
-/// The bound of a node, from a cell and a present moment: of all that holds it up what lasts longest. Of what lasts equally
-/// long it tells what goes on with the job, else the cleaning of the machine, else that the job waits. None for a node that
-/// only nodes before it hold up, and for one that is passed.
+/// The bound of a node, from a cell and a present moment: of all that holds it up what lasts longest. If several last
+/// equally long, the bound names what goes on with the job, else the cleaning of the machine, else that the job waits.
+/// `None` for a node that only nodes before it hold up, and for one that is passed.
 pub fn bound_after<P: Planned>(cell: &WorkCell<P>, present: Moment, node: Node) -> Option<NodeBound>
     requires node { IsNode cell.now.plan node }
     requires in_range { present ≤ MAX_MOMENT }
@@ -107,7 +107,7 @@ fn cleaning_bound<P: Planned>(cell: &WorkCell<P>, present: Moment, node: Node) -
     ))
 }
 
-/// The bound of a job's next node by what goes on with the job, or by the present moment where it waits.
+/// The bound of a job's next node by what goes on with the job, or by the present moment if it waits.
 fn job_bound<P: Planned>(cell: &WorkCell<P>, present: Moment, job: JobNo) -> NodeBound
     requires job { job < jobs cell.now.plan }
     requires here { made cell.now.cell job ≤ steps cell.now.plan job }
@@ -193,7 +193,7 @@ fn waiting(present: Moment, holds: Hold) -> NodeBound
     }
 }
 
-/// Which of two bounds is told.
+/// Which of two bounds is named.
 fn told_first(one: NodeBound, other: NodeBound) -> NodeBound
     ensures { ((result ≡ one) × GoesBefore one other) ⊎ ((result ≡ other) × GoesBefore other one) }
 {

@@ -10,8 +10,8 @@ pub enum RestVerdict {
     /// A cycle of the graph, from its least node on, an arc from each node to the next and from the last to the first. It
     /// lies ahead, since none of these moves is ever made.
     Cycle(Vec<Node>),
-    /// The first job that isn't gone and can't be out by its budget where each activity takes its full time, the earliest
-    /// moment at which it can then leave, and a path ahead of that length to its leaving. Beside them the ranks and the
+    /// The first job that isn't gone and can't be out by its budget if each activity takes its full time, the earliest
+    /// moment at which it can then leave, and a path ahead of that length to its leaving. Besides, the ranks and the
     /// earliest moments of all nodes.
     Late {
         job: JobNo,

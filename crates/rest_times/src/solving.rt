@@ -9,9 +9,9 @@ use cell_tables::WorkCell;
 use shop_base::{Moment, Planned};
 use std::alloc::{AllocError, Global};
 
-/// The ranks of the nodes of a cell's plan, and of those ahead the earliest moments: the greatest lengths of the paths to
-/// them from a present moment on; or a cycle. In time and memory linear in the nodes, the arcs and the machines; it
-/// fails only where it is out of memory.
+/// The ranks of the nodes of a cell's plan, and the earliest moments of the nodes ahead: the greatest lengths of the
+/// paths to them from a present moment on; or a cycle. In time and memory linear in the nodes, the arcs and the
+/// machines; fails only when out of memory.
 pub fn solve_after<P: Planned>(
     alloc: Global,
     cell: &WorkCell<P>,

@@ -8,7 +8,7 @@ use cell_tables::{Entry, Report};
 use shop_base::Moment;
 use std::alloc::{AllocError, Global};
 
-/// A table for so many machines, of which nothing is told yet.
+/// A table for this number of machines, with no end noted yet.
 pub(crate) fn no_cleaning_ends(
     alloc: Global,
     machines: u32,
@@ -22,7 +22,7 @@ pub(crate) fn no_cleaning_ends(
     Ok(ends)
 }
 
-/// Notes what an entry tells, which comes before all those noted so far.
+/// Notes an entry, which comes before all those noted so far.
 pub(crate) fn note_cleaning_end(ends: &mut Vec<Option<Moment>>, entry: Entry)
     ensures { (n : ℕ) (later : List Entry) → AreCleaningEnds n ends.old.items later → AreCleaningEnds n ends.new.items (entry ∷ later) }
 {

@@ -1,5 +1,5 @@
-//! The drawing of a run: in text, each machine's visits and a bar of which job is on it when; and the visits of which a
-//! picture is made.
+//! The drawing of a run: in text, each machine's visits and a bar of which job is on it when; and the visits that make
+//! up a picture.
 #![tactic(auto)]
 
 mod bar;

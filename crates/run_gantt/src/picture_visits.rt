@@ -13,9 +13,9 @@ use run_picture::{Cleaned, DrawnVisit};
 use shop_base::{MachineNo, Moment, Shaped, Spot};
 use std::alloc::{AllocError, Global};
 
-/// The visits that the entries tell to machines of the shop, as a picture draws them, the last begun first. After a
-/// visit to a machine with a cleaning time a cleaning follows, whose end is told by the first later report of that
-/// machine's cleaning. Any entries are taken, whether they are a run's or not.
+/// The visits in the entries to machines of the shop, as a picture draws them, the last begun first. After a visit to
+/// a machine with a cleaning time a cleaning follows, which ends with the first later report of that machine's
+/// cleaning. Any entries are taken, whether they are a run's or not.
 pub fn drawn_visits(
     alloc: Global,
     shaped: &Shaped,
@@ -73,7 +73,7 @@ fn begun_visit(
     })
 }
 
-/// What is told of a cleaning of the machine, by the moment of its report.
+/// What is known of a cleaning of the machine, by the moment of its report.
 fn cleaned_by(shaped: &Shaped, machine: MachineNo, end: Option<Moment>) -> Cleaned
     requires { machine < machines shaped.now }
     ensures { result ≡ cleaned_by shaped.now machine end }

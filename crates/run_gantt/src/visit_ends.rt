@@ -1,4 +1,4 @@
-//! What the later entries tell of each job on each machine, kept in a table.
+//! What the later entries say of each job on each machine, kept in a table.
 
 ghost use Rattle.std.specs.Prelude.{◌≡◌, ◌≤◌, List, [], ◌∷◌, length, IfOk, MatchOption};
 ghost use Rattle.shop_base.specs.declared.limits.TheConstants.{MAX_JOBS};
@@ -12,14 +12,14 @@ use shop_base::limits::MAX_MACHINES;
 use shop_base::{JobNo, MachineNo, Moment, MoveOrder, Spot};
 use std::alloc::{AllocError, Global};
 
-/// When the operation of a job on a machine ends and when the job leaves it, where they are told.
+/// When the operation of a job on a machine ends and when the job leaves it, if known.
 #[derive(Clone, Copy)]
 pub(crate) struct VisitEnd {
     pub finish: Option<Moment>,
     pub leave: Option<Moment>,
 }
 
-/// A table for so many jobs, of which nothing is told yet.
+/// A table for this number of jobs, with no end noted yet.
 pub(crate) fn no_visit_ends(alloc: Global, jobs: u32) -> Result<Vec<VisitEnd>, AllocError>
     requires { jobs ≤ MAX_JOBS }
     ensures { IfOk result (λ ends. AreVisitEnds ends.items []) }
@@ -35,7 +35,7 @@ pub(crate) fn no_visit_ends(alloc: Global, jobs: u32) -> Result<Vec<VisitEnd>, A
     Ok(ends)
 }
 
-/// The place of a job on a machine; none where the table has none.
+/// The place of a job on a machine; `None` if the table has none.
 fn place_of(ends: &[VisitEnd], job: JobNo, machine: MachineNo) -> Option<usize>
     ensures { MatchOption result (HasNoPlace (length ends.now) job machine) (IsPlace (length ends.now) job machine) }
 {
@@ -49,8 +49,8 @@ fn place_of(ends: &[VisitEnd], job: JobNo, machine: MachineNo) -> Option<usize>
     Some(place)
 }
 
-/// The end of a visit of a job to a machine. The table has those of the shop's jobs; for any other the entries are
-/// looked through.
+/// The end of a visit of a job to a machine. The table has the ends for the shop's jobs; for any other job the entries
+/// are looked through.
 pub(crate) fn visit_end_at(
     ends: &[VisitEnd],
     entries: &[Entry],
@@ -116,7 +116,7 @@ fn leave_told(entry: Entry, of_job: JobNo, from_machine: MachineNo) -> Option<Mo
     }
 }
 
-/// Notes what an entry tells, which comes before all those noted so far.
+/// Notes an entry, which comes before all those noted so far.
 pub(crate) fn note_visit_end(ends: &mut [VisitEnd], entry: Entry)
     ensures { (later : List Entry) → AreVisitEnds ends.old later → AreVisitEnds ends.new (entry ∷ later) }
 {

@@ -39,7 +39,7 @@ impl Model for Visits {
     ghost invariant = { λ v. AreAllLinked v.table.items v.first.items };
 }
 
-/// The visits that the entries tell.
+/// The visits in the entries.
 pub(crate) fn visits_of(
     alloc: Global,
     shaped: &Shaped,

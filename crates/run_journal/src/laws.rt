@@ -6,20 +6,20 @@ ghost use Rattle.run_journal.specs.Laws.{ACrashKeepsWhatWasShown};
 ghost use Rattle.run_journal.specs.LeftLogs.{ACrashLeavesALog};
 ghost use Rattle.run_journal.specs.TornEnds.{UnwrittenLinesAreTorn};
 
-/// The whole lines of what a crash leaves of a log are those that it held as it was opened, and behind them the first lines
-/// of reports, of orders and of late reports of what was given to it since: at least all that were shown.
+/// The whole lines of what a crash leaves of a log are the lines that it held as it was opened, and after them the
+/// first lines of reports, of orders and of late reports of what was given to it since: at least all that were shown.
 pub fn a_crash_keeps_what_was_shown()
     ensures { ACrashKeepsWhatWasShown }
 {}
 
-/// Let a log tell events, and an output be given a text that tells others. What a crash leaves of the log tells the events that
-/// it told as it was opened, and behind them the first of the others: at least all whose lines were shown.
+/// Let a log record events, and an output be given a text that records others. What a crash leaves of the log records
+/// the events that it recorded as it was opened, and then the first of the others: at least all whose lines were shown.
 pub fn a_crash_leaves_a_log()
     ensures { ACrashLeavesALog }
 {}
 
-/// What a crash leaves of the line of an event or of a late report, where its line feed isn't on the disk, with zeros behind it or
-/// without, is a torn end: so it is never taken for what isn't of a log.
+/// What a crash leaves of the line of an event or of a late report, if its line feed isn't on the disk, with zeros
+/// after it or without, is a torn end: so it is never taken for what isn't of a log.
 pub fn unwritten_lines_are_torn()
     ensures { UnwrittenLinesAreTorn }
 {}

@@ -1,4 +1,4 @@
-//! A log that is on the disk before what it tells is shown.
+//! A log that is on the disk before what it records is shown.
 //!
 //! [`read_log`] and [`cut_end`] open a log that a crash may have left. [`Logged`] goes on with it: of what is written the
 //! lines of events are put into the log, which is synced, and only then all of it is shown.

@@ -6,9 +6,9 @@ use std::alloc::Global;
 
 /// A file that is appended to, and what a crash may leave of it: of the program, or of the machine.
 ///
-/// Each call may fail, and from any call on all of them may. So a crash in the middle of some code is one of the runs of
-/// which its contract speaks: that in which each call behind the crash fails and does nothing. A crash in the middle of a
-/// call leaves what it may leave before that call or behind it.
+/// Each call may fail, and from any call on all of them may. So a crash in the middle of some code is one of the runs
+/// that its contract covers: the run in which each call after the crash fails and does nothing. A crash in the middle
+/// of a call leaves what it may leave before that call or after it.
 pub trait LogFile {
     // The bytes that a read gives, where they are told.
     ghost seen: { Self → Option (List ℕ) };
@@ -16,7 +16,7 @@ pub trait LogFile {
     // What a crash may leave now.
     ghost may_leave: { Self → List ℕ → Type 0 };
 
-    /// All the bytes, if there are at most so many.
+    /// All the bytes, if there are at most `most`.
     fn read(&mut self, alloc: Global, most: usize) -> Result<Vec<u8>, FileFault>
         ensures bytes { IfOk result (λ bytes. IfSome (seen self.old) (λ file. bytes.items ≡ file)) }
         ensures within { IfOk result (λ bytes. length bytes.items ≤ most) }
@@ -25,7 +25,7 @@ pub trait LogFile {
         ensures crash { LeavesNoMore (may_leave self.old) (may_leave self.new) };
 
     /// Appends to a file that is synced. Until the next sync a crash may leave only the first of these bytes, and zeros
-    /// where the others were to stand.
+    /// in place of the others.
     fn append(&mut self, bytes: &[u8]) -> Result<(), FileFault>
         requires { IsSettled (seen self.old) (may_leave self.old) }
         ensures appended { OnOk result (IfSome (seen self.old) (λ file. seen self.new ≡ Some (file ++ bytes.now))) }

@@ -1,4 +1,4 @@
-//! An output of which a log gets the events, on the disk, before they are shown.
+//! An output whose events a log gets, on the disk, before they are shown.
 
 ghost use Rattle.std.specs.Prelude.{◌≡◌, ◌⊎◌, ◌+◌, ◌<◌, ◌≤◌, ◌++◌, [], length, take, Some, false, IfOk, IfSome, OnOk, IsTrue};
 ghost use Rattle.std.specs.Io.KnownBytes.{Appends};
@@ -26,7 +26,7 @@ pub trait Before: Drop {
     ghost before: { Option (List ℕ × List ℕ) };
 }
 
-/// Nothing is told of it.
+/// Nothing is known of it.
 #[derive(Drop)]
 pub struct Untold;
 
@@ -160,7 +160,7 @@ impl<W: Outlet, D: LogFile, B: Before> Outlet for Logged<W, D, B> {
     }
 }
 
-/// Whether what is gathered, so many bytes, is shown before these are. A report's answer is gathered whole.
+/// Whether the `gathered` bytes gathered so far are shown before these. A report's answer is gathered whole.
 fn is_shown_first(gathered: usize, bytes: &[u8]) -> bool
     requires within { gathered ≤ MAX_PENDING }
     requires some { 0 < length bytes.now }

@@ -11,7 +11,7 @@ use std::alloc::Global;
 use std::marker::Model;
 use text_lines::MAX_INPUT;
 
-/// The bytes of a log: its whole lines, and what stands behind the last of them.
+/// The bytes of a log: its whole lines, and what comes after the last of them.
 #[derive(Debug, Drop)]
 pub struct LogText {
     bytes: Vec<u8>,
@@ -46,7 +46,7 @@ impl LogText {
         &self.bytes[..self.whole]
     }
 
-    /// What stands behind the last line feed.
+    /// What comes after the last line feed.
     pub fn end(&self) -> &[u8]
         ensures { result.now ≡ torn_end self.now }
     {
@@ -68,7 +68,7 @@ pub fn read_log<D: LogFile>(alloc: Global, log: &mut D) -> Result<LogText, FileF
     Ok(LogText::new(bytes))
 }
 
-/// Cuts off what stands behind the whole lines of a log that was read.
+/// Cuts off what comes after the whole lines of a log that was read.
 pub fn cut_end<D: LogFile>(log: &mut D, text: &LogText) -> Result<(), FileFault>
     requires settled { IsSettled (D.seen log.old) (D.may_leave log.old) }
     requires read { IfSome (D.seen log.old) (λ file. text.now ≡ file) }

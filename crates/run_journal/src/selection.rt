@@ -13,7 +13,7 @@ pub(crate) const DECIDING: usize = 7;
 /// Whether a log gets the line that is being written.
 #[derive(Clone, Copy, Debug, PartialEq, Eq)]
 pub(crate) enum Standing {
-    /// Its bytes don't tell it yet.
+    /// Its bytes don't decide it yet.
     Open,
     Logged,
     Passed,
@@ -108,7 +108,7 @@ impl Selection {
     }
 }
 
-/// How a line with these bytes stands. Where that is known, they are passed on or dropped.
+/// The state of a line with these bytes. Once it is decided, they are passed on or dropped.
 fn decide(front: &mut Vec<u8>, events: &mut Vec<u8>) -> Standing
     requires few { length front.old.items ≤ DECIDING }
     requires room { vec_len events.old + length front.old.items ≤ vec_capacity events.old }

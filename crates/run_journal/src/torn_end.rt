@@ -1,10 +1,10 @@
-//! What a crash can leave behind the whole lines of a log: the beginning of a line that the log gets, and zeros.
+//! What a crash can leave after the whole lines of a log: the beginning of a line that the log gets, and zeros.
 
 ghost use Rattle.std.specs.Prelude.{◌≡◌, ◌≤◌, length, take};
 ghost use Rattle.run_journal.specs.TornEnds.{stands_for, begins, begins_report, begins_order, begins_late, without_zeros, is_torn};
 
-/// Whether a crash can have left these bytes behind the whole lines: those with which some line of a report, of an order
-/// or of a late report begins, or none, and then zeros, or none.
+/// Whether a crash can have left these bytes after the whole lines: the beginning of some line of a report, of an order
+/// or of a late report, or nothing, and then zeros, or none.
 pub fn is_torn_end(end: &[u8]) -> bool
     ensures { result ≡ is_torn end.now }
 {
@@ -29,7 +29,7 @@ fn begins_order(bytes: &[u8]) -> bool
         || begins(b"order # # out out", bytes)
 }
 
-/// What stands behind the moment is of version 2 of the lines.
+/// What comes after the moment is of version 2 of the lines.
 fn begins_late(bytes: &[u8]) -> bool
     ensures { result ≡ begins_late bytes.now }
 {
@@ -82,7 +82,7 @@ fn without_zeros(bytes: &[u8]) -> &[u8]
     &bytes[..zeroless_len(bytes)]
 }
 
-/// How many bytes stand before the zeros at their end.
+/// How many bytes come before the zeros at their end.
 fn zeroless_len(bytes: &[u8]) -> usize
     ensures within { result ≤ length bytes.now }
     ensures zeroless { take result bytes.now ≡ without_zeros bytes.now }

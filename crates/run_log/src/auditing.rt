@@ -1,4 +1,4 @@
-//! The audit of a log: whether its lines tell a run of the plan.
+//! The audit of a log: whether its lines record a run of the plan.
 
 ghost use Rattle.std.specs.Prelude.{◌≡◌, ◌≤◌, [], ◌∷◌, length, vec_capacity, IfOk, IfErr};
 ghost use Rattle.shop_base.specs.Ends.{reports_in};

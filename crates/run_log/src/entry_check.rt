@@ -15,7 +15,7 @@ use crate::audit_fault::AuditFault;
 use cell_tables::{Entry, Report, WorkCell};
 use shop_base::{JobNo, MachineNo, MoveOrder, Planned, Spot};
 
-/// Checks that the entry, told by this line, can happen.
+/// Checks that the entry in this line can happen.
 pub(crate) fn check_entry<P: Planned>(
     cell: &WorkCell<P>,
     entry: Entry,

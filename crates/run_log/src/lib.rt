@@ -1,5 +1,5 @@
-//! The log of a cell's run, the lines in which it is written to any writer of bytes, the audit of such lines, and the run
-//! that they tell, with the cell at its end.
+//! The log of a cell's run, the lines in which it is written to any writer of bytes, the audit of such lines, and the
+//! run that they record, with the cell at its end.
 #![tactic(auto)]
 
 mod audit_fault;

@@ -1,4 +1,4 @@
-//! The run that a log tells.
+//! The run that a log records.
 
 ghost use Rattle.std.specs.Prelude.{◌≡◌, [], length, vec_capacity, IfOk, OnOk, IfErr};
 ghost use Rattle.text_lines.specs.Lines.{lines_of, ended_lines};
@@ -15,18 +15,18 @@ use shop_base::Planned;
 use std::alloc::{AllocError, Global};
 use text_lines::{ended_part, line_count, next_line};
 
-/// A run as far as the lines of a log have told it.
+/// A run as far as the lines of a log that were read record it.
 #[derive(Debug, Drop)]
 pub struct LoggedRun<P: Planned> {
-    /// The cell after the last entry, at its moment; at the start of a run where there is no entry.
+    /// The cell after the last entry, at its moment; at the start of a run if there is no entry.
     pub cell: WorkCell<P>,
-    /// Its reports and orders, in the order in which they were told.
+    /// Its reports and orders, in the order of the log.
     pub entries: Vec<Entry>,
 }
 
-/// The run of the plan that the whole lines of a log tell, and the cell at its end. What stands behind the last line feed
-/// is torn, and isn't looked at. Of the whole lines just those are taken that an audit keeps, and the first fault of others is
-/// the audit's: the plan needn't be accepted, nor be the one by which the log was written.
+/// The run of the plan that the whole lines of a log record, and the cell at its end. What comes after the last line
+/// feed is torn, and isn't looked at. Whole lines are taken exactly if an audit keeps them, and the first fault of
+/// others is the audit's: the plan needn't be accepted, nor be the one by which the log was written.
 pub fn run_of_log<P: Planned>(
     alloc: Global,
     basis: P,
@@ -42,7 +42,7 @@ pub fn run_of_log<P: Planned>(
     read_log(alloc, basis, ended_part(text))
 }
 
-/// The run that the log tells, if all its lines tell one.
+/// The run that the log records, if all its lines record one.
 pub(crate) fn read_log<P: Planned>(
     alloc: Global,
     basis: P,
@@ -61,7 +61,7 @@ pub(crate) fn read_log<P: Planned>(
 }
 
 impl<P: Planned> LoggedRun<P> {
-    /// A run that nothing is told of, with room for the entries that the lines of the text can tell.
+    /// A run with no entry yet, with room for the entries that the lines of the text can record.
     pub(crate) fn start(alloc: Global, basis: P, text: &[u8]) -> Result<LoggedRun<P>, AllocError>
         ensures basis { IfOk result (λ run. run.cell.basis ≡ basis) }
         ensures plan { IfOk result (λ run. run.cell.plan ≡ P.planned basis) }
@@ -101,7 +101,7 @@ impl<P: Planned> LoggedRun<P> {
         Ok(())
     }
 
-    /// Takes the entry that the line of this number tells, if it isn't passed over.
+    /// Takes the entry in the line of this number, if it isn't passed over.
     fn take_line(&mut self, line: &[u8], number: usize) -> Result<(), AuditFault>
         requires told { IsTold self.old.cell.plan self.old.cell.cell self.old.entries.items }
         requires room { HasRoomForNext self.old.cell.plan (length self.old.entries.items) (vec_capacity self.old.entries) }

@@ -1,4 +1,4 @@
-//! The command line as `clap` is told of it, one command in each function.
+//! The command line as `clap` gets it, one command in each function.
 
 ghost use Rattle.std.specs.Prelude.{◌≡◌, IfOk, [], false, codes};
 ghost use Rattle.clap.specs.Words.{rule_of};
@@ -9,7 +9,7 @@ use clap::builder::ValueParser;
 use clap::{Arg, ArgAction, Command};
 use std::alloc::{AllocError, Global};
 
-/// The version of the program, which is that of the file `VERSION`.
+/// The version of the program, the same as in the file `VERSION`.
 const VERSION: &str = "1.0.0";
 
 /// A file that has to be named.
