@@ -57,5 +57,5 @@ pub returns-clause-whole : goal.returns-clause-whole
 returns-clause-whole g c =
     let limit : c.take-limited.result.limit ≡ 67108865 = c.take-limited.ensures.limit in
     let bytes = rw (limit, c.take-limited.ensures.inner) at c.read_to_end-read.ensures.bytes in
-    whole_told _ _ c.read_to_end-read.new.buf c.read_to_end-read.result c.whole_of.result c.new-bytes.ensures.items bytes
+    whole_told _ _ c.read_to_end-read.new.buf c.read_to_end-read.result c.whole_of.result c.in_ok-bytes.ensures.items bytes
     c.whole_of.ensures.within c.whole_of.ensures.beyond c.whole_of.ensures.fault
