@@ -35,12 +35,13 @@ BEGIN {
   while (bounds != "" && (getline text < bounds) > 0) {
     rows++
     if (split(text, part, " [|] ") != 3) continue
-    key = trim(part[1]) " " without_blanks(part[2])
-    row_of[key] = rows
-    text_of[key] = text
     name = without_blanks(part[2])
     sub(/\(.*/, "", name)
-    if (name !~ asks) is_asked[of_crate(trim(part[1]), name)] = 1
+    if (split(trim(part[1]), place, " of ") == 2) is_asked["crates/" place[2] " " name] = is_public[name] = 1
+    key = place[1] " " without_blanks(part[2])
+    row_of[key] = rows
+    text_of[key] = text
+    if (name !~ asks) is_asked[of_crate(place[1], name)] = 1
   }
 }
 
@@ -454,7 +455,7 @@ function look_at(i, word) {
   else if (word == "unwrap_or" && caller(i - 2) !~ gives_option) tell(i, "a call that may drop an error")
   else if (word ~ asks && (using ? word ~ /^(from|repeat)/ : token[i - 1] == "::" && token[i + 1] != "(" || token[i - 1] == "." && token[i + 1] == "::")) tell(i, "a request for a capacity that isn't written as a call")
   else if (word ~ asks && token[i + 1] == "(" && token[i - 1] ~ /^(\.|::)$/) look_at_request(i, word)
-  else if (token[i + 1] == "(" && token[i - 1] != "fn" && function_at(i, token[i - 2]) in is_asked) look_at_request(i, word)
+  else if (token[i + 1] == "(" && token[i - 1] != "fn" && (function_at(i, token[i - 2]) in is_asked || word in is_public)) look_at_request(i, word)
   else if (word ~ /^(small)?vec$/ && token[i + 1] == "!" && is_filled(i + 2)) look_at_request(i, "vec!")
   else if (word == "*" && using && (of_a_type || from_fmt)) tell(i, "all variants brought in")
   else if (word == "as" && using && from_fmt && token[i - 1] ~ /^(fmt|self)$/) tell(i, "fmt under another name")
