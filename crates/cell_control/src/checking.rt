@@ -71,7 +71,7 @@ fn check_cleaning<P: Planned>(
 }
 
 /// Checks that the report of a cleaning after this job is possible.
-pub(crate) fn check_cleaning_after<P: Planned>(
+pub fn check_cleaning_after<P: Planned>(
     cell: &WorkCell<P>,
     machine: MachineNo,
     job: JobNo,

@@ -4,7 +4,8 @@
 //! A [`Controller`] is made of a `Verified` plan and takes one [`Report`] at a time. It accepts exactly the
 //! reports that are possible, and answers each with the moves that it releases.
 //!
-//! Controllers of other plans are made of the same functions: [`check_report`], [`make_step`], [`renew_job`] and [`renew_machine`].
+//! Controllers of other plans are made of the same functions: [`check_report`], [`check_cleaning_after`], [`make_step`],
+//! [`renew_job`] and [`renew_machine`].
 //!
 //! Moments are whole time units, counted from moment 0. Only [`Controller::new`] and [`Dues::sized`] take memory.
 #![tactic(auto)]
@@ -27,7 +28,7 @@ mod step;
 mod tourney_dues;
 
 pub use cell_tables::Report;
-pub use checking::check_report;
+pub use checking::{check_cleaning_after, check_report};
 pub use controller::Controller;
 pub use due_moments::{renew_job, renew_machine};
 pub use dues::Dues;

@@ -8,3 +8,4 @@ pub mod CarriedTables
 pub mod KeptSoFar
 pub mod KeptBefore
 pub mod KeptRuns
+pub mod HandOverLaws

@@ -1,21 +1,23 @@
 -- What holds of every controller of the rest of a run is what is promised of it, and calls of report go on with the controlled run.
-use Rattle.std.proofs.Common.{◌≡◌, ℕ, ◌↔◌, List, ◌∷◌, ◌++◌, refl, sym, ◌∙◌, subst}
+use Rattle.std.proofs.Common.{◌≡◌, ℕ, ◌↔◌, inl, inr, List, [], ◌∷◌, ◌++◌, refl, sym, ◌∙◌, subst, arith}
 use Rattle.std.specs.Prelude.{IsTrue}
 use Rattle.shop_base.specs.declared.move_order.MoveOrder.{MoveOrder}
 use Rattle.shop_base.specs.Plan.{PlannedShop}
-use Rattle.shop_base.specs.Cell.{Cell}
+use Rattle.shop_base.specs.Cell.{Cell, start}
 use Rattle.shop_base.specs.Report.{Report, CanReport, after_report}
-use Rattle.shop_base.specs.Run.{Event, Reported}
+use Rattle.shop_base.specs.Run.{Event, Reported, Moved, after}
 use Rattle.shop_base.specs.Controlled.{IsStep, after_moves, orders_for, after_step, step_orders, moved, Leads, done, accepted, refused}
-use Rattle.shop_base.specs.Punctual.{IsPunctualFrom, ArePunctualFrom}
+use Rattle.shop_base.specs.Punctual.{ArePunctual, IsPunctualFrom, ArePunctualFrom}
 use Rattle.shop_base.specs.Ahead.{GoesOnTo, settled}
+use Rattle.shop_base.proofs.ControlledRuns.{controlled_to_run}
 use Rattle.shop_base.proofs.InTime.{leaving_kept, reports_later, reports_sooner}
 use Rattle.alt_graph.specs.Times.{rank_of, earliest_of}
+use Rattle.cell_control.specs.Control.{at_start}
 use Rattle.cell_control.proofs.Promises.{rests_unstuck}
 use Rattle.cell_control.proofs.Reading.{ended_is}
-use Rattle.rest_control.specs.RestControl.{RestControl, IsRestControl}
+use Rattle.rest_control.specs.RestControl.{RestControl, IsRestControl, rest_of}
 use Rattle.rest_control.specs.RestPromises as promise
-use Rattle.rest_control.specs.RestPromises.{RestNeverGoesWrong, IsRestCalled, AreRestCalled, not_yet, once_more, CallsGoOn}
+use Rattle.rest_control.specs.RestPromises.{RestNeverGoesWrong, IsRestCalled, AreRestCalled, not_yet, once_more, CallsGoOn, CallsMakeTheRun}
 
 pub never_goes_wrong : (v : RestControl) → IsRestControl v → RestNeverGoesWrong v
 never_goes_wrong v control = record {
@@ -115,3 +117,33 @@ calls_go_on p c t begun rs es end is calls = record {
 
     back : ArePunctualFrom p t c (moved (orders_for p c t js) ++ es) → IsTrue end.punctual
     back all = on.punctual_is.1 (is.punctual, subst (λ x. ArePunctualFrom p t x es) (sym is.settled.leads) ((punctual_moved p t c t js es).0 all))
+
+-- from moment 0 on reports are punctual that are so at all
+punctual_at_all : (p : PlannedShop) (c : Cell) (es : List Event) → ArePunctualFrom p 0 c es → ArePunctual p c es
+punctual_at_all p c [] all = tt
+punctual_at_all p c (Reported r ∷ es) all = (
+  (λ a due going. elim (all.0 a due going) [ inl soon ↦ omega (arith, soon) | inr by ↦ by ]),
+  punctual_at_all p (after p c (Reported r)) es all.1,
+)
+punctual_at_all p c (Moved o ∷ es) all = punctual_at_all p (after p c (Moved o)) es all
+
+punctual_from_0 : (p : PlannedShop) (c : Cell) (es : List Event) → ArePunctual p c es → ArePunctualFrom p 0 c es
+punctual_from_0 p c [] all = tt
+punctual_from_0 p c (Reported r ∷ es) all = ((λ a due going. inr (all.0 a due going)), punctual_from_0 p (after p c (Reported r)) es all.1)
+punctual_from_0 p c (Moved o ∷ es) all = punctual_from_0 p (after p c (Moved o)) es all
+
+pub calls_make_the_run : CallsMakeTheRun
+calls_make_the_run v rs es end verified calls =
+    let on : LeadsOn v.planned 0 (rest_of (at_start v)) rs es end = calls_lead v.planned 0 (rest_of (at_start v)) end rs es refl refl calls in
+    let (run, ends, sound, rest) = controlled_to_run v.planned rs es end.cell verified.schedule.shaped on.leads in
+    record {
+      controlled = on.leads;
+      run = run;
+      ends = ends;
+      planned = on.planned_is;
+      times = on.times_are;
+      punctual = (
+        (λ so. punctual_at_all v.planned (start v.planned) es (on.punctual_is.0 so).1),
+        λ all. on.punctual_is.1 (refl, punctual_from_0 v.planned (start v.planned) es all),
+      );
+    }

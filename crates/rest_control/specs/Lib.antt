@@ -8,6 +8,7 @@ pub mod Kept
 pub mod Carried
 pub mod HandedOver
 pub mod KeptLaw
+pub mod HandOverLaw
 -- Of proofs and private contracts alone.
 pub mod Settling
 pub mod Noted

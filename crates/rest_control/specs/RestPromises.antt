@@ -1,19 +1,21 @@
 -- What holds of every controller of the rest of a run, whatever was reported, and the controlled run that its calls go on with.
 use Rattle.std.specs.Prelude.{◌≡◌, ℕ, ◌<◌, ◌↔◌, List, [], ◌∷◌, ◌++◌, IsTrue}
 use Rattle.shop_base.specs.Plan.{PlannedShop, jobs}
-use Rattle.shop_base.specs.Cell.{Cell}
+use Rattle.shop_base.specs.Cell.{Cell, start}
 use Rattle.shop_base.specs.Report.{Report, CanReport}
-use Rattle.shop_base.specs.Run.{Event, Reported}
-use Rattle.shop_base.specs.Controlled.{moved}
-use Rattle.shop_base.specs.Punctual.{ArePunctualFrom}
+use Rattle.shop_base.specs.Run.{Event, Reported, IsRun, ends_in}
+use Rattle.shop_base.specs.Controlled.{moved, IsControlledRun}
+use Rattle.shop_base.specs.Punctual.{ArePunctual, ArePunctualFrom}
 use Rattle.shop_base.specs.Ends.{HasEnded}
 use Rattle.shop_base.specs.ReportsLeft.{reports_left}
 use Rattle.shop_base.specs.KeptMoments.{KeepsLeaving}
 use Rattle.shop_base.specs.Ahead.{GoesOnTo}
 use Rattle.alt_graph.specs.Times.{earliest_of}
 use Rattle.cell_control.specs.declared.report.Ack.{Ack}
+use Rattle.plan_verifier.specs.Accepted.{VerifiedPlan, IsVerified}
+use Rattle.cell_control.specs.Control.{at_start}
 use Rattle.cell_control.specs.Promises.{RestsUnstuck}
-use Rattle.rest_control.specs.RestControl.{RestControl, IsBegun, IsRestAnswered}
+use Rattle.rest_control.specs.RestControl.{RestControl, IsBegun, IsRestAnswered, rest_of}
 
 -- what a plan without a cycle promises of every such controller, whatever was reported
 pub record RestNeverGoesWrong (v : RestControl) : Type 0 where
@@ -45,3 +47,16 @@ pub record IsRestAfter (p : PlannedShop) (c : Cell) (t : ℕ) (begun : RestContr
 abbrev pub CallsGoOn : Type 0
 CallsGoOn = (p : PlannedShop) (c : Cell) (t : ℕ) (begun : RestControl) (rs : List Report) (es : List Event) (end : RestControl)
     → IsBegun p c t begun → AreRestCalled begun rs es end → IsRestAfter p c t begun rs (moved begun.orders ++ es) end
+
+-- these events are the controlled run of these reports by an accepted plan, and this is the controller at its end
+pub record IsRunSoFar (v : VerifiedPlan) (rs : List Report) (es : List Event) (end : RestControl) : Type 0 where
+  pub controlled : IsControlledRun v.planned rs es end.cell
+  pub run : IsRun v.planned es
+  pub ends : end.cell ≡ ends_in v.planned es
+  pub planned : end.planned ≡ v.planned
+  pub times : end.times ≡ v.times
+  pub punctual : IsTrue end.punctual ↔ ArePunctual v.planned (start v.planned) es
+
+-- calls of report, from what a new controller of an accepted plan becomes, make the controlled run of their reports
+abbrev pub CallsMakeTheRun : Type 0
+CallsMakeTheRun = (v : VerifiedPlan) (rs : List Report) (es : List Event) (end : RestControl) → IsVerified v → AreRestCalled (rest_of (at_start v)) rs es end → IsRunSoFar v rs es end

@@ -3,8 +3,9 @@
 
 // A function's contract is the law; its body does nothing, or only calls what says that the law's premise holds of a controller.
 
-ghost use Rattle.rest_control.specs.RestPromises.{RestNeverGoesWrong, CallsGoOn};
+ghost use Rattle.rest_control.specs.RestPromises.{RestNeverGoesWrong, CallsGoOn, CallsMakeTheRun};
 ghost use Rattle.rest_control.specs.KeptLaw.{AKeptRunIsOneOfTheOtherPlan};
+ghost use Rattle.rest_control.specs.HandOverLaw.{AHandedOverRunIsOneRun};
 
 use crate::rest_controller::RestController;
 use cell_control::Dues;
@@ -29,4 +30,16 @@ pub fn calls_go_on()
 /// same cell as one of that plan. So a controller that is handed over goes on with a run of the plan that it then has.
 pub fn a_kept_run_is_one_of_the_other_plan()
     ensures { AKeptRunIsOneOfTheOtherPlan }
+{}
+
+/// What a new controller of an accepted plan becomes makes the controlled run of the reports with which it is called. All were
+/// punctual exactly where it says so.
+pub fn calls_make_the_run()
+    ensures { CallsMakeTheRun }
+{}
+
+/// A run by one plan that is handed over to another one is a run of the other plan from its first event on, with the orders that
+/// the handing over gives and with all that is called from there, which goes on as a controlled run.
+pub fn a_handed_over_run_is_one_run()
+    ensures { AHandedOverRunIsOneRun }
 {}

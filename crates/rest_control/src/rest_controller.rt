@@ -8,9 +8,10 @@ ghost use Rattle.shop_base.specs.Graph.{leaving};
 ghost use Rattle.alt_graph.specs.Times.{earliest_of};
 ghost use Rattle.rest_times.specs.Rest.{AreOrderedAhead};
 ghost use Rattle.cell_tables.specs.Reports.{said};
-ghost use Rattle.cell_control.specs.Reports.{IsFirstReason, IsOnlyReason};
+ghost use Rattle.cell_tables.specs.Readings.{IsCleanedFor};
+ghost use Rattle.cell_control.specs.Reports.{IsFirstReason, IsOnlyReason, CanCleanAfter, IsFirstCleanReason, IsOnlyCleanReason};
 ghost use Rattle.cell_control.specs.Readings.{IsPhaseOf, IsJobOn, IsDueOf, IsDueOfCleaning};
-ghost use Rattle.rest_control.specs.RestControl.{RestControl, IsBegun, IsRestAnswered, IsRestControl, rest_of};
+ghost use Rattle.rest_control.specs.RestControl.{RestControl, IsBegun, IsRestAnswered, IfRestEndsNow, IsRestControl, rest_of};
 ghost use Rattle.rest_control.specs.RestFaults.{IsRestFault};
 ghost use Rattle.rest_control.specs.RestPromises.{IsRestCalled};
 ghost use Rattle.rest_control.specs.HandedOver.{IsHandedOver, IsHandOverFault};
@@ -24,8 +25,8 @@ use crate::rest_fault::RestFault;
 use crate::settling::settle;
 use alt_graph::Times;
 use cell_control::{
-    Ack, Controller, Dues, Orders, Parts, Phase, Report, ReportFault, check_report, make_step,
-    phase_of,
+    Ack, Controller, Dues, Orders, Parts, Phase, Report, ReportFault, check_cleaning_after,
+    check_report, make_step, phase_of,
 };
 use cell_tables::WorkCell;
 use rest_times::leave_time_after;
@@ -165,11 +166,54 @@ impl<D: Dues> RestController<D> {
         ensures only_reason { IfErr result (IsOnlyReason self.old.planned self.old.cell (said report)) }
         ensures unchanged { IfErr result (λ fault. self.new ≡ self.old) }
         ensures called { (es : List Event) × IsRestCalled self.old (said report) es self.new }
+        ensures never_refused { IfRestEndsNow self.old (said report) (IsOk result) }
     {
         check_report(&self.cell, report)?;
         let ack = make_step(&mut self.cell, &mut self.dues, &mut self.orders, report);
         self.punctual = still_punctual(self.punctual, ack, report.at(), self.began);
         Ok(ack)
+    }
+
+    /// Whether a report is possible, or the first reason for which it isn't. Nothing changes.
+    pub fn check(&self, report: Report) -> Result<(), ReportFault>
+        ensures possible { OnOk result (CanReport self.now.planned self.now.cell (said report)) }
+        ensures first_reason { IfErr result (IsFirstReason self.now.planned self.now.cell (said report)) }
+    {
+        let cell = &self.cell;
+        check_report(cell, report)
+    }
+
+    /// Whether the report of a cleaning after this job is possible, or the first reason for which it isn't. Nothing changes.
+    pub fn check_clean_after(
+        &self,
+        machine: MachineNo,
+        job: JobNo,
+        at: Moment,
+    ) -> Result<(), ReportFault>
+        ensures possible { OnOk result (CanCleanAfter self.now.planned self.now.cell machine job at) }
+        ensures first_reason { IfErr result (IsFirstCleanReason self.now.planned self.now.cell machine job at) }
+    {
+        check_cleaning_after(&self.cell, machine, job, at)
+    }
+
+    /// Takes the report that the machine has been cleaned after this job, as `Controller::clean_after` does. It isn't expected
+    /// where the machine isn't being cleaned after just that job.
+    pub fn clean_after(
+        &mut self,
+        machine: MachineNo,
+        job: JobNo,
+        at: Moment,
+    ) -> Result<Ack, ReportFault>
+        ensures possible { IsOk result ↔ CanCleanAfter self.old.planned self.old.cell machine job at }
+        ensures answered { IfOk result (λ ack. IsRestAnswered self.old (said (Report.Clean machine at)) ack self.new) }
+        ensures first_reason { IfErr result (IsFirstCleanReason self.old.planned self.old.cell machine job at) }
+        ensures only_reason { IfErr result (IsOnlyCleanReason self.old.planned self.old.cell machine job at) }
+        ensures unchanged { IfErr result (λ fault. self.new ≡ self.old) }
+    {
+        // Called for its clause alone: the cell is sound.
+        let _plan = self.shaped();
+        self.check_clean_after(machine, job, at)?;
+        self.report(Report::Clean { machine, at })
     }
 
     /// The moves that it ordered last: at its beginning, or after the last accepted report.
@@ -226,6 +270,17 @@ impl<D: Dues> RestController<D> {
     {
         if machine < self.cell.machine_count() {
             self.cell.cleaning_due(machine)
+        } else {
+            None
+        }
+    }
+
+    /// The job after which the machine is being cleaned, the last that was on it; none where it isn't being cleaned.
+    pub fn cleaned_after(&self, machine: MachineNo) -> Option<JobNo>
+        ensures { IsCleanedFor self.now.planned self.now.cell machine result }
+    {
+        if machine < self.cell.machine_count() {
+            self.cell.cleaned_after(machine)
         } else {
             None
         }

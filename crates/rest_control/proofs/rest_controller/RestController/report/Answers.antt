@@ -53,3 +53,6 @@ returns-in_err-check_report-clause-only_reason g c =
 
 pub returns-in_err-check_report-clause-possible : goal.returns-in_err-check_report-clause-possible
 returns-in_err-check_report-clause-possible g c = grind (arith, common_steps)
+
+pub returns-in_err-check_report-clause-never_refused : goal.returns-in_err-check_report-clause-never_refused
+returns-in_err-check_report-clause-never_refused g c = grind (arith, common_steps)
