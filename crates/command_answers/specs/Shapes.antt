@@ -1,9 +1,14 @@
 -- The line that answers `shape`.
-use Rattle.std.specs.Prelude.{◌≡◌, ℕ, List, ◌++◌, ◌⊎◌, codes}
+use Rattle.std.specs.Prelude.{◌≡◌, ℕ, List, ◌++◌, ◌⊎◌, Result, Ok, Err, codes}
 use Rattle.shop_base.specs.declared.shape_fault.ShapeFault.{ShapeFault}
 use Rattle.shop_base.specs.Plan.{PlannedShop, IsWellShaped}
 use Rattle.shop_base.specs.ShapeFault.{IsFirstShapeFault}
 use Rattle.command_answers.specs.declared.answer.Answer.{Answer}
+
+-- a well-shaped plan itself, or the first fault of its shape
+abbrev pub IsShapedOrNot : PlannedShop → Result PlannedShop ShapeFault → Type 0
+IsShapedOrNot p (Ok shaped) = (shaped ≡ p) × IsWellShaped p
+IsShapedOrNot p (Err fault) = IsFirstShapeFault p fault
 
 -- the line of a plan that is well shaped for its shop
 pub record IsShapedLine (p : PlannedShop) (answer : Answer) : Type 0 where

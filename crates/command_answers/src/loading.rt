@@ -5,6 +5,7 @@ ghost use Rattle.std.specs.Option.{option_copied};
 ghost use Rattle.shop_base.specs.Plan.{IsWellShaped};
 ghost use Rattle.command_answers.specs.Readings.{AreTextsAnswered};
 ghost use Rattle.command_answers.specs.Checks.{IsLoaded, accepted_in};
+ghost use Rattle.command_answers.specs.Shapes.{IsShapedOrNot};
 ghost use Rattle.command_answers.specs.Steps.{IsOrMemory};
 ghost use Rattle.command_answers.specs.Commands.{Loads};
 
@@ -14,7 +15,7 @@ use crate::command_fault::CommandFault;
 use crate::readings::{load_instance, load_plan};
 use crate::texts::Texts;
 use plan_verifier::{Verdict, Verified, verify};
-use shop_base::ShapeFault;
+use shop_base::{ShapeFault, Shaped};
 use std::alloc::Global;
 
 /// What is to be said of a plan for an instance.
@@ -46,6 +47,25 @@ pub fn load(alloc: Global, instance: &[u8], name: Option<&[u8]>, plan: &[u8]) ->
     let shop = load_instance(alloc, instance, name)?.shop;
     let plan = load_plan(alloc, plan)?;
     judged(alloc, Both { shop, plan })
+}
+
+/// The plan for an instance, both given as texts, if it is well shaped, else the first fault of its shape. Without a name the
+/// first text is one instance, else a collection with an instance of this name.
+pub fn load_shaped(
+    alloc: Global,
+    instance: &[u8],
+    name: Option<&[u8]>,
+    plan: &[u8],
+) -> Outcome<Result<Shaped, ShapeFault>>
+    ensures { AreTextsAnswered instance.now (option_copied name.entry) plan.now IsShapedOrNot result }
+{
+    let named = load_instance(alloc, instance, name)?;
+    let read = load_plan(alloc, plan)?;
+    let both = Both {
+        shop: named.shop,
+        plan: read,
+    };
+    Ok(both.shaped())
 }
 
 /// The verdict on the plan of a file for the instance of another.

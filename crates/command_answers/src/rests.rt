@@ -112,8 +112,8 @@ pub(crate) fn past_answer(alloc: Global, last: Moment) -> Result<Answer, AllocEr
     Ok(Answer { text, status })
 }
 
-/// What is answered for the rest from a cell and a present moment on.
-fn rest_told(
+/// What is answered for the rest from a cell and a present moment on: the text of the verdict on it, with its status.
+pub fn rest_told(
     alloc: Global,
     cell: &WorkCell<Shaped>,
     present: Moment,
