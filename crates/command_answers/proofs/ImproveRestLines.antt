@@ -2,6 +2,7 @@
 use Rattle.std.proofs.Common.{◌≡◌, ◌⊎◌, ◌<◌, ◌≤◌, ℕ, List, Option, Some, None, Result, Ok, Err, refl, sym, inl, inr, arith, subst}
 use Rattle.shop_base.specs.Plan.{PlannedShop}
 use Rattle.shop_base.specs.Cell.{Cell}
+use Rattle.shop_base.specs.Report.{IsNextMoment}
 use Rattle.shop_base.specs.Run.{ends_in}
 use Rattle.cell_tables.specs.Events.{events_of}
 use Rattle.shop_base.specs.declared.limits.TheConstants.{MAX_MOMENT}
@@ -17,10 +18,10 @@ use Rattle.plan_improve.specs.Reordered.{IsReordered}
 use Rattle.rest_times.specs.declared.rest_verdict.RestVerdict.{RestVerdict}
 use Rattle.rest_times.specs.declared.rest_verdict.RestVerdict.TheVariants.{Accepted, Cycle, Late}
 use Rattle.rest_times.specs.RestVerdicts.{IsAcceptableAhead, IsRestAccepted}
-use Rattle.rest_improve.specs.declared.rest_fault.RestFault.{RestFault}
-use Rattle.rest_improve.specs.declared.rest_fault.RestFault.TheVariants.{TooManyRounds, Log, Past, MomentTooLarge, Memory as WantOfMemory}
+use Rattle.rest_improve.specs.declared.improve_rest_fault.ImproveRestFault.{ImproveRestFault}
+use Rattle.rest_improve.specs.declared.improve_rest_fault.ImproveRestFault.TheVariants.{TooManyRounds, Log, Past, MomentTooLarge, Memory as WantOfMemory}
 use Rattle.rest_improve.specs.Costs.{IsCellOf}
-use Rattle.rest_improve.specs.Faults.{IsRestFault, IsMomentFault}
+use Rattle.rest_improve.specs.Faults.{IsImproveRestFault, IsMomentFault}
 use Rattle.rest_improve.specs.Improved.{HasNoBegin, IsFound, IsNeverWorse, IsVerdictOn, present_of}
 use Rattle.command_answers.specs.declared.answer.Answer.{Answer}
 use Rattle.command_answers.specs.declared.command_fault.CommandFault.{CommandFault}
@@ -61,25 +62,29 @@ never_large (Some n) last early is = omega (arith, is.1, early)
 module _ (made : RestAsked) (at : Option ℕ) (rounds : ℕ) (lines : List (List ℕ)) (start : PlannedShop) where
   -- the text of a plan whose rest was judged
   text_is : (c : Cell) (best : PlannedShop) (status : ℕ) (outcome : Result Answer CommandFault) → rounds ≤ MAX_ROUNDS → IsCellOf lines start c
-      → IsBestRest made lines (present_of at c.last) c start best → IsRestStatus best c (present_of at c.last) status → IsDocumentAnswer best.plan status outcome
-      → IsRestAnswer made at rounds lines start outcome
-  text_is c best status (Ok answer) few here is says text = inl (record {
-    few_rounds = few;
-    cell = c;
-    run = here;
-    best = best;
-    is = is;
-    text = record { line = text.line; read_back = text.read_back; ends = refl };
-    status = rw text.ends says;
-  })
-  text_is c best status (Err (Instance fault)) few here is says text = text
-  text_is c best status (Err Read) few here is says text = text
-  text_is c best status (Err Write) few here is says text = text
-  text_is c best status (Err InputTooLong) few here is says text = text
-  text_is c best status (Err (Plan fault)) few here is says text = (text.0, record { cell = c; run = here; best = best; is = is; unreadable = text.1 })
-  text_is c best status (Err Memory) few here is says text = tt
+      → IsNextMoment c (present_of at c.last) → IsBestRest made lines (present_of at c.last) c start best → IsRestStatus best c (present_of at c.last) status
+      → IsDocumentAnswer best.plan status outcome → IsRestAnswer made at rounds lines start outcome
+  text_is c best status (Ok answer) few here present is says text = inl (
+    few,
+    inl (record {
+      cell = c;
+      run = here;
+      present = present;
+      best = best;
+      is = is;
+      text = record { line = text.line; read_back = text.read_back; ends = refl };
+      status = rw text.ends says;
+    }),
+  )
+  text_is c best status (Err (Instance fault)) few here present is says text = text
+  text_is c best status (Err Read) few here present is says text = text
+  text_is c best status (Err Write) few here present is says text = text
+  text_is c best status (Err InputTooLong) few here present is says text = text
+  text_is c best status (Err (Plan fault)) few here present is says text = (text.0, few, record { cell = c; run = here; present = present; best = best; is = is; unreadable = text.1 })
+  text_is c best status (Err Memory) few here present is says text = tt
 
-  module _ (best : PlannedShop) (few : rounds ≤ MAX_ROUNDS) (same : IsReordered start best) (begun : TellRun start lines) (kept : TellRun best lines)
+  module _ (best : PlannedShop) (few : rounds ≤ MAX_ROUNDS) (same : IsReordered start best) (begun : TellRun start lines)
+      (present : (c : Cell) → IsCellOf lines start c → IsNextMoment c (present_of at c.last)) (kept : TellRun best lines)
       (acyclic : (HasCycle best → ⊥) ⊎ HasNoBegin lines start) (stays : HasNoBegin lines start → best ≡ start)
       (never_worse : (c : Cell) → IsCellOf lines start c → IsNeverWorse lines (present_of at c.last) start best)
       (found : (c : Cell) → IsCellOf lines start c → HasNoBegin lines start ⊎ IsFound (made lines (present_of at c.last)) lines start best) where
@@ -104,16 +109,27 @@ module _ (made : RestAsked) (at : Option ℕ) (rounds : ℕ) (lines : List (List
     judged_is (Accepted times) outcome judged accepted text =
         let (c, here) = cell_there lines start begun in
         let v = judged c here in
-        text_is c best 0 outcome few here (best_is c here v.accepted.1.acyclic (λ _. v.accepted.1)) (inl (v.accepted.1, refl)) text
+        text_is c best 0 outcome few here (present c here) (best_is c here v.accepted.1.acyclic (λ _. v.accepted.1)) (inl (v.accepted.1, refl)) text
     judged_is (Late job leaves chain times) outcome judged accepted text =
         let (c, here) = cell_there lines start begun in
         let v = judged c here in
-        text_is c best 1 outcome few here (best_is c here v.refused.0.acyclic (λ is. v.exact.0 (accepted c here is))) (inr ((λ is. v.exact.1 is), refl)) text
+        text_is c best 1 outcome few here (present c here) (best_is c here v.refused.0.acyclic (λ is. v.exact.0 (accepted c here is))) (inr ((λ is. v.exact.1 is), refl)) text
     judged_is (Cycle nodes) (Ok answer) judged accepted line =
         let (c, here) = cell_there lines start begun in
         let cycle : IsCycle best nodes.items = (judged c here).refused in
         let none : HasNoBegin lines start = elim acyclic [ inl free ↦ absurd (free (cycle_has best nodes.items cycle)) | inr is ↦ is ] in
-        inr (inl (record { none = none; nodes = nodes.items; cycle = subst (λ (x : PlannedShop). IsCycle x nodes.items) (stays none) cycle; line = line }))
+        inl (
+          few,
+          inr (inl (record {
+            cell = c;
+            run = here;
+            present = present c here;
+            none = none;
+            nodes = nodes.items;
+            cycle = subst (λ (x : PlannedShop). IsCycle x nodes.items) (stays none) cycle;
+            line = line;
+          })),
+        )
     judged_is (Cycle nodes) (Err fault) judged accepted line = subst (λ (x : CommandFault). IsRestAnswer made at rounds lines start (Err x)) (sym line) tt
 
   -- a line, or that memory ran out
@@ -123,19 +139,19 @@ module _ (made : RestAsked) (at : Option ℕ) (rounds : ℕ) (lines : List (List
   line_is IsLine (Err fault) each line = subst (λ (x : CommandFault). IsRestAnswer made at rounds lines start (Err x)) (sym line) tt
 
   -- what is told where no plan is given
-  pub unfound_is : (fault : RestFault) (outcome : Result Answer CommandFault) → IfSome at (λ n. n ≤ MAX_MOMENT) → IsRestFault lines at rounds start fault → IsUnfoundAnswer fault outcome
+  pub unfound_is : (fault : ImproveRestFault) (outcome : Result Answer CommandFault) → IfSome at (λ n. n ≤ MAX_MOMENT) → IsImproveRestFault lines at rounds start fault → IsUnfoundAnswer fault outcome
       → IsRestAnswer made at rounds lines start outcome
   unfound_is TooManyRounds outcome early why told =
-      line_is _ outcome (λ answer line. inr (inr (inr (inr (record { many_rounds = why; line = line.0; refused = line.1 }))))) told
+      line_is _ outcome (λ answer line. inr (record { many_rounds = why; line = line.0; refused = line.1 })) told
   unfound_is (Log fault) outcome early why told =
-      line_is (IsLogRefused start lines) outcome (λ answer line. inr (inr (inl line))) (refused_log start lines (IsLogRefused start lines) (λ answer line. line) fault outcome (audit_of start lines fault why.1) told)
+      line_is (IsLogRefused start lines) outcome (λ answer line. inl (why.0, inr (inr (inl line)))) (refused_log start lines (IsLogRefused start lines) (λ answer line. line) fault outcome (audit_of start lines fault why.1) told)
   unfound_is (Past last) outcome early why told =
       let before = past_given at why.1.0.last last why.1.2 in
-      line_is _ outcome (λ answer line. inr (inr (inr (inl (record { cell = why.1.0; run = why.1.1; before = before.0; line = subst (λ n. IsPastLine n answer) before.1 line }))))) told
+      line_is _ outcome (λ answer line. inl (why.0, inr (inr (inr (record { cell = why.1.0; run = why.1.1; before = before.0; line = subst (λ n. IsPastLine n answer) before.1 line }))))) told
   unfound_is MomentTooLarge outcome early why told = absurd (never_large at why.1.0.last early why.1.2)
   unfound_is WantOfMemory outcome early why told = subst (IsRestAnswer made at rounds lines start) (sym told) tt
 
-  pub not_large : (fault : RestFault) → IfSome at (λ n. n ≤ MAX_MOMENT) → IsRestFault lines at rounds start fault → fault ≡ MomentTooLarge → ⊥
+  pub not_large : (fault : ImproveRestFault) → IfSome at (λ n. n ≤ MAX_MOMENT) → IsImproveRestFault lines at rounds start fault → fault ≡ MomentTooLarge → ⊥
   not_large fault early why is =
-      let large : IsRestFault lines at rounds start MomentTooLarge = subst (IsRestFault lines at rounds start) is why in
+      let large : IsImproveRestFault lines at rounds start MomentTooLarge = subst (IsImproveRestFault lines at rounds start) is why in
       never_large at large.1.0.last early large.1.2

@@ -3,6 +3,7 @@ use Rattle.std.specs.Prelude.{◌≡◌, ◌<◌, ◌≤◌, ◌⊎◌, ℕ, Lis
 use Rattle.shop_base.specs.declared.node.Node.{Node}
 use Rattle.shop_base.specs.Plan.{PlannedShop}
 use Rattle.shop_base.specs.Cell.{Cell}
+use Rattle.shop_base.specs.Report.{IsNextMoment}
 use Rattle.alt_graph.specs.Evidence.{IsCycle}
 use Rattle.alt_graph.specs.Solved.{HasCycle}
 use Rattle.run_log.specs.Audits.{TellRun}
@@ -17,8 +18,8 @@ use Rattle.plan_improve.specs.Runs.{Asked}
 use Rattle.rest_times.specs.declared.rest_verdict.RestVerdict.{RestVerdict}
 use Rattle.rest_times.specs.declared.rest_verdict.RestVerdict.TheVariants.{Accepted, Cycle, Late}
 use Rattle.rest_times.specs.RestVerdicts.{IsAcceptableAhead}
-use Rattle.rest_improve.specs.declared.rest_fault.RestFault.{RestFault}
-use Rattle.rest_improve.specs.declared.rest_fault.RestFault.TheVariants.{TooManyRounds, Log, Past, MomentTooLarge, Memory as WantOfMemory}
+use Rattle.rest_improve.specs.declared.improve_rest_fault.ImproveRestFault.{ImproveRestFault}
+use Rattle.rest_improve.specs.declared.improve_rest_fault.ImproveRestFault.TheVariants.{TooManyRounds, Log, Past, MomentTooLarge, Memory as WantOfMemory}
 use Rattle.rest_improve.specs.Costs.{IsCellOf}
 use Rattle.rest_improve.specs.Runs.{Rounds}
 use Rattle.rest_improve.specs.Improved.{HasNoBegin, IsFound, IsNeverWorse, present_of}
@@ -52,12 +53,12 @@ pub record IsBestRest (made : RestAsked) (lines : List (List ℕ)) (t : ℕ) (c 
 abbrev pub IsRestStatus : PlannedShop → Cell → ℕ → ℕ → Type 0
 IsRestStatus best c t status = (IsAcceptableAhead best c t × (status ≡ 0)) ⊎ ((IsAcceptableAhead best c t → ⊥) × (status ≡ 1))
 
-module _ (made : RestAsked) (at : Option ℕ) (rounds : ℕ) (lines : List (List ℕ)) (start : PlannedShop) where
-  -- the text of the best plan for the rest from the cell of the log, after at most as many rounds as may be asked for
+module _ (made : RestAsked) (at : Option ℕ) (lines : List (List ℕ)) (start : PlannedShop) where
+  -- the text of the best plan for the rest from the cell of the log and a present moment on, which isn't before the last one
   pub record IsBestRestText (answer : Answer) : Type 0 where
-    pub few_rounds : rounds ≤ MAX_ROUNDS
     pub cell : Cell
     pub run : IsCellOf lines start cell
+    pub present : IsNextMoment cell (present_of at cell.last)
     pub best : PlannedShop
     pub is : IsBestRest made lines (present_of at cell.last) cell start best
     pub text : IsDocumentOf best.plan answer.status answer
@@ -67,6 +68,7 @@ module _ (made : RestAsked) (at : Option ℕ) (rounds : ℕ) (lines : List (List
   pub record IsBestRestUnreadable : Type 0 where
     pub cell : Cell
     pub run : IsCellOf lines start cell
+    pub present : IsNextMoment cell (present_of at cell.last)
     pub best : PlannedShop
     pub is : IsBestRest made lines (present_of at cell.last) cell start best
     pub unreadable : IsPlanText (plan_lines best.plan) best.plan → ⊥
@@ -75,8 +77,11 @@ module _ (made : RestAsked) (at : Option ℕ) (rounds : ℕ) (lines : List (List
 abbrev pub IsCycleLine : List Node → Answer → Type 0
 IsCycleLine nodes answer = (answer.text.items ≡ cycle_line nodes) × (answer.status ≡ 1)
 
--- the line of a plan with a cycle, where the lines tell an event
-pub record IsRestCycle (lines : List (List ℕ)) (start : PlannedShop) (answer : Answer) : Type 0 where
+-- the line of a plan with a cycle, where the lines tell a run with an event, and the present moment isn't before the last one
+pub record IsRestCycle (at : Option ℕ) (lines : List (List ℕ)) (start : PlannedShop) (answer : Answer) : Type 0 where
+  pub cell : Cell
+  pub run : IsCellOf lines start cell
+  pub present : IsNextMoment cell (present_of at cell.last)
   pub none : HasNoBegin lines start
   pub nodes : List Node
   pub cycle : IsCycle start nodes
@@ -89,12 +94,16 @@ pub record IsRestPast (at : Option ℕ) (lines : List (List ℕ)) (start : Plann
   pub before : present_of at cell.last < cell.last
   pub line : IsPastLine cell.last answer
 
--- what is answered of a plan that is well shaped: the text of the best plan; or a line, of a cycle, of the log's first fault, of a moment that is past, or of too many rounds; that the text isn't read as that plan; or that memory ran out
+-- what is answered after at most as many rounds as may be asked for: the text of the best plan; or a line, of a cycle, of the log's first fault, or of a moment that is past
+abbrev pub IsRestFound : RestAsked → Option ℕ → List (List ℕ) → PlannedShop → Answer → Type 0
+IsRestFound made at lines start answer =
+    IsBestRestText made at lines start answer ⊎ (IsRestCycle at lines start answer ⊎ (IsLogRefused start lines answer ⊎ IsRestPast at lines start answer))
+
+-- what is answered of a plan that is well shaped: that, or the line of too many rounds; that the text isn't read as the best plan; or that memory ran out
 abbrev pub IsRestAnswer : RestAsked → Option ℕ → ℕ → List (List ℕ) → PlannedShop → Result Answer CommandFault → Type 0
-IsRestAnswer made at rounds lines start (Ok answer) =
-    IsBestRestText made at rounds lines start answer ⊎ (IsRestCycle lines start answer ⊎ (IsLogRefused start lines answer ⊎ (IsRestPast at lines start answer ⊎ IsTooManyLine rounds answer)))
+IsRestAnswer made at rounds lines start (Ok answer) = ((rounds ≤ MAX_ROUNDS) × IsRestFound made at lines start answer) ⊎ IsTooManyLine rounds answer
 IsRestAnswer made at rounds lines start (Err Memory) = Unit {0}
-IsRestAnswer made at rounds lines start (Err (Plan fault)) = (fault ≡ NotReadBack) × IsBestRestUnreadable made at rounds lines start
+IsRestAnswer made at rounds lines start (Err (Plan fault)) = (fault ≡ NotReadBack) × (rounds ≤ MAX_ROUNDS) × IsBestRestUnreadable made at lines start
 IsRestAnswer made at rounds lines start (Err other) = ⊥
 
 -- what is answered of a plan with the verdict on its rest: its text, or the line of a cycle
@@ -104,12 +113,12 @@ IsJudgedAnswer best (Cycle nodes) outcome = IsOrMemory (IsCycleLine nodes.items)
 IsJudgedAnswer best (Late job leaves chain times) outcome = IsDocumentAnswer best.plan 1 outcome
 
 -- the fault of a command that the search's is, if memory ran out
-abbrev pub rest_command_fault : RestFault → Option CommandFault
+abbrev pub rest_command_fault : ImproveRestFault → Option CommandFault
 rest_command_fault WantOfMemory = Some Memory
 rest_command_fault fault = None
 
 -- what is answered where no plan is given
-abbrev pub IsUnfoundAnswer : RestFault → Result Answer CommandFault → Type 0
+abbrev pub IsUnfoundAnswer : ImproveRestFault → Result Answer CommandFault → Type 0
 IsUnfoundAnswer TooManyRounds outcome = IsOrMemory (λ answer. (answer.text.items ≡ codes "too many rounds\n") × (answer.status ≡ 1)) outcome
 IsUnfoundAnswer (Log fault) outcome = IsFaultTold fault outcome
 IsUnfoundAnswer (Past last) outcome = IsOrMemory (IsPastLine last) outcome

@@ -13,7 +13,7 @@ use orlib_read::OrFault;
 use plan_improve::ImproveFault;
 use plan_seek::SeekFault;
 use plan_text::PlanFault;
-use rest_improve::RestFault;
+use rest_improve::ImproveRestFault;
 use run_log::AuditFault;
 use std::alloc::AllocError;
 use std::io::{self, ErrorKind};
@@ -109,12 +109,12 @@ impl From<ImproveFault> for Unanswered {
     }
 }
 
-impl From<RestFault> for Unanswered {
+impl From<ImproveRestFault> for Unanswered {
     ghost from_gives = { λ told unanswered. unanswered.0 ≡ rest_command_fault told };
 
-    fn from(told: RestFault) -> Unanswered {
+    fn from(told: ImproveRestFault) -> Unanswered {
         match told {
-            RestFault::Memory => Unanswered(Some(CommandFault::Memory)),
+            ImproveRestFault::Memory => Unanswered(Some(CommandFault::Memory)),
             _ => Unanswered(None),
         }
     }

@@ -3,7 +3,7 @@
 ghost use Rattle.std.specs.Prelude.{◌≡◌, ◌≤◌, IfOk, IfSome, None};
 ghost use Rattle.shop_base.specs.declared.limits.TheConstants.{MAX_MOMENT};
 ghost use Rattle.text_lines.specs.Lines.{ended_lines};
-ghost use Rattle.rest_improve.specs.declared.rest_fault.RestFault.TheVariants.{MomentTooLarge};
+ghost use Rattle.rest_improve.specs.declared.improve_rest_fault.ImproveRestFault.TheVariants.{MomentTooLarge};
 ghost use Rattle.command_answers.specs.ImprovingRests.{RestRoundsOf, IsRestAnswer, IsJudgedAnswer, IsUnfoundAnswer, IsCycleLine, rest_command_fault};
 ghost use Rattle.command_answers.specs.Commands.{RunsImproveRest, WithRest};
 
@@ -18,7 +18,7 @@ use crate::shapes::not_shaped_answer;
 use crate::texts::Texts;
 use plan_explain::push_cycle_line;
 use plan_improve::Watch;
-use rest_improve::{Improved, RestFault, RestImprover, improve_after};
+use rest_improve::{ImproveRestFault, Improved, RestImprover, improve_after};
 use rest_times::RestVerdict;
 use shop_base::{Moment, Node, Shaped};
 use std::alloc::{AllocError, Global};
@@ -114,7 +114,7 @@ fn cycle_answer(alloc: Global, nodes: &[Node]) -> Result<Answer, AllocError>
 }
 
 /// What is answered if no plan is given, unless memory ran out.
-fn unfound_answer(alloc: Global, fault: RestFault) -> Answered
+fn unfound_answer(alloc: Global, fault: ImproveRestFault) -> Answered
     requires { fault ≡ MomentTooLarge → ⊥ }
     ensures { IsUnfoundAnswer fault result }
 {
@@ -125,16 +125,16 @@ fn unfound_answer(alloc: Global, fault: RestFault) -> Answered
 }
 
 /// The line that says why no plan is given.
-fn refused_answer(alloc: Global, fault: RestFault) -> Answered
+fn refused_answer(alloc: Global, fault: ImproveRestFault) -> Answered
     requires moment { fault ≡ MomentTooLarge → ⊥ }
     requires memory { rest_command_fault fault ≡ None }
     ensures { IsUnfoundAnswer fault result }
 {
     match fault {
-        RestFault::TooManyRounds => Ok(line_answer(alloc, b"too many rounds\n", REFUSED)?),
-        RestFault::Log(fault) => fault_told(alloc, fault),
-        RestFault::Past { last } => Ok(past_answer(alloc, last)?),
-        RestFault::MomentTooLarge => unreachable!(),
-        RestFault::Memory => unreachable!(),
+        ImproveRestFault::TooManyRounds => Ok(line_answer(alloc, b"too many rounds\n", REFUSED)?),
+        ImproveRestFault::Log(fault) => fault_told(alloc, fault),
+        ImproveRestFault::Past { last } => Ok(past_answer(alloc, last)?),
+        ImproveRestFault::MomentTooLarge => unreachable!(),
+        ImproveRestFault::Memory => unreachable!(),
     }
 }

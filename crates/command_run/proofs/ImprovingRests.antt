@@ -31,18 +31,25 @@ module _ (made more : RestAsked) (less : (lines : List (List ℕ)) (t : ℕ) (p 
   }
 
   answer_more : (lines : List (List ℕ)) (start : PlannedShop) (outcome : Result Answer CommandFault) → IsRestAnswer made at rounds lines start outcome → IsRestAnswer more at rounds lines start outcome
-  answer_more lines start (Ok answer) (inl text) = inl (record {
-    few_rounds = text.few_rounds;
-    cell = text.cell;
-    run = text.run;
-    best = text.best;
-    is = best_more lines _ text.cell start text.best text.is;
-    text = text.text;
-    status = text.status;
-  })
+  answer_more lines start (Ok answer) (inl (few, inl text)) = inl (
+    few,
+    inl (record {
+      cell = text.cell;
+      run = text.run;
+      present = text.present;
+      best = text.best;
+      is = best_more lines _ text.cell start text.best text.is;
+      text = text.text;
+      status = text.status;
+    }),
+  )
+  answer_more lines start (Ok answer) (inl (few, inr line)) = inl (few, inr line)
   answer_more lines start (Ok answer) (inr line) = inr line
-  answer_more lines start (Err (Plan fault)) is =
-      (is.0, record { cell = is.1.cell; run = is.1.run; best = is.1.best; is = best_more lines _ is.1.cell start is.1.best is.1.is; unreadable = is.1.unreadable })
+  answer_more lines start (Err (Plan fault)) (is, few, text) = (
+    is,
+    few,
+    record { cell = text.cell; run = text.run; present = text.present; best = text.best; is = best_more lines _ text.cell start text.best text.is; unreadable = text.unreadable },
+  )
   answer_more lines start (Err Memory) is = is
   answer_more lines start (Err (Instance fault)) is = is
   answer_more lines start (Err Read) is = is

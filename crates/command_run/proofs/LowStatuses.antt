@@ -153,14 +153,14 @@ low_best made rounds start (Err fault) is = tt
 
 low_rest_answer : (made : RestAsked) (at : Option ℕ) (rounds : ℕ) (lines : List (List ℕ)) (start : PlannedShop) (outcome : Result Answer CommandFault)
     → IsRestAnswer made at rounds lines start outcome → IsLow outcome
-low_rest_answer made at rounds lines start (Ok answer) (inl text) = elim text.status [
+low_rest_answer made at rounds lines start (Ok answer) (inl (few, inl text)) = elim text.status [
   | inl good ↦ zero_low answer.status good.1
   | inr late ↦ one_low answer.status late.1
 ]
-low_rest_answer made at rounds lines start (Ok answer) (inr (inl cycle)) = one_low answer.status cycle.line.1
-low_rest_answer made at rounds lines start (Ok answer) (inr (inr (inl refused))) = one_low answer.status refused.line.1
-low_rest_answer made at rounds lines start (Ok answer) (inr (inr (inr (inl past)))) = one_low answer.status past.line.1
-low_rest_answer made at rounds lines start (Ok answer) (inr (inr (inr (inr many)))) = one_low answer.status many.refused
+low_rest_answer made at rounds lines start (Ok answer) (inl (few, inr (inl cycle))) = one_low answer.status cycle.line.1
+low_rest_answer made at rounds lines start (Ok answer) (inl (few, inr (inr (inl refused)))) = one_low answer.status refused.line.1
+low_rest_answer made at rounds lines start (Ok answer) (inl (few, inr (inr (inr past)))) = one_low answer.status past.line.1
+low_rest_answer made at rounds lines start (Ok answer) (inr many) = one_low answer.status many.refused
 low_rest_answer made at rounds lines start (Err fault) is = tt
 
 low_improved : (made : Asked) (rounds : ℕ) (start : PlannedShop) (outcome : Result Answer CommandFault) → IsImproveAnswer made rounds start outcome → IsLow outcome

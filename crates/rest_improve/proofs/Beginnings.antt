@@ -14,10 +14,12 @@ use Rattle.plan_seek.specs.Orders.{serial_order}
 use Rattle.plan_seek.specs.declared.search.TheConstants.{MAX_ROUNDS}
 use Rattle.plan_improve.specs.Reordered.{reordered}
 use Rattle.plan_improve.proofs.Serially.{serial_acyclic}
-use Rattle.rest_improve.specs.Faults.{log_fault, IsBeginFault, IsRestFault}
-use Rattle.rest_improve.specs.declared.rest_fault.RestFault.{RestFault}
-use Rattle.rest_improve.specs.declared.rest_fault.RestFault.TheVariants.{Memory as WantOfMemory}
-use Rattle.rest_improve.specs.Keeping.{HasNoCost, IsSet}
+use Rattle.rest_improve.specs.Costs.{IsCellOf}
+use Rattle.rest_improve.specs.Improved.{present_of}
+use Rattle.rest_improve.specs.Faults.{log_fault, IsBeginFault, IsImproveRestFault}
+use Rattle.rest_improve.specs.declared.improve_rest_fault.ImproveRestFault.{ImproveRestFault}
+use Rattle.rest_improve.specs.declared.improve_rest_fault.ImproveRestFault.TheVariants.{Memory as WantOfMemory}
+use Rattle.rest_improve.specs.Keeping.{HasNoCost, IsSet, IsSetAt}
 use Rattle.rest_improve.proofs.OneCell.{tell_same, cell_once}
 
 -- a plan without a cost of which the log tells a run has a cycle
@@ -45,15 +47,20 @@ event_told lines p (e ∷ es) n tells is = (
 )
 
 -- out of memory is why no plan is given
-pub memory_rest : {A : Type 0} (lines : List (List ℕ)) (at : Option ℕ) (rounds : ℕ) (p : PlannedShop) (r : Result A RestFault) → rounds ≤ MAX_ROUNDS
-    → IfErr r (λ fault. fault ≡ WantOfMemory) → IfErr r (IsRestFault lines at rounds p)
+pub memory_rest : {A : Type 0} (lines : List (List ℕ)) (at : Option ℕ) (rounds : ℕ) (p : PlannedShop) (r : Result A ImproveRestFault) → rounds ≤ MAX_ROUNDS
+    → IfErr r (λ fault. fault ≡ WantOfMemory) → IfErr r (IsImproveRestFault lines at rounds p)
 memory_rest lines at rounds p (Ok found) few is = tt
-memory_rest lines at rounds p (Err fault) few is = subst (IsRestFault lines at rounds p) (sym is) (few, tt)
+memory_rest lines at rounds p (Err fault) few is = subst (IsImproveRestFault lines at rounds p) (sym is) (few, tt)
 
 -- the present moment can be the next after the run that the lines tell by the plan
 pub set_next : (lines : List (List ℕ)) (t : ℕ) (p : PlannedShop) (c : Cell) (told : List Entry) → IsSet lines t p → LinesTell p lines told → IsTold p c told → IsNextMoment c t
 set_next lines t p c told set tells run =
     subst (λ (x : Cell). IsNextMoment x t) (cell_once lines p set.0 c set.1 (record { told = told; tells = tells; run = run })) set.2
+
+-- it is told by each cell of the log
+pub present_next : (lines : List (List ℕ)) (at : Option ℕ) (t : ℕ) (p : PlannedShop) → IsSetAt lines at p t → (c : Cell) → IsCellOf lines p c → IsNextMoment c (present_of at c.last)
+present_next lines at t p set c here =
+    subst (λ (x : Cell). IsNextMoment x (present_of at x.last)) (cell_once lines p set.0 c set.1 here) (subst (IsNextMoment set.0) set.3 set.2)
 
 -- the fault of a log is one of the beginning
 pub log_begin : (lines : List (List ℕ)) (at : Option ℕ) (p : PlannedShop) (fault : AuditFault) → IsAuditFault p lines fault → IsBeginFault lines at p (log_fault fault)

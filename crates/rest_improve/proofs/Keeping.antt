@@ -17,8 +17,8 @@ use Rattle.plan_improve.specs.Reordered.{reordered, IsReordered}
 use Rattle.plan_improve.specs.Watching.{Told, IsToldMore}
 use Rattle.plan_improve.proofs.Keeping.{reordered_on, most_of_most, less_is, less_than, not_both, most_same, most_less, told_nothing, told_on}
 use Rattle.rest_improve.specs.declared.best.Best.{Best}
-use Rattle.rest_improve.specs.declared.rest_fault.RestFault.{RestFault}
-use Rattle.rest_improve.specs.declared.rest_fault.RestFault.TheVariants.{Memory as WantOfMemory}
+use Rattle.rest_improve.specs.declared.improve_rest_fault.ImproveRestFault.{ImproveRestFault}
+use Rattle.rest_improve.specs.declared.improve_rest_fault.ImproveRestFault.TheVariants.{Memory as WantOfMemory}
 use Rattle.rest_improve.specs.Costs.{IsCostFrom, IsRestCost, IsBetter}
 use Rattle.rest_improve.specs.Runs.{Becomes, no_answer, no_better, better, AfterSome, nobody, one_more, AfterRounds, no_round, round_more}
 use Rattle.rest_improve.specs.Keeping.{HasNoCost, IsNoRun, IsNext, IsNextOf, IsLast, IsLastTold}
@@ -26,7 +26,7 @@ use Rattle.rest_improve.proofs.OneCell.{tells_run}
 use Rattle.rest_improve.proofs.RestCosts.{same_late, same_makespan}
 
 -- no cost, since the log tells no run of the plan
-pub no_run_answer : (lines : List (List ℕ)) (t : ℕ) (p : PlannedShop) (fault : AuditFault) (r : Result (Option Cost) RestFault) → IsNoRun fault r → (TellRun p lines → fault ≡ Memory)
+pub no_run_answer : (lines : List (List ℕ)) (t : ℕ) (p : PlannedShop) (fault : AuditFault) (r : Result (Option Cost) ImproveRestFault) → IsNoRun fault r → (TellRun p lines → fault ≡ Memory)
     → IfOk r (λ cost. MatchOption cost (HasNoCost lines p) (IsRestCost lines t p))
 no_run_answer lines t p Memory r is only = rw is tt
 no_run_answer lines t p (BadLine n) r is only = rw is (inl (λ run. let same = only run in cc))
@@ -38,7 +38,7 @@ no_run_answer lines t p (NotClean n) r is only = rw is (inl (λ run. let same = 
 no_run_answer lines t p (OutOfOrder n) r is only = rw is (inl (λ run. let same = only run in cc))
 no_run_answer lines t p (WrongPlace n) r is only = rw is (inl (λ run. let same = only run in cc))
 
-pub no_run_memory : (fault : AuditFault) (r : Result (Option Cost) RestFault) → IsNoRun fault r → IfErr r (λ why. why ≡ WantOfMemory)
+pub no_run_memory : (fault : AuditFault) (r : Result (Option Cost) ImproveRestFault) → IsNoRun fault r → IfErr r (λ why. why ≡ WantOfMemory)
 no_run_memory Memory r is = rw is refl
 no_run_memory (BadLine n) r is = rw is tt
 no_run_memory (NotExpected n) r is = rw is tt

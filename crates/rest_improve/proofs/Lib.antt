@@ -1,5 +1,6 @@
 pub mod OneCell
 pub mod RestCosts
+pub mod Rests
 pub mod Soon
 pub mod Keeping
 pub mod Beginnings

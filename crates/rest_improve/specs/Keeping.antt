@@ -11,6 +11,7 @@ use Rattle.alt_graph.specs.Times.{NodeTimes, earliest_of}
 use Rattle.run_log.specs.Audits.{TellRun}
 use Rattle.run_log.specs.declared.audit_fault.AuditFault.{AuditFault}
 use Rattle.run_log.specs.declared.audit_fault.AuditFault.TheVariants.{Memory as WantOfMemory}
+use Rattle.plan_annealing.specs.declared.rest.Rest.{Rest}
 use Rattle.plan_seek.specs.Orders.{Proposal}
 use Rattle.plan_improve.specs.declared.cost.Cost.{Cost}
 use Rattle.plan_improve.specs.Costs.{IsLess, IsAtMost}
@@ -21,9 +22,10 @@ use Rattle.rest_improve.specs.declared.best.Best.{Best}
 use Rattle.rest_improve.specs.declared.beginning.First.{First}
 use Rattle.rest_improve.specs.declared.beginning.First.TheVariants.{Begins, Stays}
 use Rattle.rest_improve.specs.declared.improved.Improved.{Improved}
-use Rattle.rest_improve.specs.declared.rest_fault.RestFault.{RestFault}
-use Rattle.rest_improve.specs.declared.rest_fault.RestFault.TheVariants.{Memory}
+use Rattle.rest_improve.specs.declared.improve_rest_fault.ImproveRestFault.{ImproveRestFault}
+use Rattle.rest_improve.specs.declared.improve_rest_fault.ImproveRestFault.TheVariants.{Memory}
 use Rattle.rest_improve.specs.Costs.{IsCellOf, IsRestCost, IsNoWorse}
+use Rattle.rest_improve.specs.RestOf.{IsRestOf}
 use Rattle.rest_improve.specs.Runs.{Becomes}
 use Rattle.rest_improve.specs.Improved.{IsBegin, HasNoBegin, IsVerdictOn, present_of}
 
@@ -43,7 +45,7 @@ abbrev pub LeaveSoon : PlannedShop → Cell → (Node → ℕ) → Type 0
 LeaveSoon p c kept = (j : ℕ) → j < jobs p → (IsGone p c j → ⊥) → kept (leaving p j) ≤ the_last_leaving
 
 -- a fault of the log: out of memory is one here too, and by any other there is no cost
-abbrev pub IsNoRun : AuditFault → Result (Option Cost) RestFault → Type 0
+abbrev pub IsNoRun : AuditFault → Result (Option Cost) ImproveRestFault → Type 0
 IsNoRun WantOfMemory outcome = outcome ≡ Err Memory
 IsNoRun fault outcome = outcome ≡ Ok None
 
@@ -59,6 +61,10 @@ module _ (lines : List (List ℕ)) where
   -- it is the one that is given, or else the last one
   abbrev pub IsSetAt : Option ℕ → PlannedShop → ℕ → Type 0
   IsSetAt at p t = (c : Cell) × IsCellOf lines p c × IsNextMoment c t × (t ≡ present_of at c.last)
+
+  -- this is left of the plan from their cell and the present moment t on
+  abbrev pub IsRestAt : PlannedShop → ℕ → Rest → Type 0
+  IsRestAt p t rest = (c : Cell) × IsCellOf lines p c × IsRestOf p c t rest
 
 module _ (lines : List (List ℕ)) (t : ℕ) where
   -- this is the cost if there is one that is less than the bound; else there is none

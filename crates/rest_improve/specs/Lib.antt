@@ -5,4 +5,5 @@ pub mod Improved
 pub mod Faults
 pub mod Laws
 -- Of proofs and private contracts alone.
+pub mod RestOf
 pub mod Keeping

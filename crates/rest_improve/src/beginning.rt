@@ -6,13 +6,13 @@ ghost use Rattle.text_lines.specs.Lines.{ended_lines};
 ghost use Rattle.event_lines.specs.LogLines.{LinesTell};
 ghost use Rattle.run_log.specs.Audits.{TellRun};
 ghost use Rattle.alt_graph.specs.Solved.{HasCycle};
-ghost use Rattle.rest_improve.specs.declared.rest_fault.RestFault.TheVariants.{Memory};
+ghost use Rattle.rest_improve.specs.declared.improve_rest_fault.ImproveRestFault.TheVariants.{Memory};
 ghost use Rattle.rest_improve.specs.Keeping.{IsFirst};
 
 use crate::begun::Begun;
 use crate::best::Best;
 use crate::costing::cost_after;
-use crate::rest_fault::RestFault;
+use crate::improve_rest_fault::ImproveRestFault;
 use plan_improve::put_back;
 use plan_seek::serial_orders;
 use shop_base::Shaped;
@@ -33,7 +33,7 @@ pub(crate) fn first_plan(
     start: Shaped,
     log: &[u8],
     begun: &Begun,
-) -> Result<First, RestFault>
+) -> Result<First, ImproveRestFault>
     requires tells { TellRun start (ended_lines log.now) }
     requires event { (begun.now.has_event ≡ false) ↔ LinesTell start (ended_lines log.now) [] }
     requires early { begun.now.present ≤ MAX_MOMENT }
@@ -55,7 +55,7 @@ fn first_serially(
     start: Shaped,
     log: &[u8],
     begun: &Begun,
-) -> Result<First, RestFault>
+) -> Result<First, ImproveRestFault>
     requires cycle { HasCycle start }
     requires event { (begun.now.has_event ≡ false) ↔ LinesTell start (ended_lines log.now) [] }
     requires early { begun.now.present ≤ MAX_MOMENT }

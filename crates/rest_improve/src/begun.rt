@@ -5,9 +5,9 @@ ghost use Rattle.shop_base.specs.declared.limits.TheConstants.{MAX_MOMENT};
 ghost use Rattle.text_lines.specs.Lines.{ended_lines};
 ghost use Rattle.event_lines.specs.LogLines.{LinesTell};
 ghost use Rattle.rest_improve.specs.Faults.{IsMomentFault, IsBeginFault};
-ghost use Rattle.rest_improve.specs.Keeping.{IsPresent, IsSetAt};
+ghost use Rattle.rest_improve.specs.Keeping.{IsPresent, IsRestAt, IsSetAt};
 
-use crate::rest_fault::RestFault;
+use crate::improve_rest_fault::ImproveRestFault;
 use crate::rest_of_cell::rest_of;
 use plan_annealing::Rest;
 use run_log::run_of_log;
@@ -30,8 +30,9 @@ pub(crate) fn begun_at(
     start: &Shaped,
     log: &[u8],
     at: Option<Moment>,
-) -> Result<Begun, RestFault>
+) -> Result<Begun, ImproveRestFault>
     ensures set { IfOk result (λ begun. IsSetAt (ended_lines log.now) at start.now begun.present) }
+    ensures rest { IfOk result (λ begun. IsRestAt (ended_lines log.now) start.now begun.present begun.rest) }
     ensures event { IfOk result (λ begun. (begun.has_event ≡ false) ↔ LinesTell start.now (ended_lines log.now) []) }
     ensures refused { IfErr result (IsBeginFault (ended_lines log.now) at start.now) }
 {
@@ -48,7 +49,7 @@ pub(crate) fn begun_at(
 }
 
 /// The moment that is given, if it can be the present one after the last, or else the last one.
-fn present_moment(at: Option<Moment>, last: Moment) -> Result<Moment, RestFault>
+fn present_moment(at: Option<Moment>, last: Moment) -> Result<Moment, ImproveRestFault>
     requires { last ≤ MAX_MOMENT }
     ensures present { IfOk result (IsPresent at last) }
     ensures refused { IfErr result (IsMomentFault at last) }
@@ -57,10 +58,10 @@ fn present_moment(at: Option<Moment>, last: Moment) -> Result<Moment, RestFault>
         return Ok(last);
     };
     if at < last {
-        return Err(RestFault::Past { last });
+        return Err(ImproveRestFault::Past { last });
     }
     if at > MAX_MOMENT {
-        return Err(RestFault::MomentTooLarge);
+        return Err(ImproveRestFault::MomentTooLarge);
     }
     Ok(at)
 }

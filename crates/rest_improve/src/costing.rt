@@ -9,11 +9,11 @@ ghost use Rattle.text_lines.specs.Lines.{ended_lines};
 ghost use Rattle.alt_graph.specs.Solved.{HasCycle};
 ghost use Rattle.alt_graph.specs.Times.{AreRanks, earliest_of};
 ghost use Rattle.rest_times.specs.Leavings.{IsMakespanAfter};
-ghost use Rattle.rest_improve.specs.declared.rest_fault.RestFault.TheVariants.{Memory};
+ghost use Rattle.rest_improve.specs.declared.improve_rest_fault.ImproveRestFault.TheVariants.{Memory};
 ghost use Rattle.rest_improve.specs.Costs.{IsCostFrom, IsRestCost, late_by};
 ghost use Rattle.rest_improve.specs.Keeping.{HasNoCost, IsNoRun, IsCostBelow, LeaveSoon, leaves_in, the_last_leaving};
 
-use crate::rest_fault::RestFault;
+use crate::improve_rest_fault::ImproveRestFault;
 use alt_graph::{Solved, Times};
 use cell_tables::WorkCell;
 use plan_improve::Cost;
@@ -29,7 +29,7 @@ pub(crate) fn cost_after(
     shaped: &Shaped,
     log: &[u8],
     present: Moment,
-) -> Result<Option<Cost>, RestFault>
+) -> Result<Option<Cost>, ImproveRestFault>
     requires { present ≤ MAX_MOMENT }
     ensures cost { IfOk result (λ cost.
         MatchOption cost (HasNoCost (ended_lines log.now) shaped.now) (IsRestCost (ended_lines log.now) present shaped.now)) }
@@ -48,7 +48,7 @@ pub(crate) fn cost_below(
     log: &[u8],
     present: Moment,
     bound: &Cost,
-) -> Result<Option<Cost>, RestFault>
+) -> Result<Option<Cost>, ImproveRestFault>
     requires { present ≤ MAX_MOMENT }
     ensures below { IfOk result (IsCostBelow (ended_lines log.now) present shaped.now bound.now) }
     ensures memory { IfErr result (λ fault. fault ≡ Memory) }
@@ -66,11 +66,11 @@ pub(crate) fn cost_below(
 }
 
 /// No cost, if the log records no run of the plan.
-fn no_run(fault: AuditFault) -> Result<Option<Cost>, RestFault>
+fn no_run(fault: AuditFault) -> Result<Option<Cost>, ImproveRestFault>
     ensures { IsNoRun fault result }
 {
     match fault {
-        AuditFault::Memory => Err(RestFault::from(fault)),
+        AuditFault::Memory => Err(ImproveRestFault::from(fault)),
         _ => Ok(None),
     }
 }

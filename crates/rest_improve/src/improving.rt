@@ -2,14 +2,15 @@
 
 ghost use Rattle.std.specs.Prelude.{◌≡◌, ◌≤◌, ◌↔◌, ◌⊎◌, false, [], OnOk, IfOk, IfErr};
 ghost use Rattle.shop_base.specs.Cell.{Cell};
+ghost use Rattle.shop_base.specs.Report.{IsNextMoment};
 ghost use Rattle.text_lines.specs.Lines.{ended_lines};
 ghost use Rattle.event_lines.specs.LogLines.{LinesTell};
 ghost use Rattle.run_log.specs.Audits.{TellRun};
 ghost use Rattle.alt_graph.specs.Solved.{HasCycle};
 ghost use Rattle.rest_times.specs.RestVerdicts.{IsAcceptableAhead, IsRestAccepted};
 ghost use Rattle.plan_improve.specs.Reordered.{IsReordered};
-ghost use Rattle.rest_improve.specs.declared.rest_fault.RestFault.TheVariants.{Memory};
-ghost use Rattle.rest_improve.specs.Faults.{IsRestFault};
+ghost use Rattle.rest_improve.specs.declared.improve_rest_fault.ImproveRestFault.TheVariants.{Memory};
+ghost use Rattle.rest_improve.specs.Faults.{IsImproveRestFault};
 ghost use Rattle.rest_improve.specs.Costs.{IsCellOf};
 ghost use Rattle.rest_improve.specs.Runs.{AfterRounds, Rounds};
 ghost use Rattle.rest_improve.specs.Improved.{HasNoBegin, IsNeverWorse, IsFound, IsFoundTold, IsVerdictOn, present_of};
@@ -18,8 +19,8 @@ ghost use Rattle.rest_improve.specs.Keeping.{IsSet, IsImprovedTold, IsJudgedOn};
 use crate::beginning::{First, first_plan};
 use crate::begun::{Begun, begun_at};
 use crate::best::Best;
+use crate::improve_rest_fault::ImproveRestFault;
 use crate::improved::Improved;
-use crate::rest_fault::RestFault;
 use crate::rest_improver::RestImprover;
 use crate::rounds::ask_in_rounds;
 use plan_improve::{MAX_ROUNDS, Watch};
@@ -45,9 +46,10 @@ pub fn improve_after<W: Watch>(
     improvers: &[Box<dyn RestImprover>],
     rounds: u32,
     watch: &mut W,
-) -> Result<Improved, RestFault>
+) -> Result<Improved, ImproveRestFault>
     ensures same { IfOk result (λ found. IsReordered start found.shaped) }
     ensures begun { IfOk result (λ found. TellRun start (ended_lines log.now)) }
+    ensures present { IfOk result (λ found. (c : Cell) → IsCellOf (ended_lines log.now) start c → IsNextMoment c (present_of at c.last)) }
     ensures kept { IfOk result (λ found. TellRun found.shaped (ended_lines log.now)) }
     ensures stays { IfOk result (λ found. HasNoBegin (ended_lines log.now) start → found.shaped ≡ start) }
     ensures acyclic { IfOk result (λ found. (HasCycle found.shaped → ⊥) ⊎ HasNoBegin (ended_lines log.now) start) }
@@ -63,10 +65,10 @@ pub fn improve_after<W: Watch>(
     ensures stays_accepted { IfOk result (λ found. (c : Cell) → IsCellOf (ended_lines log.now) start c
         → IsAcceptableAhead start c (present_of at c.last) → IsRestAccepted found.verdict) }
     ensures few_rounds { OnOk result (rounds ≤ MAX_ROUNDS) }
-    ensures refused { IfErr result (IsRestFault (ended_lines log.now) at rounds start) }
+    ensures refused { IfErr result (IsImproveRestFault (ended_lines log.now) at rounds start) }
 {
     if rounds > MAX_ROUNDS {
-        return Err(RestFault::TooManyRounds);
+        return Err(ImproveRestFault::TooManyRounds);
     }
     let begun = begun_at(alloc, &start, log, at)?;
     improve_from(alloc, start, log, &begun, improvers, rounds, watch)
@@ -81,7 +83,7 @@ fn improve_from<W: Watch>(
     improvers: &[Box<dyn RestImprover>],
     rounds: u32,
     watch: &mut W,
-) -> Result<Improved, RestFault>
+) -> Result<Improved, ImproveRestFault>
     requires set { IsSet (ended_lines log.now) begun.now.present start }
     requires event { (begun.now.has_event ≡ false) ↔ LinesTell start (ended_lines log.now) [] }
     ensures improved { IfOk result (IsImprovedTold (ended_lines log.now) begun.now.present (W.told watch.old) (W.told watch.new)
@@ -99,7 +101,12 @@ fn improve_from<W: Watch>(
 }
 
 /// The plan, with the verdict on the rest of the run that the log records by it.
-fn judged(alloc: Global, shaped: Shaped, log: &[u8], present: Moment) -> Result<Improved, RestFault>
+fn judged(
+    alloc: Global,
+    shaped: Shaped,
+    log: &[u8],
+    present: Moment,
+) -> Result<Improved, ImproveRestFault>
     requires { IsSet (ended_lines log.now) present shaped }
     ensures judged { IfOk result (IsJudgedOn (ended_lines log.now) present shaped) }
     ensures memory { IfErr result (λ fault. fault ≡ Memory) }

@@ -4,13 +4,13 @@ ghost use Rattle.std.specs.Prelude.{◌≡◌, ◌≤◌, IfOk, IfErr, Some};
 ghost use Rattle.shop_base.specs.declared.limits.TheConstants.{MAX_MOMENT};
 ghost use Rattle.shop_base.specs.Vectors.{lists_of};
 ghost use Rattle.text_lines.specs.Lines.{ended_lines};
-ghost use Rattle.rest_improve.specs.declared.rest_fault.RestFault.TheVariants.{Memory};
+ghost use Rattle.rest_improve.specs.declared.improve_rest_fault.ImproveRestFault.TheVariants.{Memory};
 ghost use Rattle.rest_improve.specs.Costs.{IsRestCost};
 ghost use Rattle.rest_improve.specs.Keeping.{IsNext};
 
 use crate::best::Best;
 use crate::costing::cost_below;
-use crate::rest_fault::RestFault;
+use crate::improve_rest_fault::ImproveRestFault;
 use plan_improve::{Replaced, put_back, replace};
 use shop_base::{JobNo, Moment};
 use std::alloc::Global;
@@ -22,7 +22,7 @@ pub(crate) fn judge_orders(
     order: Vec<Vec<JobNo>>,
     log: &[u8],
     present: Moment,
-) -> Result<Best, RestFault>
+) -> Result<Best, ImproveRestFault>
     requires cost { IsRestCost (ended_lines log.now) present best.shaped best.cost }
     requires early { present ≤ MAX_MOMENT }
     ensures judged { IfOk result (IsNext (ended_lines log.now) present best.shaped best.cost (Some (lists_of order.items))) }

@@ -1,7 +1,8 @@
 //! What a run has left of its plan.
 
-ghost use Rattle.std.specs.Prelude.{◌<◌};
+ghost use Rattle.std.specs.Prelude.{◌≡◌, ◌<◌, IfOk};
 ghost use Rattle.shop_base.specs.Plan.{jobs};
+ghost use Rattle.rest_improve.specs.RestOf.{IsRestOf, job_rest};
 
 use cell_tables::WorkCell;
 use plan_annealing::{JobRest, Rest};
@@ -13,7 +14,9 @@ pub(crate) fn rest_of<P: Planned>(
     alloc: Global,
     cell: &WorkCell<P>,
     present: Moment,
-) -> Result<Rest, AllocError> {
+) -> Result<Rest, AllocError>
+    ensures { IfOk result (IsRestOf cell.now.plan cell.now.cell present) }
+{
     let mut jobs = Vec::new(alloc);
     for job in 0..cell.job_count() {
         jobs.push(job_rest(cell, present, job))?;
@@ -28,13 +31,14 @@ pub(crate) fn rest_of<P: Planned>(
 /// How the job goes on: not before the present moment, and not before what goes on with it is due.
 fn job_rest<P: Planned>(cell: &WorkCell<P>, present: Moment, job: JobNo) -> JobRest
     requires { job < jobs cell.now.plan }
+    ensures { result ≡ job_rest cell.now.plan cell.now.cell present job }
 {
     let state = cell.job_state(job);
     let bound = if cell.step_count(job) < state.made {
         state.since
     } else {
         match cell.job_due(job) {
-            Some(due) => due.max(present),
+            Some(due) => present.max(due),
             None => present,
         }
     };

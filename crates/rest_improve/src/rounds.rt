@@ -4,15 +4,15 @@ ghost use Rattle.std.specs.Prelude.{◌≡◌, ◌≤◌, length, IfOk, IfErr};
 ghost use Rattle.shop_base.specs.declared.limits.TheConstants.{MAX_MOMENT};
 ghost use Rattle.text_lines.specs.Lines.{ended_lines};
 ghost use Rattle.plan_seek.specs.Orders.{proposal_of};
-ghost use Rattle.rest_improve.specs.declared.rest_fault.RestFault.TheVariants.{Memory};
+ghost use Rattle.rest_improve.specs.declared.improve_rest_fault.ImproveRestFault.TheVariants.{Memory};
 ghost use Rattle.rest_improve.specs.Costs.{IsRestCost};
 ghost use Rattle.rest_improve.specs.Runs.{AfterSome, AfterRounds};
 ghost use Rattle.rest_improve.specs.Keeping.{IsNextOf, IsLast, IsLastTold};
 
 use crate::begun::Begun;
 use crate::best::Best;
+use crate::improve_rest_fault::ImproveRestFault;
 use crate::judging::judge_orders;
-use crate::rest_fault::RestFault;
 use crate::rest_improver::RestImprover;
 use plan_annealing::Rest;
 use plan_improve::Watch;
@@ -28,7 +28,7 @@ pub(crate) fn ask_in_rounds<W: Watch>(
     improvers: &[Box<dyn RestImprover>],
     rounds: u32,
     watch: &mut W,
-) -> Result<Best, RestFault>
+) -> Result<Best, ImproveRestFault>
     requires cost { IsRestCost (ended_lines log.now) begun.now.present best.shaped best.cost }
     requires early { begun.now.present ≤ MAX_MOMENT }
     ensures last { IfOk result (IsLastTold (ended_lines log.now) begun.now.present (W.told watch.old) (W.told watch.new)
@@ -50,7 +50,7 @@ fn ask_each(
     begun: &Begun,
     improvers: &[Box<dyn RestImprover>],
     round: u32,
-) -> Result<Best, RestFault>
+) -> Result<Best, ImproveRestFault>
     requires cost { IsRestCost (ended_lines log.now) begun.now.present best.shaped best.cost }
     requires early { begun.now.present ≤ MAX_MOMENT }
     ensures last { IfOk result (IsLast (ended_lines log.now) begun.now.present
@@ -71,7 +71,7 @@ fn ask_one(
     begun: &Begun,
     improver: &Box<dyn RestImprover>,
     round: u32,
-) -> Result<Best, RestFault>
+) -> Result<Best, ImproveRestFault>
     requires cost { IsRestCost (ended_lines log.now) begun.now.present best.shaped best.cost }
     requires early { begun.now.present ≤ MAX_MOMENT }
     ensures asked { IfOk result (IsNextOf (ended_lines log.now) begun.now.present (may improver.now best.shaped round) best) }
@@ -80,7 +80,7 @@ fn ask_one(
     match ask(alloc, improver, &best.shaped, &begun.rest, round) {
         Ok(Some(order)) => judge_orders(alloc, best, order, log, begun.present),
         Ok(None) => Ok(best),
-        Err(error) => Err(RestFault::from(error)),
+        Err(error) => Err(ImproveRestFault::from(error)),
     }
 }
 

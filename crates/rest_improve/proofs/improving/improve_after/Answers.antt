@@ -2,7 +2,7 @@ use Rattle.text_lines.specs.Lines.{ended_lines}
 use Rattle.rest_times.proofs.Verdicts.{ok_each}
 use Rattle.rest_improve.specs.Runs.{AfterRounds}
 use Rattle.rest_improve.proofs.OneCell.{tells_run}
-use Rattle.rest_improve.proofs.Beginnings.{memory_rest}
+use Rattle.rest_improve.proofs.Beginnings.{memory_rest, present_next}
 use Rattle.rest_improve.proofs.Searched.{same_numbers, acyclic_unless, stays_there, never_worse, is_found, is_found_told, verdict_there, stays_accepted}
 use Rattle.rest_improve.proofs.improving.improve_after.Goals as goal
 
@@ -13,6 +13,10 @@ returns-clause-same g c = ok_each c.improve_from.result (λ found is. same_numbe
 
 pub returns-clause-begun : goal.returns-clause-begun
 returns-clause-begun g c = ok_each c.improve_from.result (λ found is. tells_run (ended_lines c.args.log.now) c.args.start c.in_ok-begun.ensures.set.0 c.in_ok-begun.ensures.set.1) c.improve_from.ensures.improved
+
+pub returns-clause-present : goal.returns-clause-present
+returns-clause-present g c =
+    ok_each c.improve_from.result (λ found is cell here. present_next (ended_lines c.args.log.now) c.args.at c.in_ok-begun.begun.present c.args.start c.in_ok-begun.ensures.set cell here) c.improve_from.ensures.improved
 
 pub returns-clause-kept : goal.returns-clause-kept
 returns-clause-kept g c = ok_each c.improve_from.result (λ found is. tells_run (ended_lines c.args.log.now) found.shaped is.cell is.run) c.improve_from.ensures.improved

@@ -5,7 +5,7 @@ use thiserror::Error;
 
 /// Why no plan for the rest of a run is given.
 #[derive(Clone, Copy, Debug, PartialEq, Eq, Error)]
-pub enum RestFault {
+pub enum ImproveRestFault {
     /// There are more than `MAX_ROUNDS` rounds.
     #[error("TooManyRounds")]
     TooManyRounds,
@@ -23,27 +23,27 @@ pub enum RestFault {
     Memory,
 }
 
-impl From<AllocError> for RestFault {
+impl From<AllocError> for ImproveRestFault {
     ghost use Rattle.std.specs.Prelude.{◌≡◌};
-    ghost use Rattle.rest_improve.specs.declared.rest_fault.RestFault.TheVariants.{Memory};
+    ghost use Rattle.rest_improve.specs.declared.improve_rest_fault.ImproveRestFault.TheVariants.{Memory};
 
     ghost from_gives = { λ _ fault. fault ≡ Memory };
 
-    fn from(_error: AllocError) -> RestFault {
-        RestFault::Memory
+    fn from(_error: AllocError) -> ImproveRestFault {
+        ImproveRestFault::Memory
     }
 }
 
-impl From<AuditFault> for RestFault {
+impl From<AuditFault> for ImproveRestFault {
     ghost use Rattle.std.specs.Prelude.{◌≡◌};
     ghost use Rattle.rest_improve.specs.Faults.{log_fault};
 
     ghost from_gives = { λ told fault. fault ≡ log_fault told };
 
-    fn from(told: AuditFault) -> RestFault {
+    fn from(told: AuditFault) -> ImproveRestFault {
         match told {
-            AuditFault::Memory => RestFault::Memory,
-            _ => RestFault::Log(told),
+            AuditFault::Memory => ImproveRestFault::Memory,
+            _ => ImproveRestFault::Log(told),
         }
     }
 }

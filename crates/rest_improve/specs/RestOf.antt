@@ -1,0 +1,23 @@
+-- What a run has left of its plan, as an improver is told it.
+use Rattle.std.specs.Prelude.{◌≡◌, ℕ, nat_lt, if◌then◌else◌, map}
+use Rattle.std.specs.List.{range_with_len}
+use Rattle.shop_base.specs.Plan.{PlannedShop, jobs, machines, steps}
+use Rattle.shop_base.specs.Cell.{Cell, job_in, made, since, cleaning}
+use Rattle.shop_base.specs.Movers.{due_of_job}
+use Rattle.plan_annealing.specs.declared.rest.JobRest.{JobRest}
+use Rattle.plan_annealing.specs.declared.rest.Rest.{Rest}
+use Rattle.rest_times.specs.Held.{later_than}
+
+module _ (p : PlannedShop) (c : Cell) (t : ℕ) where
+  -- before this job j doesn't make its next move: the present moment t or, if that is later, when what goes on with it is due; of a job that is gone the moment at which it left
+  abbrev pub begins_at : ℕ → ℕ
+  begins_at j = if nat_lt (steps p j) (made c j) then since c j else later_than t (due_of_job p j (job_in c j))
+
+  -- how job j goes on
+  abbrev pub job_rest : ℕ → JobRest
+  job_rest j = record { made = made c j; bound = begins_at j }
+
+  -- this is how each job goes on, and since when each machine is being cleaned
+  pub record IsRestOf (rest : Rest) : Type 0 where
+    pub each_job : rest.jobs.items ≡ map job_rest (range_with_len 0 (jobs p))
+    pub each_machine : rest.cleanings.items ≡ map (cleaning c) (range_with_len 0 (machines p))
