@@ -3,6 +3,7 @@ use Rattle.std.proofs.Common.{◌≡◌, ℕ, ◌++◌, List, [], ◌∷◌, ◌
 use Rattle.shop_base.specs.Shop.{JobShop}
 use Rattle.shop_base.specs.Plan.{ShopPlan, PlannedShop, IsWellShaped}
 use Rattle.shop_base.proofs.Refusals.{shape_fault_refutes}
+use Rattle.text_lines.specs.Lines.{ended_lines}
 use Rattle.orlib_read.specs.declared.named.Named.{Named}
 use Rattle.plan_verifier.specs.Accepted.{VerifiedPlan, IsAcceptable}
 use Rattle.plan_verifier.specs.declared.verdict.Verdict.TheVariants.{Accepted, Refused}
@@ -25,12 +26,13 @@ use Rattle.command_answers.specs.Shapes.{IsNotShapedLine}
 use Rattle.command_answers.specs.Checks.{IsLoaded, IsCheckLine}
 use Rattle.command_answers.specs.Search.{IsSearchAnswer}
 use Rattle.command_answers.specs.Improving.{IsImproveAnswer, ordered}
-use Rattle.command_answers.specs.Commands.{PairOfFiles, ReadsPlan, ReadsBoth, WithBoth, WithLog, RunsFacts}
+use Rattle.command_answers.specs.ImprovingRests.{IsRestAnswer}
+use Rattle.command_answers.specs.Commands.{PairOfFiles, ReadsPlan, ReadsBoth, WithBoth, WithLog, WithRest, RunsFacts}
 use Rattle.command_answers.specs.Pictures.{IsLogDrawn, IsPlanDrawn, IsUnshapedDrawn, WithDrawnLog, DrawsLog, DrawsSchedule}
 use Rattle.command_answers.proofs.CheckLines.{line_of_loaded}
 use Rattle.command_run.specs.Streams.{Streams}
 use Rattle.command_run.specs.Planners.{search_by_two, SeeksPlan}
-use Rattle.command_run.specs.Improvers.{AsksOne, ImprovesPlan}
+use Rattle.command_run.specs.Improvers.{AsksOne, ImprovesPlan, AsksOneForRest, ImprovesRest}
 use Rattle.command_run.specs.Pictures.{Draws, RunsPicture}
 use Rattle.command_run.specs.Drives.{DrivesCell, Drives, IsLineTold}
 use Rattle.command_run.specs.Resumes.{ResumesText, Resumes}
@@ -117,16 +119,16 @@ module _ (content : List ℕ → Result (List ℕ) CommandFault) (pair : PairOfF
       → IsAnswered (Is p) (pair.path ∷ pair.plan ∷ []) outcome asked
   good_plan Is outcome asked run = told_answered (Is p) outcome asked (with_both (λ q. Told (IsOrMemory (Is q))) outcome asked run)
 
-  shaped_after_all : (outcome : Result Answer CommandFault) → IsWellShaped p → IsOrMemory (IsNotShapedLine p) outcome → outcome ≡ Err Memory
-  shaped_after_all (Ok answer) shaped is = absurd (shape_fault_refutes p is.fault is.first shaped)
-  shaped_after_all (Err fault) shaped is = ap Err is
+  shaped_after_all : (q : PlannedShop) (outcome : Result Answer CommandFault) → IsWellShaped q → IsOrMemory (IsNotShapedLine q) outcome → outcome ≡ Err Memory
+  shaped_after_all q (Ok answer) shaped is = absurd (shape_fault_refutes q is.fault is.first shaped)
+  shaped_after_all q (Err fault) shaped is = ap Err is
 
   log_came : (IsLine : PlannedShop → List ℕ → Answer → Type 0) (log text : List ℕ) (outcome : Result Answer CommandFault) (asked : List (List ℕ)) → content log ≡ Ok text → IsWellShaped p
       → WithLog (Shelf content) IsLine log p (pair.path ∷ pair.plan ∷ []) outcome asked ⊎ (outcome ≡ Err Memory) → IsAnswered (IsLine p text) (pair.path ∷ pair.plan ∷ log ∷ []) outcome asked
   log_came IsLine log text outcome asked is shaped (inl (inl (also, run))) =
       let read = asked_and_read content (λ t. IsOrMemory (IsLine p t)) log text is (pair.path ∷ pair.plan ∷ []) run.came run.mid outcome asked run.is run.goes_on in
       answered _ _ outcome asked read.0 read.1
-  log_came IsLine log text outcome asked is shaped (inl (inr told)) = wanting _ _ outcome asked (shaped_after_all outcome shaped told.0)
+  log_came IsLine log text outcome asked is shaped (inl (inr told)) = wanting _ _ outcome asked (shaped_after_all p outcome shaped told.0)
   log_came IsLine log text outcome asked is shaped (inr none) = wanting _ _ outcome asked none
 
   pub good_log : (IsLine : PlannedShop → List ℕ → Answer → Type 0) (log text : List ℕ) (outcome : Result Answer CommandFault) (asked : List (List ℕ)) → content log ≡ Ok text → IsWellShaped p
@@ -165,6 +167,21 @@ module _ (content : List ℕ → Result (List ℕ) CommandFault) (pair : PairOfF
       → (IsImproveAnswer (AsksOne rounds) rounds (ordered p) outcome × (asked ≡ pair.path ∷ pair.plan ∷ [])) ⊎ (outcome ≡ Err Memory)
   good_improvement rounds outcome asked (inl run) = with_both (λ q. Told (IsImproveAnswer (AsksOne rounds) rounds (ordered q))) outcome asked run
   good_improvement rounds outcome asked (inr none) = inr none.0
+
+  improvement_came : (at : Option ℕ) (rounds : ℕ) (log text : List ℕ) (outcome : Result Answer CommandFault) (asked : List (List ℕ)) → content log ≡ Ok text → IsWellShaped (ordered p)
+      → WithRest (Shelf content) (AsksOneForRest rounds) at rounds log (ordered p) (pair.path ∷ pair.plan ∷ []) outcome asked ⊎ (outcome ≡ Err Memory)
+      → (IsRestAnswer (AsksOneForRest rounds) at rounds (ended_lines text) (ordered p) outcome × (asked ≡ pair.path ∷ pair.plan ∷ log ∷ [])) ⊎ (outcome ≡ Err Memory)
+  improvement_came at rounds log text outcome asked is shaped (inl (inl (also, run))) =
+      inl (asked_and_read content (λ t. IsRestAnswer (AsksOneForRest rounds) at rounds (ended_lines t) (ordered p)) log text is (pair.path ∷ pair.plan ∷ []) run.came run.mid outcome asked run.is run.goes_on)
+  improvement_came at rounds log text outcome asked is shaped (inl (inr told)) = inr (shaped_after_all (ordered p) outcome shaped told.0)
+  improvement_came at rounds log text outcome asked is shaped (inr none) = inr none
+
+  pub good_rest_improvement : (at : Option ℕ) (rounds : ℕ) (log text : List ℕ) (outcome : Result Answer CommandFault) (asked : List (List ℕ)) → content log ≡ Ok text → IsWellShaped (ordered p)
+      → ImprovesRest (Shelf content) at rounds pair log [] outcome asked
+      → (IsRestAnswer (AsksOneForRest rounds) at rounds (ended_lines text) (ordered p) outcome × (asked ≡ pair.path ∷ pair.plan ∷ log ∷ [])) ⊎ (outcome ≡ Err Memory)
+  good_rest_improvement at rounds log text outcome asked is shaped (inl run) =
+      improvement_came at rounds log text outcome asked is shaped (with_both (λ q. WithRest (Shelf content) (AsksOneForRest rounds) at rounds log (ordered q)) outcome asked run)
+  good_rest_improvement at rounds log text outcome asked is shaped (inr none) = inr none.0
 
   -- ---- what follows what is to be said of the plan
 

@@ -22,7 +22,7 @@ use Rattle.command_run.specs.Pictures.{Draws, RunsPicture}
 use Rattle.command_run.specs.Hubs.{DrivesAll}
 use Rattle.command_run.specs.Resumes.{Resumes}
 use Rattle.command_run.specs.Planners.{SeeksPlan}
-use Rattle.command_run.specs.Improvers.{ImprovesPlan}
+use Rattle.command_run.specs.Improvers.{ImprovesPlan, ImprovesRest}
 use Rattle.command_run.specs.Program.{RunsDrive, RunsResume, RunsHub}
 use Rattle.command_run.specs.Laws.{Shelf, IsInstanceTold}
 
@@ -140,6 +140,11 @@ module _ (content : List ℕ → Result (List ℕ) CommandFault) (pair : PairOfF
       → IsInstanceTold pair.path fault outcome asked ⊎ ((outcome ≡ Err Memory) × (asked ≡ []))
   improve_first rounds outcome asked (inl run) = inl (told_first _ outcome asked run)
   improve_first rounds outcome asked (inr wanting) = inr wanting
+
+  pub improve_rest_first : (at : Option ℕ) (rounds : ℕ) (log : List ℕ) (outcome : Result Answer CommandFault) (asked : List (List ℕ)) → ImprovesRest (Shelf content) at rounds pair log [] outcome asked
+      → IsInstanceTold pair.path fault outcome asked ⊎ ((outcome ≡ Err Memory) × (asked ≡ []))
+  improve_rest_first at rounds log outcome asked (inl run) = inl (told_first _ outcome asked run)
+  improve_rest_first at rounds log outcome asked (inr wanting) = inr wanting
 
   pub drive_first : (manner : Manner) (before after : Streams) (outcome : Result Answer CommandFault) (asked : List (List ℕ)) → RunsDrive (Shelf content) manner pair [] before outcome asked after
       → IsInstanceTold pair.path fault outcome asked × (after ≡ before)

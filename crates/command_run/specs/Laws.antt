@@ -3,6 +3,7 @@ use Rattle.std.specs.Prelude.{◌≡◌, ◌≢◌, ℕ, ◌≤◌, List, [], �
 use Rattle.std.specs.String.{string_bytes}
 use Rattle.shop_base.specs.Shop.{JobShop}
 use Rattle.shop_base.specs.Plan.{PlannedShop, IsWellShaped}
+use Rattle.text_lines.specs.Lines.{ended_lines}
 use Rattle.text_lines.specs.declared.limits.TheConstants.{MAX_INPUT}
 use Rattle.orlib_read.specs.declared.or_fault.OrFault.{OrFault}
 use Rattle.plan_verifier.specs.Accepted.{VerifiedPlan, IsAcceptable}
@@ -40,6 +41,7 @@ use Rattle.command_answers.specs.Search.{IsSearchAnswer}
 use Rattle.command_answers.specs.Improving.{IsImproveAnswer, ordered}
 use Rattle.command_answers.specs.declared.rests.PlanTelling.{PlanTelling}
 use Rattle.command_answers.specs.Rests.{IsRestLine}
+use Rattle.command_answers.specs.ImprovingRests.{IsRestAnswer}
 use Rattle.command_answers.specs.Commands.{PairOfFiles, RunsFacts, RunsShape, RunsCheck, RunsExplain, RunsSchedule, RunsBounds, RunsLog, RunsRest, Loads}
 use Rattle.command_answers.specs.Pictures.{IsLogDrawn, IsPlanDrawn, DrawsLog, DrawsSchedule}
 use Rattle.command_answers.specs.declared.loading.Loaded.TheVariants.{Judged}
@@ -48,7 +50,7 @@ use Rattle.command_answers.specs.Cells.{AreAccepted, LoadsCells}
 use Rattle.command_run.specs.Streams.{Streams, Input, Output, Errors, Devices}
 use Rattle.command_run.specs.Inputs.{RunsInput}
 use Rattle.command_run.specs.Planners.{search_by_two, SeeksPlan}
-use Rattle.command_run.specs.Improvers.{AsksOne, ImprovesPlan}
+use Rattle.command_run.specs.Improvers.{AsksOne, ImprovesPlan, AsksOneForRest, ImprovesRest}
 use Rattle.command_run.specs.Pictures.{IsPictureOut, Draws, RunsPicture}
 use Rattle.command_run.specs.Drives.{IsDriveIn, DrivesCell}
 use Rattle.command_run.specs.Resumes.{IsResume, ResumesText, IsTaking}
@@ -110,6 +112,10 @@ PlanTellsInstanceFirst = (rounds : ℕ) → TellsInstanceFirstOrNothing (λ give
 
 abbrev pub ImproveTellsInstanceFirst : Type 0
 ImproveTellsInstanceFirst = (rounds : ℕ) → TellsInstanceFirstOrNothing (λ gives pair. ImprovesPlan gives rounds pair)
+
+-- for the rest of a run too
+abbrev pub ImproveRestTellsInstanceFirst : Type 0
+ImproveRestTellsInstanceFirst = (at : Option ℕ) (rounds : ℕ) (log : List ℕ) → TellsInstanceFirstOrNothing (λ gives pair. ImprovesRest gives at rounds pair log)
 
 -- so it is, with no byte read or written
 abbrev pub TellsInstanceFirstUnread : ((List (List ℕ) → List ℕ → Result (List ℕ) CommandFault → List (List ℕ) → Type 0) → PairOfFiles
@@ -216,6 +222,12 @@ abbrev pub ImproveAnswersPlan : Type 0
 ImproveAnswersPlan = (rounds : ℕ) (content : List ℕ → Result (List ℕ) CommandFault) (pair : PairOfFiles) (p : PlannedShop) (outcome : Result Answer CommandFault) (asked : List (List ℕ))
     → TellPlan content pair p → ImprovesPlan (Shelf content) rounds pair [] outcome asked
     → (IsImproveAnswer (AsksOne rounds) rounds (ordered p) outcome × (asked ≡ pair.path ∷ pair.plan ∷ [])) ⊎ (outcome ≡ Err Memory)
+
+-- `improve` of the rest of a run: where the plan is well shaped, what the search from it comes to for the rest of this log, with exactly these files asked for, unless memory runs out before
+abbrev pub ImproveAnswersRest : Type 0
+ImproveAnswersRest = (at : Option ℕ) (rounds : ℕ) (content : List ℕ → Result (List ℕ) CommandFault) (pair : PairOfFiles) (log text : List ℕ) (p : PlannedShop) (outcome : Result Answer CommandFault) (asked : List (List ℕ))
+    → TellPlan content pair p → content log ≡ Ok text → IsWellShaped (ordered p) → ImprovesRest (Shelf content) at rounds pair log [] outcome asked
+    → (IsRestAnswer (AsksOneForRest rounds) at rounds (ended_lines text) (ordered p) outcome × (asked ≡ pair.path ∷ pair.plan ∷ log ∷ [])) ⊎ (outcome ≡ Err Memory)
 
 -- `drive`: where the plan is accepted, its cell is driven, with exactly these files asked for, unless memory runs out before, with no byte read or written
 abbrev pub DriveDrivesPlan : Type 0

@@ -6,11 +6,11 @@
 // Nothing is done here: a function's contract is the law, so a check of this crate proves it.
 
 ghost use Rattle.command_run.specs.Laws.{FactsTellInstanceFirst, ShapeTellsInstanceFirst, CheckTellsInstanceFirst, ExplainTellsInstanceFirst, ScheduleTellsInstanceFirst, BoundsTellInstanceFirst};
-ghost use Rattle.command_run.specs.Laws.{LogTellsInstanceFirst, RestTellsInstanceFirst, PlanTellsInstanceFirst, ImproveTellsInstanceFirst};
+ghost use Rattle.command_run.specs.Laws.{LogTellsInstanceFirst, RestTellsInstanceFirst, PlanTellsInstanceFirst, ImproveTellsInstanceFirst, ImproveRestTellsInstanceFirst};
 ghost use Rattle.command_run.specs.Laws.{DriveTellsInstanceFirst, ResumeTellsInstanceFirst, HubTellsInstanceFirst};
 ghost use Rattle.command_run.specs.Laws.{ScheduleDrawsInstanceFirst, LogDrawsInstanceFirst, ScheduleIsDrawn, LogIsDrawn};
 ghost use Rattle.command_run.specs.Laws.{FactsAnswerShop, ShapeAnswersPlan, CheckAnswersPlan, ExplainAnswersPlan, ScheduleAnswersPlan, BoundsAnswerPlan, LogIsAnswered, RestIsAnswered};
-ghost use Rattle.command_run.specs.Laws.{PlanAnswersPlan, ImproveAnswersPlan, DriveDrivesPlan, ResumeGoesOn};
+ghost use Rattle.command_run.specs.Laws.{PlanAnswersPlan, ImproveAnswersPlan, ImproveAnswersRest, DriveDrivesPlan, ResumeGoesOn};
 ghost use Rattle.command_run.specs.Laws.{HubDrivesPlans, InputAnswersShop};
 ghost use Rattle.command_run.specs.Laws.{DriveAnswersByCheck, ResumeAnswersByCheck, HubAnswersByCheck, DriveWritesTheSame};
 ghost use Rattle.command_run.specs.Laws.{WhatFailsIsTold, NothingIsHeldBack, WhatFailsIsNoAnswer};
@@ -33,6 +33,7 @@ pub fn instance_first()
     ensures log_picture { LogDrawsInstanceFirst }
     ensures plan { PlanTellsInstanceFirst }
     ensures improve { ImproveTellsInstanceFirst }
+    ensures improve_rest { ImproveRestTellsInstanceFirst }
     ensures drive { DriveTellsInstanceFirst }
     ensures resume { ResumeTellsInstanceFirst }
     ensures hub { HubTellsInstanceFirst }
@@ -57,6 +58,7 @@ pub fn good_files_are_answered()
     ensures log_picture { LogIsDrawn }
     ensures plan { PlanAnswersPlan }
     ensures improve { ImproveAnswersPlan }
+    ensures improve_rest { ImproveAnswersRest }
     ensures drive { DriveDrivesPlan }
     ensures resume { ResumeGoesOn }
     ensures hub { HubDrivesPlans }

@@ -5,7 +5,7 @@ use Rattle.command_answers.specs.Timetables.{IsTimetable}
 use Rattle.command_answers.specs.BoundLines.{AreBounds}
 use Rattle.command_answers.specs.LogLines.{IsLogLine}
 use Rattle.command_answers.specs.Rests.{IsRestLine}
-use Rattle.command_run.proofs.GoodFiles.{good_facts, good_plan, good_log, good_schedule_picture, good_log_picture, good_search, good_improvement, good_drive, good_resume}
+use Rattle.command_run.proofs.GoodFiles.{good_facts, good_plan, good_log, good_schedule_picture, good_log_picture, good_search, good_improvement, good_rest_improvement, good_drive, good_resume}
 use Rattle.command_run.proofs.GoodHubs.{good_hub}
 use Rattle.command_run.proofs.GoodInputs.{good_input}
 use Rattle.command_run.proofs.laws.good_files_are_answered.Goals as goal
@@ -45,6 +45,9 @@ returns-clause-plan c = λ rounds content pair p outcome asked good run. good_se
 
 pub returns-clause-improve : goal.returns-clause-improve
 returns-clause-improve c = λ rounds content pair p outcome asked good run. good_improvement content pair p good rounds outcome asked run
+
+pub returns-clause-improve_rest : goal.returns-clause-improve_rest
+returns-clause-improve_rest c = λ at rounds content pair log text p outcome asked good is shaped run. good_rest_improvement content pair p good at rounds log text outcome asked is shaped run
 
 pub returns-clause-drive : goal.returns-clause-drive
 returns-clause-drive c = λ manner before after content pair p outcome asked good shaped acceptable run. good_drive content pair p good manner before after outcome asked shaped acceptable run

@@ -1,4 +1,4 @@
-use Rattle.command_run.proofs.PlainWords.{told_first, facts_first, plan_first, improve_first, picture_first, drive_first, resume_first, hub_first}
+use Rattle.command_run.proofs.PlainWords.{told_first, facts_first, plan_first, improve_first, improve_rest_first, picture_first, drive_first, resume_first, hub_first}
 use Rattle.command_run.proofs.laws.instance_first.Goals as goal
 
 pub returns-clause-facts : goal.returns-clause-facts
@@ -36,6 +36,9 @@ returns-clause-plan c = λ rounds content pair text fault outcome asked is first
 
 pub returns-clause-improve : goal.returns-clause-improve
 returns-clause-improve c = λ rounds content pair text fault outcome asked is first run. improve_first content pair text fault is first rounds outcome asked run
+
+pub returns-clause-improve_rest : goal.returns-clause-improve_rest
+returns-clause-improve_rest c = λ at rounds log content pair text fault outcome asked is first run. improve_rest_first content pair text fault is first at rounds log outcome asked run
 
 pub returns-clause-drive : goal.returns-clause-drive
 returns-clause-drive c = λ manner before after content pair text fault outcome asked is first run. drive_first content pair text fault is first manner before after outcome asked run
