@@ -23,14 +23,16 @@
      fork of a process with threads.
    - `malloc`, `realloc` and `free` are those of one allocator. What the first two give begins at a multiple of 16, as with
      those of glibc; no call asks for more.
-   - The stack has room. cellplan_check, cellplan_explain and cellplan_cell_new touch some 26,000 bytes of it, for texts of
-     any length; give them 32 KiB. A plan's text that nests tables within tables wants more before it is refused: the deepest
-     that was found, 80 within 80, touches 1,600,000 bytes, so where a plan may be anybody's text give them 2 MiB. All other
-     calls touch less than 1 KiB. (tests/c-library measures it.)
+   - The stack has room. cellplan_check, cellplan_explain, cellplan_cell_new and cellplan_cell_hand_over touch some 26,000 bytes
+     of it, for texts of any length; give them 32 KiB. A plan's text that nests tables within tables wants more before it is
+     refused: the deepest that was found, 80 within 80, touches 1,600,000 bytes, so where a plan may be anybody's text give them
+     2 MiB. cellplan_cell_check and cellplan_cell_schedule touch less than 4 KiB, and all other calls less than 1 KiB.
+     (tests/c-library measures it.)
    - The library is for Linux on x86-64, with glibc as the C library.
 
-   cellplan_check, cellplan_explain and cellplan_cell_new take memory, and so may answer CELLPLAN_NO_MEMORY. No other call
-   answers so, not even a report. Only these three and cellplan_cell_free call malloc, realloc or free.
+   cellplan_check, cellplan_explain, cellplan_cell_new, cellplan_cell_hand_over, cellplan_cell_check and cellplan_cell_schedule
+   take memory, and so may answer CELLPLAN_NO_MEMORY. No other call answers so, not even a report. Only these six and
+   cellplan_cell_free call malloc, realloc or free.
 
    Of the line that cellplan_check writes, which is also the first of cellplan_explain, some words are in no clause, and
    tests alone show them: those behind `not shaped `, `instance: ` and `plan: `, which name the fault. */
@@ -46,7 +48,7 @@ extern "C" {
 #endif
 
 /* The version of this header's calls. The library is of the same where cellplan_version() gives it. */
-#define CELLPLAN_VERSION 1
+#define CELLPLAN_VERSION 2
 
 /* The version of cellplan that this header comes from: `cellplan --version` prints that of a program. */
 #define CELLPLAN_VERSION_TEXT "1.0.0"
@@ -60,16 +62,17 @@ enum {
   CELLPLAN_NO_ROOM = 6,    /* the text is longer than the room for it; its length is told */
   CELLPLAN_NONE = 7,       /* there is none of what was asked for */
   CELLPLAN_NO_CELL = 8,    /* the cell holds no controller */
-  CELLPLAN_NO_KIND = 9     /* the report is of no kind */
+  CELLPLAN_NO_KIND = 9,    /* the report is of no kind */
+  CELLPLAN_KEEPS_NOT = 10  /* the run so far isn't one of the plan to which the cell is to be handed over */
 };
 
 /* The reasons for which a report isn't possible; the first that holds, in this order, is the status. */
 enum {
-  CELLPLAN_JOB_OUT_OF_RANGE = 16,
-  CELLPLAN_MACHINE_OUT_OF_RANGE = 17, /* of CELLPLAN_CLEAN; a wrong machine of CELLPLAN_FINISH has one of the last three */
+  CELLPLAN_JOB_OUT_OF_RANGE = 16,     /* of CELLPLAN_CLEAN_AFTER after the next one */
+  CELLPLAN_MACHINE_OUT_OF_RANGE = 17, /* of both cleanings; a wrong machine of CELLPLAN_FINISH has one of the last three */
   CELLPLAN_MOMENT_TOO_LARGE = 18,     /* over 1000000000000 */
-  CELLPLAN_BACKWARDS = 19,            /* with the moment of the last accepted report */
-  CELLPLAN_NOT_EXPECTED = 20,         /* the job waits for its move or is gone; the machine isn't being cleaned */
+  CELLPLAN_BACKWARDS = 19,            /* with the last moment: of the last accepted report, or of the orders at a handing over */
+  CELLPLAN_NOT_EXPECTED = 20,         /* the job waits for its move or is gone; the machine isn't being cleaned, or not after this job */
   CELLPLAN_WRONG_KIND = 21,           /* an arrival of a job that is inside, or a finish of one that is outside */
   CELLPLAN_WRONG_MACHINE = 22         /* with the machine on which the job is */
 };
@@ -78,7 +81,8 @@ enum {
 enum {
   CELLPLAN_ARRIVE = 0, /* the job has arrived; the machine isn't read */
   CELLPLAN_FINISH = 1, /* the machine has ended its operation on the job */
-  CELLPLAN_CLEAN = 2   /* the machine is clean; the job isn't read */
+  CELLPLAN_CLEAN = 2,  /* the machine is clean; the job isn't read */
+  CELLPLAN_CLEAN_AFTER = 3 /* the machine is clean after just this job */
 };
 
 /* The places of a job. */
@@ -145,7 +149,31 @@ uint32_t cellplan_cell_new(const uint8_t *instance, size_t instance_length, cons
 /* Frees what the cell holds, and leaves a cell that holds none; one that holds none stays as it is. */
 void cellplan_cell_free(struct cellplan_cell *cell);
 
-/* Reports that something has ended, at a moment that isn't before that of the last report; it may have ended early, also
+/* Hands the cell over to another plan in mid-run: at moment `at`, which isn't before the last one, it becomes a cell of this
+   plan, for the same instance or for another one, as changed times, further jobs or other orders. What was done so far has to be
+   part of a run by this plan too, and no cycle may be in it; the budgets aren't asked for: cellplan_cell_check says whether they are
+   kept. Makes the moves that this plan has then: writes as many of their orders as there is room for, in the order in which they
+   are made, and the number of them all, and cellplan_cell_orders gives them too. The texts are as above. `room` is a number of
+   orders, not of bytes.
+   GOOD; NO_CELL, and else MOMENT_TOO_LARGE, and else FAULT, and else REFUSED where the plan isn't well shaped, and else KEEPS_NOT,
+   and else BACKWARDS, and else REFUSED where the plan has a cycle. NO_MEMORY may come in place of any but the first two of these
+   refusals. If it isn't GOOD the cell holds what it held, and the number is 0. */
+uint32_t cellplan_cell_hand_over(struct cellplan_cell *cell, const uint8_t *instance, size_t instance_length,
+                                 const uint8_t *name, size_t name_length, const uint8_t *plan, size_t plan_length,
+                                 uint64_t at, struct cellplan_order *orders, size_t room, size_t *count);
+
+/* Judges what is left of the cell's run, from moment `at` on, by the plan that it has: writes the line that `cellplan check` prints
+   `--after` the log of this run, `--at` this moment, and its length. The cell holds what it held.
+   GOOD where each job that isn't gone is out by its budget, as long as nothing lasts longer than its nominal time and what is overdue
+   ends now; REFUSED where one isn't; each with the line; NO_ROOM with the length of the line, which isn't written; NO_CELL,
+   and else MOMENT_TOO_LARGE, and else BACKWARDS where `at` is before the last moment, or NO_MEMORY, with the length 0. */
+uint32_t cellplan_cell_check(struct cellplan_cell *cell, uint64_t at, uint8_t *line, size_t room, size_t *length);
+
+/* Says when what is left begins and ends, and how late it may end: writes the text that `cellplan schedule` prints `--after` the log,
+   of one line or many, and its length. All else is as above. */
+uint32_t cellplan_cell_schedule(struct cellplan_cell *cell, uint64_t at, uint8_t *text, size_t room, size_t *length);
+
+/* Reports that something has ended, at a moment that isn't before the last one; it may have ended early, also
    an arrival before the job's release. Makes the moves that the plan has then: writes as many of their orders as there is
    room for, in the order in which they are made, and the number of them all. `late` says whether the report came past the
    due moment of something that was going on. `room` is a number of orders, not of bytes.
@@ -155,9 +183,9 @@ void cellplan_cell_free(struct cellplan_cell *cell);
 uint32_t cellplan_cell_report(struct cellplan_cell *cell, uint32_t kind, uint32_t job, uint32_t machine, uint64_t at,
                               struct cellplan_order *orders, size_t room, size_t *count, bool *late, uint64_t *detail);
 
-/* Writes the orders of the last accepted report from number `first` on, as many as there is room for, and the number of
-   all its orders, whatever `first` is: 0 before the first report. A report releases at most one for each job. `room` is a
-   number of orders, not of bytes. GOOD; or NO_CELL, and then the number is 0. */
+/* Writes the orders of the last accepted report, or of the handing over that came after it, from number `first` on, as many as
+   there is room for, and the number of all its orders, whatever `first` is: 0 before the first report. There is at most one for
+   each job. `room` is a number of orders, not of bytes. GOOD; or NO_CELL, and then the number is 0. */
 uint32_t cellplan_cell_orders(struct cellplan_cell *cell, size_t first, struct cellplan_order *orders, size_t room,
                               size_t *count);
 
@@ -181,13 +209,13 @@ uint32_t cellplan_cell_clean_due(struct cellplan_cell *cell, uint32_t machine, u
 /* The job after which the machine is being cleaned, the last that was on it. NONE where it isn't being cleaned. */
 uint32_t cellplan_cell_cleaned_after(struct cellplan_cell *cell, uint32_t machine, uint32_t *job);
 
-/* The moment of the last accepted report, 0 before the first. */
+/* The last moment: of the last accepted report, or of the orders at a handing over; 0 before the first of them. */
 uint32_t cellplan_cell_now(struct cellplan_cell *cell, uint64_t *at);
 
-/* Whether no accepted report was late. */
+/* Whether no accepted report was late, or none since the last handing over, but that what was overdue then has ended then. */
 uint32_t cellplan_cell_punctual(struct cellplan_cell *cell, bool *punctual);
 
-/* How many reports are still to come. */
+/* How many reports are still to come. This call and the next one look at each job and machine. */
 uint32_t cellplan_cell_reports_left(struct cellplan_cell *cell, uint64_t *left);
 
 /* Whether the run has ended: all jobs are gone, and no machine is being cleaned. */
@@ -197,7 +225,9 @@ uint32_t cellplan_cell_is_done(struct cellplan_cell *cell, bool *done);
 uint32_t cellplan_cell_jobs(struct cellplan_cell *cell, uint32_t *count);
 uint32_t cellplan_cell_machines(struct cellplan_cell *cell, uint32_t *count);
 
-/* The job's earliest leaving by the plan, which it keeps to while no report is late; NONE for a number that is no job's. */
+/* The job's earliest leaving by the plan, which it keeps to while no report is late; NONE for a number that is no job's. Of a cell
+   that was handed over it is the moment that was told then: of a job that was gone that at which it left, of the others the
+   earliest from there. */
 uint32_t cellplan_cell_leaves(struct cellplan_cell *cell, uint32_t job, uint64_t *at);
 
 #ifdef __cplusplus

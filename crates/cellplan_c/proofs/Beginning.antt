@@ -1,16 +1,21 @@
 -- What beginning a cell comes to, by what is said of the plan that the two texts tell.
-use Rattle.std.proofs.Common.{◌≡◌, ◌≢◌, ℕ, ◌≤◌, ◌⊎◌, inl, inr, List, Option, None, Some, IfSome, Result, Ok, sym, ap, ◌∙◌, subst, arith}
-use Rattle.shop_base.specs.Plan.{PlannedShop}
+use Rattle.std.proofs.Common.{◌≡◌, ◌≢◌, ℕ, ◌<◌, ◌≤◌, ◌⊎◌, inl, inr, List, Option, None, Some, IfSome, Result, Ok, sym, ap, ◌∙◌, subst, arith}
+use Rattle.shop_base.specs.Plan.{PlannedShop, jobs}
+use Rattle.shop_base.specs.Ends.{stated_number}
+use Rattle.shop_base.specs.ReportsLeft.{reports_left}
+use Rattle.shop_base.proofs.ReportsLeft.{start-reports_left}
 use Rattle.plan_verifier.specs.declared.verdict.Verdict.TheVariants.{Accepted, Refused}
-use Rattle.plan_verifier.specs.Accepted.{IsAcceptable}
-use Rattle.cell_control.specs.Control.{Control}
+use Rattle.plan_verifier.specs.Accepted.{VerifiedPlan, IsVerified, IsAcceptable}
+use Rattle.plan_verifier.proofs.Reasons.{verified_greatest, verified_never_before, verified_no_later, verified_just_in_time}
+use Rattle.cell_control.specs.Control.{at_start}
+use Rattle.rest_control.specs.RestControl.{RestControl, rest_of}
 use Rattle.command_answers.specs.declared.command_fault.CommandFault.{CommandFault}
 use Rattle.command_answers.specs.declared.loading.Loaded.{Loaded}
 use Rattle.command_answers.specs.declared.loading.Loaded.TheVariants.{NotShaped, Judged}
 use Rattle.command_answers.specs.Checks.{IsLoaded}
 use Rattle.command_answers.specs.Plans.{TellBoth}
 use Rattle.command_answers.specs.Readings.{AreTextsAnswered}
-use Rattle.cellplan_c.specs.Calls.{IsStarted, loaded_status, IsStatusOfBoth, IsStatusOfPlan}
+use Rattle.cellplan_c.specs.Calls.{IsEarliestLeaving, IsStarted, loaded_status, IsStatusOfBoth, IsStatusOfPlan}
 use Rattle.cellplan_c.specs.Begun.{IsControllerOf}
 use Rattle.cellplan_c.specs.Held.{Held}
 use Rattle.cellplan_c.specs.contracts.inner.Inner as Inner
@@ -25,13 +30,23 @@ pub held_so : (P Q : Inner.the_row.Denot → Type 0) (held : Held) → ((inner :
 held_so P Q None more is = tt
 held_so P Q (Some inner) more is = more inner is
 
+-- each job keeps to its earliest leaving by an accepted plan
+leavings_kept : (v : VerifiedPlan) → IsVerified v → (j : ℕ) → j < jobs v.planned → IsEarliestLeaving (rest_of (at_start v)) j
+leavings_kept v sound j inside = record {
+  greatest = verified_greatest v sound j inside;
+  in_budget = sound.budgets j inside;
+  no_faster = verified_never_before v sound j inside;
+  no_later = verified_no_later v sound j inside;
+  just_in_time = verified_just_in_time v sound j inside;
+}
+
 module _ (instance : List ℕ) (name : Option (List ℕ)) (plan : List ℕ) where
   -- the name as it is called and as it is meant
   pub under : (other : Option (List ℕ)) (outcome : Result Loaded CommandFault) → other ≡ name
       → AreTextsAnswered instance other plan IsLoaded outcome → AreTextsAnswered instance name plan IsLoaded outcome
   under other outcome same are = subst (λ (n : Option (List ℕ)). AreTextsAnswered instance n plan IsLoaded outcome) same are
 
-  pub started : (loaded : Loaded) → AreTextsAnswered instance name plan IsLoaded (Ok loaded) → (control : Control)
+  pub started : (loaded : Loaded) → AreTextsAnswered instance name plan IsLoaded (Ok loaded) → (control : RestControl)
       → IsControllerOf loaded control → IsStarted instance name plan control
   started (NotShaped fault) are control is = absurd is
   started (Judged (Refused back why)) are control is = absurd is
@@ -44,7 +59,9 @@ module _ (instance : List ℕ) (name : Option (List ℕ)) (plan : List ℕ) wher
         acceptable = subst IsAcceptable (sym judged.0) judged.1;
         verified = is.0;
         start = is.1;
-        same = λ p told. ap (λ (c : Control). c.plan.planned) is.1 ∙ (are.only p told).accepted.0;
+        same = λ p told. ap (λ (c : RestControl). c.planned) is.1 ∙ (are.only p told).accepted.0;
+        left = subst (λ (c : RestControl). reports_left c.planned c.cell ≡ stated_number c.planned) (sym is.1) (start-reports_left verified.planned);
+        leavings = subst (λ (c : RestControl). (j : ℕ) → j < jobs c.planned → IsEarliestLeaving c j) (sym is.1) (leavings_kept verified is.0);
       }
 
   module _ (loaded : Loaded) (are : AreTextsAnswered instance name plan IsLoaded (Ok loaded)) (result : ℕ)

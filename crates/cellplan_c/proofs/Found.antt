@@ -1,7 +1,7 @@
 -- What is said of a cell and a report, where they are there and where they aren't.
 use Rattle.std.proofs.Common.{◌≡◌, ◌≢◌, ℕ, Option, None, Some, IfSome, sym, subst}
 
-of_both : {A B : Type 0} (P : A → B → Type 0) (held : Option A) (told : Option B) (a : A) (b : B)
+pub of_both : {A B : Type 0} (P : A → B → Type 0) (held : Option A) (told : Option B) (a : A) (b : B)
     → held ≡ Some a → told ≡ Some b → P a b → IfSome held (λ old. IfSome told (λ report. P old report))
 of_both {A} {B} P held told a b e f p =
     subst (λ (h : Option A). IfSome h (λ old. IfSome told (λ report. P old report))) (sym e)

@@ -1,6 +1,7 @@
 -- The status of a command's answer, and of its fault.
 use Rattle.std.proofs.Common.{ℕ, ◌≤◌, List, Option, inl, inr, arith}
 use Rattle.shop_base.specs.Plan.{PlannedShop}
+use Rattle.shop_base.specs.Cell.{Cell}
 use Rattle.plan_verifier.specs.declared.verdict.Verdict.{Verdict}
 use Rattle.plan_verifier.specs.declared.verdict.Verdict.TheVariants.{Accepted, Refused}
 use Rattle.command_answers.specs.declared.answer.Answer.{Answer}
@@ -10,6 +11,10 @@ use Rattle.command_answers.specs.Checks.{IsCheckLine, verdict_status}
 use Rattle.command_answers.specs.Explains.{IsExplanation}
 use Rattle.command_answers.specs.Plans.{IsRightOfBoth}
 use Rattle.command_answers.specs.Statuses.{status_of}
+use Rattle.command_answers.specs.declared.rests.PlanTelling.{PlanTelling}
+use Rattle.command_answers.specs.Rests.{rest_status, IsRestTold}
+use Rattle.rest_times.specs.declared.rest_verdict.RestVerdict.{RestVerdict}
+use Rattle.rest_times.specs.declared.rest_verdict.RestVerdict.TheVariants.{Accepted as AcceptedRest, Cycle, Late}
 
 pub verdict_bound : (verdict : Verdict) → verdict_status verdict ≤ 1
 verdict_bound (Accepted verified) = omega arith
@@ -24,6 +29,14 @@ check_bound p answer (inr (shaped, inr (inr late))) = omega (arith, late.refused
 pub explanation_bound : (p : PlannedShop) (answer : Answer) → IsExplanation p answer → answer.status ≤ 1
 explanation_bound p answer (inl line) = omega (arith, line.line.refused)
 explanation_bound p answer (inr explained) = omega (arith, explained.explained.status, verdict_bound explained.verdict)
+
+rest_bound : (verdict : RestVerdict) → rest_status verdict ≤ 1
+rest_bound (AcceptedRest times) = omega arith
+rest_bound (Cycle nodes) = omega arith
+rest_bound (Late job leaves chain times) = omega arith
+
+pub told_bound : (telling : PlanTelling) (p : PlannedShop) (c : Cell) (t : ℕ) (answer : Answer) → IsRestTold telling p c t answer → answer.status ≤ 1
+told_bound telling p c t answer told = omega (arith, told.status, rest_bound told.verdict)
 
 pub fault_bounds : (instance : List ℕ) (name : Option (List ℕ)) (plan : List ℕ) (fault : CommandFault)
     → IsRightOfBoth instance name plan fault → (3 ≤ status_of fault) × (status_of fault ≤ 4)

@@ -1,5 +1,8 @@
+mod Asking
 mod Beginning
+mod Ending
 mod Found
+mod HandingOver
 mod Judging
 mod Laying
 mod Reading

@@ -1,11 +1,17 @@
 -- What the calls from C do.
 use Rattle.std.specs.Prelude.{◌≡◌, ℕ, ◌<◌, ◌≤◌, ◌++◌, ◌⊎◌, List, Option, length, drop, codes}
-use Rattle.shop_base.specs.Plan.{PlannedShop, IsWellShaped}
+use Rattle.shop_base.specs.Plan.{PlannedShop, IsWellShaped, jobs, budget}
+use Rattle.shop_base.specs.Graph.{leaving}
+use Rattle.shop_base.specs.Ends.{stated_number}
+use Rattle.shop_base.specs.ReportsLeft.{reports_left}
+use Rattle.shop_base.specs.ExactLaw.{IsNeverGoneBefore}
+use Rattle.alt_graph.specs.Times.{earliest_of}
 use Rattle.orlib_read.specs.declared.or_fault.OrFault.{OrFault}
 use Rattle.plan_text.specs.declared.plan_fault.PlanFault.{PlanFault}
 use Rattle.plan_text.specs.Documents.{IsFirstPlanFault}
-use Rattle.plan_verifier.specs.Accepted.{VerifiedPlan, IsVerified, IsAcceptable}
-use Rattle.cell_control.specs.Control.{Control, at_start}
+use Rattle.plan_verifier.specs.Accepted.{VerifiedPlan, IsVerified, IsAcceptable, IsGreatest, IsNeverGoneAfter, IsGoneJustAt}
+use Rattle.cell_control.specs.Control.{at_start}
+use Rattle.rest_control.specs.RestControl.{RestControl, rest_of}
 use Rattle.command_answers.specs.declared.answer.Answer.{Answer}
 use Rattle.command_answers.specs.declared.command_fault.CommandFault.{CommandFault}
 use Rattle.command_answers.specs.declared.command_fault.CommandFault.TheVariants.{Instance, Plan}
@@ -67,15 +73,30 @@ pub record AreTextsTold (instance : List ℕ) (name : Option (List ℕ)) (plan :
   pub first : (fault : OrFault) → IsFirstInstanceFault instance name fault → Tells (IsTextFaultTold (Instance fault))
   pub second : (fault : PlanFault) → TellsAShop instance name → IsFirstPlanFault plan fault → Tells (IsTextFaultTold (Plan fault))
 
+-- the moment kept for the leaving of job j
+abbrev pub kept_leaving : RestControl → ℕ → ℕ
+kept_leaving v j = earliest_of v.times (leaving v.planned j)
+
+-- it is the job's earliest leaving by the plan, and within its budget
+pub record IsEarliestLeaving (v : RestControl) (j : ℕ) : Type 0 where
+  pub greatest : IsGreatest v.planned (leaving v.planned j) (kept_leaving v j)
+  pub in_budget : kept_leaving v j ≤ budget v.planned j
+  pub no_faster : IsNeverGoneBefore v.planned j (kept_leaving v j)
+  pub no_later : IsNeverGoneAfter v.planned j (kept_leaving v j)
+  pub just_in_time : IsGoneJustAt v.planned j (kept_leaving v j)
+
 -- the controller of the accepted plan that the two texts tell, before the first report
-pub record IsStarted (instance : List ℕ) (name : Option (List ℕ)) (plan : List ℕ) (control : Control) : Type 0 where
+pub record IsStarted (instance : List ℕ) (name : Option (List ℕ)) (plan : List ℕ) (control : RestControl) : Type 0 where
   pub accepted : VerifiedPlan
   pub tell : TellBoth instance name plan accepted.planned
   pub well_shaped : IsWellShaped accepted.planned
   pub acceptable : IsAcceptable accepted.planned
   pub verified : IsVerified accepted
-  pub start : control ≡ at_start accepted
-  pub same : (p : PlannedShop) → TellBoth instance name plan p → control.plan.planned ≡ p
+  pub start : control ≡ rest_of (at_start accepted)
+  pub same : (p : PlannedShop) → TellBoth instance name plan p → control.planned ≡ p
+  -- as many reports are left as the stated number, and each job keeps to its earliest leaving
+  pub left : reports_left control.planned control.cell ≡ stated_number control.planned
+  pub leavings : (j : ℕ) → j < jobs control.planned → IsEarliestLeaving control j
 
 -- the status of what is said of a plan: 0 where it is accepted, else 1
 abbrev pub loaded_status : Loaded → ℕ

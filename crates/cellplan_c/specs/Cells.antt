@@ -1,38 +1,39 @@
 -- What is said of the controller that a cell holds, and what the calls that report to it or ask for its orders answer.
 use Rattle.std.specs.Prelude.{◌≡◌, ◌≢◌, ℕ, ◌+◌, ◌<◌, ◌≤◌, ◌↔◌, Bool, List, IfSome, length, slice_get, option_map}
 use Rattle.shop_base.specs.declared.move_order.MoveOrder.{MoveOrder}
-use Rattle.shop_base.specs.Report.{Report as Ended, CanReport}
-use Rattle.shop_base.specs.Run.{Event}
-use Rattle.cell_tables.specs.Reports.{said}
-use Rattle.cell_control.specs.Control.{Control, IsAnswered, IfEndsNow}
-use Rattle.cell_control.specs.Promises.{IsCalled}
-use Rattle.cell_control.specs.Reports.{IsFirstReason, IsOnlyReason}
 use Rattle.cell_control.specs.declared.report_fault.ReportFault.{ReportFault}
+use Rattle.rest_control.specs.RestControl.{RestControl, IsRestAnswered}
 use Rattle.cellplan_c.specs.declared.cell.Cell.{Cell}
 use Rattle.cellplan_c.specs.declared.told.Order.{Order}
+use Rattle.cellplan_c.specs.declared.told.Ended.{Ended}
 use Rattle.cellplan_c.specs.Told.{report_by, order_told, fault_number, fault_detail}
+use Rattle.cellplan_c.specs.Ended.{ended_by, CanEnd, IsFirstFor, IsOnlyFor, IfGoesOnNow, Calls}
 
 -- of the controller that the cell holds, if it holds one
-abbrev pub Holding : Cell → (Control → Type 0) → Type 0
+abbrev pub Holding : Cell → (RestControl → Type 0) → Type 0
 Holding cell Is = IfSome cell.slot.held (λ held. Is held.controller)
 
--- of the controller before, the report of this kind and these numbers, and the controller after, if there are all three
-abbrev pub Reporting : Cell → Cell → ℕ → ℕ → ℕ → ℕ → (Control → Ended → Control → Type 0) → Type 0
+-- of the controllers before and after, if both are there
+abbrev pub Handing : Cell → Cell → (RestControl → RestControl → Type 0) → Type 0
+Handing old new Is = Holding old (λ before. Holding new (λ after. Is before after))
+
+-- of the controller before, what has ended by this kind and these numbers, and the controller after, if there are all three
+abbrev pub Reporting : Cell → Cell → ℕ → ℕ → ℕ → ℕ → (RestControl → Ended → RestControl → Type 0) → Type 0
 Reporting old new kind job machine at Is =
-    Holding old (λ before. Holding new (λ after. IfSome (report_by kind job machine at) (λ report. Is before (said report) after)))
+    Holding old (λ before. Holding new (λ after. IfSome (report_by kind job machine at) (λ ended. Is before ended after)))
 
 -- the report is refused for its first reason, which is the only one: its number is answered, and what it names is told
-abbrev pub IsReasonTold : Control → Ended → ℕ → ℕ → Type 0
-IsReasonTold control report number detail = (fault : ReportFault) × (number ≡ fault_number fault) × (detail ≡ fault_detail fault)
-    × IsFirstReason control.plan.planned control.cell report fault × IsOnlyReason control.plan.planned control.cell report fault
+abbrev pub IsReasonTold : RestControl → Ended → ℕ → ℕ → Type 0
+IsReasonTold control ended number detail = (fault : ReportFault) × (number ≡ fault_number fault) × (detail ≡ fault_detail fault)
+    × IsFirstFor control ended fault × IsOnlyFor control ended fault
 
 -- what a report comes to, by its status, whether it was late, and what is told of its reason
-pub record IsReportTold (status : ℕ) (late : Bool) (detail : ℕ) (old : Control) (report : Ended) (new : Control) : Type 0 where
-  pub possible : (status ≡ 0) ↔ CanReport old.plan.planned old.cell report
-  pub answered : status ≡ 0 → IsAnswered old report (record { late = late }) new
-  pub reason : status ≢ 0 → IsReasonTold old report status detail
-  pub called : (es : List Event) × IsCalled old report es new
-  pub never_refused : IfEndsNow old report (status ≡ 0)
+pub record IsReportTold (status : ℕ) (late : Bool) (detail : ℕ) (old : RestControl) (ended : Ended) (new : RestControl) : Type 0 where
+  pub possible : (status ≡ 0) ↔ CanEnd old ended
+  pub answered : status ≡ 0 → IsRestAnswered old (ended_by ended) (record { late = late }) new
+  pub reason : status ≢ 0 → IsReasonTold old ended status detail
+  pub called : Calls old ended new
+  pub never_refused : IfGoesOnNow old ended (status ≡ 0)
 
 -- each order from a first one on, for which there is room, stands in its place as its numbers
 abbrev pub AreOrdersPut : List MoveOrder → ℕ → List Order → List Order → Type 0

@@ -3,7 +3,6 @@ use Rattle.std.specs.Prelude.{◌≢◌, ℕ, List, [], ◌∷◌, Option, None,
 use Rattle.shop_base.specs.declared.move_order.Spot.{Spot}
 use Rattle.shop_base.specs.declared.move_order.Spot.TheVariants.{Out, At}
 use Rattle.shop_base.specs.declared.move_order.MoveOrder.{MoveOrder}
-use Rattle.cell_tables.specs.declared.report.Report.{Report}
 use Rattle.cell_tables.specs.declared.report.Report.TheVariants.{Arrive, Finish, Clean}
 use Rattle.cell_control.specs.declared.report.Phase.{Phase as Whereabouts}
 use Rattle.cell_control.specs.declared.report.Phase.TheVariants.{Outside, OnMachine, Gone}
@@ -11,11 +10,13 @@ use Rattle.cell_control.specs.declared.report_fault.ReportFault.{ReportFault}
 use Rattle.cell_control.specs.declared.report_fault.ReportFault.TheVariants.{JobOutOfRange, MachineOutOfRange, MomentTooLarge, Backwards, NotExpected, WrongKind, WrongMachine}
 use Rattle.cellplan_c.specs.declared.told.Order.{Order}
 use Rattle.cellplan_c.specs.declared.told.Phase.{Phase}
+use Rattle.cellplan_c.specs.declared.told.Ended.{Ended}
+use Rattle.cellplan_c.specs.declared.told.Ended.TheVariants.{Reported, CleanedAfter}
 
--- the report of kind 0, an arrival, 1, the end of an operation, or 2, the end of a cleaning
-abbrev pub report_by : ℕ → ℕ → ℕ → ℕ → Option Report
+-- what has ended by kind 0, an arrival, 1, an operation, 2, a cleaning, or 3, a cleaning after a job
+abbrev pub report_by : ℕ → ℕ → ℕ → ℕ → Option Ended
 report_by kind job machine at =
-    if nat_eq kind 0 then Some (Arrive job at) else (if nat_eq kind 1 then Some (Finish job machine at) else (if nat_eq kind 2 then Some (Clean machine at) else None))
+    if nat_eq kind 0 then Some (Reported (Arrive job at)) else (if nat_eq kind 1 then Some (Reported (Finish job machine at)) else (if nat_eq kind 2 then Some (Reported (Clean machine at)) else (if nat_eq kind 3 then Some (CleanedAfter machine job at) else None)))
 
 -- the number of a reason, from 16 on in the order of the reasons
 abbrev pub fault_number : ReportFault → ℕ

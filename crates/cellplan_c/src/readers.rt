@@ -45,7 +45,7 @@ pub extern "C" fn cellplan_cell_holder(
     machine: u32,
     job: &mut u32,
 ) -> u32
-    ensures { Finds cell.old cell.new result job.old job.new (λ held. IsJobOn held.plan.planned held.cell machine) }
+    ensures { Finds cell.old cell.new result job.old job.new (λ held. IsJobOn held.planned held.cell machine) }
 {
     let Some(inner) = cell.take(alloc) else {
         return NO_CELL;
@@ -58,7 +58,7 @@ pub extern "C" fn cellplan_cell_holder(
 /// When the job's activity is due; `NONE` if it has none, since it is ready or gone or no job.
 #[unsafe(no_mangle)]
 pub extern "C" fn cellplan_cell_due(alloc: Global, cell: &mut Cell, job: u32, at: &mut u64) -> u32
-    ensures { Finds cell.old cell.new result at.old at.new (λ held. IsDueOf held.plan.planned held.cell job) }
+    ensures { Finds cell.old cell.new result at.old at.new (λ held. IsDueOf held.planned held.cell job) }
 {
     let Some(inner) = cell.take(alloc) else {
         return NO_CELL;
@@ -76,7 +76,7 @@ pub extern "C" fn cellplan_cell_clean_due(
     machine: u32,
     at: &mut u64,
 ) -> u32
-    ensures { Finds cell.old cell.new result at.old at.new (λ held. IsDueOfCleaning held.plan.planned held.cell machine) }
+    ensures { Finds cell.old cell.new result at.old at.new (λ held. IsDueOfCleaning held.planned held.cell machine) }
 {
     let Some(inner) = cell.take(alloc) else {
         return NO_CELL;
@@ -94,7 +94,7 @@ pub extern "C" fn cellplan_cell_cleaned_after(
     machine: u32,
     job: &mut u32,
 ) -> u32
-    ensures { Finds cell.old cell.new result job.old job.new (λ held. IsCleanedFor held.plan.planned held.cell machine) }
+    ensures { Finds cell.old cell.new result job.old job.new (λ held. IsCleanedFor held.planned held.cell machine) }
 {
     let Some(inner) = cell.take(alloc) else {
         return NO_CELL;
@@ -104,7 +104,7 @@ pub extern "C" fn cellplan_cell_cleaned_after(
     put_found(found, job)
 }
 
-/// The moment of the last accepted report, 0 before the first.
+/// The moment of the last event, 0 before the first report.
 #[unsafe(no_mangle)]
 pub extern "C" fn cellplan_cell_now(alloc: Global, cell: &mut Cell, at: &mut u64) -> u32
     ensures { Tells cell.old cell.new result at.old at.new (λ held at. at ≡ held.cell.last) }
@@ -117,7 +117,7 @@ pub extern "C" fn cellplan_cell_now(alloc: Global, cell: &mut Cell, at: &mut u64
     GOOD
 }
 
-/// Whether no accepted report was late.
+/// Whether no accepted report was late since its plan began or took over, but that what was overdue then has ended then.
 #[unsafe(no_mangle)]
 pub extern "C" fn cellplan_cell_punctual(alloc: Global, cell: &mut Cell, punctual: &mut bool) -> u32
     ensures { Tells cell.old cell.new result punctual.old punctual.new (λ held punctual. punctual ≡ held.punctual) }
@@ -146,7 +146,7 @@ pub extern "C" fn cellplan_cell_reports_left(alloc: Global, cell: &mut Cell, lef
 /// Whether the run has ended: all jobs are gone, and no machine is being cleaned.
 #[unsafe(no_mangle)]
 pub extern "C" fn cellplan_cell_is_done(alloc: Global, cell: &mut Cell, done: &mut bool) -> u32
-    ensures { Tells cell.old cell.new result done.old done.new (λ held done. IsTrue done ↔ HasEnded held.plan.planned held.cell) }
+    ensures { Tells cell.old cell.new result done.old done.new (λ held done. IsTrue done ↔ HasEnded held.planned held.cell) }
 {
     let Some(inner) = cell.take(alloc) else {
         return NO_CELL;
@@ -159,12 +159,12 @@ pub extern "C" fn cellplan_cell_is_done(alloc: Global, cell: &mut Cell, done: &m
 /// How many jobs the shop has.
 #[unsafe(no_mangle)]
 pub extern "C" fn cellplan_cell_jobs(alloc: Global, cell: &mut Cell, count: &mut u32) -> u32
-    ensures { Tells cell.old cell.new result count.old count.new (λ held count. count ≡ jobs held.plan.planned) }
+    ensures { Tells cell.old cell.new result count.old count.new (λ held count. count ≡ jobs held.planned) }
 {
     let Some(inner) = cell.take(alloc) else {
         return NO_CELL;
     };
-    *count = inner.controller.verified().shaped().shop().jobs();
+    *count = inner.controller.shaped().shop().jobs();
     cell.put(inner);
     GOOD
 }
@@ -172,17 +172,18 @@ pub extern "C" fn cellplan_cell_jobs(alloc: Global, cell: &mut Cell, count: &mut
 /// How many machines the shop has.
 #[unsafe(no_mangle)]
 pub extern "C" fn cellplan_cell_machines(alloc: Global, cell: &mut Cell, count: &mut u32) -> u32
-    ensures { Tells cell.old cell.new result count.old count.new (λ held count. count ≡ machines held.plan.planned) }
+    ensures { Tells cell.old cell.new result count.old count.new (λ held count. count ≡ machines held.planned) }
 {
     let Some(inner) = cell.take(alloc) else {
         return NO_CELL;
     };
-    *count = inner.controller.verified().shaped().shop().machines();
+    *count = inner.controller.shaped().shop().machines();
     cell.put(inner);
     GOOD
 }
 
-/// The job's earliest leaving by the plan; `NONE` for a number that is no job's.
+/// The moment kept for the job's leaving, by which it is out while no report is late: the earliest, from where its plan began or
+/// took over. `NONE` for a number that is no job's.
 #[unsafe(no_mangle)]
 pub extern "C" fn cellplan_cell_leaves(
     alloc: Global,
@@ -190,12 +191,12 @@ pub extern "C" fn cellplan_cell_leaves(
     job: u32,
     at: &mut u64,
 ) -> u32
-    ensures { Finds cell.old cell.new result at.old at.new (λ held. IsLeaveOf held.plan job) }
+    ensures { Finds cell.old cell.new result at.old at.new (λ held. IsLeaveOf held job) }
 {
     let Some(inner) = cell.take(alloc) else {
         return NO_CELL;
     };
-    let found = inner.controller.verified().earliest_leave(job);
+    let found = inner.controller.leave_by(job);
     cell.put(inner);
     put_found(found, at)
 }

@@ -1,24 +1,26 @@
 //! Reports and their orders, called from C.
 
-ghost use Rattle.std.specs.Prelude.{◌≡◌, ◌≢◌, ◌<◌, ◌≤◌, ◌↔◌, None, IsSome, IfSome, length, false};
-ghost use Rattle.cell_tables.specs.Reports.{said};
-ghost use Rattle.cell_control.specs.Promises.{NeverGoesWrong};
+ghost use Rattle.std.specs.Prelude.{◌≡◌, ◌≢◌, ◌<◌, ◌≤◌, ◌↔◌, None, IsSome, IfSome, IfOk, IfErr, IsOk, length, false};
+ghost use Rattle.rest_control.specs.RestControl.{IsRestAnswered};
+ghost use Rattle.rest_control.specs.RestPromises.{RestNeverGoesWrong};
 ghost use Rattle.cellplan_c.specs.Told.{report_by};
+ghost use Rattle.cellplan_c.specs.Ended.{ended_by, CanEnd, IsFirstFor, IsOnlyFor, IfGoesOnNow, Calls};
 ghost use Rattle.cellplan_c.specs.Cells.{Holding, Reporting, IsReportTold, AreOrdersPut, IsKeptBehind};
 
 use crate::cell::Cell;
 use crate::inner::Inner;
 use crate::rooms::put_orders;
 use crate::statuses::{GOOD, NO_CELL, NO_KIND};
-use crate::told::{Order, fault_detail, fault_number, report_by};
-use cell_control::Report;
-use cell_control::laws::never_goes_wrong;
+use crate::told::{Ended, Order, fault_detail, fault_number, report_by};
+use cell_control::{Ack, ReportFault, TourneyDues};
+use rest_control::RestController;
+use rest_control::laws::never_goes_wrong;
 use std::alloc::Global;
 
-/// Takes a report: of kind 0, that the job has arrived, 1, that its operation on the machine has ended, or 2, that the
-/// machine is clean. A number that the kind has no use for isn't read. As many of the orders are written as there is
-/// room for, and their true number; the others are had of [`cellplan_cell_orders`]. Refused, the answer is the number
-/// of the reason, and what it names is written.
+/// Takes a report: of kind 0, that the job has arrived, 1, that its operation on the machine has ended, 2, that the
+/// machine is clean, or 3, that it is clean after just this job. A number that the kind has no use for isn't read. As many
+/// of the orders are written as there is room for, and their true number; the others are had of [`cellplan_cell_orders`].
+/// Refused, the answer is the number of the reason, and what it names is written.
 #[unsafe(no_mangle)]
 pub extern "C" fn cellplan_cell_report(
     alloc: Global,
@@ -34,10 +36,10 @@ pub extern "C" fn cellplan_cell_report(
 ) -> u32
     ensures full { IsSome cell.old.slot.held → IsSome cell.new.slot.held }
     ensures no_kind { (report_by kind job machine at ≡ None) ↔ (result ≡ 9) }
-    ensures no_cell { IfSome (report_by kind job machine at) (λ report. (cell.old.slot.held ≡ None) ↔ (result ≡ 8)) }
+    ensures no_cell { IfSome (report_by kind job machine at) (λ ended. (cell.old.slot.held ≡ None) ↔ (result ≡ 8)) }
     ensures reported { Reporting cell.old cell.new kind job machine at (IsReportTold result late.new detail.new) }
     ensures unchanged { result ≢ 0 → cell.new.slot.held ≡ cell.old.slot.held }
-    ensures never_wrong { result ≢ 9 → Holding cell.new NeverGoesWrong }
+    ensures never_wrong { result ≢ 9 → Holding cell.new RestNeverGoesWrong }
     ensures not_late { result ≢ 0 → late.new ≡ false }
     ensures no_detail { result < 16 → detail.new ≡ 0 }
     ensures no_orders { result ≢ 0 → (count.new ≡ 0) × (orders.new ≡ orders.old) }
@@ -48,13 +50,13 @@ pub extern "C" fn cellplan_cell_report(
     *count = 0;
     *late = false;
     *detail = 0;
-    let Some(report) = report_by(kind, job, machine, at) else {
+    let Some(ended) = report_by(kind, job, machine, at) else {
         return NO_KIND;
     };
     let Some(mut inner) = cell.take(alloc) else {
         return NO_CELL;
     };
-    let status = report_to(&mut inner, report, late, detail);
+    let status = report_to(&mut inner, ended, late, detail);
     if status == GOOD {
         let released = inner.controller.orders();
         *count = released.len();
@@ -64,7 +66,8 @@ pub extern "C" fn cellplan_cell_report(
     status
 }
 
-/// The orders of the last accepted report from a first one on, as many as there is room for, and the number of them all.
+/// The orders of the last accepted report, or of the plan that took over after it, from a first one on, as many as there is
+/// room for, and the number of them all.
 #[unsafe(no_mangle)]
 pub extern "C" fn cellplan_cell_orders(
     alloc: Global,
@@ -92,16 +95,16 @@ pub extern "C" fn cellplan_cell_orders(
     GOOD
 }
 
-/// Takes a report, and gives 0 or the number of the reason.
-fn report_to(inner: &mut Inner, report: Report, late: &mut bool, detail: &mut u64) -> u32
-    ensures reported { IsReportTold result late.new detail.new inner.old.controller (said report) inner.new.controller }
+/// Takes what has ended, and gives 0 or the number of the reason.
+fn report_to(inner: &mut Inner, ended: Ended, late: &mut bool, detail: &mut u64) -> u32
+    ensures reported { IsReportTold result late.new detail.new inner.old.controller ended inner.new.controller }
     ensures unchanged { result ≢ 0 → inner.new ≡ inner.old }
     ensures numbers { result ≢ 0 → 16 ≤ result }
     ensures not_late { result ≢ 0 → late.new ≡ late.old }
     ensures no_detail { result ≡ 0 → detail.new ≡ detail.old }
-    ensures never_wrong { NeverGoesWrong inner.new.controller }
+    ensures never_wrong { RestNeverGoesWrong inner.new.controller }
 {
-    let told = inner.controller.report(report);
+    let told = take(&mut inner.controller, ended);
     never_goes_wrong(&inner.controller);
     match told {
         Ok(ack) => {
@@ -111,6 +114,26 @@ fn report_to(inner: &mut Inner, report: Report, late: &mut bool, detail: &mut u6
         Err(fault) => {
             *detail = fault_detail(fault);
             fault_number(fault)
+        }
+    }
+}
+
+/// Takes what has ended, or tells the first reason for which it isn't possible.
+fn take(controller: &mut RestController<TourneyDues>, ended: Ended) -> Result<Ack, ReportFault>
+    ensures possible { IsOk result ↔ CanEnd controller.old ended }
+    ensures answered { IfOk result (λ ack. IsRestAnswered controller.old (ended_by ended) ack controller.new) }
+    ensures first_reason { IfErr result (IsFirstFor controller.old ended) }
+    ensures only_reason { IfErr result (IsOnlyFor controller.old ended) }
+    ensures unchanged { IfErr result (λ fault. controller.new ≡ controller.old) }
+    ensures called { Calls controller.old ended controller.new }
+    ensures never_refused { IfGoesOnNow controller.old ended (IsOk result) }
+{
+    match ended {
+        Ended::Reported(report) => controller.report(report),
+        Ended::CleanedAfter { machine, job, at } => {
+            // Called for its clause alone: the cell is sound.
+            let _plan = controller.shaped();
+            controller.clean_after(machine, job, at)
         }
     }
 }

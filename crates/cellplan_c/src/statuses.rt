@@ -26,6 +26,15 @@ pub const NO_CELL: u32 = 8;
 /// The report is of no kind.
 pub const NO_KIND: u32 = 9;
 
+/// The run so far isn't one of the other plan.
+pub const KEEPS_NOT: u32 = 10;
+
+/// The moment is over the limit: the number of this reason.
+pub const MOMENT_TOO_LARGE: u32 = 18;
+
+/// The moment is before the last one: the number of this reason.
+pub const BACKWARDS: u32 = 19;
+
 /// The status of a call whose request for memory was refused. No other one is made for it.
 pub fn status_of_refused(error: AllocError) -> u32
     ensures { result ≡ 4 }

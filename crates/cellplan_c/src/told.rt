@@ -28,14 +28,22 @@ pub struct Phase {
     pub at: u64,
 }
 
-/// The report of this kind, if it is one: an arrival, the end of an operation, or of a cleaning.
-pub fn report_by(kind: u32, job: u32, machine: u32, at: u64) -> Option<Report>
+/// What has ended: an activity that a report tells, or the cleaning of the machine after just this job.
+#[derive(Clone, Copy)]
+pub enum Ended {
+    Reported(Report),
+    CleanedAfter { machine: u32, job: u32, at: u64 },
+}
+
+/// What has ended by this kind, if it is one: an arrival, an operation, a cleaning, or a cleaning after a job.
+pub fn report_by(kind: u32, job: u32, machine: u32, at: u64) -> Option<Ended>
     ensures { result ≡ report_by kind job machine at }
 {
     match kind {
-        0 => Some(Report::Arrive { job, at }),
-        1 => Some(Report::Finish { job, machine, at }),
-        2 => Some(Report::Clean { machine, at }),
+        0 => Some(Ended::Reported(Report::Arrive { job, at })),
+        1 => Some(Ended::Reported(Report::Finish { job, machine, at })),
+        2 => Some(Ended::Reported(Report::Clean { machine, at })),
+        3 => Some(Ended::CleanedAfter { machine, job, at }),
         _ => None,
     }
 }

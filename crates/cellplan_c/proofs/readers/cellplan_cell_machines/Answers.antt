@@ -4,4 +4,4 @@ use Rattle.cellplan_c.proofs.readers.cellplan_cell_machines.Goals as goal
 
 pub returns : goal.returns
 returns c = tells _ _ _ _ _ _ c.in-Some.ensures.taken c.put.ensures _ refl
-    (rw (c.shop.ensures.same, c.shaped.ensures.same, c.verified.ensures.plan, c.deref.ensures) at c.machines.ensures.count)
+    (rw (c.shop.ensures.same, c.shaped.ensures.plan, c.deref.ensures) at c.machines.ensures.count)

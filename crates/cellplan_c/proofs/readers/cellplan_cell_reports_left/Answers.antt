@@ -6,6 +6,5 @@ use Rattle.cellplan_c.proofs.readers.cellplan_cell_reports_left.Goals as goal
 pub returns : goal.returns
 returns c = tells _ _ _ _ _ _ c.in-Some.ensures.taken c.put.ensures AreReportsLeft refl (record {
   left_is = rw c.deref.ensures at c.reports_left.ensures.left;
-  count = rw c.deref.ensures at c.reports_left.ensures.count;
   ended = rw c.deref.ensures at c.reports_left.ensures.ended;
 })

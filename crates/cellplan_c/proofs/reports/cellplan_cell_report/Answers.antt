@@ -27,7 +27,7 @@ returns-in_default c =
 
 pub returns-in_default-take : goal.returns-in_default-take
 returns-in_default-take c =
-    let told : report_by c.args.kind c.args.job c.args.machine c.args.at ≡ Some c.in-Some.report = sym c.in-Some.ensures in
+    let told : report_by c.args.kind c.args.job c.args.machine c.args.at ≡ Some c.in-Some.ended = sym c.in-Some.ensures in
     let none = c.in_default-take.ensures.taken in
     let emptied = c.in_default-take.ensures.emptied in
     record {
@@ -49,7 +49,7 @@ pub returns : goal.returns
 returns c =
     let held : c.args.cell.now.slot.held ≡ Some c.deref_mut.result.now = rw c.deref_mut.ensures.value c.in-Some-take.ensures.taken in
     let after = c.put.ensures in
-    let told : report_by c.args.kind c.args.job c.args.machine c.args.at ≡ Some c.in-Some.report = sym c.in-Some.ensures in
+    let told : report_by c.args.kind c.args.job c.args.machine c.args.at ≡ Some c.in-Some.ended = sym c.in-Some.ensures in
     let taken = c.report_to-status.ensures in
     record {
       full = λ some. ap is_some after;

@@ -1,4 +1,5 @@
 use Rattle.std.proofs.Common.{refl}
+use Rattle.cellplan_c.proofs.Ending.{goes_anyway, refused_told}
 use Rattle.cellplan_c.proofs.reports.report_to.Goals as goal
 
 pub returns-in-Ok : goal.returns-in-Ok
@@ -10,7 +11,7 @@ returns-in-Ok c =
         answered = λ good. taken.answered;
         reason = λ bad. absurd (bad refl);
         called = taken.called;
-        never_refused = λ due goes now. refl;
+        never_refused = goes_anyway c.args.inner.now.controller c.args.ended _ refl;
       };
       unchanged = λ bad. absurd (bad refl);
       numbers = λ bad. absurd (bad refl);
@@ -18,3 +19,9 @@ returns-in-Ok c =
       no_detail = λ good. refl;
       never_wrong = c.never_goes_wrong.ensures;
     }
+
+pub returns-in-Err-clause-reported : goal.returns-in-Err-clause-reported
+returns-in-Err-clause-reported c =
+    let told = c.in-Err.ensures in
+    refused_told c.args.inner.now.controller c.args.ended c.in-Err.fault _ _ _ _ _ (λ ok. absurd (cc ok)) told.possible told.first_reason told.only_reason told.called told.never_refused
+    c.fault_number.ensures c.fault_detail.ensures

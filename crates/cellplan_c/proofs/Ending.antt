@@ -1,0 +1,65 @@
+-- What is reported, and what comes of it.
+use Rattle.std.proofs.Common.{◌≡◌, ℕ, ◌≤◌, ◌↔◌, Bool, Result, Ok, Err, IfOk, IfErr, inl, inr, sym, subst, arith}
+use Rattle.shop_base.specs.declared.limits.TheConstants.{MAX_MOMENT}
+use Rattle.shop_base.specs.Sound.{IsSound}
+use Rattle.cell_tables.specs.declared.report.Report.TheVariants.{Clean}
+use Rattle.cell_tables.specs.Reports.{said}
+use Rattle.cell_control.specs.declared.report.Ack.{Ack}
+use Rattle.cell_control.specs.declared.report_fault.ReportFault.{ReportFault}
+use Rattle.cell_control.specs.declared.report_fault.ReportFault.TheVariants.{JobOutOfRange, MachineOutOfRange, MomentTooLarge, Backwards, NotExpected, WrongKind, WrongMachine}
+use Rattle.cell_control.specs.Reports.{CanCleanAfter}
+use Rattle.rest_control.specs.RestControl.{RestControl, IsRestAnswered}
+use Rattle.rest_control.specs.RestPromises as promise
+use Rattle.cellplan_c.specs.declared.told.Ended.{Ended}
+use Rattle.cellplan_c.specs.declared.told.Ended.TheVariants.{Reported, CleanedAfter}
+use Rattle.cellplan_c.specs.Told.{fault_number, fault_detail}
+use Rattle.cellplan_c.specs.Ended.{CanEnd, IsFirstFor, IsOnlyFor, IfGoesOnNow, Calls}
+use Rattle.cellplan_c.specs.Cells.{IsReportTold}
+
+-- what holds holds if something goes on
+pub goes_anyway : (v : RestControl) (ended : Ended) (Holds : Type 0) → Holds → IfGoesOnNow v ended Holds
+goes_anyway v (Reported report) Holds holds = λ due goes now. holds
+goes_anyway v (CleanedAfter machine job at) Holds holds = λ after now. holds
+
+-- and so does what follows from it
+goes_further : (v : RestControl) (ended : Ended) (Holds More : Type 0) → (Holds → More) → IfGoesOnNow v ended Holds → IfGoesOnNow v ended More
+goes_further v (Reported report) Holds More more goes = λ due going now. more (goes due going now)
+goes_further v (CleanedAfter machine job at) Holds More more goes = λ after now. more (goes after now)
+
+module _ (v : RestControl) (machine job at : ℕ) where
+  -- a cleaning after a job that goes on can end at the last moment
+  pub clean_now : (Holds : Type 0) → IsSound v.planned v.cell → (CanCleanAfter v.planned v.cell machine job at → Holds) → IfGoesOnNow v (CleanedAfter machine job at) Holds
+  clean_now Holds sound holds after now = holds (record {
+    after = after;
+    moment = record {
+      in_order = omega (arith, now);
+      in_range = subst (λ (n : ℕ). n ≤ MAX_MOMENT) (sym now) sound.last_in_range;
+    };
+  })
+
+  -- the report of a cleaning after a job calls for that of the cleaning, or changes nothing
+  pub clean_called : (told : Result Ack ReportFault) (new : RestControl) → IfOk told (λ ack. IsRestAnswered v (said (Clean machine at)) ack new) → IfErr told (λ fault. new ≡ v)
+      → Calls v (CleanedAfter machine job at) new
+  clean_called (Ok ack) new answered same = inl (_, promise.answered v (said (Clean machine at)) ack new answered)
+  clean_called (Err fault) new answered same = inr same
+
+number_high : (fault : ReportFault) → 16 ≤ fault_number fault
+number_high JobOutOfRange = omega arith
+number_high MachineOutOfRange = omega arith
+number_high MomentTooLarge = omega arith
+number_high (Backwards last) = omega arith
+number_high NotExpected = omega arith
+number_high WrongKind = omega arith
+number_high (WrongMachine actual) = omega arith
+
+-- what a refusal comes to
+pub refused_told : (old : RestControl) (ended : Ended) (fault : ReportFault) (number detail : ℕ) (late : Bool) (new : RestControl) (Taken : Type 0) → (Taken → ⊥) → Taken ↔ CanEnd old ended
+    → IsFirstFor old ended fault → IsOnlyFor old ended fault → Calls old ended new → IfGoesOnNow old ended Taken → number ≡ fault_number fault → detail ≡ fault_detail fault
+    → IsReportTold number late detail old ended new
+refused_told old ended fault number detail late new Taken refused possible first only called goes number_is detail_is = record {
+  possible = ((λ good. absurd (omega (arith, good, number_is, number_high fault))), λ can. absurd (refused (possible.1 can)));
+  answered = λ good. absurd (omega (arith, good, number_is, number_high fault));
+  reason = λ bad. (fault, number_is, detail_is, first, only);
+  called = called;
+  never_refused = goes_further old ended Taken (number ≡ 0) (λ taken. absurd (refused taken)) goes;
+}

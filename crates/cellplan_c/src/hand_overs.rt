@@ -1,0 +1,119 @@
+//! A cell handed over to another plan in mid-run, called from C.
+
+ghost use Rattle.std.specs.Prelude.{◌≡◌, ◌≢◌, ◌≤◌, ◌↔◌, None, IsSome, length};
+ghost use Rattle.shop_base.specs.declared.limits.TheConstants.{MAX_MOMENT};
+ghost use Rattle.shop_base.specs.Plan.{PlannedShop};
+ghost use Rattle.command_answers.specs.Shapes.{IsShapedOrNot};
+ghost use Rattle.rest_control.specs.RestPromises.{RestNeverGoesWrong};
+ghost use Rattle.rest_control.specs.HandedOver.{IsHandedOver};
+ghost use Rattle.cellplan_c.specs.Told.{named};
+ghost use Rattle.cellplan_c.specs.Cells.{Holding, Handing, AreOrdersPut, IsKeptBehind};
+ghost use Rattle.cellplan_c.specs.HandOvers.{IsHandOver, IsHandOverStatus, rest_fault_status};
+
+use crate::cell::Cell;
+use crate::inner::Inner;
+use crate::instances::name_in;
+use crate::rooms::put_orders;
+use crate::statuses::{BACKWARDS, GOOD, KEEPS_NOT, MOMENT_TOO_LARGE, NO_CELL, REFUSED};
+use crate::told::Order;
+use command_answers::{CommandFault, load_shaped};
+use rest_control::RestFault;
+use rest_control::laws::never_goes_wrong;
+use shop_base::limits::MAX_MOMENT;
+use shop_base::{ShapeFault, Shaped};
+use std::alloc::Global;
+
+/// Hands the cell over to the plan of the two texts, from a moment on. As many of the orders that are then due are written as
+/// there is room for, and their true number; the others are had of `cellplan_cell_orders`. Refused, the cell holds what it held.
+#[unsafe(no_mangle)]
+pub extern "C" fn cellplan_cell_hand_over(
+    alloc: Global,
+    cell: &mut Cell,
+    instance: &[u8],
+    name: &[u8],
+    plan: &[u8],
+    at: u64,
+    orders: &mut [Order],
+    count: &mut usize,
+) -> u32
+    ensures full { IsSome cell.old.slot.held → IsSome cell.new.slot.held }
+    ensures no_cell { (cell.old.slot.held ≡ None) ↔ (result ≡ 8) }
+    ensures handed_over { Handing cell.old cell.new (IsHandOver instance.now (named name.now) plan.now at result) }
+    ensures unchanged { result ≢ 0 → cell.new.slot.held ≡ cell.old.slot.held }
+    ensures never_wrong { Holding cell.new RestNeverGoesWrong }
+    ensures no_orders { result ≢ 0 → (count.new ≡ 0) × (orders.new ≡ orders.old) }
+    ensures count { Holding cell.new (λ new. result ≡ 0 → count.new ≡ length new.orders) }
+    ensures orders { Holding cell.new (λ new. result ≡ 0 → AreOrdersPut new.orders 0 orders.old orders.new) }
+    ensures kept { Holding cell.new (λ new. result ≡ 0 → IsKeptBehind new.orders 0 orders.old orders.new) }
+{
+    *count = 0;
+    let Some(mut inner) = cell.take(alloc) else {
+        return NO_CELL;
+    };
+    let status = hand_over_to(alloc, &mut inner, instance, name, plan, at);
+    never_goes_wrong(&inner.controller);
+    if status == GOOD {
+        let released = inner.controller.orders();
+        *count = released.len();
+        put_orders(released, 0, orders);
+    }
+    cell.put(inner);
+    status
+}
+
+/// Hands over to the plan of the two texts, and gives 0 or the status of the reason why not.
+fn hand_over_to(
+    alloc: Global,
+    inner: &mut Inner,
+    instance: &[u8],
+    name: &[u8],
+    plan: &[u8],
+    at: u64,
+) -> u32
+    ensures handed_over { IsHandOver instance.now (named name.now) plan.now at result inner.old.controller inner.new.controller }
+    ensures unchanged { result ≢ 0 → inner.new ≡ inner.old }
+    ensures statuses { result ≢ 8 }
+{
+    if at > MAX_MOMENT {
+        return MOMENT_TOO_LARGE;
+    }
+    match load_shaped(alloc, instance, name_in(name), plan) {
+        Ok(told) => hand_over_plan(alloc, inner, told, at),
+        Err(fault) => u32::from(fault.status()),
+    }
+}
+
+/// Hands over to a plan that is told, if it is well shaped.
+fn hand_over_plan(
+    alloc: Global,
+    inner: &mut Inner,
+    told: Result<Shaped, ShapeFault>,
+    at: u64,
+) -> u32
+    requires { at ≤ MAX_MOMENT }
+    ensures status { (q : PlannedShop) → IsShapedOrNot q told → IsHandOverStatus inner.old.controller q at result }
+    ensures taken { (q : PlannedShop) → IsShapedOrNot q told → result ≡ 0 → IsHandedOver inner.old.controller q at inner.new.controller }
+    ensures unchanged { result ≢ 0 → inner.new ≡ inner.old }
+    ensures statuses { (result ≢ 3) × (result ≢ 8) × (result ≢ 18) }
+{
+    let Ok(shaped) = told else {
+        return REFUSED;
+    };
+    match inner.controller.hand_over(alloc, shaped, at) {
+        Ok(()) => GOOD,
+        Err((fault, _shaped)) => rest_fault_status(fault),
+    }
+}
+
+/// The status of a reason why another plan doesn't take over.
+fn rest_fault_status(fault: RestFault) -> u32
+    ensures { result ≡ rest_fault_status fault }
+{
+    match fault {
+        RestFault::MomentTooLarge => MOMENT_TOO_LARGE,
+        RestFault::KeepsNot => KEEPS_NOT,
+        RestFault::Backwards { last: _ } => BACKWARDS,
+        RestFault::Cycle(_) => REFUSED,
+        RestFault::Memory => u32::from(CommandFault::Memory.status()),
+    }
+}

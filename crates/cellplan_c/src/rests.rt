@@ -1,0 +1,89 @@
+//! What is told of the rest of a cell's run, called from C.
+
+ghost use Rattle.std.specs.Prelude.{◌≡◌, ◌≢◌, ◌≤◌, ◌↔◌, None};
+ghost use Rattle.command_answers.specs.declared.rests.PlanTelling.TheVariants.{Verdict, Moments};
+ghost use Rattle.cellplan_c.specs.Cells.{Holding};
+ghost use Rattle.cellplan_c.specs.RestsAsked.{IsRestAsked};
+
+use crate::cell::Cell;
+use crate::rooms::put_text;
+use crate::statuses::{BACKWARDS, MOMENT_TOO_LARGE, NO_CELL, status_of_refused};
+use cell_control::TourneyDues;
+use command_answers::{PlanTelling, rest_told};
+use rest_control::RestController;
+use shop_base::limits::MAX_MOMENT;
+use std::alloc::Global;
+
+/// The verdict on the rest of the cell's run by its plan, from a moment on, as the command `check` tells it of a log.
+#[unsafe(no_mangle)]
+pub extern "C" fn cellplan_cell_check(
+    alloc: Global,
+    cell: &mut Cell,
+    at: u64,
+    line: &mut [u8],
+    length: &mut usize,
+) -> u32
+    ensures asked { Holding cell.old (IsRestAsked Verdict at result line.old line.new length.new) }
+    ensures no_cell { (cell.old.slot.held ≡ None) ↔ (result ≡ 8) }
+    ensures unchanged { cell.new.slot.held ≡ cell.old.slot.held }
+    ensures untold { 8 ≤ result → (length.new ≡ 0) × (line.new ≡ line.old) }
+{
+    *length = 0;
+    let Some(inner) = cell.take(alloc) else {
+        return NO_CELL;
+    };
+    let telling = PlanTelling::Verdict;
+    let status = tell_rest(alloc, &inner.controller, at, telling, line, length);
+    cell.put(inner);
+    status
+}
+
+/// When what is left of the cell's run begins and ends by its plan, from a moment on, as the command `schedule` tells it of a log.
+#[unsafe(no_mangle)]
+pub extern "C" fn cellplan_cell_schedule(
+    alloc: Global,
+    cell: &mut Cell,
+    at: u64,
+    text: &mut [u8],
+    length: &mut usize,
+) -> u32
+    ensures asked { Holding cell.old (IsRestAsked Moments at result text.old text.new length.new) }
+    ensures no_cell { (cell.old.slot.held ≡ None) ↔ (result ≡ 8) }
+    ensures unchanged { cell.new.slot.held ≡ cell.old.slot.held }
+    ensures untold { 8 ≤ result → (length.new ≡ 0) × (text.new ≡ text.old) }
+{
+    *length = 0;
+    let Some(inner) = cell.take(alloc) else {
+        return NO_CELL;
+    };
+    let telling = PlanTelling::Moments;
+    let status = tell_rest(alloc, &inner.controller, at, telling, text, length);
+    cell.put(inner);
+    status
+}
+
+/// Tells of the rest of a run, if the moment can be the next.
+fn tell_rest(
+    alloc: Global,
+    controller: &RestController<TourneyDues>,
+    at: u64,
+    telling: PlanTelling,
+    room: &mut [u8],
+    needed: &mut usize,
+) -> u32
+    ensures asked { IsRestAsked telling at result room.old room.new needed.new controller.now }
+    ensures untold { 8 ≤ result → (needed.new ≡ 0) × (room.new ≡ room.old) }
+    ensures statuses { result ≢ 8 }
+{
+    *needed = 0;
+    if at > MAX_MOMENT {
+        return MOMENT_TOO_LARGE;
+    }
+    if at < controller.now() {
+        return BACKWARDS;
+    }
+    match rest_told(alloc, controller.work_cell(), at, telling) {
+        Ok(answer) => put_text(&answer.text, u32::from(answer.status), room, needed),
+        Err(error) => status_of_refused(error),
+    }
+}
