@@ -1,4 +1,4 @@
-/* Drives a cell of two jobs and two machines, whose floor tells what has ended and is told what to move. */
+/* Drives a cell of two jobs and two machines, with a list of what ends, and prints the moves. */
 #include "cellplan.h"
 
 #include <inttypes.h>

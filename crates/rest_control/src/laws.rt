@@ -32,8 +32,8 @@ pub fn a_kept_run_is_one_of_the_other_plan()
     ensures { AKeptRunIsOneOfTheOtherPlan }
 {}
 
-/// What a new controller of an accepted plan becomes makes the controlled run of the reports with which it is called. All were
-/// punctual exactly where it says so.
+/// The calls of a new controller of an accepted plan make the controlled run of their reports. All were punctual exactly
+/// if the controller says so.
 pub fn calls_make_the_run()
     ensures { CallsMakeTheRun }
 {}

@@ -196,8 +196,8 @@ impl<D: Dues> RestController<D> {
         check_cleaning_after(&self.cell, machine, job, at)
     }
 
-    /// Takes the report that the machine has been cleaned after this job, as `Controller::clean_after` does. It isn't expected
-    /// where the machine isn't being cleaned after just that job.
+    /// Takes the report that the machine has been cleaned after this job, as `Controller::clean_after` does.
+    /// It is expected only while the machine is being cleaned after just that job.
     pub fn clean_after(
         &mut self,
         machine: MachineNo,
@@ -275,7 +275,7 @@ impl<D: Dues> RestController<D> {
         }
     }
 
-    /// The job after which the machine is being cleaned, the last that was on it; none where it isn't being cleaned.
+    /// The job after which the machine is being cleaned, the last that was on it; `None` if it isn't being cleaned.
     pub fn cleaned_after(&self, machine: MachineNo) -> Option<JobNo>
         ensures { IsCleanedFor self.now.planned self.now.cell machine result }
     {
