@@ -16,7 +16,8 @@ _cellplan() {
     schedule) options='--instance --after --at --svg --help' ;;
     drive) options='--instance --lines --leap --help' ;;
     gantt) options='--instance --svg --help' ;;
-    facts | shape | bounds | resume | hub | audit) options='--instance --help' ;;
+    facts | shape | bounds | hub | audit) options='--instance --help' ;;
+    resume) options='--instance --at --help' ;;
     *) return ;;
   esac
   case $word in

@@ -15,7 +15,7 @@ complete -c cellplan -n __fish_use_subcommand -a audit -d 'Says whether a log is
 complete -c cellplan -n __fish_use_subcommand -a gantt -d 'Draws a log as a Gantt chart, in text or as a picture'
 complete -c cellplan -n '__fish_seen_subcommand_from facts shape check explain schedule bounds plan improve drive resume hub audit gantt' -l instance -x -d 'The name of the instance in a collection'
 complete -c cellplan -n '__fish_seen_subcommand_from check explain schedule improve' -l after -r -d 'Ask about the rest of the run in this log'
-complete -c cellplan -n '__fish_seen_subcommand_from check explain schedule improve' -l at -x -d 'The present moment, by default the log\'s last one'
+complete -c cellplan -n '__fish_seen_subcommand_from check explain schedule improve resume' -l at -x -d 'The present moment, by default the log\'s last one'
 complete -c cellplan -n '__fish_seen_subcommand_from drive' -l lines -x -d 'The version of the lines, 1 or 2'
 complete -c cellplan -n '__fish_seen_subcommand_from drive' -l leap -x -d 'Refuse a report more than S after the last one'
 complete -c cellplan -n '__fish_seen_subcommand_from plan improve' -l rounds -x -d 'The rounds of the search, 0 to 1000'

@@ -3,7 +3,7 @@ use Rattle.std.proofs.Common.{◌≡◌, ℕ, ◌+◌, List, [], ◌∷◌, ◌+
 use Rattle.shop_base.specs.Plan.{PlannedShop, IsWellShaped}
 use Rattle.shop_base.specs.Cell.{Cell, start}
 use Rattle.shop_base.specs.Report as base
-use Rattle.shop_base.specs.Run.{Event, Reported}
+use Rattle.shop_base.specs.Run.{Event, Reported, IsRun}
 use Rattle.shop_base.specs.Controlled.{Leads, accepted, done, refused, moved, step_orders, after_step, IsControlledRun}
 use Rattle.shop_base.proofs.ControlledRuns.{controlled_to_run}
 use Rattle.text_lines.specs.Lines.{lines_of, ended_lines}
@@ -24,12 +24,11 @@ use Rattle.cell_drive.proofs.OneText.{start_on_course}
 use Rattle.event_lines.specs.ReadBack.{TellsFirst}
 use Rattle.event_lines.proofs.Telling.{tells_none, tells_both}
 use Rattle.cell_drive.proofs.ReadBack.{answers_told, closing_told}
-use Rattle.cell_drive.specs.CutLaw.{ACutLogIsTakenUp, WhatWasDrivenIsTakenUp}
+use Rattle.cell_drive.specs.CutLaw.{ACutLogIsTakenUp, ACutLogHasItsOrders, WhatWasDrivenHasItsOrders}
 use Rattle.cell_drive.proofs.Parts.{entries_moved}
 use Rattle.cell_drive.proofs.CutRuns.{cut_of_run}
 use Rattle.text_lines.proofs.EndedLines.{ended-more}
-use Rattle.cell_drive.proofs.OwnRuns.{own_run}
-use Rattle.cell_drive.proofs.FirstFaults.{due_events}
+use Rattle.cell_drive.proofs.OwnRuns.{own_run, due_events, front_events}
 
 -- the events of a controlled run, with the cell to which they lead
 pub run_of_leads : (p : PlannedShop) (reports : List base.Report) (entries : List Entry) (end : Cell) → IsWellShaped p → IsControlledRun p reports (events_of entries) end → IsRunOf p entries
@@ -37,7 +36,14 @@ run_of_leads p reports entries end shaped run =
     (reports, subst (IsControlledRun p reports (events_of entries)) (controlled_to_run p reports (events_of entries) end shaped run).1 run)
 
 pub a_cut_log_is_taken_up : ACutLogIsTakenUp
-a_cut_log_is_taken_up p cut lost entries shaped tells run =
+a_cut_log_is_taken_up p cut lost entries tells run =
+    let (more, lines) = ended-more cut lost in
+    let (a, b, first, second, parts) = tell-parts p (ended_lines cut) more entries (subst (λ (ls : List (List ℕ)). LinesTell p ls entries) lines tells) in
+    let events : events_of entries ≡ events_of a ++ events_of b = ap events_of parts ∙ events-join a b in
+    record { told = a; tells = first; run = front_events p (start p) (events_of a) (events_of b) (subst (IsRun p) events run); later = b; whole = parts }
+
+pub a_cut_log_has_its_orders : ACutLogHasItsOrders
+a_cut_log_has_its_orders p cut lost entries shaped tells run =
     let (more, lines) = ended-more cut lost in
     let (a, b, first, second, parts) = tell-parts p (ended_lines cut) more entries (subst (λ (ls : List (List ℕ)). LinesTell p ls entries) lines tells) in
     let events : events_of entries ≡ events_of a ++ events_of b = ap events_of parts ∙ events-join a b in
@@ -126,13 +132,13 @@ pub closing_part : (p : PlannedShop) (end : DrivenCell) (closing : List ℕ) →
 closing_part p end closing (inl none) = subst (λ (t : List ℕ). TellsFirst p t []) (sym none) (tells_none p)
 closing_part p end closing (inr closes) = closing_told p end closing closes
 
-pub what_was_driven_is_taken_up : WhatWasDrivenIsTakenUp
-what_was_driven_is_taken_up p lines answers closing cut lost end shaped are closes whole =
+pub what_was_driven_has_its_orders : WhatWasDrivenHasItsOrders
+what_was_driven_has_its_orders p lines answers closing cut lost end shaped are closes whole =
     let told = answers_told p shaped lines (undriven p) end 1 answers (start_on_course p shaped) are in
     let tells : LinesTell p (lines_of ((answers ++ closing) ++ [])) ((told.more ++ []) ++ []) = tells_both p answers closing told.more [] told.tells (closing_part p end closing closes) [] [] refl in
     let same_text : (answers ++ closing) ++ [] ≡ cut ++ lost = append-nil (answers ++ closing) ∙ whole in
     let same_entries : (told.more ++ []) ++ [] ≡ end.entries = append-nil (told.more ++ []) ∙ append-nil told.more ∙ sym told.entries in
     let led = answers_lead p lines (undriven p) end 1 answers are in
-    a_cut_log_is_taken_up p cut lost end.entries shaped
+    a_cut_log_has_its_orders p cut lost end.entries shaped
     (subst (λ (t : List ℕ). LinesTell p (lines_of t) end.entries) same_text (subst (λ (es : List Entry). LinesTell p (lines_of ((answers ++ closing) ++ [])) es) same_entries tells))
     (run_of_leads p led.reports end.entries end.cell shaped (subst (λ (es : List Entry). IsControlledRun p led.reports (events_of es) end.cell) (sym led.entries) led.leads))

@@ -16,11 +16,15 @@ pub mod Parts
 pub mod CutRuns
 pub mod OwnRuns
 pub mod LateOnes
-pub mod Replayed
-pub mod FirstFaults
+pub mod FollowedEvents
+pub mod RestRoom
+pub mod RestAnswers
 pub mod OneFault
+pub mod TakingUp
+pub mod GoneOn
 pub mod ToldAgain
 pub mod CutLogs
+pub mod SettledCuts
 pub mod ResumedTexts
 pub mod AnsweredAgain
 pub mod Refusing

@@ -1,143 +1,234 @@
--- Lines have one first fault.
-use Rattle.std.proofs.Common.{◌≡◌, ℕ, List, [], ◌∷◌, ◌++◌, length, map, inl, inr, refl, sym, ap, ◌∙◌, subst, arith, append-nil}
+-- The lines of a log have one first fault.
+use Rattle.std.proofs.Common.{◌≡◌, ℕ, zero, suc, ◌<◌, ◌≤◌, true, false, None, Some, List, [], ◌∷◌, ◌++◌, length, ◌⊎◌, inl, inr, refl, sym, ap, ◌∙◌, subst, arith, append-nil}
+use Rattle.std.proofs.lemmas.Bool.{false≢true, cases_lt}
 use Rattle.shop_base.specs.declared.move_order.MoveOrder.{MoveOrder}
-use Rattle.shop_base.specs.Plan.{PlannedShop, IsWellShaped}
-use Rattle.shop_base.specs.Controlled.{moved}
+use Rattle.shop_base.specs.declared.move_order.Spot.{Spot}
+use Rattle.shop_base.specs.declared.move_order.Spot.TheVariants.{Out, At}
+use Rattle.shop_base.specs.Plan.{PlannedShop}
+use Rattle.shop_base.specs.Cell.{Cell, ready}
+use Rattle.shop_base.specs.Run.{ends_in}
+use Rattle.cell_tables.specs.declared.report.Report.{Report}
 use Rattle.cell_tables.specs.Reports.{said}
 use Rattle.cell_tables.specs.declared.entry.Entry.{Entry}
 use Rattle.cell_tables.specs.declared.entry.Entry.TheVariants.{Report as ReportEntry, Order as OrderEntry}
-use Rattle.cell_control.specs.declared.report_fault.ReportFault.{ReportFault}
-use Rattle.cell_control.proofs.OneReason.{only_reason}
-use Rattle.event_lines.specs.LogLines.{LineTells}
+use Rattle.cell_tables.specs.Events.{events_of}
+use Rattle.event_lines.specs.LogLines.{LineTells, LinesTell}
 use Rattle.event_lines.proofs.Readings.{one_telling, one_reading}
-use Rattle.cell_drive.specs.OneRun.{cell_after, IsRunOf}
-use Rattle.cell_drive.specs.declared.resume_fault.ResumeFault.{ResumeFault}
-use Rattle.cell_drive.specs.declared.resume_fault.ResumeFault.TheVariants.{BadLine, NotOrdered, NotPossible, Memory}
-use Rattle.cell_drive.specs.CutLogs.{IsCutLog, IsFaultOf, IsFaultOfLine, IsFirstBad, IsOnlyFault, fault_line}
-use Rattle.cell_drive.proofs.Parts.{append_parts, moved_alone}
-use Rattle.cell_drive.proofs.OwnRuns.{run_of_own}
-use Rattle.cell_drive.proofs.FirstFaults.{same_due, not_both}
+use Rattle.run_log.specs.declared.audit_fault.AuditFault.{AuditFault}
+use Rattle.run_log.specs.declared.audit_fault.AuditFault.TheVariants.{BadLine, NotExpected, Backwards, NotReady, Occupied, OutOfOrder, WrongPlace, NotClean, Memory}
+use Rattle.run_log.specs.Audits.{IsFaultOf, IsGoingOn, IsLineFault, IsBadLine, IsFirstBad, IsAuditFault, IsOccupied, IsUnclean, IsOutOfTurn, IsOpen, fault_line}
+use Rattle.run_log.proofs.Audits.{first_bad-no_run}
+use Rattle.cell_drive.specs.ResumeFaults.{IsOnlyLogFault, log_fault}
+use Rattle.cell_drive.proofs.Parts.{append_parts}
 
-same_moves : (one other : List MoveOrder) → moved one ≡ moved other → one ≡ other
-same_moves [] [] same = refl
-same_moves [] (o ∷ other) same = absurd (cc)
-same_moves (o ∷ one) [] same = absurd (cc)
-same_moves (o ∷ one) (q ∷ other) same =
-    let tails : moved one ≡ moved other = cc in
-    let rest = same_moves one other tails in
-    let heads : o ≡ q = cc in
-    cc
+-- which fault it is
+abbrev kind : AuditFault → ℕ
+kind (BadLine line) = 0
+kind (NotExpected line) = 1
+kind (Backwards line) = 2
+kind (NotReady line) = 3
+kind (Occupied line) = 4
+kind (NotClean line) = 5
+kind (OutOfOrder line) = 6
+kind (WrongPlace line) = 7
+kind Memory = 8
 
-module _ (p : PlannedShop) where
-  no_bad : (told : List Entry) (due : List MoveOrder) (entry : Entry) (n : ℕ) → IsFaultOf p told due entry (BadLine n) → ⊥
-  no_bad told [] (ReportEntry r) n fault = fault
-  no_bad told [] (OrderEntry o) n fault = fault
-  no_bad told (o ∷ due) (ReportEntry r) n fault = fault
-  no_bad told (o ∷ due) (OrderEntry q) n fault = fault
+-- the fault of a kind and a line
+abbrev fault_at : ℕ → ℕ → AuditFault
+fault_at zero line = BadLine line
+fault_at (suc zero) line = NotExpected line
+fault_at (suc (suc zero)) line = Backwards line
+fault_at (suc (suc (suc zero))) line = NotReady line
+fault_at (suc (suc (suc (suc zero)))) line = Occupied line
+fault_at (suc (suc (suc (suc (suc zero))))) line = NotClean line
+fault_at (suc (suc (suc (suc (suc (suc zero)))))) line = OutOfOrder line
+fault_at (suc (suc (suc (suc (suc (suc (suc zero))))))) line = WrongPlace line
+fault_at (suc (suc (suc (suc (suc (suc (suc (suc k)))))))) line = Memory
 
-  no_want : (told : List Entry) (due : List MoveOrder) (entry : Entry) → IsFaultOf p told due entry Memory → ⊥
-  no_want told [] (ReportEntry r) fault = fault
-  no_want told [] (OrderEntry o) fault = fault
-  no_want told (o ∷ due) (ReportEntry r) fault = fault
-  no_want told (o ∷ due) (OrderEntry q) fault = fault
+fault_is : (f : AuditFault) → f ≡ fault_at (kind f) (fault_line f)
+fault_is (BadLine line) = refl
+fault_is (NotExpected line) = refl
+fault_is (Backwards line) = refl
+fault_is (NotReady line) = refl
+fault_is (Occupied line) = refl
+fault_is (NotClean line) = refl
+fault_is (OutOfOrder line) = refl
+fault_is (WrongPlace line) = refl
+fault_is Memory = refl
 
-  -- an entry that is out of turn is no report that isn't possible
-  not_possible : (told : List Entry) (due : List MoveOrder) (entry : Entry) (n k : ℕ) (reason : ReportFault) → IsFaultOf p told due entry (NotOrdered n) → IsFaultOf p told due entry (NotPossible k reason) → ⊥
-  not_possible told [] (ReportEntry r) n k reason one other = one
-  not_possible told [] (OrderEntry o) n k reason one other = other
-  not_possible told (o ∷ due) (ReportEntry r) n k reason one other = other
-  not_possible told (o ∷ due) (OrderEntry q) n k reason one other = other
+same_fault : (f g : AuditFault) → kind f ≡ kind g → fault_line f ≡ fault_line g → g ≡ f
+same_fault f g kinds lines =
+    fault_is g ∙ ap (λ k. fault_at k (fault_line g)) (sym kinds) ∙ ap (fault_at (kind f)) (sym lines) ∙ sym (fault_is f)
 
-  same_reason : (told : List Entry) (due : List MoveOrder) (entry : Entry) (n k : ℕ) (one two : ReportFault) → IsFaultOf p told due entry (NotPossible n one) → IsFaultOf p told due entry (NotPossible k two) → two ≡ one
-  same_reason told [] (ReportEntry r) n k one two first second = only_reason p (cell_after p told) (said r) one first two second
-  same_reason told [] (OrderEntry o) n k one two first second = absurd first
-  same_reason told (o ∷ due) (ReportEntry r) n k one two first second = absurd first
-  same_reason told (o ∷ due) (OrderEntry q) n k one two first second = absurd first
+module _ (p : PlannedShop) (c : Cell) where
+  -- ---- a target has one fault
 
-  -- an entry has one fault
-  one_of : (told : List Entry) (due : List MoveOrder) (entry : Entry) (f g : ResumeFault) → IsFaultOf p told due entry f → IsFaultOf p told due entry g → fault_line f ≡ fault_line g → g ≡ f
-  one_of told due entry (BadLine n) g one other same = absurd (no_bad told due entry n one)
-  one_of told due entry Memory g one other same = absurd (no_want told due entry one)
-  one_of told due entry (NotOrdered n) (BadLine k) one other same = absurd (no_bad told due entry k other)
-  one_of told due entry (NotOrdered n) Memory one other same = absurd (no_want told due entry other)
-  one_of told due entry (NotOrdered n) (NotOrdered k) one other same = ap NotOrdered (sym same)
-  one_of told due entry (NotOrdered n) (NotPossible k reason) one other same = absurd (not_possible told due entry n k reason one other)
-  one_of told due entry (NotPossible n reason) (BadLine k) one other same = absurd (no_bad told due entry k other)
-  one_of told due entry (NotPossible n reason) Memory one other same = absurd (no_want told due entry other)
-  one_of told due entry (NotPossible n reason) (NotOrdered k) one other same = absurd (not_possible told due entry k n reason other one)
-  one_of told due entry (NotPossible n one) (NotPossible k two) first second same =
-      let reasons = same_reason told due entry n k one two first second in
-      ap (λ (m : ℕ). NotPossible m two) (sym same) ∙ ap (NotPossible n) reasons
+  clear_of_job : (spot : Spot) → IsOccupied p c spot → IsUnclean p c spot → ⊥
+  clear_of_job Out taken unclean = taken
+  clear_of_job (At m) taken unclean = taken unclean.0
 
-  -- the line tells an event, or is bad
-  one_entry : (line : List ℕ) (told : List Entry) (due : List MoveOrder) (f g : ResumeFault) (a b : Entry) → LineTells p line (a ∷ []) → LineTells p line (b ∷ [])
-      → IsFaultOf p told due a f → IsFaultOf p told due b g → fault_line f ≡ fault_line g → g ≡ f
-  one_entry line told due f g a b tells also one other same =
+  clear_of_turn : (spot : Spot) (j : ℕ) → IsOutOfTurn p c spot j → (IsOccupied p c spot → ⊥) × (IsUnclean p c spot → ⊥)
+  clear_of_turn Out j out = absurd out
+  clear_of_turn (At m) j out = ((λ taken. taken out.0), λ unclean. let (s, is) = unclean.1 in let none = out.1 in cc)
+
+  open_for : (spot : Spot) (j : ℕ) → IsOpen p c spot j → (IsOccupied p c spot → ⊥) × (IsUnclean p c spot → ⊥) × (IsOutOfTurn p c spot j → ⊥)
+  open_for Out j open_there = ((λ taken. taken), (λ unclean. unclean), λ out. out)
+  open_for (At m) j open_there = ((λ taken. taken open_there.0), (λ unclean. let (s, is) = unclean.1 in let none = open_there.1 in cc), λ out. out.2 open_there.2)
+
+  -- ---- so has an order
+
+  -- a fault comes only where those before it don't hold
+  record IsPast (o : MoveOrder) (f : AuditFault) : Type 0 where
+    timely : 2 < kind f → o.at < c.last → ⊥
+    is_ready : 3 < kind f → ready c o.job ≡ false → ⊥
+    free : 4 < kind f → IsOccupied p c o.target → ⊥
+    is_clean : 5 < kind f → IsUnclean p c o.target → ⊥
+    turn : 6 < kind f → IsOutOfTurn p c o.target o.job → ⊥
+
+  ready_still : (o : MoveOrder) → ready c o.job ≡ true → ready c o.job ≡ false → ⊥
+  ready_still o is isnt = false≢true (sym isnt ∙ is)
+
+  is_past : (o : MoveOrder) (f : AuditFault) → IsFaultOf p c (OrderEntry o) f → IsPast o f
+  is_past o (BadLine line) fault = absurd fault
+  is_past o (NotExpected line) fault = absurd fault
+  is_past o (Backwards line) fault =
+      record { timely = λ more. absurd (omega (arith, more)); is_ready = λ more. absurd (omega (arith, more)); free = λ more. absurd (omega (arith, more)); is_clean = λ more. absurd (omega (arith, more)); turn = λ more. absurd (omega (arith, more)) }
+  is_past o (NotReady line) fault =
+      record { timely = λ more late. omega (arith, late, fault.0); is_ready = λ more. absurd (omega (arith, more)); free = λ more. absurd (omega (arith, more)); is_clean = λ more. absurd (omega (arith, more)); turn = λ more. absurd (omega (arith, more)) }
+  is_past o (Occupied line) fault =
+      record { timely = λ more late. omega (arith, late, fault.0.in_order); is_ready = λ more. ready_still o fault.0.is_ready; free = λ more. absurd (omega (arith, more)); is_clean = λ more. absurd (omega (arith, more)); turn = λ more. absurd (omega (arith, more)) }
+  is_past o (NotClean line) fault =
+      record { timely = λ more late. omega (arith, late, fault.0.in_order); is_ready = λ more. ready_still o fault.0.is_ready; free = λ more taken. clear_of_job o.target taken fault.1; is_clean = λ more. absurd (omega (arith, more)); turn = λ more. absurd (omega (arith, more)) }
+  is_past o (OutOfOrder line) fault =
+      record { timely = λ more late. omega (arith, late, fault.0.in_order); is_ready = λ more. ready_still o fault.0.is_ready; free = λ more. (clear_of_turn o.target o.job fault.1).0; is_clean = λ more. (clear_of_turn o.target o.job fault.1).1; turn = λ more. absurd (omega (arith, more)) }
+  is_past o (WrongPlace line) fault =
+      record { timely = λ more late. omega (arith, late, fault.0.in_order); is_ready = λ more. ready_still o fault.0.is_ready; free = λ more. (open_for o.target o.job fault.1).0; is_clean = λ more. (open_for o.target o.job fault.1).1; turn = λ more. (open_for o.target o.job fault.1).2 }
+  is_past o Memory fault = absurd fault
+
+  no_later : (o : MoveOrder) (f g : AuditFault) → IsFaultOf p c (OrderEntry o) f → IsPast o g → kind f < 7 → kind f < kind g → ⊥
+  no_later o (BadLine line) g fault past few more = fault
+  no_later o (NotExpected line) g fault past few more = fault
+  no_later o (Backwards line) g fault past few more = past.timely more fault
+  no_later o (NotReady line) g fault past few more = past.is_ready more fault.1
+  no_later o (Occupied line) g fault past few more = past.free more fault.1
+  no_later o (NotClean line) g fault past few more = past.is_clean more fault.1
+  no_later o (OutOfOrder line) g fault past few more = past.turn more fault.1
+  no_later o (WrongPlace line) g fault past few more = omega (arith, few)
+  no_later o Memory g fault past few more = fault
+
+  few_kinds : (o : MoveOrder) (f : AuditFault) → IsFaultOf p c (OrderEntry o) f → kind f < 8
+  few_kinds o (BadLine line) fault = omega arith
+  few_kinds o (NotExpected line) fault = omega arith
+  few_kinds o (Backwards line) fault = omega arith
+  few_kinds o (NotReady line) fault = omega arith
+  few_kinds o (Occupied line) fault = omega arith
+  few_kinds o (NotClean line) fault = omega arith
+  few_kinds o (OutOfOrder line) fault = omega arith
+  few_kinds o (WrongPlace line) fault = omega arith
+  few_kinds o Memory fault = absurd fault
+
+  order_kinds : (o : MoveOrder) (f g : AuditFault) → IsFaultOf p c (OrderEntry o) f → IsFaultOf p c (OrderEntry o) g → kind f ≡ kind g
+  order_kinds o f g fault other = elim (cases_lt (kind f) (kind g)) [
+    | inl less ↦ absurd (no_later o f g fault (is_past o g other) (omega (arith, less, few_kinds o g other)) less)
+    | inr not_less ↦ elim (cases_lt (kind g) (kind f)) [
+      | inl less ↦ absurd (no_later o g f other (is_past o f fault) (omega (arith, less, few_kinds o f fault)) less)
+      | inr not_more ↦ omega (arith, not_less, not_more)
+    ]
+  ]
+
+  -- and a report
+  report_fault : (r : Report) (f : AuditFault) → IsFaultOf p c (ReportEntry r) f → ((kind f ≡ 1) × (IsGoingOn p c (said r).ended → ⊥)) ⊎ ((kind f ≡ 2) × IsGoingOn p c (said r).ended)
+  report_fault r (BadLine line) fault = absurd fault
+  report_fault r (NotExpected line) fault = inl (refl, fault)
+  report_fault r (Backwards line) fault = inr (refl, fault.0)
+  report_fault r (NotReady line) fault = absurd fault
+  report_fault r (Occupied line) fault = absurd fault
+  report_fault r (NotClean line) fault = absurd fault
+  report_fault r (OutOfOrder line) fault = absurd fault
+  report_fault r (WrongPlace line) fault = absurd fault
+  report_fault r Memory fault = absurd fault
+
+  report_kinds : (r : Report) (f g : AuditFault) → IsFaultOf p c (ReportEntry r) f → IsFaultOf p c (ReportEntry r) g → kind f ≡ kind g
+  report_kinds r f g fault other = go (report_fault r f fault) (report_fault r g other)
+    where
+      go : ((kind f ≡ 1) × (IsGoingOn p c (said r).ended → ⊥)) ⊎ ((kind f ≡ 2) × IsGoingOn p c (said r).ended)
+          → ((kind g ≡ 1) × (IsGoingOn p c (said r).ended → ⊥)) ⊎ ((kind g ≡ 2) × IsGoingOn p c (said r).ended) → kind f ≡ kind g
+      go (inl one) (inl two) = one.0 ∙ sym two.0
+      go (inl one) (inr two) = absurd (one.1 two.1)
+      go (inr one) (inl two) = absurd (two.1 one.1)
+      go (inr one) (inr two) = one.0 ∙ sym two.0
+
+  entry_kinds : (entry : Entry) (f g : AuditFault) → IsFaultOf p c entry f → IsFaultOf p c entry g → kind f ≡ kind g
+  entry_kinds (ReportEntry r) f g fault other = report_kinds r f g fault other
+  entry_kinds (OrderEntry o) f g fault other = order_kinds o f g fault other
+
+  -- ---- and a line
+
+  -- a line is bad, or tells an entry that has the fault
+  abbrev FoundIn : List ℕ → AuditFault → Type 0
+  FoundIn line f = ((kind f ≡ 0) × IsBadLine p line) ⊎ ((entry : Entry) × LineTells p line (entry ∷ []) × IsFaultOf p c entry f)
+
+  found_in : (line : List ℕ) (f : AuditFault) → IsLineFault p c line f → FoundIn line f
+  found_in line (BadLine number) fault = inl (refl, fault)
+  found_in line (NotExpected number) fault = inr fault
+  found_in line (Backwards number) fault = inr fault
+  found_in line (NotReady number) fault = inr fault
+  found_in line (Occupied number) fault = inr fault
+  found_in line (NotClean number) fault = inr fault
+  found_in line (OutOfOrder number) fault = inr fault
+  found_in line (WrongPlace number) fault = inr fault
+  found_in line Memory fault = absurd fault
+
+  line_kinds : (line : List ℕ) (f g : AuditFault) → FoundIn line f → FoundIn line g → kind f ≡ kind g
+  line_kinds line f g (inl one) (inl two) = one.0 ∙ sym two.0
+  line_kinds line f g (inl one) (inr (entry, tells, fault)) = absurd (one.1.untold entry tells.1 tells.2)
+  line_kinds line f g (inr (entry, tells, fault)) (inl two) = absurd (two.1.untold entry tells.1 tells.2)
+  line_kinds line f g (inr (a, tells, fault)) (inr (b, also, other)) =
       let lists = one_telling p line (a ∷ []) (b ∷ []) tells also in
       let heads : b ≡ a = cc in
-      one_of told due a f g one (subst (λ (e : Entry). IsFaultOf p told due e g) heads other) same
+      entry_kinds a f g fault (subst (λ (e : Entry). IsFaultOf p c e g) heads other)
 
-  one_of_line : (told : List Entry) (due : List MoveOrder) (line : List ℕ) (f g : ResumeFault) → IsFaultOfLine p told due line f → IsFaultOfLine p told due line g → fault_line f ≡ fault_line g → g ≡ f
-  one_of_line told due line (BadLine n) (BadLine k) one other same = ap BadLine (sym same)
-  one_of_line told due line (BadLine n) (NotOrdered k) one (b, tells, fault) same = absurd (one.untold b tells.1 tells.2)
-  one_of_line told due line (BadLine n) (NotPossible k reason) one (b, tells, fault) same = absurd (one.untold b tells.1 tells.2)
-  one_of_line told due line (BadLine n) Memory one (b, tells, fault) same = absurd (one.untold b tells.1 tells.2)
-  one_of_line told due line (NotOrdered n) (BadLine k) (a, tells, fault) other same = absurd (other.untold a tells.1 tells.2)
-  one_of_line told due line (NotPossible n reason) (BadLine k) (a, tells, fault) other same = absurd (other.untold a tells.1 tells.2)
-  one_of_line told due line Memory (BadLine k) (a, tells, fault) other same = absurd (other.untold a tells.1 tells.2)
-  one_of_line told due line (NotOrdered n) (NotOrdered k) (a, tells, one) (b, also, other) same = one_entry line told due (NotOrdered n) (NotOrdered k) a b tells also one other same
-  one_of_line told due line (NotOrdered n) (NotPossible k reason) (a, tells, one) (b, also, other) same = one_entry line told due (NotOrdered n) (NotPossible k reason) a b tells also one other same
-  one_of_line told due line (NotOrdered n) Memory (a, tells, one) (b, also, other) same = one_entry line told due (NotOrdered n) Memory a b tells also one other same
-  one_of_line told due line (NotPossible n reason) (NotOrdered k) (a, tells, one) (b, also, other) same = one_entry line told due (NotPossible n reason) (NotOrdered k) a b tells also one other same
-  one_of_line told due line (NotPossible n reason) (NotPossible k two) (a, tells, one) (b, also, other) same = one_entry line told due (NotPossible n reason) (NotPossible k two) a b tells also one other same
-  one_of_line told due line (NotPossible n reason) Memory (a, tells, one) (b, also, other) same = one_entry line told due (NotPossible n reason) Memory a b tells also one other same
-  one_of_line told due line Memory (NotOrdered k) (a, tells, one) (b, also, other) same = one_entry line told due Memory (NotOrdered k) a b tells also one other same
-  one_of_line told due line Memory (NotPossible k reason) (a, tells, one) (b, also, other) same = one_entry line told due Memory (NotPossible k reason) a b tells also one other same
-  one_of_line told due line Memory Memory (a, tells, one) (b, also, other) same = refl
+-- lines have one first fault
+module _ (p : PlannedShop) (lines : List (List ℕ)) where
+  one_bad : (f g : AuditFault) → IsFirstBad p lines f → IsFirstBad p lines g → g ≡ f
+  one_bad f g one other = elim (append_parts one.before (one.line ∷ one.after) other.before (other.line ∷ other.after) (sym one.split ∙ other.split)) [
+    | inl (rest, longer, lines_are) ↦ go rest longer lines_are
+    | inr (rest, longer, lines_are) ↦ back rest longer lines_are
+  ]
+    where
+      same : one.before ≡ other.before → one.line ≡ other.line → g ≡ f
+      same befores line_is =
+          let told : other.told ≡ one.told = one_reading p one.before other.told one.told (subst (λ (ls : List (List ℕ)). LinesTell p ls other.told) (sym befores) other.tells) one.tells in
+          let fault : IsLineFault p (ends_in p (events_of one.told)) one.line g =
+          subst (λ (l : List ℕ). IsLineFault p (ends_in p (events_of one.told)) l g) (sym line_is) (subst (λ (es : List Entry). IsLineFault p (ends_in p (events_of es)) other.line g) told other.is_fault) in
+          let c = ends_in p (events_of one.told) in
+          same_fault f g (line_kinds p c one.line f g (found_in p c one.line f one.is_fault) (found_in p c one.line g fault)) (omega (arith, one.number, other.number, ap length befores))
 
-  module _ (shaped : IsWellShaped p) where
-    -- the lines before leave the same orders due
-    one_due : (lines : List (List ℕ)) (told seen : List Entry) (due others : List MoveOrder) → IsCutLog p lines told due → IsCutLog p lines seen others → (seen ≡ told) × (others ≡ due)
-    one_due lines told seen due others one other =
-        let same : seen ≡ told = one_reading p lines seen told other.tells one.tells in
-        let run : IsRunOf p ((told ++ []) ++ map OrderEntry others) =
-        subst (λ (es : List Entry). IsRunOf p (es ++ map OrderEntry others)) (same ∙ sym (append-nil told)) (run_of_own p (seen ++ map OrderEntry others) other.run) in
-        let goes = same_due p shaped told due [] others (run_of_own p (told ++ map OrderEntry due) one.run) run in
-        let none = moved_alone others (moved due) goes.rest goes.split goes.before in
-        (same, same_moves others due (goes.split ∙ ap (λ es. moved due ++ es) none ∙ append-nil (moved due)))
+      go : (rest : List (List ℕ)) → one.before ≡ other.before ++ rest → other.line ∷ other.after ≡ rest ++ one.line ∷ one.after → g ≡ f
+      go [] longer lines_are = let line_is : one.line ≡ other.line = cc in same (longer ∙ append-nil other.before) line_is
+      go (x ∷ rest) longer lines_are =
+          let line_is : x ≡ other.line = cc in
+          let front : one.before ≡ other.before ++ other.line ∷ rest = longer ∙ ap (λ l. other.before ++ l ∷ rest) line_is in
+          absurd (first_bad-no_run p one.before g
+          (record { before = other.before; line = other.line; after = rest; split = front; number = other.number; told = other.told; tells = other.tells; run = other.run; is_fault = other.is_fault })
+          (one.told, one.tells, one.run))
 
-    -- the line before which the lines are a log that is taken up, and that is bad, is one
-    one_bad : (lines : List (List ℕ)) (f g : ResumeFault) → IsFirstBad p lines f → IsFirstBad p lines g → g ≡ f
-    one_bad lines f g one other = elim (append_parts one.before (one.line ∷ one.after) other.before (other.line ∷ other.after) (sym one.split ∙ other.split)) [
-      | inl (rest, longer, lines_are) ↦ go rest longer lines_are
-      | inr (rest, longer, lines_are) ↦ back rest longer lines_are
-    ]
-      where
-        same : one.before ≡ other.before → one.line ≡ other.line → g ≡ f
-        same befores line_is =
-            let log = subst (λ (ls : List (List ℕ)). IsCutLog p ls other.told other.due) (sym befores) other.log in
-            let (told, due) = one_due one.before one.told other.told one.due other.due one.log log in
-            let fault = subst (λ (es : List Entry). IsFaultOfLine p es other.due other.line g) told other.is_fault in
-            let fault_due = subst (λ (os : List MoveOrder). IsFaultOfLine p one.told os other.line g) due fault in
-            let fault_line_is = subst (λ (l : List ℕ). IsFaultOfLine p one.told one.due l g) (sym line_is) fault_due in
-            one_of_line one.told one.due one.line f g one.is_fault fault_line_is (omega (arith, one.number, other.number, ap length befores))
+      back : (rest : List (List ℕ)) → other.before ≡ one.before ++ rest → one.line ∷ one.after ≡ rest ++ other.line ∷ other.after → g ≡ f
+      back [] longer lines_are = let line_is : one.line ≡ other.line = cc in same (sym (longer ∙ append-nil one.before)) line_is
+      back (x ∷ rest) longer lines_are =
+          let line_is : x ≡ one.line = cc in
+          let front : other.before ≡ one.before ++ one.line ∷ rest = longer ∙ ap (λ l. one.before ++ l ∷ rest) line_is in
+          absurd (first_bad-no_run p other.before f
+          (record { before = one.before; line = one.line; after = rest; split = front; number = one.number; told = one.told; tells = one.tells; run = one.run; is_fault = one.is_fault })
+          (other.told, other.tells, other.run))
 
-        go : (rest : List (List ℕ)) → one.before ≡ other.before ++ rest → other.line ∷ other.after ≡ rest ++ one.line ∷ one.after → g ≡ f
-        go [] longer lines_are = let line_is : one.line ≡ other.line = cc in same (longer ∙ append-nil other.before) line_is
-        go (x ∷ rest) longer lines_are =
-            let line_is : x ≡ other.line = cc in
-            let log = subst (λ (ls : List (List ℕ)). IsCutLog p ls one.told one.due) (longer ∙ ap (λ l. other.before ++ l ∷ rest) line_is) one.log in
-            absurd (not_both p shaped other.before other.line rest other.told other.due other.log one.told one.due log g other.is_fault)
-
-        back : (rest : List (List ℕ)) → other.before ≡ one.before ++ rest → one.line ∷ one.after ≡ rest ++ other.line ∷ other.after → g ≡ f
-        back [] longer lines_are = let line_is : one.line ≡ other.line = cc in same (sym (longer ∙ append-nil one.before)) line_is
-        back (x ∷ rest) longer lines_are =
-            let line_is : x ≡ one.line = cc in
-            let log = subst (λ (ls : List (List ℕ)). IsCutLog p ls other.told other.due) (longer ∙ ap (λ l. one.before ++ l ∷ rest) line_is) other.log in
-            absurd (not_both p shaped one.before one.line rest one.told one.due one.log other.told other.due log f one.is_fault)
-
-    pub only_fault : (lines : List (List ℕ)) (fault : ResumeFault) → IsFirstBad p lines fault → IsOnlyFault p lines fault
-    only_fault lines Memory is = tt
-    only_fault lines (BadLine n) is = λ other also. one_bad lines (BadLine n) other is also
-    only_fault lines (NotOrdered n) is = λ other also. one_bad lines (NotOrdered n) other is also
-    only_fault lines (NotPossible n reason) is = λ other also. one_bad lines (NotPossible n reason) other is also
+  pub only_log_fault : (fault : AuditFault) → IsAuditFault p lines fault → IsOnlyLogFault p lines (log_fault fault)
+  only_log_fault Memory is = tt
+  only_log_fault (BadLine n) is = λ other also. one_bad (BadLine n) other is also
+  only_log_fault (NotExpected n) is = λ other also. one_bad (NotExpected n) other is also
+  only_log_fault (Backwards n) is = λ other also. one_bad (Backwards n) other is also
+  only_log_fault (NotReady n) is = λ other also. one_bad (NotReady n) other is also
+  only_log_fault (Occupied n) is = λ other also. one_bad (Occupied n) other is also
+  only_log_fault (NotClean n) is = λ other also. one_bad (NotClean n) other is also
+  only_log_fault (OutOfOrder n) is = λ other also. one_bad (OutOfOrder n) other is also
+  only_log_fault (WrongPlace n) is = λ other also. one_bad (WrongPlace n) other is also

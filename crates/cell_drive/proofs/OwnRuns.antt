@@ -1,15 +1,18 @@
--- Controlled runs of their own reports.
-use Rattle.std.proofs.Common.{◌≡◌, List, [], ◌∷◌, ◌++◌, refl, sym, subst}
+-- Controlled runs of their own reports, and of events with orders behind them.
+use Rattle.std.proofs.Common.{◌≡◌, List, [], ◌∷◌, ◌++◌, map, refl, sym, ap, ◌∙◌, subst}
 use Rattle.shop_base.specs.declared.move_order.MoveOrder.{MoveOrder}
 use Rattle.shop_base.specs.Plan.{PlannedShop}
 use Rattle.shop_base.specs.Cell.{Cell, start}
 use Rattle.shop_base.specs.Report.{Report}
-use Rattle.shop_base.specs.Run.{Event, Reported}
+use Rattle.shop_base.specs.Run.{Event, Reported, AreEvents, after}
 use Rattle.shop_base.specs.Controlled.{moved, step_orders, Leads, done, accepted, refused}
 use Rattle.cell_tables.specs.declared.entry.Entry.{Entry}
+use Rattle.cell_tables.specs.declared.entry.Entry.TheVariants.{Order as OrderEntry}
 use Rattle.cell_tables.specs.Events.{events_of}
+use Rattle.run_log.proofs.Audits.{events-join}
 use Rattle.cell_drive.specs.OneRun.{cell_after, IsRunOf}
 use Rattle.cell_drive.specs.CutLogs.{reported, IsOwnRun}
+use Rattle.cell_drive.proofs.LogRoom.{events-orders}
 
 reported-moved : (os : List MoveOrder) (es : List Event) → reported (moved os ++ es) ≡ reported es
 reported-moved [] es = refl
@@ -28,3 +31,12 @@ own_run p entries run = own_leads p (start p) run.0 (events_of entries) (cell_af
 
 pub run_of_own : (p : PlannedShop) (entries : List Entry) → IsOwnRun p entries → IsRunOf p entries
 run_of_own p entries own = (reported (events_of entries), own)
+
+-- the events of a log with the orders that are due
+pub due_events : (told : List Entry) (due : List MoveOrder) → events_of (told ++ map OrderEntry due) ≡ events_of told ++ moved due
+due_events told due = events-join told (map OrderEntry due) ∙ ap (λ es. events_of told ++ es) (events-orders due)
+
+-- the first events of some that can happen can happen
+pub front_events : (p : PlannedShop) (c : Cell) (a b : List Event) → AreEvents p c (a ++ b) → AreEvents p c a
+front_events p c [] b events = tt
+front_events p c (e ∷ a) b events = (events.0, front_events p (after p c e) a b events.1)

@@ -1,18 +1,21 @@
 -- What a run that was taken up goes on to write is a log.
-use Rattle.std.proofs.Common.{◌≡◌, ℕ, ◌≤◌, List, [], ◌∷◌, ◌++◌, take, drop, Option, Bool, cond, length, length-take-le, ◌⊎◌, inl, inr, refl, sym, ap, ◌∙◌, subst, arith, append_assoc, append-nil}
+use Rattle.std.proofs.Common.{◌≡◌, ℕ, ◌≤◌, List, [], ◌∷◌, ◌++◌, take, drop, map, Option, Bool, cond, length, length-take-le, ◌⊎◌, inl, inr, refl, sym, ap, ◌∙◌, subst, arith, append_assoc, append-nil}
 use Rattle.std.specs.Io.KnownBytes.{Appends}
 use Rattle.std.proofs.KnownBytes.{Appends-trans}
 use Rattle.std.proofs.lemmas.List.{append_cancel_left, take-append-drop}
 use Rattle.shop_base.specs.declared.move_order.MoveOrder.{MoveOrder}
 use Rattle.shop_base.specs.Plan.{PlannedShop, IsWellShaped}
 use Rattle.shop_base.specs.Cell.{Cell, start}
-use Rattle.shop_base.specs.Run.{Reported, Moved, AreEvents, after, after_all, IsRun}
-use Rattle.shop_base.specs.Controlled.{Leads}
+use Rattle.shop_base.specs.Run.{Reported, Moved, AreEvents, after, after_all, IsRun, IsAtRest}
+use Rattle.shop_base.specs.Controlled.{Leads, after_moves, orders_for, moved}
+use Rattle.shop_base.specs.Ahead.{GoesOnTo, settled}
 use Rattle.shop_base.specs.Sound.{IsSound}
-use Rattle.shop_base.proofs.Keeping.{start-sound, after_report-sound, after_move-sound}
-use Rattle.shop_base.proofs.ControlledRuns.{controlled_to_run, events_join, after_all_join}
-use Rattle.text_lines.specs.Lines.{lines_of}
-use Rattle.plan_verifier.specs.Accepted.{VerifiedPlan}
+use Rattle.shop_base.proofs.Cycles.{ranks_exclude_cycle}
+use Rattle.shop_base.proofs.Keeping.{start-sound, run-sound, after_report-sound, after_move-sound}
+use Rattle.shop_base.proofs.ControlledRuns.{events_join, after_all_join}
+use Rattle.text_lines.specs.Lines.{lines_of, ended_lines}
+use Rattle.alt_graph.specs.Times.{AreRanks, rank_of}
+use Rattle.plan_verifier.specs.Accepted.{IsAcceptable}
 use Rattle.cell_tables.specs.Reports.{said}
 use Rattle.cell_tables.specs.declared.entry.Entry.{Entry}
 use Rattle.cell_tables.specs.declared.entry.Entry.TheVariants.{Report as ReportEntry, Order as OrderEntry}
@@ -26,20 +29,21 @@ use Rattle.run_log.proofs.Audits.{events-join}
 use Rattle.byte_streams.specs.Lines.{input_lines}
 use Rattle.byte_streams.specs.Answering.{AnswerAll}
 use Rattle.cell_drive.specs.AnswerText.{DrivenCell, CellAnswers, CellCloses}
-use Rattle.cell_drive.specs.OneCell.{seen}
-use Rattle.cell_drive.specs.OneRun.{cell_after, IsRunOf}
+use Rattle.cell_drive.specs.OneRun.{cell_after}
+use Rattle.cell_drive.specs.RestCell.{rest_seen}
+use Rattle.cell_drive.specs.TakenUp.{TakenUp, IsTakenRun, plan_of, told_in, cell_told}
 use Rattle.cell_drive.specs.AuditLaw.{IsLogOf}
 use Rattle.cell_drive.proofs.AuditKeeps.{appended, found_where}
-use Rattle.cell_drive.proofs.OneRun.{a_driven_cell_answers_so, seen_closes, cell_is, run_of}
+use Rattle.cell_drive.proofs.LogRoom.{events-orders}
+use Rattle.cell_drive.proofs.RestAnswers.{rest_seen_answers, rest_seen_closes}
 use Rattle.cell_drive.proofs.OneText.{one_driven_text, one_closed}
 use Rattle.event_lines.specs.ReadBack.{TellsFirst}
 use Rattle.event_lines.proofs.Telling.{tells_none, tells_both, tells_entry}
 use Rattle.cell_drive.proofs.ReadBack.{answers_told, late_told}
 use Rattle.cell_drive.proofs.ShopEntries.{report_of_shop, order_of_shop}
-use Rattle.cell_drive.specs.Replays.{shop_of}
-use Rattle.cell_drive.specs.Resuming.{again_text, again_of, driven_so_far, AResumedTextIsALog, OneResumedText, WhatWasResumedIsSuchAText, AnAuditKeepsWhatWasResumed}
-use Rattle.cell_drive.specs.CutLaw.{WhatWasResumedIsTakenUp}
-use Rattle.cell_drive.proofs.CutLogs.{run_of_leads, leads_join, answers_lead, closing_part, a_cut_log_is_taken_up}
+use Rattle.cell_drive.specs.Resuming.{again_text, again_of, driven_so_far, IsRunToRest, AResumedTextIsALog, OneResumedText, WhatWasResumedIsSuchAText, AnAuditKeepsWhatWasResumed, WhatWasResumedGoesOn}
+use Rattle.cell_drive.specs.CutLaw.{IsTakenUpFrom, WhatWasResumedIsTakenUp, WhatWasResumedCanBeTakenUp}
+use Rattle.cell_drive.proofs.CutLogs.{answers_lead, closing_part, a_cut_log_is_taken_up}
 
 -- ---- the lines of a run
 
@@ -73,84 +77,129 @@ module _ (p : PlannedShop) (shaped : IsWellShaped p) where
       (tells_both p (entry_line (OrderEntry o)) (told_lines told late ++ (10 ∷ entry_lines rest)) (OrderEntry o ∷ []) (told ++ rest) (tells_entry p shaped (OrderEntry o) is_of)
       (parted_tells (after p c (Moved o)) told late rest (omega (arith, same)) (after_move-sound p c o.job o.at shaped sound events.0.0.can events.0.1) events.1))
 
--- what was taken up, and the answers behind it, tell exactly what was accepted and ordered
-record IsOn (p : PlannedShop) (text : List ℕ) (end : DrivenCell) : Type 0 where
-  log : IsLogOf p text end
-  run : IsRunOf p end.entries
-
+-- what was taken up, and the answers behind it, are a log
 goes_on : (p : PlannedShop) (entries : List Entry) (late : List Bool) (lines : List (Option (List ℕ))) (answers closing : List ℕ) (end : DrivenCell) → IsWellShaped p
-    → IsRunOf p entries → length late ≤ length entries → AnswerAll (CellAnswers p) (driven_so_far p entries) 1 lines answers end
-    → (closing ≡ []) ⊎ CellCloses p end closing → IsOn p (again_text entries late ++ (answers ++ closing)) end
+    → IsRunToRest p entries → length late ≤ length entries → AnswerAll (CellAnswers p) (driven_so_far p entries) 1 lines answers end
+    → (closing ≡ []) ⊎ CellCloses p end closing → IsLogOf p (again_text entries late ++ (answers ++ closing)) end
 goes_on p entries late lines answers closing end shaped run few are closes =
-    let (events, same, sound, rest) = controlled_to_run p run.0 (events_of entries) (cell_after p entries) shaped run.1 in
+    let events = run.0 in
+    let sound = run-sound p (events_of entries) shaped events in
     let parts : take (length late) entries ++ drop (length late) entries ≡ entries = take-append-drop (length late) entries in
     let first : TellsFirst p (again_text entries late) entries =
     subst (λ (es : List Entry). TellsFirst p (again_text entries late) es) parts
     (parted_tells p shaped (start p) (take (length late) entries) late (drop (length late) entries) (length-take-le (length late) entries few) (start-sound p shaped) (subst (λ (es : List Entry). AreEvents p (start p) (events_of es)) (sym parts) events)) in
-    let on = answers_told p shaped lines (driven_so_far p entries) end 1 answers (record { shaped = shaped; sound = sound; rest = rest }) are in
+    let on = answers_told p shaped lines (driven_so_far p entries) end 1 answers (record { shaped = shaped; sound = sound; rest = run.1 }) are in
     let both : TellsFirst p (again_text entries late ++ (answers ++ closing)) (entries ++ (on.more ++ [])) =
     tells_both p (again_text entries late) (answers ++ closing) entries (on.more ++ []) first
     (tells_both p answers closing on.more [] on.tells (closing_part p end closing closes)) in
     let tells : LinesTell p (lines_of ((again_text entries late ++ (answers ++ closing)) ++ [])) ((entries ++ (on.more ++ [])) ++ []) = both [] [] refl in
     let same_entries : (entries ++ (on.more ++ [])) ++ [] ≡ end.entries = append-nil (entries ++ (on.more ++ [])) ∙ ap (λ (es : List Entry). entries ++ es) (append-nil on.more) ∙ sym on.entries in
     let joined : events_of end.entries ≡ events_of entries ++ events_of on.more = ap events_of on.entries ∙ events-join entries on.more in
-    let led = answers_lead p lines (driven_so_far p entries) end 1 answers are in
-    let led_joined : events_of end.entries ≡ events_of entries ++ events_of led.more = ap events_of led.entries ∙ events-join entries led.more in
     record {
-      log = record {
-        tells = subst (λ (t : List ℕ). LinesTell p (lines_of t) end.entries) (append-nil (again_text entries late ++ (answers ++ closing)))
-            (subst (λ (es : List Entry). LinesTell p (lines_of ((again_text entries late ++ (answers ++ closing)) ++ [])) es) same_entries tells);
-        run = subst (IsRun p) (sym joined) (events_join p (start p) (events_of entries) (events_of on.more) events on.events);
-        cell = on.cell ∙ sym (after_all_join p (start p) (events_of entries) (events_of on.more)) ∙ ap (after_all p (start p)) (sym joined);
-      };
-      run = run_of_leads p (run.0 ++ led.reports) end.entries end.cell shaped
-          (subst (λ es. Leads p (start p) (run.0 ++ led.reports) es end.cell) (sym led_joined)
-          (leads_join p (start p) (cell_after p entries) end.cell run.0 led.reports (events_of entries) (events_of led.more) run.1 led.leads));
+      tells = subst (λ (t : List ℕ). LinesTell p (lines_of t) end.entries) (append-nil (again_text entries late ++ (answers ++ closing)))
+          (subst (λ (es : List Entry). LinesTell p (lines_of ((again_text entries late ++ (answers ++ closing)) ++ [])) es) same_entries tells);
+      run = subst (IsRun p) (sym joined) (events_join p (start p) (events_of entries) (events_of on.more) events on.events);
+      cell = on.cell ∙ sym (after_all_join p (start p) (events_of entries) (events_of on.more)) ∙ ap (after_all p (start p)) (sym joined);
     }
 
 pub a_resumed_text_is_a_log : AResumedTextIsALog
 a_resumed_text_is_a_log p entries late input text end shaped run few is =
-    let on = goes_on p entries late (input_lines input) is.answers is.closing end shaped run few is.are_answers (inr is.is_closing) in
-    (subst (λ (t : List ℕ). IsLogOf p t end) (sym is.whole) on.log, on.run)
+    subst (λ (t : List ℕ). IsLogOf p t end) (sym is.whole) (goes_on p entries late (input_lines input) is.answers is.closing end shaped run few is.are_answers (inr is.is_closing))
 
 pub what_was_resumed_is_taken_up : WhatWasResumedIsTakenUp
 what_was_resumed_is_taken_up p entries late lines answers closing cut lost end shaped run few are closes whole =
     let on = goes_on p entries late lines answers closing end shaped run few are closes in
-    a_cut_log_is_taken_up p cut lost end.entries shaped (subst (λ (t : List ℕ). LinesTell p (lines_of t) end.entries) whole on.log.tells) on.run
+    a_cut_log_is_taken_up p cut lost end.entries (subst (λ (t : List ℕ). LinesTell p (lines_of t) end.entries) whole on.tells) on.run
 
 pub one_resumed_text : OneResumedText
 one_resumed_text p entries late input text other end last shaped run is also =
-    let (events, same, sound, rest) = controlled_to_run p run.0 (events_of entries) (cell_after p entries) shaped run.1 in
-    let one = one_driven_text p (input_lines input) (driven_so_far p entries) end last 1 is.answers also.answers (record { shaped = shaped; sound = sound; rest = rest }) is.are_answers also.are_answers in
+    let sound = run-sound p (events_of entries) shaped run.0 in
+    let one = one_driven_text p (input_lines input) (driven_so_far p entries) end last 1 is.answers also.answers (record { shaped = shaped; sound = sound; rest = run.1 }) is.are_answers also.are_answers in
     (also.whole ∙ ap (λ (t : List ℕ). again_text entries late ++ t) (one_closed p end last is.answers also.answers is.closing also.closing is.is_closing also.is_closing one) ∙ sym is.whole, one.1)
+
+-- ---- a run that was taken up
+
+-- its cell is that after its events, and at rest
+seen_from : (taken : TakenUp) → IsTakenRun taken → rest_seen taken.driven ≡ driven_so_far (plan_of taken) taken.driven.log.entries
+seen_from taken run = ap (λ (c : Cell). let d : DrivenCell = record { cell = c; entries = taken.driven.log.entries } in d) run.driven.told.cell
+
+to_rest : (taken : TakenUp) → IsTakenRun taken → IsRunToRest (plan_of taken) taken.driven.log.entries
+to_rest taken run = (run.driven.told.run, subst (IsAtRest (plan_of taken)) run.driven.told.cell run.driven.control.at_rest)
 
 pub resumed_text : WhatWasResumedIsSuchAText
 resumed_text taken end before after is =
-    let p = shop_of taken in
+    let p = plan_of taken in
     let all = is.streamed.comes_to in
-    let answers = a_driven_cell_answers_so taken.driven is.end 1 (input_lines is.streamed.input) all.text all.are_answers in
-    let from : seen taken.driven ≡ driven_so_far p taken.driven.log.entries =
-    ap (λ (c : Cell). let d : DrivenCell = record { cell = c; entries = taken.driven.log.entries } in d) (cell_is taken.driven is.from) in
+    let answers = rest_seen_answers p (input_lines is.streamed.input) taken.driven is.end 1 all.text refl all.are_answers in
     record {
       answers = all.text;
-      are_answers = subst (λ (d : DrivenCell). AnswerAll (CellAnswers p) d 1 (input_lines is.streamed.input) all.text (seen is.end)) from answers.0;
+      are_answers = subst (λ (d : DrivenCell). AnswerAll (CellAnswers p) d 1 (input_lines is.streamed.input) all.text (rest_seen is.end)) (seen_from taken is.from) answers.0;
       closing = all.closing;
-      is_closing = seen_closes p is.end all.closing (ap (λ (w : VerifiedPlan). w.planned) answers.1) all.is_closing;
+      is_closing = rest_seen_closes p is.end all.closing answers.1 all.is_closing;
       whole = refl;
     }
 
 pub an_audit_keeps_what_was_resumed : AnAuditKeepsWhatWasResumed
-an_audit_keeps_what_was_resumed taken end before after start text outcome few (inl cut) from to kept only = let e = cut.0 in absurd (cc)
-an_audit_keeps_what_was_resumed taken end before after start text outcome few (inr is) from to kept only =
-    let p = shop_of taken in
+an_audit_keeps_what_was_resumed taken end before after start text outcome (inl cut) from to kept only = let e = cut.0 in absurd (cc)
+an_audit_keeps_what_was_resumed taken end before after start text outcome (inr is) from to kept only =
+    let p = plan_of taken in
     let all = is.streamed.comes_to in
     let whole : List ℕ = again_of taken ++ (all.text ++ all.closing) in
     let written : Appends before.output.taken after.output.taken whole =
     Appends-trans before.output.taken is.middle.taken after.output.taken (again_of taken) (all.text ++ all.closing) is.again all.written in
     let same : whole ≡ text = append_cancel_left start whole text (sym (appended before.output.taken after.output.taken start text whole from to written)) in
-    let is_log : IsLogOf p text (seen is.end) = subst (λ (t : List ℕ). IsLogOf p t (seen is.end)) same
-    (a_resumed_text_is_a_log p taken.driven.log.entries taken.late is.streamed.input whole (seen is.end) is.from.verified.schedule.shaped (run_of taken.driven is.from) few (resumed_text taken end before after is)).0 in
+    let is_log : IsLogOf p text (rest_seen is.end) = subst (λ (t : List ℕ). IsLogOf p t (rest_seen is.end)) same
+    (a_resumed_text_is_a_log p taken.driven.log.entries taken.late is.streamed.input whole (rest_seen is.end) is.from.driven.shaped (to_rest taken is.from) is.from.within (resumed_text taken end before after is)) in
     let entries : is.end.log.entries ≡ end.log.entries = ap (λ (l : Noted). l.entries) (sym is.came_to.log) in
     let tells : LinesTell p (lines_of text) end.log.entries = subst (LinesTell p (lines_of text)) entries is_log.tells in
     let run : IsRun p (events_of end.log.entries) = subst (λ (es : List Entry). IsRun p (events_of es)) entries is_log.run in
     found_where p end.log.entries end.done end.last end.left text outcome tells is.came_to.so_far kept (only (end.log.entries, tells, run))
+
+-- what it writes can be taken up again
+pub what_was_resumed_can_be_taken_up : WhatWasResumedCanBeTakenUp
+what_was_resumed_can_be_taken_up p log at taken lines answers closing cut lost end up are closes whole which =
+    let from = up.taken_from in
+    let entries = taken.driven.log.entries in
+    let shaped : IsWellShaped p = subst IsWellShaped from.planned from.run.driven.shaped in
+    let to : IsRunToRest p entries = subst (λ (q : PlannedShop). IsRunToRest q entries) from.planned (to_rest taken from.run) in
+    let again = what_was_resumed_is_taken_up p entries taken.late lines answers closing cut lost end shaped to from.run.within are closes whole in
+    let ranks : AreRanks p taken.driven.control.times = subst (λ (q : PlannedShop). AreRanks q taken.driven.control.times) from.planned from.run.driven.control.ranks in
+    record {
+      told = again.told;
+      tells = again.tells;
+      is_run = again.run;
+      not_past = omega arith;
+      acyclic = λ nodes cycle. ranks_exclude_cycle p (rank_of taken.driven.control.times) nodes ranks.rise cycle;
+      accepted = accepted again which;
+    }
+  where
+    accepted : (again : IsTakenUpFrom p cut end.entries) → IsAcceptable p ⊎ (LinesTell p (ended_lines cut) [] → told_in taken ≡ []) → again.told ≡ [] → IsAcceptable p
+    accepted again (inl acceptable) none = acceptable
+    accepted again (inr only) none =
+        up.taken_from.accepted (sym up.taken_from.told_is ∙ only (subst (λ (es : List Entry). LinesTell p (ended_lines cut) es) none again.tells))
+
+-- and it goes on from the cell of its log
+pub what_was_resumed_goes_on : WhatWasResumedGoesOn
+what_was_resumed_goes_on text taken end before after is =
+    let p = plan_of taken in
+    let all = is.streamed.comes_to in
+    let control = taken.driven.control in
+    let begun = is.from.begun.settled in
+    let c = cell_told taken in
+    let t = control.began in
+    let answers = rest_seen_answers p (input_lines is.streamed.input) taken.driven is.end 1 all.text refl all.are_answers in
+    let led = answers_lead p (input_lines is.streamed.input) (rest_seen taken.driven) (rest_seen is.end) 1 all.text answers.0 in
+    let later : List Entry = map OrderEntry control.orders ++ led.more in
+    let entries : is.end.log.entries ≡ end.log.entries = ap (λ (l : Noted). l.entries) (sym is.came_to.log) in
+    let events : events_of later ≡ moved (orders_for p c t begun.movers) ++ events_of led.more =
+    events-join (map OrderEntry control.orders) led.more ∙ ap (λ es. es ++ events_of led.more) (events-orders control.orders ∙ ap moved begun.orders_are) in
+    let leads : Leads p (after_moves p c t begun.movers) led.reports (events_of led.more) (rest_seen is.end).cell =
+    subst (λ (d : Cell). Leads p d led.reports (events_of led.more) (rest_seen is.end).cell) begun.leads led.leads in
+    record {
+      later = later;
+      whole = sym entries ∙ led.entries ∙ ap (λ (es : List Entry). es ++ led.more) is.from.due ∙ append_assoc (told_in taken) (map OrderEntry control.orders) led.more;
+      reports = led.reports;
+      goes_on = subst (λ (d : Cell). GoesOnTo p c t led.reports (events_of later) d) is.came_to.cell
+          (subst (λ es. GoesOnTo p c t led.reports es (rest_seen is.end).cell) (sym events)
+          (settled begun.movers led.reports (events_of led.more) (rest_seen is.end).cell begun.settles leads));
+    }

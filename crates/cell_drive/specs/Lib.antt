@@ -9,12 +9,13 @@ pub mod ManyCells
 pub mod CellsTextLaw
 pub mod CellsAlone
 pub mod ManyRuns
-pub mod CutLogs
-pub mod ResumeNames
+pub mod RestCell
 pub mod LateEvents
-pub mod Replays
+pub mod TakenUp
+pub mod ResumeFaults
 pub mod ToldLines
 pub mod Resuming
+pub mod CutLogs
 pub mod CutLaw
 pub mod AnswerLaw
 pub mod Manners

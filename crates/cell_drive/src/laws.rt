@@ -8,8 +8,8 @@ ghost use Rattle.cell_drive.specs.CellsTextLaw.{OneCellsAnswerText, OneCellsText
 ghost use Rattle.cell_drive.specs.CellsAlone.{EachCellIsAsAlone};
 ghost use Rattle.cell_drive.specs.AuditLaw.{AnAnswerTextIsALog, AnAuditKeepsWhatWasDriven};
 ghost use Rattle.cell_drive.specs.AnswerLaw.{ToldAsAnswered};
-ghost use Rattle.cell_drive.specs.CutLaw.{ACutLogIsTakenUp, WhatWasDrivenIsTakenUp, WhatWasResumedIsTakenUp};
-ghost use Rattle.cell_drive.specs.Resuming.{AResumedTextIsALog, AnAuditKeepsWhatWasResumed, OneResumedText, WhatWasResumedIsSuchAText};
+ghost use Rattle.cell_drive.specs.CutLaw.{ACutLogIsTakenUp, WhatWasResumedIsTakenUp, WhatWasResumedCanBeTakenUp, ACutLogHasItsOrders, WhatWasDrivenHasItsOrders, ItCanBeTakenUp, ItIsTakenUpWithItsOrders};
+ghost use Rattle.cell_drive.specs.Resuming.{AResumedTextIsALog, AnAuditKeepsWhatWasResumed, OneResumedText, WhatWasResumedIsSuchAText, WhatWasResumedGoesOn};
 ghost use Rattle.cell_drive.specs.StatedLaw.{OneStatedText, AStatedCellAnswersSo, AStatedTextIsALog, PlainlyAsEver, NothingIsTakenTwice, ALateReportFindsSomethingOverdue};
 
 pub use byte_streams::laws::the_limits_of_an_input_in_numbers;
@@ -50,16 +50,26 @@ pub fn an_audit_keeps_what_was_driven()
     ensures { AnAuditKeepsWhatWasDriven }
 {}
 
-/// Cut a log of a controlled run after any number of bytes. What is left is a log that is taken up; the events of its
-/// ended lines, with the orders that are due, are the first events of that run. So it is with what `drive` writes, up
-/// to any point, and with what `resume` writes.
+/// Cut the log of a run after any number of bytes. The ended lines of what is left tell the first events of that run. So
+/// it is with what `resume` writes, up to any point; and that can be taken up again by the same plan, wherever the line of
+/// its first event is out, or the plan is an accepted one.
 pub fn a_cut_log_is_taken_up()
     ensures log { ACutLogIsTakenUp }
-    ensures driven { WhatWasDrivenIsTakenUp }
     ensures resumed { WhatWasResumedIsTakenUp }
+    ensures again { WhatWasResumedCanBeTakenUp }
 {}
 
-/// Let a log be taken up, and let the lines of an input be the reports of its run, one after another. The events that
+/// Cut the log of a controlled run after any number of bytes, as one that `drive` writes. The events of its ended lines,
+/// with the orders that are due, are the first events of that run. By an accepted plan what is left can be taken up; and if
+/// no present moment is given, it is taken up with just these orders.
+pub fn a_cut_log_has_its_orders()
+    ensures log { ACutLogHasItsOrders }
+    ensures driven { WhatWasDrivenHasItsOrders }
+    ensures can { ItCanBeTakenUp }
+    ensures orders { ItIsTakenUpWithItsOrders }
+{}
+
+/// Let a log be that of a controlled run, and let the lines of an input be the reports of that run, one after another. The events that
 /// are written again, and then the orders that are due, are what `drive` answers to those lines. The mark between
 /// them isn't.
 pub fn told_as_answered()
@@ -73,13 +83,19 @@ pub fn one_resumed_text()
     ensures resumed { WhatWasResumedIsSuchAText }
 {}
 
-/// What a run that was taken up writes is by itself a log of the whole run, and the events in it are a controlled
-/// run. Let `resume` succeed, into a writer whose bytes are known, and audit what it wrote against the same plan. The
-/// only fault of the audit is `Memory`. The audit finds the events of the log, and is complete exactly if driving was
-/// done.
+/// What a run that was taken up writes is by itself a log of the whole run. Let `resume` succeed, into a writer whose bytes
+/// are known, and audit what it wrote against the same plan. The only fault of the audit is `Memory`. The audit finds the
+/// events of the log, and is complete exactly if driving was done.
 pub fn an_audit_keeps_what_was_resumed()
     ensures log { AResumedTextIsALog }
     ensures audit { AnAuditKeepsWhatWasResumed }
+{}
+
+/// After the events of its log, a run that was taken up is the controlled run that goes on from their cell, at the present
+/// moment. So each law of the rest of a run holds of it: it is never stuck, ends after exactly the reports that were left, and
+/// keeps to the moments kept for it.
+pub fn what_was_resumed_goes_on()
+    ensures { WhatWasResumedGoesOn }
 {}
 
 /// In each manner in which a cell of a well-shaped plan can be driven, an input has one answer text at most, which

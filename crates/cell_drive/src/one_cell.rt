@@ -36,7 +36,7 @@ impl<D: Dues> Model for Driven<D> {
 }
 
 /// Notes an accepted report and the moves that it released.
-fn note(log: &mut RunLog, report: Report, orders: &[MoveOrder])
+pub(crate) fn note(log: &mut RunLog, report: Report, orders: &[MoveOrder])
     requires { length log.old.entries + (1 + length orders.now) ≤ log.old.reserved }
     ensures { Notes log.old log.new (Entry.Report report ∷ map Entry.Order orders.now) }
 {

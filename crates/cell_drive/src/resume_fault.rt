@@ -1,23 +1,21 @@
-ghost use Rattle.std.specs.Prelude.{◌≡◌};
-ghost use Rattle.cell_drive.specs.CutLogs.{fault_line};
-ghost use Rattle.cell_drive.specs.ResumeNames.{fault_name};
-
-use cell_control::ReportFault;
+use plan_verifier::Why;
+use run_log::AuditFault;
+use shop_base::{Moment, Shaped};
 use std::alloc::AllocError;
 use thiserror::Error;
 
-/// Why a log isn't taken up: the only fault of its first bad line. Lines are numbered from 1.
-#[derive(Clone, Copy, Debug, PartialEq, Eq, Error)]
+/// Why a run isn't taken up from its log: the first reason, in the order of the variants.
+#[derive(Debug, Drop, Error)]
 pub enum ResumeFault {
-    /// The line records no event, or it names a job or machine that isn't of the shop, or a moment past the latest.
-    #[error("BadLine line {line}")]
-    BadLine { line: usize },
-    /// The line is an order that isn't the next one that is due, or a report while orders of the last one are due.
-    #[error("NotOrdered line {line}")]
-    NotOrdered { line: usize },
-    /// The report isn't possible, for this reason.
-    #[error("{} line {line}", .reason.name())]
-    NotPossible { line: usize, reason: ReportFault },
+    /// The log's whole lines tell no run of the plan: the first fault of the first bad one, as of an audit.
+    #[error("Log {0}")]
+    Log(AuditFault),
+    /// The present moment is before the last one of the log.
+    #[error("Past {last}")]
+    Past { last: Moment },
+    /// The plan has a cycle; or the log tells no event, and the plan isn't accepted. The plan comes back with the evidence.
+    #[error("Refused")]
+    Refused(Shaped, Why),
     /// Out of memory.
     #[error("Memory")]
     Memory,
@@ -34,28 +32,16 @@ impl From<AllocError> for ResumeFault {
     }
 }
 
-impl ResumeFault {
-    /// The name of the fault, without its line. For a report that isn't possible it is the name of the reason.
-    pub fn name(self) -> &'static str
-        ensures { result.now ≡ fault_name self }
-    {
-        match self {
-            ResumeFault::BadLine { line: _ } => "BadLine",
-            ResumeFault::NotOrdered { line: _ } => "NotOrdered",
-            ResumeFault::NotPossible { line: _, reason } => reason.name(),
-            ResumeFault::Memory => "Memory",
-        }
-    }
+impl From<AuditFault> for ResumeFault {
+    ghost use Rattle.std.specs.Prelude.{◌≡◌};
+    ghost use Rattle.cell_drive.specs.ResumeFaults.{log_fault};
 
-    /// The line of the fault, 0 when out of memory.
-    pub fn line(self) -> usize
-        ensures { result ≡ fault_line self }
-    {
-        match self {
-            ResumeFault::BadLine { line }
-            | ResumeFault::NotOrdered { line }
-            | ResumeFault::NotPossible { line, reason: _ } => line,
-            ResumeFault::Memory => 0,
+    ghost from_gives = { λ told fault. fault ≡ log_fault told };
+
+    fn from(told: AuditFault) -> ResumeFault {
+        match told {
+            AuditFault::Memory => ResumeFault::Memory,
+            _ => ResumeFault::Log(told),
         }
     }
 }

@@ -1,6 +1,7 @@
 -- What each command does with the files that it is given.
 use Rattle.std.specs.Prelude.{◌≡◌, ◌⊎◌, ℕ, List, Option, Result, Ok}
 use Rattle.shop_base.specs.Shop.{JobShop}
+use Rattle.shop_base.specs.declared.shape_fault.ShapeFault.{ShapeFault}
 use Rattle.shop_base.specs.Plan.{ShopPlan, PlannedShop, IsWellShaped}
 use Rattle.orlib_read.specs.declared.named.Named.{Named}
 use Rattle.plan_seek.specs.Orders.{Proposal}
@@ -17,7 +18,7 @@ use Rattle.command_answers.specs.Checks.{IsCheckLine, IsLoaded}
 use Rattle.command_answers.specs.Explains.{IsExplanation}
 use Rattle.command_answers.specs.Timetables.{IsTimetable}
 use Rattle.command_answers.specs.BoundLines.{AreBounds}
-use Rattle.command_answers.specs.Shapes.{IsShapeLine, IsNotShapedLine}
+use Rattle.command_answers.specs.Shapes.{IsShapeLine, IsNotShapedLine, IsShapedOrNot}
 use Rattle.command_answers.specs.Search.{IsSearchAnswer}
 use Rattle.command_answers.specs.Improving.{IsImproveAnswer, ordered}
 use Rattle.command_answers.specs.declared.logs.Telling.{Telling}
@@ -77,6 +78,10 @@ module _ {W : Type 0} (gives : W → List ℕ → Result (List ℕ) CommandFault
   -- both are read, and what is to be said of the plan is found
   abbrev pub Loads : PairOfFiles → W → Result Loaded CommandFault → W → Type 0
   Loads pair = WithBoth pair (λ p. Told (IsOrMemory (IsLoaded p)))
+
+  -- both are read, and it is found whether the plan is well shaped
+  abbrev pub Shapes : PairOfFiles → W → Result (Result PlannedShop ShapeFault) CommandFault → W → Type 0
+  Shapes pair = WithBoth pair (λ p. Told (IsOrMemory (IsShapedOrNot p)))
 
   -- `plan`: both are read, and the search for a plan with these numbers is answered
   abbrev pub RunsPlan : (PlanTask → PlanSearch) → ℕ → PairOfFiles → W → Result Answer CommandFault → W → Type 0

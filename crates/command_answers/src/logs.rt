@@ -95,7 +95,7 @@ fn end_words(complete: bool) -> &'static str
 }
 
 /// The line of a log that records no run.
-pub(crate) fn fault_told(alloc: Global, fault: AuditFault) -> Answered
+pub fn fault_told(alloc: Global, fault: AuditFault) -> Answered
     ensures { IsFaultTold fault result }
 {
     match Unanswered::from(fault).0 {

@@ -103,7 +103,7 @@ fn present_at(at: Option<Moment>, last: Moment) -> Moment
 }
 
 /// The line of a present moment before the last one.
-pub(crate) fn past_answer(alloc: Global, last: Moment) -> Result<Answer, AllocError>
+pub fn past_answer(alloc: Global, last: Moment) -> Result<Answer, AllocError>
     ensures { IfOk result (IsPastLine last) }
 {
     let (mut text, status) = (Vec::new(alloc), REFUSED);

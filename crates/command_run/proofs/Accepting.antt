@@ -1,5 +1,5 @@
 -- What follows a plan that was loaded, by whether it is accepted.
-use Rattle.std.proofs.Common.{◌≡◌, ℕ, List, Result, Ok, Err, IsErrAnd, refl, sym, subst}
+use Rattle.std.proofs.Common.{◌≡◌, Result, Ok, Err, IsErrAnd, sym, subst}
 use Rattle.plan_verifier.specs.Accepted.{VerifiedPlan}
 use Rattle.plan_verifier.specs.declared.verdict.Verdict.TheVariants.{Accepted, Refused}
 use Rattle.cell_drive.specs.declared.manner.Manner.{Manner}
@@ -12,7 +12,6 @@ use Rattle.command_answers.specs.Checks.{accepted_in}
 use Rattle.command_answers.specs.Steps.{IsOrMemory}
 use Rattle.command_run.specs.Streams.{Streams}
 use Rattle.command_run.specs.Drives.{DrivesCell, Drives, IsLineTold}
-use Rattle.command_run.specs.Resumes.{ResumesLog, Resumes}
 
 pub memory_told : {A : Type 0} (Is : A → Type 0) (outcome : Result A CommandFault) → IsErrAnd outcome (λ fault. fault ≡ Memory) → IsOrMemory Is outcome
 memory_told Is (Ok a) wanting = absurd wanting
@@ -32,17 +31,3 @@ pub drives_told : (manner : Manner) (loaded other : Loaded) (before after : Stre
 drives_told manner (NotShaped fault) other before after outcome is told same = (same_line (NotShaped fault) other outcome (cc is) told, same)
 drives_told manner (Judged (Refused back why)) other before after outcome is told same = (same_line (Judged (Refused back why)) other outcome (cc is) told, same)
 drives_told manner (Judged (Accepted w)) other before after outcome is told same = absurd (cc is)
-
-module _ {W : Type 0} (gives : W → List ℕ → Result (List ℕ) CommandFault → W → Type 0) (log : List ℕ) where
-  pub resumes_accepted : (loaded : Loaded) (v : VerifiedPlan) (texts : W) (before : Streams) (outcome : Result Answer CommandFault) (texts_after : W) (after : Streams) → accepted_in loaded ≡ Ok v
-      → ResumesLog gives log v texts before outcome texts_after after → Resumes gives log (Ok loaded) texts before outcome texts_after after
-  resumes_accepted (NotShaped fault) v texts before outcome texts_after after is on = absurd (cc is)
-  resumes_accepted (Judged (Refused back why)) v texts before outcome texts_after after is on = absurd (cc is)
-  resumes_accepted (Judged (Accepted w)) v texts before outcome texts_after after is on =
-      (let same : w ≡ v = cc is in subst (λ (x : VerifiedPlan). ResumesLog gives log x texts before outcome texts_after after) (sym same) on)
-
-  pub resumes_told : (loaded other : Loaded) (texts : W) (before : Streams) (outcome : Result Answer CommandFault) → accepted_in loaded ≡ Err other → IsLineTold other outcome
-      → Resumes gives log (Ok loaded) texts before outcome texts before
-  resumes_told (NotShaped fault) other texts before outcome is told = (same_line (NotShaped fault) other outcome (cc is) told, refl, refl)
-  resumes_told (Judged (Refused back why)) other texts before outcome is told = (same_line (Judged (Refused back why)) other outcome (cc is) told, refl, refl)
-  resumes_told (Judged (Accepted w)) other texts before outcome is told = absurd (cc is)

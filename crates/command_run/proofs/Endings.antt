@@ -1,7 +1,10 @@
 -- How each run of the program ends.
 use Rattle.std.proofs.Common.{◌≡◌, ℕ, ◌≤◌, List, [], Bool, true, false, Option, Result, Ok, Err, inl, inr, ◌⊎◌, ap, sym, ◌∙◌, subst, arith, refl}
 use Rattle.cell_drive.specs.declared.manner.Manner.{Manner}
+use Rattle.shop_base.specs.declared.shape_fault.ShapeFault.{ShapeFault}
+use Rattle.shop_base.specs.Plan.{PlannedShop}
 use Rattle.cell_drive.specs.declared.one_run.DriveEnd.{DriveEnd}
+use Rattle.cell_drive.specs.declared.rest_run.RestEnd.{RestEnd}
 use Rattle.byte_streams.specs.declared.drive_fault.DriveFault.{DriveFault}
 use Rattle.byte_streams.specs.declared.drive_fault.DriveFault.TheVariants.{Read as NotRead, Write as NotWritten, InputTooLong as TooLong, Memory as WantOfMemory}
 use Rattle.byte_streams.specs.Streams.{IsStreamed}
@@ -12,7 +15,8 @@ use Rattle.cell_drive.specs.Stated.{StatedAnswer, StatedCloses, stated_start}
 use Rattle.cell_drive.specs.ManyCells.{hub_start, CellsAnswer, CellsClose}
 use Rattle.plan_verifier.specs.declared.verdict.Verdict.TheVariants.{Accepted, Refused}
 use Rattle.cell_drive.specs.declared.resume_fault.ResumeFault.{ResumeFault}
-use Rattle.cell_drive.specs.Replays.{TakenUp}
+use Rattle.cell_drive.specs.RestCell.{RestAnswer, RestCloses}
+use Rattle.cell_drive.specs.TakenUp.{TakenUp}
 use Rattle.command_words.specs.declared.words.Chosen.{Chosen}
 use Rattle.command_words.specs.declared.words.CommandName.{CommandName}
 use Rattle.command_words.specs.declared.words.CommandName.TheVariants.{Input as NoWords, Facts, Shape, Check, Explain, Schedule, Bounds, Plan as Search, Improve, Drive, Resume, Hub, Audit, Gantt}
@@ -30,7 +34,7 @@ use Rattle.command_answers.specs.Statuses.{status_of}
 use Rattle.command_answers.specs.Texts.{Asks}
 use Rattle.command_answers.specs.declared.pictures.Drawn.{Drawn}
 use Rattle.command_answers.specs.declared.pictures.Drawn.TheVariants.{Picture, Line as LineDrawn}
-use Rattle.command_answers.specs.Commands.{Loads}
+use Rattle.command_answers.specs.Commands.{Loads, Shapes}
 use Rattle.command_answers.specs.Pictures.{DrawsLog, DrawsSchedule}
 use Rattle.command_answers.specs.Cells.{LoadsCells}
 use Rattle.command_run.specs.Streams.{Streams, Output, Errors, Devices}
@@ -106,24 +110,23 @@ module _ {W : Type 0} (gives : W → List ℕ → Result (List ℕ) CommandFault
   hub_written (Ok (AllAccepted cells)) later outcome loads is =
       inr (inr (inr (inl (refl, record { cells = cells.items; loaded = Ok (AllAccepted cells); later = later; loads = loads; accepted = refl; end = is.end; are = is.are }))))
 
-  module _ (v : VerifiedPlan) (mid : W) (loads : Loads gives (pair_in chosen) texts (Ok (Judged (Accepted v))) mid) (later : W) (outcome : Result Answer CommandFault) where
-    taken_written : (text : List ℕ) (taken : Result TakenUp ResumeFault) → Asks gives (file_at chosen 2) mid (Ok text) later → IsTaking v text taken
+  module _ (p : PlannedShop) (mid : W) (shapes : Shapes gives (pair_in chosen) texts (Ok (Ok p)) mid) (later : W) (outcome : Result Answer CommandFault) where
+    taken_written : (text : List ℕ) (taken : Result TakenUp ResumeFault) → Asks gives (file_at chosen 2) mid (Ok text) later → IsTaking p chosen.at text taken
         → ResumesTaken taken before after outcome → WereDriven gives Resume chosen texts before after
     taken_written text (Ok t) asks takes is =
-        inr (inr (inl (refl, record { cell = v; mid = mid; loads = loads; text = text; later = later; asks = asks; taken = t; takes = takes; end = is.end; is = is.is })))
+        inr (inr (inl (refl, record { plan = p; mid = mid; shapes = shapes; text = text; later = later; asks = asks; taken = t; takes = takes; end = is.end; is = is.is })))
     taken_written text (Err fault) asks takes is = kept Resume is.1
 
     text_written : (text : Result (List ℕ) CommandFault) → Asks gives (file_at chosen 2) mid text later
-        → ResumesText v text before after outcome → WereDriven gives Resume chosen texts before after
+        → ResumesText chosen.at p text before after outcome → WereDriven gives Resume chosen texts before after
     text_written (Ok text) asks is = taken_written text is.0 asks is.1 is.2
     text_written (Err fault) asks is = kept Resume is.1
 
-  resumes_written : (loaded : Result Loaded CommandFault) (mid later : W) (outcome : Result Answer CommandFault) → Loads gives (pair_in chosen) texts loaded mid
-      → Resumes gives (file_at chosen 2) loaded mid before outcome later after → WereDriven gives Resume chosen texts before after
-  resumes_written (Err fault) mid later outcome loads is = kept Resume is.1
-  resumes_written (Ok (NotShaped fault)) mid later outcome loads is = kept Resume is.1
-  resumes_written (Ok (Judged (Refused back why))) mid later outcome loads is = kept Resume is.1
-  resumes_written (Ok (Judged (Accepted v))) mid later outcome loads is = text_written v mid loads later outcome is.text is.asks is.resumes
+  resumes_written : (shaped : Result (Result PlannedShop ShapeFault) CommandFault) (mid later : W) (outcome : Result Answer CommandFault) → Shapes gives (pair_in chosen) texts shaped mid
+      → Resumes gives chosen.at (file_at chosen 2) shaped mid before outcome later after → WereDriven gives Resume chosen texts before after
+  resumes_written (Err fault) mid later outcome shapes is = kept Resume is.1
+  resumes_written (Ok (Err fault)) mid later outcome shapes is = kept Resume is.1
+  resumes_written (Ok (Ok p)) mid later outcome shapes is = text_written p mid shapes later outcome is.text is.asks is.resumes
 
   schedule_drawn : (drawn : Result Drawn CommandFault) (later : W) (outcome : Result Answer CommandFault) → DrawsSchedule gives (pair_in chosen) texts drawn later
       → Draws drawn before after outcome → WereDriven gives Schedule chosen texts before after
@@ -161,7 +164,7 @@ module _ {W : Type 0} (gives : W → List ℕ → Result (List ℕ) CommandFault
   written Search later outcome run = kept Search run.1
   written Improve later outcome run = kept Improve run.1
   written Drive later outcome run = drives_written run.loaded later outcome run.loads run.drives
-  written Resume later outcome run = resumes_written run.loaded run.texts_mid later outcome run.loads run.resumes
+  written Resume later outcome run = resumes_written run.shaped run.texts_mid later outcome run.shapes run.resumes
   written Hub later outcome run = hub_written run.loaded later outcome run.loads run.drives
   written Audit later outcome run = kept Audit run.1
   written Gantt later outcome run = drawing_written chosen.svg later outcome run
@@ -184,10 +187,10 @@ streamed_from_shown answers closes start last before after (Err NotWritten) is n
 streamed_from_shown answers closes start last before after (Err TooLong) is none = streamed_shown answers closes start last before after (Err TooLong) is
 streamed_from_shown answers closes start last before after (Err WantOfMemory) is none = inl (ap (λ (s : Streams). s.output.pending) is ∙ none)
 
-resume_shown : (t : TakenUp) (before after : Streams) (end : Result DriveEnd DriveFault) → IsResume t before after end → HoldsNothing after.output
+resume_shown : (t : TakenUp) (before after : Streams) (end : Result RestEnd DriveFault) → IsResume t before after end → HoldsNothing after.output
 resume_shown t before after end (inl cut) = inr cut.1
 resume_shown t before after end (inr on) =
-    streamed_shown DriveAnswer DriveCloses t.driven on.end (record { input = before.input; output = on.middle }) after end on.streamed
+    streamed_shown RestAnswer RestCloses t.driven on.end (record { input = before.input; output = on.middle }) after end on.streamed
 
 drive_shown : (plain : Bool) (manner : Manner) (v : VerifiedPlan) (before after : Streams) (end : Result DriveEnd DriveFault) → DrivesBy plain manner v before after end → before.output.pending ≡ []
     → HoldsNothing after.output

@@ -1,15 +1,34 @@
 -- What good files are answered by, where they don't change.
-use Rattle.std.proofs.Common.{◌≡◌, ℕ, ◌++◌, List, [], ◌∷◌, ◌⊎◌, Option, Result, Ok, Err, inl, inr, ap, sym, ◌∙◌, subst, refl}
+use Rattle.std.specs.Prelude.{unwrap_or}
+use Rattle.std.proofs.Common.{◌≡◌, ℕ, ◌<◌, ◌≤◌, arith, ◌++◌, List, [], ◌∷◌, ◌⊎◌, Option, Result, Ok, Err, inl, inr, ap, sym, ◌∙◌, subst, refl}
 use Rattle.shop_base.specs.Shop.{JobShop}
+use Rattle.shop_base.specs.declared.shape_fault.ShapeFault.{ShapeFault}
 use Rattle.shop_base.specs.Plan.{ShopPlan, PlannedShop, IsWellShaped}
+use Rattle.shop_base.specs.Run.{IsRun}
+use Rattle.shop_base.proofs.Cycles.{ranks_exclude_cycle}
 use Rattle.shop_base.proofs.Refusals.{shape_fault_refutes}
 use Rattle.text_lines.specs.Lines.{ended_lines}
 use Rattle.orlib_read.specs.declared.named.Named.{Named}
-use Rattle.plan_verifier.specs.Accepted.{VerifiedPlan, IsAcceptable}
+use Rattle.text_lines.specs.Lines.{ended_lines}
+use Rattle.alt_graph.specs.Times.{AreRanks, rank_of}
+use Rattle.plan_verifier.specs.Accepted.{VerifiedPlan, HasNoCycle, IsAcceptable}
+use Rattle.plan_verifier.specs.declared.verdict.Why.{Why}
+use Rattle.plan_verifier.specs.declared.verdict.Why.TheVariants.{Cycle, Late}
+use Rattle.plan_verifier.specs.Verdicts.{IsReason}
 use Rattle.plan_verifier.specs.declared.verdict.Verdict.TheVariants.{Accepted, Refused}
 use Rattle.plan_verifier.proofs.Reasons.{reason_refutes}
 use Rattle.plan_seek.specs.Tasks.{task_in}
+use Rattle.cell_tables.specs.declared.entry.Entry.{Entry}
+use Rattle.cell_tables.specs.Events.{events_of}
+use Rattle.event_lines.specs.LogLines.{LinesTell}
+use Rattle.event_lines.proofs.Readings.{one_reading}
+use Rattle.run_log.proofs.Audits.{first_bad-no_run}
 use Rattle.cell_drive.specs.declared.manner.Manner.{Manner}
+use Rattle.cell_drive.specs.declared.resume_fault.ResumeFault.{ResumeFault}
+use Rattle.cell_drive.specs.declared.resume_fault.ResumeFault.TheVariants.{Log, Past, Refused as RefusedRun, Memory as WantOfMemory}
+use Rattle.cell_drive.specs.OneRun.{cell_after}
+use Rattle.cell_drive.specs.TakenUp.{TakenUp, IsTakenUp}
+use Rattle.cell_drive.specs.ResumeFaults.{IsResumeFault, IsRefusedFor}
 use Rattle.command_answers.specs.declared.answer.Answer.{Answer}
 use Rattle.command_answers.specs.declared.loading.Loaded.{Loaded}
 use Rattle.command_answers.specs.declared.loading.Loaded.TheVariants.{NotShaped, Judged}
@@ -22,7 +41,7 @@ use Rattle.command_answers.specs.Facts.{AreFacts}
 use Rattle.command_answers.specs.Steps.{Then, GoesOn, Told, IsOrMemory}
 use Rattle.command_answers.specs.Texts.{Asks}
 use Rattle.command_answers.specs.Readings.{IsInstanceRead, IsPlanRead, AreFactsAnswered}
-use Rattle.command_answers.specs.Shapes.{IsNotShapedLine}
+use Rattle.command_answers.specs.Shapes.{IsNotShapedLine, IsShapedOrNot}
 use Rattle.command_answers.specs.Checks.{IsLoaded, IsCheckLine}
 use Rattle.command_answers.specs.Search.{IsSearchAnswer}
 use Rattle.command_answers.specs.Improving.{IsImproveAnswer, ordered}
@@ -35,9 +54,9 @@ use Rattle.command_run.specs.Planners.{search_by_two, SeeksPlan}
 use Rattle.command_run.specs.Improvers.{AsksOne, ImprovesPlan, AsksOneForRest, ImprovesRest}
 use Rattle.command_run.specs.Pictures.{Draws, RunsPicture}
 use Rattle.command_run.specs.Drives.{DrivesCell, Drives, IsLineTold}
-use Rattle.command_run.specs.Resumes.{ResumesText, Resumes}
+use Rattle.command_run.specs.Resumes.{IsUntakenTold, ResumesText, Resumes}
 use Rattle.command_run.specs.Program.{RunsDrive, RunsResume}
-use Rattle.command_run.specs.Laws.{Shelf, TellPlan, IsAnswered, IsDrawn}
+use Rattle.command_run.specs.Laws.{Shelf, TellPlan, IsAnswered, IsDrawn, IsNoPlanFor}
 
 -- the answer is one of these, or memory ran out
 pub answered : {A : Type 0} (Is : A → Type 0) (files : List (List ℕ)) (outcome : Result A CommandFault) (asked : List (List ℕ)) → IsOrMemory Is outcome → asked ≡ files → IsAnswered Is files outcome asked
@@ -200,30 +219,29 @@ module _ (content : List ℕ → Result (List ℕ) CommandFault) (pair : PairOfF
       loaded_drives manner run.loaded asked before after outcome shaped acceptable (good_plan IsLoaded run.loaded asked run.loads) run.drives
 
   -- the text of the log that came is taken up
-  log_resumes : (v : VerifiedPlan) (log text : List ℕ) (came : Result (List ℕ) CommandFault) (mid asked : List (List ℕ)) (before after : Streams) (outcome : Result Answer CommandFault) → content log ≡ Ok text
-      → mid ≡ pair.path ∷ pair.plan ∷ [] → Asks (Shelf content) log mid came asked → ResumesText v came before after outcome
-      → (asked ≡ pair.path ∷ pair.plan ∷ log ∷ []) × ResumesText v (Ok text) before after outcome
-  log_resumes v log text (Ok t) mid asked before after outcome is files given resumes =
+  log_resumes : (at : Option ℕ) (log text : List ℕ) (came : Result (List ℕ) CommandFault) (mid asked : List (List ℕ)) (before after : Streams) (outcome : Result Answer CommandFault) → content log ≡ Ok text
+      → mid ≡ pair.path ∷ pair.plan ∷ [] → Asks (Shelf content) log mid came asked → ResumesText at p came before after outcome
+      → (asked ≡ pair.path ∷ pair.plan ∷ log ∷ []) × ResumesText at p (Ok text) before after outcome
+  log_resumes at log text (Ok t) mid asked before after outcome is files given resumes =
       let same : t ≡ text = (let both : Ok t ≡ Ok text = given.0 ∙ is in cc both) in
-      (given.1 ∙ ap (λ (paths : List (List ℕ)). paths ++ log ∷ []) files, subst (λ (x : List ℕ). ResumesText v (Ok x) before after outcome) same resumes)
-  log_resumes v log text (Err f) mid asked before after outcome is files given resumes = absurd (let both : Err f ≡ Ok text = given.1.0 ∙ is in cc both)
+      (given.1 ∙ ap (λ (paths : List (List ℕ)). paths ++ log ∷ []) files, subst (λ (x : List ℕ). ResumesText at p (Ok x) before after outcome) same resumes)
+  log_resumes at log text (Err f) mid asked before after outcome is files given resumes = absurd (let both : Err f ≡ Ok text = given.1.0 ∙ is in cc both)
 
-  -- an accepted plan has its log asked for
-  loaded_resumes : (log text : List ℕ) (loaded : Result Loaded CommandFault) (mid asked : List (List ℕ)) (before after : Streams) (outcome : Result Answer CommandFault) → content log ≡ Ok text → IsWellShaped p → IsAcceptable p
-      → IsAnswered (IsLoaded p) (pair.path ∷ pair.plan ∷ []) loaded mid → Resumes (Shelf content) log loaded mid before outcome asked after
-      → ((asked ≡ pair.path ∷ pair.plan ∷ log ∷ []) × ((v : VerifiedPlan) × (v.planned ≡ p) × ResumesText v (Ok text) before after outcome)) ⊎ ((outcome ≡ Err Memory) × (after ≡ before))
-  loaded_resumes log text (Err fault) mid asked before after outcome came shaped acceptable is resumes = inr (resumes.0 ∙ ap Err is, resumes.1)
-  loaded_resumes log text (Ok (NotShaped fault)) mid asked before after outcome came shaped acceptable is resumes = absurd (shape_fault_refutes p fault is.0 shaped)
-  loaded_resumes log text (Ok (Judged (Refused back why))) mid asked before after outcome came shaped acceptable is resumes = absurd (reason_refutes p why is.0.refused.1 acceptable)
-  loaded_resumes log text (Ok (Judged (Accepted v))) mid asked before after outcome came shaped acceptable is resumes =
-      let on = log_resumes v log text resumes.text mid asked before after outcome came is.1 resumes.asks resumes.resumes in
-      inl (on.0, (v, is.0.accepted.0, on.1))
+  -- a well-shaped plan has its log asked for
+  shaped_resumes : (at : Option ℕ) (log text : List ℕ) (shaped : Result (Result PlannedShop ShapeFault) CommandFault) (mid asked : List (List ℕ)) (before after : Streams) (outcome : Result Answer CommandFault) → content log ≡ Ok text → IsWellShaped p
+      → IsAnswered (IsShapedOrNot p) (pair.path ∷ pair.plan ∷ []) shaped mid → Resumes (Shelf content) at log shaped mid before outcome asked after
+      → ((asked ≡ pair.path ∷ pair.plan ∷ log ∷ []) × ResumesText at p (Ok text) before after outcome) ⊎ ((outcome ≡ Err Memory) × (after ≡ before))
+  shaped_resumes at log text (Err fault) mid asked before after outcome came well is resumes = inr (resumes.0 ∙ ap Err is, resumes.1)
+  shaped_resumes at log text (Ok (Err fault)) mid asked before after outcome came well is resumes = absurd (shape_fault_refutes p fault is.0 well)
+  shaped_resumes at log text (Ok (Ok q)) mid asked before after outcome came well is resumes =
+      let of_plan : ResumesText at p resumes.text before after outcome = subst (λ (x : PlannedShop). ResumesText at x resumes.text before after outcome) is.0.0 resumes.resumes in
+      inl (log_resumes at log text resumes.text mid asked before after outcome came is.1 resumes.asks of_plan)
 
-  pub good_resume : (before after : Streams) (log text : List ℕ) (outcome : Result Answer CommandFault) (asked : List (List ℕ)) → IsWellShaped p → IsAcceptable p → content log ≡ Ok text
-      → RunsResume (Shelf content) pair log [] before outcome asked after
-      → ((asked ≡ pair.path ∷ pair.plan ∷ log ∷ []) × ((v : VerifiedPlan) × (v.planned ≡ p) × ResumesText v (Ok text) before after outcome)) ⊎ ((outcome ≡ Err Memory) × (after ≡ before))
-  good_resume before after log text outcome asked shaped acceptable is run =
-      loaded_resumes log text run.loaded run.texts_mid asked before after outcome is shaped acceptable (good_plan IsLoaded run.loaded run.texts_mid run.loads) run.resumes
+  pub good_resume : (at : Option ℕ) (before after : Streams) (log text : List ℕ) (outcome : Result Answer CommandFault) (asked : List (List ℕ)) → IsWellShaped p → content log ≡ Ok text
+      → RunsResume (Shelf content) at pair log [] before outcome asked after
+      → ((asked ≡ pair.path ∷ pair.plan ∷ log ∷ []) × ResumesText at p (Ok text) before after outcome) ⊎ ((outcome ≡ Err Memory) × (after ≡ before))
+  good_resume at before after log text outcome asked well is run =
+      shaped_resumes at log text run.shaped run.texts_mid asked before after outcome is well (good_plan IsShapedOrNot run.shaped run.texts_mid run.shapes) run.resumes
 
   -- ---- plans that aren't accepted
 
@@ -240,19 +258,71 @@ module _ (content : List ℕ → Result (List ℕ) CommandFault) (pair : PairOfF
   drives_no_cell manner (Ok (Judged (Refused back why))) asked before after outcome never is drives = (line_told (Judged (Refused back why)) outcome asked is.0 is.1 drives.0, drives.1)
   drives_no_cell manner (Ok (Judged (Accepted v))) asked before after outcome never is drives = absurd (never is.0.well_shaped is.0.accepted.1)
 
-  resumes_no_cell : (log : List ℕ) (loaded : Result Loaded CommandFault) (mid asked : List (List ℕ)) (before after : Streams) (outcome : Result Answer CommandFault) → (IsWellShaped p → IsAcceptable p → ⊥)
-      → IsAnswered (IsLoaded p) (pair.path ∷ pair.plan ∷ []) loaded mid → Resumes (Shelf content) log loaded mid before outcome asked after
-      → IsAnswered (IsCheckLine p) (pair.path ∷ pair.plan ∷ []) outcome asked × (after ≡ before)
-  resumes_no_cell log (Err fault) mid asked before after outcome never is resumes = (wanting (IsCheckLine p) _ outcome asked (resumes.0 ∙ ap Err is), resumes.1)
-  resumes_no_cell log (Ok (NotShaped fault)) mid asked before after outcome never is resumes = (line_told (NotShaped fault) outcome asked is.0 (resumes.2 ∙ is.1) resumes.0, resumes.1)
-  resumes_no_cell log (Ok (Judged (Refused back why))) mid asked before after outcome never is resumes = (line_told (Judged (Refused back why)) outcome asked is.0 (resumes.2 ∙ is.1) resumes.0, resumes.1)
-  resumes_no_cell log (Ok (Judged (Accepted v))) mid asked before after outcome never is resumes = absurd (never is.0.well_shaped is.0.accepted.1)
-
   pub no_drive : (manner : Manner) (before after : Streams) (outcome : Result Answer CommandFault) (asked : List (List ℕ)) → (IsWellShaped p → IsAcceptable p → ⊥) → RunsDrive (Shelf content) manner pair [] before outcome asked after
       → IsAnswered (IsCheckLine p) (pair.path ∷ pair.plan ∷ []) outcome asked × (after ≡ before)
   no_drive manner before after outcome asked never run = drives_no_cell manner run.loaded asked before after outcome never (good_plan IsLoaded run.loaded asked run.loads) run.drives
 
-  pub no_resume : (log : List ℕ) (before after : Streams) (outcome : Result Answer CommandFault) (asked : List (List ℕ)) → (IsWellShaped p → IsAcceptable p → ⊥) → RunsResume (Shelf content) pair log [] before outcome asked after
+  -- a plan that isn't well shaped
+  resumes_unshaped : (at : Option ℕ) (log : List ℕ) (shaped : Result (Result PlannedShop ShapeFault) CommandFault) (mid asked : List (List ℕ)) (before after : Streams) (outcome : Result Answer CommandFault) → (IsWellShaped p → ⊥)
+      → IsAnswered (IsShapedOrNot p) (pair.path ∷ pair.plan ∷ []) shaped mid → Resumes (Shelf content) at log shaped mid before outcome asked after
       → IsAnswered (IsCheckLine p) (pair.path ∷ pair.plan ∷ []) outcome asked × (after ≡ before)
-  no_resume log before after outcome asked never run =
-      resumes_no_cell log run.loaded run.texts_mid asked before after outcome never (good_plan IsLoaded run.loaded run.texts_mid run.loads) run.resumes
+  resumes_unshaped at log (Err fault) mid asked before after outcome never is resumes = (wanting (IsCheckLine p) _ outcome asked (resumes.0 ∙ ap Err is), resumes.1)
+  resumes_unshaped at log (Ok (Err fault)) mid asked before after outcome never is resumes = (line_told (NotShaped fault) outcome asked is.0 (resumes.2 ∙ is.1) resumes.0, resumes.1)
+  resumes_unshaped at log (Ok (Ok q)) mid asked before after outcome never is resumes = absurd (never is.0.1)
+
+  pub no_unshaped_resume : (at : Option ℕ) (log : List ℕ) (before after : Streams) (outcome : Result Answer CommandFault) (asked : List (List ℕ)) → (IsWellShaped p → ⊥) → RunsResume (Shelf content) at pair log [] before outcome asked after
+      → IsAnswered (IsCheckLine p) (pair.path ∷ pair.plan ∷ []) outcome asked × (after ≡ before)
+  no_unshaped_resume at log before after outcome asked never run =
+      resumes_unshaped at log run.shaped run.texts_mid asked before after outcome never (good_plan IsShapedOrNot run.shaped run.texts_mid run.shapes) run.resumes
+
+  -- a plan by which the run of a log can't go on
+  module _ (at : Option ℕ) (text : List ℕ) (told : List Entry) (well : IsWellShaped p) (tells : LinesTell p (ended_lines text) told) (run : IsRun p (events_of told))
+      (not_past : (cell_after p told).last ≤ unwrap_or at (cell_after p told).last) (no_plan : IsNoPlanFor p told) where
+    not_taken : (t : TakenUp) → IsTakenUp p (ended_lines text) at t → ⊥
+    not_taken t up = go no_plan
+      where
+        same : up.told ≡ told
+        same = one_reading p (ended_lines text) up.told told up.tells tells
+
+        acyclic : HasNoCycle p
+        acyclic nodes cycle =
+            ranks_exclude_cycle p (rank_of t.driven.control.times) nodes (subst (λ (q : PlannedShop). AreRanks q t.driven.control.times) up.taken_from.planned up.taken_from.run.driven.control.ranks).rise cycle
+
+        go : IsNoPlanFor p told → ⊥
+        go (inl cyclic) = cyclic acyclic
+        go (inr (none, never)) = never (up.taken_from.accepted (same ∙ none))
+
+    untaken_told : (fault : ResumeFault) (files asked : List (List ℕ)) (outcome : Result Answer CommandFault) → asked ≡ files → IsResumeFault p (ended_lines text) at fault → IsUntakenTold fault outcome
+        → IsAnswered (IsCheckLine p) files outcome asked
+    untaken_told WantOfMemory files asked outcome same is told_so = wanting (IsCheckLine p) files outcome asked told_so
+    untaken_told (Log fault) files asked outcome same is told_so = absurd (first_bad-no_run p (ended_lines text) fault is (told, tells, run))
+    untaken_told (Past last) files asked outcome same (others, also, events, is_past) told_so =
+        let one : others ≡ told = one_reading p (ended_lines text) others told also tells in
+        let here : last ≡ (cell_after p told).last = is_past.0 ∙ ap (λ (es : List Entry). (cell_after p es).last) one in
+        let past_there : unwrap_or at (cell_after p told).last < (cell_after p told).last = subst (λ n. unwrap_or at n < n) here is_past.1 in
+        absurd (omega (arith, past_there, not_past))
+    untaken_told (RefusedRun back why) files asked outcome same (others, also, events, is_refused) told_so =
+        answered_line outcome told_so
+      where
+        judged : IsLoaded p (Judged (Refused back why))
+        judged = record { well_shaped = well; accepted = tt; refused = (is_refused.1, reason_of why is_refused.2) }
+          where
+            reason_of : (y : Why) → IsRefusedFor p (others ≡ []) y → IsReason p y
+            reason_of (Cycle nodes) cycle = cycle
+            reason_of (Late job leaves chain times) late = late.1
+
+        answered_line : (outcome : Result Answer CommandFault) → IsLineTold (Judged (Refused back why)) outcome → IsAnswered (IsCheckLine p) files outcome asked
+        answered_line (Ok answer) line = (line_of_loaded p (Judged (Refused back why)) answer judged line, same)
+        answered_line (Err fault) line = line
+
+    text_resumes : (files asked : List (List ℕ)) (before after : Streams) (outcome : Result Answer CommandFault) → asked ≡ files → ResumesText at p (Ok text) before after outcome
+        → IsAnswered (IsCheckLine p) files outcome asked × (after ≡ before)
+    text_resumes files asked before after outcome same (Ok t, taking, on) = absurd (not_taken t taking.is)
+    text_resumes files asked before after outcome same (Err fault, taking, on) = (untaken_told fault files asked outcome same taking.fault on.0, on.1)
+
+    pub no_resume : (log : List ℕ) (before after : Streams) (outcome : Result Answer CommandFault) (asked : List (List ℕ)) → content log ≡ Ok text → RunsResume (Shelf content) at pair log [] before outcome asked after
+        → IsAnswered (IsCheckLine p) (pair.path ∷ pair.plan ∷ log ∷ []) outcome asked × (after ≡ before)
+    no_resume log before after outcome asked is runs = elim (good_resume at before after log text outcome asked well is runs) [
+      | inl (files, resumes) ↦ text_resumes (pair.path ∷ pair.plan ∷ log ∷ []) asked before after outcome files resumes
+      | inr (none, unread) ↦ (wanting (IsCheckLine p) (pair.path ∷ pair.plan ∷ log ∷ []) outcome asked none, unread)
+    ]

@@ -8,12 +8,15 @@ use Rattle.plan_seek.specs.Turns.{PlanSearch}
 use Rattle.plan_seek.specs.declared.seek_fault.SeekFault.{SeekFault}
 use Rattle.plan_seek.specs.declared.seek_fault.SeekFault.TheVariants.{BadNumbers, Exhausted, TooManyRounds, Memory as NoMemory}
 use Rattle.plan_improve.specs.Runs.{Asked}
+use Rattle.shop_base.specs.declared.shape_fault.ShapeFault.{ShapeFault}
 use Rattle.shop_base.specs.Plan.{PlannedShop}
 use Rattle.byte_streams.specs.declared.drive_fault.DriveFault.{DriveFault}
 use Rattle.cell_drive.specs.declared.manner.Manner.{Manner}
 use Rattle.cell_drive.specs.declared.resume_fault.ResumeFault.{ResumeFault}
-use Rattle.cell_drive.specs.declared.resume_fault.ResumeFault.TheVariants.{BadLine, NotOrdered, NotPossible, Memory as NoMemoryToResume}
-use Rattle.cell_drive.specs.Replays.{TakenUp}
+use Rattle.cell_drive.specs.declared.resume_fault.ResumeFault.TheVariants.{Log, Past, Refused as RefusedRun, Memory as NoMemoryToResume}
+use Rattle.cell_drive.specs.TakenUp.{TakenUp}
+use Rattle.run_log.specs.declared.audit_fault.AuditFault.{AuditFault}
+use Rattle.run_log.specs.declared.audit_fault.AuditFault.TheVariants.{BadLine, NotExpected, Backwards, NotReady, Occupied, OutOfOrder, WrongPlace, NotClean, Memory as NoMemoryToAudit}
 use Rattle.command_words.specs.declared.words.Chosen.{Chosen}
 use Rattle.command_words.specs.declared.words.CommandName.{CommandName}
 use Rattle.command_words.specs.declared.words.CommandName.TheVariants.{Input as NoWords, Facts, Shape, Check, Explain, Schedule, Bounds, Plan, Improve, Drive, Resume, Hub, Audit, Gantt}
@@ -34,10 +37,10 @@ use Rattle.command_answers.specs.Improving.{IsStatusOf, IsBestAnswer, IsImproveA
 use Rattle.command_answers.specs.Search.{IsSearchLine, IsSearchAnswer, IsNoPlanLine}
 use Rattle.command_answers.specs.declared.logs.Telling.{Telling}
 use Rattle.command_answers.specs.declared.logs.Telling.TheVariants.{Numbers, Drawing}
-use Rattle.command_answers.specs.LogLines.{IsLogLine}
+use Rattle.command_answers.specs.LogLines.{IsFaultLine, IsFaultTold, IsLogLine}
 use Rattle.command_answers.specs.declared.rests.PlanTelling.{PlanTelling}
 use Rattle.command_answers.specs.declared.rests.PlanTelling.TheVariants.{Verdict as OfVerdict, Reasons, Moments}
-use Rattle.command_answers.specs.Rests.{IsRestLine}
+use Rattle.command_answers.specs.Rests.{IsPastLine, IsRestLine}
 use Rattle.command_answers.specs.declared.pictures.Drawn.{Drawn}
 use Rattle.command_answers.specs.declared.pictures.Drawn.TheVariants.{Picture, Line as LineDrawn}
 use Rattle.command_answers.specs.Pictures.{IsLogDrawn, IsPlanDrawn, IsUnshapedDrawn, WithDrawnLog, DrawsLog, DrawsSchedule}
@@ -47,7 +50,7 @@ use Rattle.command_answers.proofs.RestAnswers.{low_rest}
 use Rattle.command_run.specs.Streams.{Streams, Output}
 use Rattle.command_run.specs.Pictures.{Draws, IsPictureOut, RunsTimetable, RunsDrawing}
 use Rattle.command_run.specs.Drives.{IsEnded, IsEndAnswer, Drives, status_at, end_of_drive}
-use Rattle.command_run.specs.Resumes.{IsFaultLine, IsFaultTold, ResumesTaken, ResumesText, Resumes}
+use Rattle.command_run.specs.Resumes.{IsUntakenTold, ResumesTaken, ResumesText, Resumes, end_of_rest}
 use Rattle.command_run.specs.Hubs.{DrivesAll, end_of_hub}
 use Rattle.command_run.specs.Planners.{search_by_two, SeeksPlan}
 use Rattle.text_lines.specs.Lines.{ended_lines}
@@ -229,19 +232,30 @@ low_drives manner (Ok (Judged (Accepted v))) before after outcome is = low_end (
 
 -- ---- taking up
 
-low_fault_told : (fault : ResumeFault) (outcome : Result Answer CommandFault) → IsFaultTold fault outcome → IsLow outcome
-low_fault_told (BadLine line) outcome is = low_or (IsFaultLine (BadLine line)) outcome (λ answer line. one_low answer.status line.1) is
-low_fault_told (NotOrdered line) outcome is = low_or (IsFaultLine (NotOrdered line)) outcome (λ answer line. one_low answer.status line.1) is
-low_fault_told (NotPossible line reason) outcome is = low_or (IsFaultLine (NotPossible line reason)) outcome (λ answer line. one_low answer.status line.1) is
-low_fault_told NoMemoryToResume outcome is = subst IsLow (sym is) tt
+low_log_fault : (fault : AuditFault) (outcome : Result Answer CommandFault) → IsFaultTold fault outcome → IsLow outcome
+low_log_fault NoMemoryToAudit outcome is = subst IsLow (sym is) tt
+low_log_fault (BadLine line) outcome is = low_or (IsFaultLine (BadLine line)) outcome (λ answer line. one_low answer.status line.1) is
+low_log_fault (NotExpected line) outcome is = low_or (IsFaultLine (NotExpected line)) outcome (λ answer line. one_low answer.status line.1) is
+low_log_fault (Backwards line) outcome is = low_or (IsFaultLine (Backwards line)) outcome (λ answer line. one_low answer.status line.1) is
+low_log_fault (NotReady line) outcome is = low_or (IsFaultLine (NotReady line)) outcome (λ answer line. one_low answer.status line.1) is
+low_log_fault (Occupied line) outcome is = low_or (IsFaultLine (Occupied line)) outcome (λ answer line. one_low answer.status line.1) is
+low_log_fault (NotClean line) outcome is = low_or (IsFaultLine (NotClean line)) outcome (λ answer line. one_low answer.status line.1) is
+low_log_fault (OutOfOrder line) outcome is = low_or (IsFaultLine (OutOfOrder line)) outcome (λ answer line. one_low answer.status line.1) is
+low_log_fault (WrongPlace line) outcome is = low_or (IsFaultLine (WrongPlace line)) outcome (λ answer line. one_low answer.status line.1) is
+
+low_untaken : (fault : ResumeFault) (outcome : Result Answer CommandFault) → IsUntakenTold fault outcome → IsLow outcome
+low_untaken NoMemoryToResume outcome is = subst IsLow (sym is) tt
+low_untaken (Log fault) outcome is = low_log_fault fault outcome is
+low_untaken (Past last) outcome is = low_or (IsPastLine last) outcome (λ answer line. one_low answer.status line.1) is
+low_untaken (RefusedRun back why) outcome is = low_or (IsLineOf (Judged (Refused back why))) outcome (low_line_of (Judged (Refused back why))) is
 
 low_taken : (taken : Result TakenUp ResumeFault) (before after : Streams) (outcome : Result Answer CommandFault) → ResumesTaken taken before after outcome → IsLow outcome
-low_taken (Ok t) before after outcome is = low_end (end_of_drive is.end) outcome is.answer
-low_taken (Err fault) before after outcome is = low_fault_told fault outcome is.0
+low_taken (Ok t) before after outcome is = low_end (end_of_rest is.end) outcome is.answer
+low_taken (Err fault) before after outcome is = low_untaken fault outcome is.0
 
-low_text : (v : VerifiedPlan) (text : Result (List ℕ) CommandFault) (before after : Streams) (outcome : Result Answer CommandFault) → ResumesText v text before after outcome → IsLow outcome
-low_text v (Ok text) before after outcome is = low_taken is.0 before after outcome is.2
-low_text v (Err fault) before after outcome is = subst IsLow (sym is.0) tt
+low_text : (at : Option ℕ) (p : PlannedShop) (text : Result (List ℕ) CommandFault) (before after : Streams) (outcome : Result Answer CommandFault) → ResumesText at p text before after outcome → IsLow outcome
+low_text at p (Ok text) before after outcome is = low_taken is.0 before after outcome is.2
+low_text at p (Err fault) before after outcome is = subst IsLow (sym is.0) tt
 
 -- the line of a plan of a hub
 abbrev IsLowLine : Result Cells CommandFault → Type 0
@@ -358,14 +372,12 @@ module _ {W : Type 0} (gives : W → List ℕ → Result (List ℕ) CommandFault
   low_bettered at rounds pair None texts outcome after run = low_improves rounds pair texts outcome after run
   low_bettered at rounds pair (Some log) texts outcome after run = low_rest_improves at rounds pair log texts outcome after run
 
-  low_resumes : (log : List ℕ) (loaded : Result Loaded CommandFault) (texts : W) (before : Streams) (outcome : Result Answer CommandFault) (texts_after : W) (after : Streams)
-      → Resumes gives log loaded texts before outcome texts_after after → IsLow outcome
-  low_resumes log (Err fault) texts before outcome texts_after after is = subst IsLow (sym is.0) tt
-  low_resumes log (Ok (NotShaped fault)) texts before outcome texts_after after is =
+  low_resumes : (at : Option ℕ) (log : List ℕ) (shaped : Result (Result PlannedShop ShapeFault) CommandFault) (texts : W) (before : Streams) (outcome : Result Answer CommandFault) (texts_after : W) (after : Streams)
+      → Resumes gives at log shaped texts before outcome texts_after after → IsLow outcome
+  low_resumes at log (Err fault) texts before outcome texts_after after is = subst IsLow (sym is.0) tt
+  low_resumes at log (Ok (Err fault)) texts before outcome texts_after after is =
       low_or (IsLineOf (NotShaped fault)) outcome (low_line_of (NotShaped fault)) is.0
-  low_resumes log (Ok (Judged (Refused back why))) texts before outcome texts_after after is =
-      low_or (IsLineOf (Judged (Refused back why))) outcome (low_line_of (Judged (Refused back why))) is.0
-  low_resumes log (Ok (Judged (Accepted v))) texts before outcome texts_after after is = low_text v is.text before after outcome is.resumes
+  low_resumes at log (Ok (Ok p)) texts before outcome texts_after after is = low_text at p is.text before after outcome is.resumes
 
   -- an answer of any command is a good one, or one that refuses
   pub low : (name : CommandName) (chosen : Chosen) (texts : W) (before : Streams) (outcome : Result Answer CommandFault) (texts_after : W) (after : Streams)
@@ -386,7 +398,7 @@ module _ {W : Type 0} (gives : W → List ℕ → Result (List ℕ) CommandFault
   low Plan chosen texts before outcome texts_after after run = low_seeks chosen.rounds _ texts outcome texts_after run.0
   low Improve chosen texts before outcome texts_after after run = low_bettered chosen.at chosen.rounds (pair_in chosen) (log_in chosen) texts outcome texts_after run.0
   low Drive chosen texts before outcome texts_after after run = low_drives (manner_in chosen) run.loaded before after outcome run.drives
-  low Resume chosen texts before outcome texts_after after run = low_resumes _ run.loaded run.texts_mid before outcome texts_after after run.resumes
+  low Resume chosen texts before outcome texts_after after run = low_resumes chosen.at _ run.shaped run.texts_mid before outcome texts_after after run.resumes
   low Hub chosen texts before outcome texts_after after run =
       low_drives_all run.loaded before after outcome
       (held IsLowLine _ (λ text. LoadsEach gives text (name_in chosen) [] (plans_in chosen)) texts run.loaded texts_after low_line_failed (λ text mid on. low_loaded gives text (name_in chosen) [] (plans_in chosen) mid run.loaded texts_after on) run.loads) run.drives

@@ -1,5 +1,6 @@
 -- What is told first where the files don't change.
 use Rattle.std.proofs.Common.{◌≡◌, ℕ, List, [], ◌∷◌, ◌⊎◌, Option, Result, Ok, Err, inl, inr, ap, sym, ◌∙◌, subst, refl}
+use Rattle.shop_base.specs.declared.shape_fault.ShapeFault.{ShapeFault}
 use Rattle.shop_base.specs.Plan.{PlannedShop}
 use Rattle.orlib_read.specs.declared.named.Named.{Named}
 use Rattle.orlib_read.specs.declared.or_fault.OrFault.{OrFault}
@@ -61,13 +62,13 @@ draws_stopped fault (Ok drawn) before after outcome (inr told) is = absurd (cc t
 draws_stopped fault (Err f) before after outcome (inl told) is = (inl ((let one : f ≡ (Instance fault) = cc told in is.0 ∙ ap (λ x. Err x) one)), is.1)
 draws_stopped fault (Err f) before after outcome (inr told) is = (inr ((let one : f ≡ Memory = cc told in is.0 ∙ ap (λ x. Err x) one)), is.1)
 
-resumes_stopped : {W : Type 0} (gives : W → List ℕ → Result (List ℕ) CommandFault → W → Type 0) (log : List ℕ) (fault : OrFault) (loaded : Result Loaded CommandFault) (mid last : W) (before after : Streams) (outcome : Result Answer CommandFault)
-    → IsToldOf fault loaded → Resumes gives log loaded mid before outcome last after → IsToldOf fault outcome × (after ≡ before) × (last ≡ mid)
-resumes_stopped gives log fault (Ok loaded) mid last before after outcome (inl told) is = absurd (cc told)
-resumes_stopped gives log fault (Ok loaded) mid last before after outcome (inr told) is = absurd (cc told)
-resumes_stopped gives log fault (Err f) mid last before after outcome (inl told) is =
+resumes_stopped : {W : Type 0} (gives : W → List ℕ → Result (List ℕ) CommandFault → W → Type 0) (at : Option ℕ) (log : List ℕ) (fault : OrFault) (loaded : Result (Result PlannedShop ShapeFault) CommandFault) (mid last : W) (before after : Streams) (outcome : Result Answer CommandFault)
+    → IsToldOf fault loaded → Resumes gives at log loaded mid before outcome last after → IsToldOf fault outcome × (after ≡ before) × (last ≡ mid)
+resumes_stopped gives at log fault (Ok loaded) mid last before after outcome (inl told) is = absurd (cc told)
+resumes_stopped gives at log fault (Ok loaded) mid last before after outcome (inr told) is = absurd (cc told)
+resumes_stopped gives at log fault (Err f) mid last before after outcome (inl told) is =
     (inl ((let one : f ≡ (Instance fault) = cc told in is.0 ∙ ap (λ x. Err x) one)), is.1, is.2)
-resumes_stopped gives log fault (Err f) mid last before after outcome (inr told) is =
+resumes_stopped gives at log fault (Err f) mid last before after outcome (inr told) is =
     (inr ((let one : f ≡ Memory = cc told in is.0 ∙ ap (λ x. Err x) one)), is.1, is.2)
 
 hub_stopped : (fault : OrFault) (loaded : Result Cells CommandFault) (before after : Streams) (outcome : Result Answer CommandFault)
@@ -160,9 +161,9 @@ module _ (content : List ℕ → Result (List ℕ) CommandFault) (pair : PairOfF
       let end = draws_stopped fault run.drawn before after outcome came.1 run.draws in
       ((came.0, end.0), end.1)
 
-  pub resume_first : (log : List ℕ) (before after : Streams) (outcome : Result Answer CommandFault) (asked : List (List ℕ))
-      → RunsResume (Shelf content) pair log [] before outcome asked after → IsInstanceTold pair.path fault outcome asked × (after ≡ before)
-  resume_first log before after outcome asked run =
-      let loaded = told_first _ run.loaded run.texts_mid run.loads in
-      let end = resumes_stopped (Shelf content) log fault run.loaded run.texts_mid asked before after outcome loaded.1 run.resumes in
+  pub resume_first : (at : Option ℕ) (log : List ℕ) (before after : Streams) (outcome : Result Answer CommandFault) (asked : List (List ℕ))
+      → RunsResume (Shelf content) at pair log [] before outcome asked after → IsInstanceTold pair.path fault outcome asked × (after ≡ before)
+  resume_first at log before after outcome asked run =
+      let loaded = told_first _ run.shaped run.texts_mid run.shapes in
+      let end = resumes_stopped (Shelf content) at log fault run.shaped run.texts_mid asked before after outcome loaded.1 run.resumes in
       ((end.2 ∙ loaded.0, end.0), end.1)

@@ -1,18 +1,24 @@
 -- What the program's clauses come to in plain words.
-use Rattle.std.specs.Prelude.{◌≡◌, ◌≢◌, ℕ, ◌≤◌, List, [], ◌∷◌, ◌++◌, ◌⊎◌, length, map, get_or, codes, decimal, Option, None, Some, true, false, Result, Ok, Err}
+use Rattle.std.specs.Prelude.{◌≡◌, ◌≢◌, ℕ, ◌≤◌, List, [], ◌∷◌, ◌++◌, ◌⊎◌, length, map, get_or, unwrap_or, codes, decimal, Option, None, Some, true, false, Result, Ok, Err}
 use Rattle.std.specs.String.{string_bytes}
 use Rattle.shop_base.specs.Shop.{JobShop}
 use Rattle.shop_base.specs.Plan.{PlannedShop, IsWellShaped}
-use Rattle.text_lines.specs.Lines.{ended_lines}
+use Rattle.shop_base.specs.Run.{IsRun}
 use Rattle.text_lines.specs.declared.limits.TheConstants.{MAX_INPUT}
+use Rattle.text_lines.specs.Lines.{ended_lines}
 use Rattle.orlib_read.specs.declared.or_fault.OrFault.{OrFault}
-use Rattle.plan_verifier.specs.Accepted.{VerifiedPlan, IsAcceptable}
+use Rattle.plan_verifier.specs.Accepted.{VerifiedPlan, HasNoCycle, IsAcceptable}
 use Rattle.plan_verifier.specs.declared.verdict.Verdict.TheVariants.{Accepted}
 use Rattle.plan_seek.specs.Tasks.{task_in}
+use Rattle.cell_tables.specs.declared.entry.Entry.{Entry}
+use Rattle.cell_tables.specs.Events.{events_of}
+use Rattle.event_lines.specs.LogLines.{LinesTell}
 use Rattle.byte_streams.specs.Sinks.{TookPart}
-use Rattle.cell_drive.specs.Replays.{TakenUp}
+use Rattle.cell_drive.specs.OneRun.{cell_after}
+use Rattle.cell_drive.specs.TakenUp.{TakenUp}
 use Rattle.cell_drive.specs.declared.manner.Manner.{Manner}
 use Rattle.cell_drive.specs.declared.one_run.DriveEnd.{DriveEnd}
+use Rattle.cell_drive.specs.declared.rest_run.RestEnd.{RestEnd}
 use Rattle.cell_drive.specs.declared.many_runs.HubEnd.{HubEnd}
 use Rattle.byte_streams.specs.declared.drive_fault.DriveFault.{DriveFault}
 use Rattle.command_words.specs.declared.words.CommandName.TheVariants.{Schedule, Drive, Resume, Hub, Gantt}
@@ -42,7 +48,7 @@ use Rattle.command_answers.specs.Improving.{IsImproveAnswer, ordered}
 use Rattle.command_answers.specs.declared.rests.PlanTelling.{PlanTelling}
 use Rattle.command_answers.specs.Rests.{IsRestLine}
 use Rattle.command_answers.specs.ImprovingRests.{IsRestAnswer}
-use Rattle.command_answers.specs.Commands.{PairOfFiles, RunsFacts, RunsShape, RunsCheck, RunsExplain, RunsSchedule, RunsBounds, RunsLog, RunsRest, Loads}
+use Rattle.command_answers.specs.Commands.{PairOfFiles, RunsFacts, RunsShape, RunsCheck, RunsExplain, RunsSchedule, RunsBounds, RunsLog, RunsRest, Loads, Shapes}
 use Rattle.command_answers.specs.Pictures.{IsLogDrawn, IsPlanDrawn, DrawsLog, DrawsSchedule}
 use Rattle.command_answers.specs.declared.loading.Loaded.TheVariants.{Judged}
 use Rattle.command_answers.specs.declared.cells.Cells.{Cells}
@@ -128,7 +134,7 @@ abbrev pub DriveTellsInstanceFirst : Type 0
 DriveTellsInstanceFirst = (manner : Manner) → TellsInstanceFirstUnread (λ gives pair. RunsDrive gives manner pair)
 
 abbrev pub ResumeTellsInstanceFirst : Type 0
-ResumeTellsInstanceFirst = (log : List ℕ) → TellsInstanceFirstUnread (λ gives pair. RunsResume gives pair log)
+ResumeTellsInstanceFirst = (at : Option ℕ) (log : List ℕ) → TellsInstanceFirstUnread (λ gives pair. RunsResume gives at pair log)
 
 -- so it is where pictures are asked for
 abbrev pub ScheduleDrawsInstanceFirst : Type 0
@@ -235,11 +241,11 @@ DriveDrivesPlan = (manner : Manner) (before after : Streams) (content : List ℕ
     → TellPlan content pair p → IsWellShaped p → IsAcceptable p → RunsDrive (Shelf content) manner pair [] before outcome asked after
     → ((asked ≡ pair.path ∷ pair.plan ∷ []) × ((v : VerifiedPlan) × (v.planned ≡ p) × DrivesCell manner v before after outcome)) ⊎ ((outcome ≡ Err Memory) × (after ≡ before))
 
--- `resume`: where the plan is accepted, its log is asked for and taken up, and driven on if it can be, unless memory runs out before, with no byte read or written
+-- `resume`: where the plan is well shaped, its log is asked for and taken up, and driven on if it can be, unless memory runs out before, with no byte read or written
 abbrev pub ResumeGoesOn : Type 0
-ResumeGoesOn = (before after : Streams) (content : List ℕ → Result (List ℕ) CommandFault) (pair : PairOfFiles) (log text : List ℕ) (p : PlannedShop) (outcome : Result Answer CommandFault) (asked : List (List ℕ))
-    → TellPlan content pair p → IsWellShaped p → IsAcceptable p → content log ≡ Ok text → RunsResume (Shelf content) pair log [] before outcome asked after
-    → ((asked ≡ pair.path ∷ pair.plan ∷ log ∷ []) × ((v : VerifiedPlan) × (v.planned ≡ p) × ResumesText v (Ok text) before after outcome)) ⊎ ((outcome ≡ Err Memory) × (after ≡ before))
+ResumeGoesOn = (at : Option ℕ) (before after : Streams) (content : List ℕ → Result (List ℕ) CommandFault) (pair : PairOfFiles) (log text : List ℕ) (p : PlannedShop) (outcome : Result Answer CommandFault) (asked : List (List ℕ))
+    → TellPlan content pair p → IsWellShaped p → content log ≡ Ok text → RunsResume (Shelf content) at pair log [] before outcome asked after
+    → ((asked ≡ pair.path ∷ pair.plan ∷ log ∷ []) × ResumesText at p (Ok text) before after outcome) ⊎ ((outcome ≡ Err Memory) × (after ≡ before))
 
 -- the file of this path tells this plan for the instance of this text
 pub record TellsPlanOf (content : List ℕ → Result (List ℕ) CommandFault) (instance : List ℕ) (name : Option (List ℕ)) (path : List ℕ) (p : PlannedShop) : Type 0 where
@@ -293,8 +299,22 @@ AnswersByCheck runs = (before after : Streams) (content : List ℕ → Result (L
 abbrev pub DriveAnswersByCheck : Type 0
 DriveAnswersByCheck = (manner : Manner) → AnswersByCheck (λ gives pair. RunsDrive gives manner pair)
 
+-- a plan that isn't well shaped is answered so by `resume`
+abbrev pub ResumeAnswersUnshaped : Type 0
+ResumeAnswersUnshaped = (at : Option ℕ) (log : List ℕ) (before after : Streams) (content : List ℕ → Result (List ℕ) CommandFault) (pair : PairOfFiles) (p : PlannedShop) (outcome : Result Answer CommandFault) (asked : List (List ℕ))
+    → TellPlan content pair p → (IsWellShaped p → ⊥) → RunsResume (Shelf content) at pair log [] before outcome asked after
+    → IsAnswered (IsCheckLine p) (pair.path ∷ pair.plan ∷ []) outcome asked × (after ≡ before)
+
+-- by it the run of these lines can't go on: the plan has a cycle; or they tell no events, and it isn't accepted
+abbrev pub IsNoPlanFor : PlannedShop → List Entry → Type 0
+IsNoPlanFor p told = (HasNoCycle p → ⊥) ⊎ ((told ≡ []) × (IsAcceptable p → ⊥))
+
+-- and such a plan is answered by the line of `check`, once its log has been asked for, where that tells a run, with no byte read or written
 abbrev pub ResumeAnswersByCheck : Type 0
-ResumeAnswersByCheck = (log : List ℕ) → AnswersByCheck (λ gives pair. RunsResume gives pair log)
+ResumeAnswersByCheck = (at : Option ℕ) (before after : Streams) (content : List ℕ → Result (List ℕ) CommandFault) (pair : PairOfFiles) (log text : List ℕ) (p : PlannedShop) (told : List Entry) (outcome : Result Answer CommandFault) (asked : List (List ℕ))
+    → TellPlan content pair p → IsWellShaped p → content log ≡ Ok text → LinesTell p (ended_lines text) told → IsRun p (events_of told) → (cell_after p told).last ≤ unwrap_or at (cell_after p told).last
+    → IsNoPlanFor p told → RunsResume (Shelf content) at pair log [] before outcome asked after
+    → IsAnswered (IsCheckLine p) (pair.path ∷ pair.plan ∷ log ∷ []) outcome asked × (after ≡ before)
 
 -- the line of `check` for a plan, behind the plan's number
 pub record IsNumberedLine (number : ℕ) (p : PlannedShop) (answer : Answer) : Type 0 where
@@ -394,17 +414,17 @@ module _ {W : Type 0} (gives : W → List ℕ → Result (List ℕ) CommandFault
     pub end : Result DriveEnd DriveFault
     pub is : IsDriveIn manner cell before after end
 
-  -- the plan is accepted, its run was taken up from the log, and driven on to this end or up to this fault
-  pub record DroveOn (pair : PairOfFiles) (log : List ℕ) (texts : W) (before after : Streams) : Type 0 where
-    pub cell : VerifiedPlan
+  -- the plan is well shaped, its run was taken up from the log, and driven on to this end or up to this fault
+  pub record DroveOn (at : Option ℕ) (pair : PairOfFiles) (log : List ℕ) (texts : W) (before after : Streams) : Type 0 where
+    pub plan : PlannedShop
     pub mid : W
-    pub loads : Loads gives pair texts (Ok (Judged (Accepted cell))) mid
+    pub shapes : Shapes gives pair texts (Ok (Ok plan)) mid
     pub text : List ℕ
     pub later : W
     pub asks : Asks gives log mid (Ok text) later
     pub taken : TakenUp
-    pub takes : IsTaking cell text (Ok taken)
-    pub end : Result DriveEnd DriveFault
+    pub takes : IsTaking plan at text (Ok taken)
+    pub end : Result RestEnd DriveFault
     pub is : IsResume taken before after end
 
   -- all plans are accepted, and their cells were driven to this end or up to this fault
@@ -429,7 +449,7 @@ module _ {W : Type 0} (gives : W → List ℕ → Result (List ℕ) CommandFault
   abbrev pub WereDriven : CommandName → Chosen → W → Streams → Streams → Type 0
   WereDriven name chosen texts before after = (after.output ≡ before.output)
       ⊎ (((name ≡ Drive) × DroveCell (manner_in chosen) (pair_in chosen) texts before after)
-      ⊎ (((name ≡ Resume) × DroveOn (pair_in chosen) (file_at chosen 2) texts before after)
+      ⊎ (((name ≡ Resume) × DroveOn chosen.at (pair_in chosen) (file_at chosen 2) texts before after)
       ⊎ (((name ≡ Hub) × DroveCells (file_at chosen 0) (name_in chosen) (plans_in chosen) texts before after)
       ⊎ (((name ≡ Schedule) × DrewPicture (DrawsSchedule gives (pair_in chosen)) texts before after)
       ⊎ ((name ≡ Gantt) × DrewPicture (DrawsLog gives (pair_in chosen) (file_at chosen 2)) texts before after)))))

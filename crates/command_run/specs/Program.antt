@@ -1,6 +1,8 @@
 -- What the whole program does: what it answers to the words of its command line, and how it ends.
 use Rattle.std.specs.Prelude.{◌≡◌, ℕ, ◌==◌, Bool, List, [], Option, None, Some, true, false, Result, Ok, Err, IfOk, IfErr, get_or, map, option_map, drop}
 use Rattle.std.specs.String.{string_bytes}
+use Rattle.shop_base.specs.declared.shape_fault.ShapeFault.{ShapeFault}
+use Rattle.shop_base.specs.Plan.{PlannedShop}
 use Rattle.cell_drive.specs.declared.manner.Manner.{Manner}
 use Rattle.command_words.specs.declared.words.Chosen.{Chosen}
 use Rattle.command_words.specs.declared.words.CommandName.{CommandName}
@@ -15,7 +17,7 @@ use Rattle.command_answers.specs.declared.command_fault.CommandFault.TheVariants
 use Rattle.command_answers.specs.declared.loading.Loaded.{Loaded}
 use Rattle.command_answers.specs.declared.logs.Telling.TheVariants.{Numbers}
 use Rattle.command_answers.specs.declared.rests.PlanTelling.TheVariants.{Verdict, Reasons}
-use Rattle.command_answers.specs.Commands.{PairOfFiles, RunsFacts, RunsShape, RunsBounds, RunsLog, Loads}
+use Rattle.command_answers.specs.Commands.{PairOfFiles, RunsFacts, RunsShape, RunsBounds, RunsLog, Loads, Shapes}
 use Rattle.command_answers.specs.Cells.{LoadsCells}
 use Rattle.command_run.specs.Streams.{Streams, Devices}
 use Rattle.command_run.specs.Inputs.{RunsInput}
@@ -71,12 +73,12 @@ module _ {W : Type 0} (gives : W → List ℕ → Result (List ℕ) CommandFault
     pub loads : Loads gives pair texts loaded texts_after
     pub drives : Drives manner loaded before after outcome
 
-  -- the plan is loaded, then its log taken up, and then the input is read
-  pub record RunsResume (pair : PairOfFiles) (log : List ℕ) (texts : W) (before : Streams) (outcome : Result Answer CommandFault) (texts_after : W) (after : Streams) : Type 0 where
-    pub loaded : Result Loaded CommandFault
+  -- the plan is read, then its log taken up at a moment, and then the input is read
+  pub record RunsResume (at : Option ℕ) (pair : PairOfFiles) (log : List ℕ) (texts : W) (before : Streams) (outcome : Result Answer CommandFault) (texts_after : W) (after : Streams) : Type 0 where
+    pub shaped : Result (Result PlannedShop ShapeFault) CommandFault
     pub texts_mid : W
-    pub loads : Loads gives pair texts loaded texts_mid
-    pub resumes : Resumes gives log loaded texts_mid before outcome texts_after after
+    pub shapes : Shapes gives pair texts shaped texts_mid
+    pub resumes : Resumes gives at log shaped texts_mid before outcome texts_after after
 
   -- all plans are loaded, and then the input is read
   pub record RunsHub (path : List ℕ) (name : Option (List ℕ)) (plans : List (List ℕ)) (texts : W) (before : Streams) (outcome : Result Answer CommandFault) (texts_after : W) (after : Streams) : Type 0 where
@@ -107,7 +109,7 @@ module _ {W : Type 0} (gives : W → List ℕ → Result (List ℕ) CommandFault
   RunsCommand Drive chosen texts before outcome texts_after after =
       RunsDrive (manner_in chosen) (pair_in chosen) texts before outcome texts_after after
   RunsCommand Resume chosen texts before outcome texts_after after =
-      RunsResume (pair_in chosen) (file_at chosen 2) texts before outcome texts_after after
+      RunsResume chosen.at (pair_in chosen) (file_at chosen 2) texts before outcome texts_after after
   RunsCommand Hub chosen texts before outcome texts_after after =
       RunsHub (file_at chosen 0) (name_in chosen) (plans_in chosen) texts before outcome texts_after after
   RunsCommand Audit chosen texts before outcome texts_after after =

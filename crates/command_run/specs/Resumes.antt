@@ -1,77 +1,71 @@
--- What taking up the run of an accepted plan comes to.
-use Rattle.std.specs.Prelude.{◌≡◌, List, ℕ, length, Option, Some, None, Result, Ok, Err, IfOk, IfErr}
-use Rattle.shop_base.specs.Cell.{start}
-use Rattle.plan_verifier.specs.Accepted.{VerifiedPlan}
-use Rattle.plan_verifier.specs.declared.verdict.Verdict.TheVariants.{Accepted, Refused}
-use Rattle.cell_drive.specs.declared.one_run.DriveEnd.{DriveEnd}
-use Rattle.byte_streams.specs.declared.drive_fault.DriveFault.{DriveFault}
-use Rattle.cell_drive.specs.declared.resume_fault.ResumeFault.{ResumeFault}
-use Rattle.cell_drive.specs.declared.resume_fault.ResumeFault.TheVariants.{Memory as WantOfMemory}
-use Rattle.cell_drive.specs.ResumeNames.{fault_name}
+-- What taking up the run of a plan comes to.
+use Rattle.std.specs.Prelude.{◌≡◌, Bool, List, ℕ, Option, Result, Ok, Err, IfOk, IfErr}
+use Rattle.shop_base.specs.declared.shape_fault.ShapeFault.{ShapeFault}
+use Rattle.shop_base.specs.Plan.{PlannedShop}
 use Rattle.text_lines.specs.Lines.{ended_lines}
-use Rattle.cell_drive.specs.CutLogs.{IsTakenUp, IsResumeFault, IsOnlyFault, fault_line}
-use Rattle.cell_drive.specs.LateEvents.{AreLate}
-use Rattle.cell_drive.specs.Replays.{TakenUp, told_in}
+use Rattle.plan_verifier.specs.declared.verdict.Verdict.TheVariants.{Refused as RefusedPlan}
+use Rattle.byte_streams.specs.declared.drive_fault.DriveFault.{DriveFault}
+use Rattle.cell_drive.specs.declared.rest_run.RestEnd.{RestEnd}
+use Rattle.cell_drive.specs.declared.resume_fault.ResumeFault.{ResumeFault}
+use Rattle.cell_drive.specs.declared.resume_fault.ResumeFault.TheVariants.{Log, Past, Refused, Memory as WantOfMemory}
+use Rattle.cell_drive.specs.TakenUp.{TakenUp, IsTakenUp, CanBeTakenUp}
+use Rattle.cell_drive.specs.ResumeFaults.{IsResumeFault, IsOnlyLogFault}
 pub use Rattle.cell_drive.specs.Resuming.{IsResume}
 use Rattle.command_answers.specs.declared.answer.Answer.{Answer}
 use Rattle.command_answers.specs.declared.command_fault.CommandFault.{CommandFault}
 use Rattle.command_answers.specs.declared.command_fault.CommandFault.TheVariants.{Memory}
-use Rattle.command_answers.specs.declared.loading.Loaded.{Loaded}
 use Rattle.command_answers.specs.declared.loading.Loaded.TheVariants.{NotShaped, Judged}
 use Rattle.command_answers.specs.Steps.{IsOrMemory}
 use Rattle.command_answers.specs.Texts.{Asks}
-use Rattle.command_answers.specs.LogLines.{log_refused_line}
+use Rattle.command_answers.specs.LogLines.{IsFaultTold}
+use Rattle.command_answers.specs.Rests.{IsPastLine}
 use Rattle.command_run.specs.Streams.{Streams}
-use Rattle.command_run.specs.Drives.{IsEndAnswer, IsLineTold, end_of_drive}
+use Rattle.command_run.specs.Drives.{IsEndAnswer, IsLineTold}
 
--- the text is a log of the plan that is taken up, with all that is told of it; or this is its only fault, unless memory ran out
-pub record IsTaking (v : VerifiedPlan) (text : List ℕ) (taken : Result TakenUp ResumeFault) : Type 0 where
-  pub is : IfOk taken (λ t. IsTakenUp v.planned (ended_lines text) t.driven.log.entries (length t.late))
-  pub plan : IfOk taken (λ t. t.driven.control.plan ≡ v)
-  pub late : IfOk taken (λ t. AreLate v.planned (start v.planned) (told_in t) t.late)
-  pub fault : IfErr taken (IsResumeFault v.planned (ended_lines text))
-  pub only : IfErr taken (IsOnlyFault v.planned (ended_lines text))
+-- the text is a log that is taken up by the plan, at the moment that is given or else at its last one, with all that is told of it; or this is its fault, which is want of memory alone where it can be taken up
+pub record IsTaking (p : PlannedShop) (at : Option ℕ) (text : List ℕ) (taken : Result TakenUp ResumeFault) : Type 0 where
+  pub is : IfOk taken (IsTakenUp p (ended_lines text) at)
+  pub fault : IfErr taken (IsResumeFault p (ended_lines text) at)
+  pub only : IfErr taken (IsOnlyLogFault p (ended_lines text))
+  pub can : CanBeTakenUp p (ended_lines text) at → IfErr taken (λ fault. fault ≡ WantOfMemory)
 
--- the fault of a command that a fault of taking up is, if memory ran out
-abbrev pub resume_command_fault : ResumeFault → Option CommandFault
-resume_command_fault WantOfMemory = Some Memory
-resume_command_fault fault = None
+-- out of memory is a fault of the command; else the first fault of the log is answered by its line, a moment that is past by that, and a plan that is refused by the line of `check`, unless memory runs out
+abbrev pub IsUntakenTold : ResumeFault → Result Answer CommandFault → Type 0
+IsUntakenTold WantOfMemory outcome = outcome ≡ Err Memory
+IsUntakenTold (Log fault) outcome = IsFaultTold fault outcome
+IsUntakenTold (Past last) outcome = IsOrMemory (IsPastLine last) outcome
+IsUntakenTold (Refused back why) outcome = IsLineTold (Judged (RefusedPlan back why)) outcome
 
--- the line of a fault
-abbrev pub IsFaultLine : ResumeFault → Answer → Type 0
-IsFaultLine fault answer = (answer.text.items ≡ log_refused_line (fault_line fault) (fault_name fault)) × (answer.status ≡ 1)
-
--- out of memory is a fault of the command, and any other fault is answered by its line, unless memory runs out
-abbrev pub IsFaultTold : ResumeFault → Result Answer CommandFault → Type 0
-IsFaultTold WantOfMemory outcome = outcome ≡ Err Memory
-IsFaultTold fault outcome = IsOrMemory (IsFaultLine fault) outcome
+-- whether the run has ended
+abbrev pub end_of_rest : Result RestEnd DriveFault → Result Bool DriveFault
+end_of_rest (Ok end) = Ok end.done
+end_of_rest (Err fault) = Err fault
 
 -- what was taken up was driven on, and the status says whether its run has ended
 pub record ResumesOn (t : TakenUp) (before after : Streams) (outcome : Result Answer CommandFault) : Type 0 where
-  pub end : Result DriveEnd DriveFault
+  pub end : Result RestEnd DriveFault
   pub is : IsResume t before after end
-  pub answer : IsEndAnswer (end_of_drive end) outcome
+  pub answer : IsEndAnswer (end_of_rest end) outcome
 
 -- what follows taking up: it is driven on; of a log that isn't taken up the fault is told, with no byte read or written
 abbrev pub ResumesTaken : Result TakenUp ResumeFault → Streams → Streams → Result Answer CommandFault → Type 0
 ResumesTaken (Ok t) before after outcome = ResumesOn t before after outcome
-ResumesTaken (Err fault) before after outcome = IsFaultTold fault outcome × (after ≡ before)
+ResumesTaken (Err fault) before after outcome = IsUntakenTold fault outcome × (after ≡ before)
 
 -- the text of the log that came is taken up, and then driven on
-abbrev pub ResumesText : VerifiedPlan → Result (List ℕ) CommandFault → Streams → Streams → Result Answer CommandFault → Type 0
-ResumesText v (Ok text) before after outcome = (taken : Result TakenUp ResumeFault) × IsTaking v text taken × ResumesTaken taken before after outcome
-ResumesText v (Err fault) before after outcome = (outcome ≡ Err fault) × (after ≡ before)
+abbrev pub ResumesText : Option ℕ → PlannedShop → Result (List ℕ) CommandFault → Streams → Streams → Result Answer CommandFault → Type 0
+ResumesText at p (Ok text) before after outcome = (taken : Result TakenUp ResumeFault) × IsTaking p at text taken × ResumesTaken taken before after outcome
+ResumesText at p (Err fault) before after outcome = (outcome ≡ Err fault) × (after ≡ before)
 
-module _ {W : Type 0} (gives : W → List ℕ → Result (List ℕ) CommandFault → W → Type 0) (log : List ℕ) where
-  -- the log is asked for, once the plan is accepted
-  pub record ResumesLog (v : VerifiedPlan) (texts : W) (before : Streams) (outcome : Result Answer CommandFault) (texts_after : W) (after : Streams) : Type 0 where
+module _ {W : Type 0} (gives : W → List ℕ → Result (List ℕ) CommandFault → W → Type 0) (at : Option ℕ) (log : List ℕ) where
+  -- the log is asked for, once the plan is known to be well shaped
+  pub record ResumesLog (p : PlannedShop) (texts : W) (before : Streams) (outcome : Result Answer CommandFault) (texts_after : W) (after : Streams) : Type 0 where
     pub text : Result (List ℕ) CommandFault
     pub asks : Asks gives log texts text texts_after
-    pub resumes : ResumesText v text before after outcome
+    pub resumes : ResumesText at p text before after outcome
 
-  -- what follows what is to be said of the plan: an accepted one has its log asked for; any other is answered by its line, with no file asked for and no byte read or written
-  abbrev pub Resumes : Result Loaded CommandFault → W → Streams → Result Answer CommandFault → W → Streams → Type 0
+  -- what follows the plan: a well-shaped one has its log asked for; any other is answered by its first fault, with no file asked for and no byte read or written
+  abbrev pub Resumes : Result (Result PlannedShop ShapeFault) CommandFault → W → Streams → Result Answer CommandFault → W → Streams → Type 0
   Resumes (Err fault) texts before outcome texts_after after = (outcome ≡ Err fault) × (after ≡ before) × (texts_after ≡ texts)
-  Resumes (Ok (NotShaped fault)) texts before outcome texts_after after = IsLineTold (NotShaped fault) outcome × (after ≡ before) × (texts_after ≡ texts)
-  Resumes (Ok (Judged (Refused back why))) texts before outcome texts_after after = IsLineTold (Judged (Refused back why)) outcome × (after ≡ before) × (texts_after ≡ texts)
-  Resumes (Ok (Judged (Accepted v))) texts before outcome texts_after after = ResumesLog v texts before outcome texts_after after
+  Resumes (Ok (Err fault)) texts before outcome texts_after after = IsLineTold (NotShaped fault) outcome × (after ≡ before) × (texts_after ≡ texts)
+  Resumes (Ok (Ok p)) texts before outcome texts_after after = ResumesLog p texts before outcome texts_after after

@@ -145,7 +145,7 @@ pub(crate) fn command<T: Texts, R: Source, W: Outlet, S: Screen>(
         CommandName::Drive => { drive_answer(alloc, texts, &pair(chosen), manner(chosen), streams) }
         CommandName::Resume => {
             let log = file(chosen, 2);
-            resume_answer(alloc, texts, &pair(chosen), log, streams)
+            resume_answer(alloc, texts, &pair(chosen), log, chosen.at, streams)
         }
         CommandName::Hub => {
             let plans = &chosen.files.as_slice()[1..];

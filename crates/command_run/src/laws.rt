@@ -12,7 +12,7 @@ ghost use Rattle.command_run.specs.Laws.{ScheduleDrawsInstanceFirst, LogDrawsIns
 ghost use Rattle.command_run.specs.Laws.{FactsAnswerShop, ShapeAnswersPlan, CheckAnswersPlan, ExplainAnswersPlan, ScheduleAnswersPlan, BoundsAnswerPlan, LogIsAnswered, RestIsAnswered};
 ghost use Rattle.command_run.specs.Laws.{PlanAnswersPlan, ImproveAnswersPlan, ImproveAnswersRest, DriveDrivesPlan, ResumeGoesOn};
 ghost use Rattle.command_run.specs.Laws.{HubDrivesPlans, InputAnswersShop};
-ghost use Rattle.command_run.specs.Laws.{DriveAnswersByCheck, ResumeAnswersByCheck, HubAnswersByCheck, DriveWritesTheSame};
+ghost use Rattle.command_run.specs.Laws.{DriveAnswersByCheck, ResumeAnswersUnshaped, ResumeAnswersByCheck, HubAnswersByCheck, DriveWritesTheSame};
 ghost use Rattle.command_run.specs.Laws.{WhatFailsIsTold, NothingIsHeldBack, WhatFailsIsNoAnswer};
 
 use command_answers::Texts;
@@ -65,12 +65,14 @@ pub fn good_files_are_answered()
     ensures input { InputAnswersShop }
 {}
 
-/// Let the files give a plan that isn't accepted. Then `drive` and `resume` answer the line of `check`, unless memory
-/// runs out. They ask for no further file, so not for the log, and drive no cell: up to this line no byte is read or
-/// written. The same holds for the first plan of `hub` that isn't accepted: its number comes before that line, and no
-/// plan after it is asked for.
+/// Let the files give a plan that isn't accepted. Then `drive` answers the line of `check`, unless memory runs out. It asks
+/// for no further file, and drives no cell: up to this line no byte is read or written. The same holds for the first plan
+/// of `hub` that isn't accepted: its number comes before that line, and no plan after it is asked for. By `resume` it holds
+/// for a plan that isn't well shaped; and once the log has been asked for and records a run, for a plan with a cycle, or
+/// one that isn't accepted where that run has no event.
 pub fn no_cell_without_an_accepted_plan()
     ensures drive { DriveAnswersByCheck }
+    ensures unshaped { ResumeAnswersUnshaped }
     ensures resume { ResumeAnswersByCheck }
     ensures hub { HubAnswersByCheck }
 {}

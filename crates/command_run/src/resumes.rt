@@ -1,83 +1,98 @@
 //! The command `resume`.
 
-ghost use Rattle.std.specs.Prelude.{◌≡◌};
-ghost use Rattle.command_run.specs.Resumes.{IsTaking, IsFaultTold, ResumesLog, resume_command_fault};
+ghost use Rattle.std.specs.Prelude.{◌≤◌, IfSome};
+ghost use Rattle.shop_base.specs.declared.limits.TheConstants.{MAX_MOMENT};
+ghost use Rattle.command_run.specs.Drives.{IsEndAnswer};
+ghost use Rattle.command_run.specs.Resumes.{IsTaking, IsUntakenTold, ResumesLog, end_of_rest};
 ghost use Rattle.command_run.specs.Program.{RunsResume};
 
 use crate::devices::Streams;
-use crate::drives::end_answer;
-use cell_drive::{Outlet, ResumeFault, Source, Taken, resume, take_up};
+use crate::drives::{Told, ended};
+use cell_drive::{DriveFault, Outlet, RestEnd, ResumeFault, Source, Taken, resume, take_up};
 use command_answers::{
-    Answered, CommandFault, Pair, Texts, load_files, loaded_answer, log_refused,
+    Answered, CommandFault, Loaded, Pair, Texts, fault_told, loaded_answer, past_answer,
+    shape_files,
 };
-use plan_verifier::Verified;
+use plan_verifier::Verdict;
+use shop_base::{Moment, Shaped};
 use std::alloc::Global;
 
-/// Loads a plan, and if it is accepted takes up its run from the log and drives it on; else its line is the answer.
+/// Reads a plan, and if it is well shaped takes up its run from the log, at a moment, and drives it on; else its first
+/// fault is the answer.
 pub(crate) fn resume_answer<T: Texts, R: Source, W: Outlet>(
     alloc: Global,
     texts: &mut T,
     pair: &Pair<'_>,
     log: &str,
+    at: Option<Moment>,
     streams: &mut Streams<R, W>,
 ) -> Answered
-    ensures { RunsResume T.gives pair.now log.now texts.old streams.old result texts.new streams.new }
+    requires { IfSome at (λ present. present ≤ MAX_MOMENT) }
+    ensures { RunsResume T.gives at pair.now log.now texts.old streams.old result texts.new streams.new }
 {
-    match load_files(alloc, texts, pair)?.accepted() {
-        Ok(verified) => resume_log(alloc, texts, verified, log, streams),
-        Err(other) => Ok(loaded_answer(alloc, &other)?),
+    match shape_files(alloc, texts, pair)? {
+        Ok(shaped) => resume_log(alloc, texts, shaped, log, at, streams),
+        Err(fault) => Ok(loaded_answer(alloc, &Loaded::NotShaped(fault))?),
     }
 }
 
-/// Asks for the log of an accepted plan, takes up its run, and drives that on to the end of the input; the first bad
-/// line of the log is an answer.
+/// Asks for the log of a plan, takes up its run, and drives that on to the end of the input; why it isn't taken up is an
+/// answer.
 fn resume_log<T: Texts, R: Source, W: Outlet>(
     alloc: Global,
     texts: &mut T,
-    verified: Verified,
+    shaped: Shaped,
     log: &str,
+    at: Option<Moment>,
     streams: &mut Streams<R, W>,
 ) -> Answered
-    ensures { ResumesLog T.gives log.now verified texts.old streams.old result texts.new streams.new }
+    requires { IfSome at (λ present. present ≤ MAX_MOMENT) }
+    ensures { ResumesLog T.gives at log.now shaped texts.old streams.old result texts.new streams.new }
 {
     let text = texts.text(alloc, log)?;
-    match taken_up(alloc, verified, text) {
+    match taken_up(alloc, shaped, text, at) {
         Ok(taken) => {
             let end = resume(taken, &mut streams.input, &mut streams.output);
-            end_answer(alloc, end)
+            rest_answer(alloc, end)
         }
-        Err(fault) => fault_told(alloc, fault),
+        Err(fault) => untaken_answer(alloc, fault),
     }
 }
 
 /// Takes up the run that the text records, and gives the text back.
-fn taken_up(alloc: Global, verified: Verified, text: Vec<u8>) -> Result<Taken, ResumeFault>
-    ensures { IsTaking verified text.items result }
+fn taken_up(
+    alloc: Global,
+    shaped: Shaped,
+    text: Vec<u8>,
+    at: Option<Moment>,
+) -> Result<Taken, ResumeFault>
+    requires { IfSome at (λ present. present ≤ MAX_MOMENT) }
+    ensures { IsTaking shaped at text.items result }
 {
-    take_up(alloc, verified, &text)
+    take_up(alloc, shaped, &text, at)
 }
 
-/// The fault of a command that a fault of taking up is: out of memory. Each other one has an answer.
-#[derive(Drop)]
-struct Untaken(Option<CommandFault>);
-
-impl From<ResumeFault> for Untaken {
-    ghost from_gives = { λ told untaken. untaken.0 ≡ resume_command_fault told };
-
-    fn from(told: ResumeFault) -> Untaken {
-        match told {
-            ResumeFault::Memory => Untaken(Some(CommandFault::Memory)),
-            _ => Untaken(None),
+/// What is answered where a run isn't taken up: the line of the log's first fault, of a moment that is past, or of the plan.
+fn untaken_answer(alloc: Global, fault: ResumeFault) -> Answered
+    ensures { IsUntakenTold fault result }
+{
+    match fault {
+        ResumeFault::Log(fault) => fault_told(alloc, fault),
+        ResumeFault::Past { last } => Ok(past_answer(alloc, last)?),
+        ResumeFault::Refused(shaped, why) => {
+            let refused = Loaded::Judged(Verdict::Refused(shaped, why));
+            Ok(loaded_answer(alloc, &refused)?)
         }
+        ResumeFault::Memory => Err(CommandFault::Memory),
     }
 }
 
-/// The line of a log that isn't taken up.
-fn fault_told(alloc: Global, fault: ResumeFault) -> Answered
-    ensures { IsFaultTold fault result }
+/// What is answered at the end of a run that was driven on, whose lines are written already.
+fn rest_answer(alloc: Global, end: Result<RestEnd, DriveFault>) -> Answered
+    ensures { IsEndAnswer (end_of_rest end) result }
 {
-    match Untaken::from(fault).0 {
-        Some(fault) => Err(fault),
-        None => Ok(log_refused(alloc, fault.line() as u64, fault.name())?),
+    match end {
+        Ok(end) => Ok(ended(alloc, end.done)),
+        Err(fault) => Err(Told::from(fault).0),
     }
 }

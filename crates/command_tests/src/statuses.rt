@@ -1,12 +1,12 @@
 //! The status at which each fault of a command ends the program, and what faults say.
 
-use cell_control::ReportFault;
 use cell_drive::ResumeFault;
 use command_answers::CommandFault;
 use command_words::WordsFault;
 use orlib_read::OrFault;
 use plan_seek::SeekFault;
 use plan_text::PlanFault;
+use run_log::AuditFault;
 use shop_base::ShopFault;
 use std::alloc::{AllocError, Global};
 use std::fmt::Display;
@@ -45,23 +45,6 @@ const FAULTS: &[(CommandFault, &str, u8)] = &[
     (CommandFault::InputTooLong, "InputTooLong", 5),
 ];
 
-/// Faults of a log that isn't taken up, and their texts. The fields of a reason aren't in them.
-const OF_LOGS: &[(ResumeFault, &str)] = &[
-    (ResumeFault::BadLine { line: 123 }, "BadLine line 123"),
-    (
-        ResumeFault::NotOrdered { line: 4567 },
-        "NotOrdered line 4567",
-    ),
-    (
-        ResumeFault::NotPossible {
-            line: 123,
-            reason: ReportFault::Backwards { last: 45 },
-        },
-        "Backwards line 123",
-    ),
-    (ResumeFault::Memory, "Memory"),
-];
-
 #[test]
 fn faults_have_a_text_and_a_status(rt: HostRuntime) -> Result<(), Fail> {
     for (fault, text, status) in FAULTS {
@@ -70,9 +53,10 @@ fn faults_have_a_text_and_a_status(rt: HostRuntime) -> Result<(), Fail> {
             "{text}"
         );
     }
-    for &(fault, text) in OF_LOGS {
-        assert!(rt; says(rt.alloc(), &fault, text)?, "{text}");
-    }
+    let fault = ResumeFault::Log(AuditFault::NotReady { line: 4567 });
+    assert!(rt; says(rt.alloc(), &fault, "Log NotReady line 4567")?);
+    assert!(rt; says(rt.alloc(), &ResumeFault::Past { last: 45 }, "Past 45")?);
+    assert!(rt; says(rt.alloc(), &ResumeFault::Memory, "Memory")?);
     assert!(rt; says(rt.alloc(), &WordsFault::Memory, "Memory")?);
     assert!(rt; says(rt.alloc(), &SeekFault::Memory, "Memory")?);
     Ok(())

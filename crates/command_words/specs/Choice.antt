@@ -147,6 +147,15 @@ parse_reasons_in words = fault_of command_line words
 abbrev pub is_moment : Text → Bool
 is_moment word = (nat_lt 0 (length word) && nat_le (length word) 13) && (list_all is_digit word && nat_le (value_of word) latest_moment)
 
+-- the first that is given
+abbrev pub first_given : Option Text → Option Text → Option Text
+first_given None other = other
+first_given (Some text) other = Some text
+
+-- the log with which a present moment goes: that of `--after`, or the file LOG
+abbrev pub log_given : List Row → Option Text
+log_given rows = first_given (after_in rows) (first_of (codes "LOG") rows)
+
 -- why a word isn't taken for the present moment, or nothing: there is no log, or it isn't a moment
 abbrev pub misfit_of : Option Text → Option Text → Kinds
 misfit_of log None = []
@@ -177,7 +186,7 @@ is_conflict rows = has_conflict (after_in rows) (svg_in rows)
 
 -- why its matches aren't taken: for that picture, or for the moment
 abbrev pub misfits_of : List Row → Kinds
-misfits_of rows = if is_conflict rows then ArgumentConflict ∷ [] else misfit_of (after_in rows) (first_of (codes "at") rows)
+misfits_of rows = if is_conflict rows then ArgumentConflict ∷ [] else misfit_of (log_given rows) (first_of (codes "at") rows)
 
 -- so of what was found
 abbrev pub misfit_in : Found → Kinds

@@ -1,12 +1,12 @@
 //! The words of the command line, and what they ask for.
 
-ghost use Rattle.std.specs.Prelude.{◌≡◌, ◌≤◌, ◌++◌, [], true, false, IfOk, IfErr, IfSome, MatchOption, OnOk, Some, codes, map, option_map};
+ghost use Rattle.std.specs.Prelude.{◌≡◌, ◌≤◌, ◌++◌, [], true, false, IfOk, IfErr, IfSome, MatchOption, OnOk, Some, codes, map, option_map, is_some};
 ghost use Rattle.std.specs.String.{string_bytes};
 ghost use Rattle.text_lines.specs.Numbers.{value_of};
 ghost use Rattle.clap.specs.Words.{first_of, found_of, kind_of, one_of, rows_of, subcommand_rows_of};
 ghost use Rattle.command_words.specs.declared.words.CommandName.{CommandName};
 ghost use Rattle.command_words.specs.CommandLine.{most_rounds, greatest_seed, latest_moment};
-ghost use Rattle.command_words.specs.Choice.{FitsUpTo, IsChoiceOf, IsFit, IsWithin, TellsOneOf, TellsReason, after_in, at_in, files_in, found_in, is_conflict, is_moment, is_number, leap_in, lines_in, misfit_in, misfit_of, misfits_of, number_misfit, reasons_in, rounds_in, seed_in, svg_in, texts_of, values_of, word_of};
+ghost use Rattle.command_words.specs.Choice.{FitsUpTo, IsChoiceOf, IsFit, IsWithin, TellsOneOf, TellsReason, at_in, files_in, found_in, is_conflict, is_moment, is_number, leap_in, lines_in, log_given, misfit_in, misfit_of, misfits_of, number_misfit, reasons_in, rounds_in, seed_in, svg_in, texts_of, values_of, word_of};
 
 mod command_line;
 
@@ -332,21 +332,31 @@ fn rest_at(alloc: Global, matches: &ArgMatches<'_>) -> Result<Option<u64>, Words
     at_of(alloc, matches)
 }
 
+/// Whether there is a log: that of whose rest is asked, or the file of one.
+fn has_log(matches: &ArgMatches<'_>) -> bool
+    ensures { result ≡ is_some (log_given (rows_of (found_of matches.now))) }
+{
+    match matches.get_str("after") {
+        Some(_) => true,
+        None => matches.get_str("LOG").is_some(),
+    }
+}
+
 /// The present moment, if it is given, which goes with a log.
 fn at_of(alloc: Global, matches: &ArgMatches<'_>) -> Result<Option<u64>, WordsFault>
     ensures exact { IfOk result (λ at. at ≡ at_in (rows_of (found_of matches.now))) }
     ensures early { IfOk result (λ at. IfSome at (λ n. n ≤ latest_moment)) }
     ensures fits { let rows = rows_of (found_of matches.now) in
-        IfOk result (λ _. misfit_of (after_in rows) (first_of (codes "at") rows) ≡ []) }
+        IfOk result (λ _. misfit_of (log_given rows) (first_of (codes "at") rows) ≡ []) }
     ensures refused { let rows = rows_of (found_of matches.now) in
-        IfErr result (TellsOneOf (misfit_of (after_in rows) (first_of (codes "at") rows))) }
+        IfErr result (TellsOneOf (misfit_of (log_given rows) (first_of (codes "at") rows))) }
 {
     let Some(word) = matches.get_str("at") else {
         return Ok(None);
     };
-    let Some(_) = matches.get_str("after") else {
+    if !has_log(matches) {
         return Err(no_log(alloc));
-    };
+    }
     match moment_of(word) {
         Some(moment) => Ok(Some(moment)),
         None => Err(no_moment(alloc, word)),

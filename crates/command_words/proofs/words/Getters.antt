@@ -2,7 +2,7 @@
 use Rattle.std.proofs.Common.{◌≡◌, ◌∙◌, ◌++◌, ◌+◌, ◌<◌, ◌≤◌, ◌^◌, ap, ap₂, sym, refl, [], ◌∷◌, Some, None, List, ℕ, Option, Result, Ok, option_map, map, length, take, append_assoc, get_or, subst}
 use Rattle.std.specs.Option.{option_map_or}
 use Rattle.std.specs.Str.Parse.{ParsesUnsigned, digits_value, without_leading_plus}
-use Rattle.std.specs.Prelude.{unwrap_or}
+use Rattle.std.specs.Prelude.{unwrap_or, is_some}
 use Rattle.std.specs.Borrow.{Bor}
 use Rattle.std.proofs.lemmas.List.{map-append, take_more}
 use Rattle.clap.specs.Words.{Text, first_of, first_value, matched_of, raw_values, rows_of}
@@ -19,6 +19,10 @@ text_given f id bytes o s h is e = ap (λ x. Some x) e ∙ sym (ap (option_map (
 
 pub text_left_out : (f : Found) (id : Text) (o : Option (Bor Text)) → option_map (λ t. t.now) o ≡ first_value f id → o ≡ None → None ≡ first_of id (rows_of f)
 text_left_out f id o h is = sym (ap (option_map (λ t. t.now)) is) ∙ h ∙ first_value-rows f id
+
+pub text_there : (f : Found) (id : Text) (o : Option (Bor Text)) → option_map (λ t. t.now) o ≡ first_value f id → is_some o ≡ is_some (first_of id (rows_of f))
+text_there f id None h = ap (λ (x : Option Text). is_some x) (h ∙ first_value-rows f id)
+text_there f id (Some s) h = ap (λ (x : Option Text). is_some x) (h ∙ first_value-rows f id)
 
 pub values_given : (f : Found) (id : Text) (o : Option (Bor (List (Bor Text)))) (s : Bor (List (Bor Text)))
     → option_map (λ (t : Bor (List (Bor Text))). map (λ v. v.now) t.now) o ≡ option_map raw_values (matched_of f id) → o ≡ Some s

@@ -169,6 +169,14 @@ fn drawing<'a>(alloc: Global) -> Result<Command<'a>, AllocError>
     on_log(alloc, "gantt", about)?.arg(svg(alloc))
 }
 
+/// A run that is taken up.
+fn resumed<'a>(alloc: Global) -> Result<Command<'a>, AllocError>
+    ensures { IfOk result (Describes (leaf (described CommandName.Resume))) }
+{
+    let about = "Continues a driven run from its log";
+    on_log(alloc, "resume", about)?.arg(at(alloc))
+}
+
 /// The search of a plan.
 fn search<'a>(alloc: Global) -> Result<Command<'a>, AllocError>
     ensures { IfOk result (Describes (leaf (described CommandName.Plan))) }
@@ -223,21 +231,13 @@ fn command_of<'a>(alloc: Global, name: CommandName) -> Result<Command<'a>, Alloc
     match name {
         CommandName::Input => Ok(bare(alloc)),
         CommandName::Facts => on_instance(alloc, "facts", "Prints the size of an instance"),
-        CommandName::Shape => on_plan(
-            alloc,
-            "shape",
-            "Says whether a plan fits its instance",
-        ),
+        CommandName::Shape => on_plan(alloc, "shape", "Says whether a plan fits its instance"),
         CommandName::Check => on_rest(
             alloc,
             "check",
             "Says whether a plan can lock, and when each job is out",
         ),
-        CommandName::Explain => on_rest(
-            alloc,
-            "explain",
-            "Says why a plan is accepted or refused",
-        ),
+        CommandName::Explain => on_rest(alloc, "explain", "Says why a plan is accepted or refused"),
         CommandName::Schedule => timetable(alloc),
         CommandName::Bounds => on_plan(
             alloc,
@@ -247,17 +247,9 @@ fn command_of<'a>(alloc: Global, name: CommandName) -> Result<Command<'a>, Alloc
         CommandName::Plan => search(alloc),
         CommandName::Improve => improvement(alloc),
         CommandName::Drive => driven(alloc),
-        CommandName::Resume => on_log(
-            alloc,
-            "resume",
-            "Continues a driven run from its log",
-        ),
+        CommandName::Resume => resumed(alloc),
         CommandName::Hub => hub(alloc),
-        CommandName::Audit => on_log(
-            alloc,
-            "audit",
-            "Says whether a log is a run of the plan",
-        ),
+        CommandName::Audit => on_log(alloc, "audit", "Says whether a log is a run of the plan"),
         CommandName::Gantt => drawing(alloc),
     }
 }

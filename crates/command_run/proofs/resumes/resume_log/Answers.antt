@@ -11,7 +11,7 @@ returns-in-Ok g c = record {
     rw (← c.streams.view_is) (record {
       end = c.resume-end.result;
       is = c.resume-end.ensures;
-      answer = c.end_answer.ensures;
+      answer = c.rest_answer.ensures;
     }),
   );
 }

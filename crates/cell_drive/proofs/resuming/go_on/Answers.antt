@@ -1,0 +1,38 @@
+use Rattle.std.proofs.Common.{◌≡◌, sym, subst, inl, inr, refl, arith, vec_len}
+use Rattle.std.specs.Io.KnownBytes.{Appends}
+use Rattle.byte_streams.specs.Lent.{output_of}
+use Rattle.cell_drive.specs.TakenUp.{TakenUp}
+use Rattle.cell_drive.specs.Resuming.{due_text}
+use Rattle.cell_drive.specs.RestCell.{RestAnswer, RestCloses}
+use Rattle.cell_drive.specs.declared.rest_run.RestEnd.{RestEnd}
+use Rattle.cell_drive.proofs.RestAnswers.{rest_end_from}
+use Rattle.cell_drive.proofs.StreamedFrom.{ended_so, broken_so}
+use Rattle.cell_drive.proofs.resuming.go_on.Goals as goal
+
+pub returns-in-Ok-stream : goal.returns-in-Ok-stream
+returns-in-Ok-stream g c =
+    rw (sym c.taken.view_is) (inr (record {
+      from = c.taken.invariant.0;
+      middle = output_of g.W.Sink g.W.Outlet.pending c.put_due.new.writer;
+      again = subst (λ (t : TakenUp). Appends (g.W.Sink.taken c.args.writer.now) (g.W.Sink.taken c.put_due.new.writer) (due_text t)) (sym c.taken.view_is) c.in-Ok.ensures.wrote;
+      unfailed = c.in-Ok.ensures.unfailed;
+      end = c.stream.new.handler;
+      streamed = ended_so RestAnswer RestCloses c.taken.inside.driven c.stream.new.handler _ _ _ c.end_rest.result c.in-Ok-stream.ensures;
+      came_to = rest_end_from c.taken.inside.driven c.stream.new.handler _ 1 _ c.end_rest.result c.in-Ok-stream.ensures.comes_to.are_answers c.end_rest.ensures;
+    }))
+
+pub returns : goal.returns
+returns g c =
+    let size : vec_len c.taken.inside.room ≡ 65536 = c.taken.invariant.1 in
+    rw (sym c.taken.view_is) (inr (record {
+      from = c.taken.invariant.0;
+      middle = output_of g.W.Sink g.W.Outlet.pending c.put_due.new.writer;
+      again = subst (λ (t : TakenUp). Appends (g.W.Sink.taken c.args.writer.now) (g.W.Sink.taken c.put_due.new.writer) (due_text t)) (sym c.taken.view_is) c.in-Ok.ensures.wrote;
+      unfailed = c.in-Ok.ensures.unfailed;
+      end = c.stream.new.handler;
+      streamed = broken_so RestAnswer RestCloses c.taken.inside.driven c.stream.new.handler _ _ RestEnd c.in-Err.fault (omega (arith, size, c.deref_mut.ensures.len)) c.in-Err.ensures;
+      came_to = tt;
+    }))
+
+pub returns-in_default : goal.returns-in_default
+returns-in_default g c = inl (refl, c.in_default.ensures.wrote.0, refl, c.in_default.ensures.wrote.1)

@@ -1,0 +1,52 @@
+-- Why a run isn't taken up from its log.
+use Rattle.std.specs.Prelude.{◌≡◌, ℕ, ◌<◌, ◌≤◌, List, [], Bool, true, Option, unwrap_or}
+use Rattle.shop_base.specs.Plan.{PlannedShop}
+use Rattle.shop_base.specs.Run.{IsRun}
+use Rattle.alt_graph.specs.Evidence.{IsCycle}
+use Rattle.plan_verifier.specs.declared.verdict.Why.{Why}
+use Rattle.plan_verifier.specs.declared.verdict.Why.TheVariants.{Cycle, Late}
+use Rattle.plan_verifier.specs.Verdicts.{IsReason}
+use Rattle.cell_tables.specs.declared.entry.Entry.{Entry}
+use Rattle.cell_tables.specs.Events.{events_of}
+use Rattle.event_lines.specs.LogLines.{LinesTell}
+use Rattle.run_log.specs.declared.audit_fault.AuditFault.{AuditFault}
+use Rattle.run_log.specs.declared.audit_fault.AuditFault.TheVariants.{Memory as WantOfMemory}
+use Rattle.run_log.specs.Audits.{IsFirstBad}
+use Rattle.cell_drive.specs.OneRun.{cell_after}
+use Rattle.cell_drive.specs.declared.resume_fault.ResumeFault.{ResumeFault}
+use Rattle.cell_drive.specs.declared.resume_fault.ResumeFault.TheVariants.{Log, Past, Refused, Memory}
+
+-- the fault that a fault of an audit is
+abbrev pub log_fault : AuditFault → ResumeFault
+log_fault WantOfMemory = Memory
+log_fault fault = Log fault
+
+-- by this reason a plan is refused: a cycle always, a late job where its run only starts
+abbrev pub IsRefusedFor : PlannedShop → Type 0 → Why → Type 0
+IsRefusedFor p Starts (Cycle nodes) = IsCycle p nodes.items
+IsRefusedFor p Starts (Late job leaves chain times) = Starts × IsReason p (Late job leaves chain times)
+
+-- out of memory, or the plan is refused, and comes back
+abbrev pub IsRefusal : PlannedShop → Bool → ResumeFault → Type 0
+IsRefusal p starts (Log fault) = ⊥
+IsRefusal p starts (Past last) = ⊥
+IsRefusal p starts (Refused back why) = (back ≡ p) × IsRefusedFor p (starts ≡ true) why
+IsRefusal p starts Memory = Unit {0}
+
+-- the fault of a run that was told by these events: the moment that was given is past; or it isn't, and the plan is refused
+abbrev pub IsRunFault : PlannedShop → List Entry → Option ℕ → ResumeFault → Type 0
+IsRunFault p told at (Log fault) = ⊥
+IsRunFault p told at (Past last) = (last ≡ (cell_after p told).last) × (unwrap_or at last < last)
+IsRunFault p told at (Refused back why) = ((cell_after p told).last ≤ unwrap_or at (cell_after p told).last) × (back ≡ p) × IsRefusedFor p (told ≡ []) why
+IsRunFault p told at Memory = Unit {0}
+
+-- out of memory; or the first fault of the lines; or they tell a run, and this is its fault
+abbrev pub IsResumeFault : PlannedShop → List (List ℕ) → Option ℕ → ResumeFault → Type 0
+IsResumeFault p lines at Memory = Unit {0}
+IsResumeFault p lines at (Log fault) = IsFirstBad p lines fault
+IsResumeFault p lines at fault = (told : List Entry) × LinesTell p lines told × IsRun p (events_of told) × IsRunFault p told at fault
+
+-- where this is the fault of the log, no other is the first of its lines
+abbrev pub IsOnlyLogFault : PlannedShop → List (List ℕ) → ResumeFault → Type 0
+IsOnlyLogFault p lines (Log fault) = (other : AuditFault) → IsFirstBad p lines other → other ≡ fault
+IsOnlyLogFault p lines fault = Unit {0}

@@ -1,0 +1,67 @@
+-- A run that was taken up from its log, and which logs are taken up.
+use Rattle.std.specs.Prelude.{◌≡◌, ℕ, ◌≤◌, Bool, List, [], ◌++◌, length, map, take, Option, unwrap_or}
+use Rattle.shop_base.specs.Plan.{PlannedShop}
+use Rattle.shop_base.specs.Cell.{Cell, start}
+use Rattle.shop_base.specs.Run.{IsRun}
+use Rattle.plan_verifier.specs.Accepted.{HasNoCycle, IsAcceptable}
+use Rattle.cell_tables.specs.declared.entry.Entry.{Entry}
+use Rattle.cell_tables.specs.declared.entry.Entry.TheVariants.{Order as OrderEntry}
+use Rattle.cell_tables.specs.Events.{events_of}
+use Rattle.event_lines.specs.LogLines.{LinesTell}
+use Rattle.rest_control.specs.RestControl.{IsBegun}
+use Rattle.cell_drive.specs.OneRun.{cell_after}
+use Rattle.cell_drive.specs.LateEvents.{AreLate}
+use Rattle.cell_drive.specs.RestCell.{RestState, IsRestDriven}
+
+-- a cell that is driven on, and of each event that the log told whether it is a late report
+pub record TakenUp : Type 0 where
+  pub driven : RestState
+  pub late : List Bool
+
+-- such a cell and these, as one value
+abbrev pub taken_by : RestState → List Bool → TakenUp
+taken_by driven late = record { driven = driven; late = late }
+
+-- the plan
+abbrev pub plan_of : TakenUp → PlannedShop
+plan_of taken = taken.driven.control.planned
+
+-- the events that the log told; the others are orders that are due
+abbrev pub told_in : TakenUp → List Entry
+told_in taken = take (length taken.late) taken.driven.log.entries
+
+-- the cell after them
+abbrev pub cell_told : TakenUp → Cell
+cell_told taken = cell_after (plan_of taken) (told_in taken)
+
+-- after the events that the log told, the controller begins with the cell to which they lead; what it then orders is due
+pub record IsTakenRun (taken : TakenUp) : Type 0 where
+  pub driven : IsRestDriven taken.driven
+  pub begun : IsBegun (plan_of taken) (cell_told taken) taken.driven.control.began taken.driven.control
+  pub due : taken.driven.log.entries ≡ told_in taken ++ map OrderEntry taken.driven.control.orders
+  pub within : length taken.late ≤ length taken.driven.log.entries
+  pub are_late : AreLate (plan_of taken) (start (plan_of taken)) (told_in taken) taken.late
+
+-- it was taken up by this plan behind these events, at the moment that was given or else at their last one; where there are no events, the plan is to be accepted
+pub record IsTakenFrom (p : PlannedShop) (told : List Entry) (at : Option ℕ) (taken : TakenUp) : Type 0 where
+  pub run : IsTakenRun taken
+  pub planned : plan_of taken ≡ p
+  pub told_is : told_in taken ≡ told
+  pub began : taken.driven.control.began ≡ unwrap_or at (cell_after p told).last
+  pub accepted : told ≡ [] → IsAcceptable p
+
+-- so behind the events that these lines tell, which are a run of the plan
+pub record IsTakenUp (p : PlannedShop) (lines : List (List ℕ)) (at : Option ℕ) (taken : TakenUp) : Type 0 where
+  pub told : List Entry
+  pub tells : LinesTell p lines told
+  pub is_run : IsRun p (events_of told)
+  pub taken_from : IsTakenFrom p told at taken
+
+-- the lines tell a run that can be taken up by this plan: the moment isn't before its last one, the plan has no cycle, and where there are no events, it is to be accepted
+pub record CanBeTakenUp (p : PlannedShop) (lines : List (List ℕ)) (at : Option ℕ) : Type 0 where
+  pub told : List Entry
+  pub tells : LinesTell p lines told
+  pub is_run : IsRun p (events_of told)
+  pub not_past : (cell_after p told).last ≤ unwrap_or at (cell_after p told).last
+  pub acyclic : HasNoCycle p
+  pub accepted : told ≡ [] → IsAcceptable p
