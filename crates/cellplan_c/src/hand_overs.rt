@@ -16,7 +16,7 @@ use crate::instances::name_in;
 use crate::rooms::put_orders;
 use crate::statuses::{BACKWARDS, GOOD, KEEPS_NOT, MOMENT_TOO_LARGE, NO_CELL, REFUSED};
 use crate::told::Order;
-use command_answers::{CommandFault, load_shaped};
+use command_answers::load_shaped;
 use rest_control::RestFault;
 use rest_control::laws::never_goes_wrong;
 use shop_base::limits::MAX_MOMENT;
@@ -114,6 +114,6 @@ fn rest_fault_status(fault: RestFault) -> u32
         RestFault::KeepsNot => KEEPS_NOT,
         RestFault::Backwards { last: _ } => BACKWARDS,
         RestFault::Cycle(_) => REFUSED,
-        RestFault::Memory => u32::from(CommandFault::Memory.status()),
+        RestFault::Memory => 4,
     }
 }
