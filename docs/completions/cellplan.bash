@@ -14,9 +14,9 @@ _cellplan() {
     improve) options='--instance --after --at --rounds --seed --help' ;;
     check | explain) options='--instance --after --at --help' ;;
     schedule) options='--instance --after --at --svg --help' ;;
-    drive) options='--instance --lines --leap --help' ;;
+    drive | hub) options='--instance --lines --leap --help' ;;
     gantt) options='--instance --svg --help' ;;
-    facts | shape | bounds | hub | audit) options='--instance --help' ;;
+    facts | shape | bounds | audit) options='--instance --help' ;;
     resume) options='--instance --at --help' ;;
     *) return ;;
   esac

@@ -47,24 +47,24 @@ other_not_on k line on is_line differ words other same is =
 
 -- ---- the cell of a number
 
-set_same : (cells : List PlannedCell) (k : ℕ) (c next : PlannedCell) → slice_get cells k ≡ Some c → slice_get (set cells k next) k ≡ Some next
+pub set_same : (cells : List PlannedCell) (k : ℕ) (c next : PlannedCell) → slice_get cells k ≡ Some c → slice_get (set cells k next) k ≡ Some next
 set_same [] k c next found = absurd (cc)
 set_same (d ∷ cells) zero c next found = refl
 set_same (d ∷ cells) (suc k) c next found = set_same cells k c next found
 
-set_other : (cells : List PlannedCell) (cell k : ℕ) (next : PlannedCell) → (cell ≡ k → ⊥) → slice_get (set cells cell next) k ≡ slice_get cells k
+pub set_other : (cells : List PlannedCell) (cell k : ℕ) (next : PlannedCell) → (cell ≡ k → ⊥) → slice_get (set cells cell next) k ≡ slice_get cells k
 set_other [] cell k next differ = refl
 set_other (d ∷ cells) zero zero next differ = absurd (differ refl)
 set_other (d ∷ cells) zero (suc k) next differ = refl
 set_other (d ∷ cells) (suc cell) zero next differ = refl
 set_other (d ∷ cells) (suc cell) (suc k) next differ = set_other cells cell k next (λ same. differ (ap suc same))
 
-starts_at : (plans : List VerifiedPlan) (k : ℕ) (v : VerifiedPlan) → slice_get plans k ≡ Some v → slice_get (hub_start plans) k ≡ Some (cell_start v)
+pub starts_at : (plans : List VerifiedPlan) (k : ℕ) (v : VerifiedPlan) → slice_get plans k ≡ Some v → slice_get (hub_start plans) k ≡ Some (cell_start v)
 starts_at [] k v found = absurd (cc)
 starts_at (w ∷ plans) zero v found = let same : w ≡ v = cc in ap (λ (x : VerifiedPlan). Some (cell_start x)) same
 starts_at (w ∷ plans) (suc k) v found = starts_at plans k v found
 
-verified_at : (plans : List VerifiedPlan) (k : ℕ) (v : VerifiedPlan) → AreVerified plans → slice_get plans k ≡ Some v → IsVerified v
+pub verified_at : (plans : List VerifiedPlan) (k : ℕ) (v : VerifiedPlan) → AreVerified plans → slice_get plans k ≡ Some v → IsVerified v
 verified_at [] k v verified found = absurd (cc)
 verified_at (w ∷ plans) zero v verified found = let same : w ≡ v = cc in subst IsVerified same verified.0
 verified_at (w ∷ plans) (suc k) v verified found = verified_at plans k v verified.1 found

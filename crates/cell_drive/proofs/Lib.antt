@@ -35,3 +35,6 @@ pub mod StatedTold
 pub mod Plainly
 pub mod TakenOnce
 pub mod LateWords
+pub mod OneStatedCells
+pub mod StatedHubs
+pub mod StatedAlone

@@ -58,7 +58,7 @@ module _ {S Q : Type 0} (asks : List ℕ → Q → Type 0) (answers : S → ℕ 
   asked_line [] text what end some asked answer = absurd (some refl)
   asked_line (b ∷ line) text what end some asked answer = inr (record { what = what; asked = asked; answer = answer })
 
-set_same : (cells : List PlannedCell) (k : ℕ) (c : PlannedCell) → slice_get cells k ≡ Some c → set cells k c ≡ cells
+pub set_same : (cells : List PlannedCell) (k : ℕ) (c : PlannedCell) → slice_get cells k ≡ Some c → set cells k c ≡ cells
 set_same [] k c found = absurd (cc)
 set_same (d ∷ cells) zero c found = let same : d ≡ c = cc in ap (λ (x : PlannedCell). x ∷ cells) (sym same)
 set_same (d ∷ cells) (suc k) c found = ap (λ (xs : List PlannedCell). d ∷ xs) (set_same cells k c found)

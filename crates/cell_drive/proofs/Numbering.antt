@@ -10,13 +10,13 @@ use Rattle.cell_drive.specs.ManyCells.{PlannedCell, cell_start}
 use Rattle.cell_drive.specs.Tickets.{planned_cell, with_cell, cells_of, AreNumbered}
 
 -- the ticket of a number has a cell, and its content is the one of that number
-record IsAt (h : HubState) (first : ℕ) (tickets : List Ticket) (k : ℕ) (t : Ticket) : Type 0 where
-  content : Control
-  there : cell_at h t ≡ Some content
-  cell_is : slice_get (cells_of h tickets) k ≡ Some (planned_cell content)
-  serial : t.serial ≡ first + k
+pub record IsAt (h : HubState) (first : ℕ) (tickets : List Ticket) (k : ℕ) (t : Ticket) : Type 0 where
+  pub content : Control
+  pub there : cell_at h t ≡ Some content
+  pub cell_is : slice_get (cells_of h tickets) k ≡ Some (planned_cell content)
+  pub serial : t.serial ≡ first + k
 
-is_at : (h : HubState) (first : ℕ) (tickets : List Ticket) (k : ℕ) (t : Ticket) → AreNumbered h first tickets → slice_get tickets k ≡ Some t → IsAt h first tickets k t
+pub is_at : (h : HubState) (first : ℕ) (tickets : List Ticket) (k : ℕ) (t : Ticket) → AreNumbered h first tickets → slice_get tickets k ≡ Some t → IsAt h first tickets k t
 is_at h first [] k t numbered found = absurd (cc)
 is_at h first (u ∷ tickets) zero t ((c, there), serial, rest) found =
     let same : u ≡ t = cc in record {

@@ -29,7 +29,7 @@ use Rattle.cell_drive.specs.Refusals.{refusal_word, refusal_detail}
 use Rattle.cell_drive.specs.AnswerText.{DrivenCell, undriven}
 use Rattle.cell_drive.specs.OneCell.{seen}
 use Rattle.cell_drive.specs.OneRun.{IsEndOf}
-use Rattle.cell_drive.specs.Stated.{AsksFor, IsClaimRefused, IsClaimTaken, RequestAnswer, CellRequests, StatedAnswers, StatedState, StatedAnswer, IsStatedDrive, stated_start, taken_lines, tells_end, told_overdue}
+use Rattle.cell_drive.specs.Stated.{AsksFor, IsClaimRefused, IsClaimTaken, RequestAnswer, CellRequests, refusal_prefix, StatedAnswers, StatedState, StatedAnswer, IsStatedDrive, stated_start, taken_lines, tells_end, told_overdue}
 use Rattle.cell_drive.specs.StatedLaw.{OneStatedText, AStatedCellAnswersSo}
 use Rattle.cell_drive.proofs.OneText.{IsOne, IsOnCourse, line_keeps, one_text, one_closed, same_truth, start_on_course}
 use Rattle.cell_drive.proofs.Refusing.{one_refusal, refused_or_taken}
@@ -46,12 +46,12 @@ one_asked false line Status other is also = absurd is
 
 module _ (p : PlannedShop) (manner : Manner) (prefix : List ℕ) (c : Cell) (number : ℕ) (on : IsOnCourse p c) where
   one_claim_answer : (claim : Claim) (text other : List ℕ) (events events' : List Entry) (next next' : Cell)
-      → IsClaimRefused p manner prefix c number claim text events next ⊎ IsClaimTaken p manner prefix c claim text events next
-      → IsClaimRefused p manner prefix c number claim other events' next' ⊎ IsClaimTaken p manner prefix c claim other events' next' → IsOne text other events events' next next'
+      → IsClaimRefused p manner (refusal_prefix manner prefix) c number claim text events next ⊎ IsClaimTaken p manner prefix c claim text events next
+      → IsClaimRefused p manner (refusal_prefix manner prefix) c number claim other events' next' ⊎ IsClaimTaken p manner prefix c claim other events' next' → IsOne text other events events' next next'
   one_claim_answer claim text other events events' next next' (inl one) (inl also) =
       let same : also.refusal ≡ one.refusal = one_refusal p c on.shaped on.sound manner claim one.refusal also.refusal one.first also.first in
       record {
-        text_is = also.text_is ∙ ap (λ (r : Refusal). prefix ++ refused_detail_line number (refusal_word r) (refusal_detail manner p c (claimed claim) r)) same ∙ sym one.text_is;
+        text_is = also.text_is ∙ ap (λ (r : Refusal). refusal_prefix manner prefix ++ refused_detail_line number (refusal_word r) (refusal_detail manner p c (claimed claim) r)) same ∙ sym one.text_is;
         events_are = also.events_are ∙ sym one.events_are;
         next_is = also.next_is ∙ sym one.next_is;
       }

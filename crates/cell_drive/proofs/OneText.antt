@@ -197,7 +197,7 @@ pub one_cells_text_for_lines : OneCellsTextForLines
 one_cells_text_for_lines plans lines text other end last verified all also =
     one_text IsOnCell CellsReport AreInRun one_asked one_of_cells reports_keep lines (hub_start plans) end last 1 text other (start_in_run plans verified) all also
 
-one_closing_text : (cells : List PlannedCell) (number : ℕ) (text other : List ℕ) → CellsClose number cells text → CellsClose number cells other → other ≡ text
+pub one_closing_text : (cells : List PlannedCell) (number : ℕ) (text other : List ℕ) → CellsClose number cells text → CellsClose number cells other → other ≡ text
 one_closing_text [] number text other is also = also ∙ sym is
 one_closing_text (c ∷ cells) number text other is also =
     let line = one_closing c.plan.planned c.cell is.0 also.0 is.2 also.2 in

@@ -14,7 +14,7 @@ use Rattle.byte_streams.specs.Lines.{input_lines}
 use Rattle.event_lines.specs.EventLines.{report_line, order_lines}
 use Rattle.event_lines.specs.AnswerLines.{done_line, unfinished_line}
 use Rattle.event_lines.specs.ReadBack.{IsSpaceless, TellsFirst}
-use Rattle.event_lines.specs.StandingLines.{unfinished_standing_line}
+use Rattle.event_lines.specs.StandingLines.{unfinished_standing_line, refused_detail_line}
 use Rattle.event_lines.specs.declared.details.Overdue.{Overdue}
 use Rattle.event_lines.specs.declared.requests.Request.{Request}
 use Rattle.event_lines.specs.declared.requests.Request.TheVariants.{Claim as ClaimRequest, Status}
@@ -30,6 +30,7 @@ use Rattle.cell_drive.specs.AnswerText.{DrivenCell, undriven}
 use Rattle.cell_drive.specs.Stated.{RequestAnswer, StatedAnswers, lateness_part, end_part, told_overdue, tells_end}
 use Rattle.cell_drive.specs.StatedLaw.{AStatedTextIsALog}
 use Rattle.cell_drive.proofs.OneText.{start_on_course}
+use Rattle.cell_drive.proofs.Stating.{no_prefix}
 use Rattle.cell_drive.proofs.OneStated.{stated_lines_keep}
 use Rattle.cell_drive.proofs.ReadBack.{AreTold, all_told, log_of_told, name_spaceless, nothing_told, step_moves, step_report, step_told}
 
@@ -81,7 +82,7 @@ module _ (p : PlannedShop) where
         → RequestAnswer p manner [] before.cell number request text more end.cell → AreTold p shaped before text end
     request_told before number (ClaimRequest claim) text end more sound entries (inl is) = record {
       more = [];
-      tells = subst (λ (t : List ℕ). TellsFirst p t []) (sym is.text_is)
+      tells = subst (λ (t : List ℕ). TellsFirst p t []) (sym (is.text_is ∙ ap (λ (prefix : List ℕ). prefix ++ refused_detail_line number (refusal_word is.refusal) (refusal_detail manner p before.cell (claimed claim) is.refusal)) (no_prefix manner)))
           ((others_tell_none p).refused_for number (refusal_word is.refusal) (refusal_detail manner p before.cell (claimed claim) is.refusal) (word_spaceless is.refusal));
       entries = entries ∙ ap (λ (es : List Entry). before.entries ++ es) is.events_are;
       events = tt;

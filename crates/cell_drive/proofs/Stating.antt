@@ -1,5 +1,5 @@
 -- What a cell that is driven in a manner answers to a line.
-use Rattle.std.proofs.Common.{◌≡◌, ℕ, List, [], ◌∷◌, map, Bool, false, Option, Some, Result, Ok, Err, IfErr, IsOk, refl, sym, ap, ◌∙◌, subst, append-nil, inl, inr}
+use Rattle.std.proofs.Common.{◌≡◌, ℕ, List, [], ◌∷◌, ◌++◌, map, cond, Bool, true, false, Option, Some, Result, Ok, Err, IfErr, IsOk, refl, sym, ap, ◌∙◌, subst, append-nil, inl, inr}
 use Rattle.shop_base.specs.declared.move_order.MoveOrder.{MoveOrder}
 use Rattle.shop_base.specs.Plan.{PlannedShop}
 use Rattle.shop_base.specs.Cell.{Cell}
@@ -13,7 +13,7 @@ use Rattle.cell_tables.specs.declared.entry.Entry.TheVariants.{Report as ReportE
 use Rattle.cell_tables.specs.Events.{events_of}
 use Rattle.cell_control.specs.declared.report.Ack.{Ack}
 use Rattle.cell_control.specs.declared.report_fault.ReportFault.{ReportFault}
-use Rattle.cell_control.specs.Control.{IsAnswered}
+use Rattle.cell_control.specs.Control.{Control, IsAnswered}
 use Rattle.cell_control.specs.Reports.{IsFirstReason}
 use Rattle.cell_control.proofs.Reasons.{reason-cannot}
 use Rattle.run_log.specs.Log.{Notes}
@@ -33,7 +33,7 @@ use Rattle.cell_drive.specs.Refusals.{IsRefusal, IsTaken, refusal_word, refusal_
 use Rattle.cell_drive.specs.States.{state_text}
 use Rattle.cell_drive.specs.LineAnswers.{LineAnswer}
 use Rattle.cell_drive.specs.OneCell.{DriveState, IsDriven, seen}
-use Rattle.cell_drive.specs.Stated.{AsksFor, CellRequests, AnswersRequest, StatedState, StatedAnswer, taken_lines, tells_end, told_overdue}
+use Rattle.cell_drive.specs.Stated.{AsksFor, CellRequests, AnswersRequest, StatedState, StatedAnswer, IsClaimTaken, refusal_prefix, taken_lines, tells_end, told_overdue}
 use Rattle.cell_drive.proofs.LineAnswers.{asked_line}
 
 -- each of these texts is one of those
@@ -52,11 +52,39 @@ pub is_taken : (p : PlannedShop) (c : Cell) (report : reports.Report) (outcome :
 is_taken p c report (Ok ack) sound can first = refl
 is_taken p c report (Err reason) sound can first = absurd (reason-cannot p c (said report) reason sound first can)
 
+either_way : (tells : Bool) (prefix : List ℕ) → cond tells prefix prefix ≡ prefix
+either_way true prefix = refl
+either_way false prefix = refl
+
+-- where nothing stands before a line, nothing does before a refusal
+pub no_prefix : (manner : Manner) → refusal_prefix manner [] ≡ []
+no_prefix manner = either_way manner.tells []
+
 -- in version 1 a line that is no report asks for nothing
 pub no_report : (line : List ℕ) → IsNoReport line → (request : Request) → AsksFor false line request → ⊥
 no_report line none (ClaimRequest (Report report)) asked = none report asked
 no_report line none (ClaimRequest (CleanAfter machine job at)) asked = asked
 no_report line none Status asked = asked
+
+-- a claim that a controller takes
+pub claim_taken : (manner : Manner) (prefix : List ℕ) (before after : Control) (claim : Claim) (ack : Ack) (orders : List MoveOrder) (overdue : Option Overdue) (ended : Bool)
+    → IsTaken manner before.plan.planned before.cell claim → orders ≡ after.orders → overdue ≡ told_overdue manner before.plan.planned before.cell (claimed claim)
+    → ended ≡ tells_end manner after.plan.planned after.cell → IsAnswered before (said (claimed claim)) ack after
+    → IsClaimTaken before.plan.planned manner prefix before.cell claim (taken_lines prefix (claimed claim) ack.late overdue orders ended) (ReportEntry (claimed claim) ∷ map OrderEntry after.orders) after.cell
+claim_taken manner prefix before after claim ack orders overdue ended taken are overdue_is ended_is answered =
+    let told = told_overdue manner before.plan.planned before.cell (claimed claim) in
+    record {
+      taken = taken;
+      movers = answered.movers;
+      step = answered.step;
+      late = ack.late;
+      late_is = answered.late;
+      text_is = ap (λ (o : Option Overdue). taken_lines prefix (claimed claim) ack.late o orders ended) overdue_is
+          ∙ ap (λ (os : List MoveOrder). taken_lines prefix (claimed claim) ack.late told os ended) (are ∙ answered.orders)
+          ∙ ap (taken_lines prefix (claimed claim) ack.late told _) (ended_is ∙ ap (λ (v : VerifiedPlan). tells_end manner v.planned after.cell) answered.plan);
+      events_are = ap (λ (os : List MoveOrder). ReportEntry (claimed claim) ∷ map OrderEntry os) answered.orders;
+      next_is = answered.cell;
+    }
 
 module _ (manner : Manner) (s : DriveState) (number : ℕ) where
   abbrev p : PlannedShop
@@ -68,7 +96,7 @@ module _ (manner : Manner) (s : DriveState) (number : ℕ) where
   refuses claim refusal detail first same = record {
     answer = record {
       more = [];
-      answer = inl (record { refusal = refusal; first = first; text_is = ap (refused_detail_line number (refusal_word refusal)) same; events_are = refl; next_is = refl });
+      answer = inl (record { refusal = refusal; first = first; text_is = ap (refused_detail_line number (refusal_word refusal)) same ∙ ap (λ (prefix : List ℕ). prefix ++ refused_detail_line number (refusal_word refusal) (refusal_detail manner p s.control.cell (claimed claim) refusal)) (sym (no_prefix manner)); events_are = refl; next_is = refl });
       entries = sym (append-nil s.log.entries);
     };
     plan = refl;
@@ -83,18 +111,7 @@ module _ (manner : Manner) (s : DriveState) (number : ℕ) where
   takes e claim ack orders overdue ended taken are overdue_is ended_is answered notes = record {
     answer = record {
       more = ReportEntry (claimed claim) ∷ map OrderEntry e.control.orders;
-      answer = inr (record {
-        taken = taken;
-        movers = answered.movers;
-        step = answered.step;
-        late = ack.late;
-        late_is = answered.late;
-        text_is = ap (λ (o : Option Overdue). taken_lines [] (claimed claim) ack.late o orders ended) overdue_is
-            ∙ ap (λ (os : List MoveOrder). taken_lines [] (claimed claim) ack.late (told_overdue manner p s.control.cell (claimed claim)) os ended) (are ∙ answered.orders)
-            ∙ ap (taken_lines [] (claimed claim) ack.late (told_overdue manner p s.control.cell (claimed claim)) _) (ended_is ∙ ap (λ (v : VerifiedPlan). tells_end manner v.planned e.control.cell) answered.plan);
-        events_are = ap (λ (os : List MoveOrder). ReportEntry (claimed claim) ∷ map OrderEntry os) answered.orders;
-        next_is = answered.cell;
-      });
+      answer = inr (claim_taken manner [] s.control e.control claim ack orders overdue ended taken are overdue_is ended_is answered);
       entries = notes.entries;
     };
     plan = answered.plan;

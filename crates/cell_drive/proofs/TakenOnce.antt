@@ -20,7 +20,7 @@ use Rattle.event_lines.specs.Requests.{claimed}
 use Rattle.cell_drive.specs.declared.manner.Manner.{Manner}
 use Rattle.cell_drive.specs.Refusals.{CanClaim, IsTaken}
 use Rattle.cell_drive.specs.AnswerText.{DrivenCell, undriven}
-use Rattle.cell_drive.specs.Stated.{StatedAnswers, IsClaimRefused, IsClaimTaken}
+use Rattle.cell_drive.specs.Stated.{StatedAnswers, IsClaimRefused, IsClaimTaken, refusal_prefix}
 use Rattle.cell_drive.specs.StatedLaw.{named, NothingIsTakenTwice}
 use Rattle.cell_drive.proofs.OneText.{IsOnCourse, start_on_course}
 use Rattle.cell_drive.proofs.OneStated.{request_keeps, stated_lines_keep}
@@ -64,7 +64,7 @@ module _ (p : PlannedShop) (manner : Manner) (shaped : IsWellShaped p) where
         (can_report p (ends_in p (es ++ (own ++ gs))) again can_then)
 
     taken_or_not : (number : ℕ) (events : List Entry) → IsOnCourse p before.cell → IsTaken manner p before.cell claim → AreTold p shaped (undriven p) texts before
-        → IsClaimRefused p manner [] before.cell number claim text events after.cell ⊎ IsClaimTaken p manner [] before.cell claim text events after.cell → AreTold p shaped after others end
+        → IsClaimRefused p manner (refusal_prefix manner []) before.cell number claim text events after.cell ⊎ IsClaimTaken p manner [] before.cell claim text events after.cell → AreTold p shaped after others end
         → named claim ≡ Some ended → named again ≡ Some ended → CanClaim p end.cell again → ⊥
     taken_or_not number events on is_taken first (inl is) then_told names names_again can = refused_or_taken p before.cell shaped on.sound manner claim is.refusal is.first is_taken
     taken_or_not number events on is_taken first (inr is) then_told names names_again can = taken_once first events is then_told names names_again can

@@ -23,6 +23,8 @@ pub mod Refusals
 pub mod States
 pub mod Stated
 pub mod StatedLaw
+pub mod StatedCells
+pub mod StatedCellsLaw
 -- Of proofs and private contracts alone.
 pub mod Tickets
 pub mod Judging

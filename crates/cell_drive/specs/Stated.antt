@@ -97,9 +97,13 @@ pub record IsStateTold (p : PlannedShop) (prefix : List ℕ) (c : Cell) (text : 
   pub events_are : events ≡ []
   pub next_is : next ≡ c
 
+-- what stands before a refusal: in version 1 of the lines nothing, in version 2 what stands before each line
+abbrev pub refusal_prefix : Manner → List ℕ → List ℕ
+refusal_prefix manner prefix = if manner.tells then prefix else []
+
 -- in a cell a request, by its line of this number, is answered by this text, with this before each of its lines. It adds these events, and the cell is then another
 abbrev pub RequestAnswer : PlannedShop → Manner → List ℕ → Cell → ℕ → Request → List ℕ → List Entry → Cell → Type 0
-RequestAnswer p manner prefix c number (ClaimRequest claim) text events next = IsClaimRefused p manner prefix c number claim text events next ⊎ IsClaimTaken p manner prefix c claim text events next
+RequestAnswer p manner prefix c number (ClaimRequest claim) text events next = IsClaimRefused p manner (refusal_prefix manner prefix) c number claim text events next ⊎ IsClaimTaken p manner prefix c claim text events next
 RequestAnswer p manner prefix c number Status text events next = IsStateTold p prefix c text events next
 
 -- so it is in a driven cell

@@ -8,7 +8,10 @@ use Rattle.cell_hub.specs.declared.ticket.Ticket.{Ticket}
 use Rattle.cell_hub.specs.Hub.{HubState, cell_at}
 use Rattle.cell_drive.specs.LineAnswers.{closing_line}
 use Rattle.event_lines.specs.SentLines.{cell_prefix}
+use Rattle.event_lines.specs.declared.requests.Request.{Request}
+use Rattle.cell_drive.specs.declared.manner.Manner.{Manner}
 use Rattle.cell_drive.specs.ManyCells.{PlannedCell, CellsAnswer}
+use Rattle.cell_drive.specs.StatedCells.{CellsTell, StatedHubAnswer, hub_stated}
 
 -- a controller's cell
 abbrev pub planned_cell : Control → PlannedCell
@@ -51,6 +54,14 @@ IfCell cells cell IsSuch = (c : PlannedCell) → slice_get cells cell ≡ Some c
 -- the texts that answer a line of this number that isn't too long, by a hub with these tickets before and after it
 abbrev pub AnswersByHub : HubState → List Ticket → ℕ → List ℕ → HubState → List ℕ → Type 0
 AnswersByHub hub tickets number line hub_then text = CellsAnswer (cells_of hub tickets) number (Some line) text (cells_of hub_then tickets)
+
+-- and so in a manner
+abbrev pub StatedByHub : Manner → HubState → List Ticket → ℕ → List ℕ → HubState → List ℕ → Type 0
+StatedByHub manner hub tickets number line hub_then text = StatedHubAnswer (hub_stated manner (cells_of hub tickets)) number (Some line) text (hub_stated manner (cells_of hub_then tickets))
+
+-- the texts that answer what the cell of a number is asked by a line of this number
+abbrev pub ToldByHub : Manner → HubState → List Ticket → ℕ → ℕ → Request → HubState → List ℕ → Type 0
+ToldByHub manner hub tickets number cell request hub_then text = CellsTell manner (cells_of hub tickets) number (record { cell = cell; request = request }) text (cells_of hub_then tickets)
 
 -- the closing line of the cell of a number
 abbrev pub closing_of : ℕ → PlannedCell → List ℕ

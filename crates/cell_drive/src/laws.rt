@@ -10,6 +10,7 @@ ghost use Rattle.cell_drive.specs.AuditLaw.{AnAnswerTextIsALog, AnAuditKeepsWhat
 ghost use Rattle.cell_drive.specs.AnswerLaw.{ToldAsAnswered};
 ghost use Rattle.cell_drive.specs.CutLaw.{ACutLogIsTakenUp, WhatWasResumedIsTakenUp, WhatWasResumedCanBeTakenUp, ACutLogHasItsOrders, WhatWasDrivenHasItsOrders, ItCanBeTakenUp, ItIsTakenUpWithItsOrders};
 ghost use Rattle.cell_drive.specs.Resuming.{AResumedTextIsALog, AnAuditKeepsWhatWasResumed, OneResumedText, WhatWasResumedIsSuchAText, WhatWasResumedGoesOn};
+ghost use Rattle.cell_drive.specs.StatedCellsLaw.{OneStatedCellsText, OneStatedCellsTextForLines, EachStatedCellIsAlone};
 ghost use Rattle.cell_drive.specs.StatedLaw.{OneStatedText, AStatedCellAnswersSo, AStatedTextIsALog, PlainlyAsEver, NothingIsTakenTwice, ALateReportFindsSomethingOverdue};
 
 pub use byte_streams::laws::the_limits_of_an_input_in_numbers;
@@ -105,6 +106,20 @@ pub fn one_stated_text_which_is_a_log()
     ensures one { OneStatedText }
     ensures driven { AStatedCellAnswersSo }
     ensures log { AStatedTextIsALog }
+{}
+
+/// The same of an input of several cells, each of an accepted plan, in each manner: one answer text at most, which
+/// leads to one list of what the cells hold.
+pub fn one_stated_text_of_cells()
+    ensures whole { OneStatedCellsText }
+    ensures lines { OneStatedCellsTextForLines }
+{}
+
+/// Let cells by accepted plans answer any lines in a manner. Each of them answers what the lines ask of it as it would
+/// alone, whatever they ask of the others: these events are the controlled run of some reports, through which all stays
+/// as the plan promises, and which has ended exactly where as many reports were accepted as the stated number.
+pub fn each_stated_cell_is_alone()
+    ensures { EachStatedCellIsAlone }
 {}
 
 /// In version 1 of the lines, and with no moment that leaps, each line is answered as `drive` answers it.

@@ -94,7 +94,7 @@ fn put_numbered_closing<D: Dues, W: Sink>(
 }
 
 /// Writes the closing line of each cell.
-fn put_closings<D: Dues, W: Sink>(
+pub(crate) fn put_closings<D: Dues, W: Sink>(
     hub: &Hub<D>,
     tickets: &[Ticket],
     writer: &mut W,
@@ -110,7 +110,7 @@ fn put_closings<D: Dues, W: Sink>(
 }
 
 /// Whether the run of each cell has ended.
-fn all_done<D: Dues>(hub: &Hub<D>, tickets: &[Ticket]) -> bool
+pub(crate) fn all_done<D: Dues>(hub: &Hub<D>, tickets: &[Ticket]) -> bool
     requires { AreNumbered hub.now 0 tickets.now }
     ensures { IsTrue result ↔ AreAllDone (cells_of hub.now tickets.now) }
 {

@@ -4,6 +4,7 @@ use Rattle.std.specs.declared.result.Result.TheVariants.{Ok, Err}
 use Rattle.shop_base.specs.Activity.{GoesOn}
 use Rattle.plan_verifier.specs.Accepted.{VerifiedPlan}
 use Rattle.cell_tables.specs.declared.report.Report.{Report}
+use Rattle.cell_tables.specs.declared.report.Report.TheVariants.{Clean}
 use Rattle.cell_control.specs.declared.report.Ack.{Ack}
 use Rattle.cell_control.specs.Control.{Control, at_start, IsAnswered}
 use Rattle.cell_tables.specs.Reports.{said}
@@ -59,6 +60,10 @@ IsNotCleaned h t m j at SerialsSpent = ⊥
 IsNotCleaned h t m j at Memory = ⊥
 IsNotCleaned h t m j at (Cell reason) = (c : Control) × (cell_at h t ≡ Some c) × IsFirstCleanReason c.plan.planned c.cell m j at reason
 
+-- no fault but this one is a reason why that report isn't taken, the fields of a first reason included
+abbrev pub IsOnlyCleanRefusal : HubState → Ticket → ℕ → ℕ → ℕ → HubFault → Type 0
+IsOnlyCleanRefusal h t m j at fault = (other : HubFault) → IsNotCleaned h t m j at other → other ≡ fault
+
 -- what the report says to have ended goes on in the cell, and the report's moment is the last one
 pub record EndsNow (c : Control) (r : Report) : Type 0 where
   pub due : ℕ
@@ -77,6 +82,11 @@ pub data HubCall : Type 0 where
   Reported : Ticket → Report → Result Ack HubFault → HubCall
   Shown : Ticket → Option Control → HubCall
   Dismissed : Ticket → Result Control HubFault → HubCall
+
+-- the call that the report of a cleaning after a job is, by its answer: where it is taken, a report of that cleaning; where it isn't, a look at the ticket's cell
+abbrev pub cleaning_call : HubState → Ticket → ℕ → ℕ → Result Ack HubFault → HubCall
+cleaning_call h t m at (Ok ack) = Reported t (Clean m at) (Ok ack)
+cleaning_call h t m at (Err fault) = Shown t (cell_at h t)
 
 -- a hub answers a call so, and is then this one. A call that is refused changes nothing
 abbrev pub IsCall : HubState → HubCall → HubState → Type 0

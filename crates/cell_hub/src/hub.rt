@@ -3,7 +3,7 @@ ghost use Rattle.shop_base.specs.Report.{CanReport};
 ghost use Rattle.cell_tables.specs.Reports.{said};
 ghost use Rattle.cell_control.specs.Reports.{CanCleanAfter};
 ghost use Rattle.cell_hub.specs.Hub.{hub_from, cell_at, AreSerialsBelow};
-ghost use Rattle.cell_hub.specs.Calls.{IsAdmitted, IsNotAdmitted, IsReported, IsNotReported, IsNotCleaned, IsOnlyRefusal, EndsNow, IsDismissed, IsCall, Admitted, Reported, Shown, Dismissed};
+ghost use Rattle.cell_hub.specs.Calls.{IsAdmitted, IsNotAdmitted, IsReported, IsNotReported, IsNotCleaned, IsOnlyRefusal, IsOnlyCleanRefusal, EndsNow, IsDismissed, IsCall, cleaning_call, Admitted, Reported, Shown, Dismissed};
 
 use crate::hub_fault::HubFault;
 use crate::slots::{Placed, cell_in, report_in, reserve_slot, take_from};
@@ -113,8 +113,10 @@ impl<D: Dues> Hub<D> {
         ensures reported { IfOk result (λ ack. IsReported self.old ticket (Report.Clean machine at) ack self.new) }
         ensures possible { IfSome (cell_at self.old ticket) (λ c. IsOk result ↔ CanCleanAfter c.plan.planned c.cell machine job at) }
         ensures refused { IfErr result (IsNotCleaned self.old ticket machine job at) }
+        ensures only_reason { IfErr result (IsOnlyCleanRefusal self.old ticket machine job at) }
         ensures unchanged { OnErr result (self.new ≡ self.old) }
         ensures no_such_cell { (result ≡ Err HubFault.NoSuchCell) ↔ (cell_at self.old ticket ≡ None) }
+        ensures called { IsCall self.old (cleaning_call self.old ticket machine at result) self.new }
     {
         let Some(cell) = self.cell(ticket) else {
             return Err(HubFault::NoSuchCell);

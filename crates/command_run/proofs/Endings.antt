@@ -5,6 +5,7 @@ use Rattle.shop_base.specs.declared.shape_fault.ShapeFault.{ShapeFault}
 use Rattle.shop_base.specs.Plan.{PlannedShop}
 use Rattle.cell_drive.specs.declared.one_run.DriveEnd.{DriveEnd}
 use Rattle.cell_drive.specs.declared.rest_run.RestEnd.{RestEnd}
+use Rattle.cell_drive.specs.declared.many_runs.HubEnd.{HubEnd}
 use Rattle.byte_streams.specs.declared.drive_fault.DriveFault.{DriveFault}
 use Rattle.byte_streams.specs.declared.drive_fault.DriveFault.TheVariants.{Read as NotRead, Write as NotWritten, InputTooLong as TooLong, Memory as WantOfMemory}
 use Rattle.byte_streams.specs.Streams.{IsStreamed}
@@ -13,6 +14,7 @@ use Rattle.cell_drive.specs.OneCell.{DriveAnswer, DriveCloses, drive_start}
 use Rattle.cell_drive.specs.OneRun.{IsStreamedFrom}
 use Rattle.cell_drive.specs.Stated.{StatedAnswer, StatedCloses, stated_start}
 use Rattle.cell_drive.specs.ManyCells.{hub_start, CellsAnswer, CellsClose}
+use Rattle.cell_drive.specs.StatedCells.{StatedHubAnswer, StatedHubCloses, stated_hub_start}
 use Rattle.plan_verifier.specs.declared.verdict.Verdict.TheVariants.{Accepted, Refused}
 use Rattle.cell_drive.specs.declared.resume_fault.ResumeFault.{ResumeFault}
 use Rattle.cell_drive.specs.RestCell.{RestAnswer, RestCloses}
@@ -41,7 +43,7 @@ use Rattle.command_run.specs.Streams.{Streams, Output, Errors, Devices}
 use Rattle.command_run.specs.Pictures.{Draws, IsPictureOut, RunsTimetable, RunsDrawing}
 use Rattle.command_run.specs.Drives.{Drives, DrivesBy, is_plain}
 use Rattle.command_run.specs.Resumes.{IsTaking, IsResume, ResumesTaken, ResumesText, Resumes}
-use Rattle.command_run.specs.Hubs.{DrivesAll}
+use Rattle.command_run.specs.Hubs.{DriveBy, DrivesAll}
 use Rattle.command_run.specs.Ending.{Ends, IsPrinted, IsTold, IsToldAfter, IsOfText, IsLineOut}
 use Rattle.command_run.specs.Program.{AreWordsRead, RunsCommand, Follows, file_at, log_in, manner_in, name_in, pair_in, plans_in}
 use Rattle.command_run.specs.Laws.{IsOutcomeOfWords, IsFailureOf, EndsAsTold, HoldsNothing, WereDriven, WereRefused, IsUnanswered, Ran, WroteNoMore}
@@ -104,7 +106,7 @@ module _ {W : Type 0} (gives : W → List ℕ → Result (List ℕ) CommandFault
   drives_written (Ok (Judged (Accepted v))) later outcome loads is = inr (inl (refl, record { cell = v; later = later; loads = loads; end = is.end; is = is.is }))
 
   hub_written : (loaded : Result Cells CommandFault) (later : W) (outcome : Result Answer CommandFault) → LoadsCells gives (file_at chosen 0) (name_in chosen) (plans_in chosen) texts loaded later
-      → DrivesAll loaded before after outcome → WereDriven gives Hub chosen texts before after
+      → DrivesAll (manner_in chosen) loaded before after outcome → WereDriven gives Hub chosen texts before after
   hub_written (Err fault) later outcome loads is = kept Hub is.1
   hub_written (Ok (Line answer)) later outcome loads is = kept Hub is.1
   hub_written (Ok (AllAccepted cells)) later outcome loads is =
@@ -197,6 +199,11 @@ drive_shown : (plain : Bool) (manner : Manner) (v : VerifiedPlan) (before after 
 drive_shown true manner v before after end is none = streamed_from_shown DriveAnswer DriveCloses (drive_start v) is.end before after end is.streamed none
 drive_shown false manner v before after end is none = streamed_from_shown StatedAnswer StatedCloses (stated_start manner v) is.end before after end is.streamed none
 
+hub_shown : (plain : Bool) (manner : Manner) (cells : List VerifiedPlan) (before after : Streams) (end : Result HubEnd DriveFault) → DriveBy plain manner cells before after end → before.output.pending ≡ []
+    → HoldsNothing after.output
+hub_shown true manner cells before after end is none = streamed_from_shown CellsAnswer (CellsClose 0) (hub_start cells) is.end before after end is.streamed none
+hub_shown false manner cells before after end is none = streamed_from_shown StatedHubAnswer StatedHubCloses (stated_hub_start manner cells) is.end before after end is.streamed none
+
 picture_shown : (picture : List ℕ) (before after : Output) (outcome : Result Answer CommandFault) → IsPictureOut picture before after outcome → HoldsNothing after
 picture_shown picture before after (Ok answer) out = inl out.4
 picture_shown picture before after (Err fault) out = inr out.2
@@ -208,7 +215,7 @@ driven_shown gives chosen texts before after name (inr (inl (is, drove))) none =
     drive_shown (is_plain (manner_in chosen)) (manner_in chosen) drove.cell before after drove.end drove.is none
 driven_shown gives chosen texts before after name (inr (inr (inl (is, drove)))) none = resume_shown drove.taken before after drove.end drove.is
 driven_shown gives chosen texts before after name (inr (inr (inr (inl (is, drove))))) none =
-    streamed_from_shown CellsAnswer (CellsClose 0) (hub_start drove.cells) drove.are.end before after drove.end drove.are.streamed none
+    hub_shown (is_plain (manner_in chosen)) (manner_in chosen) drove.cells before after drove.end drove.are none
 driven_shown gives chosen texts before after name (inr (inr (inr (inr (inl (is, drew)))))) none = picture_shown drew.picture before.output after.output drew.outcome drew.out
 driven_shown gives chosen texts before after name (inr (inr (inr (inr (inr (is, drew)))))) none = picture_shown drew.picture before.output after.output drew.outcome drew.out
 

@@ -21,6 +21,7 @@ use Rattle.command_answers.specs.Checks.{IsLoaded, accepted_in}
 use Rattle.command_answers.specs.Commands.{ReadsPlan}
 use Rattle.command_answers.specs.Cells.{AfterPlan, IsCellLine, LoadsEach}
 use Rattle.command_answers.proofs.CheckLines.{line_of_loaded}
+use Rattle.cell_drive.specs.declared.manner.Manner.{Manner}
 use Rattle.command_run.specs.Streams.{Streams}
 use Rattle.command_run.specs.Hubs.{DrivesAll}
 use Rattle.command_run.specs.Program.{RunsHub}
@@ -38,11 +39,11 @@ AreCellsOf plans (AllAccepted all) = plans_of all.items ≡ plans
 AreCellsOf plans (Line answer) = ⊥
 
 -- accepted plans drive their cells
-cells_drive : (files : List (List ℕ)) (plans : List PlannedShop) (loaded : Result Cells CommandFault) (before after : Streams) (outcome : Result Answer CommandFault) (asked : List (List ℕ))
-    → IsAnswered (AreCellsOf plans) files loaded asked → DrivesAll loaded before after outcome → ((asked ≡ files) × DrivesPlans plans before after outcome) ⊎ ((outcome ≡ Err Memory) × (after ≡ before))
-cells_drive files plans (Err fault) before after outcome asked is drives = inr (drives.0 ∙ ap Err is, drives.1)
-cells_drive files plans (Ok (Line answer)) before after outcome asked is drives = absurd is.0
-cells_drive files plans (Ok (AllAccepted cells)) before after outcome asked is drives = inl (is.1, (cells.items, is.0, drives))
+cells_drive : (manner : Manner) (files : List (List ℕ)) (plans : List PlannedShop) (loaded : Result Cells CommandFault) (before after : Streams) (outcome : Result Answer CommandFault) (asked : List (List ℕ))
+    → IsAnswered (AreCellsOf plans) files loaded asked → DrivesAll manner loaded before after outcome → ((asked ≡ files) × DrivesPlans manner plans before after outcome) ⊎ ((outcome ≡ Err Memory) × (after ≡ before))
+cells_drive manner files plans (Err fault) before after outcome asked is drives = inr (drives.0 ∙ ap Err is, drives.1)
+cells_drive manner files plans (Ok (Line answer)) before after outcome asked is drives = absurd is.0
+cells_drive manner files plans (Ok (AllAccepted cells)) before after outcome asked is drives = inl (is.1, (cells.items, is.0, drives))
 
 module _ (content : List ℕ → Result (List ℕ) CommandFault) (instance : List ℕ) (name : Option (List ℕ)) where
   -- a plan's text tells its plan
@@ -107,10 +108,10 @@ module _ (content : List ℕ → Result (List ℕ) CommandFault) (instance : Lis
       subst (λ (here : List (List ℕ)). IsAnswered (AreCellsOf plans) (here ++ files) loaded asked) given.1 each
   cells_come path files plans is good (Err f) mid loaded asked given on = absurd (let both : Err f ≡ Ok instance = given.1.0 ∙ is in cc both)
 
-  pub good_hub : (path : List ℕ) (files : List (List ℕ)) (plans : List PlannedShop) (before after : Streams) (outcome : Result Answer CommandFault) (asked : List (List ℕ)) → content path ≡ Ok instance
-      → TellAcceptedPlans content instance name files plans → RunsHub (Shelf content) path name files [] before outcome asked after → ((asked ≡ path ∷ files) × DrivesPlans plans before after outcome) ⊎ ((outcome ≡ Err Memory) × (after ≡ before))
-  good_hub path files plans before after outcome asked is good run =
-      cells_drive (path ∷ files) plans run.loaded before after outcome asked (cells_come path files plans is good run.loads.came run.loads.mid run.loaded asked run.loads.is run.loads.goes_on) run.drives
+  pub good_hub : (manner : Manner) (path : List ℕ) (files : List (List ℕ)) (plans : List PlannedShop) (before after : Streams) (outcome : Result Answer CommandFault) (asked : List (List ℕ)) → content path ≡ Ok instance
+      → TellAcceptedPlans content instance name files plans → RunsHub (Shelf content) manner path name files [] before outcome asked after → ((asked ≡ path ∷ files) × DrivesPlans manner plans before after outcome) ⊎ ((outcome ≡ Err Memory) × (after ≡ before))
+  good_hub manner path files plans before after outcome asked is good run =
+      cells_drive manner (path ∷ files) plans run.loaded before after outcome asked (cells_come path files plans is good run.loads.came run.loads.mid run.loaded asked run.loads.is run.loads.goes_on) run.drives
 
 -- the line of a plan that isn't accepted, behind its number
 abbrev IsCellsLine : ℕ → PlannedShop → Cells → Type 0
@@ -118,11 +119,11 @@ IsCellsLine number p (AllAccepted all) = ⊥
 IsCellsLine number p (Line answer) = IsNumberedLine number p answer
 
 -- it is the answer, with no byte read or written
-line_answered : (number : ℕ) (p : PlannedShop) (files : List (List ℕ)) (loaded : Result Cells CommandFault) (before after : Streams) (outcome : Result Answer CommandFault) (asked : List (List ℕ))
-    → IsAnswered (IsCellsLine number p) files loaded asked → DrivesAll loaded before after outcome → IsAnswered (IsNumberedLine number p) files outcome asked × (after ≡ before)
-line_answered number p files (Err fault) before after outcome asked is drives = (wanting _ _ outcome asked (drives.0 ∙ ap Err is), drives.1)
-line_answered number p files (Ok (Line answer)) before after outcome asked is drives = (subst (λ r. IsAnswered (IsNumberedLine number p) files r asked) (sym drives.0) is, drives.1)
-line_answered number p files (Ok (AllAccepted cells)) before after outcome asked is drives = absurd is.0
+line_answered : (manner : Manner) (number : ℕ) (p : PlannedShop) (files : List (List ℕ)) (loaded : Result Cells CommandFault) (before after : Streams) (outcome : Result Answer CommandFault) (asked : List (List ℕ))
+    → IsAnswered (IsCellsLine number p) files loaded asked → DrivesAll manner loaded before after outcome → IsAnswered (IsNumberedLine number p) files outcome asked × (after ≡ before)
+line_answered manner number p files (Err fault) before after outcome asked is drives = (wanting _ _ outcome asked (drives.0 ∙ ap Err is), drives.1)
+line_answered manner number p files (Ok (Line answer)) before after outcome asked is drives = (subst (λ r. IsAnswered (IsNumberedLine number p) files r asked) (sym drives.0) is, drives.1)
+line_answered manner number p files (Ok (AllAccepted cells)) before after outcome asked is drives = absurd is.0
 
 cell_told : (number : ℕ) (p : PlannedShop) (files : List (List ℕ)) (l : Loaded) (loaded : Result Cells CommandFault) (asked : List (List ℕ)) → IsLoaded p l → IsCellLine number l loaded → asked ≡ files
     → IsAnswered (IsCellsLine number p) files loaded asked
@@ -184,9 +185,9 @@ module _ (content : List ℕ → Result (List ℕ) CommandFault) (instance : Lis
       (subst (λ (here : List (List ℕ)). IsAnswered (IsCellsLine (0 + length files) p) (here ++ (files ++ file ∷ [])) loaded asked) given.1 line)
   line_of_cells path files plans is good (Err f) mid loaded asked given on = absurd (let both : Err f ≡ Ok instance = given.1.0 ∙ is in cc both)
 
-  pub no_hub : (path : List ℕ) (files : List (List ℕ)) (plans : List PlannedShop) (before after : Streams) (outcome : Result Answer CommandFault) (asked : List (List ℕ)) → content path ≡ Ok instance
-      → TellAcceptedPlans content instance name files plans → RunsHub (Shelf content) path name (files ++ file ∷ others) [] before outcome asked after
+  pub no_hub : (manner : Manner) (path : List ℕ) (files : List (List ℕ)) (plans : List PlannedShop) (before after : Streams) (outcome : Result Answer CommandFault) (asked : List (List ℕ)) → content path ≡ Ok instance
+      → TellAcceptedPlans content instance name files plans → RunsHub (Shelf content) manner path name (files ++ file ∷ others) [] before outcome asked after
       → IsAnswered (IsNumberedLine (length files) p) (path ∷ (files ++ file ∷ [])) outcome asked × (after ≡ before)
-  no_hub path files plans before after outcome asked is good run =
-      line_answered (length files) p (path ∷ (files ++ file ∷ [])) run.loaded before after outcome asked
+  no_hub manner path files plans before after outcome asked is good run =
+      line_answered manner (length files) p (path ∷ (files ++ file ∷ [])) run.loaded before after outcome asked
       (line_of_cells path files plans is good run.loads.came run.loads.mid run.loaded asked run.loads.is run.loads.goes_on) run.drives

@@ -287,10 +287,10 @@ low_loaded gives text name cells (path ∷ paths) before outcome after is =
     held IsLowLine _ _ before outcome after low_line_failed
     (λ loaded mid on. low_after_plan cells (λ more. LoadsEach gives text name more paths) (accepted_in loaded) mid outcome after (λ more later. low_loaded gives text name more paths mid outcome after later) on) is
 
-low_drives_all : (loaded : Result Cells CommandFault) (before after : Streams) (outcome : Result Answer CommandFault) → IsLowLine loaded → DrivesAll loaded before after outcome → IsLow outcome
-low_drives_all (Err fault) before after outcome low is = subst IsLow (sym is.0) tt
-low_drives_all (Ok (Line answer)) before after outcome low is = subst IsLow (sym is.0) low
-low_drives_all (Ok (AllAccepted cells)) before after outcome low is = low_end (end_of_hub is.end) outcome is.answer
+low_drives_all : (manner : Manner) (loaded : Result Cells CommandFault) (before after : Streams) (outcome : Result Answer CommandFault) → IsLowLine loaded → DrivesAll manner loaded before after outcome → IsLow outcome
+low_drives_all manner (Err fault) before after outcome low is = subst IsLow (sym is.0) tt
+low_drives_all manner (Ok (Line answer)) before after outcome low is = subst IsLow (sym is.0) low
+low_drives_all manner (Ok (AllAccepted cells)) before after outcome low is = low_end (end_of_hub is.end) outcome is.answer
 
 -- ---- the commands
 
@@ -400,7 +400,7 @@ module _ {W : Type 0} (gives : W → List ℕ → Result (List ℕ) CommandFault
   low Drive chosen texts before outcome texts_after after run = low_drives (manner_in chosen) run.loaded before after outcome run.drives
   low Resume chosen texts before outcome texts_after after run = low_resumes chosen.at _ run.shaped run.texts_mid before outcome texts_after after run.resumes
   low Hub chosen texts before outcome texts_after after run =
-      low_drives_all run.loaded before after outcome
+      low_drives_all (manner_in chosen) run.loaded before after outcome
       (held IsLowLine _ (λ text. LoadsEach gives text (name_in chosen) [] (plans_in chosen)) texts run.loaded texts_after low_line_failed (λ text mid on. low_loaded gives text (name_in chosen) [] (plans_in chosen) mid run.loaded texts_after on) run.loads) run.drives
   low Audit chosen texts before outcome texts_after after run =
       low_both (pair_in chosen) (WithLog gives (IsLogLine Numbers) (file_at chosen 2)) texts outcome texts_after (λ p mid on. low_with_log (IsLogLine Numbers) (low_log Numbers) (file_at chosen 2) p mid outcome texts_after on) run.0

@@ -71,12 +71,12 @@ resumes_stopped gives at log fault (Err f) mid last before after outcome (inl to
 resumes_stopped gives at log fault (Err f) mid last before after outcome (inr told) is =
     (inr ((let one : f ≡ Memory = cc told in is.0 ∙ ap (λ x. Err x) one)), is.1, is.2)
 
-hub_stopped : (fault : OrFault) (loaded : Result Cells CommandFault) (before after : Streams) (outcome : Result Answer CommandFault)
-    → IsToldOf fault loaded → DrivesAll loaded before after outcome → IsToldOf fault outcome × (after ≡ before)
-hub_stopped fault (Ok loaded) before after outcome (inl told) is = absurd (cc told)
-hub_stopped fault (Ok loaded) before after outcome (inr told) is = absurd (cc told)
-hub_stopped fault (Err f) before after outcome (inl told) is = (inl ((let one : f ≡ (Instance fault) = cc told in is.0 ∙ ap (λ x. Err x) one)), is.1)
-hub_stopped fault (Err f) before after outcome (inr told) is = (inr ((let one : f ≡ Memory = cc told in is.0 ∙ ap (λ x. Err x) one)), is.1)
+hub_stopped : (manner : Manner) (fault : OrFault) (loaded : Result Cells CommandFault) (before after : Streams) (outcome : Result Answer CommandFault)
+    → IsToldOf fault loaded → DrivesAll manner loaded before after outcome → IsToldOf fault outcome × (after ≡ before)
+hub_stopped manner fault (Ok loaded) before after outcome (inl told) is = absurd (cc told)
+hub_stopped manner fault (Ok loaded) before after outcome (inr told) is = absurd (cc told)
+hub_stopped manner fault (Err f) before after outcome (inl told) is = (inl ((let one : f ≡ (Instance fault) = cc told in is.0 ∙ ap (λ x. Err x) one)), is.1)
+hub_stopped manner fault (Err f) before after outcome (inr told) is = (inr ((let one : f ≡ Memory = cc told in is.0 ∙ ap (λ x. Err x) one)), is.1)
 
 module _ (content : List ℕ → Result (List ℕ) CommandFault) (path text : List ℕ) (name : Option (List ℕ)) (fault : OrFault)
     (is : content path ≡ Ok text) (first : IsFirstInstanceFault text name fault) where
@@ -116,11 +116,11 @@ module _ (content : List ℕ → Result (List ℕ) CommandFault) (path text : Li
       (end.0 ∙ one.0 ∙ on.is.is.1 ∙ given.1, end.1)
   cells_refused plan plans (Err f) mid outcome asked given on = absurd (let both : Err f ≡ Ok text = given.1.0 ∙ is in cc both)
 
-  pub hub_first : (plan : List ℕ) (plans : List (List ℕ)) (before after : Streams) (outcome : Result Answer CommandFault) (asked : List (List ℕ))
-      → RunsHub (Shelf content) path name (plan ∷ plans) [] before outcome asked after → IsInstanceTold path fault outcome asked × (after ≡ before)
-  hub_first plan plans before after outcome asked run =
+  pub hub_first : (manner : Manner) (plan : List ℕ) (plans : List (List ℕ)) (before after : Streams) (outcome : Result Answer CommandFault) (asked : List (List ℕ))
+      → RunsHub (Shelf content) manner path name (plan ∷ plans) [] before outcome asked after → IsInstanceTold path fault outcome asked × (after ≡ before)
+  hub_first manner plan plans before after outcome asked run =
       let loaded = cells_refused plan plans run.loads.came run.loads.mid run.loaded asked run.loads.is run.loads.goes_on in
-      let end = hub_stopped fault run.loaded before after outcome loaded.1 run.drives in
+      let end = hub_stopped manner fault run.loaded before after outcome loaded.1 run.drives in
       ((loaded.0, end.0), end.1)
 
 module _ (content : List ℕ → Result (List ℕ) CommandFault) (pair : PairOfFiles) (text : List ℕ) (fault : OrFault)

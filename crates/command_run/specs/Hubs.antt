@@ -1,29 +1,39 @@
 -- What driving the cells of several plans comes to.
-use Rattle.std.specs.Prelude.{◌≡◌, List, Bool, Result, Ok, Err}
+use Rattle.std.specs.Prelude.{◌≡◌, List, Bool, true, false, Result, Ok, Err}
 use Rattle.plan_verifier.specs.Accepted.{VerifiedPlan}
 use Rattle.cell_drive.specs.declared.many_runs.HubEnd.{HubEnd}
 use Rattle.byte_streams.specs.declared.drive_fault.DriveFault.{DriveFault}
+use Rattle.cell_drive.specs.declared.manner.Manner.{Manner}
+use Rattle.cell_drive.specs.StatedCells.{AreStatedDrives}
 pub use Rattle.cell_drive.specs.ManyRuns.{AreDrives}
 use Rattle.command_answers.specs.declared.answer.Answer.{Answer}
 use Rattle.command_answers.specs.declared.cells.Cells.{Cells}
 use Rattle.command_answers.specs.declared.cells.Cells.TheVariants.{Accepted, Line}
 use Rattle.command_answers.specs.declared.command_fault.CommandFault.{CommandFault}
 use Rattle.command_run.specs.Streams.{Streams}
-use Rattle.command_run.specs.Drives.{IsEndAnswer}
+use Rattle.command_run.specs.Drives.{IsEndAnswer, is_plain}
 
 -- whether all runs have ended
 abbrev pub end_of_hub : Result HubEnd DriveFault → Result Bool DriveFault
 end_of_hub (Ok end) = Ok end.all_done
 end_of_hub (Err fault) = Err fault
 
--- the cells were driven, and the status says whether all their runs have ended
-pub record DrivesCells (cells : List VerifiedPlan) (before after : Streams) (outcome : Result Answer CommandFault) : Type 0 where
+-- the cells were driven as ever, or in this manner
+abbrev pub DriveBy : Bool → Manner → List VerifiedPlan → Streams → Streams → Result HubEnd DriveFault → Type 0
+DriveBy true manner cells before after end = AreDrives cells before after end
+DriveBy false manner cells before after end = AreStatedDrives cells manner before after end
+
+abbrev pub AreDrivesIn : Manner → List VerifiedPlan → Streams → Streams → Result HubEnd DriveFault → Type 0
+AreDrivesIn manner = DriveBy (is_plain manner) manner
+
+-- the cells were driven in this manner, and the status says whether all their runs have ended
+pub record DrivesCells (manner : Manner) (cells : List VerifiedPlan) (before after : Streams) (outcome : Result Answer CommandFault) : Type 0 where
   pub end : Result HubEnd DriveFault
-  pub are : AreDrives cells before after end
+  pub are : AreDrivesIn manner cells before after end
   pub answer : IsEndAnswer (end_of_hub end) outcome
 
--- what follows the loading of the plans: accepted ones drive their cells; else the line of the first that isn't is answered, with no byte read or written
-abbrev pub DrivesAll : Result Cells CommandFault → Streams → Streams → Result Answer CommandFault → Type 0
-DrivesAll (Err fault) before after outcome = (outcome ≡ Err fault) × (after ≡ before)
-DrivesAll (Ok (Line answer)) before after outcome = (outcome ≡ Ok answer) × (after ≡ before)
-DrivesAll (Ok (Accepted cells)) before after outcome = DrivesCells cells.items before after outcome
+-- what follows the loading of the plans: accepted ones drive their cells in this manner; else the line of the first that isn't is answered, with no byte read or written
+abbrev pub DrivesAll : Manner → Result Cells CommandFault → Streams → Streams → Result Answer CommandFault → Type 0
+DrivesAll manner (Err fault) before after outcome = (outcome ≡ Err fault) × (after ≡ before)
+DrivesAll manner (Ok (Line answer)) before after outcome = (outcome ≡ Ok answer) × (after ≡ before)
+DrivesAll manner (Ok (Accepted cells)) before after outcome = DrivesCells manner cells.items before after outcome

@@ -60,7 +60,7 @@ use Rattle.command_run.specs.Improvers.{AsksOne, ImprovesPlan, AsksOneForRest, I
 use Rattle.command_run.specs.Pictures.{IsPictureOut, Draws, RunsPicture}
 use Rattle.command_run.specs.Drives.{IsDriveIn, DrivesCell}
 use Rattle.command_run.specs.Resumes.{IsResume, ResumesText, IsTaking}
-use Rattle.command_run.specs.Hubs.{AreDrives, DrivesCells}
+use Rattle.command_run.specs.Hubs.{AreDrivesIn, DrivesCells}
 use Rattle.command_run.specs.Ending.{WasTold, IsLineOut, IsOfText}
 use Rattle.command_run.specs.Program.{RunsDrive, RunsResume, RunsHub, RunsProgram, RunsCommand, file_at, manner_in, name_in, pair_in, plans_in}
 
@@ -145,7 +145,7 @@ LogDrawsInstanceFirst = (log : List ℕ) → TellsInstanceFirstUnread (λ gives 
 
 -- of any number of plans
 abbrev pub HubTellsInstanceFirst : Type 0
-HubTellsInstanceFirst = (plans : List (List ℕ)) → TellsInstanceFirstUnread (λ gives pair. RunsHub gives pair.path pair.name (pair.plan ∷ plans))
+HubTellsInstanceFirst = (manner : Manner) (plans : List (List ℕ)) → TellsInstanceFirstUnread (λ gives pair. RunsHub gives manner pair.path pair.name (pair.plan ∷ plans))
 
 -- ---- what good files are answered by, where they don't change
 
@@ -266,14 +266,14 @@ TellAcceptedPlans content instance name (path ∷ paths) (p ∷ plans) = TellsAc
 TellAcceptedPlans content instance name paths plans = ⊥
 
 -- the cells of these plans were driven
-abbrev pub DrivesPlans : List PlannedShop → Streams → Streams → Result Answer CommandFault → Type 0
-DrivesPlans plans before after outcome = (cells : List VerifiedPlan) × (map (λ (v : VerifiedPlan). v.planned) cells ≡ plans) × DrivesCells cells before after outcome
+abbrev pub DrivesPlans : Manner → List PlannedShop → Streams → Streams → Result Answer CommandFault → Type 0
+DrivesPlans manner plans before after outcome = (cells : List VerifiedPlan) × (map (λ (v : VerifiedPlan). v.planned) cells ≡ plans) × DrivesCells manner cells before after outcome
 
 -- `hub`: where all plans are accepted, their cells are driven, with exactly these files asked for, unless memory runs out before, with no byte read or written
 abbrev pub HubDrivesPlans : Type 0
-HubDrivesPlans = (before after : Streams) (content : List ℕ → Result (List ℕ) CommandFault) (path instance : List ℕ) (name : Option (List ℕ)) (files : List (List ℕ)) (plans : List PlannedShop) (outcome : Result Answer CommandFault) (asked : List (List ℕ))
-    → content path ≡ Ok instance → TellAcceptedPlans content instance name files plans → RunsHub (Shelf content) path name files [] before outcome asked after
-    → ((asked ≡ path ∷ files) × DrivesPlans plans before after outcome) ⊎ ((outcome ≡ Err Memory) × (after ≡ before))
+HubDrivesPlans = (manner : Manner) (before after : Streams) (content : List ℕ → Result (List ℕ) CommandFault) (path instance : List ℕ) (name : Option (List ℕ)) (files : List (List ℕ)) (plans : List PlannedShop) (outcome : Result Answer CommandFault) (asked : List (List ℕ))
+    → content path ≡ Ok instance → TellAcceptedPlans content instance name files plans → RunsHub (Shelf content) manner path name files [] before outcome asked after
+    → ((asked ≡ path ∷ files) × DrivesPlans manner plans before after outcome) ⊎ ((outcome ≡ Err Memory) × (after ≡ before))
 
 -- the whole input was read, and is answered by the line of the shop's facts; no answer is given only where a read failed or memory ran out
 abbrev pub IsInputAnswered : JobShop → Result Answer CommandFault → Input → Type 0
@@ -325,10 +325,10 @@ pub record IsNumberedLine (number : ℕ) (p : PlannedShop) (answer : Answer) : T
 
 -- `hub`: the first plan that isn't accepted is answered by its number and the line of `check`, with no further file asked for and no byte read or written
 abbrev pub HubAnswersByCheck : Type 0
-HubAnswersByCheck = (before after : Streams) (content : List ℕ → Result (List ℕ) CommandFault) (path instance : List ℕ) (name : Option (List ℕ)) (files : List (List ℕ)) (plans : List PlannedShop)
+HubAnswersByCheck = (manner : Manner) (before after : Streams) (content : List ℕ → Result (List ℕ) CommandFault) (path instance : List ℕ) (name : Option (List ℕ)) (files : List (List ℕ)) (plans : List PlannedShop)
     (file : List ℕ) (p : PlannedShop) (others : List (List ℕ)) (outcome : Result Answer CommandFault) (asked : List (List ℕ))
     → content path ≡ Ok instance → TellAcceptedPlans content instance name files plans → TellsPlanOf content instance name file p → (IsWellShaped p → IsAcceptable p → ⊥)
-    → RunsHub (Shelf content) path name (files ++ file ∷ others) [] before outcome asked after
+    → RunsHub (Shelf content) manner path name (files ++ file ∷ others) [] before outcome asked after
     → IsAnswered (IsNumberedLine (length files) p) (path ∷ (files ++ file ∷ [])) outcome asked × (after ≡ before)
 
 -- ---- that a driven cell writes the same
@@ -428,14 +428,14 @@ module _ {W : Type 0} (gives : W → List ℕ → Result (List ℕ) CommandFault
     pub is : IsResume taken before after end
 
   -- all plans are accepted, and their cells were driven to this end or up to this fault
-  pub record DroveCells (path : List ℕ) (name : Option (List ℕ)) (plans : List (List ℕ)) (texts : W) (before after : Streams) : Type 0 where
+  pub record DroveCells (manner : Manner) (path : List ℕ) (name : Option (List ℕ)) (plans : List (List ℕ)) (texts : W) (before after : Streams) : Type 0 where
     pub cells : List VerifiedPlan
     pub loaded : Result Cells CommandFault
     pub later : W
     pub loads : LoadsCells gives path name plans texts loaded later
     pub accepted : AreAccepted cells loaded
     pub end : Result HubEnd DriveFault
-    pub are : AreDrives cells before after end
+    pub are : AreDrivesIn manner cells before after end
 
   -- a picture was written, or its first bytes up to a write that failed
   pub record DrewPicture (comes : W → Result Drawn CommandFault → W → Type 0) (texts : W) (before after : Streams) : Type 0 where
@@ -450,7 +450,7 @@ module _ {W : Type 0} (gives : W → List ℕ → Result (List ℕ) CommandFault
   WereDriven name chosen texts before after = (after.output ≡ before.output)
       ⊎ (((name ≡ Drive) × DroveCell (manner_in chosen) (pair_in chosen) texts before after)
       ⊎ (((name ≡ Resume) × DroveOn chosen.at (pair_in chosen) (file_at chosen 2) texts before after)
-      ⊎ (((name ≡ Hub) × DroveCells (file_at chosen 0) (name_in chosen) (plans_in chosen) texts before after)
+      ⊎ (((name ≡ Hub) × DroveCells (manner_in chosen) (file_at chosen 0) (name_in chosen) (plans_in chosen) texts before after)
       ⊎ (((name ≡ Schedule) × DrewPicture (DrawsSchedule gives (pair_in chosen)) texts before after)
       ⊎ ((name ≡ Gantt) × DrewPicture (DrawsLog gives (pair_in chosen) (file_at chosen 2)) texts before after)))))
 

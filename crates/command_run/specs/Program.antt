@@ -58,7 +58,7 @@ abbrev pub is_second : Option ℕ → Bool
 is_second None = false
 is_second (Some version) = version == 2
 
--- the manner in which a cell is driven
+-- the manner in which cells are driven
 abbrev pub manner_in : Chosen → Manner
 manner_in chosen = record { tells = is_second chosen.lines; longest = chosen.leap; from = 0 }
 
@@ -81,10 +81,10 @@ module _ {W : Type 0} (gives : W → List ℕ → Result (List ℕ) CommandFault
     pub resumes : Resumes gives at log shaped texts_mid before outcome texts_after after
 
   -- all plans are loaded, and then the input is read
-  pub record RunsHub (path : List ℕ) (name : Option (List ℕ)) (plans : List (List ℕ)) (texts : W) (before : Streams) (outcome : Result Answer CommandFault) (texts_after : W) (after : Streams) : Type 0 where
+  pub record RunsHub (manner : Manner) (path : List ℕ) (name : Option (List ℕ)) (plans : List (List ℕ)) (texts : W) (before : Streams) (outcome : Result Answer CommandFault) (texts_after : W) (after : Streams) : Type 0 where
     pub loaded : Result Cells CommandFault
     pub loads : LoadsCells gives path name plans texts loaded texts_after
-    pub drives : DrivesAll loaded before after outcome
+    pub drives : DrivesAll manner loaded before after outcome
 
   -- what each command does
   abbrev pub RunsCommand : CommandName → Chosen → W → Streams → Result Answer CommandFault → W → Streams → Type 0
@@ -111,7 +111,7 @@ module _ {W : Type 0} (gives : W → List ℕ → Result (List ℕ) CommandFault
   RunsCommand Resume chosen texts before outcome texts_after after =
       RunsResume chosen.at (pair_in chosen) (file_at chosen 2) texts before outcome texts_after after
   RunsCommand Hub chosen texts before outcome texts_after after =
-      RunsHub (file_at chosen 0) (name_in chosen) (plans_in chosen) texts before outcome texts_after after
+      RunsHub (manner_in chosen) (file_at chosen 0) (name_in chosen) (plans_in chosen) texts before outcome texts_after after
   RunsCommand Audit chosen texts before outcome texts_after after =
       RunsLog gives Numbers (pair_in chosen) (file_at chosen 2) texts outcome texts_after × (after ≡ before)
   RunsCommand Gantt chosen texts before outcome texts_after after =

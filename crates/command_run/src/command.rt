@@ -85,7 +85,7 @@ fn is_second(version: Option<u64>) -> bool
     }
 }
 
-/// The manner in which a cell is driven.
+/// The manner in which cells are driven.
 fn manner(chosen: &Chosen) -> Manner
     ensures { result ≡ manner_in chosen.now }
 {
@@ -149,7 +149,15 @@ pub(crate) fn command<T: Texts, R: Source, W: Outlet, S: Screen>(
         }
         CommandName::Hub => {
             let plans = &chosen.files.as_slice()[1..];
-            hub_answer(alloc, texts, file(chosen, 0), name(chosen), plans, streams)
+            hub_answer(
+                alloc,
+                texts,
+                file(chosen, 0),
+                name(chosen),
+                plans,
+                manner(chosen),
+                streams,
+            )
         }
         CommandName::Audit => {
             let log = file(chosen, 2);

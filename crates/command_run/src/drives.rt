@@ -31,7 +31,7 @@ impl From<DriveFault> for Told {
 }
 
 /// Whether the lines are of version 1, and no moment leaps.
-fn is_plain(manner: Manner) -> bool
+pub(crate) fn is_plain(manner: Manner) -> bool
     ensures { result ≡ is_plain manner }
 {
     !manner.tells && manner.longest.is_none()

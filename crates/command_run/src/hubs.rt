@@ -1,32 +1,52 @@
 //! The command `hub`.
 
 ghost use Rattle.std.specs.Prelude.{map};
+ghost use Rattle.byte_streams.specs.Lent.{streams_of};
 ghost use Rattle.std.specs.Option.{option_copied};
 ghost use Rattle.std.specs.String.{string_bytes};
-ghost use Rattle.command_run.specs.Hubs.{DrivesCells};
+ghost use Rattle.command_run.specs.Hubs.{AreDrivesIn, DrivesCells};
 ghost use Rattle.command_run.specs.Program.{RunsHub};
 
 use crate::devices::Streams;
-use crate::drives::{Told, ended};
-use cell_drive::{Outlet, Source, drive_hub};
+use crate::drives::{Told, ended, is_plain};
+use cell_drive::{DriveFault, HubEnd, Manner, Outlet, Source, drive_hub, drive_hub_stated};
 use command_answers::{Answered, Cells, Texts, load_cells};
 use plan_verifier::Verified;
 use std::alloc::Global;
 
-/// Loads several plans, and drives their cells if all are accepted; else the line of the first that isn't is answered.
+/// Drives the cells of accepted plans in this manner.
+fn drive_hub_in<R: Source, W: Outlet>(
+    alloc: Global,
+    cells: Vec<Verified>,
+    manner: Manner,
+    reader: &mut R,
+    writer: &mut W,
+) -> Result<HubEnd, DriveFault>
+    ensures { AreDrivesIn manner cells.items (streams_of R.Source W.Sink W.pending reader.old writer.old)
+        (streams_of R.Source W.Sink W.pending reader.new writer.new) result }
+{
+    if is_plain(manner) {
+        drive_hub(alloc, cells, reader, writer)
+    } else {
+        drive_hub_stated(alloc, cells, manner, reader, writer)
+    }
+}
+
+/// Loads several plans, and drives their cells in this manner if all are accepted; else the line of the first that isn't is answered.
 pub(crate) fn hub_answer<T: Texts, R: Source, W: Outlet>(
     alloc: Global,
     texts: &mut T,
     path: &str,
     name: Option<&[u8]>,
     plans: &[String],
+    manner: Manner,
     streams: &mut Streams<R, W>,
 ) -> Answered
-    ensures { RunsHub T.gives path.now (option_copied name.entry) (map string_bytes plans.now)
+    ensures { RunsHub T.gives manner path.now (option_copied name.entry) (map string_bytes plans.now)
         texts.old streams.old result texts.new streams.new }
 {
     match load_cells(alloc, texts, path, name, plans) {
-        Ok(Cells::Accepted(cells)) => drive_cells(alloc, cells, streams),
+        Ok(Cells::Accepted(cells)) => drive_cells(alloc, cells, manner, streams),
         Ok(Cells::Line(answer)) => Ok(answer),
         Err(fault) => Err(fault),
     }
@@ -36,11 +56,18 @@ pub(crate) fn hub_answer<T: Texts, R: Source, W: Outlet>(
 fn drive_cells<R: Source, W: Outlet>(
     alloc: Global,
     cells: Vec<Verified>,
+    manner: Manner,
     streams: &mut Streams<R, W>,
 ) -> Answered
-    ensures { DrivesCells cells.items streams.old streams.new result }
+    ensures { DrivesCells manner cells.items streams.old streams.new result }
 {
-    match drive_hub(alloc, cells, &mut streams.input, &mut streams.output) {
+    match drive_hub_in(
+        alloc,
+        cells,
+        manner,
+        &mut streams.input,
+        &mut streams.output,
+    ) {
         Ok(end) => Ok(ended(alloc, end.all_done)),
         Err(fault) => Err(Told::from(fault).0),
     }

@@ -72,6 +72,10 @@ rest_command name more = plan_command name (option_rule (codes "after") ∷ opti
 abbrev pub driven_rules : List Rule
 driven_rules = option_rule (codes "lines") ∷ option_rule (codes "leap") ∷ []
 
+-- the plans of several cells, and these options
+abbrev pub hub_rules : List Rule
+hub_rules = plans_rule ∷ option_rule (codes "lines") ∷ option_rule (codes "leap") ∷ []
+
 -- a command on an instance, a plan and a log, and what it takes besides
 abbrev pub log_command : Text → List Rule → Shape
 log_command name more = plan_command name (file_rule (codes "LOG") ∷ more)
@@ -93,7 +97,7 @@ described Plan = plan_command (codes "plan") (rounds_rule ∷ [])
 described Improve = plan_command (codes "improve") (option_rule (codes "after") ∷ option_rule (codes "at") ∷ rounds_rule ∷ seed_rule ∷ [])
 described Drive = plan_command (codes "drive") driven_rules
 described Resume = log_command (codes "resume") (option_rule (codes "at") ∷ [])
-described Hub = command (codes "hub") (plans_rule ∷ [])
+described Hub = command (codes "hub") hub_rules
 described Audit = log_command (codes "audit") []
 described Gantt = log_command (codes "gantt") (svg_rule ∷ [])
 

@@ -16,7 +16,7 @@ use Rattle.clap.specs.declared.builder.action.ArgAction.TheVariants.{Set, SetTru
 use Rattle.clap.specs.declared.builder.value_parser.ValueParser.{ValueParser}
 use Rattle.clap.specs.declared.builder.value_parser.ValueParser.TheVariants.{Signed}
 use Rattle.clap.proofs.ValueTestLemmas.{accepts-Accepts}
-use Rattle.command_words.specs.CommandLine.{option_rule, command, command_line, driven_rules, log_command, plan_command, rest_command, described, most_rounds, greatest_seed, plans_rule, rounds_rule, seed_rule, svg_rule}
+use Rattle.command_words.specs.CommandLine.{option_rule, command, command_line, driven_rules, hub_rules, log_command, plan_command, rest_command, described, most_rounds, greatest_seed, rounds_rule, seed_rule, svg_rule}
 use Rattle.command_words.specs.Choice.{FitsUpTo, Found, IsFit, TakesFiles, TellsOneOf, TellsReason, files_in, found_in, parse_reasons_in, values_of, word_of}
 use Rattle.command_words.specs.declared.words.CommandName.{CommandName}
 use Rattle.command_words.specs.declared.words.CommandName.TheVariants.{Facts, Shape as ShapeName, Check, Explain, Schedule, Bounds, Plan, Improve, Drive, Resume, Hub, Audit, Gantt}
@@ -294,12 +294,21 @@ improvement_fits = fits_leaf (as_built (described Improve)) Improve one one none
 )
     (_, refl, refl, refl, refl, refl) (_, refl, refl, refl, refl, refl) refl refl refl (λ x y z p q r. omega arith)
 
-hub_fits : FitsLeaf (as_built (command (codes "hub") (plans_rule ∷ [])))
-hub_fits = fits_leaf (as_built (command (codes "hub") (plans_rule ∷ []))) Hub one several none refl refl refl (
+hub_fits : FitsLeaf (as_built (command (codes "hub") hub_rules))
+hub_fits = fits_leaf (as_built (command (codes "hub") hub_rules)) Hub one several none refl refl refl (
   set_plain _ _ refl refl refl refl,
   (
     set_plain _ _ refl refl refl refl,
-    (record { own = refl; kind = inl (record { missing = refl; action = inr (inl refl); defaults = inl refl }) }, (help_plain _ _ refl refl refl refl, tt)),
+    (
+      record { own = refl; kind = inl (record { missing = refl; action = inr (inl refl); defaults = inl refl }) },
+      (
+        set_plain _ _ refl refl refl refl,
+        (
+          set_plain _ _ refl refl refl refl,
+          (help_plain _ _ refl refl refl refl, tt),
+        ),
+      ),
+    ),
   ),
 )
     (_, refl, refl, refl, refl, refl) (_, refl, refl, refl) refl tt tt (λ x y z p q r. omega arith)

@@ -1,6 +1,6 @@
 //! The command line as `clap` gets it, one command in each function.
 
-ghost use Rattle.std.specs.Prelude.{◌≡◌, IfOk, [], false, codes};
+ghost use Rattle.std.specs.Prelude.{◌≡◌, IfOk, [], ◌∷◌, false, codes};
 ghost use Rattle.clap.specs.Words.{rule_of};
 ghost use Rattle.command_words.specs.CommandLine.{Describes, bare_program, command, command_line, described, file_rule, leaf, log_command, option_rule, plan_command, plans_rule, program_with, rest_command, rounds_rule, seed_rule, svg_rule};
 
@@ -194,12 +194,20 @@ fn improvement<'a>(alloc: Global) -> Result<Command<'a>, AllocError>
     search.arg(seed(alloc))
 }
 
+/// A command on an instance and several plans.
+fn on_plans<'a>(alloc: Global, name: &'a str, about: &'a str) -> Result<Command<'a>, AllocError>
+    ensures { IfOk result (Describes (leaf (command name.entry.now (plans_rule ∷ [])))) }
+{
+    on_instance(alloc, name, about)?.arg(plans(alloc))
+}
+
 /// The cells of several plans.
 fn hub<'a>(alloc: Global) -> Result<Command<'a>, AllocError>
     ensures { IfOk result (Describes (leaf (described CommandName.Hub))) }
 {
     let about = "Drives several cells at once, one for each plan";
-    on_instance(alloc, "hub", about)?.arg(plans(alloc))
+    let several = on_plans(alloc, "hub", about)?.arg(lines(alloc))?;
+    several.arg(leap(alloc))
 }
 
 /// One driven cell.

@@ -56,7 +56,7 @@ pub returns-clause-resume : goal.returns-clause-resume
 returns-clause-resume c = λ at before after content pair log text p outcome asked good shaped is run. good_resume content pair p good at before after log text outcome asked shaped is run
 
 pub returns-clause-hub : goal.returns-clause-hub
-returns-clause-hub c = λ before after content path instance name files plans outcome asked is good run. good_hub content instance name path files plans before after outcome asked is good run
+returns-clause-hub c = λ manner before after content path instance name files plans outcome asked is good run. good_hub content instance name manner path files plans before after outcome asked is good run
 
 pub returns-clause-input : goal.returns-clause-input
 returns-clause-input c = λ before after text description shop outcome given few tells run. good_input before after text description shop outcome given few tells run

@@ -47,4 +47,4 @@ pub returns-clause-resume : goal.returns-clause-resume
 returns-clause-resume c = λ at log before after content pair text fault outcome asked is first run. resume_first content pair text fault is first at log before after outcome asked run
 
 pub returns-clause-hub : goal.returns-clause-hub
-returns-clause-hub c = λ plans before after content pair text fault outcome asked is first run. hub_first content pair.path text pair.name fault is first pair.plan plans before after outcome asked run
+returns-clause-hub c = λ manner plans before after content pair text fault outcome asked is first run. hub_first content pair.path text pair.name fault is first manner pair.plan plans before after outcome asked run

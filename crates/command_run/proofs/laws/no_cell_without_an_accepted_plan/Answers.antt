@@ -13,5 +13,5 @@ returns-clause-resume c = λ at before after content pair log text p told outcom
     no_resume content pair p good at text told well tells events not_past no_plan log before after outcome asked is run
 
 pub returns-clause-hub : goal.returns-clause-hub
-returns-clause-hub c = λ before after content path instance name files plans file p others outcome asked is good told never run.
-    no_hub content instance name file p others told never path files plans before after outcome asked is good run
+returns-clause-hub c = λ manner before after content path instance name files plans file p others outcome asked is good told never run.
+    no_hub content instance name file p others told never manner path files plans before after outcome asked is good run
