@@ -7,7 +7,6 @@ use Rattle.shop_base.specs.Plan.{ShopPlan, PlannedShop, IsWellShaped}
 use Rattle.shop_base.specs.Run.{IsRun}
 use Rattle.shop_base.proofs.Cycles.{ranks_exclude_cycle}
 use Rattle.shop_base.proofs.Refusals.{shape_fault_refutes}
-use Rattle.text_lines.specs.Lines.{ended_lines}
 use Rattle.orlib_read.specs.declared.named.Named.{Named}
 use Rattle.text_lines.specs.Lines.{ended_lines}
 use Rattle.alt_graph.specs.Times.{AreRanks, rank_of}
