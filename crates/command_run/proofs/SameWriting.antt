@@ -13,25 +13,29 @@ use Rattle.cell_drive.specs.declared.manner.Manner.{Manner}
 use Rattle.cell_drive.specs.declared.one_run.DriveEnd.{DriveEnd}
 use Rattle.byte_streams.specs.declared.drive_fault.DriveFault.{DriveFault}
 use Rattle.byte_streams.specs.declared.drive_fault.DriveFault.TheVariants.{Read as NotRead, Write as NotWritten, InputTooLong as TooLong, Memory as WantOfMemory}
+use Rattle.byte_streams.specs.declared.rooms.TheConstants.{MAX_PIECE}
+use Rattle.byte_streams.specs.Lines.{input_lines}
+use Rattle.byte_streams.specs.Streams.{IsStreamed}
 use Rattle.run_log.specs.Log.{Noted}
 use Rattle.cell_drive.specs.AnswerText.{DrivenCell, IsAnswerText}
-use Rattle.cell_drive.specs.OneCell.{seen}
-use Rattle.cell_drive.specs.Manners.{plain_from}
-use Rattle.cell_drive.specs.OneRun.{IsSoFar}
-use Rattle.cell_drive.proofs.OneRun.{driven_text}
+use Rattle.cell_drive.specs.OneCell.{DriveState, DriveAnswer, DriveCloses, drive_start, seen}
+use Rattle.cell_drive.specs.OneRun.{IsEndOf, IsSoFar, IsStreamedFrom}
+use Rattle.cell_drive.specs.Stated.{StatedAnswer, StatedCloses, IsStatedDrive, IsStatedText, stated_start}
+use Rattle.cell_drive.proofs.OneRun.{driven_text, seen_closes}
 use Rattle.cell_drive.proofs.OneText.{one_answer_text}
+use Rattle.cell_drive.proofs.OneStated.{one_stated_text, a_stated_cell_answers_so}
 use Rattle.command_words.specs.declared.words.Chosen.{Chosen}
 use Rattle.command_words.specs.declared.words.CommandName.{CommandName}
 use Rattle.command_words.specs.declared.words.CommandName.TheVariants.{Input, Facts, Shape, Check, Explain, Schedule, Bounds, Plan, Improve, Drive, Resume, Hub, Audit, Gantt}
 use Rattle.command_words.specs.declared.words.WordsFault.{WordsFault}
 use Rattle.command_words.specs.declared.words.WordsFault.TheVariants.{Usage, Memory as NoWordsMemory}
-use Rattle.command_words.specs.Choice.{word_of, IsChoiceOf, TellsOneOf, found_in}
+use Rattle.command_words.specs.Choice.{word_of, IsChoiceOf, TellsOneOf, found_in, rows_found, lines_in, leap_in}
 use Rattle.command_answers.specs.declared.answer.Answer.{Answer}
 use Rattle.command_answers.specs.declared.command_fault.CommandFault.{CommandFault}
 use Rattle.command_answers.specs.declared.command_fault.CommandFault.TheVariants.{Write, Memory}
 use Rattle.command_answers.specs.Commands.{PairOfFiles}
 use Rattle.command_run.specs.Streams.{Streams, Output, Errors}
-use Rattle.command_run.specs.Drives.{IsDrive, IsEnded, IsEndAnswer, DrivesCell, status_at, end_of_drive}
+use Rattle.command_run.specs.Drives.{IsEnded, IsEndAnswer, DrivesBy, DrivesCell, is_plain, status_at, end_of_drive}
 use Rattle.command_run.specs.Ending.{IsTold, IsPrinted, IsToldAfter, Ends}
 use Rattle.command_run.specs.Program.{AreWordsRead, RunsDrive, RunsCommand, Follows, is_second, manner_in, pair_in}
 use Rattle.command_run.specs.Laws.{Shelf, TellPlan, AskForDrive, RunsWell}
@@ -72,11 +76,14 @@ same_pair words pair chosen ask is =
     ap (λ a. of a (option_map string_bytes chosen.instance) (get_or (map string_bytes chosen.files.items) 1 [])) path
     ∙ ap (λ b. of pair.path b (get_or (map string_bytes chosen.files.items) 1 [])) name ∙ ap (λ c. of pair.path pair.name c) plan
 
--- in version 1 of the lines, and with no moment that leaps
-plain_manner : (words : List (List ℕ)) (pair : PairOfFiles) (chosen : Chosen) → AskForDrive words pair → IsChoiceOf (found_in words) chosen → manner_in chosen ≡ plain_from 0
-plain_manner words pair chosen ask is =
-    ap (λ (v : Option ℕ). record { tells = is_second v; longest = chosen.leap; from = 0 }) (is.lines ∙ ask.lines)
-    ∙ ap (λ (l : Option ℕ). record { tells = false; longest = l; from = 0 }) (is.leap ∙ ask.leap)
+-- the manner that words ask for
+abbrev manner_of : List (List ℕ) → Manner
+manner_of words = record { tells = is_second (lines_in (rows_found (found_in words))); longest = leap_in (rows_found (found_in words)); from = 0 }
+
+same_manner : (words : List (List ℕ)) (chosen : Chosen) → IsChoiceOf (found_in words) chosen → manner_in chosen ≡ manner_of words
+same_manner words chosen is =
+    ap (λ (v : Option ℕ). record { tells = is_second v; longest = chosen.leap; from = 0 }) is.lines
+    ∙ ap (λ (l : Option ℕ). record { tells = is_second (lines_in (rows_found (found_in words))); longest = l; from = 0 }) is.leap
 
 -- ---- the bytes
 
@@ -124,65 +131,122 @@ ended_as done (Ok answer) before after told_before told_after status unfailed is
     (printed.0 ∙ is.1, (answer.text.items, is.0, printed.1))
 ended_as done (Err fault) before after told_before told_after status unfailed is ends = absurd is
 
--- what a good run of `drive` wrote
-record Wrote (p : PlannedShop) (input : List ℕ) (status : ℕ) (written : List ℕ) : Type 0 where
+-- what a good run of `drive` wrote: the answer text of its input, as ever or in this manner
+abbrev IsTextBy : Bool → Manner → PlannedShop → List ℕ → List ℕ → DrivenCell → Type 0
+IsTextBy true manner p input text end = IsAnswerText p input text end
+IsTextBy false manner p input text end = IsStatedText p manner input text end
+
+record Wrote (p : PlannedShop) (manner : Manner) (input : List ℕ) (status : ℕ) (written : List ℕ) : Type 0 where
   pub state : DrivenCell
   pub done : Bool
   pub last : ℕ
   pub left : ℕ
-  pub is_answer_text : IsAnswerText p input written state
+  pub is_text : IsTextBy (is_plain manner) manner p input written state
   pub so_far : IsSoFar p state.entries done last left
   pub own : status ≡ status_at done
 
+-- what was written in a manner is the answer text of what was read
+stated_text : (v : VerifiedPlan) (manner : Manner) (end : DriveEnd) (before after : Streams) (is : IsStatedDrive v manner before after (Ok end))
+    → IsStatedText v.planned manner is.streamed.input (is.streamed.comes_to.text ++ is.streamed.comes_to.closing) (seen is.end.driven)
+stated_text v manner end before after is =
+    let all = is.streamed.comes_to in
+    let answers = a_stated_cell_answers_so (stated_start manner v) is.end 1 (input_lines is.streamed.input) all.text all.are_answers in
+    record {
+      answers = all.text;
+      are_answers = answers.0;
+      closing = all.closing;
+      is_closing = seen_closes v.planned is.end.driven all.closing (ap (λ (w : VerifiedPlan). w.planned) answers.1) all.is_closing;
+      whole = refl;
+    }
+
 module _ (content : List ℕ → Result (List ℕ) CommandFault) (words : List (List ℕ)) (p : PlannedShop) (input : List ℕ) (few : length input ≤ MAX_INPUT)
     (status : ℕ) (written : List ℕ) (well : RunsWell content words input status written) where
-  drive_wrote : (v : VerifiedPlan) (mid : Streams) (outcome : Result Answer CommandFault) (end : Result DriveEnd DriveFault) → v.planned ≡ p → IsDrive v well.before.streams mid end
-      → IsEndAnswer (end_of_drive end) outcome → well.after.streams.input ≡ mid.input → Ends outcome mid.output well.after.streams.output well.before.errors well.after.errors status → Wrote p input status written
-  drive_wrote v mid outcome (Ok end) same is answer same_input ends =
+  -- all was read and written, whoever answers the lines
+  module _ {S : Type 0} (answers : S → ℕ → Option (List ℕ) → List ℕ → S → Type 0) (closes : S → List ℕ → Type 0) (start last : S) (mid : Streams) (outcome : Result Answer CommandFault)
+      (same_input : well.after.streams.input ≡ mid.input) (ends : Ends outcome mid.output well.after.streams.output well.before.errors well.after.errors status) where
+    ended_well : (end : DriveEnd) (is : IsStreamed (Ok end) MAX_PIECE answers closes start last well.before.streams mid) → IsEndAnswer (end_of_drive (Ok end)) outcome
+        → (is.input ≡ input) × (written ≡ is.comes_to.text ++ is.comes_to.closing) × (status ≡ status_at end.done)
+    ended_well end is answer =
+        let all = is.comes_to in
+        let whole : List ℕ = all.text ++ all.closing in
+        let ended = ended_as end.done outcome mid.output well.after.streams.output well.before.errors well.after.errors status well.was_written answer ends in (
+          all_read well.before.streams.input.left mid.input.left input is.input well.given is.was_read all.at_end,
+          written_is well.before.streams.output.taken mid.output.taken well.after.streams.output.taken well.start written whole ended.1.0 well.empty well.wrote all.written ended.1.2 ended.1.1,
+          ended.0,
+        )
+
+    never_broke : (fault : DriveFault) → IsStreamedFrom {T = DriveEnd} answers closes start (Err fault) last well.before.streams mid → IsEndAnswer (Err fault) outcome → ⊥
+    never_broke NotRead is answer = absurd (let failed : true ≡ false = sym is.comes_to.0 ∙ sym (ap (λ i. i.failed) same_input) ∙ well.was_read in cc failed)
+    never_broke NotWritten is answer =
+        let same_output = write_ends outcome mid.output well.after.streams.output well.before.errors well.after.errors status answer ends in
+        absurd (let failed : true ≡ false = sym is.comes_to.0 ∙ sym (ap (λ (o : Output). o.failed) same_output) ∙ well.was_written in cc failed)
+    never_broke TooLong is answer =
+        let less = fewer well.before.streams.input.left mid.input.left input is.input well.given is.was_read in
+        absurd (omega (arith, less, few, is.comes_to.0))
+    never_broke WantOfMemory is answer = absurd (well.no_want (memory_ends outcome mid.output well.after.streams.output well.before.errors well.after.errors status answer ends))
+
+  so_far_of : (v : VerifiedPlan) (state : DriveState) (end : DriveEnd) → v.planned ≡ p → IsEndOf v state end → IsSoFar p state.log.entries end.done end.last end.left
+  so_far_of v state end same is =
+      subst (λ q. IsSoFar q state.log.entries end.done end.last end.left) same (subst (λ (l : Noted). IsSoFar v.planned l.entries end.done end.last end.left) is.log is.so_far)
+
+  -- as ever, or in a manner
+  drive_wrote : (manner : Manner) (plain : Bool) → is_plain manner ≡ plain → (v : VerifiedPlan) (mid : Streams) (outcome : Result Answer CommandFault) (end : Result DriveEnd DriveFault) → v.planned ≡ p
+      → DrivesBy plain manner v well.before.streams mid end → IsEndAnswer (end_of_drive end) outcome → well.after.streams.input ≡ mid.input
+      → Ends outcome mid.output well.after.streams.output well.before.errors well.after.errors status → Wrote p manner input status written
+  drive_wrote manner true plain v mid outcome (Ok end) same is answer same_input ends =
       let all = is.streamed.comes_to in
       let whole : List ℕ = all.text ++ all.closing in
-      let came : is.streamed.input ≡ input = all_read well.before.streams.input.left mid.input.left input is.streamed.input well.given is.streamed.was_read all.at_end in
-      let ended = ended_as end.done outcome mid.output well.after.streams.output well.before.errors well.after.errors status well.was_written answer ends in
-      let text : written ≡ whole = written_is well.before.streams.output.taken mid.output.taken well.after.streams.output.taken well.start written whole ended.1.0 well.empty well.wrote all.written ended.1.2 ended.1.1 in
+      let ended = ended_well DriveAnswer DriveCloses (drive_start v) is.end mid outcome same_input ends end is.streamed answer in
       let answered : IsAnswerText p is.streamed.input whole (seen is.end) = subst (λ q. IsAnswerText q is.streamed.input whole (seen is.end)) same (driven_text v end well.before.streams mid is) in
-      let so_far : IsSoFar v.planned is.end.log.entries end.done end.last end.left = subst (λ (l : Noted). IsSoFar v.planned l.entries end.done end.last end.left) is.came_to.log is.came_to.so_far in
       record {
         state = seen is.end;
         done = end.done;
         last = end.last;
         left = end.left;
-        is_answer_text = subst (λ xs. IsAnswerText p input xs (seen is.end)) (sym text) (subst (λ xs. IsAnswerText p xs whole (seen is.end)) came answered);
-        so_far = subst (λ q. IsSoFar q is.end.log.entries end.done end.last end.left) same so_far;
-        own = ended.0;
+        is_text = subst (λ (b : Bool). IsTextBy b manner p input written (seen is.end)) (sym plain)
+            (subst (λ xs. IsAnswerText p input xs (seen is.end)) (sym ended.1) (subst (λ xs. IsAnswerText p xs whole (seen is.end)) ended.0 answered));
+        so_far = so_far_of v is.end end same is.came_to;
+        own = ended.2;
       }
-  drive_wrote v mid outcome (Err NotRead) same is answer same_input ends =
-      absurd (let failed : true ≡ false = sym is.streamed.comes_to.0 ∙ sym (ap (λ i. i.failed) same_input) ∙ well.was_read in cc failed)
-  drive_wrote v mid outcome (Err NotWritten) same is answer same_input ends =
-      let same_output = write_ends outcome mid.output well.after.streams.output well.before.errors well.after.errors status answer ends in
-      absurd (let failed : true ≡ false = sym is.streamed.comes_to.0 ∙ sym (ap (λ (o : Output). o.failed) same_output) ∙ well.was_written in cc failed)
-  drive_wrote v mid outcome (Err TooLong) same is answer same_input ends =
-      let less = fewer well.before.streams.input.left mid.input.left input is.streamed.input well.given is.streamed.was_read in
-      absurd (omega (arith, less, few, is.streamed.comes_to.0))
-  drive_wrote v mid outcome (Err WantOfMemory) same is answer same_input ends =
-      absurd (well.no_want (memory_ends outcome mid.output well.after.streams.output well.before.errors well.after.errors status answer ends))
+  drive_wrote manner false plain v mid outcome (Ok end) same is answer same_input ends =
+      let all = is.streamed.comes_to in
+      let whole : List ℕ = all.text ++ all.closing in
+      let ended = ended_well StatedAnswer StatedCloses (stated_start manner v) is.end mid outcome same_input ends end is.streamed answer in
+      let answered : IsStatedText p manner is.streamed.input whole (seen is.end.driven) =
+      subst (λ q. IsStatedText q manner is.streamed.input whole (seen is.end.driven)) same (stated_text v manner end well.before.streams mid is) in
+      record {
+        state = seen is.end.driven;
+        done = end.done;
+        last = end.last;
+        left = end.left;
+        is_text = subst (λ (b : Bool). IsTextBy b manner p input written (seen is.end.driven)) (sym plain)
+            (subst (λ xs. IsStatedText p manner input xs (seen is.end.driven)) (sym ended.1) (subst (λ xs. IsStatedText p manner xs whole (seen is.end.driven)) ended.0 answered));
+        so_far = so_far_of v is.end.driven end same is.came_to;
+        own = ended.2;
+      }
+  drive_wrote manner true plain v mid outcome (Err fault) same is answer same_input ends =
+      absurd (never_broke DriveAnswer DriveCloses (drive_start v) is.end mid outcome same_input ends fault is.streamed answer)
+  drive_wrote manner false plain v mid outcome (Err fault) same is answer same_input ends =
+      absurd (never_broke StatedAnswer StatedCloses (stated_start manner v) is.end mid outcome same_input ends fault is.streamed answer)
 
-  cell_wrote : (mid : Streams) (outcome : Result Answer CommandFault) → ((v : VerifiedPlan) × (v.planned ≡ p) × DrivesCell (plain_from 0) v well.before.streams mid outcome) ⊎ (outcome ≡ Err Memory) → well.after.streams.input ≡ mid.input
-      → Ends outcome mid.output well.after.streams.output well.before.errors well.after.errors status → Wrote p input status written
-  cell_wrote mid outcome (inl (v, same, cell)) same_input ends = drive_wrote v mid outcome cell.end same cell.is cell.answer same_input ends
-  cell_wrote mid outcome (inr none) same_input ends =
+  cell_wrote : (manner : Manner) (mid : Streams) (outcome : Result Answer CommandFault) → ((v : VerifiedPlan) × (v.planned ≡ p) × DrivesCell manner v well.before.streams mid outcome) ⊎ (outcome ≡ Err Memory)
+      → well.after.streams.input ≡ mid.input → Ends outcome mid.output well.after.streams.output well.before.errors well.after.errors status → Wrote p manner input status written
+  cell_wrote manner mid outcome (inl (v, same, cell)) same_input ends = drive_wrote manner (is_plain manner) refl v mid outcome cell.end same cell.is cell.answer same_input ends
+  cell_wrote manner mid outcome (inr none) same_input ends =
       absurd (well.no_want (memory_ends outcome mid.output well.after.streams.output well.before.errors well.after.errors status none ends))
 
   follows_wrote : (pair : PairOfFiles) (read : Result Chosen WordsFault) → AskForDrive words pair → TellPlan content pair p → IsWellShaped p → IsAcceptable p → AreWordsRead words read
-      → Follows (Shelf content) read well.before status well.after → Wrote p input status written
+      → Follows (Shelf content) read well.before status well.after → Wrote p (manner_of words) input status written
   follows_wrote pair (Ok chosen) ask good shaped acceptable are follows =
       let name = is_drive chosen.name (are.chosen.name ∙ ask.drive) in
+      let manner = manner_of words in
       let runs : RunsDrive (Shelf content) (manner_in chosen) (pair_in chosen) well.before.texts well.before.streams follows.outcome well.after.texts follows.mid =
       subst (λ n. RunsCommand (Shelf content) n chosen well.before.texts well.before.streams follows.outcome well.after.texts follows.mid) name follows.runs in
-      let drive : RunsDrive (Shelf content) (plain_from 0) pair [] well.before.streams follows.outcome well.after.texts follows.mid =
-      subst (λ (q : PairOfFiles). RunsDrive (Shelf content) (plain_from 0) q [] well.before.streams follows.outcome well.after.texts follows.mid) (same_pair words pair chosen ask are.chosen)
-      (subst (λ (m : Manner). RunsDrive (Shelf content) m (pair_in chosen) [] well.before.streams follows.outcome well.after.texts follows.mid) (plain_manner words pair chosen ask are.chosen)
+      let drive : RunsDrive (Shelf content) manner pair [] well.before.streams follows.outcome well.after.texts follows.mid =
+      subst (λ (q : PairOfFiles). RunsDrive (Shelf content) manner q [] well.before.streams follows.outcome well.after.texts follows.mid) (same_pair words pair chosen ask are.chosen)
+      (subst (λ (m : Manner). RunsDrive (Shelf content) m (pair_in chosen) [] well.before.streams follows.outcome well.after.texts follows.mid) (same_manner words chosen are.chosen)
       (subst (λ (asked : List (List ℕ)). RunsDrive (Shelf content) (manner_in chosen) (pair_in chosen) asked well.before.streams follows.outcome well.after.texts follows.mid) well.unasked runs)) in
-      cell_wrote follows.mid follows.outcome (driven_or_not (good_drive content pair p good (plain_from 0) well.before.streams follows.mid follows.outcome well.after.texts shaped acceptable drive)) follows.input follows.ends
+      cell_wrote manner follows.mid follows.outcome (driven_or_not (good_drive content pair p good manner well.before.streams follows.mid follows.outcome well.after.texts shaped acceptable drive)) follows.input follows.ends
   follows_wrote pair (Err (Usage help text)) ask good shaped acceptable are follows =
       absurd (let told = subst (λ kinds. TellsOneOf kinds (Usage help text)) ask.taken are.refused in told.1)
   follows_wrote pair (Err NoWordsMemory) ask good shaped acceptable are follows = absurd (well.no_want (memory_status well.before.errors well.after.errors status follows.0.1))
@@ -195,10 +259,15 @@ same_truth true false there back = absurd (let bad : false ≡ true = there refl
 same_truth false true there back = absurd (let bad : false ≡ true = back refl in cc bad)
 same_truth false false there back = refl
 
-wrote_the_same : (p : PlannedShop) (input : List ℕ) (status other_status : ℕ) (written other : List ℕ) → IsWellShaped p → Wrote p input status written → Wrote p input other_status other
+one_text_by : (plain : Bool) (manner : Manner) (p : PlannedShop) (input text other : List ℕ) (end last : DrivenCell) → IsWellShaped p → IsTextBy plain manner p input text end → IsTextBy plain manner p input other last
+    → (other ≡ text) × (last ≡ end)
+one_text_by true manner p input text other end last shaped is also = one_answer_text p input text other end last shaped is also
+one_text_by false manner p input text other end last shaped is also = one_stated_text p manner input text other end last shaped is also
+
+wrote_the_same : (p : PlannedShop) (manner : Manner) (input : List ℕ) (status other_status : ℕ) (written other : List ℕ) → IsWellShaped p → Wrote p manner input status written → Wrote p manner input other_status other
     → (other_status ≡ status) × (other ≡ written)
-wrote_the_same p input status other_status written other shaped one two =
-    let same = one_answer_text p input written other _ _ shaped one.is_answer_text two.is_answer_text in
+wrote_the_same p manner input status other_status written other shaped one two =
+    let same = one_text_by (is_plain manner) manner p input written other _ _ shaped one.is_text two.is_text in
     let entries : two.state.entries ≡ one.state.entries = ap (λ (d : DrivenCell). d.entries) same.1 in
     let counted : IsTrue two.done ↔ (reports_in (events_of one.state.entries) ≡ stated_number p) = subst (λ es. IsTrue two.done ↔ (reports_in (events_of es) ≡ stated_number p)) entries two.so_far.counted in
     let done : two.done ≡ one.done = same_truth one.done two.done (λ yet. counted.1 (one.so_far.counted.0 yet)) (λ yet. one.so_far.counted.1 (counted.0 yet)) in
@@ -208,6 +277,6 @@ pub drive_writes_the_same : (content : List ℕ → Result (List ℕ) CommandFau
     → AskForDrive words pair → TellPlan content pair p → IsWellShaped p → IsAcceptable p → length input ≤ MAX_INPUT
     → RunsWell content words input status written → RunsWell content words input other_status other → (other_status ≡ status) × (other ≡ written)
 drive_writes_the_same content words pair p input status other_status written other ask good shaped acceptable few one two =
-    wrote_the_same p input status other_status written other shaped
+    wrote_the_same p (manner_of words) input status other_status written other shaped
     (follows_wrote content words p input few status written one pair one.run.read ask good shaped acceptable one.run.is one.run.follows)
     (follows_wrote content words p input few other_status other two pair two.run.read ask good shaped acceptable two.run.is two.run.follows)

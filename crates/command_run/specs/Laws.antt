@@ -22,7 +22,7 @@ use Rattle.cell_drive.specs.declared.rest_run.RestEnd.{RestEnd}
 use Rattle.cell_drive.specs.declared.many_runs.HubEnd.{HubEnd}
 use Rattle.byte_streams.specs.declared.drive_fault.DriveFault.{DriveFault}
 use Rattle.command_words.specs.declared.words.CommandName.TheVariants.{Schedule, Drive, Resume, Hub, Gantt}
-use Rattle.command_words.specs.Choice.{word_of, word_found, rows_found, files_in, instance_in, lines_in, leap_in, reasons_in, found_in, IsChoiceOf, TellsOneOf}
+use Rattle.command_words.specs.Choice.{word_of, word_found, rows_found, files_in, instance_in, reasons_in, found_in, IsChoiceOf, TellsOneOf}
 use Rattle.command_words.specs.declared.words.Chosen.{Chosen}
 use Rattle.command_words.specs.declared.words.CommandName.{CommandName}
 use Rattle.command_words.specs.declared.words.WordsFault.{WordsFault}
@@ -333,12 +333,10 @@ HubAnswersByCheck = (manner : Manner) (before after : Streams) (content : List �
 
 -- ---- that a driven cell writes the same
 
--- the words ask for `drive` with these files, and neither for version 2 of the lines nor for a longest time
+-- the words ask for `drive` with these files
 pub record AskForDrive (words : List (List ℕ)) (pair : PairOfFiles) : Type 0 where
   pub taken : reasons_in words ≡ []
   pub drive : word_found (found_in words) ≡ word_of Drive
-  pub lines : lines_in (rows_found (found_in words)) ≡ None
-  pub leap : leap_in (rows_found (found_in words)) ≡ None
   pub path : pair.path ≡ get_or (files_in (rows_found (found_in words))) 0 []
   pub name : pair.name ≡ instance_in (rows_found (found_in words))
   pub plan : pair.plan ≡ get_or (files_in (rows_found (found_in words))) 1 []

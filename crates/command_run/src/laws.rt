@@ -77,10 +77,9 @@ pub fn no_cell_without_an_accepted_plan()
     ensures hub { HubAnswersByCheck }
 {}
 
-/// Let the words ask for `drive`, without version 2 of the lines and without a longest time, let the files give an
-/// accepted plan, and let the input be within its limit. Then two runs on the same words, files and input write the
-/// same bytes and end with the same status, whatever pieces the input comes in. This holds unless memory runs out or a
-/// read or write fails.
+/// Let the words ask for `drive`, let the files give an accepted plan, and let the input be within its limit. Then two
+/// runs on the same words, files and input write the same bytes and end with the same status, whatever pieces the input
+/// comes in. This holds unless memory runs out or a read or write fails.
 pub fn drive_writes_the_same()
     ensures { DriveWritesTheSame }
 {}
