@@ -1,4 +1,4 @@
-ghost use Rattle.std.specs.Prelude.{◌≡◌, List, ◌+◌, ◌↔◌, max, IfOk, IfErr, OnOk, IsOk, IsTrue};
+ghost use Rattle.std.specs.Prelude.{◌≡◌, List, ◌+◌, ◌↔◌, false, max, IfOk, IfErr, OnOk, IsOk, IsTrue};
 ghost use Rattle.shop_base.specs.Plan.{jobs};
 ghost use Rattle.shop_base.specs.Report.{CanReport};
 ghost use Rattle.shop_base.specs.Run.{Event};
@@ -10,7 +10,7 @@ ghost use Rattle.cell_tables.specs.Reports.{said};
 ghost use Rattle.cell_control.specs.Promises.{IsCalled};
 ghost use Rattle.cell_control.specs.DueMoments.{AreDueMoments};
 ghost use Rattle.cell_tables.specs.Readings.{IsCleanedFor};
-ghost use Rattle.cell_control.specs.Readings.{IsPhaseOf, IsJobOn, IsDueOf, IsDueOfCleaning};
+ghost use Rattle.cell_control.specs.Readings.{IsPhaseOf, IsJobOn, IsDueOf, IsDueOfCleaning, IsOnTime};
 
 use crate::checking::{check_cleaning_after, check_report};
 use crate::due_moments::cleaning_key;
@@ -21,7 +21,7 @@ use crate::releasing::Orders;
 use crate::report::{Ack, Phase};
 use crate::report_fault::ReportFault;
 use crate::reserved::reserve;
-use crate::step::{make_step, still_punctual};
+use crate::step::{is_past_due, make_step, still_punctual};
 use cell_tables::{Report, WorkCell};
 use plan_verifier::Verified;
 use shop_base::{JobNo, MachineNo, Moment, MoveOrder};
@@ -194,6 +194,13 @@ impl<D: Dues> Controller<D> {
         } else {
             None
         }
+    }
+
+    /// Whether something that is going on should have ended before this moment, so that any report would be late.
+    pub fn is_late(&self, at: Moment) -> bool
+        ensures { (result ≡ false) ↔ IsOnTime self.now.plan.planned self.now.cell at }
+    {
+        is_past_due(&self.dues, at)
     }
 
     /// The job after which the machine is being cleaned, the last that was on it; `None` if it isn't being cleaned.

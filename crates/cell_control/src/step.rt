@@ -13,7 +13,7 @@ use crate::ending::end_activity;
 use crate::releasing::{Orders, release_moves};
 use crate::report::Ack;
 use cell_tables::{Report, WorkCell};
-use shop_base::Planned;
+use shop_base::{Moment, Planned};
 
 /// Makes the step of a possible report. The orders of the last one are dropped.
 pub fn make_step<P: Planned, D: Dues>(
@@ -45,8 +45,15 @@ pub fn make_step<P: Planned, D: Dues>(
 fn is_late<D: Dues>(dues: &D, report: Report) -> bool
     ensures { (result ≡ false) ↔ AreDueFrom (D.dues dues.now) (said report).at }
 {
+    is_past_due(dues, report.at())
+}
+
+/// Whether the moment is past a due moment.
+pub(crate) fn is_past_due<D: Dues>(dues: &D, at: Moment) -> bool
+    ensures { (result ≡ false) ↔ AreDueFrom (D.dues dues.now) at }
+{
     match dues.least() {
-        Some(due) => report.at() > due,
+        Some(due) => at > due,
         None => false,
     }
 }

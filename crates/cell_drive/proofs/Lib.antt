@@ -33,8 +33,10 @@ pub mod Stating
 pub mod OneStated
 pub mod StatedTold
 pub mod Plainly
+pub mod Versions
 pub mod TakenOnce
 pub mod LateWords
+pub mod OnTime
 pub mod OneStatedCells
 pub mod StatedHubs
 pub mod StatedAlone

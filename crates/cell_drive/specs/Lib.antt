@@ -23,6 +23,7 @@ pub mod Refusals
 pub mod States
 pub mod Stated
 pub mod StatedLaw
+pub mod VersionsLaw
 pub mod StatedCells
 pub mod StatedCellsLaw
 -- Of proofs and private contracts alone.

@@ -1,10 +1,12 @@
 //! Whether what is claimed is taken, and what the answer says of it.
 
-ghost use Rattle.std.specs.Prelude.{◌≡◌, ◌++◌, OnOk};
+ghost use Rattle.std.specs.Prelude.{◌≡◌, ◌++◌, false, OnOk};
 ghost use Rattle.shop_base.specs.Report.{CanReport};
 ghost use Rattle.cell_tables.specs.Reports.{said};
+ghost use Rattle.cell_control.specs.Readings.{IsOnTime};
 ghost use Rattle.byte_streams.specs.Lent.{WroteTo};
 ghost use Rattle.event_lines.specs.StandingLines.{refused_detail_line};
+ghost use Rattle.event_lines.specs.Requests.{claimed};
 ghost use Rattle.cell_drive.specs.Refusals.{refusal_word};
 ghost use Rattle.cell_drive.specs.Stated.{tells_end, told_overdue};
 ghost use Rattle.cell_drive.specs.Judging.{IsJudged};
@@ -15,7 +17,9 @@ use crate::refusals::{Refusal, refusal_detail, refusal_of, standing_of};
 use crate::states::overdue_in;
 use byte_streams::{Sink, WriteFault};
 use cell_control::{Controller, Dues, Report};
+use cell_tables::WorkCell;
 use event_lines::{Claim, Detail, Overdue, refused_detail_line};
+use shop_base::Planned;
 
 /// What comes of a claim.
 #[derive(Clone, Copy)]
@@ -26,36 +30,54 @@ pub(crate) enum Judged {
     Taken { overdue: Option<Overdue> },
 }
 
-/// What the line says is overdue as the report comes.
-fn told_overdue<D: Dues>(
+/// What the line says is overdue as the report comes. It is looked for only if something is.
+fn told_overdue<P: Planned>(
     manner: Manner,
-    controller: &Controller<D>,
+    cell: &WorkCell<P>,
+    late: bool,
     report: Report,
 ) -> Option<Overdue>
-    requires { CanReport controller.now.plan.planned controller.now.cell (said report) }
-    ensures { result ≡ told_overdue manner controller.now.plan.planned controller.now.cell report }
+    requires possible { CanReport cell.now.plan cell.now.cell (said report) }
+    requires on_time { late ≡ false → IsOnTime cell.now.plan cell.now.cell (said report).at }
+    ensures { result ≡ told_overdue manner cell.now.plan cell.now.cell report }
 {
     if !manner.tells {
         return None;
     }
-    let _plan = controller.verified();
-    let cell = controller.work_cell();
+    if !late {
+        return None;
+    }
+    let _plan = cell.shaped();
     overdue_in(cell, standing_of(cell, report), report.at())
+}
+
+/// What comes of the claim in the cell, of which it is known whether something that is going on should have ended before.
+pub(crate) fn judge_in<P: Planned>(
+    manner: Manner,
+    cell: &WorkCell<P>,
+    late: bool,
+    claim: Claim,
+) -> Judged
+    requires { late ≡ false → IsOnTime cell.now.plan cell.now.cell (said (claimed claim)).at }
+    ensures { IsJudged manner cell.now.plan cell.now.cell claim result }
+{
+    match refusal_of(manner, cell, claim) {
+        Some(refusal) => Judged::Refused {
+            refusal,
+            detail: refusal_detail(manner, cell, claim, refusal),
+        },
+        None => Judged::Taken {
+            overdue: told_overdue(manner, cell, late, claim.report()),
+        },
+    }
 }
 
 /// What comes of the claim. Nothing changes.
 pub(crate) fn judge<D: Dues>(manner: Manner, controller: &Controller<D>, claim: Claim) -> Judged
     ensures { IsJudged manner controller.now.plan.planned controller.now.cell claim result }
 {
-    match refusal_of(manner, controller, claim) {
-        Some(refusal) => Judged::Refused {
-            refusal,
-            detail: refusal_detail(manner, controller, claim, refusal),
-        },
-        None => Judged::Taken {
-            overdue: told_overdue(manner, controller, claim.report()),
-        },
-    }
+    let late = controller.is_late(claim.report().at());
+    judge_in(manner, controller.work_cell(), late, claim)
 }
 
 /// Refuses the line of this number.

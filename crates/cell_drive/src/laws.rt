@@ -11,6 +11,7 @@ ghost use Rattle.cell_drive.specs.AnswerLaw.{ToldAsAnswered};
 ghost use Rattle.cell_drive.specs.CutLaw.{ACutLogIsTakenUp, WhatWasResumedIsTakenUp, WhatWasResumedCanBeTakenUp, ACutLogHasItsOrders, WhatWasDrivenHasItsOrders, ItCanBeTakenUp, ItIsTakenUpWithItsOrders};
 ghost use Rattle.cell_drive.specs.Resuming.{AResumedTextIsALog, AnAuditKeepsWhatWasResumed, OneResumedText, WhatWasResumedIsSuchAText, WhatWasResumedGoesOn};
 ghost use Rattle.cell_drive.specs.StatedCellsLaw.{OneStatedCellsText, OneStatedCellsTextForLines, EachStatedCellIsAlone};
+ghost use Rattle.cell_drive.specs.VersionsLaw.{Version2OnlyAdds};
 ghost use Rattle.cell_drive.specs.StatedLaw.{OneStatedText, AStatedCellAnswersSo, AStatedTextIsALog, PlainlyAsEver, NothingIsTakenTwice, ALateReportFindsSomethingOverdue};
 
 pub use byte_streams::laws::the_limits_of_an_input_in_numbers;
@@ -125,6 +126,13 @@ pub fn each_stated_cell_is_alone()
 /// In version 1 of the lines, and with no moment that leaps, each line is answered as `drive` answers it.
 pub fn plainly_as_ever()
     ensures { PlainlyAsEver }
+{}
+
+/// Lines among which there is neither `status` nor `clean M J T` lead in both versions to the same cell, with the same
+/// events. The answers of version 1 are those of version 2 without what stands after a refusal's name or a late report's
+/// moment, and without the `done` that comes at once.
+pub fn version_2_only_adds()
+    ensures { Version2OnlyAdds }
 {}
 
 /// However often the lines of an arrival, of a finish or of a cleaning after a job are sent to a driven cell, and with

@@ -7,7 +7,7 @@ ghost use Rattle.event_lines.specs.Requests.{claimed};
 ghost use Rattle.cell_drive.specs.Refusals.{CanClaim, IsClaimReason, IsRefusal, IsTaken, claim_leaps, first_refusal, is_before_leap, reason_detail, refusal_detail, refusal_word, standing_of};
 
 use crate::manner::Manner;
-use cell_control::{Controller, Dues, Report, ReportFault};
+use cell_control::{Report, ReportFault, check_cleaning_after, check_report};
 use cell_tables::{Standing, WorkCell};
 use event_lines::{Claim, Detail};
 use shop_base::Planned;
@@ -62,34 +62,34 @@ fn first_refusal(leaps: bool, reason: ReportFault) -> Refusal
 }
 
 /// Whether what is claimed is possible, or the first reason for which it isn't.
-fn check_claim<D: Dues>(controller: &Controller<D>, claim: Claim) -> Result<(), ReportFault>
-    ensures possible { OnOk result (CanClaim controller.now.plan.planned controller.now.cell claim) }
-    ensures first_reason { IfErr result (IsClaimReason controller.now.plan.planned controller.now.cell claim) }
+fn check_claim<P: Planned>(cell: &WorkCell<P>, claim: Claim) -> Result<(), ReportFault>
+    ensures possible { OnOk result (CanClaim cell.now.plan cell.now.cell claim) }
+    ensures first_reason { IfErr result (IsClaimReason cell.now.plan cell.now.cell claim) }
 {
     match claim {
-        Claim::Report(report) => controller.check(report),
-        Claim::CleanAfter { machine, job, at } => controller.check_clean_after(machine, job, at),
+        Claim::Report(report) => check_report(cell, report),
+        Claim::CleanAfter { machine, job, at } => check_cleaning_after(cell, machine, job, at),
     }
 }
 
 /// Whether the moment of the claim leaps.
-fn claim_leaps<D: Dues>(manner: Manner, controller: &Controller<D>, claim: Claim) -> bool
-    ensures { result ≡ claim_leaps manner controller.now.cell claim }
+fn claim_leaps<P: Planned>(manner: Manner, cell: &WorkCell<P>, claim: Claim) -> bool
+    ensures { result ≡ claim_leaps manner cell.now.cell claim }
 {
-    manner.leaps(controller.now(), claim.report().at())
+    manner.leaps(cell.last(), claim.report().at())
 }
 
 /// Why the claim is refused, unless it is taken.
-pub(crate) fn refusal_of<D: Dues>(
+pub(crate) fn refusal_of<P: Planned>(
     manner: Manner,
-    controller: &Controller<D>,
+    cell: &WorkCell<P>,
     claim: Claim,
 ) -> Option<Refusal>
-    ensures { MatchOption result (IsTaken manner controller.now.plan.planned controller.now.cell claim)
-        (IsRefusal manner controller.now.plan.planned controller.now.cell claim) }
+    ensures { MatchOption result (IsTaken manner cell.now.plan cell.now.cell claim)
+        (IsRefusal manner cell.now.plan cell.now.cell claim) }
 {
-    let leaps = claim_leaps(manner, controller, claim);
-    match check_claim(controller, claim) {
+    let leaps = claim_leaps(manner, cell, claim);
+    match check_claim(cell, claim) {
         Ok(()) => { if leaps { Some(Refusal::Leap) } else { None } }
         Err(reason) => Some(first_refusal(leaps, reason)),
     }
@@ -129,20 +129,20 @@ fn reason_detail<P: Planned>(cell: &WorkCell<P>, report: Report, reason: ReportF
 }
 
 /// What the line says after the name of the refusal.
-pub(crate) fn refusal_detail<D: Dues>(
+pub(crate) fn refusal_detail<P: Planned>(
     manner: Manner,
-    controller: &Controller<D>,
+    cell: &WorkCell<P>,
     claim: Claim,
     refusal: Refusal,
 ) -> Detail
-    requires { IsRefusal manner controller.now.plan.planned controller.now.cell claim refusal }
-    ensures { result ≡ refusal_detail manner controller.now.plan.planned controller.now.cell (claimed claim) refusal }
+    requires { IsRefusal manner cell.now.plan cell.now.cell claim refusal }
+    ensures { result ≡ refusal_detail manner cell.now.plan cell.now.cell (claimed claim) refusal }
 {
     if !manner.tells {
         return Detail::Nothing;
     }
     match refusal {
-        Refusal::Reason(reason) => { reason_detail(controller.work_cell(), claim.report(), reason) }
-        Refusal::Leap => Detail::Last(manner.leap_base(controller.now())),
+        Refusal::Reason(reason) => reason_detail(cell, claim.report(), reason),
+        Refusal::Leap => Detail::Last(manner.leap_base(cell.last())),
     }
 }

@@ -9,7 +9,7 @@ use crate::answers::{put_behind, put_closing};
 use byte_streams::{Sink, WriteFault};
 use cell_control::{Controller, Dues};
 use cell_tables::{Standing, WorkCell};
-use event_lines::{Overdue, unfinished_standing_line};
+use event_lines::{DetailText, Overdue, put_unfinished_standing};
 use shop_base::{Moment, Planned};
 
 /// Whether nothing is under way.
@@ -53,7 +53,9 @@ fn put_standing<W: Sink>(
     if is_over(standing) {
         return Ok(());
     }
-    put_behind(prefix, unfinished_standing_line(standing).bytes(), writer)
+    let mut line = DetailText::ended();
+    put_unfinished_standing(&mut line, standing);
+    put_behind(prefix, line.bytes(), writer)
 }
 
 /// Writes the line of each job that isn't gone.

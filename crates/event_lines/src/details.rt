@@ -176,14 +176,14 @@ fn put_standing<const ROOM: usize>(line: &mut LineText<ROOM>, standing: Standing
     }
 }
 
-/// Something is so at the time: `unfinished WORDS`.
-pub fn unfinished_standing_line(standing: Standing) -> DetailText
-    ensures { result ≡ unfinished_standing_line standing }
+/// Makes a line feed alone the line of what is so at the time: `unfinished WORDS`. The line is written where it lies,
+/// since a state has one for each job and is asked for often.
+pub fn put_unfinished_standing(line: &mut DetailText, standing: Standing)
+    requires { line.old ≡ 10 ∷ [] }
+    ensures { line.new ≡ unfinished_standing_line standing }
 {
-    let mut line = DetailText::ended();
-    put_standing(&mut line, standing);
+    put_standing(line, standing);
     line.put_text(b"unfinished ");
-    line
 }
 
 /// Writes the words of a detail, if it has any, and a space before them.

@@ -23,7 +23,7 @@ pub use answers::{
 };
 pub use cell_numbers::{cell_prefix, cell_report_of};
 pub use details::{
-    Detail, DetailText, Overdue, late_overdue_line, refused_detail_line, unfinished_standing_line,
+    Detail, DetailText, Overdue, late_overdue_line, put_unfinished_standing, refused_detail_line,
 };
 pub use entries::{put_entry_line, told_entry};
 pub use line_text::LineText;

@@ -1,13 +1,17 @@
-use Rattle.std.proofs.Common.{sym, subst}
-use Rattle.shop_base.specs.Plan.{PlannedShop}
 use Rattle.cell_tables.specs.Reports.{said}
-use Rattle.cell_control.specs.Reports.{IsOfShop}
+use Rattle.cell_drive.specs.Refusals.{standing_of}
+use Rattle.cell_drive.specs.States.{overdue_in}
+use Rattle.cell_drive.proofs.OnTime.{nothing_overdue, untold}
 use Rattle.cell_drive.proofs.Refusing.{reported_of_shop}
 use Rattle.cell_drive.proofs.judging.told_overdue.Goals as goal
 
 pub standing_of-requires : goal.standing_of-requires
 standing_of-requires g c =
-    let v = c.args.controller.now in
-    let control = c.verified-plan.ensures.control in
-    subst (λ (q : PlannedShop). IsOfShop q (said c.args.report).ended) (sym c.work_cell-cell.ensures.plan)
-    (reported_of_shop v.plan.planned v.cell c.args.report control.verified.schedule.shaped control.sound c.requires)
+    let v = c.args.cell.now in
+    reported_of_shop v.plan v.cell c.args.report c.shaped-plan.ensures.well_shaped c.shaped-plan.ensures.sound c.requires.possible
+
+pub returns-then-not-late : goal.returns-then-not-late
+returns-then-not-late g c =
+    let v = c.args.cell.now in
+    let own = standing_of v.plan v.cell c.args.report in
+    untold c.args.manner.tells (overdue_in v.plan v.cell own (said c.args.report).at) (nothing_overdue v.plan v.cell (said c.args.report).at (c.requires.on_time c.if-not-late.true) own)

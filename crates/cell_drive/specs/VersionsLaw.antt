@@ -1,0 +1,42 @@
+-- The law that version 2 of the lines only adds to the answers of version 1.
+use Rattle.std.specs.Prelude.{◌≡◌, ℕ, List, [], ◌∷◌, ◌++◌, Bool, true, false, Option, None, Some}
+use Rattle.shop_base.specs.declared.move_order.MoveOrder.{MoveOrder}
+use Rattle.shop_base.specs.Plan.{PlannedShop}
+use Rattle.cell_tables.specs.declared.report.Report as reports
+use Rattle.byte_streams.specs.Answering.{AnswerAll}
+use Rattle.event_lines.specs.AnswerLines.{refused_line}
+use Rattle.event_lines.specs.StandingLines.{refused_detail_line}
+use Rattle.event_lines.specs.declared.details.Detail.{Detail}
+use Rattle.event_lines.specs.declared.details.Overdue.{Overdue}
+use Rattle.event_lines.specs.declared.requests.Claim.TheVariants.{Report}
+use Rattle.event_lines.specs.declared.requests.Request.{Request}
+use Rattle.event_lines.specs.declared.requests.Request.TheVariants.{Claim as ClaimRequest}
+use Rattle.event_lines.specs.Requests.{IsRequestLine}
+use Rattle.cell_drive.specs.declared.manner.Manner.{Manner}
+use Rattle.cell_drive.specs.AnswerText.{DrivenCell}
+use Rattle.cell_drive.specs.Stated.{StatedAnswers, taken_lines}
+
+-- the line asks for nothing that version 1 doesn't have: neither `status` nor `clean M J T`
+abbrev pub IsOfVersion1 : Option (List ℕ) → Type 0
+IsOfVersion1 line = (words : List ℕ) (request : Request) → line ≡ Some words → IsRequestLine words request → (report : reports.Report) × (request ≡ ClaimRequest (Report report))
+
+abbrev pub AreOfVersion1 : List (Option (List ℕ)) → Type 0
+AreOfVersion1 [] = Unit {0}
+AreOfVersion1 (line ∷ lines) = IsOfVersion1 line × AreOfVersion1 lines
+
+-- answers of version 2, and the same without what it adds: nothing stands behind the name of a refusal or the moment of a late report, and the end isn't told at once
+pub data IsPlainText : List ℕ → List ℕ → Type 0 where
+  nothing_more : IsPlainText [] []
+  refused : (number : ℕ) (name : List ℕ) (detail : Detail) (text other : List ℕ) → IsPlainText text other → IsPlainText (refused_detail_line number name detail ++ text) (refused_line number name ++ other)
+  taken : (report : reports.Report) (late : Bool) (overdue : Option Overdue) (orders : List MoveOrder) (ended : Bool) (text other : List ℕ) → IsPlainText text other
+      → IsPlainText (taken_lines [] report late overdue orders ended ++ text) (taken_lines [] report late None orders false ++ other)
+
+-- in this version of the lines, with the longest time that may pass, from a moment on
+abbrev pub in_version : Bool → Option ℕ → ℕ → Manner
+in_version tells longest from = record { tells = tells; longest = longest; from = from }
+
+-- lines that version 1 has are answered in both versions, with the same reports and orders, and the answers of version 1 are those of version 2 without what it adds
+abbrev pub Version2OnlyAdds : Type 0
+Version2OnlyAdds = (p : PlannedShop) (longest : Option ℕ) (from number : ℕ) (lines : List (Option (List ℕ))) (text : List ℕ) (start end : DrivenCell) → AreOfVersion1 lines
+    → AnswerAll (StatedAnswers p (in_version true longest from)) start number lines text end
+    → (other : List ℕ) × AnswerAll (StatedAnswers p (in_version false longest from)) start number lines other end × IsPlainText text other
