@@ -22,6 +22,7 @@ pub mod Manners
 pub mod Refusals
 pub mod States
 pub mod Stated
+pub mod InManner
 pub mod StatedLaw
 pub mod VersionsLaw
 pub mod StatedCells

@@ -6,6 +6,7 @@
 #![tactic(auto)]
 
 mod answers;
+mod in_manner;
 mod judging;
 mod lateness;
 pub mod laws;
@@ -34,6 +35,7 @@ pub use byte_streams::{
     reading_room, stream,
 };
 pub use event_lines::{done_line, late_line, refused_line, report_of, unfinished_line};
+pub use in_manner::drive_in;
 pub use manner::Manner;
 pub use many_runs::{HubEnd, drive_hub};
 pub use one_cell::{Driven, take_report};

@@ -39,7 +39,9 @@ fn run(alloc: Global, held: &[u8], calls: usize, torn: usize) -> Result<(MemoryL
         return Ok((log, 0));
     };
     let outlet = Gathered::new(alloc, 16, Vec::new(alloc))?;
-    let mut logged = Logged::new(alloc, log, outlet, Untold)?;
+    let Ok(mut logged) = Logged::new(alloc, log, outlet, Untold) else {
+        return Err("out of memory".into());
+    };
     let mut shown = 0_usize;
     for (bytes, events) in PARTS {
         if put_all(&mut logged, bytes).is_ok() && logged.show().is_ok() {
@@ -112,7 +114,9 @@ fn many_answers_are_synced_at_once(rt: HostRuntime) -> Result<(), Fail> {
     let alloc = rt.alloc();
     let log = MemoryLog::new(Vec::new(alloc), 40, 0);
     let outlet = Gathered::new(alloc, 16, Vec::new(alloc))?;
-    let mut logged = Logged::new(alloc, log, outlet, Untold)?;
+    let Ok(mut logged) = Logged::new(alloc, log, outlet, Untold) else {
+        return Err("out of memory".into());
+    };
     for _ in 0..1000 {
         put_all(&mut logged, b"report 1000000000 finish 100 50\n")?;
         put_all(&mut logged, b"order 1000000000 100 50 51\n")?;

@@ -7,3 +7,5 @@ pub use memory_log::MemoryLog;
 
 #[cfg(test)]
 mod crashes;
+#[cfg(test)]
+mod driven;

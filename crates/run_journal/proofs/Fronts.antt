@@ -1,7 +1,8 @@
 -- What a crash leaves, seen from other bytes.
-use Rattle.std.proofs.Common.{◌≡◌, ℕ, ◌≤◌, List, ◌++◌, length, take, Option, None, Some, IfSome, Result, Ok, Err, OnOk, refl, sym, ap, ◌∙◌, arith, append-nil}
+use Rattle.std.proofs.Common.{◌≡◌, ℕ, ◌≤◌, List, ◌++◌, length, take, Option, None, Some, IfSome, Result, Ok, Err, OnOk, OnErr, Bool, true, [], inl, inr, refl, sym, ap, ◌∙◌, arith, append-nil}
 use Rattle.std.proofs.lemmas.List.{take_at}
 use Rattle.run_journal.specs.LogFiles.{zeros, Leaves}
+use Rattle.run_journal.specs.Logged.{HoldsNothing}
 
 -- a crash that leaves just a file leaves the front of more
 pub settled_leaves : (may_leave : List ℕ → Type 0) (file more : List ℕ) → ((left : List ℕ) → may_leave left → left ≡ file) → Leaves may_leave (length file) (file ++ more)
@@ -31,3 +32,8 @@ if_some-map (Some x) f p = f x p
 pub if_some-both : {X : Type 0} {P Q R : X → Type 0} (o : Option X) → ((x : X) → P x → Q x → R x) → IfSome o P → IfSome o Q → IfSome o R
 if_some-both None f p q = p
 if_some-both (Some x) f p q = f x p q
+
+-- once an output was to show all, nothing is held back, or that has failed
+pub quiet : {X E : Type 0} (r : Result X E) (pending : List ℕ) (failed : Bool) → OnOk r (pending ≡ []) → OnErr r (failed ≡ true) → HoldsNothing pending failed
+quiet (Ok x) pending failed shown unshown = inl shown
+quiet (Err e) pending failed shown unshown = inr unshown

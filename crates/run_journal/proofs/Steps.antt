@@ -12,7 +12,7 @@ use Rattle.run_journal.specs.Logged.{AreBefore, IsSoFar, IsSound}
 use Rattle.run_journal.proofs.Fronts.{settled_leaves, fewer_leave, if_some-map}
 use Rattle.run_journal.proofs.Selected.{logged-front, got_next, stands_next}
 
-told : {X : Type 0} (o : Option X) (x : X) (P : X → Type 0) → o ≡ Some x → IfSome o P → P x
+pub told : {X : Type 0} (o : Option X) (x : X) (P : X → Type 0) → o ≡ Some x → IfSome o P → P x
 told o x P is p = subst (λ o. IfSome o P) is p
 
 grown : (a b : Option (List ℕ)) (xs bs : List ℕ) → a ≡ Some xs → Appends a b bs → b ≡ Some (xs ++ bs)

@@ -1,5 +1,5 @@
 -- A log and an output that bytes go to, the log first.
-use Rattle.std.specs.Prelude.{◌≡◌, ℕ, ◌+◌, ◌<◌, ◌≤◌, List, ◌++◌, length, drop, Option, Some, Bool, false, IfSome}
+use Rattle.std.specs.Prelude.{◌≡◌, ◌⊎◌, ℕ, ◌+◌, ◌<◌, ◌≤◌, List, [], ◌++◌, length, drop, Option, Some, Bool, true, false, IfSome}
 use Rattle.run_journal.specs.declared.logged.TheConstants.{MAX_PENDING}
 use Rattle.run_journal.specs.declared.selection.TheConstants.{DECIDING}
 use Rattle.run_journal.specs.LogFiles.{Leaves, IsSettled}
@@ -22,6 +22,10 @@ pub record AreInStep (base start : List ℕ) (seen : Option (List ℕ)) (may_lea
   pub output : taken ≡ Some (start ++ shown)
   pub log : failed ≡ false → seen ≡ Some (base ++ logged shown)
   pub crash : Leaves may_leave (length (base ++ logged shown)) (base ++ logged (shown ++ pending))
+
+-- an output holds nothing back, unless a call of it has failed
+abbrev pub HoldsNothing : List ℕ → Bool → Type 0
+HoldsNothing pending failed = (pending ≡ []) ⊎ (failed ≡ true)
 
 -- where it is told what they held
 abbrev pub StayInStep : Option (List ℕ × List ℕ) → Option (List ℕ) → (List ℕ → Type 0) → Held → Type 0

@@ -1,11 +1,14 @@
 use thiserror::Error;
 
-/// Why a call of a log file failed.
+/// Why a call of a log file failed, or why there is none.
 #[derive(Clone, Copy, Debug, PartialEq, Eq, Error)]
 pub enum FileFault {
-    /// It couldn't be written, cut or synced.
+    /// It couldn't be opened, made, locked, written, cut or synced.
     #[error("Log")]
     Log,
+    /// Another process has it.
+    #[error("InUse")]
+    InUse,
     /// It couldn't be read.
     #[error("Read")]
     Read,

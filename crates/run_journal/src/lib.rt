@@ -1,6 +1,6 @@
 //! A log that is on the disk before what it records is shown.
 //!
-//! [`read_log`] and [`cut_end`] open a log that a crash may have left. [`Logged`] goes on with it: of what is written the
+//! [`open_log`] and [`cut_end`] open a log that a crash may have left. [`Logged`] goes on with it: of what is written the
 //! lines of events are put into the log, which is synced, and only then all of it is shown.
 #![tactic(auto)]
 
@@ -8,6 +8,7 @@ mod file_fault;
 pub mod laws;
 mod log_file;
 mod logged;
+mod logs;
 mod opening;
 mod selection;
 mod torn_end;
@@ -15,5 +16,6 @@ mod torn_end;
 pub use file_fault::FileFault;
 pub use log_file::LogFile;
 pub use logged::{Before, FULL, Logged, MAX_PENDING, Untold};
-pub use opening::{LogText, cut_end, read_log};
+pub use logs::Logs;
+pub use opening::{LogText, cut_end, new_log, open_log, read_log};
 pub use torn_end::is_torn_end;

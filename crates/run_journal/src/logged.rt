@@ -1,9 +1,10 @@
 //! An output whose events a log gets, on the disk, before they are shown.
 
-ghost use Rattle.std.specs.Prelude.{◌≡◌, ◌⊎◌, ◌+◌, ◌<◌, ◌≤◌, ◌++◌, [], length, take, Some, false, IfOk, IfSome, OnOk, IsTrue};
+ghost use Rattle.std.specs.Prelude.{◌≡◌, ◌⊎◌, ◌+◌, ◌<◌, ◌≤◌, ◌++◌, [], length, take, vec_capacity, Some, false, IfOk, IfErr, IfSome, OnOk, IsTrue};
 ghost use Rattle.std.specs.Io.KnownBytes.{Appends};
 ghost use Rattle.run_journal.specs.LogFiles.{IsSettled, Leaves};
-ghost use Rattle.run_journal.specs.Logged.{StayInStep, AreBefore};
+ghost use Rattle.run_journal.specs.Logged.{HoldsNothing, StayInStep, AreBefore};
+ghost use Rattle.run_journal.specs.Selecting.{at_first};
 
 use crate::file_fault::FileFault;
 use crate::log_file::LogFile;
@@ -36,6 +37,30 @@ impl Before for Untold {
     ghost before = { None };
 }
 
+/// The room of an outlet with a log.
+#[derive(Drop)]
+struct Room {
+    gathered: Vec<u8>,
+    events: Vec<u8>,
+    selection: Selection,
+}
+
+/// The room for all that is gathered, and for what a log gets of it.
+fn reserved(alloc: Global) -> Result<Room, AllocError>
+    ensures gathered { IfOk result (λ room. (room.gathered.items ≡ []) × (MAX_PENDING ≤ vec_capacity room.gathered)) }
+    ensures events { IfOk result (λ room. MAX_PENDING + DECIDING ≤ vec_capacity room.events) }
+    ensures selection { IfOk result (λ room. room.selection ≡ at_first) }
+{
+    let gathered = Vec::with_capacity(alloc, MAX_PENDING)?;
+    let events = Vec::with_capacity(alloc, MAX_PENDING + DECIDING)?;
+    let selection = Selection::new(alloc)?;
+    Ok(Room {
+        gathered,
+        events,
+        selection,
+    })
+}
+
 /// An outlet with a log. Bytes are gathered until they are to be shown, or don't fit. Then the lines among them that a log
 /// gets are appended to it, it is synced, and only then all of them are shown. After a fault nothing more is appended or
 /// shown.
@@ -56,38 +81,53 @@ pub struct Logged<W: Outlet, D: LogFile, B: Before> {
 
 impl<W: Outlet, D: LogFile, B: Before> Model for Logged<W, D, B> {
     ghost use Rattle.std.specs.Prelude.{drop, vec_capacity};
-    ghost use Rattle.run_journal.specs.Logged.{Held, IsSound};
+    ghost use Rattle.run_journal.specs.Logged.{Held, HoldsNothing, IsSound};
 
     ghost Value = { Held };
 
     ghost view = { λ l. record { taken = W.taken l.outlet; pending = drop l.sent l.gathered.items; failed = l.failed; log_failed = l.log_failed } };
 
-    ghost invariant = { λ l. IsSound B.before (D.seen l.log) (D.may_leave l.log) (W.taken l.outlet) l.gathered.items (vec_capacity l.gathered) (vec_capacity l.events) l.sent l.failed l.selection };
+    ghost invariant = { λ l. IsSound B.before (D.seen l.log) (D.may_leave l.log) (W.taken l.outlet) l.gathered.items (vec_capacity l.gathered) (vec_capacity l.events) l.sent l.failed l.selection
+        × HoldsNothing (W.pending l.outlet) (W.failed l.outlet) };
 }
 
 impl<W: Outlet + Drop, D: LogFile + Drop, B: Before> Logged<W, D, B> {
-    /// A log that is synced, and an output. All memory is taken here.
-    pub fn new(alloc: Global, log: D, outlet: W, _before: B) -> Result<Logged<W, D, B>, AllocError>
+    /// A log that is synced, and an output that has shown all. All memory is taken here; where it runs out, both are given
+    /// back.
+    pub fn new(
+        alloc: Global,
+        log: D,
+        outlet: W,
+        _before: B,
+    ) -> Result<Logged<W, D, B>, (AllocError, D, W)>
         requires settled { IsSettled (D.seen log) (D.may_leave log) }
         requires before { AreBefore B.before (D.seen log) (W.taken outlet) }
+        requires shown { W.pending outlet ≡ [] }
         ensures taken { IfOk result (λ logged. logged.taken ≡ W.taken outlet) }
         ensures pending { IfOk result (λ logged. logged.pending ≡ []) }
         ensures unfailed { IfOk result (λ logged. (logged.failed ≡ false) × (logged.log_failed ≡ false)) }
+        ensures given_back { IfErr result (λ back. (back.1 ≡ log) × (back.2 ≡ outlet)) }
     {
-        let gathered = Vec::with_capacity(alloc, MAX_PENDING)?;
-        let events = Vec::with_capacity(alloc, MAX_PENDING + DECIDING)?;
-        let selection = Selection::new(alloc)?;
-        Ok(Logged {
-            log,
-            outlet,
-            gathered,
-            sent: 0,
-            events,
-            selection,
-            failed: false,
-            log_failed: false,
-            before: PhantomData,
-        })
+        match reserved(alloc) {
+            Ok(
+                Room {
+                    gathered,
+                    events,
+                    selection,
+                },
+            ) => Ok(Logged {
+                log,
+                outlet,
+                gathered,
+                sent: 0,
+                events,
+                selection,
+                failed: false,
+                log_failed: false,
+                before: PhantomData,
+            }),
+            Err(error) => Err((error, log, outlet)),
+        }
     }
 
     /// Whether it was the log that failed.
@@ -100,7 +140,9 @@ impl<W: Outlet + Drop, D: LogFile + Drop, B: Before> Logged<W, D, B> {
     /// The log and the output. What is pending isn't written out.
     pub fn into_parts(self) -> (D, W)
         ensures in_step { StayInStep B.before (D.seen result.0) (D.may_leave result.0) self }
+        ensures settled { self.failed ≡ false → IsSettled (D.seen result.0) (D.may_leave result.0) }
         ensures taken { W.taken result.1 ≡ self.taken }
+        ensures shown { HoldsNothing (W.pending result.1) (W.failed result.1) }
     {
         let Logged {
             log,
@@ -193,6 +235,7 @@ fn pass_on<W: Outlet>(outlet: &mut W, bytes: &[u8], sent: &mut usize) -> Result<
     ensures within { sent.new ≤ length bytes.now }
     ensures all { OnOk result (sent.new ≡ length bytes.now) }
     ensures taken { Appends (W.taken outlet.old) (W.taken outlet.new) (take sent.new bytes.now) }
+    ensures shown { HoldsNothing (W.pending outlet.new) (W.failed outlet.new) }
 {
     while *sent < bytes.len() {
         *sent += outlet.put(&bytes[*sent..])?;

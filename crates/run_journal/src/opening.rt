@@ -1,12 +1,13 @@
 //! The opening of a log that a crash may have left.
 
-ghost use Rattle.std.specs.Prelude.{◌≡◌, ◌≤◌, List, ℕ, length, take, Some, IfOk, IfSome, OnOk};
+ghost use Rattle.std.specs.Prelude.{◌≡◌, ◌≤◌, ◌↔◌, [], List, ℕ, length, take, Some, IfOk, IfSome, IsTrue, OnOk};
 ghost use Rattle.text_lines.specs.declared.limits.TheConstants.{MAX_INPUT};
 ghost use Rattle.run_journal.specs.LogFiles.{IsSettled, LeavesNoMore};
 ghost use Rattle.run_journal.specs.WholeLines.{whole_lines, torn_end};
 
 use crate::file_fault::FileFault;
 use crate::log_file::LogFile;
+use crate::logs::Logs;
 use std::alloc::Global;
 use std::marker::Model;
 use text_lines::MAX_INPUT;
@@ -46,6 +47,13 @@ impl LogText {
         &self.bytes[..self.whole]
     }
 
+    /// Whether there are no bytes.
+    pub fn is_empty(&self) -> bool
+        ensures { IsTrue result ↔ (self.now ≡ []) }
+    {
+        self.bytes.is_empty()
+    }
+
     /// What comes after the last line feed.
     pub fn end(&self) -> &[u8]
         ensures { result.now ≡ torn_end self.now }
@@ -66,6 +74,42 @@ pub fn read_log<D: LogFile>(alloc: Global, log: &mut D) -> Result<LogText, FileF
     log.sync()?;
     let bytes = log.read(alloc, MAX_INPUT)?;
     Ok(LogText::new(bytes))
+}
+
+/// Opens the log of this path, locks it, and reads it. It is then on the disk. None where there isn't one.
+pub fn open_log<L: Logs>(
+    alloc: Global,
+    logs: &mut L,
+    path: &str,
+) -> Result<Option<(L::Log, LogText)>, FileFault>
+    ensures text { IfOk result (λ opened. IfSome opened (λ there. IfSome (L.Log.seen there.0) (λ file. there.1 ≡ file))) }
+    ensures within { IfOk result (λ opened. IfSome opened (λ there. length there.1 ≤ MAX_INPUT)) }
+    ensures settled { IfOk result (λ opened. IfSome opened (λ there. IsSettled (L.Log.seen there.0) (L.Log.may_leave there.0))) }
+{
+    let Some(mut log) = logs.open(path)? else {
+        return Ok(None);
+    };
+    let text = read_log(alloc, &mut log)?;
+    Ok(Some((log, text)))
+}
+
+/// The log of this path, with no bytes, and with its name on the disk: the one that was opened, or one that is made.
+pub fn new_log<L: Logs>(
+    logs: &mut L,
+    path: &str,
+    opened: Option<L::Log>,
+) -> Result<L::Log, FileFault>
+    requires empty { IfSome opened (λ log. IfSome (L.Log.seen log) (λ file. file ≡ [])) }
+    requires settled { IfSome opened (λ log. IsSettled (L.Log.seen log) (L.Log.may_leave log)) }
+    ensures empty { IfOk result (λ log. IfSome (L.Log.seen log) (λ file. file ≡ [])) }
+    ensures settled { IfOk result (λ log. IsSettled (L.Log.seen log) (L.Log.may_leave log)) }
+{
+    let log = match opened {
+        Some(log) => log,
+        None => logs.make(path)?,
+    };
+    logs.sync_name(path)?;
+    Ok(log)
 }
 
 /// Cuts off what comes after the whole lines of a log that was read.

@@ -1,8 +1,9 @@
-use Rattle.std.proofs.Common.{ℕ, List, ◌++◌, length, take, length-drop, sym, ap, ◌∙◌, subst, arith}
+use Rattle.std.proofs.Common.{inr, ℕ, List, ◌++◌, length, take, length-drop, sym, ap, ◌∙◌, subst, arith}
 use Rattle.std.specs.Io.KnownBytes.{Appends}
 use Rattle.std.proofs.KnownBytes.{Appends-nil, Appends-trans, Appends-kept}
 use Rattle.std.proofs.Math.Seq.{take-add}
 use Rattle.std.proofs.lemmas.List.{take_rest}
+use Rattle.run_journal.proofs.Fronts.{quiet}
 use Rattle.run_journal.proofs.logged.pass_on.Goals as goal
 
 pub loop-sent-init : goal.loop-sent-init
@@ -30,3 +31,9 @@ loop-sent-preserved g c =
 
 pub returns-clause-taken : goal.returns-clause-taken
 returns-clause-taken g c = Appends-kept _ _ _ _ c.loop-sent.invariant.taken c.show.ensures.taken
+
+pub returns-in_err-sent-clause-shown : goal.returns-in_err-sent-clause-shown
+returns-in_err-sent-clause-shown g c = inr c.in_err-sent.ensures.failed
+
+pub returns-clause-shown : goal.returns-clause-shown
+returns-clause-shown g c = quiet c.show.result _ _ c.show.ensures.shown c.show.ensures.failed

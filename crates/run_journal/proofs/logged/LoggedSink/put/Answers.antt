@@ -14,14 +14,14 @@ invariant_of-self g c =
     let now = c.extend_from_slice.new.self.items in
     let gathered = c.self-2.inside.gathered.items in
     let is : now ≡ gathered ++ more = search rules in
-    let few : length now ≤ 81920 = omega (arith, ap length is, length-append gathered more, length-take c.min-count.result c.args.bytes.now, c.min-count.ensures, c.len-2.ensures, c.self-2.inside.gathered.ok.0, c.self-2.invariant.few) in
+    let few : length now ≤ 81920 = omega (arith, ap length is, length-append gathered more, length-take c.min-count.result c.args.bytes.now, c.min-count.ensures, c.len-2.ensures, c.self-2.inside.gathered.ok.0, c.self-2.invariant.0.few) in
     let at_first : c.args.self.now.failed ≡ false = sym (ap (λ (v : Held). v.failed) c.self.view_is) ∙ c.if-self.false in
     let with_room : c.if-is_shown_first.self.failed ≡ false = elim c.if-is_shown_first.branch [
       | then-is_shown_first+in_ok-show w ↦ ap (λ (v : Held). v.failed) w.self-is ∙ w.in_ok-show.ensures.unfailed ∙ at_first
       | else-is_shown_first w ↦ ap (λ (v : Held). v.failed) w.self-is ∙ at_first
     ] in
     let unfailed : c.self-2.inside.failed ≡ false = ap (λ (v : Held). v.failed) c.self-2.view_is ∙ with_room in
-    gathers _ _ _ _ _ _ _ _ _ _ c.self-2.invariant unfailed more now (vec_capacity c.extend_from_slice.new.self) is few c.extend_from_slice.ensures.capacity
+    (gathers _ _ _ _ _ _ _ _ _ _ c.self-2.invariant.0 unfailed more now (vec_capacity c.extend_from_slice.new.self) is few c.extend_from_slice.ensures.capacity, c.self-2.invariant.1)
 
 pub returns-clause-taken : goal.returns-clause-taken
 returns-clause-taken g c =
@@ -30,7 +30,7 @@ returns-clause-taken g c =
     let gathered = c.self-2.inside.gathered.items in
     let sent = c.self-2.inside.sent in
     let is : now ≡ gathered ++ more = search rules in
-    let grown : drop sent now ≡ drop sent gathered ++ more = ap (λ l. drop sent l) is ∙ drop-append-le sent gathered more c.self-2.invariant.within in
+    let grown : drop sent now ≡ drop sent gathered ++ more = ap (λ l. drop sent l) is ∙ drop-append-le sent gathered more c.self-2.invariant.0.within in
     let first = append_known c.args.self.now.taken c.args.self.now.pending in
     let with_room : Keeps first (append_known c.if-is_shown_first.self.taken c.if-is_shown_first.self.pending) = elim c.if-is_shown_first.branch [
       | then-is_shown_first+in_ok-show w ↦ subst (λ (v : Held). Keeps first (append_known v.taken v.pending)) (sym w.self-is) w.in_ok-show.ensures.taken

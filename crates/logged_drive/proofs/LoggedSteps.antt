@@ -1,0 +1,109 @@
+-- What a run with a log comes to.
+use Rattle.std.proofs.Common.{◌≡◌, ◌⊎◌, ℕ, ◌≤◌, List, [], ◌++◌, length, take, Option, None, Some, IfSome, Bool, true, false, Result, Ok, Err, IfOk, inl, inr, refl, sym, ap, ◌∙◌, subst, arith, append-nil}
+use Rattle.std.specs.Io.KnownBytes.{append_known}
+use Rattle.plan_verifier.specs.Accepted.{VerifiedPlan}
+use Rattle.byte_streams.specs.declared.drive_fault.DriveFault.{DriveFault}
+use Rattle.byte_streams.specs.declared.drive_fault.DriveFault.TheVariants.{Memory}
+use Rattle.byte_streams.specs.Lent.{Input, Output, Streams}
+use Rattle.cell_drive.specs.declared.manner.Manner.{Manner}
+use Rattle.cell_drive.specs.declared.one_run.DriveEnd.{DriveEnd}
+use Rattle.cell_drive.specs.OneCell.{drive_start}
+use Rattle.cell_drive.specs.Stated.{stated_start}
+use Rattle.cell_drive.specs.InManner.{DrivesBy, IsDriveIn, is_plain}
+use Rattle.run_journal.specs.LogFiles.{IsSettled}
+use Rattle.run_journal.specs.WholeLines.{whole_lines}
+use Rattle.run_journal.specs.LoggedLines.{logged}
+use Rattle.run_journal.specs.Logged.{Held, HoldsNothing, AreBefore, AreInStep, StayInStep}
+use Rattle.run_journal.specs.Laws.{ACrashKeepsWhatWasShown}
+use Rattle.std.proofs.lemmas.List.{take_at}
+use Rattle.logged_drive.specs.LoggedRuns.{IsAllInLog, KeepsShown, RunsLogged, nothing_held, output_held}
+
+-- ---- a run that isn't begun
+
+unbegun_by : (plain : Bool) (manner : Manner) (v : VerifiedPlan) (streams : Streams) → DrivesBy plain manner v streams streams (Err Memory)
+unbegun_by true manner v streams = record { end = drive_start v; streamed = refl; came_to = tt }
+unbegun_by false manner v streams = record { end = stated_start manner v; streamed = refl; came_to = tt }
+
+pub unbegun : (manner : Manner) (v : VerifiedPlan) (streams : Streams) → IsDriveIn manner v streams streams (Err Memory)
+unbegun manner v streams = unbegun_by (is_plain manner) manner v streams
+
+told : {X : Type 0} (o : Option X) (x : X) (P : X → Type 0) → o ≡ Some x → IfSome o P → P x
+told o x P is p = subst (λ o. IfSome o P) is p
+
+if_some-map : {X : Type 0} {P Q : X → Type 0} (o : Option X) → ((x : X) → P x → Q x) → IfSome o P → IfSome o Q
+if_some-map None f none = none
+if_some-map (Some x) f p = f x p
+
+if_some-both : {X : Type 0} {P Q R : X → Type 0} (o : Option X) → ((x : X) → P x → Q x → R x) → IfSome o P → IfSome o Q → IfSome o R
+if_some-both None f p q = p
+if_some-both (Some x) f p q = f x p q
+
+pub stays : (before : Option (List ℕ × List ℕ)) (seen taken : Option (List ℕ)) (may_leave : List ℕ → Type 0) → AreBefore before seen taken → IsSettled seen may_leave
+    → StayInStep before seen may_leave (nothing_held taken)
+stays before seen taken may_leave are settled = if_some-map before (λ b both. record {
+  shown = [];
+  output = both.1 ∙ ap Some (sym (append-nil b.1));
+  log = λ yes. both.0 ∙ ap Some (sym (append-nil b.0));
+  crash = λ left leaves. record {
+    count = length b.0;
+    at_least = omega (arith, ap length (append-nil b.0));
+    unwritten = 0;
+    is = told seen b.0 (λ f. (l : List ℕ) → may_leave l → l ≡ f) both.0 settled left leaves ∙ sym (take_at b.0 [] (length b.0) refl) ∙ sym (append-nil (take (length b.0) (b.0 ++ [])));
+  };
+}) are
+
+-- ---- what a crash leaves
+
+pub keeps_shown : ACrashKeepsWhatWasShown → (before : Option (List ℕ × List ℕ)) (seen : Option (List ℕ)) (may_leave : List ℕ → Type 0) (held : Held) (taken : Option (List ℕ)) → taken ≡ held.taken
+    → IfSome before (λ told. whole_lines told.0 ≡ told.0) → StayInStep before seen may_leave held → IfSome before (λ told. KeepsShown told.0 told.1 may_leave taken)
+keeps_shown law before seen may_leave held taken is whole steps = if_some-both before (λ b base step. record {
+  shown = step.shown;
+  output = is ∙ step.output;
+  pending = held.pending;
+  crash = λ left leaves. law b.0 step.shown held.pending left base (step.crash left leaves);
+}) whole steps
+
+pub all_in_log : (before : Option (List ℕ × List ℕ)) (seen : Option (List ℕ)) (may_leave : List ℕ → Type 0) (held : Held) (taken : Option (List ℕ)) → taken ≡ held.taken → held.failed ≡ false
+    → IsSettled seen may_leave → StayInStep before seen may_leave held → IfSome before (λ told. IsAllInLog told.0 told.1 seen may_leave taken)
+all_in_log before seen may_leave held taken is unfailed settled steps = if_some-map before (λ b step. record {
+  shown = step.shown;
+  output = is ∙ step.output;
+  log = step.log unfailed;
+  on_disk = told seen (b.0 ++ logged step.shown) (λ f. (left : List ℕ) → may_leave left → left ≡ f) (step.log unfailed) settled;
+}) steps
+
+-- ---- a run that went to the end of its input
+
+ended_by : (plain : Bool) (manner : Manner) (v : VerifiedPlan) (before after : Streams) (end : DriveEnd) → DrivesBy plain manner v before after (Ok end) → after.output.failed ≡ before.output.failed
+ended_by true manner v before after end drove = drove.streamed.comes_to.write_unfailed
+ended_by false manner v before after end drove = drove.streamed.comes_to.write_unfailed
+
+pub ended : (manner : Manner) (v : VerifiedPlan) (before after : Streams) (end : DriveEnd) → IsDriveIn manner v before after (Ok end) → after.output.failed ≡ before.output.failed
+ended manner v before after end drove = ended_by (is_plain manner) manner v before after end drove
+
+-- what follows of its end, follows where it has one
+pub at_end : {X E : Type 0} {P : Type 0} (r : Result X E) → ((x : X) → r ≡ Ok x → P) → IfOk r (λ _. P)
+at_end (Ok x) f = f x refl
+at_end (Err e) f = tt
+
+-- neither a read nor a write has failed at its end
+pub unfailed_at_end : (manner : Manner) (v : VerifiedPlan) (before after : Streams) (outcome : Result DriveEnd DriveFault) (end : DriveEnd) → outcome ≡ Ok end → IsDriveIn manner v before after outcome
+    → after.output.failed ≡ before.output.failed
+unfailed_at_end manner v before after outcome end is drove = ended manner v before after end (subst (λ (r : Result DriveEnd DriveFault). IsDriveIn manner v before after r) is drove)
+
+-- ---- a writer that begins
+
+module _ {T : Type 0} (drives : Streams → Streams → Result T DriveFault → Type 0) where
+  fresh : (held : Held) → held.pending ≡ [] → held.failed ≡ false → output_held held ≡ output_held (nothing_held held.taken)
+  fresh held none unfailed =
+      ap (λ (p : List ℕ). record { taken = append_known held.taken p; failed = held.failed; pending = p }) none
+      ∙ ap (λ (f : Bool). record { taken = append_known held.taken []; failed = f; pending = [] }) unfailed
+
+  pub began : (input : Input) (held : Held) (after : Streams) (outcome : Result T DriveFault) → held.pending ≡ [] → held.failed ≡ false
+      → drives (record { input = input; output = output_held held }) after outcome → drives (record { input = input; output = output_held (nothing_held held.taken) }) after outcome
+  began input held after outcome none unfailed drove = subst (λ (o : Output). drives (record { input = input; output = o }) after outcome) (fresh held none unfailed) drove
+
+  pub retaken : (before : Option (List ℕ × List ℕ)) (input : Input) (taken same : Option (List ℕ)) (outcome : Result T DriveFault) (log_failed : Bool) (input_after : Input) (seen : Option (List ℕ)) (may_leave : List ℕ → Type 0) (output_after : Output)
+      → taken ≡ same → RunsLogged drives before input taken outcome log_failed input_after seen may_leave output_after → RunsLogged drives before input same outcome log_failed input_after seen may_leave output_after
+  retaken before input taken same outcome log_failed input_after seen may_leave output_after is run =
+      subst (λ (t : Option (List ℕ)). RunsLogged drives before input t outcome log_failed input_after seen may_leave output_after) is run

@@ -1,0 +1,21 @@
+use Rattle.std.proofs.Common.{◌∙◌}
+use Rattle.cell_drive.specs.InManner.{IsDriveIn}
+use Rattle.logged_drive.proofs.LoggedSteps.{all_in_log, at_end, began, unfailed_at_end}
+use Rattle.logged_drive.proofs.logged_run.drive_over.Goals as goal
+
+pub returns-clause-drove : goal.returns-clause-drove
+returns-clause-drove g c = record {
+  held = c.drive_in-end.new.writer;
+  shows = record {
+    drove = began (IsDriveIn c.args.manner c.args.verified) _ c.args.logged _ _ c.requires.pending c.requires.unfailed.0 c.drive_in-end.ensures.driven;
+    log = c.has_log_failed-log_failed.ensures;
+    output = c.into_parts-log.ensures.taken;
+    shown = c.into_parts-log.ensures.shown;
+  };
+  in_step = c.into_parts-log.ensures.in_step;
+}
+
+pub returns-clause-in_log : goal.returns-clause-in_log
+returns-clause-in_log g c = at_end c.drive_in-end.result (λ end is.
+    let unfailed = unfailed_at_end _ _ _ _ _ end is c.drive_in-end.ensures.driven ∙ c.requires.unfailed.0 in
+    all_in_log g.B.Before.before _ _ c.drive_in-end.new.writer _ c.into_parts-log.ensures.taken unfailed (c.into_parts-log.ensures.settled unfailed) c.into_parts-log.ensures.in_step)

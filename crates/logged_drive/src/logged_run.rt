@@ -1,0 +1,96 @@
+//! A run with a log, from its start to the end of its input.
+
+ghost use Rattle.std.specs.Prelude.{◌≡◌, [], false, IfOk, IfSome};
+ghost use Rattle.byte_streams.specs.Lent.{input_of, output_of};
+ghost use Rattle.cell_drive.specs.InManner.{IsDriveIn};
+ghost use Rattle.run_journal.specs.LogFiles.{IsSettled};
+ghost use Rattle.run_journal.specs.WholeLines.{whole_lines};
+ghost use Rattle.run_journal.specs.Logged.{AreBefore};
+ghost use Rattle.logged_drive.specs.LoggedRuns.{IsAllInLog, KeepsShown, RunsLogged};
+
+use byte_streams::{DriveFault, Outlet, Source};
+use cell_drive::{DriveEnd, Manner, drive_in};
+use plan_verifier::Verified;
+use run_journal::laws::a_crash_keeps_what_was_shown;
+use run_journal::{Before, LogFile, Logged};
+use std::alloc::Global;
+
+/// What became of a run with a log.
+#[derive(Drop)]
+pub struct LoggedEnd<T: Drop, W: Drop, D: Drop> {
+    /// What the run has come to.
+    pub end: Result<T, DriveFault>,
+    /// Whether it was the log that failed, where a write did.
+    pub log_failed: bool,
+    /// The log.
+    pub log: D,
+    /// The output.
+    pub output: W,
+}
+
+/// Drives the cell of an accepted plan by a writer that keeps a log.
+fn drive_over<R: Source, W: Outlet + Drop, D: LogFile + Drop, B: Before>(
+    alloc: Global,
+    verified: Verified,
+    manner: Manner,
+    reader: &mut R,
+    logged: Logged<W, D, B>,
+) -> LoggedEnd<DriveEnd, W, D>
+    requires pending { logged.pending ≡ [] }
+    requires unfailed { (logged.failed ≡ false) × (logged.log_failed ≡ false) }
+    ensures drove { RunsLogged (IsDriveIn manner verified) B.before (input_of R.Source reader.old) logged.taken result.end result.log_failed
+        (input_of R.Source reader.new) (D.seen result.log) (D.may_leave result.log) (output_of W.Sink W.pending result.output) }
+    ensures in_log { IfOk result.end (λ _. IfSome B.before (λ told.
+        IsAllInLog told.0 told.1 (D.seen result.log) (D.may_leave result.log) (W.taken result.output))) }
+{
+    let mut writer = logged;
+    let end = drive_in(alloc, verified, manner, reader, &mut writer);
+    let log_failed = writer.has_log_failed();
+    let (log, output) = writer.into_parts();
+    LoggedEnd {
+        end,
+        log_failed,
+        log,
+        output,
+    }
+}
+
+/// Drives the cell of an accepted plan, as [`drive_in`] does, with a log that is on the disk. What a log gets of the
+/// answers is put into it, and onto the disk, before any of it is shown; once that has failed nothing more is shown.
+///
+/// `Memory` is answered before the first byte is read. The log and the output are given back, whatever comes.
+pub fn drive_logged<R: Source, W: Outlet + Drop, D: LogFile + Drop, B: Before>(
+    alloc: Global,
+    verified: Verified,
+    manner: Manner,
+    reader: &mut R,
+    log: D,
+    output: W,
+    before: B,
+) -> LoggedEnd<DriveEnd, W, D>
+    requires settled { IsSettled (D.seen log) (D.may_leave log) }
+    requires before { AreBefore B.before (D.seen log) (W.taken output) }
+    requires whole { IfSome B.before (λ told. whole_lines told.0 ≡ told.0) }
+    requires shown { W.pending output ≡ [] }
+    ensures drove { RunsLogged (IsDriveIn manner verified) B.before (input_of R.Source reader.old) (W.taken output) result.end result.log_failed
+        (input_of R.Source reader.new) (D.seen result.log) (D.may_leave result.log) (output_of W.Sink W.pending result.output) }
+
+    // Whatever came of it, a crash leaves all that was shown.
+    ensures crash { IfSome B.before (λ told. KeepsShown told.0 told.1 (D.may_leave result.log) (W.taken result.output)) }
+
+    // At the end of the input all of it is in the log.
+    ensures in_log { IfOk result.end (λ _. IfSome B.before (λ told.
+        IsAllInLog told.0 told.1 (D.seen result.log) (D.may_leave result.log) (W.taken result.output))) }
+{
+    // Called for its clause alone.
+    a_crash_keeps_what_was_shown();
+    match Logged::new(alloc, log, output, before) {
+        Ok(logged) => drive_over(alloc, verified, manner, reader, logged),
+        Err((error, log, output)) => LoggedEnd {
+            end: Err(DriveFault::from(error)),
+            log_failed: false,
+            log,
+            output,
+        },
+    }
+}
