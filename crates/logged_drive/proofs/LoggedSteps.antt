@@ -1,19 +1,22 @@
 -- What a run with a log comes to.
-use Rattle.std.proofs.Common.{◌≡◌, ◌⊎◌, ℕ, ◌≤◌, List, [], ◌++◌, length, take, Option, None, Some, IfSome, Bool, true, false, Result, Ok, Err, IfOk, inl, inr, refl, sym, ap, ◌∙◌, subst, arith, append-nil}
+use Rattle.std.proofs.Common.{◌≡◌, ℕ, List, [], ◌++◌, length, take, Option, None, Some, IfSome, Bool, true, false, Result, Ok, Err, IfOk, inl, inr, refl, sym, ap, ◌∙◌, subst, arith, append-nil}
 use Rattle.std.specs.Io.KnownBytes.{append_known}
 use Rattle.plan_verifier.specs.Accepted.{VerifiedPlan}
 use Rattle.byte_streams.specs.declared.drive_fault.DriveFault.{DriveFault}
-use Rattle.byte_streams.specs.declared.drive_fault.DriveFault.TheVariants.{Memory}
+use Rattle.byte_streams.specs.declared.drive_fault.DriveFault.TheVariants.{Memory, Write}
 use Rattle.byte_streams.specs.Lent.{Input, Output, Streams}
 use Rattle.cell_drive.specs.declared.manner.Manner.{Manner}
 use Rattle.cell_drive.specs.declared.one_run.DriveEnd.{DriveEnd}
+use Rattle.cell_drive.specs.declared.rest_run.RestEnd.{RestEnd}
+use Rattle.cell_drive.specs.TakenUp.{TakenUp}
+use Rattle.cell_drive.specs.Resuming.{IsGoneOn}
 use Rattle.cell_drive.specs.OneCell.{drive_start}
 use Rattle.cell_drive.specs.Stated.{stated_start}
 use Rattle.cell_drive.specs.InManner.{DrivesBy, IsDriveIn, is_plain}
 use Rattle.run_journal.specs.LogFiles.{IsSettled}
 use Rattle.run_journal.specs.WholeLines.{whole_lines}
 use Rattle.run_journal.specs.LoggedLines.{logged}
-use Rattle.run_journal.specs.Logged.{Held, HoldsNothing, AreBefore, AreInStep, StayInStep}
+use Rattle.run_journal.specs.Logged.{Held, AreBefore, StayInStep}
 use Rattle.run_journal.specs.Laws.{ACrashKeepsWhatWasShown}
 use Rattle.std.proofs.lemmas.List.{take_at}
 use Rattle.logged_drive.specs.LoggedRuns.{IsAllInLog, KeepsShown, RunsLogged, nothing_held, output_held}
@@ -107,3 +110,13 @@ module _ {T : Type 0} (drives : Streams → Streams → Result T DriveFault → 
       → taken ≡ same → RunsLogged drives before input taken outcome log_failed input_after seen may_leave output_after → RunsLogged drives before input same outcome log_failed input_after seen may_leave output_after
   retaken before input taken same outcome log_failed input_after seen may_leave output_after is run =
       subst (λ (t : Option (List ℕ)). RunsLogged drives before input t outcome log_failed input_after seen may_leave output_after) is run
+
+-- ---- a run that goes on
+
+went_on-unfailed : (taken : TakenUp) (before after : Streams) (end : RestEnd) → IsGoneOn taken before after (Ok end) → after.output.failed ≡ before.output.failed
+went_on-unfailed taken before after end (inl cut) = (let bad : Ok end ≡ Err Write = cut.0 in absurd (cc bad))
+went_on-unfailed taken before after end (inr on) = on.streamed.comes_to.write_unfailed ∙ on.unfailed
+
+pub unfailed_behind : (taken : TakenUp) (before after : Streams) (outcome : Result RestEnd DriveFault) (end : RestEnd) → outcome ≡ Ok end → IsGoneOn taken before after outcome
+    → after.output.failed ≡ before.output.failed
+unfailed_behind taken before after outcome end is went = went_on-unfailed taken before after end (subst (λ (r : Result RestEnd DriveFault). IsGoneOn taken before after r) is went)

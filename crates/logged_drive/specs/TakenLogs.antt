@@ -1,0 +1,40 @@
+-- A run that is taken up from its log file.
+use Rattle.std.specs.Prelude.{◌≡◌, ℕ, List, length, Bool, true, false, Option}
+use Rattle.shop_base.specs.Plan.{PlannedShop}
+use Rattle.shop_base.specs.Run.{IsRun}
+use Rattle.text_lines.specs.Lines.{ended_lines, lines_of}
+use Rattle.cell_tables.specs.declared.entry.Entry.{Entry}
+use Rattle.cell_tables.specs.Events.{events_of}
+use Rattle.event_lines.specs.LogLines.{LinesTell}
+use Rattle.cell_drive.specs.declared.resume_fault.ResumeFault.{ResumeFault}
+use Rattle.cell_drive.specs.declared.resume_fault.ResumeFault.TheVariants.{Log, Past, Refused, Memory}
+use Rattle.cell_drive.specs.ResumeFaults.{IsResumeFault}
+use Rattle.run_journal.specs.WholeLines.{torn_end, whole_lines}
+use Rattle.run_journal.specs.TornEnds.{is_torn}
+use Rattle.logged_drive.specs.declared.taken_log.TakeUpFault.{TakeUpFault}
+use Rattle.logged_drive.specs.declared.taken_log.TakeUpFault.TheVariants.{Resume, NoTornEnd, File}
+
+-- these lines tell a run of the plan
+pub record TellARun (p : PlannedShop) (lines : List (List ℕ)) : Type 0 where
+  pub told : List Entry
+  pub tells : LinesTell p lines told
+  pub is_run : IsRun p (events_of told)
+
+-- after bad lines nothing is asked of the end; before any other fault a crash can have left it
+abbrev pub IsAfterEnd : ResumeFault → Bool → Type 0
+IsAfterEnd (Log fault) torn = Unit {0}
+IsAfterEnd (Past last) torn = torn ≡ true
+IsAfterEnd (Refused back why) torn = torn ≡ true
+IsAfterEnd Memory torn = Unit {0}
+
+-- why no run is taken up from a log with this text: its whole lines aren't taken up; or they tell a run, so many they are, and what follows can't be what a crash left of a line; or the log couldn't be cut or synced
+abbrev pub IsTakeUpFault : PlannedShop → List ℕ → Option ℕ → TakeUpFault → Type 0
+IsTakeUpFault p text at (Resume fault) = IsResumeFault p (ended_lines (whole_lines text)) at fault × IsAfterEnd fault (is_torn (torn_end text))
+IsTakeUpFault p text at (NoTornEnd lines) = TellARun p (ended_lines (whole_lines text)) × (is_torn (torn_end text) ≡ false) × (lines ≡ length (lines_of (whole_lines text)))
+IsTakeUpFault p text at (File fault) = Unit {0}
+
+-- the text itself is at fault, so the log wasn't touched
+abbrev pub IsOfText : TakeUpFault → Type 0
+IsOfText (Resume fault) = Unit {0}
+IsOfText (NoTornEnd lines) = Unit {0}
+IsOfText (File fault) = ⊥
