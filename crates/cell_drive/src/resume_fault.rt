@@ -1,7 +1,9 @@
 use plan_verifier::Why;
+use rest_control::RestFault;
 use run_log::AuditFault;
 use shop_base::{Moment, Shaped};
 use std::alloc::AllocError;
+use std::marker::Model;
 use thiserror::Error;
 
 /// Why a run isn't taken up from its log: the first reason, in the order of the variants.
@@ -42,6 +44,41 @@ impl From<AuditFault> for ResumeFault {
         match told {
             AuditFault::Memory => ResumeFault::Memory,
             _ => ResumeFault::Log(told),
+        }
+    }
+}
+
+/// A want of memory for the rest of a run.
+#[derive(Drop)]
+pub(crate) struct WantForRest {
+    pub(crate) fault: RestFault,
+}
+
+impl Model for WantForRest {
+    ghost use Rattle.std.specs.Prelude.{◌≡◌};
+    ghost use Rattle.rest_control.specs.declared.rest_fault.RestFault.{RestFault};
+    ghost use Rattle.rest_control.specs.declared.rest_fault.RestFault.TheVariants.{Memory};
+
+    ghost Value = { RestFault };
+
+    ghost view = { λ w. w.fault };
+
+    ghost invariant = { λ w. w.fault ≡ Memory };
+}
+
+impl From<WantForRest> for ResumeFault {
+    ghost use Rattle.std.specs.Prelude.{◌≡◌};
+    ghost use Rattle.cell_drive.specs.declared.resume_fault.ResumeFault.TheVariants.{Memory};
+
+    ghost from_gives = { λ _ fault. fault ≡ Memory };
+
+    fn from(told: WantForRest) -> ResumeFault {
+        match told.fault {
+            RestFault::Memory => ResumeFault::Memory,
+            RestFault::MomentTooLarge
+            | RestFault::KeepsNot
+            | RestFault::Backwards { last: _ }
+            | RestFault::Cycle(_) => unreachable!(),
         }
     }
 }

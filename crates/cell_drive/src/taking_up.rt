@@ -22,7 +22,7 @@ ghost use Rattle.cell_drive.specs.ResumeFaults.{IsResumeFault, IsOnlyLogFault, I
 
 use crate::lateness::late_events;
 use crate::rest_cell::RestDriven;
-use crate::resume_fault::ResumeFault;
+use crate::resume_fault::{ResumeFault, WantForRest};
 use byte_streams::reading_room;
 use cell_control::TourneyDues;
 use cell_tables::{Entry, WorkCell};
@@ -173,7 +173,7 @@ fn begin(
     match check_start(alloc, cell, starts) {
         Ok(cell) => match RestController::begin(alloc, cell, present) {
             Ok(controller) => Ok(controller),
-            Err((fault, cell)) => Err(rest_fault(fault, cell)),
+            Err((fault, cell)) => Err(rest_fault(fault, cell, present)),
         },
         Err(fault) => Err(fault),
     }
@@ -208,17 +208,22 @@ fn check_plan(alloc: Global, cell: WorkCell<Shaped>) -> Result<WorkCell<Shaped>,
     match verify(alloc, shaped) {
         Ok(Verdict::Accepted(verified)) => Ok(WorkCell::of_parts(verified.into_shaped(), tables)),
         Ok(Verdict::Refused(shaped, why)) => Err(ResumeFault::Refused(shaped, why)),
-        Err(_) => Err(ResumeFault::Memory),
+        Err((error, _)) => Err(ResumeFault::from(error)),
     }
 }
 
 /// Why the rest of a run isn't driven from the cell, at a moment that isn't before its last one.
-fn rest_fault(fault: RestFault, cell: WorkCell<Shaped>) -> ResumeFault
-    ensures { (starts : Bool) (present : ℕ) → IsNextMoment cell.cell present → IsRestFault cell.plan cell.cell present fault → IsRefusal cell.plan starts result }
+fn rest_fault(fault: RestFault, cell: WorkCell<Shaped>, present: Moment) -> ResumeFault
+    requires moment { IsNextMoment cell.cell present }
+    requires fault { IsRestFault cell.plan cell.cell present fault }
+    ensures { (starts : Bool) → IsRefusal cell.plan starts result }
 {
     match fault {
         RestFault::Cycle(nodes) => ResumeFault::Refused(cell.into_basis(), Why::Cycle(nodes)),
-        _ => ResumeFault::Memory,
+        fault @ RestFault::Memory => ResumeFault::from(WantForRest { fault }),
+        RestFault::MomentTooLarge | RestFault::KeepsNot | RestFault::Backwards { last: _ } => {
+            unreachable!()
+        }
     }
 }
 

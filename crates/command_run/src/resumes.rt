@@ -16,6 +16,7 @@ use command_answers::{
 use plan_verifier::Verdict;
 use shop_base::{Moment, Shaped};
 use std::alloc::Global;
+use std::marker::Model;
 
 /// Reads a plan, and if it is well shaped takes up its run from the log, at a moment, and drives it on; else its first
 /// fault is the answer.
@@ -83,7 +84,7 @@ fn untaken_answer(alloc: Global, fault: ResumeFault) -> Answered
             let refused = Loaded::Judged(Verdict::Refused(shaped, why));
             Ok(loaded_answer(alloc, &refused)?)
         }
-        ResumeFault::Memory => Err(CommandFault::Memory),
+        fault @ ResumeFault::Memory => Err(CommandFault::from(Wanting { fault })),
     }
 }
 
@@ -94,5 +95,38 @@ fn rest_answer(alloc: Global, end: Result<RestEnd, DriveFault>) -> Answered
     match end {
         Ok(end) => Ok(ended(alloc, end.done)),
         Err(fault) => Err(Told::from(fault).0),
+    }
+}
+
+/// A want of memory for taking a run up.
+#[derive(Drop)]
+struct Wanting {
+    fault: ResumeFault,
+}
+
+impl Model for Wanting {
+    ghost use Rattle.std.specs.Prelude.{◌≡◌};
+    ghost use Rattle.cell_drive.specs.declared.resume_fault.ResumeFault.{ResumeFault};
+    ghost use Rattle.cell_drive.specs.declared.resume_fault.ResumeFault.TheVariants.{Memory};
+
+    ghost Value = { ResumeFault };
+
+    ghost view = { λ w. w.fault };
+
+    ghost invariant = { λ w. w.fault ≡ Memory };
+}
+
+impl From<Wanting> for CommandFault {
+    ghost use Rattle.std.specs.Prelude.{◌≡◌};
+    ghost use Rattle.command_answers.specs.declared.command_fault.CommandFault.TheVariants.{Memory};
+
+    ghost from_gives = { λ _ fault. fault ≡ Memory };
+
+    fn from(told: Wanting) -> CommandFault {
+        match told.fault {
+            ResumeFault::Memory => CommandFault::Memory,
+            ResumeFault::Log(_) | ResumeFault::Past { last: _ } | ResumeFault::Refused(_, _) =>
+                unreachable!(),
+        }
     }
 }

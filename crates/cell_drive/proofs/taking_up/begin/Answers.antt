@@ -15,4 +15,4 @@ returns-in-Err-begin-clause-fault c =
     let moment : IsNextMoment c.in-Err-begin.cell.cell c.args.present = subst (λ (x : Cell). IsNextMoment x c.args.present) (sym cell) c.requires in
     let fault : IsRestFault c.in-Err-begin.cell.plan c.in-Err-begin.cell.cell c.args.present c.in-Err-begin.fault =
     subst (λ (x : PlannedCell PlannedShop). IsRestFault x.plan x.cell c.args.present c.in-Err-begin.fault) (sym back) c.in-Err-begin.ensures.fault in
-    subst (λ (p : PlannedShop). IsRefusal p c.args.starts c.rest_fault.result) plan (c.rest_fault.ensures c.args.starts c.args.present moment fault)
+    subst (λ (p : PlannedShop). IsRefusal p c.args.starts c.rest_fault.result) plan (c.rest_fault.ensures c.args.starts)
