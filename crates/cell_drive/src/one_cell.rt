@@ -45,6 +45,7 @@ pub(crate) fn note(log: &mut RunLog, report: Report, orders: &[MoveOrder])
 }
 
 /// Takes a report. If it is accepted, it is noted with the moves that it releases.
+#[inline(always)]
 pub fn take_report<D: Dues>(
     controller: &mut Controller<D>,
     log: &mut RunLog,
