@@ -1,7 +1,7 @@
 #!/usr/bin/env python3
 """A simulated floor that is driven by cellplan, and that goes on after its cellplan was killed.
 
-floor.py [FILE PLAN] [--runs N] [--seed S] [--bad-line] [--program CELLPLAN]
+floor.py [FILE PLAN] [--runs N] [--seed S] [--bad-line | --break M UNTIL] [--program CELLPLAN]
 
 FILE is an instance and PLAN a plan for it that `cellplan check` accepts; without them it is `examples/ft06.txt` with
 `examples/ft06-cleaned.toml`. Each run is one pass of all parts through the cell, with random times of which some are too long:
@@ -22,6 +22,9 @@ With `--bad-line` nothing is killed, but the line to cellplan loses, doubles, de
 `cellplan drive --lines 2`: it keeps each report until it is accepted, asks for the state where no answer comes, and sends again
 what cellplan still waits for (`Floor.serve_on_a_bad_line`).
 
+With `--break M UNTIL` machine M stands still until moment UNTIL, from the first part on that it gets before. Then the floor asks for a
+better plan for the rest, and hands the run over to it (`Run.hand_over`). A time unit lasts longer here, as the search takes some time.
+
 What a floor of one's own needs is in three places: `Told` follows what cellplan has said, `Floor.serve` is the loop that carries out
 orders and sends reports, and `Floor.take_up` is what has to be done before the first report after a restart.
 """
@@ -29,8 +32,9 @@ import argparse, collections, heapq, json, os, random, re, select, shutil, signa
 
 HERE = os.path.dirname(os.path.abspath(__file__))
 UNIT = 0.0005  # seconds for which a time unit of the instance lasts
+LONG_UNIT = 0.01  # and where a machine breaks down
 SOON = 20  # the time units after which a floor on a bad line asks for the state
-PATIENCE = 30 / UNIT  # the time units after which a floor on which nothing moves, and nothing comes, is given up
+PATIENCE = 30  # the seconds after which a floor on which nothing moves, and nothing comes, is given up
 OUTSIDE = -1  # the place of a part that hasn't entered the cell; after its last step its place is the length of its route
 
 
@@ -51,6 +55,11 @@ class Shop:
             lists = {key: json.loads(value) for key, value in re.findall(r"^(\w+) *= *(\[.*\])", text.read(), re.MULTILINE)}
         self.release = lists["release"]
         self.clean = lists.get("clean", [0] * self.machines)
+
+    def text(self):
+        """The instance, as FILE has it."""
+        rows = [(len(self.routes), self.machines), *(sum(route, ()) for route in self.routes)]
+        return "floor\n" + "".join(" ".join(map(str, row)) + "\n" for row in rows)
 
     def spot(self, job, place):
         """The word for a place of a job's route in an order line."""
@@ -83,6 +92,7 @@ class Told:
         self.shop = shop
         self.places = [OUTSIDE] * len(shop.routes)
         self.ready = [False] * len(shop.routes)
+        self.moved = [0] * len(shop.routes)  # the moment of each job's last order
         self.cleaning = set()
         self.reports = []  # the accepted reports, in the words in which they are sent
         self.accepted = []  # what they say to have ended
@@ -101,7 +111,7 @@ class Told:
         if words[0] == "report":
             self.report(words[1], words[2:])
         elif words[0] == "order":
-            return self.order(int(words[2]), words[3], words[4])
+            return self.order(int(words[1]), int(words[2]), words[3], words[4])
         elif line == "":
             self.marked = True
         elif words[0] in ("done", "unfinished"):
@@ -140,8 +150,9 @@ class Told:
         else:
             self.ready[int(what[1])] = True
 
-    def order(self, job, source, target):
+    def order(self, moment, job, source, target):
         self.places[job] += 1
+        self.moved[job] = moment
         self.ready[job] = False
         if source != "out":
             self.left_last[int(source)] = job
@@ -153,8 +164,10 @@ class Told:
 class Floor:
     """Parts, machines, one carrier that makes the moves, and a clock that never stops."""
 
-    def __init__(self, rng, shop):
+    def __init__(self, rng, shop, broken=None):
         self.rng, self.shop = rng, shop
+        self.broken, self.until = broken or (None, 0)  # a machine that stands still, and until when
+        self.unit = LONG_UNIT if broken else UNIT
         self.begun = time.monotonic()
         self.places = [OUTSIDE] * len(shop.routes)
         self.finished = [False] * len(shop.routes)  # has arrived, or its operation has ended
@@ -165,7 +178,7 @@ class Floor:
         self.sent = []  # pairs of what has happened and the line that told it; lost where the floor forgets
 
     def now(self):
-        return (time.monotonic() - self.begun) / UNIT
+        return (time.monotonic() - self.begun) / self.unit
 
     # --- the parts and machines
 
@@ -196,10 +209,16 @@ class Floor:
             self.look_whether_free(order, int(target))
         self.places[job], self.finished[job] = place + 1, False
         if target != "out":
-            heapq.heappush(self.ends, (self.lasts(route[place + 1][1]), "part", job))
+            end = self.lasts(route[place + 1][1])
+            heapq.heappush(self.ends, (max(end, self.until) if int(target) == self.broken else end, "part", job))
         if source != "out" and self.shop.clean[int(source)] > 0:
             self.cleaning.add(int(source))
             heapq.heappush(self.ends, (self.lasts(self.shop.clean[int(source)]), "machine", int(source)))
+
+    def stuck_part(self):
+        """The part on the machine that stands still, if there is one."""
+        parts = [job for job, place in enumerate(self.places) if self.shop.spot(job, place) == str(self.broken)]
+        return parts[0] if parts and self.now() < self.until else None
 
     def is_carried_out(self, job, target):
         """Whether a part stands where an order puts it, or further on."""
@@ -245,14 +264,14 @@ class Floor:
 
     # --- the loop
 
-    def serve(self, cell, told, enough):
-        """Carries out what cellplan orders and reports what happens, until all is done or soon after so many reports."""
+    def serve(self, cell, told, enough=lambda: False):
+        """Carries out what cellplan orders and reports what happens, until all is done or soon after it is enough."""
         orders = collections.deque()
         carrier_free, moved, stop = 0, self.now(), float("inf")
         known = None  # what was reported since the start of this cellplan, by the names of `news`
         while self.now() < stop and not (self.is_done(told) and not orders):
             self.pass_time()
-            if len(told.reports) >= enough:
+            if enough():
                 stop = min(stop, self.now() + self.rng.uniform(0, 3))
             if orders and self.now() >= carrier_free:
                 self.carry(orders.popleft(), cell.resumed)
@@ -266,11 +285,11 @@ class Floor:
                 known.update(name for name, _ in fresh)
                 self.sent += fresh
                 cell.send([line for _, line in fresh])
-            lines = cell.lines(UNIT)
+            lines = cell.lines(self.unit)
             orders.extend(filter(None, map(told.take, lines)))
             if lines or orders or self.ends:
                 moved = self.now()
-            elif self.now() > moved + PATIENCE:
+            elif self.now() > moved + PATIENCE / self.unit:
                 raise Wrong("nothing goes on any more, and cellplan orders nothing")
 
     def has_ended(self, told):
@@ -302,7 +321,7 @@ class Floor:
                 sent.append("status")
                 told.doubtful, asked = False, self.now()
             cell.send(sent)
-            lines = cell.lines(UNIT)
+            lines = cell.lines(self.unit)
             orders.extend(filter(None, map(told.take, lines)))
             for what in told.accepted:
                 if kept.pop(what, None) is None:
@@ -311,7 +330,7 @@ class Floor:
             told.accepted.clear()
             if lines or orders or self.ends or kept:
                 moved = self.now()
-            elif self.now() > moved + PATIENCE:
+            elif self.now() > moved + PATIENCE / self.unit:
                 raise Wrong("nothing goes on any more, and cellplan orders nothing")
 
     def is_done(self, told):
@@ -386,20 +405,20 @@ class Run:
 
     def __init__(self, options, rng, work):
         self.options, self.rng, self.work = options, rng, work
-        self.shop = Shop(options.instance, options.plan)
-        self.floor = Floor(rng, self.shop)
+        self.files = [options.instance, options.plan]
+        self.shop = Shop(*self.files)
+        self.floor = Floor(rng, self.shop, options.broken)
         self.log = None
 
     def ask(self, *words):
         """The answer of a command that reads files alone."""
-        ended = subprocess.run([self.options.program, *words], stdout=subprocess.PIPE)
-        return ended.stdout.decode().strip()
+        ended = subprocess.run([self.options.program, *words], stdin=subprocess.DEVNULL, stdout=subprocess.PIPE)
+        return ended.stdout.decode()
 
-    def start(self, number):
+    def start(self, number, *options):
         """The process of this number, with a log of its own."""
-        files = [self.options.instance, self.options.plan]
-        words = ["drive", *files] if self.log is None else ["resume", *files, self.log]
-        return Cell([self.options.program, *words], os.path.join(self.work, "run-%d.log" % number), self.log is not None)
+        words = ["drive", *self.files] if self.log is None else ["resume", *self.files, self.log]
+        return Cell([self.options.program, *words, *options], os.path.join(self.work, "run-%d.log" % number), self.log is not None)
 
     def go(self):
         forgets = self.rng.choice([2, 3])
@@ -410,7 +429,7 @@ class Run:
             told.marked = not cell.resumed
             if number == forgets:
                 self.floor.sent = []
-            self.floor.serve(cell, told, enough)
+            self.floor.serve(cell, told, lambda: len(told.reports) >= enough)
             if number < 3:
                 cell.kill()
                 self.cut(cell)
@@ -418,8 +437,58 @@ class Run:
             told.take(line)
         self.look_at_the_end(cell, told)
 
+    def go_over_a_break(self):
+        cell, told = self.start(1), Told(self.shop)
+        told.marked = True
+        self.floor.serve(cell, told, lambda: self.floor.stuck_part() is not None)
+        if not self.floor.is_done(told):
+            cell.kill()
+            now = self.hand_over(cell.log)
+            cell, told = self.start(2, "--at", now), Told(self.shop)
+            self.floor.serve(cell, told)
+        for line in cell.close():
+            told.take(line)
+        self.look_at_the_end(cell, told)
+
+    def hand_over(self, log):
+        """Looks for a better plan for the rest, by which the run is taken up at the moment that is given."""
+        # 1. the log is made whole by the instance and plan that wrote it, and each part is where its last order put it
+        whole = self.ask("resume", *self.files, log)
+        self.log = self.written("whole.log", whole)
+        told = Told(self.shop)
+        for order in filter(None, map(told.take, whole.splitlines())):
+            self.floor.carry(order, True)
+        if self.floor.places != told.places:
+            raise Wrong("the parts are at %s, and by the whole log at %s" % (self.floor.places, told.places))
+        # 2. a plan for the rest, which knows how long the machine stands still; nothing is reported meanwhile
+        part, now = self.floor.stuck_part(), str(int(self.floor.now()))
+        if part is not None:
+            machine, nominal = self.shop.routes[part][told.places[part]]
+            self.shop.routes[part][told.places[part]] = machine, max(nominal, self.options.broken[1] - told.moved[part])
+        self.files[0] = self.written("rest.txt", self.shop.text())
+        before = self.outlook(now)
+        self.files[1] = self.written("rest.toml", self.ask("improve", *self.files, "--after", self.log, "--at", now, "--rounds", "2"))
+        print("at %s: by the old orders parts are %s, by the new ones %s" % (now, before, self.outlook(now)))
+        # 3. `resume` by the new plan. What the floor has sent and isn't in the log is reported anew, as it ends now or later
+        self.floor.sent = []
+        return now
+
+    def outlook(self, now):
+        """How late the parts are in all, and when the last one is out."""
+        told = self.ask("explain", *self.files, "--after", self.log, "--at", now)
+        late = sum(map(int, re.findall(r"^job .* late (\d+)$", told, re.MULTILINE)))
+        leaves = map(int, re.findall(r"^job \d+ (?:left|leaves) (\d+) ", told, re.MULTILINE))
+        return "late by %d in all, and out by %d" % (late, max(leaves))
+
+    def written(self, name, text):
+        """The path of a file with this text."""
+        path = os.path.join(self.work, name)
+        with open(path, "w") as file:
+            file.write(text)
+        return path
+
     def go_on_a_bad_line(self):
-        words = ["drive", self.options.instance, self.options.plan, "--lines", "2"]
+        words = ["drive", *self.files, "--lines", "2"]
         cell = BadLine([self.options.program, *words], os.path.join(self.work, "run.log"), self.rng)
         told = Told(self.shop)
         self.floor.serve_on_a_bad_line(cell, told)
@@ -439,7 +508,7 @@ class Run:
     def look_at_the_end(self, cell, told):
         if not told.ended or self.floor.places != told.places or self.floor.cleaning:
             raise Wrong("the end isn't told as it is")
-        found = self.ask("audit", self.options.instance, self.options.plan, cell.log)
+        found = self.ask("audit", *self.files, cell.log).strip()
         if not re.fullmatch(r"log kept reports %d orders %d last \d+ complete" % self.shop.totals(), found):
             raise Wrong("the audit says: " + found)
 
@@ -456,6 +525,7 @@ def words():
     parser.add_argument("--runs", type=int, default=10, help="how many passes (10)")
     parser.add_argument("--seed", type=int, default=0, help="where the random times begin (0)")
     parser.add_argument("--bad-line", action="store_true", help="a line that loses, doubles, delays and swaps reports")
+    parser.add_argument("--break", dest="broken", nargs=2, type=int, metavar=("M", "UNTIL"), help="machine M stands still until UNTIL")
     parser.add_argument("--program", default=found_program(), help="cellplan (of the path, else of this clone)")
     options = parser.parse_args()
     if options.program is None:
@@ -470,7 +540,7 @@ def main():
         with tempfile.TemporaryDirectory() as work:
             try:
                 run = Run(options, random.Random(seed), work)
-                run.go_on_a_bad_line() if options.bad_line else run.go()
+                run.go_on_a_bad_line() if options.bad_line else run.go_over_a_break() if options.broken else run.go()
             except (Wrong, OSError) as wrong:
                 print("run with seed %d: %s" % (seed, wrong))
                 return 1
