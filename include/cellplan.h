@@ -63,7 +63,7 @@ enum {
   CELLPLAN_NONE = 7,       /* there is none of what was asked for */
   CELLPLAN_NO_CELL = 8,    /* the cell holds no controller */
   CELLPLAN_NO_KIND = 9,    /* the report is of no kind */
-  CELLPLAN_KEEPS_NOT = 10  /* the run so far isn't one of the plan to which the cell is to be handed over */
+  CELLPLAN_KEEPS_NOT = 10  /* the run so far isn't one of the plan to which the cell is to be handed over, as far as the cell knows it */
 };
 
 /* The reasons for which a report isn't possible; the first that holds, in this order, is the status. */
@@ -155,8 +155,8 @@ void cellplan_cell_free(struct cellplan_cell *cell);
    kept. Makes the moves that this plan has then: writes as many of their orders as there is room for, in the order in which they
    are made, and the number of them all, and cellplan_cell_orders gives them too. The texts are as above. `room` is a number of
    orders, not of bytes.
-   GOOD; NO_CELL, and else MOMENT_TOO_LARGE, and else FAULT, and else REFUSED where the plan isn't well shaped, and else KEEPS_NOT,
-   and else BACKWARDS, and else REFUSED where the plan has a cycle. NO_MEMORY may come in place of any but the first two of these
+   GOOD; NO_CELL, and else MOMENT_TOO_LARGE, and else FAULT, and else REFUSED where the plan isn't well shaped, and else KEEPS_NOT
+   (also where a cleaning time rises from 0 on a machine that a job has left: the cell doesn't know when it left), and else BACKWARDS, and else REFUSED where the plan has a cycle. NO_MEMORY may come in place of any but the first two of these
    refusals. If it isn't GOOD the cell holds what it held, and the number is 0. */
 uint32_t cellplan_cell_hand_over(struct cellplan_cell *cell, const uint8_t *instance, size_t instance_length,
                                  const uint8_t *name, size_t name_length, const uint8_t *plan, size_t plan_length,
