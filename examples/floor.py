@@ -1,39 +1,40 @@
 #!/usr/bin/env python3
 """A simulated floor that is driven by cellplan, and that goes on after its cellplan was killed.
 
-floor.py [FILE PLAN] [--runs N] [--seed S] [--bad-line | --break M UNTIL] [--program CELLPLAN]
+floor.py [FILE PLAN] [--runs N] [--seed S] [--log] [--bad-line] [--break M UNTIL] [--program CELLPLAN]
 
 FILE is an instance and PLAN a plan for it that `cellplan check` accepts; without them it is `examples/ft06.txt` with
 `examples/ft06-cleaned.toml`. Each run is one pass of all parts through the cell, with random times of which some are too long:
 
-1. `cellplan drive` is killed (SIGKILL) at a random moment, and its log loses its last bytes, as where a machine goes down.
-2. `cellplan resume` takes the run up from that log, and is killed in turn.
-3. `cellplan resume` takes it up again, and drives the parts until all are out.
+1. `cellplan drive --lines 2` is killed (SIGKILL) at a random moment, and its log loses its last bytes, as where a machine goes down.
+2. `cellplan resume --lines 2` takes the run up from that log, and is killed in turn.
+3. `cellplan resume --lines 2` takes it up again, and drives the parts until all are out.
 
-In one of 2 and 3 the floor still has what it had sent. Then it sends again what it sent after the last report that the log has. In
-the other one it has forgotten all that, and goes by where the parts are: it reports what has happened and isn't in the log.
-Either way it first carries out each order of the log that isn't carried out yet.
+With `--log` each of the three is `cellplan drive --lines 2 --log LOG`, which keeps the log itself, and loses nothing of it.
+
+After a restart the floor first carries out each order of the log that isn't carried out yet, and asks for the state. What has ended and
+still goes on by the state is reported again, with the moment at which it ended. In one of 2 and 3 the floor has forgotten these moments;
+then it goes by where the parts are, and reports what has ended with the present one.
 
 Each order is checked against the parts before it is carried out: the part stands where it is to be fetched and is finished, and
-the machine to which it goes is the next one of its route, holds no part and is clean. No report may be refused. At the end
-`cellplan audit` has to find the whole run in the last log. What is wrong ends the program with status 1.
+the machine to which it goes is the next one of its route, holds no part and is clean. Each report that is accepted has to have ended. At
+the end `cellplan audit` has to find the whole run in the last log. What is wrong ends the program with status 1.
 
-With `--bad-line` nothing is killed, but the line to cellplan loses, doubles, delays and swaps what is sent. Then the floor talks to
-`cellplan drive --lines 2`: it keeps each report until it is accepted, asks for the state where no answer comes, and sends again
-what cellplan still waits for (`Floor.serve_on_a_bad_line`).
+With `--bad-line` the line to cellplan loses, doubles, delays and swaps what is sent, also over a restart. Without it no report may be
+refused.
 
 With `--break M UNTIL` machine M stands still until moment UNTIL, from the first part on that it gets before. Then the floor asks for a
 better plan for the rest, and hands the run over to it (`Run.hand_over`). A time unit lasts longer here, as the search takes some time.
 
-What a floor of one's own needs is in three places: `Told` follows what cellplan has said, `Floor.serve` is the loop that carries out
-orders and sends reports, and `Floor.take_up` is what has to be done before the first report after a restart.
+What a floor of one's own needs is in two places: `Told` follows what cellplan has said, and `Floor.serve` is the loop that carries out
+orders, reports what has ended, and sends again what cellplan still waits for.
 """
 import argparse, collections, heapq, json, os, random, re, select, shutil, signal, subprocess, sys, tempfile, time
 
 HERE = os.path.dirname(os.path.abspath(__file__))
 UNIT = 0.0005  # seconds for which a time unit of the instance lasts
 LONG_UNIT = 0.01  # and where a machine breaks down
-SOON = 20  # the time units after which a floor on a bad line asks for the state
+SOON = 20  # the time units after which a floor whose report isn't answered asks for the state
 PATIENCE = 30  # the seconds after which a floor on which nothing moves, and nothing comes, is given up
 OUTSIDE = -1  # the place of a part that hasn't entered the cell; after its last step its place is the length of its route
 
@@ -88,20 +89,20 @@ class Shop:
 class Told:
     """What cellplan has said so far: the cell as it stands after the lines `report` and `order`."""
 
-    def __init__(self, shop):
-        self.shop = shop
+    def __init__(self, shop, resumed=False, may_refuse=False):
+        self.shop, self.may_refuse = shop, may_refuse
         self.places = [OUTSIDE] * len(shop.routes)
         self.ready = [False] * len(shop.routes)
         self.moved = [0] * len(shop.routes)  # the moment of each job's last order
         self.cleaning = set()
-        self.reports = []  # the accepted reports, in the words in which they are sent
-        self.accepted = []  # what they say to have ended
+        self.reports = self.taken = 0  # how many were accepted by now, and before what was read last
         self.left_last = {}  # the job that left each machine last
-        self.last = 0  # the moment of the last one
-        self.marked = False
+        self.last = 0  # the moment of the last report or order
+        self.marked = not resumed  # what comes is new, and no event of the log
         self.ended = False
         self.goes_on = set()  # what cellplan waits for, by the lines of a state
-        self.states = None  # the states that were told, where the floor asks for them
+        self.state = set()  # the same of the last whole state, until it is acted on
+        self.states = 0  # how many states were told
         self.doubtful = False  # whether a report was refused for what it says
 
     def take(self, line):
@@ -116,7 +117,7 @@ class Told:
             self.marked = True
         elif words[0] in ("done", "unfinished"):
             self.stated(words)
-        elif words[0] == "refused" and len(words) > 3 and self.states is not None:
+        elif words[0] == "refused" and len(words) > 3 and self.may_refuse:
             self.doubtful = True
         elif words[0] != "late":
             raise Wrong("cellplan says: " + line)
@@ -132,19 +133,20 @@ class Told:
             self.goes_on.add(("clean", int(words[2]), int(words[6])))
         elif words[1] != "job":
             self.ended = True
-            if self.states is not None:
-                self.states.append(self.goes_on)
-            self.goes_on = set()
+            self.state, self.goes_on = self.goes_on, set()
+            self.states += 1
 
-    def named(self, what):
-        """What an accepted report says to have ended: of a cleaning, after the job that left the machine last."""
-        numbers = [int(word) for word in what[1:]]
-        return (what[0], *numbers, self.left_last[numbers[0]]) if what[0] == "clean" else (what[0], *numbers)
+    def accepted(self, line):
+        """What a line says to have ended that accepts a new report: of a cleaning, after the job that left the machine last."""
+        words = line.split(" ")
+        if words[0] != "report" or not self.marked:
+            return None
+        numbers = [int(word) for word in words[3:]]
+        return (words[2], *numbers, self.left_last[numbers[0]]) if words[2] == "clean" else (words[2], *numbers)
 
     def report(self, moment, what):
         self.last = int(moment)
-        self.accepted.append(self.named(what))
-        self.reports.append(" ".join(what + [moment]))
+        self.reports += 1
         if what[0] == "clean":
             self.cleaning.remove(int(what[1]))
         else:
@@ -152,7 +154,7 @@ class Told:
 
     def order(self, moment, job, source, target):
         self.places[job] += 1
-        self.moved[job] = moment
+        self.last = self.moved[job] = moment
         self.ready[job] = False
         if source != "out":
             self.left_last[int(source)] = job
@@ -175,7 +177,7 @@ class Floor:
         self.ends = []  # a heap of (moment, kind, number): what goes on and when it ends
         for job, release in enumerate(shop.release):
             heapq.heappush(self.ends, (rng.uniform(0, release + 3), "part", job))
-        self.sent = []  # pairs of what has happened and the line that told it; lost where the floor forgets
+        self.moments = {}  # when what was reported has ended; lost where the floor forgets
 
     def now(self):
         return (time.monotonic() - self.begun) / self.unit
@@ -233,15 +235,14 @@ class Floor:
 
     # --- what is reported
 
-    def news(self, told):
-        """What has happened on the floor and cellplan still waits for: pairs of a name of its own and the words of its report."""
+    def has_ended(self, told):
+        """What cellplan may still wait for and has ended on the floor."""
         for job, place in enumerate(told.places):
             if not told.ready[job] and self.is_past(job, place):
-                yield ("part", job, place), "arrive %d" % job if place == OUTSIDE else "finish %d %s" % (job, self.shop.spot(job, place))
+                yield ("arrive", job) if place == OUTSIDE else ("finish", job, int(self.shop.spot(job, place)))
         for machine in sorted(told.cleaning):
-            departures = self.shop.left(told.places, machine)
-            if self.is_cleaned(machine, departures):
-                yield ("machine", machine, departures), "clean %d" % machine
+            if self.is_cleaned(machine, self.shop.left(told.places, machine)):
+                yield "clean", machine, told.left_last[machine]
 
     def is_past(self, job, place):
         """Whether a part has ended what it does at a place."""
@@ -253,22 +254,43 @@ class Floor:
             return True
         return self.shop.left(self.places, machine) == departures and machine not in self.cleaning
 
-    def take_up(self, told):
-        """What is sent first after a restart: what was sent after the last report that the log has, with its moments."""
-        rest = self.sent
-        for report in told.reports:
-            lines = [line for _, line in rest]
-            if report in lines:
-                rest = rest[lines.index(report) + 1:]
-        return rest
+    def reports(self, told, unsure):
+        """The lines for what has ended: what is new with the present moment; of what cellplan may lack, and what goes on by the state that it has
+        told, with its own moment, or the last one where that is later."""
+        ended = list(self.has_ended(told))
+        again = sorted((what for what in ended if what in unsure and what in told.state), key=self.moments.get)
+        fresh = [what for what in ended if what not in self.moments]
+        self.moments.update((what, int(self.now())) for what in fresh)
+        told.state = set()
+        unsure.difference_update(again)
+        return [" ".join(map(str, [*what, max(self.moments[what], told.last)])) for what in again + fresh]
+
+    def asks(self, told, unsure, answered, late):
+        """Whether the state is asked for: where it was told since it was asked for last, and a report was refused, or one was accepted after which
+        cellplan may lack the next; and where an answer has been awaited for too long."""
+        ended = list(self.has_ended(told))
+        lacks = told.taken < told.reports and any(what in unsure for what in ended)
+        return ended != [] and (answered and (told.doubtful or lacks) or late)
+
+    def follow(self, told, lines):
+        """Follows what cellplan says, and gives the orders."""
+        for line in lines:
+            what = told.accepted(line)
+            if what is not None and what not in self.has_ended(told):
+                raise Wrong("accepted, and hasn't ended: " + line)
+            order = told.take(line)
+            if order is not None:
+                yield order
 
     # --- the loop
 
     def serve(self, cell, told, enough=lambda: False):
-        """Carries out what cellplan orders and reports what happens, until all is done or soon after it is enough."""
+        """Carries out what cellplan orders and reports what has ended, until all is done or soon after it is enough."""
         orders = collections.deque()
+        unsure = set(self.moments)  # what was reported, and cellplan may lack
+        begun = not cell.resumed and not unsure  # whether each order of the log is carried out, and the state was asked for
         carrier_free, moved, stop = 0, self.now(), float("inf")
-        known = None  # what was reported since the start of this cellplan, by the names of `news`
+        questions, asked = 0, self.now()  # how often the state was asked for, and when something was sent or accepted last
         while self.now() < stop and not (self.is_done(told) and not orders):
             self.pass_time()
             if enough():
@@ -276,59 +298,18 @@ class Floor:
             if orders and self.now() >= carrier_free:
                 self.carry(orders.popleft(), cell.resumed)
                 carrier_free = self.now() + self.rng.uniform(0, 1)
-            if known is None and told.marked and not orders:
-                again = self.take_up(told) if cell.resumed else []
-                known = {name for name, _ in again}
-                cell.send([line for _, line in again])
-            if known is not None:
-                fresh = [(name, "%s %d" % (words, self.now())) for name, words in self.news(told) if name not in known]
-                known.update(name for name, _ in fresh)
-                self.sent += fresh
-                cell.send([line for _, line in fresh])
-            lines = cell.lines(self.unit)
-            orders.extend(filter(None, map(told.take, lines)))
-            if lines or orders or self.ends:
-                moved = self.now()
-            elif self.now() > moved + PATIENCE / self.unit:
-                raise Wrong("nothing goes on any more, and cellplan orders nothing")
-
-    def has_ended(self, told):
-        """What cellplan may still wait for and has ended on the floor."""
-        for job, place in enumerate(told.places):
-            if not told.ready[job] and self.is_past(job, place):
-                yield ("arrive", job) if place == OUTSIDE else ("finish", job, int(self.shop.spot(job, place)))
-        for machine in sorted(told.cleaning):
-            if self.is_cleaned(machine, self.shop.left(told.places, machine)):
-                yield "clean", machine, told.left_last[machine]
-
-    def serve_on_a_bad_line(self, cell, told):
-        """As `serve`, where what is sent may be lost, doubled, delayed or swapped."""
-        orders = collections.deque()
-        told.states = []
-        kept = {}  # the moment of each report that isn't accepted yet, by what has ended
-        carrier_free, asked, moved = 0, self.now(), self.now()
-        while not (self.is_done(told) and not orders):
-            self.pass_time()
-            if orders and self.now() >= carrier_free:
-                self.carry(orders.popleft(), False)
-                carrier_free = self.now() + self.rng.uniform(0, 1)
-            again = [what for what in kept if what in told.states[-1]] if told.states else []
-            fresh = [what for what in self.has_ended(told) if what not in kept]
-            kept.update((what, int(self.now())) for what in fresh)
-            sent = [" ".join(map(str, [*what, max(kept[what], told.last)])) for what in again + fresh]
-            told.states.clear()
-            if kept and (told.doubtful or self.now() > asked + SOON):
-                sent.append("status")
-                told.doubtful, asked = False, self.now()
-            cell.send(sent)
-            lines = cell.lines(self.unit)
-            orders.extend(filter(None, map(told.take, lines)))
-            for what in told.accepted:
-                if kept.pop(what, None) is None:
-                    raise Wrong("accepted, and not kept: %s" % (what,))
+            lines = self.reports(told, unsure) if begun else []
+            late = told.may_refuse and self.now() > asked + SOON
+            if self.asks(told, unsure, told.states >= questions, late) if begun else told.marked and not orders:
+                lines.append("status")
+                begun, told.doubtful, questions = True, False, told.states + 1
+                unsure.update(self.moments if told.may_refuse else ())
+            cell.send(lines)
+            told.taken = told.reports
+            orders.extend(self.follow(told, cell.lines(self.unit)))
+            if lines or told.reports > told.taken:
                 asked = self.now()
-            told.accepted.clear()
-            if lines or orders or self.ends or kept:
+            if orders or self.ends or told.reports > told.taken:
                 moved = self.now()
             elif self.now() > moved + PATIENCE / self.unit:
                 raise Wrong("nothing goes on any more, and cellplan orders nothing")
@@ -339,11 +320,12 @@ class Floor:
 
 
 class Cell:
-    """A cellplan process: lines go to it, and what it writes goes to a log and is read from there on as lines."""
+    """A cellplan process: lines go to it, and what it writes goes to a log, unless it keeps one itself, and is read from there on as lines."""
 
     def __init__(self, words, log, resumed):
         self.process = subprocess.Popen(words, stdin=subprocess.PIPE, stdout=subprocess.PIPE)
         self.log, self.resumed, self.held = log, resumed, b""
+        self.keeps_log = "--log" in words
 
     def send(self, lines):
         self.process.stdin.write("".join(line + "\n" for line in lines).encode())
@@ -359,8 +341,9 @@ class Cell:
         return self.split(read)
 
     def split(self, read):
-        with open(self.log, "ab") as log:
-            log.write(read)
+        if not self.keeps_log:
+            with open(self.log, "ab") as log:
+                log.write(read)
         *lines, self.held = (self.held + read).split(b"\n")
         return [line.decode() for line in lines]
 
@@ -385,9 +368,9 @@ class Cell:
 class BadLine(Cell):
     """The same behind a line that loses, doubles, delays and swaps what is sent."""
 
-    def __init__(self, words, log, rng):
-        super().__init__(words, log, False)
-        self.rng, self.delayed = rng, []  # pairs of when a line comes and the line
+    def __init__(self, words, log, resumed, rng, delayed):
+        super().__init__(words, log, resumed)
+        self.rng, self.delayed = rng, delayed  # pairs of when a line comes and the line
 
     def send(self, lines):
         now = time.monotonic()
@@ -395,7 +378,7 @@ class BadLine(Cell):
             for _ in range(self.rng.choice([0, 1, 1, 1, 2])):
                 self.delayed.append((now + UNIT * self.rng.choice([0, 0, 0, self.rng.uniform(0, 5), self.rng.uniform(0, 50)]), line))
         come = [line for moment, line in self.delayed if moment <= now]
-        self.delayed = [each for each in self.delayed if each[0] > now]
+        self.delayed[:] = [each for each in self.delayed if each[0] > now]
         self.rng.shuffle(come)
         super().send(come)
 
@@ -408,53 +391,59 @@ class Run:
         self.files = [options.instance, options.plan]
         self.shop = Shop(*self.files)
         self.floor = Floor(rng, self.shop, options.broken)
-        self.log = None
+        self.log = os.path.join(work, "run.log") if options.log else None  # the log that counts
+        self.delayed = []  # what a bad line hasn't brought yet
 
     def ask(self, *words):
-        """The answer of a command that reads files alone."""
+        """The answer of a command that is given no input."""
         ended = subprocess.run([self.options.program, *words], stdin=subprocess.DEVNULL, stdout=subprocess.PIPE)
         return ended.stdout.decode()
 
-    def start(self, number, *options):
-        """The process of this number, with a log of its own."""
-        words = ["drive", *self.files] if self.log is None else ["resume", *self.files, self.log]
-        return Cell([self.options.program, *words, *options], os.path.join(self.work, "run-%d.log" % number), self.log is not None)
+    def words(self):
+        """The words that begin the run, or take it up from the log that counts, and whether they take it up."""
+        if self.options.log:
+            return ["drive", *self.files, "--log", self.log], os.path.exists(self.log) and os.path.getsize(self.log) > 0
+        return (["drive", *self.files], False) if self.log is None else (["resume", *self.files, self.log], True)
+
+    def start(self, number, *more):
+        """The process of this number, and what it tells."""
+        words, resumed = self.words()
+        log = self.log if self.options.log else os.path.join(self.work, "run-%d.log" % number)
+        bad = [self.rng, self.delayed] if self.options.bad_line else []
+        cell = (BadLine if bad else Cell)([self.options.program, *words, "--lines", "2", *more], log, resumed, *bad)
+        return cell, Told(self.shop, resumed, self.options.bad_line)
 
     def go(self):
         forgets = self.rng.choice([2, 3])
         total, _ = self.shop.totals()
         killed = sorted([self.rng.randint(0, total), self.rng.randint(0, total)])
         for number, enough in enumerate([*killed, float("inf")], 1):
-            cell, told = self.start(number), Told(self.shop)
-            told.marked = not cell.resumed
+            cell, told = self.start(number)
             if number == forgets:
-                self.floor.sent = []
-            self.floor.serve(cell, told, lambda: len(told.reports) >= enough)
+                self.floor.moments.clear()
+            self.floor.serve(cell, told, lambda: told.reports >= enough)
             if number < 3:
                 cell.kill()
                 self.cut(cell)
-        for line in cell.close():
-            told.take(line)
-        self.look_at_the_end(cell, told)
+        self.end(cell, told)
 
     def go_over_a_break(self):
-        cell, told = self.start(1), Told(self.shop)
-        told.marked = True
+        cell, told = self.start(1)
         self.floor.serve(cell, told, lambda: self.floor.stuck_part() is not None)
         if not self.floor.is_done(told):
             cell.kill()
             now = self.hand_over(cell.log)
-            cell, told = self.start(2, "--at", now), Told(self.shop)
+            cell, told = self.start(2, "--at", now)
             self.floor.serve(cell, told)
-        for line in cell.close():
-            told.take(line)
-        self.look_at_the_end(cell, told)
+        self.end(cell, told)
 
     def hand_over(self, log):
         """Looks for a better plan for the rest, by which the run is taken up at the moment that is given."""
         # 1. the log is made whole by the instance and plan that wrote it, and each part is where its last order put it
-        whole = self.ask("resume", *self.files, log)
-        self.log = self.written("whole.log", whole)
+        self.log = log
+        whole = self.ask(*self.words()[0])
+        if not self.options.log:
+            self.log = self.written("whole.log", whole)
         told = Told(self.shop)
         for order in filter(None, map(told.take, whole.splitlines())):
             self.floor.carry(order, True)
@@ -469,8 +458,7 @@ class Run:
         before = self.outlook(now)
         self.files[1] = self.written("rest.toml", self.ask("improve", *self.files, "--after", self.log, "--at", now, "--rounds", "2"))
         print("at %s: by the old orders parts are %s, by the new ones %s" % (now, before, self.outlook(now)))
-        # 3. `resume` by the new plan. What the floor has sent and isn't in the log is reported anew, as it ends now or later
-        self.floor.sent = []
+        # 3. the run is taken up by the new plan. What has ended and isn't in the log is sent again
         return now
 
     def outlook(self, now):
@@ -487,17 +475,10 @@ class Run:
             file.write(text)
         return path
 
-    def go_on_a_bad_line(self):
-        words = ["drive", *self.files, "--lines", "2"]
-        cell = BadLine([self.options.program, *words], os.path.join(self.work, "run.log"), self.rng)
-        told = Told(self.shop)
-        self.floor.serve_on_a_bad_line(cell, told)
-        for line in cell.close():
-            told.take(line)
-        self.look_at_the_end(cell, told)
-
     def cut(self, cell):
         """Cuts the log's last bytes off. A log counts once its mark is out, the empty line; until then the one before it does."""
+        if cell.keeps_log:
+            return
         size = os.path.getsize(cell.log) if os.path.exists(cell.log) else 0
         with open(cell.log, "ab") as log:
             log.truncate(max(0, size - self.rng.choice([0, 1, self.rng.randint(0, 120)])))
@@ -505,7 +486,10 @@ class Run:
             if not cell.resumed or b"\n\n" in b"\n" + log.read():
                 self.log = cell.log
 
-    def look_at_the_end(self, cell, told):
+    def end(self, cell, told):
+        """Ends the input, and looks at what is told and at the log."""
+        for line in cell.close():
+            told.take(line)
         if not told.ended or self.floor.places != told.places or self.floor.cleaning:
             raise Wrong("the end isn't told as it is")
         found = self.ask("audit", *self.files, cell.log).strip()
@@ -524,6 +508,7 @@ def words():
     parser.add_argument("plan", nargs="?", default=os.path.join(HERE, "ft06-cleaned.toml"))
     parser.add_argument("--runs", type=int, default=10, help="how many passes (10)")
     parser.add_argument("--seed", type=int, default=0, help="where the random times begin (0)")
+    parser.add_argument("--log", action="store_true", help="let cellplan keep the log")
     parser.add_argument("--bad-line", action="store_true", help="a line that loses, doubles, delays and swaps reports")
     parser.add_argument("--break", dest="broken", nargs=2, type=int, metavar=("M", "UNTIL"), help="machine M stands still until UNTIL")
     parser.add_argument("--program", default=found_program(), help="cellplan (of the path, else of this clone)")
@@ -540,7 +525,7 @@ def main():
         with tempfile.TemporaryDirectory() as work:
             try:
                 run = Run(options, random.Random(seed), work)
-                run.go_on_a_bad_line() if options.bad_line else run.go_over_a_break() if options.broken else run.go()
+                run.go_over_a_break() if options.broken else run.go()
             except (Wrong, OSError) as wrong:
                 print("run with seed %d: %s" % (seed, wrong))
                 return 1

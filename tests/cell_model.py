@@ -82,16 +82,17 @@ class Plan:
 
 
 class Floor:
-    """A run of a plan: where the jobs are, what goes on and until when, and the lines that tell it."""
+    """A run of a plan: where the jobs are, what goes on and until when, and the lines that tell it, in either version."""
 
-    def __init__(self, shop, plan):
-        self.shop, self.plan = shop, plan
+    def __init__(self, shop, plan, version=1):
+        self.shop, self.plan, self.version = shop, plan, version
         self.step = [-1] * shop.jobs  # the step of the job, -1 outside before it
         self.ready = [False] * shop.jobs
         self.gone = {}
         self.holder = [None] * shop.machines
         self.dirty = [False] * shop.machines
         self.entered = [0] * shop.machines
+        self.left_last = {}  # the job that left each machine last
         self.due, self.dues, self.begun = {}, [], []
         for job, moment in enumerate(plan.release):
             self.goes_on(("arrive", job), moment)
@@ -110,11 +111,11 @@ class Floor:
 
     def report(self, activity, at):
         """The lines for an activity that goes on and now ends."""
-        late = at > self.least_due()[0]
+        late = [self.late_line(activity, at)] if at > self.least_due()[0] else []
         del self.due[activity]
         self.last = at
         self.reports += 1
-        lines = ["report %d %s" % (at, " ".join(map(str, activity)))] + ["late %d" % at] * late
+        lines = ["report %d %s" % (at, " ".join(map(str, activity)))] + late
         if activity[0] == "clean":
             machine = activity[1]
             self.dirty[machine] = False
@@ -124,7 +125,32 @@ class Floor:
             self.ready[mover] = True
         while mover is not None and self.can_move(mover):
             mover = self.move(mover, at, lines)
-        return lines
+        return lines + ["done %d" % at] * (self.version == 2 and not self.due)
+
+    def late_line(self, activity, at):
+        """The line of a late report of this activity."""
+        if self.version == 1:
+            return "late %d" % at
+        overdue = [other for other, due in self.due.items() if due < at]
+        overdue.sort(key=lambda other: (other != activity, other[0] == "clean", other[1]))
+        more = " and %d more" % (len(overdue) - 1) if len(overdue) > 1 else ""
+        return "late %d %s%s" % (at, self.words(overdue[0]), more)
+
+    def words(self, activity):
+        """What version 2 says of an activity that goes on."""
+        due = self.due[activity]
+        if activity[0] == "arrive":
+            return "job %d arrives %d" % (activity[1], due)
+        if activity[0] == "finish":
+            _, job, machine = activity
+            return "job %d on machine %d since %d due %d" % (job, machine, due - dict(self.shop.routes[job])[machine], due)
+        machine = activity[1]
+        return "machine %d cleaned after job %d since %d due %d" % (machine, self.left_last[machine], due - self.plan.cleaned(machine), due)
+
+    def sent(self, activity, at):
+        """The line that reports it."""
+        after = [self.left_last[activity[1]]] if activity[0] == "clean" and self.version == 2 else []
+        return " ".join(map(str, [*activity, *after, at]))
 
     def next_at(self, machine):
         """The job that enters the machine next by its order."""
@@ -154,6 +180,7 @@ class Floor:
         if source is None:
             return None
         self.holder[source] = None
+        self.left_last[source] = job
         if self.plan.cleaned(source):
             self.dirty[source] = True
             self.goes_on(("clean", source), at + self.plan.cleaned(source))
@@ -174,16 +201,16 @@ def stated(shop, plan):
     return shop.jobs + shop.operations + sum(len(row) for machine, row in enumerate(plan.order) if plan.cleaned(machine))
 
 
-def driven(rng, shop, plan, jitter):
+def driven(rng, shop, plan, jitter, version=1):
     """The reports of a whole run whose ends are early, exact and late, each with the lines of its answer, and the run."""
-    floor, asked, waiting = Floor(shop, plan), [], []
+    floor, asked, waiting = Floor(shop, plan, version), [], []
     while floor.due:
         while floor.begun:
             activity = floor.begun.pop()
             heapq.heappush(waiting, (floor.due[activity] + rng.choice([0, 0, rng.randint(-jitter, jitter)]), activity))
         at, activity = heapq.heappop(waiting)
         at = max(at, floor.last)
-        asked.append((" ".join(map(str, activity)) + " %d" % at, floor.report(activity, at)))
+        asked.append((floor.sent(activity, at), floor.report(activity, at)))
     return asked, floor
 
 

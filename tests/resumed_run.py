@@ -30,9 +30,10 @@ class Run:
     """One run of a cell, whose instance and plan are files: its reports with their answers, and the log that counts, none before the
     first process. Its processes are those of the program, behind the words of another one where there is one."""
 
-    def __init__(self, files, asked, last, wrapper=()):
+    def __init__(self, files, asked, last, wrapper=(), version=1):
         self.files, self.asked, self.last = files, asked, last
         self.program = [*wrapper, PROGRAM]
+        self.options = ["--lines", "2"] if version == 2 else []
         self.log = None
 
     def ends(self, words, given):
@@ -45,7 +46,7 @@ class Run:
         """How many of the reports are in the log, and the lines that come before the mark and those behind it."""
         kept = events(whole_lines(self.log))
         count = sum(line.startswith("report ") for line in kept)
-        told = [line for _, answer in self.asked[:count] for line in answer]
+        told = [line for _, answer in self.asked[:count] for line in answer if not line.startswith("done ")]
         behind = []
         while events(told) != kept:
             if not told:
@@ -56,10 +57,10 @@ class Run:
     def starts(self):
         """The words of a process that takes the run up or begins it, what it writes first, and the reports that it is to be sent."""
         if self.log is None:
-            return ["drive", *self.files], [], self.asked
+            return ["drive", *self.files, *self.options], [], self.asked
         path = self.written(self.log)
         count, told, behind = self.begun()
-        return ["resume", *self.files, path], told + [""] + behind, self.asked[count:]
+        return ["resume", *self.files, path, *self.options], told + [""] + behind, self.asked[count:]
 
     def sent_again(self, asked):
         """These reports, behind the last one that the log has, which is sent again."""

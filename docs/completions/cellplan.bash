@@ -14,10 +14,11 @@ _cellplan() {
     improve) options='--instance --after --at --rounds --seed --help' ;;
     check | explain) options='--instance --after --at --help' ;;
     schedule) options='--instance --after --at --svg --help' ;;
-    drive | hub) options='--instance --lines --leap --help' ;;
+    drive) options='--instance --log --at --lines --leap --help' ;;
+    hub) options='--instance --lines --leap --help' ;;
     gantt) options='--instance --svg --help' ;;
     facts | shape | bounds | audit) options='--instance --help' ;;
-    resume) options='--instance --at --help' ;;
+    resume) options='--instance --at --lines --leap --help' ;;
     *) return ;;
   esac
   case $word in

@@ -4,8 +4,8 @@
 //! A [`Controller`] is made of a `Verified` plan and takes one [`Report`] at a time. It accepts exactly the
 //! reports that are possible, and answers each with the moves that it releases.
 //!
-//! Controllers of other plans are made of the same functions: [`check_report`], [`check_cleaning_after`], [`make_step`],
-//! [`renew_job`] and [`renew_machine`].
+//! Controllers of other plans are made of the same functions: [`check_report`], [`check_cleaning_after`], [`is_past_due`],
+//! [`make_step`], [`renew_job`] and [`renew_machine`].
 //!
 //! Moments are whole time units, counted from moment 0. Only [`Controller::new`] and [`Dues::sized`] take memory.
 #![tactic(auto)]
@@ -39,5 +39,5 @@ pub use report::{Ack, Phase};
 pub use report_fault::ReportFault;
 pub use scan_dues::ScanDues;
 pub use shop_base::{MoveOrder, Spot};
-pub use step::make_step;
+pub use step::{is_past_due, make_step};
 pub use tourney_dues::TourneyDues;

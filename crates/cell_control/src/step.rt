@@ -49,7 +49,7 @@ fn is_late<D: Dues>(dues: &D, report: Report) -> bool
 }
 
 /// Whether the moment is past a due moment.
-pub(crate) fn is_past_due<D: Dues>(dues: &D, at: Moment) -> bool
+pub fn is_past_due<D: Dues>(dues: &D, at: Moment) -> bool
     ensures { (result ≡ false) ↔ AreDueFrom (D.dues dues.now) at }
 {
     match dues.least() {

@@ -15,10 +15,13 @@ use Rattle.run_log.specs.declared.audit_fault.AuditFault.TheVariants.{Memory}
 use Rattle.cell_tables.specs.Events.{events_of}
 use Rattle.run_log.specs.Log.{Noted}
 use Rattle.event_lines.specs.LogLines.{LinesTell}
-use Rattle.run_log.specs.Audits.{IsAudit}
+use Rattle.run_log.specs.Audits.{IsAudit, TellRun}
 use Rattle.event_lines.proofs.Readings.{one_reading}
-use Rattle.cell_drive.specs.OneRun.{cell_after, IsSoFar}
-use Rattle.cell_drive.specs.OneCell.{seen}
+use Rattle.plan_verifier.specs.Accepted.{VerifiedPlan}
+use Rattle.byte_streams.specs.Lent.{Streams}
+use Rattle.cell_drive.specs.declared.one_run.DriveEnd.{DriveEnd}
+use Rattle.cell_drive.specs.OneRun.{cell_after, IsSoFar, IsEndOf}
+use Rattle.cell_drive.specs.OneCell.{DriveState, seen}
 use Rattle.cell_drive.proofs.OneRun.{driven_text}
 use Rattle.cell_drive.specs.AuditLaw.{IsLogOf, IsFoundAgain, AnAuditKeepsWhatWasDriven}
 use Rattle.cell_drive.proofs.ReadBack.{an_answer_text_is_a_log}
@@ -57,13 +60,22 @@ found_where p entries done last left text (Err fault) tells so_far kept only = o
 pub appended : (before after : Option (List ℕ)) (start text out : List ℕ) → before ≡ Some start → after ≡ Some (start ++ text) → Appends before after out → start ++ text ≡ start ++ out
 appended before after start text out from to wrote = subst (λ o. Appends o (Some (start ++ text)) out) from (subst (λ o. Appends before o out) to wrote)
 
+-- what was written is a log of the cell that came to this
+pub found_of : (v : VerifiedPlan) (s : DriveState) (end : DriveEnd) (before after : Streams) (start text whole : List ℕ) (outcome : Result Audit AuditFault)
+    → Appends before.output.taken after.output.taken whole → IsLogOf v.planned whole (seen s) → IsEndOf v s end → before.output.taken ≡ Some start → after.output.taken ≡ Some (start ++ text)
+    → IfOk outcome (IsAudit v.planned (lines_of text)) → (TellRun v.planned (lines_of text) → IfErr outcome (λ fault. fault ≡ Memory))
+    → MatchResult outcome (IsFoundAgain v.planned end.log.entries end.done end.last end.left) (λ fault. fault ≡ Memory)
+found_of v s end before after start text whole outcome written log came_to from to kept only =
+    let same : whole ≡ text = append_cancel_left start whole text (sym (appended before.output.taken after.output.taken start text whole from to written)) in
+    let is_log : IsLogOf v.planned text (seen s) = subst (λ (t : List ℕ). IsLogOf v.planned t (seen s)) same log in
+    let entries : s.log.entries ≡ end.log.entries = ap (λ (l : Noted). l.entries) (sym came_to.log) in
+    let tells : LinesTell v.planned (lines_of text) end.log.entries = subst (LinesTell v.planned (lines_of text)) entries is_log.tells in
+    let run : IsRun v.planned (events_of end.log.entries) = subst (λ (es : List Entry). IsRun v.planned (events_of es)) entries is_log.run in
+    found_where v.planned end.log.entries end.done end.last end.left text outcome tells came_to.so_far kept (only (end.log.entries, tells, run))
+
 pub an_audit_keeps_what_was_driven : AnAuditKeepsWhatWasDriven
 an_audit_keeps_what_was_driven v end before after start text outcome shaped is from to kept only =
     let all = is.streamed.comes_to in
-    let same : all.text ++ all.closing ≡ text = append_cancel_left start (all.text ++ all.closing) text (sym (appended before.output.taken after.output.taken start text (all.text ++ all.closing) from to all.written)) in
-    let is_log : IsLogOf v.planned text (seen is.end) = subst (λ (t : List ℕ). IsLogOf v.planned t (seen is.end)) same
-    (an_answer_text_is_a_log v.planned is.streamed.input (all.text ++ all.closing) (seen is.end) shaped (driven_text v end before after is)) in
-    let entries : is.end.log.entries ≡ end.log.entries = ap (λ (l : Noted). l.entries) (sym is.came_to.log) in
-    let tells : LinesTell v.planned (lines_of text) end.log.entries = subst (LinesTell v.planned (lines_of text)) entries is_log.tells in
-    let run : IsRun v.planned (events_of end.log.entries) = subst (λ (es : List Entry). IsRun v.planned (events_of es)) entries is_log.run in
-    found_where v.planned end.log.entries end.done end.last end.left text outcome tells is.came_to.so_far kept (only (end.log.entries, tells, run))
+    found_of v is.end end before after start text (all.text ++ all.closing) outcome all.written
+    (an_answer_text_is_a_log v.planned is.streamed.input (all.text ++ all.closing) (seen is.end) shaped (driven_text v end before after is))
+    is.came_to from to kept only

@@ -24,7 +24,7 @@ use Rattle.cell_drive.proofs.OneText.{start_on_course}
 use Rattle.event_lines.specs.ReadBack.{TellsFirst}
 use Rattle.event_lines.proofs.Telling.{tells_none, tells_both}
 use Rattle.cell_drive.proofs.ReadBack.{answers_told, closing_told}
-use Rattle.cell_drive.specs.CutLaw.{ACutLogIsTakenUp, ACutLogHasItsOrders, WhatWasDrivenHasItsOrders}
+use Rattle.cell_drive.specs.CutLaw.{IsCutFrom, ACutLogIsTakenUp, ACutLogHasItsOrders, WhatWasDrivenHasItsOrders}
 use Rattle.cell_drive.proofs.Parts.{entries_moved}
 use Rattle.cell_drive.proofs.CutRuns.{cut_of_run}
 use Rattle.text_lines.proofs.EndedLines.{ended-more}
@@ -79,7 +79,7 @@ pub record AreLed (p : PlannedShop) (before end : DrivenCell) : Type 0 where
   pub reports : List base.Report
   pub leads : Leads p before.cell reports (events_of more) end.cell
 
-nothing_led : (p : PlannedShop) (before end : DrivenCell) → end ≡ before → AreLed p before end
+pub nothing_led : (p : PlannedShop) (before end : DrivenCell) → end ≡ before → AreLed p before end
 nothing_led p before end same = record {
   more = [];
   entries = ap (λ (d : DrivenCell). d.entries) same ∙ sym (append-nil before.entries);
@@ -132,13 +132,18 @@ pub closing_part : (p : PlannedShop) (end : DrivenCell) (closing : List ℕ) →
 closing_part p end closing (inl none) = subst (λ (t : List ℕ). TellsFirst p t []) (sym none) (tells_none p)
 closing_part p end closing (inr closes) = closing_told p end closing closes
 
+-- the log of a cell that was led so is cut at any byte
+pub cut_of_led : (p : PlannedShop) (cut lost : List ℕ) (end : DrivenCell) → IsWellShaped p → LinesTell p (lines_of (cut ++ lost)) end.entries → AreLed p (undriven p) end → IsCutFrom p cut end.entries
+cut_of_led p cut lost end shaped tells led =
+    a_cut_log_has_its_orders p cut lost end.entries shaped tells
+    (run_of_leads p led.reports end.entries end.cell shaped (subst (λ (es : List Entry). IsControlledRun p led.reports (events_of es) end.cell) (sym led.entries) led.leads))
+
 pub what_was_driven_has_its_orders : WhatWasDrivenHasItsOrders
 what_was_driven_has_its_orders p lines answers closing cut lost end shaped are closes whole =
     let told = answers_told p shaped lines (undriven p) end 1 answers (start_on_course p shaped) are in
     let tells : LinesTell p (lines_of ((answers ++ closing) ++ [])) ((told.more ++ []) ++ []) = tells_both p answers closing told.more [] told.tells (closing_part p end closing closes) [] [] refl in
     let same_text : (answers ++ closing) ++ [] ≡ cut ++ lost = append-nil (answers ++ closing) ∙ whole in
     let same_entries : (told.more ++ []) ++ [] ≡ end.entries = append-nil (told.more ++ []) ∙ append-nil told.more ∙ sym told.entries in
-    let led = answers_lead p lines (undriven p) end 1 answers are in
-    a_cut_log_has_its_orders p cut lost end.entries shaped
+    cut_of_led p cut lost end shaped
     (subst (λ (t : List ℕ). LinesTell p (lines_of t) end.entries) same_text (subst (λ (es : List Entry). LinesTell p (lines_of ((answers ++ closing) ++ [])) es) same_entries tells))
-    (run_of_leads p led.reports end.entries end.cell shaped (subst (λ (es : List Entry). IsControlledRun p led.reports (events_of es) end.cell) (sym led.entries) led.leads))
+    (answers_lead p lines (undriven p) end 1 answers are)

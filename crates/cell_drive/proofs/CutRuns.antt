@@ -1,17 +1,13 @@
 -- Controlled runs that are cut between two events.
 use Rattle.std.proofs.Common.{◌≡◌, ℕ, zero, suc, ◌≤◌, List, [], ◌∷◌, ◌++◌, length, ◌⊎◌, inl, inr, refl, sym, ap, ◌∙◌, subst, arith, append_assoc, append-nil, length-append}
-use Rattle.std.proofs.lemmas.List.{append_cancel_left}
 use Rattle.shop_base.specs.declared.move_order.MoveOrder.{MoveOrder}
-use Rattle.shop_base.specs.Plan.{PlannedShop, IsWellShaped}
+use Rattle.shop_base.specs.Plan.{PlannedShop}
 use Rattle.shop_base.specs.Cell.{Cell}
 use Rattle.shop_base.specs.Report.{Report}
-use Rattle.shop_base.specs.Run.{Event, Reported, IsAtRest}
+use Rattle.shop_base.specs.Run.{Event, Reported}
 use Rattle.shop_base.specs.Controlled.{moved, IsStep, after_step, step_orders, Leads, done, accepted, refused}
-use Rattle.shop_base.specs.Sound.{IsSound}
-use Rattle.shop_base.proofs.ControlledRuns.{after_step-sound}
-use Rattle.shop_base.proofs.OneStep.{one_step}
 use Rattle.cell_drive.specs.OneRun.{IsBeforeReport}
-use Rattle.cell_drive.proofs.Parts.{append_parts, moved_rest, moved_alone, moved_none, moved_no_report}
+use Rattle.cell_drive.proofs.Parts.{append_parts, moved_rest}
 
 -- the first step of a controlled run
 pub record FirstStep (p : PlannedShop) (c : Cell) (es : List Event) (end : Cell) : Type 0 where

@@ -1,11 +1,12 @@
 -- A cell whose events are followed, whatever controller ordered the moves, and its due moments.
-use Rattle.std.proofs.Common.{◌≡◌, ◌≢◌, ℕ, ◌+◌, ◌<◌, Bool, List, [], ◌∷◌, ◌++◌, length, set, take, drop, drop-cons, get_or, add-one, Option, None, sym, ap, ◌∙◌, subst, arith, cond}
+use Rattle.std.proofs.Common.{◌≡◌, ◌↔◌, ℕ, ◌+◌, ◌<◌, Bool, false, List, [], ◌∷◌, ◌++◌, length, set, take, drop, drop-cons, get_or, add-one, Option, None, sym, ap, ◌∙◌, subst, arith, cond}
 use Rattle.std.proofs.lemmas.List.{take_more}
 use Rattle.shop_base.specs.declared.job_state.JobState.{JobState}
 use Rattle.shop_base.specs.Plan.{PlannedShop, jobs, machines}
 use Rattle.shop_base.specs.Cell.{Cell, MachineState, job_in, cleaning}
 use Rattle.shop_base.specs.Activity.{Arrival, Operation, Cleaning}
-use Rattle.shop_base.specs.Report.{CanReport, with_ready, with_clean}
+use Rattle.shop_base.specs.Report.{Report, CanReport, with_ready, with_clean}
+use Rattle.shop_base.specs.Punctual.{IsPunctual}
 use Rattle.shop_base.specs.Run.{AreEvents, after, after_all}
 use Rattle.shop_base.specs.Movers.{due_of_job, due_of_cleaning, due_after}
 use Rattle.shop_base.specs.Sound.{IsSound}
@@ -17,11 +18,20 @@ use Rattle.cell_tables.specs.declared.entry.Entry.{Entry}
 use Rattle.cell_tables.specs.Events.{event_of, events_of}
 use Rattle.run_log.proofs.Audits.{events-join}
 use Rattle.cell_control.specs.DueMoments.{AreDueMoments}
+use Rattle.cell_control.specs.Steps.{AreDueFrom}
+use Rattle.cell_control.proofs.Steps.{due_from-punctual}
 use Rattle.cell_drive.specs.LateEvents.{AreLate, IsLateEvent}
 use Rattle.cell_drive.proofs.LateOnes.{late_more}
 use Rattle.cell_control.proofs.DueMoments.{due_moments_but-renewed, due_moments-renewed, due_moments_but-none}
 
 module _ (p : PlannedShop) (c : Cell) (dues : List (Option ℕ)) (sound : IsSound p c) (due_moments : AreDueMoments p c dues) where
+  -- a report is late exactly where its moment is past a due moment
+  pub late_exactly : (r : Report) (at : ℕ) (late : Bool) → at ≡ r.at → (late ≡ false) ↔ AreDueFrom dues at → (late ≡ false) ↔ IsPunctual p c r
+  late_exactly r at late same is =
+      let punctual = due_from-punctual p c dues r sound due_moments in
+      let from : (late ≡ false) ↔ AreDueFrom dues r.at = subst (λ (t : ℕ). (late ≡ false) ↔ AreDueFrom dues t) same is in
+      ((λ not_late. punctual.0 (from.0 not_late)), λ holds. from.1 (punctual.1 holds))
+
   -- a job that has become ready has no due moment
   readied : (new : Cell) (j t : ℕ) → j < jobs p → IsReadied c j t new → AreDueMoments p new (set dues j None)
   readied new j t inside is =

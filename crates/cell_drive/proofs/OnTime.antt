@@ -1,5 +1,5 @@
 -- Where nothing that goes on should have ended before a moment, nothing is found overdue.
-use Rattle.std.proofs.Common.{◌≡◌, ℕ, zero, suc, ◌+◌, ◌<◌, ◌≤◌, nat_lt, Bool, true, false, cond, Option, Some, None, le-ltb, ltb-true, refl, sym, ap, ◌∙◌, add-one, arith}
+use Rattle.std.proofs.Common.{◌≡◌, ℕ, zero, suc, ◌+◌, nat_lt, Bool, true, false, cond, Option, Some, None, le-ltb, ltb-true, refl, sym, ap, ◌∙◌, add-one}
 use Rattle.shop_base.specs.Plan.{PlannedShop, jobs, machines, steps, release, nominal, clean, machine_of}
 use Rattle.shop_base.specs.Cell.{Cell, made, ready, since, cleaning}
 use Rattle.shop_base.specs.Activity.{Arrival, Operation, Cleaning}
@@ -8,7 +8,7 @@ use Rattle.cell_tables.specs.declared.standing.Standing.TheVariants.{Gone}
 use Rattle.cell_tables.specs.Standings.{job_standing, machine_standing, outside_standing, inside_standing, standing_after, cleaning_standing, is_overdue}
 use Rattle.cell_control.specs.Readings.{IsOnTime}
 use Rattle.event_lines.specs.declared.details.Overdue.{Overdue}
-use Rattle.cell_drive.specs.States.{one_more, with_one, with_those, with_jobs, with_machines, own_first, overdue_in}
+use Rattle.cell_drive.specs.States.{one_more, with_those, with_machines, own_first, overdue_in}
 
 module _ (p : PlannedShop) (c : Cell) (t : ℕ) (on_time : IsOnTime p c t) where
   outside : (j : ℕ) (is_ready : Bool) → made c j ≡ 0 → ready c j ≡ is_ready → is_overdue (outside_standing p c j is_ready) t ≡ false

@@ -7,7 +7,6 @@ use Rattle.byte_streams.specs.declared.drive_fault.DriveFault.{DriveFault}
 use Rattle.byte_streams.specs.declared.drive_fault.DriveFault.TheVariants.{Memory}
 use Rattle.byte_streams.specs.Lent.{Streams}
 use Rattle.byte_streams.specs.Lines.{input_lines}
-use Rattle.byte_streams.specs.Answering.{AnswerAll}
 use Rattle.event_lines.specs.SentLines.{cell_prefix}
 use Rattle.event_lines.specs.declared.requests.Claim.TheVariants.{Report, CleanAfter}
 use Rattle.event_lines.specs.declared.requests.Request.{Request}

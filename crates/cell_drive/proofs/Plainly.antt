@@ -37,9 +37,9 @@ module _ (p : PlannedShop) (from : ℕ) where
   plain_reason c report refusal (inl (reason, first, same)) = (reason, first, same ∙ either_way (is_before_leap reason) reason)
   plain_reason c report refusal (inr (can, does_leap, same)) = absurd (cc)
 
-  plain_report : (c : Cell) (number : ℕ) (report : reports.Report) (text : List ℕ) (events : List Entry) (next : Cell)
-      → RequestAnswer p (plain_from from) [] c number (ClaimRequest (Report report)) text events next → ReportAnswer p [] c number report text events next
-  plain_report c number report text events next (inl is) =
+  pub plain_report : (prefix : List ℕ) (c : Cell) (number : ℕ) (report : reports.Report) (text : List ℕ) (events : List Entry) (next : Cell)
+      → RequestAnswer p (plain_from from) prefix c number (ClaimRequest (Report report)) text events next → ReportAnswer p prefix c number report text events next
+  plain_report prefix c number report text events next (inl is) =
       let (reason, first, same) = plain_reason c report is.refusal is.first in
       inl (record {
         reason = reason;
@@ -48,14 +48,14 @@ module _ (p : PlannedShop) (from : ℕ) where
         events_are = is.events_are;
         next_is = is.next_is;
       })
-  plain_report c number report text events next (inr is) =
+  plain_report prefix c number report text events next (inr is) =
       let orders = step_orders p c (said report) is.movers in
       inr (record {
         movers = is.movers;
         step = is.step;
         late = is.late;
         late_is = is.late_is;
-        text_is = is.text_is ∙ ap (λ (rest : List ℕ). report_line report ++ (cond is.late (late_line (said report).at) [] ++ rest)) (append-nil (flat_map (λ o. order_line o) orders));
+        text_is = is.text_is ∙ ap (λ (rest : List ℕ). (prefix ++ report_line report) ++ (cond is.late (prefix ++ late_line (said report).at) [] ++ rest)) (append-nil (flat_map (λ o. prefix ++ order_line o) orders));
         events_are = is.events_are;
         next_is = is.next_is;
       })
@@ -65,7 +65,7 @@ module _ (p : PlannedShop) (from : ℕ) where
   plain_request before number line (ClaimRequest (Report report)) text end asked is = record {
     what = report;
     asked = asked;
-    answer = record { more = is.more; answer = plain_report before.cell number report text is.more end.cell is.answer; entries = is.entries };
+    answer = record { more = is.more; answer = plain_report [] before.cell number report text is.more end.cell is.answer; entries = is.entries };
   }
   plain_request before number line (ClaimRequest (CleanAfter machine job at)) text end asked is = absurd asked
   plain_request before number line Status text end asked is = absurd asked

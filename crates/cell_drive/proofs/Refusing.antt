@@ -1,5 +1,5 @@
 -- What is claimed, and why it is refused.
-use Rattle.std.proofs.Common.{◌≡◌, ◌≤◌, length, Bool, true, false, cond, sym, ap, ◌∙◌, inl, inr, arith}
+use Rattle.std.proofs.Common.{◌≡◌, ◌≤◌, length, Bool, true, false, cond, sym, ap, ◌∙◌, subst, inl, inr, arith}
 use Rattle.shop_base.specs.Plan.{PlannedShop, IsWellShaped}
 use Rattle.shop_base.specs.Cell.{Cell}
 use Rattle.shop_base.specs.Report.{CanReport}
@@ -52,12 +52,15 @@ module _ (p : PlannedShop) (c : Cell) where
   first_named false true reason given same = absurd (cc)
   first_named false false reason given same = cc
 
-  -- and so is what is refused for such a reason
+  -- what is refused for a reason has that reason against it
+  pub refused_reason : (manner : Manner) (claim : Claim) (reason : ReportFault) → IsRefusal manner p c claim (Reason reason) → IsClaimReason p c claim reason
+  refused_reason manner claim reason (inl (given, is, same)) =
+      subst (IsClaimReason p c claim) (sym (first_named (is_before_leap given) (claim_leaps manner c claim) reason given same)) is
+  refused_reason manner claim reason (inr (can, does_leap, same)) = absurd (cc)
+
+  -- and so it is of the shop, where that is looked for after a leap
   pub refused_of_shop : (manner : Manner) (claim : Claim) (reason : ReportFault) → IsRefusal manner p c claim (Reason reason) → is_before_leap reason ≡ false → IsOfShop p (said (claimed claim)).ended
-  refused_of_shop manner claim reason (inl (given, is, same)) after =
-      let named : reason ≡ given = first_named (is_before_leap given) (claim_leaps manner c claim) reason given same in
-      claim_of_shop claim given is (sym (ap is_before_leap named) ∙ after)
-  refused_of_shop manner claim reason (inr (can, does_leap, same)) after = absurd (cc)
+  refused_of_shop manner claim reason is after = claim_of_shop claim reason (refused_reason manner claim reason is) after
 
   module _ (shaped : IsWellShaped p) (sound : IsSound p c) where
     only_claim_reason : (claim : Claim) (one other : ReportFault) → IsClaimReason p c claim one → IsClaimReason p c claim other → other ≡ one

@@ -1,16 +1,15 @@
 -- The log of a cell that is driven on, and the room in it.
-use Rattle.std.proofs.Common.{◌≡◌, ◌+◌, ◌*◌, ◌≤◌, ℕ, List, [], ◌∷◌, ◌++◌, Bool, length, map, refl, sym, ap, ◌∙◌, arith, subst, length-append, ◌↔◌}
+use Rattle.std.proofs.Common.{◌≡◌, ◌+◌, ◌*◌, ◌≤◌, ℕ, List, ◌∷◌, ◌++◌, length, map, sym, ap, ◌∙◌, arith, subst, length-append, ◌↔◌}
 use Rattle.std.specs.Prelude.{IsTrue}
 use Rattle.std.proofs.lemmas.List.{length-map}
 use Rattle.shop_base.specs.declared.move_order.MoveOrder.{MoveOrder}
 use Rattle.shop_base.specs.Plan.{PlannedShop, IsWellShaped}
 use Rattle.shop_base.specs.Cell.{Cell, start}
 use Rattle.shop_base.specs.Report.{after_report}
-use Rattle.shop_base.specs.Run.{Event, Reported, IsRun, AreEvents, after_all, ends_in}
-use Rattle.shop_base.specs.Controlled.{moved, orders_for, after_moves, after_step, step_orders}
+use Rattle.shop_base.specs.Run.{IsRun, AreEvents, after_all}
+use Rattle.shop_base.specs.Controlled.{moved, orders_for, after_moves, step_orders}
 use Rattle.shop_base.specs.Ends.{stated_number, HasEnded}
 use Rattle.shop_base.specs.ReportsLeft.{reports_left}
-use Rattle.shop_base.specs.Sound.{IsSound}
 use Rattle.shop_base.proofs.ControlledRuns.{events_join, after_all_join, moves-events, after_all-moves}
 use Rattle.shop_base.proofs.StatedNumber.{run-stated_number}
 use Rattle.shop_base.proofs.ReportsLeft.{ended_where_none, none_where_ended}

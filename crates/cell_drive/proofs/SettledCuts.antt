@@ -1,5 +1,5 @@
 -- A controlled run that is cut, and then settles, has the orders that it had.
-use Rattle.std.proofs.Common.{◌≡◌, ℕ, zero, suc, ◌+◌, ◌≤◌, List, [], ◌∷◌, ◌++◌, length, map, Option, None, ◌⊎◌, inl, inr, refl, sym, ap, ◌∙◌, subst, arith, append-nil, length-append}
+use Rattle.std.proofs.Common.{◌≡◌, ℕ, zero, suc, ◌≤◌, List, [], ◌∷◌, ◌++◌, length, map, ◌⊎◌, inl, inr, refl, sym, ap, ◌∙◌, subst, arith, append-nil, length-append}
 use Rattle.std.proofs.lemmas.List.{append_cancel_left}
 use Rattle.shop_base.specs.declared.move_order.MoveOrder.{MoveOrder}
 use Rattle.shop_base.specs.Plan.{PlannedShop, IsWellShaped}
@@ -15,7 +15,6 @@ use Rattle.shop_base.proofs.Keeping.{start-sound}
 use Rattle.shop_base.proofs.ControlledRuns.{controlled_to_run, start_at_rest, after_step-sound, after_all_join, after_all-moves}
 use Rattle.shop_base.proofs.OneStep.{one_step}
 use Rattle.shop_base.proofs.Settling.{a_cut_step_settles-holds}
-use Rattle.plan_verifier.specs.Accepted.{IsAcceptable}
 use Rattle.cell_tables.specs.declared.entry.Entry.{Entry}
 use Rattle.cell_tables.specs.declared.entry.Entry.TheVariants.{Order as OrderEntry}
 use Rattle.cell_tables.specs.Events.{events_of}
@@ -23,7 +22,7 @@ use Rattle.event_lines.proofs.Readings.{one_reading}
 use Rattle.cell_drive.specs.OneRun.{cell_after}
 use Rattle.cell_drive.specs.CutLogs.{reported, IsCutLog}
 use Rattle.cell_drive.specs.CutLaw.{ItCanBeTakenUp, ItIsTakenUpWithItsOrders}
-use Rattle.cell_drive.specs.TakenUp.{TakenUp, plan_of, told_in}
+use Rattle.cell_drive.specs.TakenUp.{plan_of, told_in}
 use Rattle.cell_drive.proofs.Parts.{append_parts, moved_alone, moved_none, moved_no_report}
 use Rattle.cell_drive.proofs.OwnRuns.{due_events, front_events}
 use Rattle.cell_drive.proofs.CutRuns.{FirstStep, first_step, begins}

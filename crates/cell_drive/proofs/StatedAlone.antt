@@ -1,35 +1,27 @@
 -- Each of several cells that are driven in a manner is as alone.
-use Rattle.std.proofs.Common.{◌≡◌, ◌==◌, ◌⊎◌, ℕ, ◌+◌, List, [], ◌∷◌, ◌++◌, set, map, Bool, true, false, Option, Some, None, refl, sym, ap, ◌∙◌, subst, inl, inr}
+use Rattle.std.proofs.Common.{◌≡◌, ◌==◌, ◌⊎◌, ℕ, ◌+◌, List, [], ◌∷◌, ◌++◌, set, Bool, true, false, Option, Some, None, refl, sym, ap, ◌∙◌, subst, inl, inr}
 use Rattle.std.proofs.lemmas.Bool.{eqb-true, eqb-false, cases_Bool}
 use Rattle.std.specs.Prelude.{slice_get}
 use Rattle.shop_base.specs.Plan.{PlannedShop}
 use Rattle.shop_base.specs.Cell.{Cell, start}
-use Rattle.shop_base.specs.Report as base
-use Rattle.shop_base.specs.Run.{Event, Reported}
-use Rattle.shop_base.specs.Controlled.{Leads, done, accepted, moved, step_orders}
+use Rattle.shop_base.specs.Controlled.{done}
 use Rattle.shop_base.proofs.StatedNumber.{ends_on_the_stated_number-holds}
-use Rattle.plan_verifier.specs.Accepted.{VerifiedPlan}
-use Rattle.cell_tables.specs.Reports.{said}
 use Rattle.cell_tables.specs.declared.entry.Entry.{Entry}
-use Rattle.cell_tables.specs.declared.entry.Entry.TheVariants.{Report as ReportEntry, Order as OrderEntry}
 use Rattle.cell_tables.specs.Events.{events_of}
-use Rattle.run_log.proofs.Audits.{events-join}
 use Rattle.byte_streams.specs.Answering.{AnswerAll}
 use Rattle.event_lines.specs.SentLines.{cell_prefix}
 use Rattle.event_lines.specs.declared.requests.Claim.TheVariants.{Report, CleanAfter}
 use Rattle.event_lines.specs.declared.requests.Request.{Request}
 use Rattle.event_lines.specs.declared.requests.Request.TheVariants.{Claim as ClaimRequest, Status}
-use Rattle.event_lines.specs.Requests.{claimed}
 use Rattle.cell_drive.specs.declared.manner.Manner.{Manner}
 use Rattle.cell_drive.specs.ManyCells.{PlannedCell, hub_start}
 use Rattle.cell_drive.specs.Stated.{RequestAnswer}
 use Rattle.cell_drive.specs.StatedCells.{AsksCell, AsksOf, OfCell, IsToldIn, CellsTell, CellsStated}
 use Rattle.cell_drive.specs.StatedCellsLaw.{AsksNotOf, SeesLines, none_left, asked, passed_over, EachStatedCellIsAlone}
-use Rattle.cell_drive.specs.Tickets.{AreInRun}
 use Rattle.cell_drive.proofs.CellsAlone.{set_same, set_other, starts_at, verified_at}
-use Rattle.cell_drive.proofs.LogRoom.{events-orders}
 use Rattle.cell_drive.proofs.OneStatedCells.{one_asked_of}
 use Rattle.cell_drive.proofs.PromisesKept.{stays_as_promised}
+use Rattle.cell_drive.proofs.StatedLeads.{LeadsOn, answer_leads}
 
 -- ---- lines that ask nothing of a cell
 
@@ -155,29 +147,9 @@ sees_all manner k (line ∷ lines) cells end number text c found all =
 -- ---- the controlled run
 
 module _ (p : PlannedShop) (manner : Manner) (k : ℕ) where
-  abbrev LeadsOn : Cell → List Entry → Cell → Type 0
-  LeadsOn c events end = (reports : List base.Report) × Leads p c reports (events_of events) end
-
-  no_events : (c next end : Cell) (events more : List Entry) → events ≡ [] → next ≡ c → LeadsOn next more end → LeadsOn c (events ++ more) end
-  no_events c next end events more none same on =
-      subst (λ (es : List Entry). LeadsOn c (es ++ more) end) (sym none) (subst (λ (x : Cell). LeadsOn x more end) same on)
-
-  answer_leads : (c next end : Cell) (number : ℕ) (request : Request) (text : List ℕ) (events more : List Entry) → RequestAnswer p manner (cell_prefix k) c number request text events next → LeadsOn next more end
-      → LeadsOn c (events ++ more) end
-  answer_leads c next end number (ClaimRequest claim) text events more (inl is) on = no_events c next end events more is.events_are is.next_is on
-  answer_leads c next end number (ClaimRequest claim) text events more (inr is) on =
-      let r = said (claimed claim) in
-      let orders = step_orders p c r is.movers in
-      let own = ReportEntry (claimed claim) ∷ map OrderEntry orders in
-      let es = events_of more in
-      let whole : events_of (events ++ more) ≡ Reported r ∷ (moved orders ++ es) =
-      ap (λ (first : List Entry). events_of (first ++ more)) is.events_are ∙ events-join own more ∙ ap (λ (first : List Event). Reported r ∷ (first ++ es)) (events-orders orders) in
-      (r ∷ on.0, subst (λ (all : List Event). Leads p c (r ∷ on.0) all end) (sym whole) (accepted c r is.movers on.0 es end is.step (subst (λ (x : Cell). Leads p x on.0 es end) is.next_is on.1)))
-  answer_leads c next end number Status text events more is on = no_events c next end events more is.events_are is.next_is on
-
-  sees_leads : (number : ℕ) (c : Cell) (lines : List (Option (List ℕ))) (events : List Entry) (end : Cell) → SeesLines p manner k number c lines events end → LeadsOn c events end
+  sees_leads : (number : ℕ) (c : Cell) (lines : List (Option (List ℕ))) (events : List Entry) (end : Cell) → SeesLines p manner k number c lines events end → LeadsOn p manner c events end
   sees_leads _ c _ _ _ (none_left number same) = ([], done c)
-  sees_leads _ _ _ _ end (asked number words lines c next last request text events more asks answer rest) = answer_leads c next end number request text events more answer (sees_leads (number + 1) next lines more end rest)
+  sees_leads _ _ _ _ end (asked number words lines c next last request text events more asks answer rest) = answer_leads p manner (cell_prefix k) c next end number request text events more answer (sees_leads (number + 1) next lines more end rest)
   sees_leads _ _ _ events end (passed_over number line lines c last more not_of rest) = sees_leads (number + 1) c lines events end rest
 
 -- each cell is as alone

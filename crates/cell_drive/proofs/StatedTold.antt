@@ -68,7 +68,7 @@ module _ (p : PlannedShop) where
 
   -- ---- what is taken
 
-  lateness_told : (at : ℕ) (late : Bool) (overdue : Option Overdue) → TellsFirst p (lateness_part [] at late overdue) []
+  pub lateness_told : (at : ℕ) (late : Bool) (overdue : Option Overdue) → TellsFirst p (lateness_part [] at late overdue) []
   lateness_told at true None = (others_tell_none p).late at
   lateness_told at true (Some overdue) = (others_tell_none p).late_for at overdue
   lateness_told at false overdue = tells_none p

@@ -29,7 +29,7 @@ use Rattle.cell_drive.proofs.Refusing.{can_report, refused_or_taken}
 use Rattle.cell_drive.proofs.StatedTold.{stated_line_told}
 
 -- a claim that is possible tells what it names
-tells_named : (p : PlannedShop) (c : Cell) (claim : Claim) (ended : NamedEnd) → named claim ≡ Some ended → CanClaim p c claim → Tells p c (said (claimed claim)) ended
+pub tells_named : (p : PlannedShop) (c : Cell) (claim : Claim) (ended : NamedEnd) → named claim ≡ Some ended → CanClaim p c claim → Tells p c (said (claimed claim)) ended
 tells_named p c (Report (Arrive job at)) ended is can = let same : Arrived job ≡ ended = cc in subst (Tells p c (said (Arrive job at))) same refl
 tells_named p c (Report (Finish job machine at)) ended is can = let same : Finished job machine ≡ ended = cc in subst (Tells p c (said (Finish job machine at))) same refl
 tells_named p c (Report (Clean machine at)) ended is can = absurd (cc)
@@ -39,7 +39,7 @@ module _ (p : PlannedShop) (manner : Manner) (shaped : IsWellShaped p) where
   abbrev answers : DrivenCell → ℕ → Option (List ℕ) → List ℕ → DrivenCell → Type 0
   answers = StatedAnswers p manner
 
-  told : (lines : List (Option (List ℕ))) (before end : DrivenCell) (number : ℕ) (text : List ℕ) → IsOnCourse p before.cell → AnswerAll answers before number lines text end → AreTold p shaped before text end
+  pub told : (lines : List (Option (List ℕ))) (before end : DrivenCell) (number : ℕ) (text : List ℕ) → IsOnCourse p before.cell → AnswerAll answers before number lines text end → AreTold p shaped before text end
   told lines before end number text on all = all_told p shaped answers (stated_lines_keep p manner) (stated_line_told p shaped manner) lines before end number text on all
 
   module _ (before after end : DrivenCell) (claim again : Claim) (ended : NamedEnd) (texts text others : List ℕ) where

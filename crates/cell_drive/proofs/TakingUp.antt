@@ -1,34 +1,29 @@
 -- A log that is taken up.
-use Rattle.std.proofs.Common.{◌≡◌, ℕ, ◌+◌, ◌*◌, ◌<◌, ◌≤◌, Bool, true, List, [], ◌∷◌, ◌++◌, length, map, take, Option, Result, Ok, Err, refl, sym, ap, ◌∙◌, subst, arith, append-nil, length-append}
+use Rattle.std.proofs.Common.{◌≡◌, ℕ, ◌+◌, ◌*◌, ◌<◌, ◌≤◌, Bool, List, [], ◌∷◌, ◌++◌, length, map, take, Option, Result, Ok, Err, refl, sym, ap, ◌∙◌, subst, arith, length-append}
 use Rattle.std.specs.Prelude.{unwrap_or, IsOk, IsErr, IfErr}
 use Rattle.std.proofs.Math.Seq.{take-append_seam}
 use Rattle.shop_base.specs.Plan.{PlannedShop, IsWellShaped}
 use Rattle.shop_base.specs.Cell.{Cell, start}
-use Rattle.shop_base.specs.Report.{IsNextMoment}
-use Rattle.shop_base.specs.Run.{Event, IsRun, after}
-use Rattle.shop_base.specs.Controlled.{moved, orders_for}
+use Rattle.shop_base.specs.Run.{IsRun, after}
 use Rattle.shop_base.specs.Ends.{stated_number}
 use Rattle.shop_base.proofs.ControlledRuns.{moves-events}
 use Rattle.std.proofs.lemmas.List.{length-map}
 use Rattle.alt_graph.proofs.CycleParts.{cycle_simple}
-use Rattle.plan_verifier.specs.declared.verdict.Why.{Why}
 use Rattle.plan_verifier.specs.declared.verdict.Why.TheVariants.{Cycle, Late}
-use Rattle.plan_verifier.specs.Accepted.{IsAcceptable}
 use Rattle.cell_tables.specs.declared.entry.Entry.{Entry}
 use Rattle.cell_tables.specs.declared.entry.Entry.TheVariants.{Order as OrderEntry}
 use Rattle.cell_tables.specs.Events.{event_of, events_of}
 use Rattle.event_lines.specs.LogLines.{LinesTell}
 use Rattle.event_lines.proofs.Readings.{one_reading}
 use Rattle.run_log.specs.Log.{Noted}
-use Rattle.run_log.specs.Audits.{IsTold, IsAuditFault, IsFirstBad, TellRun}
+use Rattle.run_log.specs.Audits.{IsTold, IsAuditFault}
 use Rattle.run_log.specs.declared.audit_fault.AuditFault.{AuditFault}
 use Rattle.run_log.specs.declared.audit_fault.AuditFault.TheVariants.{BadLine, NotExpected, Backwards, NotReady, Occupied, OutOfOrder, WrongPlace, NotClean, Memory as WantOfMemory}
 use Rattle.run_log.proofs.Audits.{run-few, first_bad-no_run}
 use Rattle.rest_control.specs.RestControl.{RestControl, IsBegun, IsRestControl}
 use Rattle.cell_drive.specs.OneRun.{cell_after}
 use Rattle.cell_drive.specs.LateEvents.{AreLate}
-use Rattle.cell_drive.specs.RestCell.{RestState, IsRestDriven}
-use Rattle.cell_drive.specs.TakenUp.{TakenUp, IsTakenRun, CanBeTakenUp, told_in, taken_by}
+use Rattle.cell_drive.specs.TakenUp.{IsTakenRun, CanBeTakenUp, taken_by}
 use Rattle.cell_drive.specs.ResumeFaults.{IsResumeFault, IsRunFault, log_fault}
 use Rattle.cell_drive.specs.declared.resume_fault.ResumeFault.{ResumeFault}
 use Rattle.cell_drive.specs.declared.resume_fault.ResumeFault.TheVariants.{Log, Past, Refused, Memory}

@@ -1,5 +1,5 @@
 -- Version 2 of the lines only adds to the answers of version 1.
-use Rattle.std.proofs.Common.{◌≡◌, ℕ, ◌+◌, List, [], ◌∷◌, ◌++◌, codes, Bool, true, false, Option, None, Some, refl, sym, ap, ◌∙◌, subst, inl, inr, append_assoc}
+use Rattle.std.proofs.Common.{◌≡◌, ℕ, ◌+◌, List, [], ◌∷◌, ◌++◌, codes, true, false, Option, None, Some, refl, sym, subst, inl, inr}
 use Rattle.shop_base.specs.Plan.{PlannedShop}
 use Rattle.shop_base.specs.Controlled.{step_orders}
 use Rattle.cell_tables.specs.declared.report.Report as reports

@@ -1,5 +1,5 @@
 -- A cell that is driven on from a log, by a controller of the rest of its run.
-use Rattle.std.specs.Prelude.{◌≡◌, ◌↔◌, ℕ, ◌*◌, List, Option, Some, IsTrue}
+use Rattle.std.specs.Prelude.{◌≡◌, ℕ, ◌*◌, List, Option, Some}
 use Rattle.shop_base.specs.Plan.{PlannedShop, IsWellShaped}
 use Rattle.shop_base.specs.Run.{IsRun}
 use Rattle.shop_base.specs.Ends.{stated_number}

@@ -1,5 +1,5 @@
 -- What a run that is taken up goes on to write.
-use Rattle.std.specs.Prelude.{◌≡◌, ℕ, ◌≤◌, List, ◌∷◌, ◌++◌, length, take, drop, Some, Bool, true, Result, Ok, Err, IfOk, IfErr, MatchResult, ◌⊎◌}
+use Rattle.std.specs.Prelude.{◌≡◌, ℕ, ◌≤◌, List, ◌∷◌, ◌++◌, length, take, drop, Option, Some, Bool, true, Result, Ok, Err, IfOk, IfErr, MatchResult, ◌⊎◌}
 use Rattle.std.specs.Io.KnownBytes.{Appends}
 use Rattle.shop_base.specs.Plan.{PlannedShop, IsWellShaped}
 use Rattle.shop_base.specs.Report.{Report}
@@ -66,15 +66,20 @@ abbrev pub IsCutAgain : List ℕ → Streams → Streams → Result RestEnd Driv
 IsCutAgain text before after outcome =
     (outcome ≡ Err Write) × (after.output.failed ≡ true) × (after.input ≡ before.input) × TookPart before.output.taken after.output.taken text
 
--- this text was written, and behind it the answers to the input, which is read into a room of 65,536 bytes, are streamed from the cell on that was taken up. It comes to this end or this fault
-pub record GoesOn (text : List ℕ) (taken : TakenUp) (before after : Streams) (outcome : Result RestEnd DriveFault) : Type 0 where
+-- this text was written, and behind it the answers to the input, which is read into a room of 65,536 bytes, are streamed from this state on. It comes to this end or this fault, with this cell and log
+pub record StreamsOn {S : Type 0} (answers : S → ℕ → Option (List ℕ) → List ℕ → S → Type 0) (closes : S → List ℕ → Type 0) (driven : S → RestState) (first : S)
+    (text : List ℕ) (taken : TakenUp) (before after : Streams) (outcome : Result RestEnd DriveFault) : Type 0 where
   pub from : IsTakenRun taken
   pub middle : Output
   pub again : Appends before.output.taken middle.taken text
   pub unfailed : middle.failed ≡ before.output.failed
-  pub end : RestState
-  pub streamed : IsStreamed outcome MAX_PIECE RestAnswer RestCloses taken.driven end (record { input = before.input; output = middle }) after
-  pub came_to : IfOk outcome (IsRestEndOf (plan_of taken) end)
+  pub end : S
+  pub streamed : IsStreamed outcome MAX_PIECE answers closes first end (record { input = before.input; output = middle }) after
+  pub came_to : IfOk outcome (IsRestEndOf (plan_of taken) (driven end))
+
+-- so from the cell that was taken up, as `drive` answers
+abbrev pub GoesOn : List ℕ → TakenUp → Streams → Streams → Result RestEnd DriveFault → Type 0
+GoesOn text taken = StreamsOn RestAnswer RestCloses (λ d. d) taken.driven text taken
 
 -- either of these
 abbrev pub WritesAndGoesOn : List ℕ → TakenUp → Streams → Streams → Result RestEnd DriveFault → Type 0

@@ -13,7 +13,8 @@ use Rattle.byte_streams.specs.Answering.{AnswerAll}
 use Rattle.event_lines.specs.SentLines.{cell_prefix}
 use Rattle.event_lines.specs.declared.requests.Request.{Request}
 use Rattle.cell_drive.specs.declared.manner.Manner.{Manner}
-use Rattle.cell_drive.specs.ManyCells.{PlannedCell, hub_start, CellsClose}
+use Rattle.cell_drive.specs.Manners.{plain_from}
+use Rattle.cell_drive.specs.ManyCells.{PlannedCell, hub_start, CellsAnswer, CellsClose}
 use Rattle.cell_drive.specs.CellsTextLaw.{AreVerified}
 use Rattle.cell_drive.specs.OneRun.{StaysAsPromised}
 use Rattle.cell_drive.specs.Stated.{RequestAnswer}
@@ -68,3 +69,8 @@ pub record IsStatedAlone (v : VerifiedPlan) (manner : Manner) (cell : ℕ) (line
 abbrev pub EachStatedCellIsAlone : Type 0
 EachStatedCellIsAlone = (plans : List VerifiedPlan) (manner : Manner) (lines : List (Option (List ℕ))) (text : List ℕ) (end : List PlannedCell) (cell : ℕ) (v : VerifiedPlan)
     → AreVerified plans → AreCellsStatedTo plans manner lines text end → slice_get plans cell ≡ Some v → (content : PlannedCell) × (slice_get end cell ≡ Some content) × IsStatedAlone v manner cell lines content
+
+-- in version 1 of the lines, and with no leap, lines are answered as `hub` answers them
+abbrev pub PlainlyAsEverForCells : Type 0
+PlainlyAsEverForCells = (from number : ℕ) (lines : List (Option (List ℕ))) (text : List ℕ) (start end : List PlannedCell)
+    → AnswerAll (CellsStated (plain_from from)) start number lines text end → AnswerAll CellsAnswer start number lines text end

@@ -1,13 +1,24 @@
 -- The laws of cells that are driven in a manner.
-use Rattle.std.specs.Prelude.{◌≡◌, ℕ, List, Option, None, Some}
+use Rattle.std.specs.Prelude.{◌≡◌, ℕ, List, ◌∷◌, ◌++◌, Option, None, Some, Result, Ok, IfOk, IfErr, MatchResult}
 use Rattle.shop_base.specs.Plan.{PlannedShop, IsWellShaped}
 use Rattle.shop_base.specs.Cell.{Cell}
+use Rattle.shop_base.specs.Run.{IsRun}
 use Rattle.shop_base.specs.Punctual.{IsPunctual}
 use Rattle.shop_base.specs.Sound.{IsSound}
+use Rattle.text_lines.specs.Lines.{lines_of}
+use Rattle.plan_verifier.specs.Accepted.{VerifiedPlan}
 use Rattle.cell_tables.specs.Reports.{said}
 use Rattle.cell_tables.specs.declared.report.Report as reports
 use Rattle.cell_tables.specs.declared.report.Report.TheVariants.{Arrive, Finish, Clean}
-use Rattle.cell_control.specs.OnceLaw.{NamedEnd, Arrived, Finished, Cleaned}
+use Rattle.cell_tables.specs.declared.entry.Entry.{Entry}
+use Rattle.cell_tables.specs.declared.entry.Entry.TheVariants.{Report as ReportEntry}
+use Rattle.cell_tables.specs.Events.{events_of}
+use Rattle.cell_control.specs.OnceLaw.{NamedEnd, Arrived, Finished, Cleaned, Tells}
+use Rattle.run_log.specs.declared.audit_result.Audit.{Audit}
+use Rattle.run_log.specs.declared.audit_fault.AuditFault.{AuditFault}
+use Rattle.run_log.specs.declared.audit_fault.AuditFault.TheVariants.{Memory}
+use Rattle.run_log.specs.Audits.{IsAudit, TellRun}
+use Rattle.byte_streams.specs.Lent.{Streams}
 use Rattle.byte_streams.specs.Answering.{AnswerAll}
 use Rattle.event_lines.specs.declared.requests.Claim.{Claim}
 use Rattle.event_lines.specs.declared.requests.Claim.TheVariants.{Report, CleanAfter}
@@ -15,11 +26,13 @@ use Rattle.event_lines.specs.declared.requests.Request.TheVariants.{Claim as Cla
 use Rattle.cell_drive.specs.declared.manner.Manner.{Manner}
 use Rattle.cell_drive.specs.Manners.{plain_from}
 use Rattle.cell_drive.specs.AnswerText.{DrivenCell, CellAnswers}
-use Rattle.cell_drive.specs.AuditLaw.{IsLogOf}
+use Rattle.cell_drive.specs.declared.one_run.DriveEnd.{DriveEnd}
+use Rattle.cell_drive.specs.AuditLaw.{IsFoundAgain, IsLogOf}
 use Rattle.cell_drive.specs.OneCell.{seen}
+use Rattle.cell_drive.specs.OneRun.{cell_after}
 use Rattle.cell_drive.specs.Refusals.{CanClaim, IsTaken, standing_of}
 use Rattle.cell_drive.specs.States.{overdue_in}
-use Rattle.cell_drive.specs.Stated.{StatedState, StatedAnswer, StatedAnswers, CellRequests, AreStatedTo, IsStatedText}
+use Rattle.cell_drive.specs.Stated.{StatedState, StatedAnswer, StatedAnswers, CellRequests, AreStatedTo, IsStatedText, IsStatedDrive}
 
 -- in each manner an input has one answer text at most, which leads to one cell with one list of events
 abbrev pub OneStatedText : Type 0
@@ -35,6 +48,14 @@ AStatedCellAnswersSo = (s end : StatedState) (number : ℕ) (lines : List (Optio
 abbrev pub AStatedTextIsALog : Type 0
 AStatedTextIsALog = (p : PlannedShop) (manner : Manner) (input text : List ℕ) (end : DrivenCell) → IsWellShaped p → IsStatedText p manner input text end → IsLogOf p text end
 
+-- an audit of what was written in a manner finds what driving came to, and its only fault is that it is out of memory
+abbrev pub AnAuditKeepsWhatWasStated : Type 0
+AnAuditKeepsWhatWasStated = (v : VerifiedPlan) (manner : Manner) (end : DriveEnd) (before after : Streams) (start text : List ℕ) (outcome : Result Audit AuditFault)
+    → IsWellShaped v.planned → IsStatedDrive v manner before after (Ok end) → before.output.taken ≡ Some start → after.output.taken ≡ Some (start ++ text)
+    → IfOk outcome (IsAudit v.planned (lines_of text))
+    → (TellRun v.planned (lines_of text) → IfErr outcome (λ fault. fault ≡ Memory))
+    → MatchResult outcome (IsFoundAgain v.planned end.log.entries end.done end.last end.left) (λ fault. fault ≡ Memory)
+
 -- in version 1 of the lines, and with no leap, lines are answered as `drive` answers them
 abbrev pub PlainlyAsEver : Type 0
 PlainlyAsEver = (p : PlannedShop) (from number : ℕ) (lines : List (Option (List ℕ))) (text : List ℕ) (start end : DrivenCell)
@@ -46,6 +67,11 @@ named (Report (Arrive job at)) = Some (Arrived job)
 named (Report (Finish job machine at)) = Some (Finished job machine)
 named (Report (Clean machine at)) = None
 named (CleanAfter machine job at) = Some (Cleaned machine job)
+
+-- once what names its job was reported in a run, it can't be claimed at its end, at whatever moment
+abbrev pub NothingOfARunIsClaimedAgain : Type 0
+NothingOfARunIsClaimedAgain = (p : PlannedShop) (before after : List Entry) (report : reports.Report) (again : Claim) (ended : NamedEnd) → IsWellShaped p → IsRun p (events_of (before ++ ReportEntry report ∷ after))
+    → Tells p (cell_after p before) (said report) ended → named again ≡ Some ended → CanClaim p (cell_after p (before ++ ReportEntry report ∷ after)) again → ⊥
 
 -- a claim that names its job was taken behind some lines, and then further lines were answered: what it said to have ended can't be claimed again, at whatever moment
 abbrev pub NothingIsTakenTwice : Type 0

@@ -4,6 +4,7 @@ use Rattle.shop_base.specs.declared.move_order.MoveOrder.{MoveOrder}
 use Rattle.shop_base.specs.Plan.{PlannedShop}
 use Rattle.cell_tables.specs.declared.report.Report as reports
 use Rattle.byte_streams.specs.Answering.{AnswerAll}
+use Rattle.event_lines.specs.EventLines.{order_line}
 use Rattle.event_lines.specs.AnswerLines.{refused_line}
 use Rattle.event_lines.specs.StandingLines.{refused_detail_line}
 use Rattle.event_lines.specs.declared.details.Detail.{Detail}
@@ -24,12 +25,14 @@ abbrev pub AreOfVersion1 : List (Option (List ℕ)) → Type 0
 AreOfVersion1 [] = Unit {0}
 AreOfVersion1 (line ∷ lines) = IsOfVersion1 line × AreOfVersion1 lines
 
--- answers of version 2, and the same without what it adds: nothing stands behind the name of a refusal or the moment of a late report, and the end isn't told at once
+-- a text of version 2, and the same without what it adds: nothing stands behind the name of a refusal or the moment of a late report, and the end isn't told at once
 pub data IsPlainText : List ℕ → List ℕ → Type 0 where
   nothing_more : IsPlainText [] []
   refused : (number : ℕ) (name : List ℕ) (detail : Detail) (text other : List ℕ) → IsPlainText text other → IsPlainText (refused_detail_line number name detail ++ text) (refused_line number name ++ other)
   taken : (report : reports.Report) (late : Bool) (overdue : Option Overdue) (orders : List MoveOrder) (ended : Bool) (text other : List ℕ) → IsPlainText text other
       → IsPlainText (taken_lines [] report late overdue orders ended ++ text) (taken_lines [] report late None orders false ++ other)
+  ordered : (order : MoveOrder) (text other : List ℕ) → IsPlainText text other → IsPlainText (order_line order ++ text) (order_line order ++ other)
+  empty_line : (text other : List ℕ) → IsPlainText text other → IsPlainText (10 ∷ text) (10 ∷ other)
 
 -- in this version of the lines, with the longest time that may pass, from a moment on
 abbrev pub in_version : Bool → Option ℕ → ℕ → Manner

@@ -19,6 +19,7 @@ use byte_streams::{Sink, WriteFault};
 use cell_control::{Controller, Dues, Report};
 use cell_tables::WorkCell;
 use event_lines::{Claim, Detail, Overdue, refused_detail_line};
+use rest_control::RestController;
 use shop_base::Planned;
 
 /// What comes of a claim.
@@ -31,7 +32,7 @@ pub(crate) enum Judged {
 }
 
 /// What the line says is overdue as the report comes. It is looked for only if something is.
-fn told_overdue<P: Planned>(
+pub(crate) fn told_overdue<P: Planned>(
     manner: Manner,
     cell: &WorkCell<P>,
     late: bool,
@@ -80,6 +81,18 @@ pub(crate) fn judge<D: Dues>(manner: Manner, controller: &Controller<D>, claim: 
     judge_in(manner, controller.work_cell(), late, claim)
 }
 
+/// What comes of the claim in a run that was taken up. Nothing changes.
+pub(crate) fn judge_rest<D: Dues>(
+    manner: Manner,
+    controller: &RestController<D>,
+    claim: Claim,
+) -> Judged
+    ensures { IsJudged manner controller.now.planned controller.now.cell claim result }
+{
+    let late = controller.is_late(claim.report().at());
+    judge_in(manner, controller.work_cell(), late, claim)
+}
+
 /// Refuses the line of this number.
 #[inline(never)]
 pub(crate) fn put_refusal<W: Sink>(
@@ -100,6 +113,13 @@ pub(crate) fn put_refusal<W: Sink>(
 /// Whether the end of the run is written at once.
 pub(crate) fn tells_end<D: Dues>(manner: Manner, controller: &Controller<D>) -> bool
     ensures { result ≡ tells_end manner controller.now.plan.planned controller.now.cell }
+{
+    manner.tells && controller.reports_left() == 0
+}
+
+/// Whether the end of a run that was taken up is told at once.
+pub(crate) fn tells_end_rest<D: Dues>(manner: Manner, controller: &RestController<D>) -> bool
+    ensures { result ≡ tells_end manner controller.now.planned controller.now.cell }
 {
     manner.tells && controller.reports_left() == 0
 }

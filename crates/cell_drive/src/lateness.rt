@@ -9,10 +9,9 @@ ghost use Rattle.shop_base.specs.Punctual.{IsPunctual};
 ghost use Rattle.cell_tables.specs.Reports.{said};
 ghost use Rattle.cell_tables.specs.Events.{event_of, events_of};
 ghost use Rattle.cell_control.specs.DueMoments.{AreDueMoments};
-ghost use Rattle.cell_control.specs.Steps.{AreDueFrom};
 ghost use Rattle.cell_drive.specs.LateEvents.{IsLateEvent, AreLate};
 
-use cell_control::{Dues, Report, TourneyDues, renew_job, renew_machine};
+use cell_control::{Dues, Report, TourneyDues, is_past_due, renew_job, renew_machine};
 use cell_tables::{Entry, WorkCell};
 use shop_base::{MoveOrder, Planned, Shaped, Spot};
 use std::alloc::{AllocError, Global};
@@ -105,7 +104,7 @@ fn follow_report<P: Planned, D: Dues>(cell: &mut WorkCell<P>, dues: &mut D, repo
 {
     // Called for its clauses alone: the plan is well shaped, and the cell sound.
     let _plan = cell.shaped();
-    let late = is_late(dues, report);
+    let late = is_past_due(dues, report.at());
     cell.end(report);
     match report {
         Report::Arrive { job, at: _ } => dues.clear(job),
@@ -117,16 +116,6 @@ fn follow_report<P: Planned, D: Dues>(cell: &mut WorkCell<P>, dues: &mut D, repo
         Report::Clean { machine, at: _ } => renew_machine(cell, dues, machine),
     }
     late
-}
-
-/// Whether the report comes past a due moment.
-fn is_late<D: Dues>(dues: &D, report: Report) -> bool
-    ensures { (result ≡ false) ↔ AreDueFrom (D.dues dues.now) (said report).at }
-{
-    match dues.least() {
-        Some(due) => report.at() > due,
-        None => false,
-    }
 }
 
 /// Makes the move of a possible order.

@@ -2,7 +2,7 @@
 //!
 //! A driven run is taken up again from its log, which may have been cut at any byte: [`take_up`] replays the log and gives what the
 //! run had come to, or the first bad line of the log. [`resume`] goes on from there: it writes the run once more, and drives it on
-//! as [`drive`] does.
+//! as [`drive`] does. [`drive_in`] and [`resume_in`] do so in a [`Manner`].
 #![tactic(auto)]
 
 mod answers;
@@ -20,9 +20,12 @@ mod rest_cell;
 mod rest_run;
 mod resume_fault;
 mod resuming;
+mod retelling;
 mod stated_cell;
 mod stated_cells;
 mod stated_hub;
+mod stated_rest;
+mod stated_resuming;
 mod stated_run;
 mod states;
 mod taken_lines;
@@ -35,7 +38,7 @@ pub use byte_streams::{
     reading_room, stream,
 };
 pub use event_lines::{done_line, late_line, refused_line, report_of, unfinished_line};
-pub use in_manner::drive_in;
+pub use in_manner::{drive_in, go_on_in, resume_in, tell_again_in};
 pub use manner::Manner;
 pub use many_runs::{HubEnd, drive_hub};
 pub use one_cell::{Driven, take_report};

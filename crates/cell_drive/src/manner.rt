@@ -10,7 +10,8 @@ use shop_base::Moment;
 pub struct Manner {
     /// Version 2 of the lines: more can be asked for, and the answers say more. Else it is version 1.
     pub tells: bool,
-    /// The longest time that may pass from one accepted report to the next; without one any may.
+    /// The longest time that may pass to a report from the last accepted one, or from `from` where that is later; without
+    /// one any may.
     pub longest: Option<Moment>,
     /// The moment from which a run goes on that was taken up, 0 for one that begins.
     pub from: Moment,

@@ -37,7 +37,7 @@ impl<D: Dues> Model for RestDriven<D> {
 }
 
 /// Takes a report. Where it is accepted, it is noted with the moves that it releases.
-fn take_report<D: Dues>(
+pub(crate) fn take_report<D: Dues>(
     controller: &mut RestController<D>,
     log: &mut RunLog,
     report: Report,
@@ -97,7 +97,7 @@ fn answer_line<D: Dues, W: Sink>(
 }
 
 /// Writes the closing line of the run.
-fn put_closing_line<D: Dues, W: Sink>(
+pub(crate) fn put_closing_line<D: Dues, W: Sink>(
     controller: &RestController<D>,
     writer: &mut W,
 ) -> Result<(), WriteFault>

@@ -41,7 +41,7 @@ fn put_others<W: Sink>(entries: &[Entry], told: usize, writer: &mut W) -> Result
 }
 
 /// Writes an empty line, the mark, and the orders that are due.
-fn put_due<W: Sink>(taken: &Taken, writer: &mut W) -> Result<(), WriteFault>
+pub(crate) fn put_due<W: Sink>(taken: &Taken, writer: &mut W) -> Result<(), WriteFault>
     ensures wrote { WroteTo W.Sink result writer.old writer.new (due_text taken.now) }
     ensures unfailed { OnOk result (W.failed writer.new ≡ W.failed writer.old) }
 {

@@ -69,7 +69,7 @@ pub(crate) fn unstated<D: Dues>(cell: StatedCell<D>) -> Driven<D>
 }
 
 /// What the line asks for, if it asks for anything.
-fn asked_of(tells: bool, line: &[u8]) -> Option<Request>
+pub(crate) fn asked_of(tells: bool, line: &[u8]) -> Option<Request>
     ensures { SomeIfAny result (AsksFor tells line.now) }
 {
     if tells {

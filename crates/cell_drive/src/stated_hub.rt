@@ -18,7 +18,7 @@ use std::alloc::Global;
 ///
 /// Each cell reads and answers what a driven cell does in the manner, after the cell's number; in version 2 of the lines
 /// that stands before each refusal too by which a cell has answered. A leap counts from the last accepted report of the
-/// same cell.
+/// same cell, or from `from` where that is later.
 pub fn drive_hub_stated<R: Source, W: Outlet>(
     alloc: Global,
     cells: Vec<Verified>,

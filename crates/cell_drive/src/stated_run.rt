@@ -15,8 +15,8 @@ use std::alloc::Global;
 ///
 /// In version 2 of the lines there are `clean MACHINE JOB MOMENT`, the cleaning after that job, and `status`, which asks
 /// for the state; each refusal and each late report is written with what the controller has, and `done MOMENT` at once.
-/// A report whose moment is further than `longest` from the last accepted one is refused as `Leap`, after `Backwards`
-/// in the order of reasons.
+/// A report whose moment is further than `longest` from the last accepted one, or from `from` where that is later, is
+/// refused as `Leap`, after `Backwards` in the order of reasons.
 pub fn drive_stated<R: Source, W: Outlet>(
     alloc: Global,
     verified: Verified,

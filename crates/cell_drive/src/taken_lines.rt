@@ -12,7 +12,7 @@ use event_lines::{Overdue, done_line, late_line, late_overdue_line};
 use shop_base::MoveOrder;
 
 /// Writes the line that the report was late, if it was, and in it what was overdue, if that is given.
-fn put_lateness<W: Sink>(
+pub(crate) fn put_lateness<W: Sink>(
     prefix: &[u8],
     report: Report,
     late: bool,

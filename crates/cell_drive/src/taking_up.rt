@@ -1,6 +1,6 @@
 //! A log that is taken up.
 
-ghost use Rattle.std.specs.Prelude.{◌≡◌, ℕ, ◌+◌, ◌*◌, ◌≤◌, [], ◌∷◌, length, vec_len, unwrap_or, Bool, true, IfOk, IfErr, OnOk, IfSome};
+ghost use Rattle.std.specs.Prelude.{◌≡◌, ◌*◌, ◌≤◌, vec_len, vec_capacity, unwrap_or, Bool, true, IfOk, IfErr, OnOk, IfSome};
 ghost use Rattle.shop_base.specs.declared.limits.TheConstants.{MAX_MOMENT};
 ghost use Rattle.shop_base.specs.Plan.{IsWellShaped};
 ghost use Rattle.shop_base.specs.Cell.{start};
@@ -10,7 +10,6 @@ ghost use Rattle.shop_base.specs.Ends.{stated_number};
 ghost use Rattle.text_lines.specs.Lines.{ended_lines};
 ghost use Rattle.plan_verifier.specs.Accepted.{IsAcceptable};
 ghost use Rattle.cell_tables.specs.Events.{events_of};
-ghost use Rattle.run_log.specs.Log.{Notes};
 ghost use Rattle.run_log.specs.Audits.{IsTold};
 ghost use Rattle.rest_control.specs.RestControl.{IsBegun};
 ghost use Rattle.rest_control.specs.RestFaults.{IsRestFault};
@@ -25,12 +24,12 @@ use crate::rest_cell::RestDriven;
 use crate::resume_fault::{ResumeFault, WantForRest};
 use byte_streams::reading_room;
 use cell_control::TourneyDues;
-use cell_tables::{Entry, WorkCell};
+use cell_tables::WorkCell;
 use plan_verifier::{Verdict, Why, verify};
 use rest_control::{RestController, RestFault};
 use run_log::{LoggedRun, RunLog, run_of_log};
 use shop_base::{Moment, Shaped};
-use std::alloc::{AllocError, Global};
+use std::alloc::Global;
 use std::marker::Model;
 
 /// A run that was taken up from its log.
@@ -93,6 +92,7 @@ fn take_run(
 ) -> Result<Taken, ResumeFault>
     requires at_most { IfSome at (λ present. present ≤ MAX_MOMENT) }
     requires told { IsTold run.cell.plan run.cell.cell run.entries.items }
+    requires reserved { vec_capacity run.entries ≡ 2 * stated_number run.cell.plan }
     requires room { vec_len room ≡ MAX_PIECE }
     ensures taken { IfOk result (IsTakenFrom run.cell.plan run.entries.items at) }
     ensures fault { IfErr result (IsRunFault run.cell.plan run.entries.items at) }
@@ -103,9 +103,10 @@ fn take_run(
     if present < last {
         return Err(ResumeFault::Past { last });
     }
-    let (log, late) = retell(alloc, &cell, &entries)?;
-    match begin(alloc, cell, entries.is_empty(), present) {
-        Ok(controller) => Ok(with_due(controller, log, late, room)),
+    let starts = entries.is_empty();
+    let late = late_events(alloc, cell.shaped(), &entries)?;
+    match begin(alloc, cell, starts, present) {
+        Ok(controller) => Ok(with_due(controller, RunLog::of_entries(entries), late, room)),
         Err(fault) => Err(fault),
     }
 }
@@ -117,44 +118,6 @@ fn present_at(at: Option<Moment>, last: Moment) -> Moment
     match at {
         Some(present) => present,
         None => last,
-    }
-}
-
-/// A log of these events of a run with room for all of it, and of each event whether it is a late report.
-fn retell(
-    alloc: Global,
-    cell: &WorkCell<Shaped>,
-    entries: &[Entry],
-) -> Result<(RunLog, Vec<bool>), AllocError>
-    requires run { IsRun cell.now.plan (events_of entries.now) }
-    ensures log { IfOk result (λ told. told.0 ≡ record { entries = entries.now; reserved = 2 * stated_number cell.now.plan }) }
-    ensures late { IfOk result (λ told. AreLate cell.now.plan (start cell.now.plan) entries.now told.1.items) }
-{
-    let late = late_events(alloc, cell.shaped(), entries)?;
-    let mut log = RunLog::for_run(alloc, cell.shaped())?;
-    note_events(&mut log, entries);
-    Ok((log, late))
-}
-
-/// Notes the events in an empty log.
-fn note_events(log: &mut RunLog, entries: &[Entry])
-    requires empty { log.old.entries ≡ [] }
-    requires room { length entries.now ≤ log.old.reserved }
-    ensures { log.new ≡ record { entries = entries.now; reserved = log.old.reserved } }
-{
-    for entry in entries {
-        note_event(log, *entry);
-    }
-}
-
-/// Notes the event.
-fn note_event(log: &mut RunLog, entry: Entry)
-    requires { length log.old.entries + 1 ≤ log.old.reserved }
-    ensures { Notes log.old log.new (entry ∷ []) }
-{
-    match entry {
-        Entry::Report(report) => log.note_report(report).unwrap(),
-        Entry::Order(order) => log.note_orders(&[order]).unwrap(),
     }
 }
 

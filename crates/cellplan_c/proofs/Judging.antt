@@ -6,7 +6,7 @@ use Rattle.plan_verifier.specs.declared.verdict.Verdict.{Verdict}
 use Rattle.plan_verifier.specs.declared.verdict.Verdict.TheVariants.{Accepted, Refused}
 use Rattle.command_answers.specs.declared.answer.Answer.{Answer}
 use Rattle.command_answers.specs.declared.command_fault.CommandFault.{CommandFault}
-use Rattle.command_answers.specs.declared.command_fault.CommandFault.TheVariants.{Instance, Plan, Read, Write, InputTooLong, Memory}
+use Rattle.command_answers.specs.declared.command_fault.CommandFault.TheVariants.{Instance, Plan, Read, Write, InputTooLong, Log, LogInUse, Memory}
 use Rattle.command_answers.specs.Checks.{IsCheckLine, verdict_status}
 use Rattle.command_answers.specs.Explains.{IsExplanation}
 use Rattle.command_answers.specs.Plans.{IsRightOfBoth}
@@ -46,3 +46,5 @@ fault_bounds instance name plan Memory is = (omega arith, omega arith)
 fault_bounds instance name plan Read is = absurd is
 fault_bounds instance name plan Write is = absurd is
 fault_bounds instance name plan InputTooLong is = absurd is
+fault_bounds instance name plan Log is = absurd is
+fault_bounds instance name plan LogInUse is = absurd is

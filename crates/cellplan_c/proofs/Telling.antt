@@ -5,7 +5,7 @@ use Rattle.orlib_read.specs.declared.or_fault.OrFault.{OrFault}
 use Rattle.plan_text.specs.declared.plan_fault.PlanFault.{PlanFault}
 use Rattle.command_answers.specs.declared.answer.Answer.{Answer}
 use Rattle.command_answers.specs.declared.command_fault.CommandFault.{CommandFault}
-use Rattle.command_answers.specs.declared.command_fault.CommandFault.TheVariants.{Instance, Plan, Read, Write, InputTooLong, Memory}
+use Rattle.command_answers.specs.declared.command_fault.CommandFault.TheVariants.{Instance, Plan, Read, Write, InputTooLong, Log, LogInUse, Memory}
 use Rattle.command_answers.specs.Instances.{IsInstanceRefusal}
 use Rattle.command_answers.specs.Plans.{IsRightOfBoth, IsPlanRefusal}
 use Rattle.command_answers.specs.Readings.{AreTextsAnswered}
@@ -37,6 +37,8 @@ instance_line (Plan fault) why told is line = absurd is
 instance_line Read why told is line = absurd is
 instance_line Write why told is line = absurd is
 instance_line InputTooLong why told is line = absurd is
+instance_line Log why told is line = absurd is
+instance_line LogInUse why told is line = absurd is
 
 plan_line : (fault : CommandFault) (why : PlanFault) (told : Result Answer CommandFault) → IsPlanRefusal {A = Answer} (Err fault) why
     → IfOk told (IsTextFaultTold fault) → IfOk told (IsTextFaultTold (Plan why))
@@ -46,6 +48,8 @@ plan_line (Instance fault) why told is line = absurd is
 plan_line Read why told is line = absurd is
 plan_line Write why told is line = absurd is
 plan_line InputTooLong why told is line = absurd is
+plan_line Log why told is line = absurd is
+plan_line LogInUse why told is line = absurd is
 
 -- a fault that has a line is of a text
 of_text : (fault : CommandFault) (answer : Answer) → IsTextFaultTold fault answer → status_of fault ≡ 3
@@ -55,6 +59,8 @@ of_text Memory answer line = absurd line.0
 of_text Read answer line = absurd line.0
 of_text Write answer line = absurd line.0
 of_text InputTooLong answer line = absurd line.0
+of_text Log answer line = absurd line.0
+of_text LogInUse answer line = absurd line.0
 
 -- of the faults that two texts may have, none but out of memory is told by no line
 memory_alone : (instance : List ℕ) (name : Option (List ℕ)) (plan : List ℕ) (fault other : CommandFault)
@@ -65,6 +71,8 @@ memory_alone instance name plan Memory other is untold = untold
 memory_alone instance name plan Read other is untold = absurd is
 memory_alone instance name plan Write other is untold = absurd is
 memory_alone instance name plan InputTooLong other is untold = absurd is
+memory_alone instance name plan Log other is untold = absurd is
+memory_alone instance name plan LogInUse other is untold = absurd is
 
 module _ (instance : List ℕ) (name : Option (List ℕ)) (plan : List ℕ) (Is : PlannedShop → Answer → Type 0)
     (bound : (p : PlannedShop) (answer : Answer) → Is p answer → answer.status ≤ 1) where

@@ -23,6 +23,8 @@ pub fn fault_answer(alloc: Global, fault: CommandFault) -> Result<Answer, Comman
         CommandFault::Read
         | CommandFault::Write
         | CommandFault::InputTooLong
+        | CommandFault::Log
+        | CommandFault::LogInUse
         | CommandFault::Memory => Err(fault),
     }
 }

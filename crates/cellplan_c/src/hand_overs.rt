@@ -24,7 +24,8 @@ use shop_base::{ShapeFault, Shaped};
 use std::alloc::Global;
 
 /// Hands the cell over to the plan of the two texts, from a moment on. As many of the orders that are then due are written as
-/// there is room for, and their true number; the others are had of `cellplan_cell_orders`. Refused, the cell holds what it held.
+/// there is room for, and their true number; `cellplan_cell_orders` gives the others. Where it is refused, the cell
+/// holds what it held.
 #[unsafe(no_mangle)]
 pub extern "C" fn cellplan_cell_hand_over(
     alloc: Global,

@@ -19,7 +19,7 @@ use std::alloc::Global;
 
 /// Takes a report: of kind 0, that the job has arrived, 1, that its operation on the machine has ended, 2, that the
 /// machine is clean, or 3, that it is clean after just this job. A number that the kind has no use for isn't read. As many
-/// of the orders are written as there is room for, and their true number; the others are had of [`cellplan_cell_orders`].
+/// of the orders are written as there is room for, and their true number; [`cellplan_cell_orders`] gives the others.
 /// Refused, the answer is the number of the reason, and what it names is written.
 #[unsafe(no_mangle)]
 pub extern "C" fn cellplan_cell_report(

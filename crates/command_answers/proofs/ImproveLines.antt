@@ -12,7 +12,7 @@ use Rattle.plan_improve.specs.Runs.{Asked}
 use Rattle.plan_improve.specs.Improved.{IsImproveFault, judged}
 use Rattle.command_answers.specs.declared.answer.Answer.{Answer}
 use Rattle.command_answers.specs.declared.command_fault.CommandFault.{CommandFault}
-use Rattle.command_answers.specs.declared.command_fault.CommandFault.TheVariants.{Instance, Plan, Read, Write, InputTooLong, Memory}
+use Rattle.command_answers.specs.declared.command_fault.CommandFault.TheVariants.{Instance, Plan, Read, Write, InputTooLong, Log, LogInUse, Memory}
 use Rattle.command_answers.specs.Checks.{verdict_status}
 use Rattle.command_answers.specs.Documents.{IsDocumentAnswer}
 use Rattle.command_answers.specs.Improving.{IsBest, IsStatusOf, IsBestAnswer, IsUnimprovedAnswer}
@@ -36,6 +36,8 @@ module _ (made : Asked) (rounds : ℕ) (start : PlannedShop) where
   best_answer_is verdict (Err Read) is few exact text = text
   best_answer_is verdict (Err Write) is few exact text = text
   best_answer_is verdict (Err InputTooLong) is few exact text = text
+  best_answer_is verdict (Err Log) is few exact text = text
+  best_answer_is verdict (Err LogInUse) is few exact text = text
   best_answer_is verdict (Err (Plan fault)) is few exact text = (text.0, record { best = judged verdict; is = is; unreadable = text.1 })
   best_answer_is verdict (Err Memory) is few exact text = tt
 

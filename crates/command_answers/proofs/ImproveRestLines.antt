@@ -25,7 +25,7 @@ use Rattle.rest_improve.specs.Faults.{IsImproveRestFault, IsMomentFault}
 use Rattle.rest_improve.specs.Improved.{HasNoBegin, IsFound, IsNeverWorse, IsVerdictOn, present_of}
 use Rattle.command_answers.specs.declared.answer.Answer.{Answer}
 use Rattle.command_answers.specs.declared.command_fault.CommandFault.{CommandFault}
-use Rattle.command_answers.specs.declared.command_fault.CommandFault.TheVariants.{Instance, Plan, Read, Write, InputTooLong, Memory}
+use Rattle.command_answers.specs.declared.command_fault.CommandFault.TheVariants.{Instance, Plan, Read, Write, InputTooLong, Log, LogInUse, Memory}
 use Rattle.command_answers.specs.Documents.{IsDocumentAnswer}
 use Rattle.command_answers.specs.LogLines.{IsLogRefused}
 use Rattle.command_answers.specs.Rests.{IsPastLine}
@@ -80,6 +80,8 @@ module _ (made : RestAsked) (at : Option ℕ) (rounds : ℕ) (lines : List (List
   text_is c best status (Err Read) few here present is says text = text
   text_is c best status (Err Write) few here present is says text = text
   text_is c best status (Err InputTooLong) few here present is says text = text
+  text_is c best status (Err Log) few here present is says text = text
+  text_is c best status (Err LogInUse) few here present is says text = text
   text_is c best status (Err (Plan fault)) few here present is says text = (text.0, few, record { cell = c; run = here; present = present; best = best; is = is; unreadable = text.1 })
   text_is c best status (Err Memory) few here present is says text = tt
 

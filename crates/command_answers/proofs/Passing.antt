@@ -8,7 +8,7 @@ use Rattle.orlib_read.specs.declared.or_fault.OrFault.TheVariants.{Memory as Wan
 use Rattle.plan_text.specs.declared.plan_fault.PlanFault.{PlanFault}
 use Rattle.plan_text.specs.declared.plan_fault.PlanFault.TheVariants.{Memory as WantOfMemory}
 use Rattle.command_answers.specs.declared.command_fault.CommandFault.{CommandFault}
-use Rattle.command_answers.specs.declared.command_fault.CommandFault.TheVariants.{Instance, Plan, Read, Write, InputTooLong, Memory}
+use Rattle.command_answers.specs.declared.command_fault.CommandFault.TheVariants.{Instance, Plan, Read, Write, InputTooLong, Log, LogInUse, Memory}
 use Rattle.command_answers.specs.Instances.{Holds, IsInstanceRefusal, instance_command_fault}
 use Rattle.command_answers.specs.Steps.{IsOrMemory}
 use Rattle.command_answers.specs.Plans.{IsPlanRefusal, IsRightOfBoth, plan_command_fault}
@@ -60,6 +60,8 @@ module _ (instance : List ℕ) (name : Option (List ℕ)) (text : List ℕ) wher
   refused_instance Is Read read = absurd read.fault
   refused_instance Is Write read = absurd read.fault
   refused_instance Is InputTooLong read = absurd read.fault
+  refused_instance Is Log read = absurd read.fault
+  refused_instance Is LogInUse read = absurd read.fault
 
   -- the instance tells a shop, and the plan is refused
   pub refused_plan : {A : Type 0} (Is : PlannedShop → A → Type 0) (named : Named) (fault : CommandFault) → IsInstanceRead instance name (Ok named) → IsPlanRead text (Err fault)
@@ -82,6 +84,8 @@ module _ (instance : List ℕ) (name : Option (List ℕ)) (text : List ℕ) wher
   refused_plan Is named Read shop read = absurd read.fault
   refused_plan Is named Write shop read = absurd read.fault
   refused_plan Is named InputTooLong shop read = absurd read.fault
+  refused_plan Is named Log shop read = absurd read.fault
+  refused_plan Is named LogInUse shop read = absurd read.fault
 
   same_planned : (named : Named) (plan : ShopPlan) (p : PlannedShop) → named.shop ≡ p.shop → plan ≡ p.plan → record { shop = named.shop; plan = plan } ≡ p
   same_planned named plan p shop same =
@@ -116,6 +120,8 @@ module _ (instance : List ℕ) (name : Option (List ℕ)) (text : List ℕ) wher
   passed_on Is More Read came = absurd came.fault
   passed_on Is More Write came = absurd came.fault
   passed_on Is More InputTooLong came = absurd came.fault
+  passed_on Is More Log came = absurd came.fault
+  passed_on Is More LogInUse came = absurd came.fault
 
   -- what came is followed by this, or memory ran out
   pub next_answered : {A B : Type 0} (Is : PlannedShop → A → Type 0) (More : PlannedShop → B → Type 0) (a : A) (outcome : Result B CommandFault) → AreTextsAnswered instance name text Is (Ok a)

@@ -8,7 +8,7 @@ use Rattle.plan_seek.specs.Turns.{PlanSearch}
 use Rattle.plan_seek.specs.Search.{IsSought, IsSeekFault}
 use Rattle.command_answers.specs.declared.answer.Answer.{Answer}
 use Rattle.command_answers.specs.declared.command_fault.CommandFault.{CommandFault}
-use Rattle.command_answers.specs.declared.command_fault.CommandFault.TheVariants.{Instance, Plan, Read, Write, InputTooLong, Memory}
+use Rattle.command_answers.specs.declared.command_fault.CommandFault.TheVariants.{Instance, Plan, Read, Write, InputTooLong, Log, LogInUse, Memory}
 use Rattle.command_answers.specs.Documents.{IsDocumentAnswer}
 use Rattle.command_answers.specs.Search.{IsFound, IsSearchAnswer, IsNoPlanAnswer}
 
@@ -28,6 +28,8 @@ module _ (s : PlanSearch) (rounds : ℕ) where
   found_answer v (Err Read) same accepted sought text = text
   found_answer v (Err Write) same accepted sought text = text
   found_answer v (Err InputTooLong) same accepted sought text = text
+  found_answer v (Err Log) same accepted sought text = text
+  found_answer v (Err LogInUse) same accepted sought text = text
   found_answer v (Err (Plan fault)) same accepted sought text =
       (text.0, record { plan = v.plan; found = found_is v same accepted sought; unreadable = text.1 })
   found_answer v (Err Memory) same accepted sought text = tt
@@ -40,5 +42,7 @@ module _ (s : PlanSearch) (rounds : ℕ) where
   no_plan_answer_is fault (Err Read) is line = line
   no_plan_answer_is fault (Err Write) is line = line
   no_plan_answer_is fault (Err InputTooLong) is line = line
+  no_plan_answer_is fault (Err Log) is line = line
+  no_plan_answer_is fault (Err LogInUse) is line = line
   no_plan_answer_is fault (Err (Plan other)) is line = absurd line
   no_plan_answer_is fault (Err Memory) is line = tt

@@ -37,6 +37,12 @@ pub enum CommandFault {
     /// A file or the input has more bytes than the limit.
     #[error("InputTooLong")]
     InputTooLong,
+    /// The log of a driven cell can't be opened, made, locked, cut, written or synced.
+    #[error("Log")]
+    Log,
+    /// Another process has the log of a driven cell.
+    #[error("LogInUse")]
+    LogInUse,
     /// Memory ran out.
     #[error("Memory")]
     Memory,
@@ -139,7 +145,11 @@ impl CommandFault {
         match self {
             CommandFault::Instance(_) | CommandFault::Plan(_) => 3,
             CommandFault::Memory => 4,
-            CommandFault::Read | CommandFault::Write | CommandFault::InputTooLong => 5,
+            CommandFault::Read
+            | CommandFault::Write
+            | CommandFault::InputTooLong
+            | CommandFault::Log
+            | CommandFault::LogInUse => 5,
         }
     }
 }

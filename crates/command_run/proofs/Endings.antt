@@ -1,5 +1,5 @@
 -- How each run of the program ends.
-use Rattle.std.proofs.Common.{◌≡◌, ℕ, ◌≤◌, List, [], Bool, true, false, Option, Result, Ok, Err, inl, inr, ◌⊎◌, ap, sym, ◌∙◌, subst, arith, refl}
+use Rattle.std.proofs.Common.{◌≡◌, ℕ, ◌≤◌, List, [], Bool, true, false, Option, None, Some, Result, Ok, Err, option_map, string_bytes, inl, inr, ◌⊎◌, ap, sym, ◌∙◌, subst, arith, refl}
 use Rattle.cell_drive.specs.declared.manner.Manner.{Manner}
 use Rattle.shop_base.specs.declared.shape_fault.ShapeFault.{ShapeFault}
 use Rattle.shop_base.specs.Plan.{PlannedShop}
@@ -19,6 +19,9 @@ use Rattle.plan_verifier.specs.declared.verdict.Verdict.TheVariants.{Accepted, R
 use Rattle.cell_drive.specs.declared.resume_fault.ResumeFault.{ResumeFault}
 use Rattle.cell_drive.specs.RestCell.{RestAnswer, RestCloses}
 use Rattle.cell_drive.specs.TakenUp.{TakenUp}
+use Rattle.cell_drive.specs.StatedRest.{StatedRestAnswer, StatedRestCloses}
+use Rattle.cell_drive.specs.StatedResume.{stated_from}
+use Rattle.cell_drive.specs.InManner.{ResumesBy}
 use Rattle.command_words.specs.declared.words.Chosen.{Chosen}
 use Rattle.command_words.specs.declared.words.CommandName.{CommandName}
 use Rattle.command_words.specs.declared.words.CommandName.TheVariants.{Input as NoWords, Facts, Shape, Check, Explain, Schedule, Bounds, Plan as Search, Improve, Drive, Resume, Hub, Audit, Gantt}
@@ -29,7 +32,7 @@ use Rattle.command_answers.specs.declared.answer.Answer.{Answer}
 use Rattle.command_answers.specs.declared.cells.Cells.{Cells}
 use Rattle.command_answers.specs.declared.cells.Cells.TheVariants.{Accepted as AllAccepted, Line}
 use Rattle.command_answers.specs.declared.command_fault.CommandFault.{CommandFault}
-use Rattle.command_answers.specs.declared.command_fault.CommandFault.TheVariants.{Instance, Plan, Read, Write, InputTooLong, Memory}
+use Rattle.command_answers.specs.declared.command_fault.CommandFault.TheVariants.{Instance, Plan, Read, Write, InputTooLong, Log, LogInUse, Memory}
 use Rattle.command_answers.specs.declared.loading.Loaded.{Loaded}
 use Rattle.command_answers.specs.declared.loading.Loaded.TheVariants.{NotShaped, Judged}
 use Rattle.command_answers.specs.Statuses.{status_of}
@@ -42,12 +45,15 @@ use Rattle.command_answers.specs.Cells.{LoadsCells}
 use Rattle.command_run.specs.Streams.{Streams, Output, Errors, Devices}
 use Rattle.command_run.specs.Pictures.{Draws, IsPictureOut, RunsTimetable, RunsDrawing}
 use Rattle.command_run.specs.Drives.{Drives, DrivesBy, is_plain}
-use Rattle.command_run.specs.Resumes.{IsTaking, IsResume, ResumesTaken, ResumesText, Resumes}
+use Rattle.command_run.specs.Resumes.{IsTaking, ResumesTaken, ResumesText, Resumes}
 use Rattle.command_run.specs.Hubs.{DriveBy, DrivesAll}
 use Rattle.command_run.specs.Ending.{Ends, IsPrinted, IsTold, IsToldAfter, IsOfText, IsLineOut}
-use Rattle.command_run.specs.Program.{AreWordsRead, RunsCommand, Follows, file_at, log_in, manner_in, name_in, pair_in, plans_in}
+use Rattle.command_run.specs.Logs.{step_of}
+use Rattle.command_run.specs.Program.{AreWordsRead, RunsCommand, RunsChosen, Follows, file_at, kept_log_in, log_in, manner_in, name_in, pair_in, plans_in}
 use Rattle.command_run.specs.Laws.{IsOutcomeOfWords, IsFailureOf, EndsAsTold, HoldsNothing, WereDriven, WereRefused, IsUnanswered, Ran, WroteNoMore}
 use Rattle.command_run.proofs.LowStatuses.{IsLow, low}
+use Rattle.command_run.proofs.Keepers.{keeper}
+use Rattle.command_run.proofs.LoggedEndings.{logged_shown, logged_written, low_logged}
 
 -- ---- what is told
 
@@ -57,6 +63,8 @@ at_least_two (Plan fault) status own = omega (arith, own)
 at_least_two Read status own = omega (arith, own)
 at_least_two Write status own = omega (arith, own)
 at_least_two InputTooLong status own = omega (arith, own)
+at_least_two Log status own = omega (arith, own)
+at_least_two LogInUse status own = omega (arith, own)
 at_least_two Memory status own = omega (arith, own)
 
 -- the fault was told, which failed, or out of memory in its place
@@ -69,7 +77,7 @@ pub record IsFailureTold (outcome : Result Answer CommandFault) (output : Output
 abbrev EndsWell : Result Answer CommandFault → Output → Errors → Errors → ℕ → Type 0
 EndsWell outcome output before after status = IsFailureTold outcome output before after status ⊎ ((status ≤ 1) × (after ≡ before))
 
-fault_ends : (fault : CommandFault) (output : Output) (before after : Errors) (status : ℕ) → IsTold fault before after status → IsFailureTold (Err fault) output before after status
+pub fault_ends : (fault : CommandFault) (output : Output) (before after : Errors) (status : ℕ) → IsTold fault before after status → IsFailureTold (Err fault) output before after status
 fault_ends fault output before after status (inl out) = record { high = at_least_two fault status out.own; fault = fault; failed = inl refl; told = out }
 fault_ends fault output before after status (inr (text, out)) = record { high = at_least_two Memory status out.own; fault = Memory; failed = inr (text, refl); told = out }
 
@@ -103,7 +111,7 @@ module _ {W : Type 0} (gives : W → List ℕ → Result (List ℕ) CommandFault
   drives_written (Err fault) later outcome loads is = kept Drive is.1
   drives_written (Ok (NotShaped fault)) later outcome loads is = kept Drive is.1
   drives_written (Ok (Judged (Refused back why))) later outcome loads is = kept Drive is.1
-  drives_written (Ok (Judged (Accepted v))) later outcome loads is = inr (inl (refl, record { cell = v; later = later; loads = loads; end = is.end; is = is.is }))
+  drives_written (Ok (Judged (Accepted v))) later outcome loads is = inr (inl (refl, inl (record { cell = v; later = later; loads = loads; end = is.end; is = is.is })))
 
   hub_written : (loaded : Result Cells CommandFault) (later : W) (outcome : Result Answer CommandFault) → LoadsCells gives (file_at chosen 0) (name_in chosen) (plans_in chosen) texts loaded later
       → DrivesAll (manner_in chosen) loaded before after outcome → WereDriven gives Hub chosen texts before after
@@ -114,18 +122,18 @@ module _ {W : Type 0} (gives : W → List ℕ → Result (List ℕ) CommandFault
 
   module _ (p : PlannedShop) (mid : W) (shapes : Shapes gives (pair_in chosen) texts (Ok (Ok p)) mid) (later : W) (outcome : Result Answer CommandFault) where
     taken_written : (text : List ℕ) (taken : Result TakenUp ResumeFault) → Asks gives (file_at chosen 2) mid (Ok text) later → IsTaking p chosen.at text taken
-        → ResumesTaken taken before after outcome → WereDriven gives Resume chosen texts before after
+        → ResumesTaken (manner_in chosen) taken before after outcome → WereDriven gives Resume chosen texts before after
     taken_written text (Ok t) asks takes is =
         inr (inr (inl (refl, record { plan = p; mid = mid; shapes = shapes; text = text; later = later; asks = asks; taken = t; takes = takes; end = is.end; is = is.is })))
     taken_written text (Err fault) asks takes is = kept Resume is.1
 
     text_written : (text : Result (List ℕ) CommandFault) → Asks gives (file_at chosen 2) mid text later
-        → ResumesText chosen.at p text before after outcome → WereDriven gives Resume chosen texts before after
+        → ResumesText (manner_in chosen) chosen.at p text before after outcome → WereDriven gives Resume chosen texts before after
     text_written (Ok text) asks is = taken_written text is.0 asks is.1 is.2
     text_written (Err fault) asks is = kept Resume is.1
 
   resumes_written : (shaped : Result (Result PlannedShop ShapeFault) CommandFault) (mid later : W) (outcome : Result Answer CommandFault) → Shapes gives (pair_in chosen) texts shaped mid
-      → Resumes gives chosen.at (file_at chosen 2) shaped mid before outcome later after → WereDriven gives Resume chosen texts before after
+      → Resumes gives (manner_in chosen) chosen.at (file_at chosen 2) shaped mid before outcome later after → WereDriven gives Resume chosen texts before after
   resumes_written (Err fault) mid later outcome shapes is = kept Resume is.1
   resumes_written (Ok (Err fault)) mid later outcome shapes is = kept Resume is.1
   resumes_written (Ok (Ok p)) mid later outcome shapes is = text_written p mid shapes later outcome is.text is.asks is.resumes
@@ -189,10 +197,15 @@ streamed_from_shown answers closes start last before after (Err NotWritten) is n
 streamed_from_shown answers closes start last before after (Err TooLong) is none = streamed_shown answers closes start last before after (Err TooLong) is
 streamed_from_shown answers closes start last before after (Err WantOfMemory) is none = inl (ap (λ (s : Streams). s.output.pending) is ∙ none)
 
-resume_shown : (t : TakenUp) (before after : Streams) (end : Result RestEnd DriveFault) → IsResume t before after end → HoldsNothing after.output
-resume_shown t before after end (inl cut) = inr cut.1
-resume_shown t before after end (inr on) =
+resume_shown : (plain : Bool) (manner : Manner) (t : TakenUp) (before after : Streams) (end : Result RestEnd DriveFault) → ResumesBy plain manner t before after end → before.output.pending ≡ []
+    → HoldsNothing after.output
+resume_shown true manner t before after end (inl cut) none = inr cut.1
+resume_shown true manner t before after end (inr on) none =
     streamed_shown RestAnswer RestCloses t.driven on.end (record { input = before.input; output = on.middle }) after end on.streamed
+resume_shown false manner t before after end (inl (wanting, same)) none = inl (ap (λ (s : Streams). s.output.pending) same ∙ none)
+resume_shown false manner t before after end (inr (inl cut)) none = inr cut.1
+resume_shown false manner t before after end (inr (inr on)) none =
+    streamed_shown StatedRestAnswer StatedRestCloses (stated_from manner t) on.end (record { input = before.input; output = on.middle }) after end on.streamed
 
 drive_shown : (plain : Bool) (manner : Manner) (v : VerifiedPlan) (before after : Streams) (end : Result DriveEnd DriveFault) → DrivesBy plain manner v before after end → before.output.pending ≡ []
     → HoldsNothing after.output
@@ -211,9 +224,10 @@ picture_shown picture before after (Err fault) out = inr out.2
 driven_shown : {W : Type 0} (gives : W → List ℕ → Result (List ℕ) CommandFault → W → Type 0) (chosen : Chosen) (texts : W) (before after : Streams) (name : CommandName)
     → WereDriven gives name chosen texts before after → before.output.pending ≡ [] → HoldsNothing after.output
 driven_shown gives chosen texts before after name (inl same) none = inl (ap (λ (o : Output). o.pending) same ∙ none)
-driven_shown gives chosen texts before after name (inr (inl (is, drove))) none =
+driven_shown gives chosen texts before after name (inr (inl (is, inr drove))) none = logged_shown gives (manner_in chosen) (pair_in chosen) texts before after drove none
+driven_shown gives chosen texts before after name (inr (inl (is, inl drove))) none =
     drive_shown (is_plain (manner_in chosen)) (manner_in chosen) drove.cell before after drove.end drove.is none
-driven_shown gives chosen texts before after name (inr (inr (inl (is, drove)))) none = resume_shown drove.taken before after drove.end drove.is
+driven_shown gives chosen texts before after name (inr (inr (inl (is, drove)))) none = resume_shown (is_plain (manner_in chosen)) (manner_in chosen) drove.taken before after drove.end drove.is none
 driven_shown gives chosen texts before after name (inr (inr (inr (inl (is, drove))))) none =
     hub_shown (is_plain (manner_in chosen)) (manner_in chosen) drove.cells before after drove.end drove.are none
 driven_shown gives chosen texts before after name (inr (inr (inr (inr (inl (is, drew)))))) none = picture_shown drew.picture before.output after.output drew.outcome drew.out
@@ -243,70 +257,83 @@ ended_no_more (Err fault) before after told_before told_after status low high en
 
 -- ---- each run of the program
 
-module _ {W : Type 0} (gives : W → List ℕ → Result (List ℕ) CommandFault → W → Type 0) (words : List (List ℕ)) where
+module _ {W : Type 0} (gives : W → List ℕ → Result (List ℕ) CommandFault → W → Type 0) (chosen : Chosen) (before after : Devices W) (outcome : Result Answer CommandFault) (mid : Streams) (kept : Bool) where
+  -- what a command wrote, with a log of its own or without
+  chosen_written : (log : Option (List ℕ)) → kept_log_in chosen ≡ log → RunsChosen gives log chosen before outcome mid after kept → WereDriven gives chosen.name chosen before.texts before.streams mid
+  chosen_written None none run = written gives chosen before.texts before.streams mid chosen.name after.texts outcome run.0
+  chosen_written (Some path) keeps run =
+      elim (logged_written gives (pair_in chosen) (manner_in chosen) before.texts after.texts before.streams mid outcome kept before.folder after.folder path chosen.at run.shaped run.shapes run.drives) [
+        | inl same ↦ inl same
+        | inr drove ↦ inr (inl (keeper chosen.name (option_map string_bytes chosen.log) path keeps, inr drove))
+      ]
+
+  -- and its answer is a good one, or one that refuses
+  chosen_low : (log : Option (List ℕ)) → RunsChosen gives log chosen before outcome mid after kept → IsLow outcome
+  chosen_low None run = low gives chosen.name chosen before.texts before.streams outcome after.texts mid run.0
+  chosen_low (Some path) run = low_logged before.folder after.folder path (manner_in chosen) chosen.at run.shaped (step_of before.streams outcome mid kept) run.drives
+
+module _ {W : Type 0} (gives : W → List ℕ → Result (List ℕ) CommandFault → W → Type 0) (words : List (List ℕ)) (before : Devices W) (status : ℕ) (after : Devices W) (kept : Bool) where
   -- a command that was run, as a part of the program's run
-  ran : (chosen : Chosen) → reasons_in words ≡ [] → IsChoiceOf (found_in words) chosen → (texts : W) (before : Streams) (outcome : Result Answer CommandFault) (texts_after : W) (mid : Streams)
-      → RunsCommand gives chosen.name chosen texts before outcome texts_after mid → Ran gives words texts before outcome texts_after mid
-  ran chosen taken is texts before outcome texts_after mid runs =
-      inl (record { chosen = chosen; taken = taken; is = is; runs = runs; driven = written gives chosen texts before mid chosen.name texts_after outcome runs })
+  ran : (chosen : Chosen) → reasons_in words ≡ [] → IsChoiceOf (found_in words) chosen → (outcome : Result Answer CommandFault) (mid : Streams)
+      → RunsChosen gives (kept_log_in chosen) chosen before outcome mid after kept → Ran gives words before outcome mid after kept
+  ran chosen taken is outcome mid runs =
+      inl (record { chosen = chosen; taken = taken; is = is; runs = runs; driven = chosen_written gives chosen before after outcome mid kept (kept_log_in chosen) refl runs })
 
   -- words that choose no command
-  chose_none : (fault : WordsFault) → TellsOneOf (reasons_in words) fault → (outcome : Result Answer CommandFault) → IsOutcomeOfWords fault outcome
-      → (texts : W) (before : Streams) (texts_after : W) → Ran gives words texts before outcome texts_after before
-  chose_none fault refused outcome is texts before texts_after = inr (record { fault = fault; refused = refused; is = is; same = refl })
+  chose_none : (fault : WordsFault) → TellsOneOf (reasons_in words) fault → (outcome : Result Answer CommandFault) → IsOutcomeOfWords fault outcome → Ran gives words before outcome before.streams after kept
+  chose_none fault refused outcome is = inr (record { fault = fault; refused = refused; is = is; same = refl })
 
-  module _ (before : Devices W) (status : ℕ) (after : Devices W) where
-    -- what was told at the end of what ran
-    ends_told : (outcome : Result Answer CommandFault) (mid : Streams) → Ran gives words before.texts before.streams outcome after.texts mid
-        → EndsWell outcome after.streams.output before.errors after.errors status → EndsAsTold gives words before status after
-    ends_told outcome mid ran (inl failure) =
-        inl (failure.high, inr (record { outcome = outcome; mid = mid; ran = ran; fault = failure.fault; failed = failure.failed; told = failure.told }))
-    ends_told outcome mid ran (inr good) = inr good
+  -- what was told at the end of what ran
+  ends_told : (outcome : Result Answer CommandFault) (mid : Streams) → Ran gives words before outcome mid after kept
+      → EndsWell outcome after.streams.output before.errors after.errors status → EndsAsTold gives words before status after kept
+  ends_told outcome mid ran (inl failure) =
+      inl (failure.high, inr (record { outcome = outcome; mid = mid; ran = ran; fault = failure.fault; failed = failure.failed; told = failure.told }))
+  ends_told outcome mid ran (inr good) = inr good
 
-    pub follows_ends : (read : Result Chosen WordsFault) → AreWordsRead words read → Follows gives read before status after → EndsAsTold gives words before status after
-    follows_ends (Ok chosen) are is =
-        ends_told is.outcome is.mid (ran chosen are.taken are.chosen before.texts before.streams is.outcome after.texts is.mid is.runs)
-        (outcome_ends is.outcome is.mid.output after.streams.output before.errors after.errors status (low gives chosen.name chosen before.texts before.streams is.outcome after.texts is.mid is.runs) is.ends)
-    follows_ends (Err (Usage true text)) are is =
-        ends_told (Ok is.help) before.streams (chose_none (Usage true text) are.refused (Ok is.help) (is.help, refl, is.text_is.0) before.texts before.streams after.texts)
-        (outcome_ends (Ok is.help) before.streams.output after.streams.output before.errors after.errors status (omega (arith, is.text_is.1)) is.ends)
-    follows_ends (Err (Usage false text)) are is =
-        inl (omega (arith, is.1), inl (record { fault = Usage false text; refused = are.refused; told = (is.1, is.0); same = is.3 }))
-    follows_ends (Err NoWordsMemory) are is =
-        ends_told (Err Memory) before.streams (chose_none NoWordsMemory are.refused (Err Memory) refl before.texts before.streams after.texts)
-        (outcome_ends (Err Memory) before.streams.output after.streams.output before.errors after.errors status tt is.0)
+  pub follows_ends : (read : Result Chosen WordsFault) → AreWordsRead words read → Follows gives read before status after kept → EndsAsTold gives words before status after kept
+  follows_ends (Ok chosen) are is =
+      ends_told is.outcome is.mid (ran chosen are.taken are.chosen is.outcome is.mid is.runs)
+      (outcome_ends is.outcome is.mid.output after.streams.output before.errors after.errors status (chosen_low gives chosen before after is.outcome is.mid kept (kept_log_in chosen) is.runs) is.ends)
+  follows_ends (Err (Usage true text)) are is =
+      ends_told (Ok is.help) before.streams (chose_none (Usage true text) are.refused (Ok is.help) (is.help, refl, is.text_is.0))
+      (outcome_ends (Ok is.help) before.streams.output after.streams.output before.errors after.errors status (omega (arith, is.text_is.1)) is.ends)
+  follows_ends (Err (Usage false text)) are is =
+      inl (omega (arith, is.1), inl (record { fault = Usage false text; refused = are.refused; told = (is.1, is.0); same = is.3 }))
+  follows_ends (Err NoWordsMemory) are is =
+      ends_told (Err Memory) before.streams (chose_none NoWordsMemory are.refused (Err Memory) refl)
+      (outcome_ends (Err Memory) before.streams.output after.streams.output before.errors after.errors status tt is.0)
 
-    pub follows_shown : (read : Result Chosen WordsFault) → before.streams.output.pending ≡ [] → Follows gives read before status after → HoldsNothing after.streams.output
-    follows_shown (Ok chosen) none is =
-        ended_shown is.outcome is.mid.output after.streams.output before.errors after.errors status
-        (driven_shown gives chosen before.texts before.streams is.mid chosen.name (written gives chosen before.texts before.streams is.mid chosen.name after.texts is.outcome is.runs) none) is.ends
-    follows_shown (Err (Usage true text)) none is = printed_shown is.help is.ends.printed before.streams.output after.streams.output is.ends.is
-    follows_shown (Err (Usage false text)) none is = inl (ap (λ (s : Streams). s.output.pending) is.3 ∙ none)
-    follows_shown (Err NoWordsMemory) none is = inl (ap (λ (o : Output). o.pending) is.0.0 ∙ none)
+  pub follows_shown : (read : Result Chosen WordsFault) → before.streams.output.pending ≡ [] → Follows gives read before status after kept → HoldsNothing after.streams.output
+  follows_shown (Ok chosen) none is =
+      ended_shown is.outcome is.mid.output after.streams.output before.errors after.errors status
+      (driven_shown gives chosen before.texts before.streams is.mid chosen.name (chosen_written gives chosen before after is.outcome is.mid kept (kept_log_in chosen) refl is.runs) none) is.ends
+  follows_shown (Err (Usage true text)) none is = printed_shown is.help is.ends.printed before.streams.output after.streams.output is.ends.is
+  follows_shown (Err (Usage false text)) none is = inl (ap (λ (s : Streams). s.output.pending) is.3 ∙ none)
+  follows_shown (Err NoWordsMemory) none is = inl (ap (λ (o : Output). o.pending) is.0.0 ∙ none)
 
-    pub follows_no_more : (read : Result Chosen WordsFault) → AreWordsRead words read → 2 ≤ status → Follows gives read before status after
-        → WereRefused words before status after ⊎ WroteNoMore gives words before after
-    follows_no_more (Ok chosen) are high is =
-        inr (record {
-          outcome = is.outcome;
-          mid = is.mid;
-          ran = ran chosen are.taken are.chosen before.texts before.streams is.outcome after.texts is.mid is.runs;
-          unanswered = ended_no_more is.outcome is.mid.output after.streams.output before.errors after.errors status
-              (low gives chosen.name chosen before.texts before.streams is.outcome after.texts is.mid is.runs) high is.ends;
-        })
-    follows_no_more (Err (Usage true text)) are high is =
-        inr (record {
-          outcome = Ok is.help;
-          mid = before.streams;
-          ran = chose_none (Usage true text) are.refused (Ok is.help) (is.help, refl, is.text_is.0) before.texts before.streams after.texts;
-          unanswered = ended_no_more (Ok is.help) before.streams.output after.streams.output before.errors after.errors status (omega (arith, is.text_is.1)) high is.ends;
-        })
-    follows_no_more (Err (Usage false text)) are high is =
-        inl (record { fault = Usage false text; refused = are.refused; told = (is.1, is.0); same = is.3 })
-    follows_no_more (Err NoWordsMemory) are high is =
-        inr (record {
-          outcome = Err Memory;
-          mid = before.streams;
-          ran = chose_none NoWordsMemory are.refused (Err Memory) refl before.texts before.streams after.texts;
-          unanswered = is.0.0;
-        })
+  pub follows_no_more : (read : Result Chosen WordsFault) → AreWordsRead words read → 2 ≤ status → Follows gives read before status after kept
+      → WereRefused words before status after ⊎ WroteNoMore gives words before after kept
+  follows_no_more (Ok chosen) are high is =
+      inr (record {
+        outcome = is.outcome;
+        mid = is.mid;
+        ran = ran chosen are.taken are.chosen is.outcome is.mid is.runs;
+        unanswered = ended_no_more is.outcome is.mid.output after.streams.output before.errors after.errors status
+            (chosen_low gives chosen before after is.outcome is.mid kept (kept_log_in chosen) is.runs) high is.ends;
+      })
+  follows_no_more (Err (Usage true text)) are high is =
+      inr (record {
+        outcome = Ok is.help;
+        mid = before.streams;
+        ran = chose_none (Usage true text) are.refused (Ok is.help) (is.help, refl, is.text_is.0);
+        unanswered = ended_no_more (Ok is.help) before.streams.output after.streams.output before.errors after.errors status (omega (arith, is.text_is.1)) high is.ends;
+      })
+  follows_no_more (Err (Usage false text)) are high is =
+      inl (record { fault = Usage false text; refused = are.refused; told = (is.1, is.0); same = is.3 })
+  follows_no_more (Err NoWordsMemory) are high is =
+      inr (record {
+        outcome = Err Memory;
+        mid = before.streams;
+        ran = chose_none NoWordsMemory are.refused (Err Memory) refl;
+        unanswered = is.0.0;
+      })

@@ -218,29 +218,29 @@ module _ (content : List ℕ → Result (List ℕ) CommandFault) (pair : PairOfF
       loaded_drives manner run.loaded asked before after outcome shaped acceptable (good_plan IsLoaded run.loaded asked run.loads) run.drives
 
   -- the text of the log that came is taken up
-  log_resumes : (at : Option ℕ) (log text : List ℕ) (came : Result (List ℕ) CommandFault) (mid asked : List (List ℕ)) (before after : Streams) (outcome : Result Answer CommandFault) → content log ≡ Ok text
-      → mid ≡ pair.path ∷ pair.plan ∷ [] → Asks (Shelf content) log mid came asked → ResumesText at p came before after outcome
-      → (asked ≡ pair.path ∷ pair.plan ∷ log ∷ []) × ResumesText at p (Ok text) before after outcome
-  log_resumes at log text (Ok t) mid asked before after outcome is files given resumes =
+  log_resumes : (manner : Manner) (at : Option ℕ) (log text : List ℕ) (came : Result (List ℕ) CommandFault) (mid asked : List (List ℕ)) (before after : Streams) (outcome : Result Answer CommandFault) → content log ≡ Ok text
+      → mid ≡ pair.path ∷ pair.plan ∷ [] → Asks (Shelf content) log mid came asked → ResumesText manner at p came before after outcome
+      → (asked ≡ pair.path ∷ pair.plan ∷ log ∷ []) × ResumesText manner at p (Ok text) before after outcome
+  log_resumes manner at log text (Ok t) mid asked before after outcome is files given resumes =
       let same : t ≡ text = (let both : Ok t ≡ Ok text = given.0 ∙ is in cc both) in
-      (given.1 ∙ ap (λ (paths : List (List ℕ)). paths ++ log ∷ []) files, subst (λ (x : List ℕ). ResumesText at p (Ok x) before after outcome) same resumes)
-  log_resumes at log text (Err f) mid asked before after outcome is files given resumes = absurd (let both : Err f ≡ Ok text = given.1.0 ∙ is in cc both)
+      (given.1 ∙ ap (λ (paths : List (List ℕ)). paths ++ log ∷ []) files, subst (λ (x : List ℕ). ResumesText manner at p (Ok x) before after outcome) same resumes)
+  log_resumes manner at log text (Err f) mid asked before after outcome is files given resumes = absurd (let both : Err f ≡ Ok text = given.1.0 ∙ is in cc both)
 
   -- a well-shaped plan has its log asked for
-  shaped_resumes : (at : Option ℕ) (log text : List ℕ) (shaped : Result (Result PlannedShop ShapeFault) CommandFault) (mid asked : List (List ℕ)) (before after : Streams) (outcome : Result Answer CommandFault) → content log ≡ Ok text → IsWellShaped p
-      → IsAnswered (IsShapedOrNot p) (pair.path ∷ pair.plan ∷ []) shaped mid → Resumes (Shelf content) at log shaped mid before outcome asked after
-      → ((asked ≡ pair.path ∷ pair.plan ∷ log ∷ []) × ResumesText at p (Ok text) before after outcome) ⊎ ((outcome ≡ Err Memory) × (after ≡ before))
-  shaped_resumes at log text (Err fault) mid asked before after outcome came well is resumes = inr (resumes.0 ∙ ap Err is, resumes.1)
-  shaped_resumes at log text (Ok (Err fault)) mid asked before after outcome came well is resumes = absurd (shape_fault_refutes p fault is.0 well)
-  shaped_resumes at log text (Ok (Ok q)) mid asked before after outcome came well is resumes =
-      let of_plan : ResumesText at p resumes.text before after outcome = subst (λ (x : PlannedShop). ResumesText at x resumes.text before after outcome) is.0.0 resumes.resumes in
-      inl (log_resumes at log text resumes.text mid asked before after outcome came is.1 resumes.asks of_plan)
+  shaped_resumes : (manner : Manner) (at : Option ℕ) (log text : List ℕ) (shaped : Result (Result PlannedShop ShapeFault) CommandFault) (mid asked : List (List ℕ)) (before after : Streams) (outcome : Result Answer CommandFault) → content log ≡ Ok text → IsWellShaped p
+      → IsAnswered (IsShapedOrNot p) (pair.path ∷ pair.plan ∷ []) shaped mid → Resumes (Shelf content) manner at log shaped mid before outcome asked after
+      → ((asked ≡ pair.path ∷ pair.plan ∷ log ∷ []) × ResumesText manner at p (Ok text) before after outcome) ⊎ ((outcome ≡ Err Memory) × (after ≡ before))
+  shaped_resumes manner at log text (Err fault) mid asked before after outcome came well is resumes = inr (resumes.0 ∙ ap Err is, resumes.1)
+  shaped_resumes manner at log text (Ok (Err fault)) mid asked before after outcome came well is resumes = absurd (shape_fault_refutes p fault is.0 well)
+  shaped_resumes manner at log text (Ok (Ok q)) mid asked before after outcome came well is resumes =
+      let of_plan : ResumesText manner at p resumes.text before after outcome = subst (λ (x : PlannedShop). ResumesText manner at x resumes.text before after outcome) is.0.0 resumes.resumes in
+      inl (log_resumes manner at log text resumes.text mid asked before after outcome came is.1 resumes.asks of_plan)
 
-  pub good_resume : (at : Option ℕ) (before after : Streams) (log text : List ℕ) (outcome : Result Answer CommandFault) (asked : List (List ℕ)) → IsWellShaped p → content log ≡ Ok text
-      → RunsResume (Shelf content) at pair log [] before outcome asked after
-      → ((asked ≡ pair.path ∷ pair.plan ∷ log ∷ []) × ResumesText at p (Ok text) before after outcome) ⊎ ((outcome ≡ Err Memory) × (after ≡ before))
-  good_resume at before after log text outcome asked well is run =
-      shaped_resumes at log text run.shaped run.texts_mid asked before after outcome is well (good_plan IsShapedOrNot run.shaped run.texts_mid run.shapes) run.resumes
+  pub good_resume : (manner : Manner) (at : Option ℕ) (before after : Streams) (log text : List ℕ) (outcome : Result Answer CommandFault) (asked : List (List ℕ)) → IsWellShaped p → content log ≡ Ok text
+      → RunsResume (Shelf content) manner at pair log [] before outcome asked after
+      → ((asked ≡ pair.path ∷ pair.plan ∷ log ∷ []) × ResumesText manner at p (Ok text) before after outcome) ⊎ ((outcome ≡ Err Memory) × (after ≡ before))
+  good_resume manner at before after log text outcome asked well is run =
+      shaped_resumes manner at log text run.shaped run.texts_mid asked before after outcome is well (good_plan IsShapedOrNot run.shaped run.texts_mid run.shapes) run.resumes
 
   -- ---- plans that aren't accepted
 
@@ -262,20 +262,20 @@ module _ (content : List ℕ → Result (List ℕ) CommandFault) (pair : PairOfF
   no_drive manner before after outcome asked never run = drives_no_cell manner run.loaded asked before after outcome never (good_plan IsLoaded run.loaded asked run.loads) run.drives
 
   -- a plan that isn't well shaped
-  resumes_unshaped : (at : Option ℕ) (log : List ℕ) (shaped : Result (Result PlannedShop ShapeFault) CommandFault) (mid asked : List (List ℕ)) (before after : Streams) (outcome : Result Answer CommandFault) → (IsWellShaped p → ⊥)
-      → IsAnswered (IsShapedOrNot p) (pair.path ∷ pair.plan ∷ []) shaped mid → Resumes (Shelf content) at log shaped mid before outcome asked after
+  resumes_unshaped : (manner : Manner) (at : Option ℕ) (log : List ℕ) (shaped : Result (Result PlannedShop ShapeFault) CommandFault) (mid asked : List (List ℕ)) (before after : Streams) (outcome : Result Answer CommandFault) → (IsWellShaped p → ⊥)
+      → IsAnswered (IsShapedOrNot p) (pair.path ∷ pair.plan ∷ []) shaped mid → Resumes (Shelf content) manner at log shaped mid before outcome asked after
       → IsAnswered (IsCheckLine p) (pair.path ∷ pair.plan ∷ []) outcome asked × (after ≡ before)
-  resumes_unshaped at log (Err fault) mid asked before after outcome never is resumes = (wanting (IsCheckLine p) _ outcome asked (resumes.0 ∙ ap Err is), resumes.1)
-  resumes_unshaped at log (Ok (Err fault)) mid asked before after outcome never is resumes = (line_told (NotShaped fault) outcome asked is.0 (resumes.2 ∙ is.1) resumes.0, resumes.1)
-  resumes_unshaped at log (Ok (Ok q)) mid asked before after outcome never is resumes = absurd (never is.0.1)
+  resumes_unshaped manner at log (Err fault) mid asked before after outcome never is resumes = (wanting (IsCheckLine p) _ outcome asked (resumes.0 ∙ ap Err is), resumes.1)
+  resumes_unshaped manner at log (Ok (Err fault)) mid asked before after outcome never is resumes = (line_told (NotShaped fault) outcome asked is.0 (resumes.2 ∙ is.1) resumes.0, resumes.1)
+  resumes_unshaped manner at log (Ok (Ok q)) mid asked before after outcome never is resumes = absurd (never is.0.1)
 
-  pub no_unshaped_resume : (at : Option ℕ) (log : List ℕ) (before after : Streams) (outcome : Result Answer CommandFault) (asked : List (List ℕ)) → (IsWellShaped p → ⊥) → RunsResume (Shelf content) at pair log [] before outcome asked after
+  pub no_unshaped_resume : (manner : Manner) (at : Option ℕ) (log : List ℕ) (before after : Streams) (outcome : Result Answer CommandFault) (asked : List (List ℕ)) → (IsWellShaped p → ⊥) → RunsResume (Shelf content) manner at pair log [] before outcome asked after
       → IsAnswered (IsCheckLine p) (pair.path ∷ pair.plan ∷ []) outcome asked × (after ≡ before)
-  no_unshaped_resume at log before after outcome asked never run =
-      resumes_unshaped at log run.shaped run.texts_mid asked before after outcome never (good_plan IsShapedOrNot run.shaped run.texts_mid run.shapes) run.resumes
+  no_unshaped_resume manner at log before after outcome asked never run =
+      resumes_unshaped manner at log run.shaped run.texts_mid asked before after outcome never (good_plan IsShapedOrNot run.shaped run.texts_mid run.shapes) run.resumes
 
   -- a plan by which the run of a log can't go on
-  module _ (at : Option ℕ) (text : List ℕ) (told : List Entry) (well : IsWellShaped p) (tells : LinesTell p (ended_lines text) told) (run : IsRun p (events_of told))
+  module _ (manner : Manner) (at : Option ℕ) (text : List ℕ) (told : List Entry) (well : IsWellShaped p) (tells : LinesTell p (ended_lines text) told) (run : IsRun p (events_of told))
       (not_past : (cell_after p told).last ≤ unwrap_or at (cell_after p told).last) (no_plan : IsNoPlanFor p told) where
     not_taken : (t : TakenUp) → IsTakenUp p (ended_lines text) at t → ⊥
     not_taken t up = go no_plan
@@ -314,14 +314,14 @@ module _ (content : List ℕ → Result (List ℕ) CommandFault) (pair : PairOfF
         answered_line (Ok answer) line = (line_of_loaded p (Judged (Refused back why)) answer judged line, same)
         answered_line (Err fault) line = line
 
-    text_resumes : (files asked : List (List ℕ)) (before after : Streams) (outcome : Result Answer CommandFault) → asked ≡ files → ResumesText at p (Ok text) before after outcome
+    text_resumes : (files asked : List (List ℕ)) (before after : Streams) (outcome : Result Answer CommandFault) → asked ≡ files → ResumesText manner at p (Ok text) before after outcome
         → IsAnswered (IsCheckLine p) files outcome asked × (after ≡ before)
     text_resumes files asked before after outcome same (Ok t, taking, on) = absurd (not_taken t taking.is)
     text_resumes files asked before after outcome same (Err fault, taking, on) = (untaken_told fault files asked outcome same taking.fault on.0, on.1)
 
-    pub no_resume : (log : List ℕ) (before after : Streams) (outcome : Result Answer CommandFault) (asked : List (List ℕ)) → content log ≡ Ok text → RunsResume (Shelf content) at pair log [] before outcome asked after
+    pub no_resume : (log : List ℕ) (before after : Streams) (outcome : Result Answer CommandFault) (asked : List (List ℕ)) → content log ≡ Ok text → RunsResume (Shelf content) manner at pair log [] before outcome asked after
         → IsAnswered (IsCheckLine p) (pair.path ∷ pair.plan ∷ log ∷ []) outcome asked × (after ≡ before)
-    no_resume log before after outcome asked is runs = elim (good_resume at before after log text outcome asked well is runs) [
+    no_resume log before after outcome asked is runs = elim (good_resume manner at before after log text outcome asked well is runs) [
       | inl (files, resumes) ↦ text_resumes (pair.path ∷ pair.plan ∷ log ∷ []) asked before after outcome files resumes
       | inr (none, unread) ↦ (wanting (IsCheckLine p) (pair.path ∷ pair.plan ∷ log ∷ []) outcome asked none, unread)
     ]

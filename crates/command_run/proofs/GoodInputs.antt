@@ -5,7 +5,7 @@ use Rattle.shop_base.specs.Shop.{JobShop}
 use Rattle.text_lines.specs.declared.limits.TheConstants.{MAX_INPUT}
 use Rattle.command_answers.specs.declared.answer.Answer.{Answer}
 use Rattle.command_answers.specs.declared.command_fault.CommandFault.{CommandFault}
-use Rattle.command_answers.specs.declared.command_fault.CommandFault.TheVariants.{Instance, Plan, Read, Write, InputTooLong, Memory}
+use Rattle.command_answers.specs.declared.command_fault.CommandFault.TheVariants.{Instance, Plan, Read, Write, InputTooLong, Log, LogInUse, Memory}
 use Rattle.command_answers.specs.Instances.{Tells}
 use Rattle.command_answers.specs.Readings.{AreFactsAnswered}
 use Rattle.command_answers.specs.Steps.{GoesOn, Told}
@@ -41,6 +41,8 @@ module _ (text description : List ℕ) (shop : JobShop) (tells : Tells text None
   input_read before mid after (Err (Instance fault)) outcome given few is on = absurd is
   input_read before mid after (Err (Plan fault)) outcome given few is on = absurd is
   input_read before mid after (Err Write) outcome given few is on = absurd is
+  input_read before mid after (Err Log) outcome given few is on = absurd is
+  input_read before mid after (Err LogInUse) outcome given few is on = absurd is
 
 pub good_input : (before after : Input) (text description : List ℕ) (shop : JobShop) (outcome : Result Answer CommandFault) → before.left ≡ Some text → length text ≤ MAX_INPUT
     → Tells text None description shop → RunsInput before outcome after → IsInputAnswered shop outcome after

@@ -7,7 +7,7 @@ use Rattle.plan_improve.specs.Runs.{Asked, AfterSome, nobody, one_more, AfterRou
 use Rattle.plan_improve.specs.Watching.{Told as Telling}
 use Rattle.command_answers.specs.declared.answer.Answer.{Answer}
 use Rattle.command_answers.specs.declared.command_fault.CommandFault.{CommandFault}
-use Rattle.command_answers.specs.declared.command_fault.CommandFault.TheVariants.{Instance, Plan, Read, Write, InputTooLong, Memory}
+use Rattle.command_answers.specs.declared.command_fault.CommandFault.TheVariants.{Instance, Plan, Read, Write, InputTooLong, Log, LogInUse, Memory}
 use Rattle.command_answers.specs.Improving.{IsBest, IsBestAnswer, IsImproveAnswer, ordered}
 use Rattle.command_answers.specs.Steps.{Told}
 use Rattle.command_answers.specs.Commands.{PairOfFiles, ReadsBoth, RunsImprove}
@@ -33,6 +33,8 @@ module _ (made more : Asked) (rounds : ℕ) (less : (p q : PlannedShop) → made
   best_answer_more start (Err Read) is = is
   best_answer_more start (Err Write) is = is
   best_answer_more start (Err InputTooLong) is = is
+  best_answer_more start (Err Log) is = is
+  best_answer_more start (Err LogInUse) is = is
 
   answer_more : (start : PlannedShop) (outcome : Result Answer CommandFault) → IsImproveAnswer made rounds start outcome → IsImproveAnswer more rounds start outcome
   answer_more start outcome (inl best) = inl (best.0, best_answer_more start outcome best.1)

@@ -9,7 +9,7 @@ use Rattle.plan_improve.specs.Watching.{Told as Telling}
 use Rattle.rest_improve.specs.Runs.{AfterSome, nobody, one_more, AfterRounds, no_round, round_more}
 use Rattle.command_answers.specs.declared.answer.Answer.{Answer}
 use Rattle.command_answers.specs.declared.command_fault.CommandFault.{CommandFault}
-use Rattle.command_answers.specs.declared.command_fault.CommandFault.TheVariants.{Instance, Plan, Read, Write, InputTooLong, Memory}
+use Rattle.command_answers.specs.declared.command_fault.CommandFault.TheVariants.{Instance, Plan, Read, Write, InputTooLong, Log, LogInUse, Memory}
 use Rattle.command_answers.specs.Improving.{ordered}
 use Rattle.command_answers.specs.ImprovingRests.{RestAsked, RestRoundsOf, IsBestRest, IsRestAnswer}
 use Rattle.command_answers.specs.Steps.{Told}
@@ -55,6 +55,8 @@ module _ (made more : RestAsked) (less : (lines : List (List ℕ)) (t : ℕ) (p 
   answer_more lines start (Err Read) is = is
   answer_more lines start (Err Write) is = is
   answer_more lines start (Err InputTooLong) is = is
+  answer_more lines start (Err Log) is = is
+  answer_more lines start (Err LogInUse) is = is
 
   module _ {W : Type 0} (gives : W → List ℕ → Result (List ℕ) CommandFault → W → Type 0) where
     with_more : (log : List ℕ) (p : PlannedShop) (before : W) (outcome : Result Answer CommandFault) (after : W)

@@ -6,8 +6,14 @@ pub mod Telling
 pub mod Accepting
 pub mod Refusing
 pub mod LowStatuses
+pub mod KnownLogs
+pub mod LoggedEndings
+pub mod Keepers
+pub mod Choosing
 pub mod Endings
+pub mod LogsAtEnd
 pub mod GoodFiles
 pub mod GoodHubs
 pub mod GoodInputs
 pub mod SameWriting
+pub mod SameResuming

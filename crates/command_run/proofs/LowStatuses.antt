@@ -79,7 +79,7 @@ held P first next before outcome after failed each run = held_on P next run.came
 low_failed : (fault : CommandFault) → IsLow (Err fault)
 low_failed fault = tt
 
-low_or : (Is : Answer → Type 0) (outcome : Result Answer CommandFault) → ((answer : Answer) → Is answer → answer.status ≤ 1) → IsOrMemory Is outcome → IsLow outcome
+pub low_or : (Is : Answer → Type 0) (outcome : Result Answer CommandFault) → ((answer : Answer) → Is answer → answer.status ≤ 1) → IsOrMemory Is outcome → IsLow outcome
 low_or Is (Ok answer) each is = each answer is
 low_or Is (Err fault) each is = tt
 
@@ -170,7 +170,7 @@ low_improved : (made : Asked) (rounds : ℕ) (start : PlannedShop) (outcome : Re
 low_improved made rounds start outcome (inl best) = low_best made rounds start outcome best.1
 low_improved made rounds start outcome (inr line) = low_or (IsNotShapedLine start) outcome (low_not_shaped start) line
 
-low_line_of : (loaded : Loaded) (answer : Answer) → IsLineOf loaded answer → answer.status ≤ 1
+pub low_line_of : (loaded : Loaded) (answer : Answer) → IsLineOf loaded answer → answer.status ≤ 1
 low_line_of (NotShaped fault) answer is = one_low answer.status is.refused
 low_line_of (Judged verdict) answer is = low_verdict verdict answer.status is.1
 
@@ -219,7 +219,7 @@ low_ended : (done : Bool) (outcome : Result Answer CommandFault) → IsEnded don
 low_ended done (Ok answer) is = subst (λ n. n ≤ 1) (sym is.1) (low_at done)
 low_ended done (Err fault) is = tt
 
-low_end : (done : Result Bool DriveFault) (outcome : Result Answer CommandFault) → IsEndAnswer done outcome → IsLow outcome
+pub low_end : (done : Result Bool DriveFault) (outcome : Result Answer CommandFault) → IsEndAnswer done outcome → IsLow outcome
 low_end (Ok done) outcome is = low_ended done outcome is
 low_end (Err fault) outcome is = subst IsLow (sym is) tt
 
@@ -232,7 +232,7 @@ low_drives manner (Ok (Judged (Accepted v))) before after outcome is = low_end (
 
 -- ---- taking up
 
-low_log_fault : (fault : AuditFault) (outcome : Result Answer CommandFault) → IsFaultTold fault outcome → IsLow outcome
+pub low_log_fault : (fault : AuditFault) (outcome : Result Answer CommandFault) → IsFaultTold fault outcome → IsLow outcome
 low_log_fault NoMemoryToAudit outcome is = subst IsLow (sym is) tt
 low_log_fault (BadLine line) outcome is = low_or (IsFaultLine (BadLine line)) outcome (λ answer line. one_low answer.status line.1) is
 low_log_fault (NotExpected line) outcome is = low_or (IsFaultLine (NotExpected line)) outcome (λ answer line. one_low answer.status line.1) is
@@ -243,19 +243,19 @@ low_log_fault (NotClean line) outcome is = low_or (IsFaultLine (NotClean line)) 
 low_log_fault (OutOfOrder line) outcome is = low_or (IsFaultLine (OutOfOrder line)) outcome (λ answer line. one_low answer.status line.1) is
 low_log_fault (WrongPlace line) outcome is = low_or (IsFaultLine (WrongPlace line)) outcome (λ answer line. one_low answer.status line.1) is
 
-low_untaken : (fault : ResumeFault) (outcome : Result Answer CommandFault) → IsUntakenTold fault outcome → IsLow outcome
+pub low_untaken : (fault : ResumeFault) (outcome : Result Answer CommandFault) → IsUntakenTold fault outcome → IsLow outcome
 low_untaken NoMemoryToResume outcome is = subst IsLow (sym is) tt
 low_untaken (Log fault) outcome is = low_log_fault fault outcome is
 low_untaken (Past last) outcome is = low_or (IsPastLine last) outcome (λ answer line. one_low answer.status line.1) is
 low_untaken (RefusedRun back why) outcome is = low_or (IsLineOf (Judged (Refused back why))) outcome (low_line_of (Judged (Refused back why))) is
 
-low_taken : (taken : Result TakenUp ResumeFault) (before after : Streams) (outcome : Result Answer CommandFault) → ResumesTaken taken before after outcome → IsLow outcome
-low_taken (Ok t) before after outcome is = low_end (end_of_rest is.end) outcome is.answer
-low_taken (Err fault) before after outcome is = low_untaken fault outcome is.0
+low_taken : (manner : Manner) (taken : Result TakenUp ResumeFault) (before after : Streams) (outcome : Result Answer CommandFault) → ResumesTaken manner taken before after outcome → IsLow outcome
+low_taken manner (Ok t) before after outcome is = low_end (end_of_rest is.end) outcome is.answer
+low_taken manner (Err fault) before after outcome is = low_untaken fault outcome is.0
 
-low_text : (at : Option ℕ) (p : PlannedShop) (text : Result (List ℕ) CommandFault) (before after : Streams) (outcome : Result Answer CommandFault) → ResumesText at p text before after outcome → IsLow outcome
-low_text at p (Ok text) before after outcome is = low_taken is.0 before after outcome is.2
-low_text at p (Err fault) before after outcome is = subst IsLow (sym is.0) tt
+low_text : (manner : Manner) (at : Option ℕ) (p : PlannedShop) (text : Result (List ℕ) CommandFault) (before after : Streams) (outcome : Result Answer CommandFault) → ResumesText manner at p text before after outcome → IsLow outcome
+low_text manner at p (Ok text) before after outcome is = low_taken manner is.0 before after outcome is.2
+low_text manner at p (Err fault) before after outcome is = subst IsLow (sym is.0) tt
 
 -- the line of a plan of a hub
 abbrev IsLowLine : Result Cells CommandFault → Type 0
@@ -372,12 +372,12 @@ module _ {W : Type 0} (gives : W → List ℕ → Result (List ℕ) CommandFault
   low_bettered at rounds pair None texts outcome after run = low_improves rounds pair texts outcome after run
   low_bettered at rounds pair (Some log) texts outcome after run = low_rest_improves at rounds pair log texts outcome after run
 
-  low_resumes : (at : Option ℕ) (log : List ℕ) (shaped : Result (Result PlannedShop ShapeFault) CommandFault) (texts : W) (before : Streams) (outcome : Result Answer CommandFault) (texts_after : W) (after : Streams)
-      → Resumes gives at log shaped texts before outcome texts_after after → IsLow outcome
-  low_resumes at log (Err fault) texts before outcome texts_after after is = subst IsLow (sym is.0) tt
-  low_resumes at log (Ok (Err fault)) texts before outcome texts_after after is =
+  low_resumes : (manner : Manner) (at : Option ℕ) (log : List ℕ) (shaped : Result (Result PlannedShop ShapeFault) CommandFault) (texts : W) (before : Streams) (outcome : Result Answer CommandFault) (texts_after : W) (after : Streams)
+      → Resumes gives manner at log shaped texts before outcome texts_after after → IsLow outcome
+  low_resumes manner at log (Err fault) texts before outcome texts_after after is = subst IsLow (sym is.0) tt
+  low_resumes manner at log (Ok (Err fault)) texts before outcome texts_after after is =
       low_or (IsLineOf (NotShaped fault)) outcome (low_line_of (NotShaped fault)) is.0
-  low_resumes at log (Ok (Ok p)) texts before outcome texts_after after is = low_text at p is.text before after outcome is.resumes
+  low_resumes manner at log (Ok (Ok p)) texts before outcome texts_after after is = low_text manner at p is.text before after outcome is.resumes
 
   -- an answer of any command is a good one, or one that refuses
   pub low : (name : CommandName) (chosen : Chosen) (texts : W) (before : Streams) (outcome : Result Answer CommandFault) (texts_after : W) (after : Streams)
@@ -398,7 +398,7 @@ module _ {W : Type 0} (gives : W → List ℕ → Result (List ℕ) CommandFault
   low Plan chosen texts before outcome texts_after after run = low_seeks chosen.rounds _ texts outcome texts_after run.0
   low Improve chosen texts before outcome texts_after after run = low_bettered chosen.at chosen.rounds (pair_in chosen) (log_in chosen) texts outcome texts_after run.0
   low Drive chosen texts before outcome texts_after after run = low_drives (manner_in chosen) run.loaded before after outcome run.drives
-  low Resume chosen texts before outcome texts_after after run = low_resumes chosen.at _ run.shaped run.texts_mid before outcome texts_after after run.resumes
+  low Resume chosen texts before outcome texts_after after run = low_resumes (manner_in chosen) chosen.at _ run.shaped run.texts_mid before outcome texts_after after run.resumes
   low Hub chosen texts before outcome texts_after after run =
       low_drives_all (manner_in chosen) run.loaded before after outcome
       (held IsLowLine _ (λ text. LoadsEach gives text (name_in chosen) [] (plans_in chosen)) texts run.loaded texts_after low_line_failed (λ text mid on. low_loaded gives text (name_in chosen) [] (plans_in chosen) mid run.loaded texts_after on) run.loads) run.drives

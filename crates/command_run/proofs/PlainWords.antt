@@ -10,7 +10,7 @@ use Rattle.command_answers.specs.declared.cells.Cells.{Cells}
 use Rattle.command_answers.specs.declared.loading.Loaded.{Loaded}
 use Rattle.command_answers.specs.declared.pictures.Drawn.{Drawn}
 use Rattle.command_answers.specs.declared.command_fault.CommandFault.{CommandFault}
-use Rattle.command_answers.specs.declared.command_fault.CommandFault.TheVariants.{Instance, Plan, Read, Write, InputTooLong, Memory}
+use Rattle.command_answers.specs.declared.command_fault.CommandFault.TheVariants.{Instance, Plan, Read, Write, InputTooLong, Log, LogInUse, Memory}
 use Rattle.command_answers.specs.Instances.{IsFirstInstanceFault, IsInstanceRefusal}
 use Rattle.command_answers.specs.Steps.{GoesOn, Told}
 use Rattle.command_answers.specs.Texts.{Asks}
@@ -38,6 +38,8 @@ told_of fault (Err (Plan told)) refusal = absurd refusal
 told_of fault (Err Read) refusal = absurd refusal
 told_of fault (Err Write) refusal = absurd refusal
 told_of fault (Err InputTooLong) refusal = absurd refusal
+told_of fault (Err Log) refusal = absurd refusal
+told_of fault (Err LogInUse) refusal = absurd refusal
 told_of fault (Err Memory) refusal = inr refl
 
 -- such a fault ends the steps
@@ -62,13 +64,13 @@ draws_stopped fault (Ok drawn) before after outcome (inr told) is = absurd (cc t
 draws_stopped fault (Err f) before after outcome (inl told) is = (inl ((let one : f ≡ (Instance fault) = cc told in is.0 ∙ ap (λ x. Err x) one)), is.1)
 draws_stopped fault (Err f) before after outcome (inr told) is = (inr ((let one : f ≡ Memory = cc told in is.0 ∙ ap (λ x. Err x) one)), is.1)
 
-resumes_stopped : {W : Type 0} (gives : W → List ℕ → Result (List ℕ) CommandFault → W → Type 0) (at : Option ℕ) (log : List ℕ) (fault : OrFault) (loaded : Result (Result PlannedShop ShapeFault) CommandFault) (mid last : W) (before after : Streams) (outcome : Result Answer CommandFault)
-    → IsToldOf fault loaded → Resumes gives at log loaded mid before outcome last after → IsToldOf fault outcome × (after ≡ before) × (last ≡ mid)
-resumes_stopped gives at log fault (Ok loaded) mid last before after outcome (inl told) is = absurd (cc told)
-resumes_stopped gives at log fault (Ok loaded) mid last before after outcome (inr told) is = absurd (cc told)
-resumes_stopped gives at log fault (Err f) mid last before after outcome (inl told) is =
+resumes_stopped : {W : Type 0} (gives : W → List ℕ → Result (List ℕ) CommandFault → W → Type 0) (manner : Manner) (at : Option ℕ) (log : List ℕ) (fault : OrFault) (loaded : Result (Result PlannedShop ShapeFault) CommandFault) (mid last : W) (before after : Streams) (outcome : Result Answer CommandFault)
+    → IsToldOf fault loaded → Resumes gives manner at log loaded mid before outcome last after → IsToldOf fault outcome × (after ≡ before) × (last ≡ mid)
+resumes_stopped gives manner at log fault (Ok loaded) mid last before after outcome (inl told) is = absurd (cc told)
+resumes_stopped gives manner at log fault (Ok loaded) mid last before after outcome (inr told) is = absurd (cc told)
+resumes_stopped gives manner at log fault (Err f) mid last before after outcome (inl told) is =
     (inl ((let one : f ≡ (Instance fault) = cc told in is.0 ∙ ap (λ x. Err x) one)), is.1, is.2)
-resumes_stopped gives at log fault (Err f) mid last before after outcome (inr told) is =
+resumes_stopped gives manner at log fault (Err f) mid last before after outcome (inr told) is =
     (inr ((let one : f ≡ Memory = cc told in is.0 ∙ ap (λ x. Err x) one)), is.1, is.2)
 
 hub_stopped : (manner : Manner) (fault : OrFault) (loaded : Result Cells CommandFault) (before after : Streams) (outcome : Result Answer CommandFault)
@@ -161,9 +163,9 @@ module _ (content : List ℕ → Result (List ℕ) CommandFault) (pair : PairOfF
       let end = draws_stopped fault run.drawn before after outcome came.1 run.draws in
       ((came.0, end.0), end.1)
 
-  pub resume_first : (at : Option ℕ) (log : List ℕ) (before after : Streams) (outcome : Result Answer CommandFault) (asked : List (List ℕ))
-      → RunsResume (Shelf content) at pair log [] before outcome asked after → IsInstanceTold pair.path fault outcome asked × (after ≡ before)
-  resume_first at log before after outcome asked run =
+  pub resume_first : (manner : Manner) (at : Option ℕ) (log : List ℕ) (before after : Streams) (outcome : Result Answer CommandFault) (asked : List (List ℕ))
+      → RunsResume (Shelf content) manner at pair log [] before outcome asked after → IsInstanceTold pair.path fault outcome asked × (after ≡ before)
+  resume_first manner at log before after outcome asked run =
       let loaded = told_first _ run.shaped run.texts_mid run.shapes in
-      let end = resumes_stopped (Shelf content) at log fault run.shaped run.texts_mid asked before after outcome loaded.1 run.resumes in
+      let end = resumes_stopped (Shelf content) manner at log fault run.shaped run.texts_mid asked before after outcome loaded.1 run.resumes in
       ((end.2 ∙ loaded.0, end.0), end.1)

@@ -10,7 +10,7 @@ use Rattle.plan_seek.specs.Turns.{Turn, Proposals, MayPropose, MayFail, EachMayF
 use Rattle.plan_seek.specs.Search.{IsSought, IsSeekFault}
 use Rattle.command_answers.specs.declared.answer.Answer.{Answer}
 use Rattle.command_answers.specs.declared.command_fault.CommandFault.{CommandFault}
-use Rattle.command_answers.specs.declared.command_fault.CommandFault.TheVariants.{Instance, Plan, Read, Write, InputTooLong, Memory}
+use Rattle.command_answers.specs.declared.command_fault.CommandFault.TheVariants.{Instance, Plan, Read, Write, InputTooLong, Log, LogInUse, Memory}
 use Rattle.command_answers.specs.Search.{IsFound, IsSearchLine, IsSearchAnswer}
 use Rattle.command_answers.specs.Steps.{Then, GoesOn, Told}
 use Rattle.command_answers.specs.Commands.{PairOfFiles, ReadsBoth, RunsPlan}
@@ -57,6 +57,8 @@ module _ (t : PlanTask) (proposers : ℕ) (may wide : Proposals) (within : (turn
   answer_more (Err Read) is = is
   answer_more (Err Write) is = is
   answer_more (Err InputTooLong) is = is
+  answer_more (Err Log) is = is
+  answer_more (Err LogInUse) is = is
 
 -- a step behind another one, where what follows says less
 step_more : {W A B : Type 0} (next more : A → W → Result B CommandFault → W → Type 0) (came : Result A CommandFault) (mid : W) (outcome : Result B CommandFault) (after : W)

@@ -1,5 +1,6 @@
 -- A driven cell writes the same.
 use Rattle.std.proofs.Common.{◌≡◌, ◌↔◌, ℕ, ◌≤◌, ◌++◌, List, [], ◌⊎◌, Bool, true, false, IsTrue, Option, Some, None, Result, Ok, Err, IfSome, length, length-append, get_or, map, option_map, inl, inr, ap, sym, ◌∙◌, subst, arith, refl}
+use Rattle.std.specs.Prelude.{unwrap_or}
 use Rattle.std.specs.Io.KnownBytes.{Appends, Consumes, IsAtEnd}
 use Rattle.std.specs.String.{string_bytes}
 use Rattle.std.proofs.KnownBytes.{Appends-trans, Consumes-whole}
@@ -27,9 +28,10 @@ use Rattle.cell_drive.proofs.OneStated.{one_stated_text, a_stated_cell_answers_s
 use Rattle.command_words.specs.declared.words.Chosen.{Chosen}
 use Rattle.command_words.specs.declared.words.CommandName.{CommandName}
 use Rattle.command_words.specs.declared.words.CommandName.TheVariants.{Input, Facts, Shape, Check, Explain, Schedule, Bounds, Plan, Improve, Drive, Resume, Hub, Audit, Gantt}
+use Rattle.command_words.specs.declared.words.Lines.{Lines}
 use Rattle.command_words.specs.declared.words.WordsFault.{WordsFault}
 use Rattle.command_words.specs.declared.words.WordsFault.TheVariants.{Usage, Memory as NoWordsMemory}
-use Rattle.command_words.specs.Choice.{word_of, IsChoiceOf, TellsOneOf, found_in, rows_found, lines_in, leap_in}
+use Rattle.command_words.specs.Choice.{word_of, IsChoiceOf, TellsOneOf, found_in, rows_found, at_in, lines_in, leap_in}
 use Rattle.command_answers.specs.declared.answer.Answer.{Answer}
 use Rattle.command_answers.specs.declared.command_fault.CommandFault.{CommandFault}
 use Rattle.command_answers.specs.declared.command_fault.CommandFault.TheVariants.{Write, Memory}
@@ -37,7 +39,7 @@ use Rattle.command_answers.specs.Commands.{PairOfFiles}
 use Rattle.command_run.specs.Streams.{Streams, Output, Errors}
 use Rattle.command_run.specs.Drives.{IsEnded, IsEndAnswer, DrivesBy, DrivesCell, is_plain, status_at, end_of_drive}
 use Rattle.command_run.specs.Ending.{IsTold, IsPrinted, IsToldAfter, Ends}
-use Rattle.command_run.specs.Program.{AreWordsRead, RunsDrive, RunsCommand, Follows, is_second, manner_in, pair_in}
+use Rattle.command_run.specs.Program.{AreWordsRead, RunsDrive, RunsCommand, RunsChosen, Follows, is_second, keeps_log, kept_log_in, log_kept_by, manner_in, pair_in}
 use Rattle.command_run.specs.Laws.{Shelf, TellPlan, AskForDrive, RunsWell}
 use Rattle.command_run.proofs.GoodFiles.{good_drive}
 
@@ -47,7 +49,7 @@ driven_or_not (inr other) = inr other.0
 
 -- ---- the words
 
-abbrev first : Option (List ℕ) → ℕ
+abbrev pub first : Option (List ℕ) → ℕ
 first None = 0
 first (Some word) = get_or word 0 0
 
@@ -77,17 +79,26 @@ same_pair words pair chosen ask is =
     ∙ ap (λ b. of pair.path b (get_or (map string_bytes chosen.files.items) 1 [])) name ∙ ap (λ c. of pair.path pair.name c) plan
 
 -- the manner that words ask for
-abbrev manner_of : List (List ℕ) → Manner
-manner_of words = record { tells = is_second (lines_in (rows_found (found_in words))); longest = leap_in (rows_found (found_in words)); from = 0 }
+abbrev pub manner_of : List (List ℕ) → Manner
+manner_of words = record { tells = is_second (lines_in (rows_found (found_in words))); longest = leap_in (rows_found (found_in words)); from = unwrap_or (at_in (rows_found (found_in words))) 0 }
 
-same_manner : (words : List (List ℕ)) (chosen : Chosen) → IsChoiceOf (found_in words) chosen → manner_in chosen ≡ manner_of words
+pub same_manner : (words : List (List ℕ)) (chosen : Chosen) → IsChoiceOf (found_in words) chosen → manner_in chosen ≡ manner_of words
 same_manner words chosen is =
-    ap (λ (v : Option ℕ). record { tells = is_second v; longest = chosen.leap; from = 0 }) is.lines
-    ∙ ap (λ (l : Option ℕ). record { tells = is_second (lines_in (rows_found (found_in words))); longest = l; from = 0 }) is.leap
+    ap (λ (v : Option Lines). record { tells = is_second v; longest = chosen.leap; from = unwrap_or chosen.at 0 }) is.lines
+    ∙ ap (λ (l : Option ℕ). record { tells = is_second (lines_in (rows_found (found_in words))); longest = l; from = unwrap_or chosen.at 0 }) is.leap
+    ∙ ap (λ (a : Option ℕ). record { tells = is_second (lines_in (rows_found (found_in words))); longest = leap_in (rows_found (found_in words)); from = unwrap_or a 0 }) is.at
+
+-- and no log
+none_kept : (keeps : Bool) (log : Option (List ℕ)) → log ≡ None → log_kept_by keeps log ≡ None
+none_kept true log none = none
+none_kept false log none = refl
+
+no_log : (words : List (List ℕ)) (pair : PairOfFiles) (chosen : Chosen) → AskForDrive words pair → IsChoiceOf (found_in words) chosen → kept_log_in chosen ≡ None
+no_log words pair chosen ask is = none_kept (keeps_log chosen.name) (option_map string_bytes chosen.log) (is.log ∙ ask.log)
 
 -- ---- the bytes
 
-all_read : (before after : Option (List ℕ)) (input came : List ℕ) → before ≡ Some input → Consumes before after came → IsAtEnd after → came ≡ input
+pub all_read : (before after : Option (List ℕ)) (input came : List ℕ) → before ≡ Some input → Consumes before after came → IsAtEnd after → came ≡ input
 all_read before after input came same was end =
     let whole = Consumes-whole before after came (λ xs. xs ≡ came) was end refl in
     sym (subst (λ o. IfSome o (λ xs. xs ≡ came)) same whole)
@@ -96,10 +107,10 @@ fewer_of : (after : Option (List ℕ)) (input came : List ℕ) → Consumes (Som
 fewer_of None input came was = absurd was
 fewer_of (Some ys) input came was = omega (arith, ap length was, length-append came ys)
 
-fewer : (before after : Option (List ℕ)) (input came : List ℕ) → before ≡ Some input → Consumes before after came → length came ≤ length input
+pub fewer : (before after : Option (List ℕ)) (input came : List ℕ) → before ≡ Some input → Consumes before after came → length came ≤ length input
 fewer before after input came same was = fewer_of after input came (subst (λ o. Consumes o after came) same was)
 
-written_is : (before mid after : Option (List ℕ)) (start written text more : List ℕ) → before ≡ Some start → after ≡ Some (start ++ written) → Appends before mid text → Appends mid after more → more ≡ [] → written ≡ text
+pub written_is : (before mid after : Option (List ℕ)) (start written text more : List ℕ) → before ≡ Some start → after ≡ Some (start ++ written) → Appends before mid text → Appends mid after more → more ≡ [] → written ≡ text
 written_is before mid after start written text more from to first second none =
     let both = Appends-trans before mid after text more first second in
     let known : start ++ written ≡ start ++ (text ++ more) = subst (λ o. Appends o (Some (start ++ written)) (text ++ more)) from (subst (λ o. Appends before o (text ++ more)) to both) in
@@ -107,15 +118,15 @@ written_is before mid after start written text more from to first second none =
 
 -- ---- how it ends
 
-memory_status : (before after : Errors) (status : ℕ) → IsTold Memory before after status → status ≡ 4
+pub memory_status : (before after : Errors) (status : ℕ) → IsTold Memory before after status → status ≡ 4
 memory_status before after status (inl out) = out.own
 memory_status before after status (inr (text, out)) = absurd text
 
-memory_ends : (outcome : Result Answer CommandFault) (before after : Output) (told_before told_after : Errors) (status : ℕ) → outcome ≡ Err Memory → Ends outcome before after told_before told_after status → status ≡ 4
+pub memory_ends : (outcome : Result Answer CommandFault) (before after : Output) (told_before told_after : Errors) (status : ℕ) → outcome ≡ Err Memory → Ends outcome before after told_before told_after status → status ≡ 4
 memory_ends outcome before after told_before told_after status is ends =
     let wanting = subst (λ o. Ends o before after told_before told_after status) is ends in memory_status told_before told_after status wanting.1
 
-write_ends : (outcome : Result Answer CommandFault) (before after : Output) (told_before told_after : Errors) (status : ℕ) → outcome ≡ Err Write → Ends outcome before after told_before told_after status → after ≡ before
+pub write_ends : (outcome : Result Answer CommandFault) (before after : Output) (told_before told_after : Errors) (status : ℕ) → outcome ≡ Err Write → Ends outcome before after told_before told_after status → after ≡ before
 write_ends outcome before after told_before told_after status is ends =
     let failed = subst (λ o. Ends o before after told_before told_after status) is ends in failed.0
 
@@ -124,7 +135,7 @@ printed_as : (answer : Answer) (printed : Result ℕ CommandFault) (before after
 printed_as answer (Ok shown) before after told_before told_after status unfailed is told = (told.1 ∙ is.0, is.1)
 printed_as answer (Err fault) before after told_before told_after status unfailed is told = absurd (let failed : true ≡ false = sym is.2 ∙ unfailed in cc failed)
 
-ended_as : (done : Bool) (outcome : Result Answer CommandFault) (before after : Output) (told_before told_after : Errors) (status : ℕ) → after.failed ≡ false → IsEnded done outcome
+pub ended_as : (done : Bool) (outcome : Result Answer CommandFault) (before after : Output) (told_before told_after : Errors) (status : ℕ) → after.failed ≡ false → IsEnded done outcome
     → Ends outcome before after told_before told_after status → (status ≡ status_at done) × ((more : List ℕ) × (more ≡ []) × Appends before.taken after.taken more)
 ended_as done (Ok answer) before after told_before told_after status unfailed is ends =
     let printed = printed_as answer ends.printed before after told_before told_after status unfailed ends.is ends.told in
@@ -132,11 +143,11 @@ ended_as done (Ok answer) before after told_before told_after status unfailed is
 ended_as done (Err fault) before after told_before told_after status unfailed is ends = absurd is
 
 -- what a good run of `drive` wrote: the answer text of its input, as ever or in this manner
-abbrev IsTextBy : Bool → Manner → PlannedShop → List ℕ → List ℕ → DrivenCell → Type 0
+abbrev pub IsTextBy : Bool → Manner → PlannedShop → List ℕ → List ℕ → DrivenCell → Type 0
 IsTextBy true manner p input text end = IsAnswerText p input text end
 IsTextBy false manner p input text end = IsStatedText p manner input text end
 
-record Wrote (p : PlannedShop) (manner : Manner) (input : List ℕ) (status : ℕ) (written : List ℕ) : Type 0 where
+pub record Wrote (p : PlannedShop) (manner : Manner) (input : List ℕ) (status : ℕ) (written : List ℕ) : Type 0 where
   pub state : DrivenCell
   pub done : Bool
   pub last : ℕ
@@ -235,13 +246,15 @@ module _ (content : List ℕ → Result (List ℕ) CommandFault) (words : List (
   cell_wrote manner mid outcome (inr none) same_input ends =
       absurd (well.no_want (memory_ends outcome mid.output well.after.streams.output well.before.errors well.after.errors status none ends))
 
-  follows_wrote : (pair : PairOfFiles) (read : Result Chosen WordsFault) → AskForDrive words pair → TellPlan content pair p → IsWellShaped p → IsAcceptable p → AreWordsRead words read
-      → Follows (Shelf content) read well.before status well.after → Wrote p (manner_of words) input status written
+  pub follows_wrote : (pair : PairOfFiles) (read : Result Chosen WordsFault) → AskForDrive words pair → TellPlan content pair p → IsWellShaped p → IsAcceptable p → AreWordsRead words read
+      → Follows (Shelf content) read well.before status well.after well.kept → Wrote p (manner_of words) input status written
   follows_wrote pair (Ok chosen) ask good shaped acceptable are follows =
       let name = is_drive chosen.name (are.chosen.name ∙ ask.drive) in
       let manner = manner_of words in
+      let unlogged : RunsCommand (Shelf content) chosen.name chosen well.before.texts well.before.streams follows.outcome well.after.texts follows.mid =
+      (subst (λ (l : Option (List ℕ)). RunsChosen (Shelf content) l chosen well.before follows.outcome follows.mid well.after well.kept) (no_log words pair chosen ask are.chosen) follows.runs).0 in
       let runs : RunsDrive (Shelf content) (manner_in chosen) (pair_in chosen) well.before.texts well.before.streams follows.outcome well.after.texts follows.mid =
-      subst (λ n. RunsCommand (Shelf content) n chosen well.before.texts well.before.streams follows.outcome well.after.texts follows.mid) name follows.runs in
+      subst (λ n. RunsCommand (Shelf content) n chosen well.before.texts well.before.streams follows.outcome well.after.texts follows.mid) name unlogged in
       let drive : RunsDrive (Shelf content) manner pair [] well.before.streams follows.outcome well.after.texts follows.mid =
       subst (λ (q : PairOfFiles). RunsDrive (Shelf content) manner q [] well.before.streams follows.outcome well.after.texts follows.mid) (same_pair words pair chosen ask are.chosen)
       (subst (λ (m : Manner). RunsDrive (Shelf content) m (pair_in chosen) [] well.before.streams follows.outcome well.after.texts follows.mid) (same_manner words chosen are.chosen)
@@ -259,18 +272,23 @@ same_truth true false there back = absurd (let bad : false ≡ true = there refl
 same_truth false true there back = absurd (let bad : false ≡ true = back refl in cc bad)
 same_truth false false there back = refl
 
-one_text_by : (plain : Bool) (manner : Manner) (p : PlannedShop) (input text other : List ℕ) (end last : DrivenCell) → IsWellShaped p → IsTextBy plain manner p input text end → IsTextBy plain manner p input other last
+pub one_text_by : (plain : Bool) (manner : Manner) (p : PlannedShop) (input text other : List ℕ) (end last : DrivenCell) → IsWellShaped p → IsTextBy plain manner p input text end → IsTextBy plain manner p input other last
     → (other ≡ text) × (last ≡ end)
 one_text_by true manner p input text other end last shaped is also = one_answer_text p input text other end last shaped is also
 one_text_by false manner p input text other end last shaped is also = one_stated_text p manner input text other end last shaped is also
+
+-- the same events have come as far
+pub same_done : (p : PlannedShop) (one two : DrivenCell) (done also : Bool) (last last_too left left_too : ℕ) → IsSoFar p one.entries done last left → IsSoFar p two.entries also last_too left_too → two ≡ one → also ≡ done
+same_done p one two done also last last_too left left_too so_far so_far_too same =
+    let entries : two.entries ≡ one.entries = ap (λ (d : DrivenCell). d.entries) same in
+    let counted : IsTrue also ↔ (reports_in (events_of one.entries) ≡ stated_number p) = subst (λ es. IsTrue also ↔ (reports_in (events_of es) ≡ stated_number p)) entries so_far_too.counted in
+    same_truth done also (λ yet. counted.1 (so_far.counted.0 yet)) (λ yet. so_far.counted.1 (counted.0 yet))
 
 wrote_the_same : (p : PlannedShop) (manner : Manner) (input : List ℕ) (status other_status : ℕ) (written other : List ℕ) → IsWellShaped p → Wrote p manner input status written → Wrote p manner input other_status other
     → (other_status ≡ status) × (other ≡ written)
 wrote_the_same p manner input status other_status written other shaped one two =
     let same = one_text_by (is_plain manner) manner p input written other _ _ shaped one.is_text two.is_text in
-    let entries : two.state.entries ≡ one.state.entries = ap (λ (d : DrivenCell). d.entries) same.1 in
-    let counted : IsTrue two.done ↔ (reports_in (events_of one.state.entries) ≡ stated_number p) = subst (λ es. IsTrue two.done ↔ (reports_in (events_of es) ≡ stated_number p)) entries two.so_far.counted in
-    let done : two.done ≡ one.done = same_truth one.done two.done (λ yet. counted.1 (one.so_far.counted.0 yet)) (λ yet. one.so_far.counted.1 (counted.0 yet)) in
+    let done : two.done ≡ one.done = same_done p one.state two.state one.done two.done one.last two.last one.left two.left one.so_far two.so_far same.1 in
     (two.own ∙ ap status_at done ∙ sym one.own, same.0)
 
 pub drive_writes_the_same : (content : List ℕ → Result (List ℕ) CommandFault) (words : List (List ℕ)) (pair : PairOfFiles) (p : PlannedShop) (input : List ℕ) (status other_status : ℕ) (written other : List ℕ)

@@ -1,13 +1,12 @@
 -- What driving the cell of an accepted plan comes to.
-use Rattle.std.specs.Prelude.{◌≡◌, ℕ, ◌&&◌, [], Bool, true, false, not, is_none, Result, Ok, Err}
+use Rattle.std.specs.Prelude.{◌≡◌, ℕ, [], Bool, true, false, Result, Ok, Err}
 use Rattle.plan_verifier.specs.declared.verdict.Verdict.TheVariants.{Accepted, Refused}
 use Rattle.plan_verifier.specs.Accepted.{VerifiedPlan}
 use Rattle.cell_drive.specs.declared.one_run.DriveEnd.{DriveEnd}
 use Rattle.byte_streams.specs.declared.drive_fault.DriveFault.{DriveFault}
 use Rattle.byte_streams.specs.declared.drive_fault.DriveFault.TheVariants.{Read as NotRead, Write as NotWritten, InputTooLong as TooLong, Memory as WantOfMemory}
 use Rattle.cell_drive.specs.declared.manner.Manner.{Manner}
-use Rattle.cell_drive.specs.Stated.{IsStatedDrive}
-pub use Rattle.cell_drive.specs.OneRun.{IsDrive}
+pub use Rattle.cell_drive.specs.InManner.{DrivesBy, IsDriveIn, is_plain}
 use Rattle.command_answers.specs.declared.answer.Answer.{Answer}
 use Rattle.command_answers.specs.declared.command_fault.CommandFault.{CommandFault}
 use Rattle.command_answers.specs.declared.command_fault.CommandFault.TheVariants.{Read, Write, InputTooLong, Memory}
@@ -42,18 +41,6 @@ IsEndAnswer (Err fault) outcome = outcome ≡ Err (drive_command_fault fault)
 abbrev pub end_of_drive : Result DriveEnd DriveFault → Result Bool DriveFault
 end_of_drive (Ok end) = Ok end.done
 end_of_drive (Err fault) = Err fault
-
--- version 1 of the lines, and no moment that leaps
-abbrev pub is_plain : Manner → Bool
-is_plain manner = not manner.tells && is_none manner.longest
-
--- the cell was driven as ever, or in this manner
-abbrev pub DrivesBy : Bool → Manner → VerifiedPlan → Streams → Streams → Result DriveEnd DriveFault → Type 0
-DrivesBy true manner v before after end = IsDrive v before after end
-DrivesBy false manner v before after end = IsStatedDrive v manner before after end
-
-abbrev pub IsDriveIn : Manner → VerifiedPlan → Streams → Streams → Result DriveEnd DriveFault → Type 0
-IsDriveIn manner = DrivesBy (is_plain manner) manner
 
 -- the cell was driven in this manner, and the status says whether its run has ended
 pub record DrivesCell (manner : Manner) (v : VerifiedPlan) (before after : Streams) (outcome : Result Answer CommandFault) : Type 0 where

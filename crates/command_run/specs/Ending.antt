@@ -4,7 +4,7 @@ use Rattle.std.specs.Io.KnownBytes.{Appends}
 use Rattle.byte_streams.specs.Sinks.{TookPart}
 use Rattle.command_answers.specs.declared.answer.Answer.{Answer}
 use Rattle.command_answers.specs.declared.command_fault.CommandFault.{CommandFault}
-use Rattle.command_answers.specs.declared.command_fault.CommandFault.TheVariants.{Instance, Plan, Read, Write, InputTooLong, Memory}
+use Rattle.command_answers.specs.declared.command_fault.CommandFault.TheVariants.{Instance, Plan, Read, Write, InputTooLong, Log, LogInUse, Memory}
 use Rattle.command_answers.specs.Statuses.{status_of}
 use Rattle.command_run.specs.Streams.{Output, Errors}
 
@@ -24,6 +24,8 @@ IsErrorLine (Plan fault) line = IsRefusalLine (codes "cellplan: plan: ") line
 IsErrorLine Read line = line ≡ codes "cellplan: read\n"
 IsErrorLine Write line = line ≡ codes "cellplan: write\n"
 IsErrorLine InputTooLong line = line ≡ codes "cellplan: input too long\n"
+IsErrorLine Log line = line ≡ codes "cellplan: log\n"
+IsErrorLine LogInUse line = line ≡ codes "cellplan: log in use\n"
 IsErrorLine Memory line = line ≡ codes "cellplan: out of memory\n"
 
 -- a text is refused, whose words take memory

@@ -1,5 +1,5 @@
 -- What the program's clauses come to in plain words.
-use Rattle.std.specs.Prelude.{◌≡◌, ◌≢◌, ℕ, ◌≤◌, List, [], ◌∷◌, ◌++◌, ◌⊎◌, length, map, get_or, unwrap_or, codes, decimal, Option, None, Some, true, false, Result, Ok, Err}
+use Rattle.std.specs.Prelude.{◌≡◌, ◌≢◌, ℕ, ◌≤◌, List, [], ◌∷◌, ◌++◌, ◌⊎◌, length, map, get_or, unwrap_or, codes, decimal, Option, None, Some, Bool, true, false, Result, Ok, Err}
 use Rattle.std.specs.String.{string_bytes}
 use Rattle.shop_base.specs.Shop.{JobShop}
 use Rattle.shop_base.specs.Plan.{PlannedShop, IsWellShaped}
@@ -15,14 +15,15 @@ use Rattle.cell_tables.specs.Events.{events_of}
 use Rattle.event_lines.specs.LogLines.{LinesTell}
 use Rattle.byte_streams.specs.Sinks.{TookPart}
 use Rattle.cell_drive.specs.OneRun.{cell_after}
-use Rattle.cell_drive.specs.TakenUp.{TakenUp}
+use Rattle.cell_drive.specs.TakenUp.{TakenUp, plan_of}
+use Rattle.cell_drive.specs.InManner.{IsResumeIn}
 use Rattle.cell_drive.specs.declared.manner.Manner.{Manner}
 use Rattle.cell_drive.specs.declared.one_run.DriveEnd.{DriveEnd}
 use Rattle.cell_drive.specs.declared.rest_run.RestEnd.{RestEnd}
 use Rattle.cell_drive.specs.declared.many_runs.HubEnd.{HubEnd}
 use Rattle.byte_streams.specs.declared.drive_fault.DriveFault.{DriveFault}
 use Rattle.command_words.specs.declared.words.CommandName.TheVariants.{Schedule, Drive, Resume, Hub, Gantt}
-use Rattle.command_words.specs.Choice.{word_of, word_found, rows_found, files_in, instance_in, reasons_in, found_in, IsChoiceOf, TellsOneOf}
+use Rattle.command_words.specs.Choice.{word_of, word_found, rows_found, files_in, instance_in, kept_in, reasons_in, found_in, IsChoiceOf, TellsOneOf}
 use Rattle.command_words.specs.declared.words.Chosen.{Chosen}
 use Rattle.command_words.specs.declared.words.CommandName.{CommandName}
 use Rattle.command_words.specs.declared.words.WordsFault.{WordsFault}
@@ -58,11 +59,12 @@ use Rattle.command_run.specs.Inputs.{RunsInput}
 use Rattle.command_run.specs.Planners.{search_by_two, SeeksPlan}
 use Rattle.command_run.specs.Improvers.{AsksOne, ImprovesPlan, AsksOneForRest, ImprovesRest}
 use Rattle.command_run.specs.Pictures.{IsPictureOut, Draws, RunsPicture}
-use Rattle.command_run.specs.Drives.{IsDriveIn, DrivesCell}
-use Rattle.command_run.specs.Resumes.{IsResume, ResumesText, IsTaking}
+use Rattle.command_run.specs.Drives.{IsDriveIn, DrivesCell, end_of_drive}
+use Rattle.command_run.specs.Logs.{DrivesWithLog, GoesOnWithLog, step_of}
+use Rattle.command_run.specs.Resumes.{ResumesText, IsTaking}
 use Rattle.command_run.specs.Hubs.{AreDrivesIn, DrivesCells}
 use Rattle.command_run.specs.Ending.{WasTold, IsLineOut, IsOfText}
-use Rattle.command_run.specs.Program.{RunsDrive, RunsResume, RunsHub, RunsProgram, RunsCommand, file_at, manner_in, name_in, pair_in, plans_in}
+use Rattle.command_run.specs.Program.{RunsDrive, RunsResume, RunsHub, RunsChosen, RunsProgram, file_at, kept_log_in, manner_in, name_in, pair_in, plans_in}
 
 -- ---- what is told first where the files don't change
 
@@ -134,7 +136,7 @@ abbrev pub DriveTellsInstanceFirst : Type 0
 DriveTellsInstanceFirst = (manner : Manner) → TellsInstanceFirstUnread (λ gives pair. RunsDrive gives manner pair)
 
 abbrev pub ResumeTellsInstanceFirst : Type 0
-ResumeTellsInstanceFirst = (at : Option ℕ) (log : List ℕ) → TellsInstanceFirstUnread (λ gives pair. RunsResume gives at pair log)
+ResumeTellsInstanceFirst = (manner : Manner) (at : Option ℕ) (log : List ℕ) → TellsInstanceFirstUnread (λ gives pair. RunsResume gives manner at pair log)
 
 -- so it is where pictures are asked for
 abbrev pub ScheduleDrawsInstanceFirst : Type 0
@@ -243,9 +245,9 @@ DriveDrivesPlan = (manner : Manner) (before after : Streams) (content : List ℕ
 
 -- `resume`: where the plan is well shaped, its log is asked for and taken up, and driven on if it can be, unless memory runs out before, with no byte read or written
 abbrev pub ResumeGoesOn : Type 0
-ResumeGoesOn = (at : Option ℕ) (before after : Streams) (content : List ℕ → Result (List ℕ) CommandFault) (pair : PairOfFiles) (log text : List ℕ) (p : PlannedShop) (outcome : Result Answer CommandFault) (asked : List (List ℕ))
-    → TellPlan content pair p → IsWellShaped p → content log ≡ Ok text → RunsResume (Shelf content) at pair log [] before outcome asked after
-    → ((asked ≡ pair.path ∷ pair.plan ∷ log ∷ []) × ResumesText at p (Ok text) before after outcome) ⊎ ((outcome ≡ Err Memory) × (after ≡ before))
+ResumeGoesOn = (manner : Manner) (at : Option ℕ) (before after : Streams) (content : List ℕ → Result (List ℕ) CommandFault) (pair : PairOfFiles) (log text : List ℕ) (p : PlannedShop) (outcome : Result Answer CommandFault) (asked : List (List ℕ))
+    → TellPlan content pair p → IsWellShaped p → content log ≡ Ok text → RunsResume (Shelf content) manner at pair log [] before outcome asked after
+    → ((asked ≡ pair.path ∷ pair.plan ∷ log ∷ []) × ResumesText manner at p (Ok text) before after outcome) ⊎ ((outcome ≡ Err Memory) × (after ≡ before))
 
 -- the file of this path tells this plan for the instance of this text
 pub record TellsPlanOf (content : List ℕ → Result (List ℕ) CommandFault) (instance : List ℕ) (name : Option (List ℕ)) (path : List ℕ) (p : PlannedShop) : Type 0 where
@@ -301,8 +303,8 @@ DriveAnswersByCheck = (manner : Manner) → AnswersByCheck (λ gives pair. RunsD
 
 -- a plan that isn't well shaped is answered so by `resume`
 abbrev pub ResumeAnswersUnshaped : Type 0
-ResumeAnswersUnshaped = (at : Option ℕ) (log : List ℕ) (before after : Streams) (content : List ℕ → Result (List ℕ) CommandFault) (pair : PairOfFiles) (p : PlannedShop) (outcome : Result Answer CommandFault) (asked : List (List ℕ))
-    → TellPlan content pair p → (IsWellShaped p → ⊥) → RunsResume (Shelf content) at pair log [] before outcome asked after
+ResumeAnswersUnshaped = (manner : Manner) (at : Option ℕ) (log : List ℕ) (before after : Streams) (content : List ℕ → Result (List ℕ) CommandFault) (pair : PairOfFiles) (p : PlannedShop) (outcome : Result Answer CommandFault) (asked : List (List ℕ))
+    → TellPlan content pair p → (IsWellShaped p → ⊥) → RunsResume (Shelf content) manner at pair log [] before outcome asked after
     → IsAnswered (IsCheckLine p) (pair.path ∷ pair.plan ∷ []) outcome asked × (after ≡ before)
 
 -- by it the run of these lines can't go on: the plan has a cycle; or they tell no events, and it isn't accepted
@@ -311,9 +313,9 @@ IsNoPlanFor p told = (HasNoCycle p → ⊥) ⊎ ((told ≡ []) × (IsAcceptable 
 
 -- and such a plan is answered by the line of `check`, once its log has been asked for, where that tells a run, with no byte read or written
 abbrev pub ResumeAnswersByCheck : Type 0
-ResumeAnswersByCheck = (at : Option ℕ) (before after : Streams) (content : List ℕ → Result (List ℕ) CommandFault) (pair : PairOfFiles) (log text : List ℕ) (p : PlannedShop) (told : List Entry) (outcome : Result Answer CommandFault) (asked : List (List ℕ))
+ResumeAnswersByCheck = (manner : Manner) (at : Option ℕ) (before after : Streams) (content : List ℕ → Result (List ℕ) CommandFault) (pair : PairOfFiles) (log text : List ℕ) (p : PlannedShop) (told : List Entry) (outcome : Result Answer CommandFault) (asked : List (List ℕ))
     → TellPlan content pair p → IsWellShaped p → content log ≡ Ok text → LinesTell p (ended_lines text) told → IsRun p (events_of told) → (cell_after p told).last ≤ unwrap_or at (cell_after p told).last
-    → IsNoPlanFor p told → RunsResume (Shelf content) at pair log [] before outcome asked after
+    → IsNoPlanFor p told → RunsResume (Shelf content) manner at pair log [] before outcome asked after
     → IsAnswered (IsCheckLine p) (pair.path ∷ pair.plan ∷ log ∷ []) outcome asked × (after ≡ before)
 
 -- the line of `check` for a plan, behind the plan's number
@@ -333,10 +335,11 @@ HubAnswersByCheck = (manner : Manner) (before after : Streams) (content : List �
 
 -- ---- that a driven cell writes the same
 
--- the words ask for `drive` with these files
+-- the words ask for `drive` with these files, and for no log of its own
 pub record AskForDrive (words : List (List ℕ)) (pair : PairOfFiles) : Type 0 where
   pub taken : reasons_in words ≡ []
   pub drive : word_found (found_in words) ≡ word_of Drive
+  pub log : kept_in (rows_found (found_in words)) ≡ None
   pub path : pair.path ≡ get_or (files_in (rows_found (found_in words))) 0 []
   pub name : pair.name ≡ instance_in (rows_found (found_in words))
   pub plan : pair.plan ≡ get_or (files_in (rows_found (found_in words))) 1 []
@@ -345,7 +348,8 @@ pub record AskForDrive (words : List (List ℕ)) (pair : PairOfFiles) : Type 0 w
 pub record RunsWell (content : List ℕ → Result (List ℕ) CommandFault) (words : List (List ℕ)) (input : List ℕ) (status : ℕ) (written : List ℕ) : Type 0 where
   pub before : Devices (List (List ℕ))
   pub after : Devices (List (List ℕ))
-  pub run : RunsProgram (Shelf content) words before status after
+  pub kept : Bool
+  pub run : RunsProgram (Shelf content) words before status after kept
   pub unasked : before.texts ≡ []
   pub given : before.streams.input.left ≡ Some input
   pub start : List ℕ
@@ -412,8 +416,18 @@ module _ {W : Type 0} (gives : W → List ℕ → Result (List ℕ) CommandFault
     pub end : Result DriveEnd DriveFault
     pub is : IsDriveIn manner cell before after end
 
-  -- the plan is well shaped, its run was taken up from the log, and driven on to this end or up to this fault
-  pub record DroveOn (at : Option ℕ) (pair : PairOfFiles) (log : List ℕ) (texts : W) (before after : Streams) : Type 0 where
+  -- the plan is well shaped, and its cell was driven with a log: from its start, as it is accepted, or from where the log leads
+  pub record DroveWithLog (manner : Manner) (pair : PairOfFiles) (texts : W) (before after : Streams) : Type 0 where
+    pub plan : PlannedShop
+    pub later : W
+    pub shapes : Shapes gives pair texts (Ok (Ok plan)) later
+    pub outcome : Result Answer CommandFault
+    pub kept : Bool
+    pub is : ((v : VerifiedPlan) × (v.planned ≡ plan) × DrivesWithLog (IsDriveIn manner v) end_of_drive (step_of before outcome after kept))
+        ⊎ ((t : TakenUp) × (plan_of t ≡ plan) × GoesOnWithLog manner t (step_of before outcome after kept))
+
+  -- the plan is well shaped, its run was taken up from the log, and driven on in this manner to this end or up to this fault
+  pub record DroveOn (manner : Manner) (at : Option ℕ) (pair : PairOfFiles) (log : List ℕ) (texts : W) (before after : Streams) : Type 0 where
     pub plan : PlannedShop
     pub mid : W
     pub shapes : Shapes gives pair texts (Ok (Ok plan)) mid
@@ -423,7 +437,7 @@ module _ {W : Type 0} (gives : W → List ℕ → Result (List ℕ) CommandFault
     pub taken : TakenUp
     pub takes : IsTaking plan at text (Ok taken)
     pub end : Result RestEnd DriveFault
-    pub is : IsResume taken before after end
+    pub is : IsResumeIn manner taken before after end
 
   -- all plans are accepted, and their cells were driven to this end or up to this fault
   pub record DroveCells (manner : Manner) (path : List ℕ) (name : Option (List ℕ)) (plans : List (List ℕ)) (texts : W) (before after : Streams) : Type 0 where
@@ -446,55 +460,55 @@ module _ {W : Type 0} (gives : W → List ℕ → Result (List ℕ) CommandFault
   -- nothing was written; or the command drives cells, and those of its files were driven; or its files were drawn
   abbrev pub WereDriven : CommandName → Chosen → W → Streams → Streams → Type 0
   WereDriven name chosen texts before after = (after.output ≡ before.output)
-      ⊎ (((name ≡ Drive) × DroveCell (manner_in chosen) (pair_in chosen) texts before after)
-      ⊎ (((name ≡ Resume) × DroveOn chosen.at (pair_in chosen) (file_at chosen 2) texts before after)
+      ⊎ (((name ≡ Drive) × (DroveCell (manner_in chosen) (pair_in chosen) texts before after ⊎ DroveWithLog (manner_in chosen) (pair_in chosen) texts before after))
+      ⊎ (((name ≡ Resume) × DroveOn (manner_in chosen) chosen.at (pair_in chosen) (file_at chosen 2) texts before after)
       ⊎ (((name ≡ Hub) × DroveCells (manner_in chosen) (file_at chosen 0) (name_in chosen) (plans_in chosen) texts before after)
       ⊎ (((name ≡ Schedule) × DrewPicture (DrawsSchedule gives (pair_in chosen)) texts before after)
       ⊎ ((name ≡ Gantt) × DrewPicture (DrawsLog gives (pair_in chosen) (file_at chosen 2)) texts before after)))))
 
   -- the command that the words choose was run to an outcome
-  pub record RanCommand (words : List (List ℕ)) (texts : W) (before : Streams) (outcome : Result Answer CommandFault) (texts_after : W) (after : Streams) : Type 0 where
+  pub record RanCommand (words : List (List ℕ)) (before : Devices W) (outcome : Result Answer CommandFault) (mid : Streams) (after : Devices W) (kept : Bool) : Type 0 where
     pub chosen : Chosen
     pub taken : reasons_in words ≡ []
     pub is : IsChoiceOf (found_in words) chosen
-    pub runs : RunsCommand gives chosen.name chosen texts before outcome texts_after after
-    pub driven : WereDriven chosen.name chosen texts before after
+    pub runs : RunsChosen gives (kept_log_in chosen) chosen before outcome mid after kept
+    pub driven : WereDriven chosen.name chosen before.texts before.streams mid
 
   -- what the words come to, before it is printed or told
-  abbrev pub Ran : List (List ℕ) → W → Streams → Result Answer CommandFault → W → Streams → Type 0
-  Ran words texts before outcome texts_after after = RanCommand words texts before outcome texts_after after ⊎ ChoseNone words before outcome after
+  abbrev pub Ran : List (List ℕ) → Devices W → Result Answer CommandFault → Streams → Devices W → Bool → Type 0
+  Ran words before outcome mid after kept = RanCommand words before outcome mid after kept ⊎ ChoseNone words before.streams outcome mid
 
   -- what failed was told by its own line with its status
-  pub record WasFailureTold (words : List (List ℕ)) (before : Devices W) (status : ℕ) (after : Devices W) : Type 0 where
+  pub record WasFailureTold (words : List (List ℕ)) (before : Devices W) (status : ℕ) (after : Devices W) (kept : Bool) : Type 0 where
     pub outcome : Result Answer CommandFault
     pub mid : Streams
-    pub ran : Ran words before.texts before.streams outcome after.texts mid
+    pub ran : Ran words before outcome mid after kept
     pub fault : CommandFault
     pub failed : IsFailureOf outcome after.streams.output fault
     pub told : IsLineOut fault before.errors after.errors status
 
   -- nothing was written but what driven cells answered, or a picture, and after it at most the first bytes of an answer whose write failed
-  pub record WroteNoMore (words : List (List ℕ)) (before after : Devices W) : Type 0 where
+  pub record WroteNoMore (words : List (List ℕ)) (before after : Devices W) (kept : Bool) : Type 0 where
     pub outcome : Result Answer CommandFault
     pub mid : Streams
-    pub ran : Ran words before.texts before.streams outcome after.texts mid
+    pub ran : Ran words before outcome mid after kept
     pub unanswered : IsUnanswered outcome mid.output after.streams.output
 
   -- the status is 2 or more, and what failed was told; or it is 0 or 1, and nothing was told
-  abbrev pub EndsAsTold : List (List ℕ) → Devices W → ℕ → Devices W → Type 0
-  EndsAsTold words before status after =
-      ((2 ≤ status) × (WereRefused words before status after ⊎ WasFailureTold words before status after)) ⊎ ((status ≤ 1) × (after.errors ≡ before.errors))
+  abbrev pub EndsAsTold : List (List ℕ) → Devices W → ℕ → Devices W → Bool → Type 0
+  EndsAsTold words before status after kept =
+      ((2 ≤ status) × (WereRefused words before status after ⊎ WasFailureTold words before status after kept)) ⊎ ((status ≤ 1) × (after.errors ≡ before.errors))
 
   -- in each run of the program what fails is told on the error output with its status, and nothing else is told
   abbrev pub WhatFailsIsTold : Type 0
-  WhatFailsIsTold = (words : List (List ℕ)) (before : Devices W) (status : ℕ) (after : Devices W) → RunsProgram gives words before status after → EndsAsTold words before status after
+  WhatFailsIsTold = (words : List (List ℕ)) (before : Devices W) (status : ℕ) (after : Devices W) (kept : Bool) → RunsProgram gives words before status after kept → EndsAsTold words before status after kept
 
   -- at the end of each run of the program nothing is held back, unless a write of the output has failed
   abbrev pub NothingIsHeldBack : Type 0
-  NothingIsHeldBack = (words : List (List ℕ)) (before : Devices W) (status : ℕ) (after : Devices W) → before.streams.output.pending ≡ [] → RunsProgram gives words before status after
+  NothingIsHeldBack = (words : List (List ℕ)) (before : Devices W) (status : ℕ) (after : Devices W) (kept : Bool) → before.streams.output.pending ≡ [] → RunsProgram gives words before status after kept
       → HoldsNothing after.streams.output
 
   -- where the status is 2 or more, nothing was written but what driven cells answered, or a picture, and the first bytes of an answer whose write failed
   abbrev pub WhatFailsIsNoAnswer : Type 0
-  WhatFailsIsNoAnswer = (words : List (List ℕ)) (before : Devices W) (status : ℕ) (after : Devices W) → 2 ≤ status → RunsProgram gives words before status after
-      → WereRefused words before status after ⊎ WroteNoMore words before after
+  WhatFailsIsNoAnswer = (words : List (List ℕ)) (before : Devices W) (status : ℕ) (after : Devices W) (kept : Bool) → 2 ≤ status → RunsProgram gives words before status after kept
+      → WereRefused words before status after ⊎ WroteNoMore words before after kept

@@ -6,10 +6,12 @@ pub mod Planners
 pub mod Improvers
 pub mod Drives
 pub mod Resumes
+pub mod Logs
 pub mod Hubs
 pub mod Ending
 pub mod Tellings
 pub mod Program
 pub mod Laws
+pub mod ResumeLaw
 -- Of proofs and private contracts alone.
 pub mod Unchosen

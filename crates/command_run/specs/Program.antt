@@ -1,12 +1,15 @@
 -- What the whole program does: what it answers to the words of its command line, and how it ends.
-use Rattle.std.specs.Prelude.{◌≡◌, ℕ, ◌==◌, Bool, List, [], Option, None, Some, true, false, Result, Ok, Err, IfOk, IfErr, get_or, map, option_map, drop}
+use Rattle.std.specs.Prelude.{◌≡◌, ℕ, Bool, List, [], Option, None, Some, true, false, Result, Ok, Err, IfOk, IfErr, get_or, map, option_map, unwrap_or, drop}
 use Rattle.std.specs.String.{string_bytes}
 use Rattle.shop_base.specs.declared.shape_fault.ShapeFault.{ShapeFault}
 use Rattle.shop_base.specs.Plan.{PlannedShop}
 use Rattle.cell_drive.specs.declared.manner.Manner.{Manner}
+use Rattle.run_journal.specs.Folders.{NamedLog}
 use Rattle.command_words.specs.declared.words.Chosen.{Chosen}
 use Rattle.command_words.specs.declared.words.CommandName.{CommandName}
 use Rattle.command_words.specs.declared.words.CommandName.TheVariants.{Input as NoWords, Facts, Shape, Check, Explain, Schedule, Bounds, Plan, Improve, Drive, Resume, Hub, Audit, Gantt}
+use Rattle.command_words.specs.declared.words.Lines.{Lines}
+use Rattle.command_words.specs.declared.words.Lines.TheVariants.{One, Two}
 use Rattle.command_words.specs.declared.words.WordsFault.{WordsFault}
 use Rattle.command_words.specs.declared.words.WordsFault.TheVariants.{Usage, Memory}
 use Rattle.command_words.specs.Choice.{IsChoiceOf, IsWithin, TellsOneOf, reasons_in, found_in}
@@ -27,6 +30,7 @@ use Rattle.command_run.specs.Planners.{SeeksPlan}
 use Rattle.command_run.specs.Improvers.{Improves}
 use Rattle.command_run.specs.Drives.{Drives}
 use Rattle.command_run.specs.Resumes.{Resumes}
+use Rattle.command_run.specs.Logs.{DrivesShaped, IsToldOfLog, Step, step_of}
 use Rattle.command_run.specs.Hubs.{DrivesAll}
 use Rattle.command_run.specs.Ending.{Ends, IsAnswerEnd, WasTold}
 
@@ -53,18 +57,36 @@ name_in chosen = option_map string_bytes chosen.instance
 abbrev pub log_in : Chosen → Option (List ℕ)
 log_in chosen = option_map string_bytes chosen.after
 
--- version 2
-abbrev pub is_second : Option ℕ → Bool
-is_second None = false
-is_second (Some version) = version == 2
+-- whether a command may keep a log of its own
+abbrev pub keeps_log : CommandName → Bool
+keeps_log Drive = true
+keeps_log other = false
 
--- the manner in which cells are driven
+-- the log that a command keeps
+abbrev pub log_kept_by : Bool → Option (List ℕ) → Option (List ℕ)
+log_kept_by true log = log
+log_kept_by false log = None
+
+abbrev pub kept_log_in : Chosen → Option (List ℕ)
+kept_log_in chosen = log_kept_by (keeps_log chosen.name) (option_map string_bytes chosen.log)
+
+-- version 2
+abbrev pub is_second : Option Lines → Bool
+is_second None = false
+is_second (Some One) = false
+is_second (Some Two) = true
+
+-- the manner in which cells are driven: a leap counts from the present moment at the earliest, if one is given
 abbrev pub manner_in : Chosen → Manner
-manner_in chosen = record { tells = is_second chosen.lines; longest = chosen.leap; from = 0 }
+manner_in chosen = record { tells = is_second chosen.lines; longest = chosen.leap; from = unwrap_or chosen.at 0 }
 
 -- the files of the instance and of the first plan
 abbrev pub pair_in : Chosen → PairOfFiles
 pair_in chosen = record { path = file_at chosen 0; name = name_in chosen; plan = file_at chosen 1 }
+
+-- no log was touched, and none is held
+abbrev pub NoLog : {W : Type 0} → Devices W → Devices W → Bool → Type 0
+NoLog before after kept = (after.folder ≡ before.folder) × (kept ≡ false)
 
 module _ {W : Type 0} (gives : W → List ℕ → Result (List ℕ) CommandFault → W → Type 0) where
   -- the plan is loaded, and then the input is read
@@ -73,12 +95,18 @@ module _ {W : Type 0} (gives : W → List ℕ → Result (List ℕ) CommandFault
     pub loads : Loads gives pair texts loaded texts_after
     pub drives : Drives manner loaded before after outcome
 
+  -- the plan is read, its log opened, and then the cell is driven with that
+  pub record RunsLoggedDrive (folder folder_after : Option (List NamedLog)) (path : List ℕ) (manner : Manner) (at : Option ℕ) (pair : PairOfFiles) (texts : W) (step : Step) (texts_after : W) : Type 0 where
+    pub shaped : Result (Result PlannedShop ShapeFault) CommandFault
+    pub shapes : Shapes gives pair texts shaped texts_after
+    pub drives : DrivesShaped folder folder_after path manner at shaped step
+
   -- the plan is read, then its log taken up at a moment, and then the input is read
-  pub record RunsResume (at : Option ℕ) (pair : PairOfFiles) (log : List ℕ) (texts : W) (before : Streams) (outcome : Result Answer CommandFault) (texts_after : W) (after : Streams) : Type 0 where
+  pub record RunsResume (manner : Manner) (at : Option ℕ) (pair : PairOfFiles) (log : List ℕ) (texts : W) (before : Streams) (outcome : Result Answer CommandFault) (texts_after : W) (after : Streams) : Type 0 where
     pub shaped : Result (Result PlannedShop ShapeFault) CommandFault
     pub texts_mid : W
     pub shapes : Shapes gives pair texts shaped texts_mid
-    pub resumes : Resumes gives at log shaped texts_mid before outcome texts_after after
+    pub resumes : Resumes gives manner at log shaped texts_mid before outcome texts_after after
 
   -- all plans are loaded, and then the input is read
   pub record RunsHub (manner : Manner) (path : List ℕ) (name : Option (List ℕ)) (plans : List (List ℕ)) (texts : W) (before : Streams) (outcome : Result Answer CommandFault) (texts_after : W) (after : Streams) : Type 0 where
@@ -109,7 +137,7 @@ module _ {W : Type 0} (gives : W → List ℕ → Result (List ℕ) CommandFault
   RunsCommand Drive chosen texts before outcome texts_after after =
       RunsDrive (manner_in chosen) (pair_in chosen) texts before outcome texts_after after
   RunsCommand Resume chosen texts before outcome texts_after after =
-      RunsResume chosen.at (pair_in chosen) (file_at chosen 2) texts before outcome texts_after after
+      RunsResume (manner_in chosen) chosen.at (pair_in chosen) (file_at chosen 2) texts before outcome texts_after after
   RunsCommand Hub chosen texts before outcome texts_after after =
       RunsHub (manner_in chosen) (file_at chosen 0) (name_in chosen) (plans_in chosen) texts before outcome texts_after after
   RunsCommand Audit chosen texts before outcome texts_after after =
@@ -117,33 +145,50 @@ module _ {W : Type 0} (gives : W → List ℕ → Result (List ℕ) CommandFault
   RunsCommand Gantt chosen texts before outcome texts_after after =
       RunsDrawing gives chosen.svg (pair_in chosen) (file_at chosen 2) texts before outcome texts_after after
 
+  -- the command that was chosen, with the log that it keeps, if it keeps one; else no log is touched
+  abbrev pub RunsChosen : Option (List ℕ) → Chosen → Devices W → Result Answer CommandFault → Streams → Devices W → Bool → Type 0
+  RunsChosen None chosen before outcome mid after kept =
+      RunsCommand chosen.name chosen before.texts before.streams outcome after.texts mid × NoLog before after kept
+  RunsChosen (Some path) chosen before outcome mid after kept =
+      RunsLoggedDrive before.folder after.folder path (manner_in chosen) chosen.at (pair_in chosen) before.texts (step_of before.streams outcome mid kept) after.texts
+
   -- the command is run, and then its answer printed, or its fault told
-  pub record Commands (chosen : Chosen) (before : Devices W) (status : ℕ) (after : Devices W) : Type 0 where
+  pub record Commands (chosen : Chosen) (before : Devices W) (status : ℕ) (after : Devices W) (kept : Bool) : Type 0 where
     pub outcome : Result Answer CommandFault
     pub mid : Streams
-    pub runs : RunsCommand chosen.name chosen before.texts before.streams outcome after.texts mid
+    pub runs : RunsChosen (kept_log_in chosen) chosen before outcome mid after kept
     pub input : after.streams.input ≡ mid.input
     pub ends : Ends outcome mid.output after.streams.output before.errors after.errors status
 
   -- help or the version that was asked for is a good answer
-  pub record Helps (text : List ℕ) (before : Devices W) (status : ℕ) (after : Devices W) : Type 0 where
+  pub record Helps (text : List ℕ) (before : Devices W) (status : ℕ) (after : Devices W) (kept : Bool) : Type 0 where
     pub help : Answer
     pub text_is : (help.text.items ≡ text) × (help.status ≡ 0)
     pub ends : IsAnswerEnd help before.streams.output after.streams.output before.errors after.errors status
     pub same : (after.texts ≡ before.texts) × (after.streams.input ≡ before.streams.input)
+    pub logs : NoLog before after kept
 
   -- what follows the reading of the words: the command that was chosen, help or the version, or a line on the standard error
-  abbrev pub Follows : Result Chosen WordsFault → Devices W → ℕ → Devices W → Type 0
-  Follows (Ok chosen) before status after = Commands chosen before status after
-  Follows (Err (Usage true text)) before status after = Helps (string_bytes text) before status after
-  Follows (Err (Usage false text)) before status after =
-      WasTold (string_bytes text) before.errors after.errors × (status ≡ 2) × (after.texts ≡ before.texts) × (after.streams ≡ before.streams)
-  Follows (Err Memory) before status after =
+  abbrev pub Follows : Result Chosen WordsFault → Devices W → ℕ → Devices W → Bool → Type 0
+  Follows (Ok chosen) before status after kept = Commands chosen before status after kept
+  Follows (Err (Usage true text)) before status after kept = Helps (string_bytes text) before status after kept
+  Follows (Err (Usage false text)) before status after kept =
+      WasTold (string_bytes text) before.errors after.errors × (status ≡ 2) × (after.texts ≡ before.texts) × (after.streams ≡ before.streams) × NoLog before after kept
+  Follows (Err Memory) before status after kept =
       Ends (Err Wanting) before.streams.output after.streams.output before.errors after.errors status
-      × (after.texts ≡ before.texts) × (after.streams.input ≡ before.streams.input)
+      × (after.texts ≡ before.texts) × (after.streams.input ≡ before.streams.input) × NoLog before after kept
 
-  -- the program: the words are read, and what they ask for is done
-  pub record RunsProgram (words : List (List ℕ)) (before : Devices W) (status : ℕ) (after : Devices W) : Type 0 where
+  -- the program: the words are read, and what they ask for is done; and whether a log is held
+  pub record RunsProgram (words : List (List ℕ)) (before : Devices W) (status : ℕ) (after : Devices W) (kept : Bool) : Type 0 where
     pub read : Result Chosen WordsFault
     pub is : AreWordsRead words read
-    pub follows : Follows read before status after
+    pub follows : Follows read before status after kept
+
+-- what is told of the log that the command keeps, if it keeps one, and of what the output has taken once the events in that are told again
+abbrev pub IsToldOfChosen : {W : Type 0} → (W → List ℕ → Result (List ℕ) CommandFault → W → Type 0) → Chosen → Devices W → List ℕ × List ℕ → Type 0
+IsToldOfChosen gives chosen before told = (path : List ℕ) → kept_log_in chosen ≡ Some path
+    → IsToldOfLog gives before.folder (pair_in chosen) path (manner_in chosen) chosen.at before.texts before.streams.output.taken told
+
+-- what is told of the log that the words ask for, and of what the output has taken once the events in that are told again
+abbrev pub IsToldOfWords : {W : Type 0} → (W → List ℕ → Result (List ℕ) CommandFault → W → Type 0) → List (List ℕ) → Devices W → List ℕ × List ℕ → Type 0
+IsToldOfWords gives words before told = (chosen : Chosen) → IsChoiceOf (found_in words) chosen → IsToldOfChosen gives chosen before told

@@ -5,12 +5,13 @@ use Rattle.shop_base.specs.Plan.{PlannedShop}
 use Rattle.text_lines.specs.Lines.{ended_lines}
 use Rattle.plan_verifier.specs.declared.verdict.Verdict.TheVariants.{Refused as RefusedPlan}
 use Rattle.byte_streams.specs.declared.drive_fault.DriveFault.{DriveFault}
+use Rattle.cell_drive.specs.declared.manner.Manner.{Manner}
 use Rattle.cell_drive.specs.declared.rest_run.RestEnd.{RestEnd}
 use Rattle.cell_drive.specs.declared.resume_fault.ResumeFault.{ResumeFault}
 use Rattle.cell_drive.specs.declared.resume_fault.ResumeFault.TheVariants.{Log, Past, Refused, Memory as WantOfMemory}
 use Rattle.cell_drive.specs.TakenUp.{TakenUp, IsTakenUp, CanBeTakenUp}
 use Rattle.cell_drive.specs.ResumeFaults.{IsResumeFault, IsOnlyLogFault}
-pub use Rattle.cell_drive.specs.Resuming.{IsResume}
+use Rattle.cell_drive.specs.InManner.{IsResumeIn}
 use Rattle.command_answers.specs.declared.answer.Answer.{Answer}
 use Rattle.command_answers.specs.declared.command_fault.CommandFault.{CommandFault}
 use Rattle.command_answers.specs.declared.command_fault.CommandFault.TheVariants.{Memory}
@@ -41,28 +42,28 @@ abbrev pub end_of_rest : Result RestEnd DriveFault → Result Bool DriveFault
 end_of_rest (Ok end) = Ok end.done
 end_of_rest (Err fault) = Err fault
 
--- what was taken up was driven on, and the status says whether its run has ended
-pub record ResumesOn (t : TakenUp) (before after : Streams) (outcome : Result Answer CommandFault) : Type 0 where
+-- what was taken up was driven on in this manner, and the status says whether its run has ended
+pub record ResumesOn (manner : Manner) (t : TakenUp) (before after : Streams) (outcome : Result Answer CommandFault) : Type 0 where
   pub end : Result RestEnd DriveFault
-  pub is : IsResume t before after end
+  pub is : IsResumeIn manner t before after end
   pub answer : IsEndAnswer (end_of_rest end) outcome
 
--- what follows taking up: it is driven on; of a log that isn't taken up the fault is told, with no byte read or written
-abbrev pub ResumesTaken : Result TakenUp ResumeFault → Streams → Streams → Result Answer CommandFault → Type 0
-ResumesTaken (Ok t) before after outcome = ResumesOn t before after outcome
-ResumesTaken (Err fault) before after outcome = IsUntakenTold fault outcome × (after ≡ before)
+-- what follows taking up: it is driven on in this manner; of a log that isn't taken up the fault is told, with no byte read or written
+abbrev pub ResumesTaken : Manner → Result TakenUp ResumeFault → Streams → Streams → Result Answer CommandFault → Type 0
+ResumesTaken manner (Ok t) before after outcome = ResumesOn manner t before after outcome
+ResumesTaken manner (Err fault) before after outcome = IsUntakenTold fault outcome × (after ≡ before)
 
 -- the text of the log that came is taken up, and then driven on
-abbrev pub ResumesText : Option ℕ → PlannedShop → Result (List ℕ) CommandFault → Streams → Streams → Result Answer CommandFault → Type 0
-ResumesText at p (Ok text) before after outcome = (taken : Result TakenUp ResumeFault) × IsTaking p at text taken × ResumesTaken taken before after outcome
-ResumesText at p (Err fault) before after outcome = (outcome ≡ Err fault) × (after ≡ before)
+abbrev pub ResumesText : Manner → Option ℕ → PlannedShop → Result (List ℕ) CommandFault → Streams → Streams → Result Answer CommandFault → Type 0
+ResumesText manner at p (Ok text) before after outcome = (taken : Result TakenUp ResumeFault) × IsTaking p at text taken × ResumesTaken manner taken before after outcome
+ResumesText manner at p (Err fault) before after outcome = (outcome ≡ Err fault) × (after ≡ before)
 
-module _ {W : Type 0} (gives : W → List ℕ → Result (List ℕ) CommandFault → W → Type 0) (at : Option ℕ) (log : List ℕ) where
+module _ {W : Type 0} (gives : W → List ℕ → Result (List ℕ) CommandFault → W → Type 0) (manner : Manner) (at : Option ℕ) (log : List ℕ) where
   -- the log is asked for, once the plan is known to be well shaped
   pub record ResumesLog (p : PlannedShop) (texts : W) (before : Streams) (outcome : Result Answer CommandFault) (texts_after : W) (after : Streams) : Type 0 where
     pub text : Result (List ℕ) CommandFault
     pub asks : Asks gives log texts text texts_after
-    pub resumes : ResumesText at p text before after outcome
+    pub resumes : ResumesText manner at p text before after outcome
 
   -- what follows the plan: a well-shaped one has its log asked for; any other is answered by its first fault, with no file asked for and no byte read or written
   abbrev pub Resumes : Result (Result PlannedShop ShapeFault) CommandFault → W → Streams → Result Answer CommandFault → W → Streams → Type 0

@@ -1,8 +1,11 @@
 -- What lies outside of the program, as it is seen before and after a step.
+use Rattle.std.specs.Prelude.{List, Option}
+use Rattle.run_journal.specs.Folders.{NamedLog}
 pub use Rattle.byte_streams.specs.Lent.{Input, Output, Streams, Taker as Errors, input_of, output_of, streams_of, taker_of as errors_of}
 
--- the files, the standard streams and the error output
+-- the files, the standard streams, the error output, and the logs that are there, where these are told
 pub record Devices (W : Type 0) : Type 0 where
   pub texts : W
   pub streams : Streams
   pub errors : Errors
+  pub folder : Option (List NamedLog)

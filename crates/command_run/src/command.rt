@@ -1,12 +1,13 @@
 //! The command that was chosen.
 
-ghost use Rattle.std.specs.Prelude.{◌≡◌, ◌<◌, ◌≤◌, [], length, IfSome};
+ghost use Rattle.std.specs.Prelude.{◌≡◌, ◌<◌, ◌≤◌, [], length, option_map, unwrap_or, IfSome};
 ghost use Rattle.std.specs.Option.{option_copied};
+ghost use Rattle.std.specs.String.{string_bytes};
 ghost use Rattle.shop_base.specs.declared.limits.TheConstants.{MAX_MOMENT};
 ghost use Rattle.command_words.specs.Choice.{IsWithin};
 ghost use Rattle.command_run.specs.Improvers.{Improves};
 ghost use Rattle.command_run.specs.Tellings.{RunsTelling};
-ghost use Rattle.command_run.specs.Program.{RunsCommand, file_at, is_second, log_in, manner_in, name_in, pair_in};
+ghost use Rattle.command_run.specs.Program.{RunsCommand, file_at, is_second, kept_log_in, log_in, manner_in, name_in, pair_in};
 
 use crate::devices::{Screen, Streams};
 use crate::drives::drive_answer;
@@ -22,7 +23,8 @@ use command_answers::{
     Answered, Pair, PlanTelling, Telling, Texts, bounds_answer, facts_answer, log_answer,
     shape_answer,
 };
-use command_words::{Chosen, CommandName};
+use command_words::{Chosen, CommandName, Lines};
+use shop_base::Moment;
 use std::alloc::Global;
 
 /// The file at a place of the command line.
@@ -43,18 +45,25 @@ fn name(chosen: &Chosen) -> Option<&[u8]>
     }
 }
 
-/// The log of whose rest is asked.
-fn rest_log(chosen: &Chosen) -> Option<&str>
-    ensures { option_copied result ≡ log_in chosen.now }
+/// The path that is given.
+fn path_of(path: &Option<String>) -> Option<&str>
+    ensures { option_copied result ≡ option_map string_bytes path.now }
 {
-    match &chosen.after {
-        Some(log) => Some(log.as_str()),
+    match path {
+        Some(path) => Some(path.as_str()),
         None => None,
     }
 }
 
+/// The log of whose rest is asked.
+fn rest_log(chosen: &Chosen) -> Option<&str>
+    ensures { option_copied result ≡ log_in chosen.now }
+{
+    path_of(&chosen.after)
+}
+
 /// The files of the instance and of the first plan.
-fn pair(chosen: &Chosen) -> Pair<'_>
+pub(crate) fn pair(chosen: &Chosen) -> Pair<'_>
     requires { 1 < length chosen.now.files.items }
     ensures { result ≡ pair_in chosen.now }
 {
@@ -76,23 +85,33 @@ fn told<T: Texts>(alloc: Global, chosen: &Chosen, texts: &mut T, telling: PlanTe
 }
 
 /// Whether this is version 2.
-fn is_second(version: Option<u64>) -> bool
+fn is_second(version: Option<Lines>) -> bool
     ensures { result ≡ is_second version }
 {
     match version {
-        Some(version) => version == 2,
-        None => false,
+        Some(Lines::Two) => true,
+        Some(Lines::One) | None => false,
     }
 }
 
-/// The manner in which cells are driven.
-fn manner(chosen: &Chosen) -> Manner
+/// The present moment, 0 if none is given.
+fn present(at: Option<Moment>) -> Moment
+    ensures { result ≡ unwrap_or at 0 }
+{
+    match at {
+        Some(present) => present,
+        None => 0,
+    }
+}
+
+/// The manner in which cells are driven. A leap counts from the present moment at the earliest, if one is given.
+pub(crate) fn manner(chosen: &Chosen) -> Manner
     ensures { result ≡ manner_in chosen.now }
 {
     Manner {
         tells: is_second(chosen.lines),
         longest: chosen.leap,
-        from: 0,
+        from: present(chosen.at),
     }
 }
 
@@ -117,7 +136,17 @@ fn bettered<T: Texts, S: Screen>(
     }
 }
 
-/// Runs the command that was chosen.
+/// The log that a driven cell keeps.
+pub(crate) fn kept_log(chosen: &Chosen) -> Option<&str>
+    ensures { option_copied result ≡ kept_log_in chosen.now }
+{
+    match chosen.name {
+        CommandName::Drive => path_of(&chosen.log),
+        _ => None,
+    }
+}
+
+/// Runs the command that was chosen, without a log of its own.
 pub(crate) fn command<T: Texts, R: Source, W: Outlet, S: Screen>(
     alloc: Global,
     chosen: &Chosen,
@@ -145,7 +174,8 @@ pub(crate) fn command<T: Texts, R: Source, W: Outlet, S: Screen>(
         CommandName::Drive => { drive_answer(alloc, texts, &pair(chosen), manner(chosen), streams) }
         CommandName::Resume => {
             let log = file(chosen, 2);
-            resume_answer(alloc, texts, &pair(chosen), log, chosen.at, streams)
+            let manner = manner(chosen);
+            resume_answer(alloc, texts, &pair(chosen), log, chosen.at, manner, streams)
         }
         CommandName::Hub => {
             let plans = &chosen.files.as_slice()[1..];

@@ -1,16 +1,14 @@
 //! The command `drive`, and what the other ones that drive cells share with it.
 
 ghost use Rattle.std.specs.Prelude.{◌≡◌, []};
-ghost use Rattle.byte_streams.specs.Lent.{streams_of};
-ghost use Rattle.command_run.specs.Drives.{IsDriveIn, IsEndAnswer, drive_command_fault, is_plain, status_at, end_of_drive};
+ghost use Rattle.command_run.specs.Drives.{IsEndAnswer, drive_command_fault, status_at, end_of_drive};
 ghost use Rattle.command_run.specs.Program.{RunsDrive};
 
 use crate::devices::Streams;
-use cell_drive::{DriveEnd, DriveFault, Manner, Outlet, Source, drive, drive_stated};
+use cell_drive::{DriveEnd, DriveFault, Manner, Outlet, Source, drive_in};
 use command_answers::{
     Answer, Answered, CommandFault, GOOD, Pair, REFUSED, Texts, load_files, loaded_answer,
 };
-use plan_verifier::Verified;
 use std::alloc::Global;
 
 /// A fault of a driven run as one of a command.
@@ -27,31 +25,6 @@ impl From<DriveFault> for Told {
             DriveFault::InputTooLong => CommandFault::InputTooLong,
             DriveFault::Memory => CommandFault::Memory,
         })
-    }
-}
-
-/// Whether the lines are of version 1, and no moment leaps.
-pub(crate) fn is_plain(manner: Manner) -> bool
-    ensures { result ≡ is_plain manner }
-{
-    !manner.tells && manner.longest.is_none()
-}
-
-/// Drives the cell of an accepted plan in this manner.
-fn drive_in<R: Source, W: Outlet>(
-    alloc: Global,
-    verified: Verified,
-    manner: Manner,
-    reader: &mut R,
-    writer: &mut W,
-) -> Result<DriveEnd, DriveFault>
-    ensures { IsDriveIn manner verified (streams_of R.Source W.Sink W.pending reader.old writer.old)
-        (streams_of R.Source W.Sink W.pending reader.new writer.new) result }
-{
-    if is_plain(manner) {
-        drive(alloc, verified, reader, writer)
-    } else {
-        drive_stated(alloc, verified, manner, reader, writer)
     }
 }
 

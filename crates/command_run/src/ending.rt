@@ -98,6 +98,8 @@ fn error_line<'a>(fault: &CommandFault, line: &'a [u8]) -> &'a [u8]
         CommandFault::Read => b"cellplan: read\n",
         CommandFault::Write => b"cellplan: write\n",
         CommandFault::InputTooLong => b"cellplan: input too long\n",
+        CommandFault::Log => b"cellplan: log\n",
+        CommandFault::LogInUse => b"cellplan: log in use\n",
         CommandFault::Memory => b"cellplan: out of memory\n",
     }
 }

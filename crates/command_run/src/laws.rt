@@ -14,6 +14,7 @@ ghost use Rattle.command_run.specs.Laws.{PlanAnswersPlan, ImproveAnswersPlan, Im
 ghost use Rattle.command_run.specs.Laws.{HubDrivesPlans, InputAnswersShop};
 ghost use Rattle.command_run.specs.Laws.{DriveAnswersByCheck, ResumeAnswersUnshaped, ResumeAnswersByCheck, HubAnswersByCheck, DriveWritesTheSame};
 ghost use Rattle.command_run.specs.Laws.{WhatFailsIsTold, NothingIsHeldBack, WhatFailsIsNoAnswer};
+ghost use Rattle.command_run.specs.ResumeLaw.{ResumeWritesTheSame, ResumeWritesAsDrive};
 
 use command_answers::Texts;
 
@@ -40,11 +41,11 @@ pub fn instance_first()
 {}
 
 /// Files that give a shop and a plan are answered, unless memory runs out, and exactly they are asked for. `plan` and
-/// `improve` answer what their search allows. An accepted plan has its cell driven by `drive`, and by `resume` from
-/// its log, unless that is refused. `hub` drives the cells of its plans, if all are accepted. With `--svg` an accepted
-/// plan is drawn by `schedule`, and a log that isn't refused by `gantt`. If memory runs out before a cell is driven
-/// or a picture drawn, no byte is read or written. Without words an input within the limit that gives a shop is
-/// answered by its facts, unless a read fails or memory runs out.
+/// `improve` answer what their search allows. An accepted plan has its cell driven by `drive` without `--log`. By
+/// `resume` a well-shaped plan has its cell driven on from its log, or the answer is why not. `hub` drives the cells of
+/// its plans, if all are accepted. With `--svg` an accepted plan is drawn by `schedule`, and a log that isn't refused by
+/// `gantt`. If memory runs out before a cell is driven or a picture drawn, no byte is read or written. Without words an
+/// input within the limit that gives a shop is answered by its facts, unless a read fails or memory runs out.
 pub fn good_files_are_answered()
     ensures facts { FactsAnswerShop }
     ensures shape { ShapeAnswersPlan }
@@ -65,23 +66,31 @@ pub fn good_files_are_answered()
     ensures input { InputAnswersShop }
 {}
 
-/// Let the files give a plan that isn't accepted. Then `drive` answers the line of `check`, unless memory runs out. It asks
-/// for no further file, and drives no cell: up to this line no byte is read or written. The same holds for the first plan
-/// of `hub` that isn't accepted: its number comes before that line, and no plan after it is asked for. By `resume` it holds
-/// for a plan that isn't well shaped; and once the log has been asked for and records a run, for a plan with a cycle, or
-/// one that isn't accepted where that run has no event.
-pub fn no_cell_without_an_accepted_plan()
+/// Let the files give a plan that isn't accepted. Then `drive` without `--log` answers the line of `check`, unless
+/// memory runs out. It asks for no further file, and drives no cell: up to this line no byte is read or written. The
+/// same holds for the first plan of `hub` that isn't accepted: its number comes before that line, and no plan after it
+/// is asked for. By `resume` it holds for a plan that isn't well shaped; and once the log has been asked for and records
+/// a run, for a plan with a cycle, or one that isn't accepted where that run has no event.
+pub fn no_cell_of_a_refused_plan()
     ensures drive { DriveAnswersByCheck }
     ensures unshaped { ResumeAnswersUnshaped }
     ensures resume { ResumeAnswersByCheck }
     ensures hub { HubAnswersByCheck }
 {}
 
-/// Let the words ask for `drive`, let the files give an accepted plan, and let the input be within its limit. Then two
-/// runs on the same words, files and input write the same bytes and end with the same status, whatever pieces the input
-/// comes in. This holds unless memory runs out or a read or write fails.
+/// Let the words ask for `drive` without `--log`, let the files give an accepted plan, and let the input be within its
+/// limit. Then two runs on the same words, files and input write the same bytes and end with the same status, whatever
+/// pieces the input comes in. This holds unless memory runs out or a read or write fails.
 pub fn drive_writes_the_same()
     ensures { DriveWritesTheSame }
+{}
+
+/// The same holds of `resume`, where the plan is well shaped and the log can be taken up by it. If the log tells no event, the plan
+/// is accepted and no present moment is given, `resume` writes an empty line, and then what `drive` writes with the same
+/// files, the same input and the same manner of the lines.
+pub fn resume_writes_the_same()
+    ensures same { ResumeWritesTheSame }
+    ensures as_drive { ResumeWritesAsDrive }
 {}
 
 /// A run ends with 0 or 1 and writes nothing on the error output. (The line of progress on a terminal goes to another
@@ -99,8 +108,8 @@ pub fn nothing_is_held_back<T: Texts>()
 
 /// If a run ends with 2 or more, only what driven cells answered was written on the output (for a run that was
 /// taken up, its events once more before that), or a picture, whole or up to a write that failed. They are the cells of
-/// the accepted plans, and the picture of the plan or the log, in the files that the words name. After that come at
-/// most the first bytes of the command's answer, if a write of it failed.
+/// the plans, and the picture of the plan or the log, in the files that the words name. Such a plan is accepted, or a run
+/// was taken up by it. After that come at most the first bytes of the command's answer, if a write of it failed.
 pub fn what_fails_is_no_answer<T: Texts>()
     ensures { WhatFailsIsNoAnswer T.gives }
 {}

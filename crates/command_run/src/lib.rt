@@ -9,6 +9,7 @@ mod hubs;
 mod improvers;
 mod input;
 pub mod laws;
+mod logs;
 mod pictures;
 mod planners;
 mod program;

@@ -1,56 +1,150 @@
 //! The whole program.
 
-ghost use Rattle.std.specs.Prelude.{◌≡◌, [], map, IfOk};
+ghost use Rattle.std.specs.Prelude.{◌≡◌, ◌≤◌, [], map, is_some, false, None, Some, Err, IfSome};
 ghost use Rattle.command_words.specs.Choice.{IsWithin};
-ghost use Rattle.command_run.specs.Program.{Follows, RunsProgram};
+ghost use Rattle.command_run.specs.Logs.{KeepsInLog};
+ghost use Rattle.command_run.specs.Program.{Commands, Follows, IsToldOfChosen, IsToldOfWords, RunsProgram, kept_log_in};
 
-use crate::command::command;
+use crate::command::{command, kept_log, manner, pair};
 use crate::devices::{Devices, Screen};
 use crate::ending::{end, tell_line};
+use crate::logs::{LoggedRun, logged_answer};
 use crate::unchosen::Unchosen;
 use cell_drive::{Outlet, Source};
 use command_answers::Texts;
 use command_words::{Chosen, WordsFault, read_words};
+use run_journal::{Before, Logs};
 use run_log::Sink;
 use std::alloc::Global;
 
-/// Runs the program on the words of a command line, the program's name first, and gives the status that it ends with.
-pub fn run<T: Texts, R: Source, W: Outlet, E: Sink, S: Screen>(
+/// Runs the program on the words of a command line, the program's name first. It gives the status that it ends with, the
+/// devices, and the log of the cell that was driven with one. What is known of that log stands for a type.
+pub fn run<T: Texts, R: Source, W: Outlet + Drop, E: Sink, S: Screen, L: Logs, B: Before>(
     alloc: Global,
     words: &[&str],
-    devices: &mut Devices<T, R, W, E, S>,
-) -> u8
-    requires shown { devices.old.streams.output.pending ≡ [] }
-    ensures { RunsProgram T.gives (map (λ word. word.now) words.now) devices.old result devices.new }
+    devices: Devices<T, R, W, E, S, L>,
+    before: B,
+) -> (u8, Devices<T, R, W, E, S, L>, Option<L::Log>)
+    requires shown { devices.streams.output.pending ≡ [] }
+    requires told { IfSome B.before (IsToldOfWords T.gives (map (λ word. word.now) words.now) devices) }
+    ensures runs { RunsProgram T.gives (map (λ word. word.now) words.now) devices result.0 result.1 (is_some result.2) }
+
+    // What a crash leaves of the log has all that was shown. Where the status is 0 or 1, the log has it on the disk.
+    ensures log { IfSome result.2 (λ log. IfSome B.before (KeepsInLog (L.Log.seen log) (L.Log.may_leave log) result.1.streams.output.taken (result.0 ≤ 1))) }
 {
-    let read = read_words(alloc, words);
-    follow(alloc, read, devices)
+    let mut devices = devices;
+    match read_words(alloc, words) {
+        Ok(chosen) => follow(alloc, &chosen, devices, before),
+        Err(fault) => {
+            let status = unchosen(alloc, fault, &mut devices);
+            (status, devices, None)
+        }
+    }
 }
 
-/// What follows the reading of the words.
-fn follow<T: Texts, R: Source, W: Outlet, E: Sink, S: Screen>(
+/// Runs the command that was chosen, and prints its answer, or says why there is none.
+fn follow<T: Texts, R: Source, W: Outlet + Drop, E: Sink, S: Screen, L: Logs, B: Before>(
     alloc: Global,
-    read: Result<Chosen, WordsFault>,
-    devices: &mut Devices<T, R, W, E, S>,
+    chosen: &Chosen,
+    devices: Devices<T, R, W, E, S, L>,
+    before: B,
+) -> (u8, Devices<T, R, W, E, S, L>, Option<L::Log>)
+    requires within { IsWithin chosen.now }
+    requires shown { devices.streams.output.pending ≡ [] }
+    requires told { IfSome B.before (IsToldOfChosen T.gives chosen.now devices) }
+    ensures runs { Commands T.gives chosen.now devices result.0 result.1 (is_some result.2) }
+    ensures log { IfSome result.2 (λ log. IfSome B.before (KeepsInLog (L.Log.seen log) (L.Log.may_leave log) result.1.streams.output.taken (result.0 ≤ 1))) }
+{
+    match kept_log(chosen) {
+        Some(path) => drive_logged(alloc, chosen, path, devices, before),
+        None => {
+            let mut devices = devices;
+            let status = unlogged(alloc, chosen, &mut devices);
+            (status, devices, None)
+        }
+    }
+}
+
+/// Drives a cell with the log of this path, and ends as any command does.
+fn drive_logged<T: Texts, R: Source, W: Outlet + Drop, E: Sink, S, L: Logs, B: Before>(
+    alloc: Global,
+    chosen: &Chosen,
+    path: &str,
+    devices: Devices<T, R, W, E, S, L>,
+    before: B,
+) -> (u8, Devices<T, R, W, E, S, L>, Option<L::Log>)
+    requires within { IsWithin chosen.now }
+    requires kept { kept_log_in chosen.now ≡ Some path.now }
+    requires shown { devices.streams.output.pending ≡ [] }
+    requires told { IfSome B.before (IsToldOfChosen T.gives chosen.now devices) }
+    ensures runs { Commands T.gives chosen.now devices result.0 result.1 (is_some result.2) }
+    ensures log { IfSome result.2 (λ log. IfSome B.before (KeepsInLog (L.Log.seen log) (L.Log.may_leave log) result.1.streams.output.taken (result.0 ≤ 1))) }
+{
+    let Devices {
+        mut texts,
+        streams,
+        mut errors,
+        screen,
+        mut logs,
+    } = devices;
+    let (pair, manner, at) = (pair(chosen), manner(chosen), chosen.at);
+    let LoggedRun {
+        outcome,
+        mut streams,
+        log,
+    } = logged_answer(
+        alloc, &mut texts, &pair, manner, at, path, streams, &mut logs, before,
+    );
+    let status = end(alloc, outcome, &mut streams, &mut errors);
+    let devices = Devices {
+        texts,
+        streams,
+        errors,
+        screen,
+        logs,
+    };
+    (status, devices, log)
+}
+
+/// Runs the command that was chosen, which keeps no log, and ends.
+fn unlogged<T: Texts, R: Source, W: Outlet, E: Sink, S: Screen, L: Logs>(
+    alloc: Global,
+    chosen: &Chosen,
+    devices: &mut Devices<T, R, W, E, S, L>,
 ) -> u8
-    requires within { IfOk read IsWithin }
+    requires within { IsWithin chosen.now }
+    requires unlogged { kept_log_in chosen.now ≡ None }
     requires shown { devices.old.streams.output.pending ≡ [] }
-    ensures { Follows T.gives read devices.old result devices.new }
+    ensures { Commands T.gives chosen.now devices.old result devices.new false }
 {
     let Devices {
         texts,
         streams,
         errors,
         screen,
+        logs: _,
     } = devices;
-    match read {
-        Ok(chosen) => {
-            let outcome = command(alloc, &chosen, texts, streams, screen);
-            end(alloc, outcome, streams, errors)
-        }
-        Err(fault) => match Unchosen::from(fault) {
-            Unchosen::Ends(outcome) => end(alloc, outcome, streams, errors),
-            Unchosen::Usage(text) => tell_line(errors, text.as_bytes(), 2),
-        },
+    let outcome = command(alloc, chosen, texts, streams, screen);
+    end(alloc, outcome, streams, errors)
+}
+
+/// What follows words that choose no command.
+fn unchosen<T: Texts, R: Source, W: Outlet, E: Sink, S, L: Logs>(
+    alloc: Global,
+    fault: WordsFault,
+    devices: &mut Devices<T, R, W, E, S, L>,
+) -> u8
+    ensures { Follows T.gives (Err fault) devices.old result devices.new false }
+{
+    let Devices {
+        texts: _,
+        streams,
+        errors,
+        screen: _,
+        logs: _,
+    } = devices;
+    match Unchosen::from(fault) {
+        Unchosen::Ends(outcome) => end(alloc, outcome, streams, errors),
+        Unchosen::Usage(text) => tell_line(errors, text.as_bytes(), 2),
     }
 }

@@ -8,7 +8,9 @@ ghost use Rattle.command_run.specs.Program.{RunsResume};
 
 use crate::devices::Streams;
 use crate::drives::{Told, ended};
-use cell_drive::{DriveFault, Outlet, RestEnd, ResumeFault, Source, Taken, resume, take_up};
+use cell_drive::{
+    DriveFault, Manner, Outlet, RestEnd, ResumeFault, Source, Taken, resume_in, take_up,
+};
 use command_answers::{
     Answered, CommandFault, Loaded, Pair, Texts, fault_told, loaded_answer, past_answer,
     shape_files,
@@ -18,26 +20,27 @@ use shop_base::{Moment, Shaped};
 use std::alloc::Global;
 use std::marker::Model;
 
-/// Reads a plan, and if it is well shaped takes up its run from the log, at a moment, and drives it on; else its first
-/// fault is the answer.
+/// Reads a plan, and if it is well shaped takes up its run from the log, at a moment, and drives it on in this manner; else
+/// its first fault is the answer.
 pub(crate) fn resume_answer<T: Texts, R: Source, W: Outlet>(
     alloc: Global,
     texts: &mut T,
     pair: &Pair<'_>,
     log: &str,
     at: Option<Moment>,
+    manner: Manner,
     streams: &mut Streams<R, W>,
 ) -> Answered
     requires { IfSome at (λ present. present ≤ MAX_MOMENT) }
-    ensures { RunsResume T.gives at pair.now log.now texts.old streams.old result texts.new streams.new }
+    ensures { RunsResume T.gives manner at pair.now log.now texts.old streams.old result texts.new streams.new }
 {
     match shape_files(alloc, texts, pair)? {
-        Ok(shaped) => resume_log(alloc, texts, shaped, log, at, streams),
+        Ok(shaped) => resume_log(alloc, texts, shaped, log, at, manner, streams),
         Err(fault) => Ok(loaded_answer(alloc, &Loaded::NotShaped(fault))?),
     }
 }
 
-/// Asks for the log of a plan, takes up its run, and drives that on to the end of the input; why it isn't taken up is an
+/// Asks for the log of a plan, takes up its run, and drives that on in this manner to the end of the input; why it isn't taken up is an
 /// answer.
 fn resume_log<T: Texts, R: Source, W: Outlet>(
     alloc: Global,
@@ -45,15 +48,22 @@ fn resume_log<T: Texts, R: Source, W: Outlet>(
     shaped: Shaped,
     log: &str,
     at: Option<Moment>,
+    manner: Manner,
     streams: &mut Streams<R, W>,
 ) -> Answered
     requires { IfSome at (λ present. present ≤ MAX_MOMENT) }
-    ensures { ResumesLog T.gives at log.now shaped texts.old streams.old result texts.new streams.new }
+    ensures { ResumesLog T.gives manner at log.now shaped texts.old streams.old result texts.new streams.new }
 {
     let text = texts.text(alloc, log)?;
     match taken_up(alloc, shaped, text, at) {
         Ok(taken) => {
-            let end = resume(taken, &mut streams.input, &mut streams.output);
+            let end = resume_in(
+                alloc,
+                taken,
+                manner,
+                &mut streams.input,
+                &mut streams.output,
+            );
             rest_answer(alloc, end)
         }
         Err(fault) => untaken_answer(alloc, fault),
@@ -74,7 +84,7 @@ fn taken_up(
 }
 
 /// What is answered where a run isn't taken up: the line of the log's first fault, of a moment that is past, or of the plan.
-fn untaken_answer(alloc: Global, fault: ResumeFault) -> Answered
+pub(crate) fn untaken_answer(alloc: Global, fault: ResumeFault) -> Answered
     ensures { IsUntakenTold fault result }
 {
     match fault {

@@ -43,6 +43,8 @@ const FAULTS: &[(CommandFault, &str, u8)] = &[
     (CommandFault::Read, "Read", 5),
     (CommandFault::Write, "Write", 5),
     (CommandFault::InputTooLong, "InputTooLong", 5),
+    (CommandFault::Log, "Log", 5),
+    (CommandFault::LogInUse, "LogInUse", 5),
 ];
 
 #[test]

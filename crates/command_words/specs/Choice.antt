@@ -1,5 +1,5 @@
 -- What the words of a command line ask for, by the matches that `clap` finds in them.
-use Rattle.std.specs.Prelude.{◌≡◌, ◌≢◌, ◌≤◌, ◌++◌, ◌&&◌, ℕ, nat_le, nat_lt, if◌then◌else◌, Bool, true, false, List, [], ◌∷◌, Option, Some, None, IfSome, String, bytes_eq, length, map, option_map, unwrap_or, pos, codes}
+use Rattle.std.specs.Prelude.{◌≡◌, ◌≢◌, ◌≤◌, ◌++◌, ◌&&◌, ◌==◌, ℕ, nat_le, nat_lt, if◌then◌else◌, Bool, true, false, List, [], ◌∷◌, Option, Some, None, IfSome, String, bytes_eq, length, map, option_map, unwrap_or, pos, codes}
 use Rattle.std.specs.List.{list_all}
 use Rattle.std.specs.Option.{option_map_or}
 use Rattle.std.specs.String.{string_bytes}
@@ -14,6 +14,8 @@ use Rattle.command_words.specs.CommandLine.{command_line, most_rounds, greatest_
 use Rattle.command_words.specs.declared.words.Chosen.{Chosen}
 use Rattle.command_words.specs.declared.words.CommandName.{CommandName}
 use Rattle.command_words.specs.declared.words.CommandName.TheVariants.{Input, Facts, Shape, Check, Explain, Schedule, Bounds, Plan, Improve, Drive, Resume, Hub, Audit, Gantt}
+use Rattle.command_words.specs.declared.words.Lines.{Lines}
+use Rattle.command_words.specs.declared.words.Lines.TheVariants.{One, Two}
 use Rattle.command_words.specs.declared.words.WordsFault.{WordsFault}
 use Rattle.command_words.specs.declared.words.WordsFault.TheVariants.{Usage, Memory}
 
@@ -102,13 +104,21 @@ seed_in = number_in (codes "seed") 0
 abbrev pub after_in : List Row → Option Text
 after_in rows = first_of (codes "after") rows
 
--- the present moment of that run
+-- the log that a driven cell keeps
+abbrev pub kept_in : List Row → Option Text
+kept_in rows = first_of (codes "log") rows
+
+-- the present moment of the run in a log
 abbrev pub at_in : List Row → Option ℕ
 at_in rows = option_map value_of (first_of (codes "at") rows)
 
+-- the version of this number
+abbrev pub version_of : ℕ → Lines
+version_of number = if number == 2 then Two else One
+
 -- the version of the lines of a driven cell
-abbrev pub lines_in : List Row → Option ℕ
-lines_in rows = option_map value_of (first_of (codes "lines") rows)
+abbrev pub lines_in : List Row → Option Lines
+lines_in rows = option_map version_of (option_map value_of (first_of (codes "lines") rows))
 
 -- the longest time from one report to the next
 abbrev pub leap_in : List Row → Option ℕ
@@ -118,7 +128,7 @@ leap_in rows = option_map value_of (first_of (codes "leap") rows)
 abbrev pub svg_in : List Row → Bool
 svg_in rows = option_map_or (λ text. bytes_eq text (codes "true")) (first_of (codes "svg") rows) false
 
--- the choice holds the command, the files, the instance's name, the rounds, the seed, the log, the moment, the version of the lines, the longest time and the switch that were found
+-- the choice holds the command, the files, the instance's name, the rounds, the seed, the log of whose rest is asked, the log that is kept, the moment, the version of the lines, the longest time and the switch that were found
 pub record IsChoiceOf (found : Found) (chosen : Chosen) : Type 0 where
   pub name : word_of chosen.name ≡ word_found found
   pub files : texts_of chosen.files.items ≡ files_in (rows_found found)
@@ -126,6 +136,7 @@ pub record IsChoiceOf (found : Found) (chosen : Chosen) : Type 0 where
   pub rounds : chosen.rounds ≡ rounds_in (rows_found found)
   pub seed : chosen.seed ≡ seed_in (rows_found found)
   pub after : option_map string_bytes chosen.after ≡ after_in (rows_found found)
+  pub log : option_map string_bytes chosen.log ≡ kept_in (rows_found found)
   pub at : chosen.at ≡ at_in (rows_found found)
   pub lines : chosen.lines ≡ lines_in (rows_found found)
   pub leap : chosen.leap ≡ leap_in (rows_found found)
@@ -152,9 +163,9 @@ abbrev pub first_given : Option Text → Option Text → Option Text
 first_given None other = other
 first_given (Some text) other = Some text
 
--- the log with which a present moment goes: that of `--after`, or the file LOG
+-- the log with which a present moment goes: that of `--after`, the file LOG, or that of `--log`
 abbrev pub log_given : List Row → Option Text
-log_given rows = first_given (after_in rows) (first_of (codes "LOG") rows)
+log_given rows = first_given (after_in rows) (first_given (first_of (codes "LOG") rows) (kept_in rows))
 
 -- why a word isn't taken for the present moment, or nothing: there is no log, or it isn't a moment
 abbrev pub misfit_of : Option Text → Option Text → Kinds

@@ -72,6 +72,10 @@ rest_command name more = plan_command name (option_rule (codes "after") ∷ opti
 abbrev pub driven_rules : List Rule
 driven_rules = option_rule (codes "lines") ∷ option_rule (codes "leap") ∷ []
 
+-- `--log LOG` and `--at N`, and these: the log that a driven cell keeps, and the present moment of the run in it
+abbrev pub kept_rules : List Rule
+kept_rules = option_rule (codes "log") ∷ option_rule (codes "at") ∷ driven_rules
+
 -- the plans of several cells, and these options
 abbrev pub hub_rules : List Rule
 hub_rules = plans_rule ∷ option_rule (codes "lines") ∷ option_rule (codes "leap") ∷ []
@@ -95,8 +99,8 @@ described Schedule = rest_command (codes "schedule") (svg_rule ∷ [])
 described Bounds = plan_command (codes "bounds") []
 described Plan = plan_command (codes "plan") (rounds_rule ∷ [])
 described Improve = plan_command (codes "improve") (option_rule (codes "after") ∷ option_rule (codes "at") ∷ rounds_rule ∷ seed_rule ∷ [])
-described Drive = plan_command (codes "drive") driven_rules
-described Resume = log_command (codes "resume") (option_rule (codes "at") ∷ [])
+described Drive = plan_command (codes "drive") kept_rules
+described Resume = log_command (codes "resume") (option_rule (codes "at") ∷ driven_rules)
 described Hub = command (codes "hub") hub_rules
 described Audit = log_command (codes "audit") []
 described Gantt = log_command (codes "gantt") (svg_rule ∷ [])

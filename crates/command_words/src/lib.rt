@@ -3,4 +3,4 @@
 
 mod words;
 
-pub use words::{Chosen, CommandName, WordsFault, read_words};
+pub use words::{Chosen, CommandName, Lines, WordsFault, read_words};

@@ -6,7 +6,7 @@ ghost use Rattle.text_lines.specs.Numbers.{value_of};
 ghost use Rattle.clap.specs.Words.{first_of, found_of, kind_of, one_of, rows_of, subcommand_rows_of};
 ghost use Rattle.command_words.specs.declared.words.CommandName.{CommandName};
 ghost use Rattle.command_words.specs.CommandLine.{most_rounds, greatest_seed, latest_moment};
-ghost use Rattle.command_words.specs.Choice.{FitsUpTo, IsChoiceOf, IsFit, IsWithin, TellsOneOf, TellsReason, at_in, files_in, found_in, is_conflict, is_moment, is_number, leap_in, lines_in, log_given, misfit_in, misfit_of, misfits_of, number_misfit, reasons_in, rounds_in, seed_in, svg_in, texts_of, values_of, word_of};
+ghost use Rattle.command_words.specs.Choice.{FitsUpTo, IsChoiceOf, IsFit, IsWithin, TellsOneOf, TellsReason, at_in, files_in, first_given, found_in, is_conflict, is_moment, is_number, kept_in, leap_in, lines_in, log_given, misfit_in, misfit_of, misfits_of, number_misfit, reasons_in, rounds_in, seed_in, svg_in, texts_of, values_of, version_of, word_of};
 
 mod command_line;
 
@@ -63,6 +63,15 @@ pub enum CommandName {
     Gantt,
 }
 
+/// The versions of the lines that a driven cell reads and writes.
+#[derive(Clone, Copy, Debug, PartialEq, Eq)]
+pub enum Lines {
+    /// The lines without which no cell is driven.
+    One,
+    /// More can be asked for, and the answers say more.
+    Two,
+}
+
 /// What a command line asks for.
 #[derive(Debug, Drop)]
 pub struct Chosen {
@@ -78,10 +87,12 @@ pub struct Chosen {
     pub seed: u32,
     /// The log of a run, of whose rest is asked.
     pub after: Option<String>,
-    /// The present moment of that run, if another one than the log's last is given.
+    /// The log that a driven cell keeps, if it is to keep one.
+    pub log: Option<String>,
+    /// The present moment of the run in a log, if another one than the log's last is given.
     pub at: Option<u64>,
-    /// The version of the lines of a driven cell, 1 or 2, if one is given.
-    pub lines: Option<u64>,
+    /// The version of the lines of a driven cell, if one is given.
+    pub lines: Option<Lines>,
     /// The longest time from one report to the next, at least 1, if one is given.
     pub leap: Option<u64>,
     /// Whether a picture is drawn in place of the text.
@@ -185,6 +196,7 @@ fn chosen_by(alloc: Global, matches: &ArgMatches<'_>) -> Result<Chosen, WordsFau
             rounds: 20,
             seed: 0,
             after: None,
+            log: None,
             at: None,
             lines: None,
             leap: None,
@@ -208,7 +220,8 @@ fn chosen_of(alloc: Global, word: &str, matches: &ArgMatches<'_>) -> Result<Chos
         rounds: rounds_of(matches),
         seed: seed_of(matches),
         after: text_of(alloc, matches, "after")?,
-        at: rest_at(alloc, matches)?,
+        log: text_of(alloc, matches, "log")?,
+        at: rest_at(alloc, word, matches)?,
         lines: lines_of(alloc, matches)?,
         leap: leap_of(alloc, matches)?,
         svg: svg_of(matches),
@@ -320,7 +333,11 @@ fn is_conflict(matches: &ArgMatches<'_>) -> bool
 }
 
 /// The present moment, if it is given. There is no picture of the rest of a run.
-fn rest_at(alloc: Global, matches: &ArgMatches<'_>) -> Result<Option<u64>, WordsFault>
+fn rest_at(
+    alloc: Global,
+    command: &str,
+    matches: &ArgMatches<'_>,
+) -> Result<Option<u64>, WordsFault>
     ensures exact { IfOk result (λ at. at ≡ at_in (rows_of (found_of matches.now))) }
     ensures early { IfOk result (λ at. IfSome at (λ n. n ≤ latest_moment)) }
     ensures fits { IfOk result (λ _. misfits_of (rows_of (found_of matches.now)) ≡ []) }
@@ -329,21 +346,32 @@ fn rest_at(alloc: Global, matches: &ArgMatches<'_>) -> Result<Option<u64>, Words
     if is_conflict(matches) {
         return Err(no_picture(alloc));
     }
-    at_of(alloc, matches)
+    at_of(alloc, command, matches)
 }
 
-/// Whether there is a log: that of whose rest is asked, or the file of one.
+/// Whether there is a log: that of whose rest is asked, the file of one, or that which a driven cell keeps.
 fn has_log(matches: &ArgMatches<'_>) -> bool
     ensures { result ≡ is_some (log_given (rows_of (found_of matches.now))) }
 {
     match matches.get_str("after") {
         Some(_) => true,
-        None => matches.get_str("LOG").is_some(),
+        None => has_log_file(matches),
+    }
+}
+
+/// Whether there is the file of a log, or a log which a driven cell keeps.
+fn has_log_file(matches: &ArgMatches<'_>) -> bool
+    ensures { let rows = rows_of (found_of matches.now) in
+        result ≡ is_some (first_given (first_of (codes "LOG") rows) (kept_in rows)) }
+{
+    match matches.get_str("LOG") {
+        Some(_) => true,
+        None => matches.get_str("log").is_some(),
     }
 }
 
 /// The present moment, if it is given, which goes with a log.
-fn at_of(alloc: Global, matches: &ArgMatches<'_>) -> Result<Option<u64>, WordsFault>
+fn at_of(alloc: Global, command: &str, matches: &ArgMatches<'_>) -> Result<Option<u64>, WordsFault>
     ensures exact { IfOk result (λ at. at ≡ at_in (rows_of (found_of matches.now))) }
     ensures early { IfOk result (λ at. IfSome at (λ n. n ≤ latest_moment)) }
     ensures fits { let rows = rows_of (found_of matches.now) in
@@ -355,7 +383,7 @@ fn at_of(alloc: Global, matches: &ArgMatches<'_>) -> Result<Option<u64>, WordsFa
         return Ok(None);
     };
     if !has_log(matches) {
-        return Err(no_log(alloc));
+        return Err(no_log(alloc, command));
     }
     match moment_of(word) {
         Some(moment) => Ok(Some(moment)),
@@ -386,10 +414,19 @@ fn no_picture(alloc: Global) -> WordsFault
 }
 
 /// The fault of a moment without a log.
-fn no_log(alloc: Global) -> WordsFault
+fn no_log(alloc: Global, command: &str) -> WordsFault
     ensures { TellsReason ErrorKind.MissingRequiredArgument result }
 {
-    let parts = ["the following required arguments were not provided:\n  --after <LOG>"];
+    let option = if command == "drive" {
+        "--log"
+    } else {
+        "--after"
+    };
+    let parts = [
+        "the following required arguments were not provided:\n  ",
+        option,
+        " <LOG>",
+    ];
     misfit(alloc, ErrorKind::MissingRequiredArgument, parts.as_slice())
 }
 
@@ -405,8 +442,15 @@ fn no_moment(alloc: Global, word: &str) -> WordsFault
     misfit(alloc, ErrorKind::ValueValidation, parts.as_slice())
 }
 
+/// The version of this number, 1 or 2.
+fn version_of(number: u64) -> Lines
+    ensures { result ≡ version_of number }
+{
+    if number == 2 { Lines::Two } else { Lines::One }
+}
+
 /// The version of the lines, if it is given.
-fn lines_of(alloc: Global, matches: &ArgMatches<'_>) -> Result<Option<u64>, WordsFault>
+fn lines_of(alloc: Global, matches: &ArgMatches<'_>) -> Result<Option<Lines>, WordsFault>
     ensures exact { IfOk result (λ version. version ≡ lines_in (rows_of (found_of matches.now))) }
     ensures fits { IfOk result (λ _. number_misfit 1 1 2 (first_of (codes "lines") (rows_of (found_of matches.now))) ≡ []) }
     ensures refused { IfErr result (TellsOneOf (number_misfit 1 1 2 (first_of (codes "lines") (rows_of (found_of matches.now))))) }
@@ -417,7 +461,11 @@ fn lines_of(alloc: Global, matches: &ArgMatches<'_>) -> Result<Option<u64>, Word
         most: 2,
     };
     let wanted = "' for '--lines <V>': the versions are 1 and 2";
-    number_given(alloc, matches, "lines", form, wanted)
+    match number_given(alloc, matches, "lines", form, wanted) {
+        Ok(Some(number)) => Ok(Some(version_of(number))),
+        Ok(None) => Ok(None),
+        Err(fault) => Err(fault),
+    }
 }
 
 /// The longest time from one report to the next, if it is given.

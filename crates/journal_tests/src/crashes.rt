@@ -129,3 +129,21 @@ fn many_answers_are_synced_at_once(rt: HostRuntime) -> Result<(), Fail> {
     assert_eq!(rt; log.calls_left(), 36);
     Ok(())
 }
+
+#[test]
+fn an_answer_that_adds_nothing_is_not_synced(rt: HostRuntime) -> Result<(), Fail> {
+    let alloc = rt.alloc();
+    let log = MemoryLog::new(Vec::new(alloc), 2, 0);
+    let outlet = Gathered::new(alloc, 16, Vec::new(alloc))?;
+    let Ok(mut logged) = Logged::new(alloc, log, outlet, Untold) else {
+        return Err("out of memory".into());
+    };
+    for _ in 0..3 {
+        put_all(&mut logged, b"refused 1 BadLine\n")?;
+        logged.show()?;
+    }
+    let (log, outlet) = logged.into_parts();
+    assert_eq!(rt; outlet.into_inner().len(), 54);
+    assert_eq!(rt; log.calls_left(), 2);
+    Ok(())
+}

@@ -1,68 +1,42 @@
 //! A cell that is driven with a log in memory, of which each call fails in turn.
 
 use super::MemoryLog;
+use super::two_jobs::{FIRST, LATER, PLAIN, REPORTS, TELLING, accepted, joined};
 use byte_streams::{DriveFault, FromRead, Gathered};
 use cell_drive::{DriveEnd, Manner};
 use logged_drive::{LoggedEnd, drive_logged};
-use orlib_read::read_instance;
-use plan_text::read_plan;
-use plan_verifier::{Verdict, Verified, verify};
 use run_journal::{LogFile, LogText, Untold};
-use shop_base::shape;
 use std::alloc::Global;
 use std::test::Fail;
 
-/// Two jobs that cross on two machines.
-const TWO: &[u8] = b"two\n2 2\n0 3 1 2\n1 4 0 1\n";
-
-/// The two jobs, job 0 before job 1.
-const CROSSING: &[u8] = b"release = [0, 0]\nbudget = [5, 10]\norder = [[0, 1], [0, 1]]\n";
-
-/// Their reports, with a line between them that is none.
-const REPORTS: &[u8] =
-    b"arrive 0 0\narrive 1 0\nready\nfinish 0 0 2\nfinish 0 1 4\nfinish 1 1 8\nfinish 1 0 9\n";
-
-/// The answers before that line, after it, and at the end.
-const FIRST: &[u8] = b"report 0 arrive 0\norder 0 0 out 0\nreport 0 arrive 1\n";
-
 const REFUSED: &[u8] = b"refused 3 BadLine\n";
-
-const LATER: &[u8] =
-    b"report 2 finish 0 0\norder 2 0 0 1\nreport 4 finish 0 1\norder 4 0 1 out\norder 4 1 out 1\nreport 8 finish 1 1\norder 8 1 1 0\nreport 9 finish 1 0\norder 9 1 0 out\n";
 
 const DONE: &[u8] = b"done 9\n";
 
-/// These texts, one after another.
-fn joined(alloc: Global, texts: &[&[u8]]) -> Result<Vec<u8>, Fail> {
-    let mut all = Vec::new(alloc);
-    for text in texts {
-        all.extend_from_slice(text)?;
-    }
-    Ok(all)
-}
+/// Their reports with that, of which the second comes too early, and one too late.
+const ASKING: &[u8] =
+    b"arrive 0 0\narrive 1 0\nstatus\nfinish 0 0 5\nfinish 0 1 200\nfinish 0 1 7\nfinish 1 1 11\nfinish 1 0 12\n";
 
-fn accepted(alloc: Global) -> Result<Verified, Fail> {
-    let shop = read_instance(alloc, TWO)?.shop;
-    let Ok(shaped) = shape(shop, read_plan(alloc, CROSSING)?) else {
-        return Err("the plan isn't well shaped".into());
-    };
-    match verify(alloc, shaped) {
-        Ok(Verdict::Accepted(verified)) => Ok(verified),
-        _ => Err("the plan isn't accepted".into()),
-    }
-}
+const STATED: &[u8] = b"report 0 arrive 0\norder 0 0 out 0\nreport 0 arrive 1\n\
+unfinished job 0 on machine 0 since 0 due 3\nunfinished job 1 waits outside for machine 1\nunfinished 4\n\
+report 5 finish 0 0\nlate 5 job 0 on machine 0 since 0 due 3\norder 5 0 0 1\nrefused 5 Leap last 5\n\
+report 7 finish 0 1\norder 7 0 1 out\norder 7 1 out 1\nreport 11 finish 1 1\norder 11 1 1 0\n\
+report 12 finish 1 0\norder 12 1 0 out\ndone 12\ndone 12\n";
 
-/// The run of these reports, with a log of which so many calls don't fail.
+/// What a log gets of that.
+const STATED_EVENTS: &[u8] = b"report 0 arrive 0\norder 0 0 out 0\nreport 0 arrive 1\n\
+report 5 finish 0 0\nlate 5 job 0 on machine 0 since 0 due 3\norder 5 0 0 1\n\
+report 7 finish 0 1\norder 7 0 1 out\norder 7 1 out 1\nreport 11 finish 1 1\norder 11 1 1 0\n\
+report 12 finish 1 0\norder 12 1 0 out\n";
+
+/// The run of these lines in this manner, with a log of which so many calls don't fail.
 fn driven(
     alloc: Global,
+    manner: Manner,
+    lines: &[u8],
     calls: usize,
 ) -> Result<LoggedEnd<DriveEnd, Gathered<Vec<u8>>, MemoryLog>, Fail> {
-    let manner = Manner {
-        tells: false,
-        longest: None,
-        from: 0,
-    };
-    let mut reader = FromRead::new(REPORTS);
+    let mut reader = FromRead::new(lines);
     let log = MemoryLog::new(Vec::new(alloc), calls, 5);
     let output = Gathered::new(alloc, 16, Vec::new(alloc))?;
     let verified = accepted(alloc)?;
@@ -71,7 +45,7 @@ fn driven(
 
 #[test]
 fn a_log_has_the_events_of_a_run(rt: HostRuntime) -> Result<(), Fail> {
-    let mut run = driven(rt.alloc(), 9)?;
+    let mut run = driven(rt.alloc(), PLAIN, REPORTS, 9)?;
     assert!(rt; run.end.is_ok());
     assert!(rt; !run.log_failed);
     let log = run.log.read(rt.alloc(), 1000)?;
@@ -84,9 +58,19 @@ fn a_log_has_the_events_of_a_run(rt: HostRuntime) -> Result<(), Fail> {
 }
 
 #[test]
+fn a_log_has_no_states_and_no_refusals(rt: HostRuntime) -> Result<(), Fail> {
+    let mut run = driven(rt.alloc(), TELLING, ASKING, 9)?;
+    assert!(rt; run.end.is_ok());
+    let log = run.log.read(rt.alloc(), 1000)?;
+    assert_eq!(rt; log.as_slice(), STATED_EVENTS);
+    assert_eq!(rt; run.output.into_inner().as_slice(), STATED);
+    Ok(())
+}
+
+#[test]
 fn nothing_is_shown_that_is_not_in_the_log(rt: HostRuntime) -> Result<(), Fail> {
     for calls in 0..2 {
-        let run = driven(rt.alloc(), calls)?;
+        let run = driven(rt.alloc(), PLAIN, REPORTS, calls)?;
         assert!(rt; matches!(run.end, Err(DriveFault::Write)));
         assert!(rt; run.log_failed);
         let left = LogText::new(run.log.after_crash(rt.alloc(), 5, 3)?);

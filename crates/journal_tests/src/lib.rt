@@ -2,10 +2,18 @@
 #![tactic(auto)]
 
 mod memory_log;
+mod memory_logs;
 
 pub use memory_log::MemoryLog;
+pub use memory_logs::MemoryLogs;
 
 #[cfg(test)]
 mod crashes;
 #[cfg(test)]
 mod driven;
+#[cfg(test)]
+mod folders;
+#[cfg(test)]
+mod taken_up;
+#[cfg(test)]
+mod two_jobs;

@@ -1,4 +1,4 @@
-ghost use Rattle.std.specs.Prelude.{◌≡◌, ◌≤◌, true, length, take, Some};
+ghost use Rattle.std.specs.Prelude.{◌≡◌, ◌≤◌, true, false, length, take, Some};
 
 use run_journal::{FileFault, LogFile};
 use std::alloc::{AllocError, Global};
@@ -19,6 +19,8 @@ pub struct MemoryLog {
     calls: usize,
     /// How many bytes an append that fails appends.
     torn: usize,
+    /// Whether an append, a cut or a sync has failed.
+    failed: bool,
 }
 
 impl Model for MemoryLog {
@@ -27,7 +29,7 @@ impl Model for MemoryLog {
 
     ghost Value = { InMemory };
 
-    ghost view = { λ m. record { seen = take m.len m.most.items; most = m.most.items; least = m.least; synced = m.synced } };
+    ghost view = { λ m. record { seen = take m.len m.most.items; most = m.most.items; least = m.least; synced = m.synced; failed = m.failed } };
 
     ghost invariant = { λ m. (m.least ≤ m.len) × (m.len ≤ length m.most.items) };
 }
@@ -38,6 +40,7 @@ impl MemoryLog {
     pub fn new(bytes: Vec<u8>, calls: usize, torn: usize) -> MemoryLog
         ensures seen { result.seen ≡ bytes.items }
         ensures synced { result.synced ≡ true }
+        ensures unfailed { result.failed ≡ false }
     {
         let len = bytes.len();
         MemoryLog {
@@ -47,6 +50,7 @@ impl MemoryLog {
             synced: true,
             calls,
             torn,
+            failed: false,
         }
     }
 
@@ -101,6 +105,8 @@ impl LogFile for MemoryLog {
 
     ghost may_leave = { MayLeave };
 
+    ghost failed = { λ m. m.failed };
+
     fn read(&mut self, alloc: Global, most: usize) -> Result<Vec<u8>, FileFault> {
         if !self.passes() {
             return Err(FileFault::Read);
@@ -122,10 +128,15 @@ impl LogFile for MemoryLog {
         self.least = self.len;
         self.synced = false;
         if self.most.extend_from_slice(&bytes[..count]).is_err() {
+            self.failed = true;
             return Err(FileFault::Memory);
         }
         self.len = self.most.len();
-        if passes { Ok(()) } else { Err(FileFault::Log) }
+        if passes {
+            return Ok(());
+        }
+        self.failed = true;
+        Err(FileFault::Log)
     }
 
     fn cut(&mut self, len: usize) -> Result<(), FileFault> {
@@ -134,6 +145,7 @@ impl LogFile for MemoryLog {
         self.least = len;
         self.synced = false;
         if !passes {
+            self.failed = true;
             return Err(FileFault::Log);
         }
         self.len = len;
@@ -142,6 +154,7 @@ impl LogFile for MemoryLog {
 
     fn sync(&mut self) -> Result<(), FileFault> {
         if !self.passes() {
+            self.failed = true;
             return Err(FileFault::Log);
         }
         self.most.truncate(self.len);

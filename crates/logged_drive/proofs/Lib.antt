@@ -1,1 +1,7 @@
 mod LoggedSteps
+mod FormedAnswers
+mod FormedStates
+mod Crashes
+mod Given
+mod Safe
+mod GivenOn

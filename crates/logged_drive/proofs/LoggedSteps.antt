@@ -9,16 +9,15 @@ use Rattle.cell_drive.specs.declared.manner.Manner.{Manner}
 use Rattle.cell_drive.specs.declared.one_run.DriveEnd.{DriveEnd}
 use Rattle.cell_drive.specs.declared.rest_run.RestEnd.{RestEnd}
 use Rattle.cell_drive.specs.TakenUp.{TakenUp}
-use Rattle.cell_drive.specs.Resuming.{IsGoneOn}
 use Rattle.cell_drive.specs.OneCell.{drive_start}
 use Rattle.cell_drive.specs.Stated.{stated_start}
-use Rattle.cell_drive.specs.InManner.{DrivesBy, IsDriveIn, is_plain}
+use Rattle.cell_drive.specs.InManner.{DrivesBy, GoesOnBy, IsDriveIn, IsGoneOnIn, is_plain}
 use Rattle.run_journal.specs.LogFiles.{IsSettled}
 use Rattle.run_journal.specs.WholeLines.{whole_lines}
 use Rattle.run_journal.specs.LoggedLines.{logged}
 use Rattle.run_journal.specs.Logged.{Held, AreBefore, StayInStep}
 use Rattle.run_journal.specs.Laws.{ACrashKeepsWhatWasShown}
-use Rattle.std.proofs.lemmas.List.{take_at}
+use Rattle.std.proofs.lemmas.List.{append_cancel_left, take_at}
 use Rattle.logged_drive.specs.LoggedRuns.{IsAllInLog, KeepsShown, RunsLogged, nothing_held, output_held}
 
 -- ---- a run that isn't begun
@@ -75,6 +74,23 @@ all_in_log before seen may_leave held taken is unfailed settled steps = if_some-
   on_disk = told seen (b.0 ++ logged step.shown) (λ f. (left : List ℕ) → may_leave left → left ≡ f) (step.log unfailed) settled;
 }) steps
 
+-- the log holds what it held, and the output too, where the writer has taken nothing
+pub unchanged : (before : Option (List ℕ × List ℕ)) (seen : Option (List ℕ)) (may_leave : List ℕ → Type 0) (held : Held) (taken : Option (List ℕ)) → taken ≡ held.taken → held.failed ≡ false
+    → IfSome before (λ told. held.taken ≡ Some told.1) → StayInStep before seen may_leave held → AreBefore before seen taken
+unchanged before seen may_leave held taken is unfailed start steps = if_some-both before (λ b began step.
+    let both : b.1 ++ step.shown ≡ b.1 ++ [] = some-same (sym step.output ∙ began ∙ ap Some (sym (append-nil b.1))) in
+    let none : step.shown ≡ [] = append_cancel_left b.1 step.shown [] both in (
+      step.log unfailed ∙ ap (λ (l : List ℕ). Some (b.0 ++ logged l)) none ∙ ap Some (append-nil b.0),
+      is ∙ began,
+    )) start steps
+  where
+    some-same : {xs ys : List ℕ} → Some xs ≡ Some ys → xs ≡ ys
+    some-same same = cc same
+
+-- what the output had taken as the writer began
+pub at_start : (before : Option (List ℕ × List ℕ)) (seen taken same : Option (List ℕ)) → same ≡ taken → AreBefore before seen taken → IfSome before (λ told. same ≡ Some told.1)
+at_start before seen taken same is are = if_some-map before (λ b both. is ∙ both.1) are
+
 -- ---- a run that went to the end of its input
 
 ended_by : (plain : Bool) (manner : Manner) (v : VerifiedPlan) (before after : Streams) (end : DriveEnd) → DrivesBy plain manner v before after (Ok end) → after.output.failed ≡ before.output.failed
@@ -93,6 +109,14 @@ at_end (Err e) f = tt
 pub unfailed_at_end : (manner : Manner) (v : VerifiedPlan) (before after : Streams) (outcome : Result DriveEnd DriveFault) (end : DriveEnd) → outcome ≡ Ok end → IsDriveIn manner v before after outcome
     → after.output.failed ≡ before.output.failed
 unfailed_at_end manner v before after outcome end is drove = ended manner v before after end (subst (λ (r : Result DriveEnd DriveFault). IsDriveIn manner v before after r) is drove)
+
+-- a write failed, where that is its fault
+write_failed_by : (plain : Bool) (manner : Manner) (v : VerifiedPlan) (before after : Streams) → DrivesBy plain manner v before after (Err Write) → after.output.failed ≡ true
+write_failed_by true manner v before after drove = drove.streamed.comes_to.0
+write_failed_by false manner v before after drove = drove.streamed.comes_to.0
+
+pub write_failed : (manner : Manner) (v : VerifiedPlan) (before after : Streams) (outcome : Result DriveEnd DriveFault) → outcome ≡ Err Write → IsDriveIn manner v before after outcome → after.output.failed ≡ true
+write_failed manner v before after outcome is drove = write_failed_by (is_plain manner) manner v before after (subst (λ (r : Result DriveEnd DriveFault). IsDriveIn manner v before after r) is drove)
 
 -- ---- a writer that begins
 
@@ -113,10 +137,36 @@ module _ {T : Type 0} (drives : Streams → Streams → Result T DriveFault → 
 
 -- ---- a run that goes on
 
-went_on-unfailed : (taken : TakenUp) (before after : Streams) (end : RestEnd) → IsGoneOn taken before after (Ok end) → after.output.failed ≡ before.output.failed
-went_on-unfailed taken before after end (inl cut) = (let bad : Ok end ≡ Err Write = cut.0 in absurd (cc bad))
-went_on-unfailed taken before after end (inr on) = on.streamed.comes_to.write_unfailed ∙ on.unfailed
+on-unfailed : (plain : Bool) (manner : Manner) (taken : TakenUp) (before after : Streams) (end : RestEnd) → GoesOnBy plain manner taken before after (Ok end) → after.output.failed ≡ before.output.failed
+on-unfailed true manner taken before after end (inl cut) = (let bad : Ok end ≡ Err Write = cut.0 in absurd (cc bad))
+on-unfailed true manner taken before after end (inr on) = on.streamed.comes_to.write_unfailed ∙ on.unfailed
+on-unfailed false manner taken before after end (inl cut) = (let bad : Ok end ≡ Err Write = cut.0 in absurd (cc bad))
+on-unfailed false manner taken before after end (inr on) = on.streamed.comes_to.write_unfailed ∙ on.unfailed
 
-pub unfailed_behind : (taken : TakenUp) (before after : Streams) (outcome : Result RestEnd DriveFault) (end : RestEnd) → outcome ≡ Ok end → IsGoneOn taken before after outcome
-    → after.output.failed ≡ before.output.failed
-unfailed_behind taken before after outcome end is went = went_on-unfailed taken before after end (subst (λ (r : Result RestEnd DriveFault). IsGoneOn taken before after r) is went)
+on-write_failed : (plain : Bool) (manner : Manner) (taken : TakenUp) (before after : Streams) → GoesOnBy plain manner taken before after (Err Write) → after.output.failed ≡ true
+on-write_failed true manner taken before after (inl cut) = cut.1
+on-write_failed true manner taken before after (inr on) = on.streamed.comes_to.0
+on-write_failed false manner taken before after (inl cut) = cut.1
+on-write_failed false manner taken before after (inr on) = on.streamed.comes_to.0
+
+on-memory : (plain : Bool) (manner : Manner) (taken : TakenUp) (before after : Streams) → GoesOnBy plain manner taken before after (Err Memory) → ⊥
+on-memory true manner taken before after (inl cut) = (let bad : Err Memory ≡ Err Write = cut.0 in cc bad)
+on-memory true manner taken before after (inr on) = on.streamed.comes_to
+on-memory false manner taken before after (inl cut) = (let bad : Err Memory ≡ Err Write = cut.0 in cc bad)
+on-memory false manner taken before after (inr on) = on.streamed.comes_to
+
+module _ (manner : Manner) (taken : TakenUp) (before after : Streams) (outcome : Result RestEnd DriveFault) where
+  went : (same : Result RestEnd DriveFault) → outcome ≡ same → IsGoneOnIn manner taken before after outcome → GoesOnBy (is_plain manner) manner taken before after same
+  went same is on = subst (λ (r : Result RestEnd DriveFault). IsGoneOnIn manner taken before after r) is on
+
+  -- no write has failed at its end
+  pub unfailed_behind : (end : RestEnd) → outcome ≡ Ok end → IsGoneOnIn manner taken before after outcome → after.output.failed ≡ before.output.failed
+  unfailed_behind end is on = on-unfailed (is_plain manner) manner taken before after end (went (Ok end) is on)
+
+  -- one has, where that is its fault
+  pub write_failed_behind : outcome ≡ Err Write → IsGoneOnIn manner taken before after outcome → after.output.failed ≡ true
+  write_failed_behind is on = on-write_failed (is_plain manner) manner taken before after (went (Err Write) is on)
+
+  -- memory doesn't run out in it
+  pub no_memory_behind : outcome ≡ Err Memory → IsGoneOnIn manner taken before after outcome → ⊥
+  no_memory_behind is on = on-memory (is_plain manner) manner taken before after (went (Err Memory) is on)

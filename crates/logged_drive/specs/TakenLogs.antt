@@ -38,3 +38,9 @@ abbrev pub IsOfText : TakeUpFault → Type 0
 IsOfText (Resume fault) = Unit {0}
 IsOfText (NoTornEnd lines) = Unit {0}
 IsOfText (File fault) = ⊥
+
+-- memory ran out, or the log couldn't be cut or synced
+abbrev pub IsOfDevice : TakeUpFault → Type 0
+IsOfDevice (Resume fault) = fault ≡ Memory
+IsOfDevice (NoTornEnd lines) = ⊥
+IsOfDevice (File fault) = Unit {0}

@@ -1,16 +1,20 @@
 //! A run with a log that goes on.
 
-ghost use Rattle.std.specs.Prelude.{◌≡◌, ◌⊎◌, [], false, IfOk, IfSome};
+ghost use Rattle.std.specs.Prelude.{◌≡◌, ◌⊎◌, ℕ, [], Option, Some, true, false, Err, IfOk, IfSome};
+ghost use Rattle.shop_base.specs.Plan.{PlannedShop};
+ghost use Rattle.text_lines.specs.Lines.{ended_lines};
 ghost use Rattle.byte_streams.specs.Lent.{input_of, output_of};
-ghost use Rattle.cell_drive.specs.Resuming.{IsGoneOn};
+ghost use Rattle.cell_drive.specs.TakenUp.{IsTakenUp, told_in};
+ghost use Rattle.cell_drive.specs.InManner.{IsGoneOnIn};
 ghost use Rattle.run_journal.specs.LogFiles.{IsSettled};
 ghost use Rattle.run_journal.specs.WholeLines.{whole_lines};
 ghost use Rattle.run_journal.specs.Logged.{AreBefore};
+ghost use Rattle.logged_drive.specs.CrashLaw.{IsTakenUpAfter};
 ghost use Rattle.logged_drive.specs.LoggedRuns.{IsAllInLog, IsUnbegun, KeepsShown, RunsLogged};
 
 use crate::logged_run::LoggedEnd;
 use byte_streams::{DriveFault, Outlet, Source};
-use cell_drive::{RestEnd, Taken, go_on};
+use cell_drive::{Manner, RestEnd, Taken, go_on_in};
 use run_journal::laws::a_crash_keeps_what_was_shown;
 use run_journal::{Before, LogFile, Logged};
 use std::alloc::Global;
@@ -18,18 +22,24 @@ use std::alloc::Global;
 /// Goes on with a run by a writer that keeps a log.
 fn go_on_over<R: Source, W: Outlet + Drop, D: LogFile + Drop, B: Before>(
     taken: Taken,
+    manner: Manner,
     reader: &mut R,
     logged: Logged<W, D, B>,
 ) -> LoggedEnd<RestEnd, W, D>
     requires pending { logged.pending ≡ [] }
     requires unfailed { (logged.failed ≡ false) × (logged.log_failed ≡ false) }
-    ensures went_on { RunsLogged (IsGoneOn taken) B.before (input_of R.Source reader.old) logged.taken result.end result.log_failed
+    requires start { IfSome B.before (λ told. logged.taken ≡ Some told.1) }
+    ensures went_on { RunsLogged (IsGoneOnIn manner taken) B.before (input_of R.Source reader.old) logged.taken result.end result.log_failed
         (input_of R.Source reader.new) (D.seen result.log) (D.may_leave result.log) (output_of W.Sink W.pending result.output) }
     ensures in_log { IfOk result.end (λ _. IfSome B.before (λ told.
         IsAllInLog told.0 told.1 (D.seen result.log) (D.may_leave result.log) (W.taken result.output))) }
+    ensures log_failed { result.log_failed ≡ D.failed result.log }
+    ensures output_failed { result.end ≡ Err DriveFault.Write → result.log_failed ≡ false → W.failed result.output ≡ true }
+    ensures untouched { result.end ≡ Err DriveFault.Memory → (reader.new ≡ reader.old) × AreBefore B.before (D.seen result.log) (W.taken result.output)
+        × IsSettled (D.seen result.log) (D.may_leave result.log) }
 {
     let mut writer = logged;
-    let end = go_on(taken, reader, &mut writer);
+    let end = go_on_in(taken, manner, reader, &mut writer);
     let log_failed = writer.has_log_failed();
     let (log, output) = writer.into_parts();
     LoggedEnd {
@@ -40,13 +50,14 @@ fn go_on_over<R: Source, W: Outlet + Drop, D: LogFile + Drop, B: Before>(
     }
 }
 
-/// Goes on with a run that was taken up, and whose events were told again, as [`go_on`] does, with its log. The mark, the
+/// Goes on with a run that was taken up, and whose events were told again, as [`go_on_in`] does, with its log. The mark, the
 /// orders that are due and the answers are put into it as far as a log gets them, and onto the disk, before any of it is shown.
 ///
 /// `Memory` is answered before the first byte is read or written. The log and the output are given back, whatever comes.
 pub fn go_on_logged<R: Source, W: Outlet + Drop, D: LogFile + Drop, B: Before>(
     alloc: Global,
     taken: Taken,
+    manner: Manner,
     reader: &mut R,
     log: D,
     output: W,
@@ -56,21 +67,34 @@ pub fn go_on_logged<R: Source, W: Outlet + Drop, D: LogFile + Drop, B: Before>(
     requires before { AreBefore B.before (D.seen log) (W.taken output) }
     requires whole { IfSome B.before (λ told. whole_lines told.0 ≡ told.0) }
     requires shown { W.pending output ≡ [] }
-    ensures went_on { RunsLogged (IsGoneOn taken) B.before (input_of R.Source reader.old) (W.taken output) result.end result.log_failed
+    requires unfailed { D.failed log ≡ false }
+    ensures went_on { RunsLogged (IsGoneOnIn manner taken) B.before (input_of R.Source reader.old) (W.taken output) result.end result.log_failed
         (input_of R.Source reader.new) (D.seen result.log) (D.may_leave result.log) (output_of W.Sink W.pending result.output)
         ⊎ IsUnbegun (input_of R.Source reader.old) (W.taken output) result.end result.log_failed (input_of R.Source reader.new) (output_of W.Sink W.pending result.output) }
 
     // Whatever came of it, a crash leaves all that was shown.
     ensures crash { IfSome B.before (λ told. KeepsShown told.0 told.1 (D.may_leave result.log) (W.taken result.output)) }
 
+    // From whatever it leaves of the log by which the run was taken up it is taken up again, with all events that were shown.
+    ensures taken_up { IfSome B.before (λ told. (p : PlannedShop) (at : Option ℕ) → IsTakenUp p (ended_lines told.0) at taken
+        → IsTakenUpAfter p (told_in taken) told.1 (D.may_leave result.log) (W.taken result.output)) }
+
     // At the end of the input all of it is in the log.
     ensures in_log { IfOk result.end (λ _. IfSome B.before (λ told.
         IsAllInLog told.0 told.1 (D.seen result.log) (D.may_leave result.log) (W.taken result.output))) }
+
+    // Whether it was the log that failed. Where it wasn't, and a write failed, it was the output.
+    ensures log_failed { result.log_failed ≡ D.failed result.log }
+    ensures output_failed { result.end ≡ Err DriveFault.Write → result.log_failed ≡ false → W.failed result.output ≡ true }
+
+    // Where memory ran out, the log and the output hold what they held.
+    ensures untouched { result.end ≡ Err DriveFault.Memory → (reader.new ≡ reader.old) × AreBefore B.before (D.seen result.log) (W.taken result.output)
+        × IsSettled (D.seen result.log) (D.may_leave result.log) }
 {
     // Called for its clause alone.
     a_crash_keeps_what_was_shown();
     match Logged::new(alloc, log, output, before) {
-        Ok(logged) => go_on_over(taken, reader, logged),
+        Ok(logged) => go_on_over(taken, manner, reader, logged),
         Err((error, log, output)) => LoggedEnd {
             end: Err(DriveFault::from(error)),
             log_failed: false,

@@ -3,11 +3,11 @@
 ghost use Rattle.std.specs.Prelude.{◌≡◌, ◌≤◌, List, ℕ, length, true, Some, IfOk, IfErr, IfSome, OnOk};
 ghost use Rattle.shop_base.specs.declared.limits.TheConstants.{MAX_MOMENT};
 ghost use Rattle.text_lines.specs.Lines.{ended_lines, lines_of};
-ghost use Rattle.cell_drive.specs.TakenUp.{IsTakenUp};
+ghost use Rattle.cell_drive.specs.TakenUp.{CanBeTakenUp, IsTakenUp};
 ghost use Rattle.run_journal.specs.LogFiles.{IsSettled};
 ghost use Rattle.run_journal.specs.TornEnds.{is_torn};
 ghost use Rattle.run_journal.specs.WholeLines.{torn_end, whole_lines};
-ghost use Rattle.logged_drive.specs.TakenLogs.{IsOfText, IsTakeUpFault};
+ghost use Rattle.logged_drive.specs.TakenLogs.{IsOfDevice, IsOfText, IsTakeUpFault};
 
 use crate::taken_log::TakeUpFault;
 use cell_drive::{ResumeFault, Taken, take_up};
@@ -37,6 +37,7 @@ fn take_up_text(
     ensures torn { OnOk result (is_torn (torn_end text.now) ≡ true) }
     ensures fault { IfErr result (IsTakeUpFault shaped text.now at) }
     ensures of_text { IfErr result IsOfText }
+    ensures only { CanBeTakenUp shaped (ended_lines (whole_lines text.now)) at → is_torn (torn_end text.now) ≡ true → IfErr result IsOfDevice }
 {
     let torn = is_torn_end(text.end());
     match take_up(alloc, shaped, text.lines(), at) {
@@ -80,9 +81,12 @@ pub fn take_up_log<D: LogFile>(
     ensures taken { IfOk result (IsTakenUp shaped (ended_lines (whole_lines text.now)) at) }
     ensures torn { OnOk result (is_torn (torn_end text.now) ≡ true) }
     ensures fault { IfErr result (IsTakeUpFault shaped text.now at) }
+    ensures only { CanBeTakenUp shaped (ended_lines (whole_lines text.now)) at → is_torn (torn_end text.now) ≡ true → IfErr result IsOfDevice }
     ensures untouched { IfErr result (λ fault. IsOfText fault → log.new ≡ log.old) }
     ensures cut { OnOk result (IfSome (D.seen log.old) (λ file. D.seen log.new ≡ Some (whole_lines file))) }
     ensures settled { OnOk result (IsSettled (D.seen log.new) (D.may_leave log.new)) }
+    ensures unfailed { OnOk result (D.failed log.new ≡ D.failed log.old) }
+    ensures device { IfErr result (λ fault. (IsOfText fault → ⊥) → D.failed log.new ≡ true) }
 
     // A crash at any moment leaves the same whole lines.
     ensures crash { IfSome (D.seen log.old) (λ file. (left : List ℕ) → D.may_leave log.new left → whole_lines left ≡ whole_lines file) }

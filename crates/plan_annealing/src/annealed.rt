@@ -15,9 +15,10 @@ use std::alloc::{AllocError, Global};
 /// The order of each machine in the best plan that an annealing from this one meets; `None` if this one is the best. In
 /// a neighbour of a plan two jobs that meet on a critical path have changed places, and one of the two has moved on
 /// other machines where it had to. Better is a lesser total lateness or, with the same, a lesser makespan. Every fourth
-/// round (1, 5, ..) is hotter, and all late jobs count in it. A round looks at some 20 million nodes at most, and tries
-/// no more neighbours than 50 times the square of the number of operations. Another seed or round searches elsewhere,
-/// and the same ones do the same again. It is proved only that there are as many orders as machines, or none.
+/// round (1, 5, ..) is hotter, and all late jobs count in it. The others are cooler from the third round on, if no job is
+/// late and there are more than 100 operations. A round looks at some 20 million nodes at most, and tries no more
+/// neighbours than 50 times the square of the number of operations. Another seed or round searches elsewhere, and the
+/// same ones do the same again. It is proved only that there are as many orders as machines, or none.
 pub fn annealed_orders(
     alloc: Global,
     shaped: &Shaped,
@@ -58,7 +59,7 @@ fn annealed(
     let mut pass = Pass::new(alloc, nodes)?;
     let mut moves = Moves::new(alloc, nodes)?;
     let draws = Draws::new(seed, round);
-    if !anneal(&mut net, &mut pass, &mut moves, draws, is_hot(round)) {
+    if !anneal(&mut net, &mut pass, &mut moves, draws, round) {
         return Ok(None);
     }
     let begun = match rest {
@@ -67,9 +68,4 @@ fn annealed(
     };
     let orders = orders_of(alloc, &mut net, begun, shaped.machine_count())?;
     Ok(Some(orders))
-}
-
-/// Whether a round is a hot one: every fourth one is.
-fn is_hot(round: u32) -> bool {
-    round & 3 == 1
 }

@@ -1,6 +1,7 @@
 //! Simulated annealing over the orders of the machines (Kirkpatrick, Gelatt and Vecchi, Science 220, 1983).
 
 use crate::draws::Draws;
+use crate::heat::Heat;
 use crate::moves::Moves;
 use crate::net::{NONE, Net, count};
 use crate::passing::Pass;
@@ -21,16 +22,6 @@ const NEIGHBOURS: u64 = 50;
 /// How many are drawn at most for each that may be tried.
 const DRAWS: u64 = 4;
 
-/// The temperature at the beginning, in hundredths of the mean time of a step; a hot round's is `HOT`.
-const WARM: u64 = 80;
-
-const HOT: u64 = 240;
-
-/// By what these are multiplied in each phase, in 1/65536: after all of them they are at 15 hundredths.
-const WARM_FALL: u64 = 65108;
-
-const HOT_FALL: u64 = 64830;
-
 /// The logarithm of 2, in 1/65536.
 const LOGARITHM: u64 = 45426;
 
@@ -38,8 +29,8 @@ const LOGARITHM: u64 = 45426;
 #[derive(Drop)]
 struct Walk {
     draws: Draws,
-    /// Whether the round is a hot one.
-    is_hot: bool,
+    /// How hot the round is.
+    heat: Heat,
     aim: Aim,
     /// The plan from which it goes on, and the best one that it has met.
     now: Price,
@@ -47,7 +38,7 @@ struct Walk {
     /// Whether that is better than the one that came in.
     found: bool,
     /// The temperature, in 1/65536.
-    heat: u64,
+    temperature: u64,
     /// How many neighbours were tried.
     tried: u64,
 }
@@ -59,7 +50,7 @@ pub(crate) fn anneal(
     pass: &mut Pass,
     moves: &mut Moves,
     draws: Draws,
-    is_hot: bool,
+    round: u32,
 ) -> bool {
     let all = Part {
         first: 0,
@@ -71,17 +62,18 @@ pub(crate) fn anneal(
     }
     pass.keep();
     let price = Price::of(&net.spans, &pass.rows);
+    let heat = Heat::of(round, net.steps(), price.total > 0);
     let mut walk = Walk {
         draws,
-        is_hot,
-        aim: if is_hot { Aim::Makespan } else { Aim::Budgets },
+        heat,
+        aim: first_aim(heat),
         now: price,
         least: price,
         found: false,
-        heat: first_heat(net, is_hot),
+        temperature: first_temperature(net, heat),
         tried: 0,
     };
-    net.set_rests(!is_hot);
+    net.set_rests(walk.aim == Aim::Budgets);
     pass.find_tails(&net.spots, last_place(net));
     aim_anew(net, pass, &mut walk);
     run_phases(net, pass, moves, &mut walk);
@@ -91,7 +83,7 @@ pub(crate) fn anneal(
 /// Draws neighbours while the temperature falls.
 fn run_phases(net: &mut Net, pass: &mut Pass, moves: &mut Moves, walk: &mut Walk) {
     let most = most_neighbours(net);
-    let fall = if walk.is_hot { HOT_FALL } else { WARM_FALL };
+    let fall = walk.heat.fall();
     for phase in 1..PHASES + 1 {
         let looks = (LOOKS / PHASES).wrapping_mul(phase);
         run_phase(
@@ -102,14 +94,21 @@ fn run_phases(net: &mut Net, pass: &mut Pass, moves: &mut Moves, walk: &mut Walk
             looks,
             most.wrapping_mul(phase) / PHASES,
         );
-        walk.heat = walk.heat.wrapping_mul(fall) >> 16;
+        walk.temperature = walk.temperature.wrapping_mul(fall) >> 16;
     }
 }
 
-/// The temperature at the begin, in 1/65536.
-fn first_heat(net: &Net, is_hot: bool) -> u64 {
-    let hundredths = if is_hot { HOT } else { WARM };
-    mean_time(net).wrapping_mul(hundredths) / 100
+/// What is lessened at first.
+fn first_aim(heat: Heat) -> Aim {
+    match heat {
+        Heat::Hot => Aim::Makespan,
+        _ => Aim::Budgets,
+    }
+}
+
+/// The temperature at the beginning, in 1/65536.
+fn first_temperature(net: &Net, heat: Heat) -> u64 {
+    mean_time(net).wrapping_mul(heat.beginning()) / 100
 }
 
 /// The last place in the order of the nodes.
@@ -205,7 +204,7 @@ fn try_neighbour(
 /// What the next plan may weigh: as much as this one, and more the less likely the more it is.
 fn drawn_limit(walk: &mut Walk) -> u64 {
     let drawn = walk.draws.halvings().wrapping_mul(LOGARITHM) >> 16;
-    let more = walk.heat.wrapping_mul(drawn) >> 32;
+    let more = walk.temperature.wrapping_mul(drawn) >> 32;
     walk.now.weight(walk.aim).wrapping_add(more)
 }
 
@@ -236,7 +235,7 @@ fn aim_anew(net: &mut Net, pass: &mut Pass, walk: &mut Walk) {
     if walk.least.total == 0 {
         aim_at_makespan(net, pass, walk);
     }
-    if walk.is_hot {
+    if walk.heat == Heat::Hot {
         pass.find_all_neighbours(net, walk.now.longest);
     } else {
         pass.find_neighbours(&net.spots, walk.now.leaving(walk.aim));

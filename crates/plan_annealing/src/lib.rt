@@ -6,6 +6,7 @@ mod annealed;
 mod annealing;
 mod draws;
 mod estimate;
+mod heat;
 mod moves;
 mod neighbours;
 mod net;

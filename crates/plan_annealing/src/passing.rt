@@ -7,7 +7,7 @@
 
 use crate::neighbours::Neighbours;
 use crate::net::{NONE, Net, Spot, count, spot_at};
-use crate::timing::{Look, OFF, Old, Part, Row, head_in, tail_of, time};
+use crate::timing::{Look, OFF, Old, Part, Row, find_tails, head_in, node_at, time, time_from};
 use shop_base::Moment;
 use std::alloc::{AllocError, Global};
 
@@ -93,57 +93,32 @@ impl Pass {
 
     /// Finds the moments after that part.
     pub fn go_on(&mut self, spots: &[Spot]) {
-        let free = Part {
-            first: 0,
-            last: NONE,
-            limit: Moment::MAX,
-        };
-        for place in self.part.last.wrapping_add(1)..count(self.order.len()) {
-            let at = self.node_at(place);
-            time(
-                spots,
-                &mut self.rows,
-                &mut self.olds,
-                self.timed,
-                at,
-                NONE,
-                free,
-            );
-            self.timed = self.timed.wrapping_add(1);
-        }
+        self.timed = time_from(
+            spots,
+            &self.order,
+            self.part.last.wrapping_add(1),
+            &mut self.rows,
+            &mut self.olds,
+            self.timed,
+        );
         let looks = self.timed.wrapping_sub(self.changed);
         self.looks = self.looks.wrapping_add(u64::from(looks));
     }
 
     /// Finds how long the paths from the nodes up to this place are, if the later nodes' are known.
     pub fn find_tails(&mut self, spots: &[Spot], last: u32) {
-        for turn in 0..last.wrapping_add(1) {
-            let at = self.node_at(last.wrapping_sub(turn));
-            let tail = tail_of(spots, &self.rows, at);
-            if let Some(row) = self.rows.get_mut(at as usize) {
-                row.tail = tail;
-            }
-        }
+        find_tails(spots, &self.order, &mut self.rows, last);
         self.looks = self.looks.wrapping_add(u64::from(last)).wrapping_add(1);
-    }
-
-    /// The node at a place in the order.
-    #[inline(always)]
-    fn node_at(&self, place: u32) -> u32 {
-        match self.order.get(place as usize) {
-            Some(at) => *at,
-            None => NONE,
-        }
     }
 
     /// Looks at the node at a place, and at those that have waited for it. Whether nothing is past the limit.
     #[inline(always)]
     fn look(&mut self, spots: &[Spot], place: u32, part: Part) -> bool {
-        let at = self.node_at(place);
+        let at = node_at(&self.order, place);
         let from = self.timed;
         match time(spots, &mut self.rows, &mut self.olds, from, at, place, part) {
             Look::Waits => {
-                self.put_off(at);
+                self.put_off(at, place);
                 true
             }
             Look::Timed => {
@@ -157,10 +132,10 @@ impl Pass {
         }
     }
 
-    /// Puts the node off.
-    fn put_off(&mut self, at: u32) {
+    /// Puts the node at this place off.
+    fn put_off(&mut self, at: u32, place: u32) {
         if let Some(row) = self.rows.get_mut(at as usize) {
-            row.place |= OFF;
+            row.place = place | OFF;
         }
         if let Some(place) = self.off.get_mut(self.off_count as usize) {
             *place = at;
@@ -179,22 +154,27 @@ impl Pass {
                 Some(old) => spot_at(spots, old.node),
                 None => return true,
             };
-            if !self.look_again(spots, spot.next, place, part) {
+            if self.is_off(spot.next) && !self.look_again(spots, spot.next, place, part) {
                 return false;
             }
-            if !self.look_again(spots, spot.target, place, part) {
+            if self.is_off(spot.target) && !self.look_again(spots, spot.target, place, part) {
                 return false;
             }
         }
         true
     }
 
+    /// Whether the node is put off.
+    #[inline(always)]
+    fn is_off(&self, at: u32) -> bool {
+        match self.rows.get(at as usize) {
+            Some(row) => row.place >= OFF,
+            None => false,
+        }
+    }
+
     /// Looks again at a node that was put off. Whether nothing is past the limit.
     fn look_again(&mut self, spots: &[Spot], at: u32, place: u32, part: Part) -> bool {
-        match self.rows.get(at as usize) {
-            Some(row) if row.place >= OFF => (),
-            _ => return true,
-        }
         let timed = self.timed;
         match time(
             spots,
@@ -208,6 +188,7 @@ impl Pass {
             Look::Waits => true,
             Look::Timed => {
                 self.timed = timed.wrapping_add(1);
+                self.put_on(at);
                 self.waiting = self.waiting.wrapping_sub(1);
                 true
             }
@@ -237,7 +218,7 @@ impl Pass {
 
     /// Takes the last pass back.
     pub fn undo(&mut self) {
-        self.put_on();
+        self.put_all_on();
         for turn in 0..self.timed {
             if let Some(old) = self.olds.get(turn as usize) {
                 if let Some(row) = self.rows.get_mut(old.node as usize) {
@@ -249,13 +230,20 @@ impl Pass {
     }
 
     /// Lets no node be put off any more.
-    fn put_on(&mut self) {
+    fn put_all_on(&mut self) {
         for turn in 0..self.off_count {
-            if let Some(at) = self.off.get(turn as usize) {
-                if let Some(row) = self.rows.get_mut(*at as usize) {
-                    row.place &= !OFF;
-                }
-            }
+            let at = match self.off.get(turn as usize) {
+                Some(at) => *at,
+                None => NONE,
+            };
+            self.put_on(at);
+        }
+    }
+
+    /// Lets the node no longer be put off.
+    fn put_on(&mut self, at: u32) {
+        if let Some(row) = self.rows.get_mut(at as usize) {
+            row.place &= !OFF;
         }
     }
 

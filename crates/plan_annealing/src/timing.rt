@@ -1,6 +1,6 @@
 //! A node's moment, from the moments of the nodes before it.
 
-use crate::net::{NONE, Spot, spot_at};
+use crate::net::{NONE, Spot, count, spot_at};
 use shop_base::Moment;
 
 /// Added to the place of a node that is put off: it is after all places then.
@@ -99,7 +99,6 @@ pub(crate) fn time(
         }
         row.head = head;
         row.before = before;
-        row.place &= !OFF;
     }
     if head.wrapping_add(rest) > part.limit {
         Look::Late
@@ -111,35 +110,84 @@ pub(crate) fn time(
 /// The greatest length that is known of a path from a node: along its job, or on from a node after the last place.
 #[inline(always)]
 fn known_rest(spots: &[Spot], rows: &[Row], spot: &Spot, last: u32) -> Moment {
-    let along = spot_at(spots, spot.next)
-        .lag
-        .wrapping_add(tail_behind(rows, spot.next, last));
-    let across = spot_at(spots, spot.target)
-        .clean
-        .wrapping_add(tail_behind(rows, spot.target, last));
+    let along = match rows.get(spot.next as usize) {
+        Some(row) if is_behind(row.place, last) => {
+            spot_at(spots, spot.next).lag.wrapping_add(row.tail)
+        }
+        _ => 0,
+    };
+    let clean = spot_at(spots, spot.target).clean;
+    let across = match rows.get(spot.target as usize) {
+        Some(row) if is_behind(row.place, last) => clean.wrapping_add(row.tail),
+        _ => clean,
+    };
     spot.rest.max(along).max(across)
 }
 
-/// The greatest length of a path from a node after the last place, 0 for another node.
+/// Whether a node with this place comes after the last place, and isn't put off.
 #[inline(always)]
-fn tail_behind(rows: &[Row], at: u32, last: u32) -> Moment {
-    match rows.get(at as usize) {
-        Some(row) if row.place > last && row.place < OFF => row.tail,
-        _ => 0,
+fn is_behind(place: u32, last: u32) -> bool {
+    let first = last.wrapping_add(1);
+    place.wrapping_sub(first) < OFF.wrapping_sub(first)
+}
+
+/// Finds the moments of the nodes from a place on, if the nodes before it have theirs. What their rows were goes to the
+/// old ones from this turn on. Gives the turn after the last of these.
+pub(crate) fn time_from(
+    spots: &[Spot],
+    order: &[u32],
+    first: u32,
+    rows: &mut [Row],
+    olds: &mut [Old],
+    turn: u32,
+) -> u32 {
+    let free = Part {
+        first: 0,
+        last: NONE,
+        limit: Moment::MAX,
+    };
+    let mut turn = turn;
+    for place in first..count(order.len()) {
+        time(spots, rows, olds, turn, node_at(order, place), NONE, free);
+        turn = turn.wrapping_add(1);
+    }
+    turn
+}
+
+/// The node at a place in the order.
+#[inline(always)]
+pub(crate) fn node_at(order: &[u32], place: u32) -> u32 {
+    match order.get(place as usize) {
+        Some(at) => *at,
+        None => NONE,
+    }
+}
+
+/// Finds how long the paths from the nodes up to this place are, if the later nodes' are known.
+pub(crate) fn find_tails(spots: &[Spot], order: &[u32], rows: &mut [Row], last: u32) {
+    for turn in 0..last.wrapping_add(1) {
+        let at = node_at(order, last.wrapping_sub(turn));
+        if let Some(spot) = spots.get(at as usize) {
+            let tail = tail_of(spots, rows, spot);
+            if let Some(row) = rows.get_mut(at as usize) {
+                row.tail = tail;
+            }
+        }
     }
 }
 
 /// The greatest length of a path from a node, by the lengths from the nodes after it.
 #[inline(always)]
-pub(crate) fn tail_of(spots: &[Spot], rows: &[Row], at: u32) -> Moment {
-    let spot = spot_at(spots, at);
-    let along = spot_at(spots, spot.next)
-        .lag
-        .wrapping_add(tail_in(rows, spot.next));
-    let across = spot_at(spots, spot.target)
-        .clean
-        .wrapping_add(tail_in(rows, spot.target));
-    spot.rest.max(along).max(across)
+fn tail_of(spots: &[Spot], rows: &[Row], spot: &Spot) -> Moment {
+    let along = match rows.get(spot.next as usize) {
+        Some(row) => spot_at(spots, spot.next).lag.wrapping_add(row.tail),
+        None => spot.rest,
+    };
+    let across = match rows.get(spot.target as usize) {
+        Some(row) => spot_at(spots, spot.target).clean.wrapping_add(row.tail),
+        None => 0,
+    };
+    along.max(across)
 }
 
 /// The greatest length of a path from the node in the kept rows.

@@ -91,7 +91,7 @@ module _ (p : PlannedShop) (c new : Cell) (j t : ℕ) (shaped : IsWellShaped p) 
       omega (arith, departures_on p c j k m shaped sound on, departures_free p new m (left_free k m on), ap length (change.not_entered m (away k m on)))
 
   -- as many have left any other
-  no_more : (m : ℕ) → ((k : ℕ) → IsOn p c j k m → ⊥) → departures p new m ≡ departures p c m
+  pub no_more : (m : ℕ) → ((k : ℕ) → IsOn p c j k m → ⊥) → departures p new m ≡ departures p c m
   no_more m elsewhere = elim (visits_or_not p j (made c j) m) [
     | inl next ↦ (let on : IsOn p new j (made c j) m = record { entered = change.made_mine; visits = next } in
         omega (arith, departures_free p c m (target_free p c j t m can next).0, departures_on p new j (made c j) m shaped sound_new on, ap length (change.entered m next), length-append (entries c m) (j ∷ [])))
@@ -107,7 +107,7 @@ module _ (p : PlannedShop) (c new : Cell) (j t : ℕ) (shaped : IsWellShaped p) 
           gone_by : (k : ℕ) → IsOn p new j k m → ⊥
           gone_by k on = let same : k ≡ made c j = omega (arith, on.entered, change.made_mine) in off (rw same at on.visits)
 
-  some_going : (s : Option ℕ) → s ≡ Some t → ◌≡◌ {A = ℕ} (if is_some s then 1 else 0) 1
+  pub some_going : (s : Option ℕ) → s ≡ Some t → ◌≡◌ {A = ℕ} (if is_some s then 1 else 0) 1
   some_going s is = ap {B = ℕ} (λ x. if is_some x then 1 else 0) is
 
   pub move_before : IsBefore p c new

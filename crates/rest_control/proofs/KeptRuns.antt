@@ -327,7 +327,7 @@ module _ (p q : PlannedShop) (c d : Cell) (shaped_p : IsWellShaped p) (shaped : 
         ]
 
   -- an event that can happen can by the other plan, and carries the cell on
-  event_kept : (e : Event) → CanHappen p c e → KeepsSoFar p (after p c e) q → CanHappen q d e × IsCarried p (after p c e) q (after q d e)
+  pub event_kept : (e : Event) → CanHappen p c e → KeepsSoFar p (after p c e) q → CanHappen q d e × IsCarried p (after p c e) q (after q d e)
   event_kept (Reported r) can after = report_kept r.ended r.at can after
   event_kept (Moved o) (obeys, keeps_plan) after = (
     (
@@ -348,7 +348,7 @@ kept_events p q c d (e ∷ es) shaped_p shaped sound (can, events) keeps carried
     let (later, end) = kept_events p q (after p c e) (after q d e) es shaped_p shaped sound_after events keeps carried_after in
     ((can_there, later), end)
 
-start_carried : (p q : PlannedShop) → IsCarried p (start p) q (start q)
+pub start_carried : (p q : PlannedShop) → IsCarried p (start p) q (start q)
 start_carried p q = record {
   job_count = length-replicate (jobs q) awaited;
   machine_count = length-replicate (machines q) unused;

@@ -8,4 +8,5 @@ pub mod CarriedTables
 pub mod KeptSoFar
 pub mod KeptBefore
 pub mod KeptRuns
+pub mod KeptByBoth
 pub mod HandOverLaws

@@ -4,7 +4,7 @@
 // A function's contract is the law; its body does nothing, or only calls what says that the law's premise holds of a controller.
 
 ghost use Rattle.rest_control.specs.RestPromises.{RestNeverGoesWrong, CallsGoOn, CallsMakeTheRun};
-ghost use Rattle.rest_control.specs.KeptLaw.{AKeptRunIsOneOfTheOtherPlan};
+ghost use Rattle.rest_control.specs.KeptLaw.{AKeptRunIsOneOfTheOtherPlan, ARunOfBothPlansIsKept};
 ghost use Rattle.rest_control.specs.HandOverLaw.{AHandedOverRunIsOneRun};
 
 use crate::rest_controller::RestController;
@@ -30,6 +30,13 @@ pub fn calls_go_on()
 /// same cell as one of that plan. So a controller that is handed over goes on with a run of the plan that it then has.
 pub fn a_kept_run_is_one_of_the_other_plan()
     ensures { AKeptRunIsOneOfTheOtherPlan }
+{}
+
+/// A run of two plans keeps the other one, as far as the cell at its end shows. So a controller isn't refused to a plan of which
+/// its run is one, except where that plan has a cleaning time for a machine that had none and that a job has left: the cell
+/// doesn't tell when.
+pub fn a_run_of_both_plans_is_kept()
+    ensures { ARunOfBothPlansIsKept }
 {}
 
 /// The calls of a new controller of an accepted plan make the controlled run of their reports. All were punctual exactly

@@ -1,4 +1,4 @@
-ghost use Rattle.std.specs.Prelude.{◌≡◌, ◌+◌, ◌<◌, ◌≤◌, ◌↔◌, List, [], max, length, OnOk, IfOk, IfErr, IsOk, IsTrue, MatchOption};
+ghost use Rattle.std.specs.Prelude.{◌≡◌, ◌+◌, ◌<◌, ◌≤◌, ◌↔◌, false, List, [], max, length, OnOk, IfOk, IfErr, IsOk, IsTrue, MatchOption};
 ghost use Rattle.shop_base.specs.Plan.{jobs, machines};
 ghost use Rattle.shop_base.specs.Report.{CanReport, IsNextMoment};
 ghost use Rattle.shop_base.specs.Run.{Event};
@@ -10,7 +10,7 @@ ghost use Rattle.rest_times.specs.Rest.{AreOrderedAhead};
 ghost use Rattle.cell_tables.specs.Reports.{said};
 ghost use Rattle.cell_tables.specs.Readings.{IsCleanedFor};
 ghost use Rattle.cell_control.specs.Reports.{IsFirstReason, IsOnlyReason, CanCleanAfter, IsFirstCleanReason, IsOnlyCleanReason};
-ghost use Rattle.cell_control.specs.Readings.{IsPhaseOf, IsJobOn, IsDueOf, IsDueOfCleaning};
+ghost use Rattle.cell_control.specs.Readings.{IsPhaseOf, IsJobOn, IsDueOf, IsDueOfCleaning, IsOnTime};
 ghost use Rattle.rest_control.specs.RestControl.{RestControl, IsBegun, IsRestAnswered, IfRestEndsNow, IsRestControl, rest_of};
 ghost use Rattle.rest_control.specs.RestFaults.{IsRestFault};
 ghost use Rattle.rest_control.specs.RestPromises.{IsRestCalled};
@@ -26,7 +26,7 @@ use crate::settling::settle;
 use alt_graph::Times;
 use cell_control::{
     Ack, Controller, Dues, Orders, Parts, Phase, Report, ReportFault, check_cleaning_after,
-    check_report, make_step, phase_of,
+    check_report, is_past_due, make_step, phase_of,
 };
 use cell_tables::WorkCell;
 use rest_times::leave_time_after;
@@ -284,6 +284,13 @@ impl<D: Dues> RestController<D> {
         } else {
             None
         }
+    }
+
+    /// Whether something that is going on should have ended before this moment, so that any report would be late.
+    pub fn is_late(&self, at: Moment) -> bool
+        ensures { (result ≡ false) ↔ IsOnTime self.now.planned self.now.cell at }
+    {
+        is_past_due(&self.dues, at)
     }
 
     /// The moment of the last event.

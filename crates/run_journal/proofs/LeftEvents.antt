@@ -180,3 +180,30 @@ left_log p base shown pending left told came whole is tells_base tells_came =
         deeper.4 ∙ ap (λ t. t ++ deeper.1) (one_reading p (ended_lines (logged shown)) deeper.0 entries deeper.2 (logged_tells p shown entries tells_shown)),
       );
     }
+
+-- ---- the whole lines of a text are those that end
+
+-- a text is its whole lines, and bytes with no line feed
+whole_split : (text : List ℕ) → (torn : List ℕ) × (text ≡ whole_lines text ++ torn) × HasNone 10 torn
+whole_split [] = ([], refl, tt)
+whole_split (b ∷ text) =
+    let rest = whole_split text in
+    elim (cases_Bool (b == 10)) [
+      | inl feed ↦ (rest.0, rw feed (ap (λ l. b ∷ l) rest.1), rest.2)
+      | inr other ↦ behind other (whole_lines text) rest.0 rest.1 rest.2
+    ]
+  where
+    behind : (b == 10) ≡ false → (whole torn : List ℕ) → text ≡ whole ++ torn → HasNone 10 torn → (torn : List ℕ) × (b ∷ text ≡ (if b == 10 then b ∷ whole else before_any b whole) ++ torn) × HasNone 10 torn
+    behind other [] torn split none = (b ∷ torn, rw other (ap (λ l. b ∷ l) split), (other, none))
+    behind other (w ∷ whole) torn split none = (torn, rw other (ap (λ l. b ∷ l) split), none)
+
+none_ends : (front bytes : List ℕ) → HasNone 10 bytes → ended_behind front bytes ≡ []
+none_ends front [] none = refl
+none_ends front (b ∷ bytes) none = rw none.0 (none_ends (front ++ b ∷ []) bytes none.1)
+
+pub ended_whole : (text : List ℕ) → ended_lines (whole_lines text) ≡ ended_lines text
+ended_whole text =
+    let split = whole_split text in
+    let whole = whole_lines text in
+    ended_is [] whole tt ∙ sym (append-nil (ended_behind [] whole)) ∙ ap (λ l. ended_behind [] whole ++ l) (sym (none_ends (line_after [] whole) split.0 split.2))
+    ∙ sym (ended-append [] whole split.0) ∙ ap (ended_behind []) (sym split.1) ∙ sym (ended_is [] text tt)

@@ -4,5 +4,7 @@ mod Whole
 mod Fronts
 mod Steps
 mod CrashLines
-mod LeftEvents
+pub mod LeftEvents
 mod TornEnds
+pub mod Formed
+pub mod FormedLines

@@ -61,7 +61,7 @@ added-append : (line xs ys : List ℕ) → added line (xs ++ ys) ≡ added line 
 added-append line [] ys = refl
 added-append line (x ∷ xs) ys = ap (λ l. more line x ++ l) (added-append (line_behind line x) xs ys) ∙ sym (append_assoc (more line x) (added (line_behind line x) xs) (added (line_after (line_behind line x) xs) ys))
 
-line_after-append : (line xs ys : List ℕ) → line_after line (xs ++ ys) ≡ line_after (line_after line xs) ys
+pub line_after-append : (line xs ys : List ℕ) → line_after line (xs ++ ys) ≡ line_after (line_after line xs) ys
 line_after-append line [] ys = refl
 line_after-append line (x ∷ xs) ys = line_after-append (line_behind line x) xs ys
 

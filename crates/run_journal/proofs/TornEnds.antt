@@ -13,13 +13,18 @@ use Rattle.cell_tables.specs.declared.report.Report.TheVariants.{Arrive, Finish,
 use Rattle.cell_tables.specs.declared.entry.Entry.{Entry}
 use Rattle.cell_tables.specs.declared.entry.Entry.TheVariants.{Report as ReportEntry, Order as OrderEntry}
 use Rattle.event_lines.specs.Words.{Word, written, words_before, line_of}
-use Rattle.event_lines.specs.EventLines.{spot_word, told_words, order_words, entry_words, entry_line}
-use Rattle.event_lines.specs.AnswerLines.{late_words, late_line}
+use Rattle.event_lines.specs.EventLines.{spot_word, told_words, order_words, entry_words}
+use Rattle.cell_tables.specs.declared.standing.Standing.{Standing}
+use Rattle.cell_tables.specs.declared.standing.Standing.TheVariants.{Awaited, Outside, Worked, Done, Gone, Cleaned, Clean as CleanMachine}
+use Rattle.cell_tables.specs.Standings.{is_overdue}
+use Rattle.event_lines.specs.declared.details.Overdue.{Overdue}
+use Rattle.event_lines.specs.AnswerLines.{late_words}
+use Rattle.event_lines.specs.StandingLines.{others_words, late_overdue_words}
 use Rattle.event_lines.specs.ReadBack.{IsFitting, AreFitting}
 use Rattle.event_lines.proofs.WrittenWords.{before-append}
 use Rattle.run_journal.specs.LogFiles.{zeros}
 use Rattle.run_journal.proofs.Starts.{any-kept}
-use Rattle.run_journal.specs.TornEnds.{stands_for, goes_on, begins_report, begins_order, begins_late, without_zeros, is_torn, UnwrittenLinesAreTorn}
+use Rattle.run_journal.specs.TornEnds.{stands_for, goes_on, begins_report, begins_order, begins_late, without_zeros, begins_line, is_torn, UnwrittenLinesAreTorn}
 
 -- ---- the first bytes of bytes
 
@@ -141,6 +146,62 @@ begun_order at job Out Out t j s d = or-right _ _ (
 begun_late : (at : ℕ) → at < 2 ^ 64 → begins_late (words_before (late_words at) []) ≡ true
 begun_late at small = or-left _ _ (or-left _ _ (number_on at (codes " job # arrives # and # more") [] small refl))
 
+-- behind the words of what is overdue, others may be told
+abbrev others_text : ℕ → List ℕ
+others_text zero = []
+others_text (suc k) = 32 ∷ (codes "and" ++ 32 ∷ (decimal (suc k) ++ 32 ∷ (codes "more" ++ [])))
+
+others_on : (others : ℕ) → AreFitting (others_words others) → goes_on true (codes " and # more") (others_text others) ≡ true
+others_on zero fits = refl
+others_on (suc k) fits = number_on (suc k) (codes " more") (32 ∷ (codes "more" ++ [])) fits.1.0.2 refl
+
+awaited_text : (at job due others : ℕ) → words_before (late_overdue_words at (record { first = Awaited job due; others = others })) []
+    ≡ codes "late" ++ 32 ∷ (decimal at ++ 32 ∷ (codes "job" ++ 32 ∷ (decimal job ++ 32 ∷ (codes "arrives" ++ 32 ∷ (decimal due ++ others_text others)))))
+awaited_text at job due zero = refl
+awaited_text at job due (suc k) = refl
+
+worked_text : (at job machine from due others : ℕ) → words_before (late_overdue_words at (record { first = Worked job machine from due; others = others })) []
+    ≡ codes "late" ++ 32 ∷ (decimal at ++ 32 ∷ (codes "job" ++ 32 ∷ (decimal job ++ 32 ∷ (codes "on" ++ 32 ∷ (codes "machine" ++ 32 ∷ (decimal machine
+    ++ 32 ∷ (codes "since" ++ 32 ∷ (decimal from ++ 32 ∷ (codes "due" ++ 32 ∷ (decimal due ++ others_text others))))))))))
+worked_text at job machine from due zero = refl
+worked_text at job machine from due (suc k) = refl
+
+cleaned_text : (at machine job from due others : ℕ) → words_before (late_overdue_words at (record { first = Cleaned machine job from due; others = others })) []
+    ≡ codes "late" ++ 32 ∷ (decimal at ++ 32 ∷ (codes "machine" ++ 32 ∷ (decimal machine ++ 32 ∷ (codes "cleaned" ++ 32 ∷ (codes "after" ++ 32 ∷ (codes "job" ++ 32 ∷ (decimal job
+    ++ 32 ∷ (codes "since" ++ 32 ∷ (decimal from ++ 32 ∷ (codes "due" ++ 32 ∷ (decimal due ++ others_text others)))))))))))
+cleaned_text at machine job from due zero = refl
+cleaned_text at machine job from due (suc k) = refl
+
+begun_overdue : (at : ℕ) (first : Standing) (others : ℕ) → is_overdue first at ≡ true → AreFitting (late_overdue_words at (record { first = first; others = others }))
+    → begins_late (words_before (late_overdue_words at (record { first = first; others = others })) []) ≡ true
+begun_overdue at (Awaited job due) others is (_, (t, (_, (j, (_, (d, more)))))) = ap begins_late (awaited_text at job due others) ∙ or-left _ _ (or-left _ _ (
+    number_on at (codes " job # arrives # and # more") (32 ∷ (codes "job" ++ 32 ∷ (decimal job ++ 32 ∷ (codes "arrives" ++ 32 ∷ (decimal due ++ others_text others))))) t.2
+    (number_on job (codes " arrives # and # more") (32 ∷ (codes "arrives" ++ 32 ∷ (decimal due ++ others_text others))) j.2
+    (number_on due (codes " and # more") (others_text others) d.2 (others_on others more)))
+    ))
+begun_overdue at (Worked job machine from due) others is (_, (t, (_, (j, (_, (_, (m, (_, (s, (_, (d, more))))))))))) = ap begins_late (worked_text at job machine from due others) ∙ or-left _ _ (or-right _ _ (
+    number_on at (codes " job # on machine # since # due # and # more")
+    (32 ∷ (codes "job" ++ 32 ∷ (decimal job ++ 32 ∷ (codes "on" ++ 32 ∷ (codes "machine" ++ 32 ∷ (decimal machine ++ 32 ∷ (codes "since" ++ 32 ∷ (decimal from ++ 32 ∷ (codes "due" ++ 32 ∷ (decimal due ++ others_text others)))))))))) t.2
+    (number_on job (codes " on machine # since # due # and # more")
+    (32 ∷ (codes "on" ++ 32 ∷ (codes "machine" ++ 32 ∷ (decimal machine ++ 32 ∷ (codes "since" ++ 32 ∷ (decimal from ++ 32 ∷ (codes "due" ++ 32 ∷ (decimal due ++ others_text others)))))))) j.2
+    (number_on machine (codes " since # due # and # more") (32 ∷ (codes "since" ++ 32 ∷ (decimal from ++ 32 ∷ (codes "due" ++ 32 ∷ (decimal due ++ others_text others))))) m.2
+    (number_on from (codes " due # and # more") (32 ∷ (codes "due" ++ 32 ∷ (decimal due ++ others_text others))) s.2
+    (number_on due (codes " and # more") (others_text others) d.2 (others_on others more)))))
+    ))
+begun_overdue at (Cleaned machine job from due) others is (_, (t, (_, (m, (_, (_, (_, (j, (_, (s, (_, (d, more)))))))))))) = ap begins_late (cleaned_text at machine job from due others) ∙ or-right _ _ (
+    number_on at (codes " machine # cleaned after job # since # due # and # more")
+    (32 ∷ (codes "machine" ++ 32 ∷ (decimal machine ++ 32 ∷ (codes "cleaned" ++ 32 ∷ (codes "after" ++ 32 ∷ (codes "job" ++ 32 ∷ (decimal job ++ 32 ∷ (codes "since" ++ 32 ∷ (decimal from ++ 32 ∷ (codes "due" ++ 32 ∷ (decimal due ++ others_text others))))))))))) t.2
+    (number_on machine (codes " cleaned after job # since # due # and # more")
+    (32 ∷ (codes "cleaned" ++ 32 ∷ (codes "after" ++ 32 ∷ (codes "job" ++ 32 ∷ (decimal job ++ 32 ∷ (codes "since" ++ 32 ∷ (decimal from ++ 32 ∷ (codes "due" ++ 32 ∷ (decimal due ++ others_text others))))))))) m.2
+    (number_on job (codes " since # due # and # more") (32 ∷ (codes "since" ++ 32 ∷ (decimal from ++ 32 ∷ (codes "due" ++ 32 ∷ (decimal due ++ others_text others))))) j.2
+    (number_on from (codes " due # and # more") (32 ∷ (codes "due" ++ 32 ∷ (decimal due ++ others_text others))) s.2
+    (number_on due (codes " and # more") (others_text others) d.2 (others_on others more)))))
+    )
+begun_overdue at (Outside job to) others is fits = absurd (cc is)
+begun_overdue at (Done job machine to) others is fits = absurd (cc is)
+begun_overdue at (Gone job from) others is fits = absurd (cc is)
+begun_overdue at (CleanMachine machine) others is fits = absurd (cc is)
+
 -- ---- their first bytes, and zeros
 
 module _ (front rest : List ℕ) where
@@ -155,39 +216,47 @@ module _ (front rest : List ℕ) where
   less_late is = any-kept _ _ _ _ (any-kept _ _ _ _ (shorter false (codes "late # job # arrives # and # more") front rest) (shorter false (codes "late # job # on machine # since # due # and # more") front rest))
       (shorter false (codes "late # machine # cleaned after job # since # due # and # more") front rest) is
 
-abbrev begins_any : List ℕ → Bool
-begins_any bytes = begins_report bytes || begins_order bytes || begins_late bytes
-
-less : (front rest : List ℕ) → begins_any (front ++ rest) ≡ true → begins_any front ≡ true
+less : (front rest : List ℕ) → begins_line (front ++ rest) ≡ true → begins_line front ≡ true
 less front rest is = any-kept _ _ _ _ (any-kept _ _ _ _ (less_report front rest) (less_order front rest)) (less_late front rest) is
 
+-- the first bytes of such a line, with zeros behind them
+pub torn_of : (body : List ℕ) (count unwritten : ℕ) → begins_line body ≡ true → is_torn (take count body ++ zeros unwritten) ≡ true
+torn_of body count unwritten is =
+    let inner = unzeroed (take count body) unwritten in
+    let front = without_zeros (take count body ++ zeros unwritten) in
+    let whole : front ++ (inner.0 ++ drop count body) ≡ body = sym (append_assoc front inner.0 (drop count body)) ∙ ap (λ l. l ++ drop count body) inner.1 ∙ take-append-drop count body in
+    less front (inner.0 ++ drop count body) (ap begins_line whole ∙ is)
+
 -- what is left of a line without its line feed
-left_of : (words : List Word) (count unwritten : ℕ) → begins_any (words_before words []) ≡ true → count < length (line_of words) → is_torn (take count (line_of words) ++ zeros unwritten) ≡ true
+left_of : (words : List Word) (count unwritten : ℕ) → begins_line (words_before words []) ≡ true → count < length (line_of words) → is_torn (take count (line_of words) ++ zeros unwritten) ≡ true
 left_of words count unwritten is within =
     let body = words_before words [] in
     let line : line_of words ≡ body ++ 10 ∷ [] = before-append words [] (10 ∷ []) in
     let cut : take count (line_of words) ≡ take count body = ap (λ l. take count l) line ∙ take-append-le count body (10 ∷ []) (omega (arith, within, ap length line, length-append body (10 ∷ []))) in
-    let inner = unzeroed (take count (line_of words)) unwritten in
-    let front = without_zeros (take count (line_of words) ++ zeros unwritten) in
-    let whole : front ++ (inner.0 ++ drop count body) ≡ body = sym (append_assoc front inner.0 (drop count body)) ∙ ap (λ l. l ++ drop count body) (inner.1 ∙ cut) ∙ take-append-drop count body in
-    less front (inner.0 ++ drop count body) (ap begins_any whole ∙ is)
+    ap (λ l. is_torn (l ++ zeros unwritten)) cut ∙ torn_of body count unwritten is
 
-any_report : (bytes : List ℕ) → begins_report bytes ≡ true → begins_any bytes ≡ true
+any_report : (bytes : List ℕ) → begins_report bytes ≡ true → begins_line bytes ≡ true
 any_report bytes is = or-left (begins_report bytes || begins_order bytes) (begins_late bytes) (or-left (begins_report bytes) (begins_order bytes) is)
 
-any_order : (bytes : List ℕ) → begins_order bytes ≡ true → begins_any bytes ≡ true
+any_order : (bytes : List ℕ) → begins_order bytes ≡ true → begins_line bytes ≡ true
 any_order bytes is = or-left (begins_report bytes || begins_order bytes) (begins_late bytes) (or-right (begins_report bytes) (begins_order bytes) is)
 
-any_late : (bytes : List ℕ) → begins_late bytes ≡ true → begins_any bytes ≡ true
+any_late : (bytes : List ℕ) → begins_late bytes ≡ true → begins_line bytes ≡ true
 any_late bytes is = or-right (begins_report bytes || begins_order bytes) (begins_late bytes) is
 
-left_event : (entry : Entry) (count unwritten : ℕ) → AreFitting (entry_words entry) → count < length (entry_line entry) → is_torn (take count (entry_line entry) ++ zeros unwritten) ≡ true
-left_event (ReportEntry report) count unwritten fits within = left_of (told_words report) count unwritten (any_report (words_before (told_words report) []) (begun_report report fits)) within
-left_event (OrderEntry o) count unwritten fits within =
-    left_of (order_words o) count unwritten (any_order (words_before (order_words o) []) (begun_order o.at o.job o.source o.target fits.1.0.2 fits.1.1.0.2 fits.1.1.1.0 fits.1.1.1.1.0)) within
+pub event_begins : (entry : Entry) → AreFitting (entry_words entry) → begins_line (words_before (entry_words entry) []) ≡ true
+event_begins (ReportEntry report) fits = any_report (words_before (told_words report) []) (begun_report report fits)
+event_begins (OrderEntry o) fits = any_order (words_before (order_words o) []) (begun_order o.at o.job o.source o.target fits.1.0.2 fits.1.1.0.2 fits.1.1.1.0 fits.1.1.1.1.0)
 
-left_late : (at count unwritten : ℕ) → AreFitting (late_words at) → count < length (late_line at) → is_torn (take count (late_line at) ++ zeros unwritten) ≡ true
-left_late at count unwritten fits within = left_of (late_words at) count unwritten (any_late (words_before (late_words at) []) (begun_late at fits.1.0.2)) within
+pub late_begins : (at : ℕ) → AreFitting (late_words at) → begins_line (words_before (late_words at) []) ≡ true
+late_begins at fits = any_late (words_before (late_words at) []) (begun_late at fits.1.0.2)
+
+pub late_overdue_begins : (at : ℕ) (overdue : Overdue) → is_overdue overdue.first at ≡ true → AreFitting (late_overdue_words at overdue) → begins_line (words_before (late_overdue_words at overdue) []) ≡ true
+late_overdue_begins at overdue is fits = any_late (words_before (late_overdue_words at overdue) []) (begun_overdue at overdue.first overdue.others is fits)
 
 pub left_lines : UnwrittenLinesAreTorn
-left_lines = record { events = left_event; late = left_late }
+left_lines = record {
+  events = λ entry count unwritten fits within. left_of (entry_words entry) count unwritten (event_begins entry fits) within;
+  late = λ at count unwritten fits within. left_of (late_words at) count unwritten (late_begins at fits) within;
+  late_overdue = λ at count unwritten overdue is fits within. left_of (late_overdue_words at overdue) count unwritten (late_overdue_begins at overdue is fits) within;
+}

@@ -15,7 +15,7 @@ step-pushed false x [] b = refl
 step-pushed false x (y ∷ xs) b = refl
 
 -- a line feed at the end makes a text whole
-whole-push_feed : (xs : List ℕ) → whole_lines (xs ++ 10 ∷ []) ≡ xs ++ 10 ∷ []
+pub whole-push_feed : (xs : List ℕ) → whole_lines (xs ++ 10 ∷ []) ≡ xs ++ 10 ∷ []
 whole-push_feed [] = refl
 whole-push_feed (x ∷ xs) = ap (λ w. step (x == 10) x w) (whole-push_feed xs) ∙ step-pushed (x == 10) x xs 10
 

@@ -1,5 +1,6 @@
 -- Reached by public clauses: to be read and believed.
 pub mod LogFiles
+pub mod Folders
 pub mod WholeLines
 pub mod LoggedLines
 pub mod Selecting

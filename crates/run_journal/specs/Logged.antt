@@ -7,7 +7,7 @@ use Rattle.run_journal.specs.LoggedLines.{logged}
 use Rattle.run_journal.specs.Selecting.{Selected}
 use Rattle.run_journal.specs.Standings.{IsStanding, open_line}
 
--- what the output has taken, where that is told, what has come since and isn't out, whether a call has failed, and whether it was the log's
+-- what the output has taken, where that is told, what has come since and isn't out, whether a call has failed, and whether the log has
 pub record Held : Type 0 where
   pub taken : Option (List ℕ)
   pub pending : List ℕ
@@ -22,6 +22,12 @@ pub record AreInStep (base start : List ℕ) (seen : Option (List ℕ)) (may_lea
   pub output : taken ≡ Some (start ++ shown)
   pub log : failed ≡ false → seen ≡ Some (base ++ logged shown)
   pub crash : Leaves may_leave (length (base ++ logged shown)) (base ++ logged (shown ++ pending))
+
+-- it is known whether the log has failed: it hasn't where no call has, and where a call has and the log hasn't, the output has
+pub record AreFaultsKnown (failed log_failed log_has output_has : Bool) : Type 0 where
+  pub known : log_failed ≡ log_has
+  pub none : failed ≡ false → log_has ≡ false
+  pub output : failed ≡ true → log_has ≡ false → output_has ≡ true
 
 -- an output holds nothing back, unless a call of it has failed
 abbrev pub HoldsNothing : List ℕ → Bool → Type 0

@@ -3,7 +3,10 @@ use Rattle.std.specs.Prelude.{◌≡◌, ℕ, ◌<◌, ◌==◌, ◌&&◌, ◌||
 use Rattle.text_lines.specs.Numbers.{is_digit}
 use Rattle.cell_tables.specs.declared.entry.Entry.{Entry}
 use Rattle.event_lines.specs.EventLines.{entry_words, entry_line}
+use Rattle.cell_tables.specs.Standings.{is_overdue}
+use Rattle.event_lines.specs.declared.details.Overdue.{Overdue}
 use Rattle.event_lines.specs.AnswerLines.{late_words, late_line}
+use Rattle.event_lines.specs.StandingLines.{late_overdue_words, late_overdue_line}
 use Rattle.event_lines.specs.ReadBack.{AreFitting}
 use Rattle.run_journal.specs.LogFiles.{zeros}
 
@@ -39,11 +42,17 @@ abbrev pub without_zeros : List ℕ → List ℕ
 without_zeros [] = []
 without_zeros (byte ∷ bytes) = let rest = without_zeros bytes in if byte == 0 && length rest == 0 then [] else byte ∷ rest
 
--- a line that a log gets begins with these bytes, but for the zeros at their end
+-- a line that a log gets begins with these bytes
+abbrev pub begins_line : List ℕ → Bool
+begins_line bytes = begins_report bytes || begins_order bytes || begins_late bytes
+
+-- so it does with these, but for the zeros at their end
 abbrev pub is_torn : List ℕ → Bool
-is_torn end = let bytes = without_zeros end in begins_report bytes || begins_order bytes || begins_late bytes
+is_torn end = begins_line (without_zeros end)
 
 -- so it is with what is left of a line that a log gets, where its line feed isn't on the disk
 pub record UnwrittenLinesAreTorn : Type 0 where
   pub events : (entry : Entry) (count unwritten : ℕ) → AreFitting (entry_words entry) → count < length (entry_line entry) → is_torn (take count (entry_line entry) ++ zeros unwritten) ≡ true
   pub late : (at count unwritten : ℕ) → AreFitting (late_words at) → count < length (late_line at) → is_torn (take count (late_line at) ++ zeros unwritten) ≡ true
+  pub late_overdue : (at count unwritten : ℕ) (overdue : Overdue) → is_overdue overdue.first at ≡ true → AreFitting (late_overdue_words at overdue) → count < length (late_overdue_line at overdue)
+      → is_torn (take count (late_overdue_line at overdue) ++ zeros unwritten) ≡ true

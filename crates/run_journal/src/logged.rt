@@ -1,6 +1,6 @@
 //! An output whose events a log gets, on the disk, before they are shown.
 
-ghost use Rattle.std.specs.Prelude.{◌≡◌, ◌⊎◌, ◌+◌, ◌<◌, ◌≤◌, ◌++◌, [], length, take, vec_capacity, Some, false, IfOk, IfErr, IfSome, OnOk, IsTrue};
+ghost use Rattle.std.specs.Prelude.{◌≡◌, ◌⊎◌, ◌+◌, ◌<◌, ◌≤◌, ◌++◌, [], length, take, vec_capacity, Some, true, false, IfOk, IfErr, IfSome, OnErr, OnOk, IsTrue};
 ghost use Rattle.std.specs.Io.KnownBytes.{Appends};
 ghost use Rattle.run_journal.specs.LogFiles.{IsSettled, Leaves};
 ghost use Rattle.run_journal.specs.Logged.{HoldsNothing, StayInStep, AreBefore};
@@ -81,14 +81,15 @@ pub struct Logged<W: Outlet, D: LogFile, B: Before> {
 
 impl<W: Outlet, D: LogFile, B: Before> Model for Logged<W, D, B> {
     ghost use Rattle.std.specs.Prelude.{drop, vec_capacity};
-    ghost use Rattle.run_journal.specs.Logged.{Held, HoldsNothing, IsSound};
+    ghost use Rattle.run_journal.specs.Logged.{AreFaultsKnown, Held, HoldsNothing, IsSound};
 
     ghost Value = { Held };
 
-    ghost view = { λ l. record { taken = W.taken l.outlet; pending = drop l.sent l.gathered.items; failed = l.failed; log_failed = l.log_failed } };
+    ghost view = { λ l. record { taken = W.taken l.outlet; pending = drop l.sent l.gathered.items; failed = l.failed; log_failed = D.failed l.log } };
 
     ghost invariant = { λ l. IsSound B.before (D.seen l.log) (D.may_leave l.log) (W.taken l.outlet) l.gathered.items (vec_capacity l.gathered) (vec_capacity l.events) l.sent l.failed l.selection
-        × HoldsNothing (W.pending l.outlet) (W.failed l.outlet) };
+        × HoldsNothing (W.pending l.outlet) (W.failed l.outlet)
+        × AreFaultsKnown l.failed l.log_failed (D.failed l.log) (W.failed l.outlet) };
 }
 
 impl<W: Outlet + Drop, D: LogFile + Drop, B: Before> Logged<W, D, B> {
@@ -103,6 +104,7 @@ impl<W: Outlet + Drop, D: LogFile + Drop, B: Before> Logged<W, D, B> {
         requires settled { IsSettled (D.seen log) (D.may_leave log) }
         requires before { AreBefore B.before (D.seen log) (W.taken outlet) }
         requires shown { W.pending outlet ≡ [] }
+        requires unfailed { D.failed log ≡ false }
         ensures taken { IfOk result (λ logged. logged.taken ≡ W.taken outlet) }
         ensures pending { IfOk result (λ logged. logged.pending ≡ []) }
         ensures unfailed { IfOk result (λ logged. (logged.failed ≡ false) × (logged.log_failed ≡ false)) }
@@ -143,6 +145,11 @@ impl<W: Outlet + Drop, D: LogFile + Drop, B: Before> Logged<W, D, B> {
         ensures settled { self.failed ≡ false → IsSettled (D.seen result.0) (D.may_leave result.0) }
         ensures taken { W.taken result.1 ≡ self.taken }
         ensures shown { HoldsNothing (W.pending result.1) (W.failed result.1) }
+        ensures log_failed { D.failed result.0 ≡ self.log_failed }
+
+        // Where a call has failed, and the log hasn't, the output has.
+        ensures unfailed { self.failed ≡ false → self.log_failed ≡ false }
+        ensures output_failed { self.failed ≡ true → self.log_failed ≡ false → W.failed result.1 ≡ true }
     {
         let Logged {
             log,
@@ -215,12 +222,15 @@ fn is_shown_first(gathered: usize, bytes: &[u8]) -> bool
     gathered >= FULL && bytes.starts_with(b"report ")
 }
 
-/// Puts these bytes into the log, and onto the disk.
+/// Puts these bytes into the log, and onto the disk. Where there are none, nothing is done.
 fn keep<D: LogFile>(log: &mut D, bytes: &[u8]) -> Result<(), FileFault>
     requires { IsSettled (D.seen log.old) (D.may_leave log.old) }
     ensures settled { OnOk result (IsSettled (D.seen log.new) (D.may_leave log.new)) }
     ensures kept { OnOk result (IfSome (D.seen log.old) (λ file. D.seen log.new ≡ Some (file ++ bytes.now))) }
     ensures crash { IfSome (D.seen log.old) (λ file. Leaves (D.may_leave log.new) (length file) (file ++ bytes.now)) }
+    ensures none { bytes.now ≡ [] → log.new ≡ log.old }
+    ensures unfailed { OnOk result (D.failed log.new ≡ D.failed log.old) }
+    ensures failed { OnErr result (D.failed log.new ≡ true) }
 {
     if bytes.is_empty() {
         return Ok(());
@@ -236,6 +246,7 @@ fn pass_on<W: Outlet>(outlet: &mut W, bytes: &[u8], sent: &mut usize) -> Result<
     ensures all { OnOk result (sent.new ≡ length bytes.now) }
     ensures taken { Appends (W.taken outlet.old) (W.taken outlet.new) (take sent.new bytes.now) }
     ensures shown { HoldsNothing (W.pending outlet.new) (W.failed outlet.new) }
+    ensures failed { OnErr result (W.failed outlet.new ≡ true) }
 {
     while *sent < bytes.len() {
         *sent += outlet.put(&bytes[*sent..])?;

@@ -1,8 +1,9 @@
 //! The opening of a log that a crash may have left.
 
-ghost use Rattle.std.specs.Prelude.{◌≡◌, ◌≤◌, ◌↔◌, [], List, ℕ, length, take, Some, IfOk, IfSome, IsTrue, OnOk};
+ghost use Rattle.std.specs.Prelude.{◌≡◌, ◌<◌, ◌≤◌, ◌↔◌, ◌⊎◌, [], ◌∷◌, List, ℕ, length, take, Some, option_map, is_some, true, false, IfErr, IfOk, IfSome, IsTrue, OnErr, OnOk};
 ghost use Rattle.text_lines.specs.declared.limits.TheConstants.{MAX_INPUT};
 ghost use Rattle.run_journal.specs.LogFiles.{IsSettled, LeavesNoMore};
+ghost use Rattle.run_journal.specs.Folders.{held, is_named, made, with_log, with_name};
 ghost use Rattle.run_journal.specs.WholeLines.{whole_lines, torn_end};
 
 use crate::file_fault::FileFault;
@@ -69,6 +70,8 @@ pub fn read_log<D: LogFile>(alloc: Global, log: &mut D) -> Result<LogText, FileF
     ensures seen { D.seen log.new ≡ D.seen log.old }
     ensures settled { OnOk result (IsSettled (D.seen log.new) (D.may_leave log.new)) }
     ensures crash { LeavesNoMore (D.may_leave log.old) (D.may_leave log.new) }
+    ensures unfailed { OnOk result (D.failed log.new ≡ D.failed log.old) }
+    ensures too_long { IfErr result (λ fault. fault ≡ FileFault.TooLong → (D.failed log.new ≡ true) ⊎ IfSome (D.seen log.old) (λ file. MAX_INPUT < length file)) }
 {
     // A process that was killed may have left bytes that are read, but aren't on the disk yet.
     log.sync()?;
@@ -85,6 +88,10 @@ pub fn open_log<L: Logs>(
     ensures text { IfOk result (λ opened. IfSome opened (λ there. IfSome (L.Log.seen there.0) (λ file. there.1 ≡ file))) }
     ensures within { IfOk result (λ opened. IfSome opened (λ there. length there.1 ≤ MAX_INPUT)) }
     ensures settled { IfOk result (λ opened. IfSome opened (λ there. IsSettled (L.Log.seen there.0) (L.Log.may_leave there.0))) }
+    ensures unfailed { IfOk result (λ opened. IfSome opened (λ there. L.Log.failed there.0 ≡ false)) }
+    ensures told { IfOk result (λ opened. IfSome opened (λ there. IfSome (L.folder logs.old) (λ _. L.Log.seen there.0 ≡ Some there.1))) }
+    ensures found { IfOk result (λ opened. IfSome (L.folder logs.old) (λ folder. option_map (λ there. there.1) opened ≡ held folder path.now)) }
+    ensures same { L.folder logs.new ≡ L.folder logs.old }
 {
     let Some(mut log) = logs.open(path)? else {
         return Ok(None);
@@ -101,8 +108,17 @@ pub fn new_log<L: Logs>(
 ) -> Result<L::Log, FileFault>
     requires empty { IfSome opened (λ log. IfSome (L.Log.seen log) (λ file. file ≡ [])) }
     requires settled { IfSome opened (λ log. IsSettled (L.Log.seen log) (L.Log.may_leave log)) }
+    requires unfailed { IfSome opened (λ log. L.Log.failed log ≡ false) }
+    requires told { IfSome opened (λ log. IfSome (L.folder logs.old) (λ _. L.Log.seen log ≡ Some [])) }
     ensures empty { IfOk result (λ log. IfSome (L.Log.seen log) (λ file. file ≡ [])) }
     ensures settled { IfOk result (λ log. IsSettled (L.Log.seen log) (L.Log.may_leave log)) }
+    ensures unfailed { IfOk result (λ log. L.Log.failed log ≡ false) }
+    ensures told { IfOk result (λ log. IfSome (L.folder logs.old) (λ _. L.Log.seen log ≡ Some [])) }
+    ensures named { OnOk result (IfSome (L.folder logs.new) (λ folder. is_named folder path.now ≡ true)) }
+
+    // A log is made only where none was opened, and nothing else changes.
+    ensures made { OnOk result (IfSome (L.folder logs.old) (λ folder. L.folder logs.new ≡ Some (with_name path.now (with_log (is_some opened) path.now folder)))) }
+    ensures at_most { OnErr result (IfSome (L.folder logs.old) (λ folder. (L.folder logs.new ≡ Some folder) ⊎ (L.folder logs.new ≡ Some (with_log (is_some opened) path.now folder)))) }
 {
     let log = match opened {
         Some(log) => log,
@@ -118,6 +134,8 @@ pub fn cut_end<D: LogFile>(log: &mut D, text: &LogText) -> Result<(), FileFault>
     requires read { IfSome (D.seen log.old) (λ file. text.now ≡ file) }
     ensures cut { OnOk result (IfSome (D.seen log.old) (λ file. D.seen log.new ≡ Some (whole_lines file))) }
     ensures settled { OnOk result (IsSettled (D.seen log.new) (D.may_leave log.new)) }
+    ensures unfailed { OnOk result (D.failed log.new ≡ D.failed log.old) }
+    ensures failed { OnErr result (D.failed log.new ≡ true) }
 
     // A crash at any moment leaves the same whole lines.
     ensures crash { IfSome (D.seen log.old) (λ file. (left : List ℕ) → D.may_leave log.new left → whole_lines left ≡ whole_lines file) }

@@ -5,6 +5,9 @@ ghost use Rattle.run_journal.specs.TornEnds.{stands_for, begins, begins_report, 
 
 /// Whether a crash can have left these bytes after the whole lines: the beginning of some line of a report, of an order
 /// or of a late report, or nothing, and then zeros, or none.
+///
+/// Zeros before other bytes aren't taken for that, though a file system may leave them; of what stands there nothing was
+/// shown, so it may be cut off by hand.
 pub fn is_torn_end(end: &[u8]) -> bool
     ensures { result ≡ is_torn end.now }
 {

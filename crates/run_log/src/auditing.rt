@@ -9,10 +9,12 @@ ghost use Rattle.run_log.specs.Audits.{IsAudit, IsAuditFault, TellRun, room_for}
 use crate::audit_fault::AuditFault;
 use crate::audit_result::Audit;
 use crate::ended::has_ended;
+use crate::entry_room::most_entries;
 use crate::logged_run::{LoggedRun, read_log};
 use cell_tables::Entry;
 use shop_base::Shaped;
 use std::alloc::Global;
+use text_lines::line_count;
 
 /// Audits a log against a plan, which needn't be an accepted one. Empty lines and the other answers of a driven
 /// cell (`late`, `refused`, `done`, `unfinished`) are passed over. Memory is taken for as many entries as the text
@@ -23,7 +25,8 @@ pub fn audit(alloc: Global, shaped: &Shaped, text: &[u8]) -> Result<Audit, Audit
     ensures fault { IfErr result (IsAuditFault shaped.now (lines_of text.now)) }
     ensures only { TellRun shaped.now (lines_of text.now) → IfErr result (λ fault. fault ≡ AuditFault.Memory) }
 {
-    match read_log(alloc, shaped, text) {
+    let room = line_count(text).min(most_entries(shaped));
+    match read_log(alloc, shaped, text, room) {
         Ok(LoggedRun { cell, entries }) => {
             let reports = report_count(&entries);
             Ok(Audit {

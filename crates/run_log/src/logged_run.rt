@@ -1,6 +1,7 @@
 //! The run that a log records.
 
-ghost use Rattle.std.specs.Prelude.{◌≡◌, [], length, vec_capacity, IfOk, OnOk, IfErr};
+ghost use Rattle.std.specs.Prelude.{◌≡◌, ◌*◌, ◌≤◌, [], length, vec_capacity, IfOk, OnOk, IfErr};
+ghost use Rattle.shop_base.specs.Ends.{stated_number};
 ghost use Rattle.text_lines.specs.Lines.{lines_of, ended_lines};
 ghost use Rattle.event_lines.specs.LogLines.{LinesTell};
 ghost use Rattle.run_log.specs.Audits.{IsTold, IsLineFault, IsFirstBad, IsAuditFault, TellRun, fault_line, room_for};
@@ -13,7 +14,7 @@ use cell_tables::{Entry, WorkCell};
 use event_lines::{is_passed_over, told_entry};
 use shop_base::Planned;
 use std::alloc::{AllocError, Global};
-use text_lines::{ended_part, line_count, next_line};
+use text_lines::{ended_part, next_line};
 
 /// A run as far as the lines of a log that were read record it.
 #[derive(Debug, Drop)]
@@ -26,7 +27,8 @@ pub struct LoggedRun<P: Planned> {
 
 /// The run of the plan that the whole lines of a log record, and the cell at its end. What comes after the last line
 /// feed is torn, and isn't looked at. Whole lines are taken exactly if an audit keeps them, and the first fault of
-/// others is the audit's: the plan needn't be accepted, nor be the one by which the log was written.
+/// others is the audit's: the plan needn't be accepted, nor be the one by which the log was written. There is room for
+/// all entries of a run, so that it can go on.
 pub fn run_of_log<P: Planned>(
     alloc: Global,
     basis: P,
@@ -38,41 +40,44 @@ pub fn run_of_log<P: Planned>(
     ensures told { IfOk result (λ run. IsTold (P.planned basis) run.cell.cell run.entries.items) }
     ensures fault { IfErr result (IsAuditFault (P.planned basis) (ended_lines text.now)) }
     ensures only { TellRun (P.planned basis) (ended_lines text.now) → IfErr result (λ fault. fault ≡ AuditFault.Memory) }
+    ensures room { IfOk result (λ run. vec_capacity run.entries ≡ 2 * stated_number (P.planned basis)) }
 {
-    read_log(alloc, basis, ended_part(text))
+    let room = most_entries(basis.shaped());
+    read_log(alloc, basis, ended_part(text), room)
 }
 
-/// The run that the log records, if all its lines record one.
+/// The run that the log records, if all its lines record one. It has room for so many entries.
 pub(crate) fn read_log<P: Planned>(
     alloc: Global,
     basis: P,
     text: &[u8],
+    room: usize,
 ) -> Result<LoggedRun<P>, AuditFault>
+    requires { room_for (P.planned basis) (lines_of text.now) ≤ room }
     ensures basis { IfOk result (λ run. run.cell.basis ≡ basis) }
     ensures plan { IfOk result (λ run. run.cell.plan ≡ P.planned basis) }
     ensures told { IfOk result (λ run. IsTold (P.planned basis) run.cell.cell run.entries.items) }
     ensures tells { IfOk result (λ run. LinesTell (P.planned basis) (lines_of text.now) run.entries.items) }
-    ensures room { IfOk result (λ run. vec_capacity run.entries ≡ room_for (P.planned basis) (lines_of text.now)) }
+    ensures room { IfOk result (λ run. vec_capacity run.entries ≡ room) }
     ensures fault { IfErr result (IsAuditFault (P.planned basis) (lines_of text.now)) }
 {
-    let mut run = LoggedRun::start(alloc, basis, text)?;
+    let mut run = LoggedRun::with_room(alloc, basis, room)?;
     run.take_lines(text)?;
     Ok(run)
 }
 
 impl<P: Planned> LoggedRun<P> {
-    /// A run with no entry yet, with room for the entries that the lines of the text can record.
-    pub(crate) fn start(alloc: Global, basis: P, text: &[u8]) -> Result<LoggedRun<P>, AllocError>
+    /// A run with no entry yet, with room for so many.
+    fn with_room(alloc: Global, basis: P, room: usize) -> Result<LoggedRun<P>, AllocError>
         ensures basis { IfOk result (λ run. run.cell.basis ≡ basis) }
         ensures plan { IfOk result (λ run. run.cell.plan ≡ P.planned basis) }
         ensures told { IfOk result (λ run. IsTold run.cell.plan run.cell.cell []) }
         ensures empty { IfOk result (λ run. run.entries.items ≡ []) }
-        ensures room { IfOk result (λ run. vec_capacity run.entries ≡ room_for (P.planned basis) (lines_of text.now)) }
+        ensures room { IfOk result (λ run. vec_capacity run.entries ≡ room) }
     {
         match WorkCell::start(alloc, basis) {
             Ok(cell) => {
-                let most = most_entries(cell.shaped());
-                let entries = Vec::with_capacity(alloc, line_count(text).min(most))?;
+                let entries = Vec::with_capacity(alloc, room)?;
                 Ok(LoggedRun { cell, entries })
             }
             Err(refused) => Err(refused.0),
@@ -80,10 +85,10 @@ impl<P: Planned> LoggedRun<P> {
     }
 
     /// Takes the lines of the text one after another.
-    pub(crate) fn take_lines(&mut self, text: &[u8]) -> Result<(), AuditFault>
+    fn take_lines(&mut self, text: &[u8]) -> Result<(), AuditFault>
         requires told { IsTold self.old.cell.plan self.old.cell.cell [] }
         requires empty { self.old.entries.items ≡ [] }
-        requires room { vec_capacity self.old.entries ≡ room_for self.old.cell.plan (lines_of text.now) }
+        requires room { room_for self.old.cell.plan (lines_of text.now) ≤ vec_capacity self.old.entries }
         ensures same_basis { OnOk result (self.new.cell.basis ≡ self.old.cell.basis) }
         ensures same_plan { OnOk result (self.new.cell.plan ≡ self.old.cell.plan) }
         ensures told { OnOk result (IsTold self.old.cell.plan self.new.cell.cell self.new.entries.items) }

@@ -36,6 +36,13 @@ impl RunLog {
         Ok(RunLog { entries })
     }
 
+    /// The log of these entries. It has the room that was reserved for them.
+    pub fn of_entries(entries: Vec<Entry>) -> RunLog
+        ensures { result ≡ record { entries = entries.items; reserved = vec_capacity entries } }
+    {
+        RunLog { entries }
+    }
+
     /// Notes an accepted report.
     pub fn note_report(&mut self, report: Report) -> Result<(), LogFault>
         ensures noted { OnOk result (Notes self.old self.new (Entry.Report report ∷ [])) }

@@ -16,7 +16,7 @@ use Rattle.clap.specs.declared.builder.action.ArgAction.TheVariants.{Set, SetTru
 use Rattle.clap.specs.declared.builder.value_parser.ValueParser.{ValueParser}
 use Rattle.clap.specs.declared.builder.value_parser.ValueParser.TheVariants.{Signed}
 use Rattle.clap.proofs.ValueTestLemmas.{accepts-Accepts}
-use Rattle.command_words.specs.CommandLine.{option_rule, command, command_line, driven_rules, hub_rules, log_command, plan_command, rest_command, described, most_rounds, greatest_seed, rounds_rule, seed_rule, svg_rule}
+use Rattle.command_words.specs.CommandLine.{option_rule, command, command_line, driven_rules, hub_rules, kept_rules, log_command, plan_command, rest_command, described, most_rounds, greatest_seed, rounds_rule, seed_rule, svg_rule}
 use Rattle.command_words.specs.Choice.{FitsUpTo, Found, IsFit, TakesFiles, TellsOneOf, TellsReason, files_in, found_in, parse_reasons_in, values_of, word_of}
 use Rattle.command_words.specs.declared.words.CommandName.{CommandName}
 use Rattle.command_words.specs.declared.words.CommandName.TheVariants.{Facts, Shape as ShapeName, Check, Explain, Schedule, Bounds, Plan, Improve, Drive, Resume, Hub, Audit, Gantt}
@@ -169,8 +169,8 @@ rest_fits name named is counts = fits_leaf (as_built (rest_command name [])) nam
 )
     (_, refl, refl, refl, refl, refl) (_, refl, refl, refl, refl, refl) refl tt tt counts
 
-drive_fits : FitsLeaf (as_built (plan_command (codes "drive") driven_rules))
-drive_fits = fits_leaf (as_built (plan_command (codes "drive") driven_rules)) Drive one one none refl refl refl (
+drive_fits : FitsLeaf (as_built (plan_command (codes "drive") kept_rules))
+drive_fits = fits_leaf (as_built (plan_command (codes "drive") kept_rules)) Drive one one none refl refl refl (
   set_plain _ _ refl refl refl refl,
   (
     set_plain _ _ refl refl refl refl,
@@ -180,7 +180,13 @@ drive_fits = fits_leaf (as_built (plan_command (codes "drive") driven_rules)) Dr
         set_plain _ _ refl refl refl refl,
         (
           set_plain _ _ refl refl refl refl,
-          (help_plain _ _ refl refl refl refl, tt),
+          (
+            set_plain _ _ refl refl refl refl,
+            (
+              set_plain _ _ refl refl refl refl,
+              (help_plain _ _ refl refl refl refl, tt),
+            ),
+          ),
         ),
       ),
     ),
@@ -240,8 +246,8 @@ drawing_fits = fits_leaf (as_built (log_command (codes "gantt") (svg_rule ∷ []
 )
     (_, refl, refl, refl, refl, refl) (_, refl, refl, refl, refl, refl) (_, refl, refl, refl, refl, refl) tt tt (λ x y z p q r. omega arith)
 
-resumed_fits : FitsLeaf (as_built (log_command (codes "resume") (option_rule (codes "at") ∷ [])))
-resumed_fits = fits_leaf (as_built (log_command (codes "resume") (option_rule (codes "at") ∷ []))) Resume one one one refl refl refl (
+resumed_fits : FitsLeaf (as_built (log_command (codes "resume") (option_rule (codes "at") ∷ driven_rules)))
+resumed_fits = fits_leaf (as_built (log_command (codes "resume") (option_rule (codes "at") ∷ driven_rules))) Resume one one one refl refl refl (
   set_plain _ _ refl refl refl refl,
   (
     set_plain _ _ refl refl refl refl,
@@ -249,7 +255,16 @@ resumed_fits = fits_leaf (as_built (log_command (codes "resume") (option_rule (c
       set_plain _ _ refl refl refl refl,
       (
         set_plain _ _ refl refl refl refl,
-        (set_plain _ _ refl refl refl refl, (help_plain _ _ refl refl refl refl, tt)),
+        (
+          set_plain _ _ refl refl refl refl,
+          (
+            set_plain _ _ refl refl refl refl,
+            (
+              set_plain _ _ refl refl refl refl,
+              (help_plain _ _ refl refl refl refl, tt),
+            ),
+          ),
+        ),
       ),
     ),
   ),

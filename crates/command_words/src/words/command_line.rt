@@ -10,7 +10,7 @@ use clap::{Arg, ArgAction, Command};
 use std::alloc::{AllocError, Global};
 
 /// The version of the program, the same as in the file `VERSION`.
-const VERSION: &str = "1.1.0";
+const VERSION: &str = "1.2.0";
 
 /// A file that has to be named.
 fn file<'a>(alloc: Global, name: &'a str, help: &'a str) -> Arg<'a>
@@ -90,7 +90,16 @@ fn after<'a>(alloc: Global) -> Arg<'a>
     option(alloc, "after", "LOG", help)
 }
 
-/// The present moment of that run.
+/// The log that a driven cell keeps.
+fn log<'a>(alloc: Global) -> Arg<'a>
+    ensures rule { rule_of result ≡ option_rule (codes "log") }
+    ensures local { result.global ≡ false }
+{
+    let help = "Keep this log, and take up the run in it";
+    option(alloc, "log", "LOG", help)
+}
+
+/// The present moment of the run in a log.
 fn at<'a>(alloc: Global) -> Arg<'a>
     ensures rule { rule_of result ≡ option_rule (codes "at") }
     ensures local { result.global ≡ false }
@@ -174,7 +183,9 @@ fn resumed<'a>(alloc: Global) -> Result<Command<'a>, AllocError>
     ensures { IfOk result (Describes (leaf (described CommandName.Resume))) }
 {
     let about = "Continues a driven run from its log";
-    on_log(alloc, "resume", about)?.arg(at(alloc))
+    let log = on_log(alloc, "resume", about)?.arg(at(alloc))?;
+    let told = log.arg(lines(alloc))?;
+    told.arg(leap(alloc))
 }
 
 /// The search of a plan.
@@ -210,13 +221,21 @@ fn hub<'a>(alloc: Global) -> Result<Command<'a>, AllocError>
     several.arg(leap(alloc))
 }
 
+/// One driven cell, and the log that it keeps.
+fn logged<'a>(alloc: Global) -> Result<Command<'a>, AllocError>
+    ensures { IfOk result (Describes (leaf (plan_command (codes "drive") (option_rule (codes "log") ∷ option_rule (codes "at") ∷ [])))) }
+{
+    let about = "Drives a cell by a plan: reports come in, move orders go out";
+    let plan = on_plan(alloc, "drive", about)?.arg(log(alloc))?;
+    plan.arg(at(alloc))
+}
+
 /// One driven cell.
 fn driven<'a>(alloc: Global) -> Result<Command<'a>, AllocError>
     ensures { IfOk result (Describes (leaf (described CommandName.Drive))) }
 {
-    let about = "Drives a cell by a plan: reports come in, move orders go out";
-    let plan = on_plan(alloc, "drive", about)?.arg(lines(alloc))?;
-    plan.arg(leap(alloc))
+    let told = logged(alloc)?.arg(lines(alloc))?;
+    told.arg(leap(alloc))
 }
 
 /// The program before it has a command.

@@ -1,18 +1,16 @@
-use Rattle.std.proofs.Common.{◌≡◌, ap, sym, subst, ◌∙◌, List, ℕ, Option}
+use Rattle.std.proofs.Common.{ap, sym, subst, ◌∙◌, List, ℕ, Option}
 use Rattle.shop_base.specs.Activity.{Arrival, Operation}
 use Rattle.shop_base.specs.Report.{CanReport, after_report}
 use Rattle.cell_tables.specs.declared.report.Report.{Report}
 use Rattle.cell_tables.specs.Reports.{said}
 use Rattle.cell_control.specs.DueMoments.{AreDueMoments}
-use Rattle.cell_control.proofs.Steps.{due_from-punctual}
-use Rattle.cell_drive.proofs.FollowedEvents.{arrived_dues, worked_dues}
+use Rattle.cell_drive.proofs.FollowedEvents.{arrived_dues, late_exactly, worked_dues}
 use Rattle.cell_drive.proofs.lateness.follow_report.Goals as goal
 
 pub returns-in-Arrive-clause-late : goal.returns-in-Arrive-clause-late
 returns-in-Arrive-clause-late g c =
     let v = c.args.cell.now in
-    let punctual = due_from-punctual v.plan v.cell (g.D.Dues.dues c.args.dues.now) (said c.args.report) c.shaped-plan.ensures.sound c.requires.due_moments in
-    ((λ no_late. punctual.0 (c.is_late-late.ensures.0 no_late)), λ holds. c.is_late-late.ensures.1 (punctual.1 holds))
+    late_exactly v.plan v.cell (g.D.Dues.dues c.args.dues.now) c.shaped-plan.ensures.sound c.requires.due_moments (said c.args.report) c.at.result c.is_past_due-late.result c.at.ensures c.is_past_due-late.ensures
 
 pub returns-in-Arrive-clause-due_moments : goal.returns-in-Arrive-clause-due_moments
 returns-in-Arrive-clause-due_moments g c =
@@ -26,8 +24,7 @@ returns-in-Arrive-clause-due_moments g c =
 pub returns-in-Finish-clause-late : goal.returns-in-Finish-clause-late
 returns-in-Finish-clause-late g c =
     let v = c.args.cell.now in
-    let punctual = due_from-punctual v.plan v.cell (g.D.Dues.dues c.args.dues.now) (said c.args.report) c.shaped-plan.ensures.sound c.requires.due_moments in
-    ((λ no_late. punctual.0 (c.is_late-late.ensures.0 no_late)), λ holds. c.is_late-late.ensures.1 (punctual.1 holds))
+    late_exactly v.plan v.cell (g.D.Dues.dues c.args.dues.now) c.shaped-plan.ensures.sound c.requires.due_moments (said c.args.report) c.at.result c.is_past_due-late.result c.at.ensures c.is_past_due-late.ensures
 
 pub returns-in-Finish-clause-due_moments : goal.returns-in-Finish-clause-due_moments
 returns-in-Finish-clause-due_moments g c =
@@ -41,5 +38,4 @@ returns-in-Finish-clause-due_moments g c =
 pub returns-in-Clean-clause-late : goal.returns-in-Clean-clause-late
 returns-in-Clean-clause-late g c =
     let v = c.args.cell.now in
-    let punctual = due_from-punctual v.plan v.cell (g.D.Dues.dues c.args.dues.now) (said c.args.report) c.shaped-plan.ensures.sound c.requires.due_moments in
-    ((λ no_late. punctual.0 (c.is_late-late.ensures.0 no_late)), λ holds. c.is_late-late.ensures.1 (punctual.1 holds))
+    late_exactly v.plan v.cell (g.D.Dues.dues c.args.dues.now) c.shaped-plan.ensures.sound c.requires.due_moments (said c.args.report) c.at.result c.is_past_due-late.result c.at.ensures c.is_past_due-late.ensures

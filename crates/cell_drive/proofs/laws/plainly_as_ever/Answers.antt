@@ -1,5 +1,13 @@
 use Rattle.cell_drive.proofs.Plainly as plain
+use Rattle.cell_drive.proofs.PlainCells.{plainly_as_ever_for_cells}
+use Rattle.cell_drive.proofs.OnlyAdds.{retold_as_ever}
 use Rattle.cell_drive.proofs.laws.plainly_as_ever.Goals as goal
 
-pub returns : goal.returns
-returns c = plain.plainly_as_ever
+pub returns-clause-answered : goal.returns-clause-answered
+returns-clause-answered c = plain.plainly_as_ever
+
+pub returns-clause-cells : goal.returns-clause-cells
+returns-clause-cells c = plainly_as_ever_for_cells
+
+pub returns-clause-retold : goal.returns-clause-retold
+returns-clause-retold c = retold_as_ever

@@ -1,5 +1,4 @@
-use Rattle.std.proofs.Common.{◌≡◌, ◌++◌, Some, List, ℕ, sym, ap, subst, ◌∙◌}
-use Rattle.std.specs.Prelude.{slice_get}
+use Rattle.std.proofs.Common.{◌≡◌, ◌++◌, List, ℕ, sym, ap, subst, ◌∙◌}
 use Rattle.byte_streams.specs.Lent.{taker_of}
 use Rattle.byte_streams.specs.Sinks.{Wrote}
 use Rattle.event_lines.specs.Requests.{claimed}

@@ -17,7 +17,7 @@ returns-in-Ok g c = record {
   loads = rw (← c.in_ok-load_files.was) c.load_files.ensures;
   drives = drives_accepted c.args.manner c.in_ok-load_files.field-0 c.in-Ok.verified c.args.streams.now _ c.end_answer.result (sym c.accepted.ensures ∙ c.in-Ok.is) (rw (← c.streams.view_is) (record {
     end = c.drive_in-end.result;
-    is = c.drive_in-end.ensures;
+    is = c.drive_in-end.ensures.driven;
     answer = c.end_answer.ensures;
   }));
 }

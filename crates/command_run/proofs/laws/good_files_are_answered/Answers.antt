@@ -53,7 +53,7 @@ pub returns-clause-drive : goal.returns-clause-drive
 returns-clause-drive c = λ manner before after content pair p outcome asked good shaped acceptable run. good_drive content pair p good manner before after outcome asked shaped acceptable run
 
 pub returns-clause-resume : goal.returns-clause-resume
-returns-clause-resume c = λ at before after content pair log text p outcome asked good shaped is run. good_resume content pair p good at before after log text outcome asked shaped is run
+returns-clause-resume c = λ manner at before after content pair log text p outcome asked good shaped is run. good_resume content pair p good manner at before after log text outcome asked shaped is run
 
 pub returns-clause-hub : goal.returns-clause-hub
 returns-clause-hub c = λ manner before after content path instance name files plans outcome asked is good run. good_hub content instance name manner path files plans before after outcome asked is good run

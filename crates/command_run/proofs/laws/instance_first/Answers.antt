@@ -44,7 +44,7 @@ pub returns-clause-drive : goal.returns-clause-drive
 returns-clause-drive c = λ manner before after content pair text fault outcome asked is first run. drive_first content pair text fault is first manner before after outcome asked run
 
 pub returns-clause-resume : goal.returns-clause-resume
-returns-clause-resume c = λ at log before after content pair text fault outcome asked is first run. resume_first content pair text fault is first at log before after outcome asked run
+returns-clause-resume c = λ manner at log before after content pair text fault outcome asked is first run. resume_first content pair text fault is first manner at log before after outcome asked run
 
 pub returns-clause-hub : goal.returns-clause-hub
 returns-clause-hub c = λ manner plans before after content pair text fault outcome asked is first run. hub_first content pair.path text pair.name fault is first manner pair.plan plans before after outcome asked run

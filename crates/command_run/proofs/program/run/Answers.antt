@@ -1,8 +1,6 @@
+use Rattle.std.proofs.Common.{map}
+use Rattle.command_run.proofs.Choosing.{told_of_chosen}
 use Rattle.command_run.proofs.program.run.Goals as goal
 
-pub returns : goal.returns
-returns g c = (let read = c.read_words-read.ensures in record {
-  read = c.read_words-read.result;
-  is = record { chosen = read.chosen; within = read.within; taken = read.taken; refused = read.refused };
-  follows = c.follow.ensures;
-})
+pub follow-requires-clause-told : goal.follow-requires-clause-told
+follow-requires-clause-told g c = told_of_chosen g.T.Texts.gives (map (λ word. word.now) c.args.words.now) c.in-Ok.chosen c.args.devices g.B.Before.before c.in-Ok.ensures.chosen c.requires.told

@@ -9,8 +9,8 @@ returns-in-Ok g c = record {
     Ok c.in-Ok.taken,
     c.in-Ok.ensures,
     rw (← c.streams.view_is) (record {
-      end = c.resume-end.result;
-      is = c.resume-end.ensures;
+      end = c.resume_in-end.result;
+      is = c.resume_in-end.ensures.resumed;
       answer = c.rest_answer.ensures;
     }),
   );

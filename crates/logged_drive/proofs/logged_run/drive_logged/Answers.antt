@@ -1,7 +1,8 @@
-use Rattle.std.proofs.Common.{inl, refl}
+use Rattle.std.proofs.Common.{inl, refl, sym}
 use Rattle.cell_drive.specs.InManner.{IsDriveIn}
 use Rattle.logged_drive.specs.LoggedRuns.{nothing_held}
-use Rattle.logged_drive.proofs.LoggedSteps.{keeps_shown, retaken, stays, unbegun}
+use Rattle.logged_drive.proofs.LoggedSteps.{at_start, keeps_shown, retaken, stays, unbegun}
+use Rattle.logged_drive.proofs.Safe.{taken_up_after, unbegun_after}
 use Rattle.logged_drive.proofs.logged_run.drive_logged.Goals as goal
 
 pub returns-in-Ok-clause-drove : goal.returns-in-Ok-clause-drove
@@ -20,3 +21,25 @@ returns-in-Err-clause-drove g c = rw (c.from.ensures, c.in-Err.ensures.given_bac
 pub returns-in-Err-clause-crash : goal.returns-in-Err-clause-crash
 returns-in-Err-clause-crash g c = rw (c.in-Err.ensures.given_back.0, c.in-Err.ensures.given_back.1)
     (keeps_shown c.a_crash_keeps_what_was_shown.ensures g.B.Before.before _ _ (nothing_held (g.W.Sink.taken c.args.output)) _ refl c.requires.whole (stays g.B.Before.before _ _ _ c.requires.before c.requires.settled))
+
+pub drive_over-requires-clause-start : goal.drive_over-requires-clause-start
+drive_over-requires-clause-start g c = at_start g.B.Before.before _ _ _ c.in-Ok.ensures.taken c.requires.before
+
+pub returns-in-Err-clause-log_failed : goal.returns-in-Err-clause-log_failed
+returns-in-Err-clause-log_failed g c = rw c.in-Err.ensures.given_back.0 (sym c.requires.unfailed)
+
+pub returns-in-Err-clause-output_failed : goal.returns-in-Err-clause-output_failed
+returns-in-Err-clause-output_failed g c = rw c.from.ensures (λ is. absurd (cc is))
+
+pub returns-in-Err-clause-untouched : goal.returns-in-Err-clause-untouched
+returns-in-Err-clause-untouched g c = rw (c.in-Err.ensures.given_back.0, c.in-Err.ensures.given_back.1) (λ is. (refl, c.requires.before, c.requires.settled))
+
+pub returns-in-Ok-clause-taken_up : goal.returns-in-Ok-clause-taken_up
+returns-in-Ok-clause-taken_up g c =
+    let run = c.drive_over.ensures.drove in
+    taken_up_after c.args.manner c.args.verified c.shaped-plan.ensures.verified g.B.Before.before _ _ run.held _ _ _ _ _ run.shows.output
+    (at_start g.B.Before.before _ _ _ c.in-Ok.ensures.taken c.requires.before) run.shows.drove run.in_step
+
+pub returns-in-Err-clause-taken_up : goal.returns-in-Err-clause-taken_up
+returns-in-Err-clause-taken_up g c = rw (c.in-Err.ensures.given_back.0, c.in-Err.ensures.given_back.1)
+    (unbegun_after c.args.manner c.args.verified c.shaped-plan.ensures.verified g.B.Before.before _ _ _ (at_start g.B.Before.before _ _ _ refl c.requires.before) (stays g.B.Before.before _ _ _ c.requires.before c.requires.settled))

@@ -20,6 +20,7 @@ invariant_of-self g c =
           (omega (arith, c.clear.ensures.capacity, c.take.ensures.capacity)) selects (c.take.ensures.behind ∙ ap (λ l. behind_bytes selected l) c.deref.ensures.value) c.take.ensures.few
           (subst (λ b. IfSome (g.D.LogFile.seen c.self.inside.log) (λ file. Leaves (g.D.LogFile.may_leave c.keep.new.log) (length file) (file ++ b))) c.deref-2.ensures.value c.in_default.ensures.crash),
       c.self.invariant.1,
+      record { known = sym c.in_default.ensures.failed; none = λ no. absurd (cc no); output = λ yes no. absurd (cc (sym c.in_default.ensures.failed ∙ no)) },
     )
 
 pub invariant_of-self-in_err-pass_on : goal.invariant_of-self-in_err-pass_on
@@ -36,6 +37,7 @@ invariant_of-self-in_err-pass_on g c =
           taken_now c.pass_on.new.sent (subst (λ b. c.pass_on.new.sent ≤ length b) c.deref-3.ensures.value c.pass_on.ensures.within)
           (subst (λ b. Appends taken taken_now (take c.pass_on.new.sent b)) c.deref-3.ensures.value c.pass_on.ensures.taken),
       c.pass_on.ensures.shown,
+      record { known = c.self.invariant.2.known ∙ sym c.in-Ok.ensures.unfailed; none = λ no. absurd (cc no); output = λ yes no. c.in_err-pass_on.ensures.failed },
     )
 
 pub returns-in_err-pass_on-clause-taken : goal.returns-in_err-pass_on-clause-taken
@@ -63,6 +65,11 @@ invariant_of-self-2 g c =
           taken_now c.pass_on.new.sent c.clear-2.new.self.items (vec_capacity c.clear-2.new.self) (subst (λ b. c.pass_on.new.sent ≡ length b) c.deref-3.ensures.value c.in_ok-pass_on.ensures.all)
           (subst (λ b. Appends taken taken_now (take c.pass_on.new.sent b)) c.deref-3.ensures.value c.pass_on.ensures.taken) c.clear-2.ensures.items (omega (arith, c.clear-2.ensures.capacity)),
       c.pass_on.ensures.shown,
+      record {
+        known = c.self.invariant.2.known ∙ sym c.in-Ok.ensures.unfailed;
+        none = λ yes. c.in-Ok.ensures.unfailed ∙ c.self.invariant.2.none c.if-self.false;
+        output = λ no. absurd (cc no);
+      },
     )
 
 pub returns-clause-taken : goal.returns-clause-taken

@@ -1,0 +1,16 @@
+use Rattle.std.proofs.Common.{subst}
+use Rattle.byte_streams.specs.Lent.{WroteOneTo}
+use Rattle.cell_drive.specs.LineAnswers.{closing_line}
+use Rattle.cell_drive.specs.StatedRest.{StatedRest, StatedRestCloses}
+use Rattle.cell_drive.proofs.RestAnswers.{rest_closes}
+use Rattle.cell_drive.proofs.stated_rest.StatedRestCellLineHandler.put_closing.Goals as goal
+
+pub returns : goal.returns
+returns g c =
+    subst (λ (s : StatedRest). WroteOneTo g.W.Sink c.put_closing_line.result c.args.writer.now c.put_closing_line.new.writer (StatedRestCloses s)) c.self.view_is
+    (record {
+      text = closing_line c.self.inside.controller.planned c.self.inside.controller.cell;
+      is_text = rest_closes (record { control = c.self.inside.controller; log = c.self.inside.log }) c.self.invariant;
+      wrote = c.put_closing_line.ensures.wrote;
+      unfailed = c.put_closing_line.ensures.unfailed;
+    })

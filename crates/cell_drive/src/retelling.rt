@@ -1,0 +1,119 @@
+//! The lines of the events that a log told, written once more in a manner.
+
+ghost use Rattle.std.specs.Prelude.{◌≡◌, [], length, OnOk};
+ghost use Rattle.shop_base.specs.Report.{CanReport};
+ghost use Rattle.shop_base.specs.Run.{CanHappen, after, AreEvents};
+ghost use Rattle.cell_tables.specs.Reports.{said};
+ghost use Rattle.cell_tables.specs.Events.{event_of, events_of};
+ghost use Rattle.byte_streams.specs.Lent.{WroteTo};
+ghost use Rattle.event_lines.specs.EventLines.{order_line};
+ghost use Rattle.cell_drive.specs.Stated.{lateness_part, told_overdue};
+ghost use Rattle.cell_drive.specs.Retold.{retold_line, retold_lines};
+
+use crate::answers::put_report_line;
+use crate::judging::told_overdue;
+use crate::manner::Manner;
+use crate::taken_lines::put_lateness;
+use byte_streams::{Sink, WriteFault, put_all};
+use cell_control::Report;
+use cell_tables::{Entry, WorkCell};
+use event_lines::{LineText, put_order};
+use shop_base::{MoveOrder, Planned};
+
+/// Writes the line that the report was late, if it was, with what was overdue in the cell, if the manner tells that.
+fn put_was_late<P: Planned, W: Sink>(
+    manner: Manner,
+    cell: &WorkCell<P>,
+    report: Report,
+    late: bool,
+    writer: &mut W,
+) -> Result<(), WriteFault>
+    requires { CanReport cell.now.plan cell.now.cell (said report) }
+    ensures wrote { WroteTo W.Sink result writer.old writer.new
+        (lateness_part [] (said report).at late (told_overdue manner cell.now.plan cell.now.cell report)) }
+    ensures unfailed { OnOk result (W.failed writer.new ≡ W.failed writer.old) }
+{
+    if !late {
+        return Ok(());
+    }
+    let overdue = told_overdue(manner, cell, true, report);
+    put_lateness(b"", report, late, overdue, writer)
+}
+
+/// Writes the line of the order.
+fn put_order_line<W: Sink>(order: MoveOrder, writer: &mut W) -> Result<(), WriteFault>
+    ensures wrote { WroteTo W.Sink result writer.old writer.new (order_line order) }
+    ensures unfailed { OnOk result (W.failed writer.new ≡ W.failed writer.old) }
+{
+    let mut line = LineText::ended();
+    put_order(&mut line, order);
+    put_all(writer, line.bytes())
+}
+
+/// Writes the line of the report, and the line that it was late, if it was.
+fn put_retold_report<P: Planned, W: Sink>(
+    manner: Manner,
+    cell: &WorkCell<P>,
+    report: Report,
+    late: bool,
+    writer: &mut W,
+) -> Result<(), WriteFault>
+    requires { CanReport cell.now.plan cell.now.cell (said report) }
+    ensures wrote { WroteTo W.Sink result writer.old writer.new (retold_line cell.now.plan manner cell.now.cell (Entry.Report report) late) }
+    ensures unfailed { OnOk result (W.failed writer.new ≡ W.failed writer.old) }
+{
+    put_report_line(b"", report, writer)?;
+    put_was_late(manner, cell, report, late, writer)
+}
+
+/// Writes the lines of the event, which can happen in the cell.
+fn put_retold<P: Planned, W: Sink>(
+    manner: Manner,
+    cell: &WorkCell<P>,
+    entry: Entry,
+    late: bool,
+    writer: &mut W,
+) -> Result<(), WriteFault>
+    requires { CanHappen cell.now.plan cell.now.cell (event_of entry) }
+    ensures wrote { WroteTo W.Sink result writer.old writer.new (retold_line cell.now.plan manner cell.now.cell entry late) }
+    ensures unfailed { OnOk result (W.failed writer.new ≡ W.failed writer.old) }
+{
+    match entry {
+        Entry::Report(report) => put_retold_report(manner, cell, report, late, writer),
+        Entry::Order(order) => put_order_line(order, writer),
+    }
+}
+
+/// Makes the event happen.
+fn follow<P: Planned>(cell: &mut WorkCell<P>, entry: Entry)
+    requires { CanHappen cell.old.plan cell.old.cell (event_of entry) }
+    ensures { cell.new ≡ record cell.old { cell = after cell.old.plan cell.old.cell (event_of entry) } }
+{
+    match entry {
+        Entry::Report(report) => cell.end(report),
+        Entry::Order(order) => {
+            cell.make_move(order.job, order.at);
+        }
+    }
+}
+
+/// Writes the lines of the events, which happen from the cell on.
+pub(crate) fn put_retold_events<P: Planned, W: Sink>(
+    manner: Manner,
+    cell: WorkCell<P>,
+    entries: &[Entry],
+    late: &[bool],
+    writer: &mut W,
+) -> Result<(), WriteFault>
+    requires run { AreEvents cell.plan cell.cell (events_of entries.now) }
+    requires same { length entries.now ≡ length late.now }
+    ensures wrote { WroteTo W.Sink result writer.old writer.new (retold_lines cell.plan manner cell.cell entries.now late.now) }
+    ensures unfailed { OnOk result (W.failed writer.new ≡ W.failed writer.old) }
+{
+    let mut cell = cell;
+    for place in 0..entries.len() {
+        put_retold(manner, &cell, entries[place], late[place], writer)?;
+        follow(&mut cell, entries[place]);
+    }
+    Ok(())
+}

@@ -1,0 +1,31 @@
+-- Which commands keep a log of their own.
+use Rattle.std.proofs.Common.{◌≡◌, ◌<◌, ℕ, List, Option, Some, length, option_map, string_bytes, subst, arith, refl}
+use Rattle.command_words.specs.Choice.{IsWithin, TakesFiles}
+use Rattle.command_words.specs.declared.words.Chosen.{Chosen}
+use Rattle.command_words.specs.declared.words.CommandName.{CommandName}
+use Rattle.command_words.specs.declared.words.CommandName.TheVariants.{Input as NoWords, Facts, Shape, Check, Explain, Schedule, Bounds, Plan as Search, Improve, Drive, Resume, Hub, Audit, Gantt}
+use Rattle.command_run.specs.Program.{keeps_log, kept_log_in, log_kept_by}
+
+-- only `drive` keeps a log
+pub keeper : (name : CommandName) (log : Option (List ℕ)) (path : List ℕ) → log_kept_by (keeps_log name) log ≡ Some path → name ≡ Drive
+keeper NoWords log path is = absurd (cc is)
+keeper Facts log path is = absurd (cc is)
+keeper Shape log path is = absurd (cc is)
+keeper Check log path is = absurd (cc is)
+keeper Explain log path is = absurd (cc is)
+keeper Schedule log path is = absurd (cc is)
+keeper Bounds log path is = absurd (cc is)
+keeper Search log path is = absurd (cc is)
+keeper Improve log path is = absurd (cc is)
+keeper Drive log path is = refl
+keeper Resume log path is = absurd (cc is)
+keeper Hub log path is = absurd (cc is)
+keeper Audit log path is = absurd (cc is)
+keeper Gantt log path is = absurd (cc is)
+
+-- which has an instance and a plan
+pub keepers_files : (chosen : Chosen) (path : List ℕ) → IsWithin chosen → kept_log_in chosen ≡ Some path → 1 < length chosen.files.items
+keepers_files chosen path within keeps =
+    let two : length chosen.files.items ≡ 2 =
+    subst (λ (name : CommandName). TakesFiles name (length chosen.files.items)) (keeper chosen.name (option_map string_bytes chosen.log) path keeps) within.files in
+    omega (arith, two)

@@ -1,0 +1,189 @@
+-- How a driven cell with a log of its own ends.
+use Rattle.std.proofs.Common.{◌≡◌, ℕ, suc, List, [], ◌∷◌, Bool, true, false, Option, None, Some, Result, Ok, Err, IfOk, inl, inr, ◌⊎◌, ap, sym, ◌∙◌, subst, refl}
+use Rattle.shop_base.specs.declared.shape_fault.ShapeFault.{ShapeFault}
+use Rattle.shop_base.specs.Plan.{PlannedShop}
+use Rattle.plan_verifier.specs.declared.verdict.Verdict.{Verdict}
+use Rattle.plan_verifier.specs.declared.verdict.Verdict.TheVariants.{Accepted, Refused}
+use Rattle.byte_streams.specs.declared.drive_fault.DriveFault.{DriveFault}
+use Rattle.byte_streams.specs.declared.drive_fault.DriveFault.TheVariants.{Read as NotRead, Write as NotWritten, InputTooLong as TooLong, Memory as WantOfMemory}
+use Rattle.byte_streams.specs.Lent.{Taker, taker}
+use Rattle.run_log.specs.declared.audit_fault.AuditFault.TheVariants.{BadLine}
+use Rattle.cell_drive.specs.declared.manner.Manner.{Manner}
+use Rattle.cell_drive.specs.TakenUp.{TakenUp}
+use Rattle.cell_drive.specs.InManner.{TellsBy, is_plain}
+use Rattle.run_journal.specs.declared.file_fault.FileFault.{FileFault}
+use Rattle.run_journal.specs.Folders.{NamedLog}
+use Rattle.logged_drive.specs.declared.taken_log.TakeUpFault.{TakeUpFault}
+use Rattle.logged_drive.specs.declared.taken_log.TakeUpFault.TheVariants.{Resume, NoTornEnd, File}
+use Rattle.command_answers.specs.declared.answer.Answer.{Answer}
+use Rattle.command_answers.specs.declared.command_fault.CommandFault.{CommandFault}
+use Rattle.command_answers.specs.declared.loading.Loaded.TheVariants.{NotShaped, Judged}
+use Rattle.command_answers.specs.Checks.{IsLineOf}
+use Rattle.command_answers.specs.Commands.{PairOfFiles, Shapes}
+use Rattle.command_run.specs.Streams.{Streams, Output}
+use Rattle.command_run.specs.Drives.{end_of_drive}
+use Rattle.command_run.specs.Resumes.{end_of_rest}
+use Rattle.command_run.specs.Logs.{Begins, BeginsBy, DrivesNothing, DrivesOpened, DrivesShaped, GoesOnAfter, GoesOnTaken, IsLoggedAnswer, IsLogUntakenTold, IsVerdict, Step, TakesLog, TellsAgain, step_of}
+use Rattle.command_run.specs.Laws.{DroveWithLog, HoldsNothing}
+use Rattle.command_run.proofs.LowStatuses.{IsLow, low_end, low_line_of, low_log_fault, low_or, low_untaken}
+
+-- ---- the answer is a good one, or one that refuses
+
+low_logged_end : (log_failed : Bool) (done : Result Bool DriveFault) (outcome : Result Answer CommandFault) → IsLoggedAnswer log_failed done outcome → IsLow outcome
+low_logged_end log_failed (Ok done) outcome is = low_end (Ok done) outcome is
+low_logged_end log_failed (Err fault) outcome is = subst IsLow (sym is) tt
+
+low_log_untaken : (fault : TakeUpFault) (outcome : Result Answer CommandFault) → IsLogUntakenTold fault outcome → IsLow outcome
+low_log_untaken (Resume fault) outcome is = low_untaken fault outcome is
+low_log_untaken (NoTornEnd lines) outcome is = low_log_fault (BadLine (suc lines)) outcome is
+low_log_untaken (File fault) outcome is = subst IsLow (sym is) tt
+
+module _ (folder folder_after : Option (List NamedLog)) (path : List ℕ) (manner : Manner) (at : Option ℕ) where
+  low_begun : (there : Bool) (verdict : Verdict) (step : Step) → BeginsBy folder folder_after path manner there verdict step → IsLow step.outcome
+  low_begun there (Refused back why) step is = low_or (IsLineOf (Judged (Refused back why))) step.outcome (low_line_of (Judged (Refused back why))) is.0
+  low_begun there (Accepted v) step (inl lacks) = subst IsLow (sym lacks.is) tt
+  low_begun there (Accepted v) step (inr run) = low_logged_end run.drove.log_failed (end_of_drive run.drove.end) step.outcome run.drove.answer
+
+  low_begins : (p : PlannedShop) (there : Bool) (step : Step) → Begins folder folder_after path manner p there step → IsLow step.outcome
+  low_begins p there step (inl (verdict, is, by)) = low_begun there verdict step by
+  low_begins p there step (inr wanting) = subst IsLow (sym wanting.0) tt
+
+  low_after : (t : TakenUp) (mid : Output) (told : Result (Unit {0}) DriveFault) (step : Step) → GoesOnAfter manner t mid told step → IsLow step.outcome
+  low_after t mid (Ok done) step (inl run) = low_logged_end run.log_failed (end_of_rest run.end) step.outcome run.answer
+  low_after t mid (Ok done) step (inr lacks) = low_logged_end lacks.log_failed (end_of_rest lacks.end) step.outcome lacks.answer
+  low_after t mid (Err fault) step is = subst IsLow (sym is.0) tt
+
+  low_taken_up : (taken : Result TakenUp TakeUpFault) (step : Step) → GoesOnTaken manner taken step → IsLow step.outcome
+  low_taken_up (Ok t) step on = low_after t on.mid on.told step on.goes_on
+  low_taken_up (Err fault) step is = low_log_untaken fault step.outcome is.0
+
+  low_opened : (p : PlannedShop) (opened : Result (Option (List ℕ)) FileFault) (step : Step) → DrivesOpened folder folder_after path manner at p opened step → IsLow step.outcome
+  low_opened p (Err fault) step is = subst IsLow (sym is.0) tt
+  low_opened p (Ok None) step is = low_begins p false step is
+  low_opened p (Ok (Some [])) step is = low_begins p true step is
+  low_opened p (Ok (Some (byte ∷ bytes))) step is = low_taken_up is.0.taken step is.0.goes_on
+
+  pub low_logged : (shaped : Result (Result PlannedShop ShapeFault) CommandFault) (step : Step) → DrivesShaped folder folder_after path manner at shaped step → IsLow step.outcome
+  low_logged (Err fault) step is = subst IsLow (sym is.0) tt
+  low_logged (Ok (Err fault)) step is = low_or (IsLineOf (NotShaped fault)) step.outcome (low_line_of (NotShaped fault)) is.0
+  low_logged (Ok (Ok p)) step is = low_opened p is.opened step is.drives
+
+-- ---- what is written
+
+module _ {W : Type 0} (gives : W → List ℕ → Result (List ℕ) CommandFault → W → Type 0) (pair : PairOfFiles) (manner : Manner) (texts later : W) (before after : Streams)
+    (outcome : Result Answer CommandFault) (kept : Bool) where
+  -- nothing, or what the cell answered
+  abbrev Written : Type 0
+  Written = (after.output ≡ before.output) ⊎ DroveWithLog gives manner pair texts before after
+
+  nothing : DrivesNothing (step_of before outcome after kept) → Written
+  nothing none = inl (ap (λ (s : Streams). s.output) none.same)
+
+  module _ (p : PlannedShop) (shapes : Shapes gives pair texts (Ok (Ok p)) later) where
+    begun : (folder folder_after : Option (List NamedLog)) (path : List ℕ) (there : Bool) (verdict : Verdict) → IsVerdict p verdict
+        → BeginsBy folder folder_after path manner there verdict (step_of before outcome after kept) → Written
+    begun folder folder_after path there (Refused back why) is by = nothing by.1
+    begun folder folder_after path there (Accepted v) is (inl lacks) = nothing lacks.nothing
+    begun folder folder_after path there (Accepted v) is (inr run) =
+        inr (record { plan = p; later = later; shapes = shapes; outcome = outcome; kept = kept; is = inl (v, is.accepted.0, run.drove) })
+
+    begins : (folder folder_after : Option (List NamedLog)) (path : List ℕ) (there : Bool) → Begins folder folder_after path manner p there (step_of before outcome after kept) → Written
+    begins folder folder_after path there (inl (verdict, is, by)) = begun folder folder_after path there verdict is by
+    begins folder folder_after path there (inr wanting) = nothing wanting.1
+
+    taken_up : (at : Option ℕ) (text : List ℕ) (taken : Result TakenUp TakeUpFault) → TakesLog p at text taken → GoesOnTaken manner taken (step_of before outcome after kept) → Written
+    taken_up at text (Ok t) takes on =
+        inr (record { plan = p; later = later; shapes = shapes; outcome = outcome; kept = kept; is = inr (t, takes.is.taken_from.planned, on) })
+    taken_up at text (Err fault) takes is = nothing is.1
+
+    opened_written : (folder folder_after : Option (List NamedLog)) (path : List ℕ) (at : Option ℕ) (opened : Result (Option (List ℕ)) FileFault)
+        → DrivesOpened folder folder_after path manner at p opened (step_of before outcome after kept) → Written
+    opened_written folder folder_after path at (Err fault) is = nothing is.1
+    opened_written folder folder_after path at (Ok None) is = begins folder folder_after path false is
+    opened_written folder folder_after path at (Ok (Some [])) is = begins folder folder_after path true is
+    opened_written folder folder_after path at (Ok (Some (byte ∷ bytes))) is = taken_up at (byte ∷ bytes) is.0.taken is.0.takes is.0.goes_on
+
+  pub logged_written : (folder folder_after : Option (List NamedLog)) (path : List ℕ) (at : Option ℕ) (shaped : Result (Result PlannedShop ShapeFault) CommandFault) → Shapes gives pair texts shaped later
+      → DrivesShaped folder folder_after path manner at shaped (step_of before outcome after kept) → Written
+  logged_written folder folder_after path at (Err fault) shapes is = nothing is.1
+  logged_written folder folder_after path at (Ok (Err fault)) shapes is = nothing is.1
+  logged_written folder folder_after path at (Ok (Ok p)) shapes is = opened_written p shapes folder folder_after path at is.opened is.drives
+
+-- ---- what is shown
+
+told_failed : (plain : Bool) (manner : Manner) (t : TakenUp) (before after : Taker) → TellsBy plain manner t before after (Err NotWritten) → after.failed ≡ true
+told_failed true manner t before after is = is.0
+told_failed false manner t before after (inl wanting) = absurd (cc wanting.0)
+told_failed false manner t before after (inr is) = is.0
+
+told_never : (plain : Bool) (manner : Manner) (t : TakenUp) (before after : Taker) → TellsBy plain manner t before after (Err NotRead) ⊎ TellsBy plain manner t before after (Err TooLong) → ⊥
+told_never true manner t before after (inl is) = is
+told_never true manner t before after (inr is) = is
+told_never false manner t before after (inl (inl wanting)) = absurd (cc wanting.0)
+told_never false manner t before after (inl (inr is)) = is
+told_never false manner t before after (inr (inl wanting)) = absurd (cc wanting.0)
+told_never false manner t before after (inr (inr is)) = is
+
+telling_shown : (manner : Manner) (t : TakenUp) (before mid : Output) (fault : DriveFault) → TellsAgain manner t before mid (Err fault) → before.pending ≡ [] → HoldsNothing mid
+telling_shown manner t before mid NotWritten tells none = inr (told_failed (is_plain manner) manner t (taker before) (taker mid) tells.is)
+telling_shown manner t before mid WantOfMemory tells none = inl (subst (λ (o : Output). o.pending ≡ []) (sym (tells.untouched refl)) none)
+telling_shown manner t before mid NotRead tells none = absurd (told_never (is_plain manner) manner t (taker before) (taker mid) (inl tells.is))
+telling_shown manner t before mid TooLong tells none = absurd (told_never (is_plain manner) manner t (taker before) (taker mid) (inr tells.is))
+
+gone_on_shown : (manner : Manner) (t : TakenUp) (mid : Output) (told : Result (Unit {0}) DriveFault) (step : Step) → TellsAgain manner t step.before.output mid told → GoesOnAfter manner t mid told step
+    → step.before.output.pending ≡ [] → HoldsNothing step.after.output
+gone_on_shown manner t mid (Ok done) step tells (inl run) none = run.shows.shown
+gone_on_shown manner t mid (Ok done) step tells (inr lacks) none = lacks.unbegun.shown
+gone_on_shown manner t mid (Err fault) step tells is none =
+    subst (λ (s : Streams). HoldsNothing s.output) (sym is.1) (telling_shown manner t step.before.output mid fault tells none)
+
+pub logged_shown : {W : Type 0} (gives : W → List ℕ → Result (List ℕ) CommandFault → W → Type 0) (manner : Manner) (pair : PairOfFiles) (texts : W) (before after : Streams)
+    (drove : DroveWithLog gives manner pair texts before after) → before.output.pending ≡ [] → HoldsNothing after.output
+logged_shown gives manner pair texts before after drove none = elim drove.is [
+  | inl (v, same, run) ↦ run.shows.shown
+  | inr (t, same, on) ↦ gone_on_shown manner t on.mid on.told (step_of before drove.outcome after drove.kept) on.tells on.goes_on none
+]
+
+-- ---- what is answered where the log is held
+
+-- no more than the lines of the cell
+abbrev IsSilent : Result Answer CommandFault → Type 0
+IsSilent outcome = IfOk outcome (λ answer. answer.text.items ≡ [])
+
+never_held : (kept : Bool) (outcome : Result Answer CommandFault) → kept ≡ false → kept ≡ true → IsSilent outcome
+never_held kept outcome none holds = absurd (let both : false ≡ true = sym none ∙ holds in cc both)
+
+silent_fault : (fault : CommandFault) (outcome : Result Answer CommandFault) → outcome ≡ Err fault → IsSilent outcome
+silent_fault fault outcome is = subst IsSilent (sym is) tt
+
+silent_end : (log_failed : Bool) (done : Result Bool DriveFault) (outcome : Result Answer CommandFault) → IsLoggedAnswer log_failed done outcome → IsSilent outcome
+silent_end log_failed (Ok done) (Ok answer) is = is.0
+silent_end log_failed (Ok done) (Err fault) is = tt
+silent_end log_failed (Err fault) outcome is = silent_fault _ outcome is
+
+module _ (folder folder_after : Option (List NamedLog)) (path : List ℕ) (manner : Manner) (at : Option ℕ) where
+  silent_begins : (p : PlannedShop) (there : Bool) (step : Step) → Begins folder folder_after path manner p there step → step.kept ≡ true → IsSilent step.outcome
+  silent_begins p there step (inl (Refused back why, is, by)) holds = never_held step.kept step.outcome by.1.kept holds
+  silent_begins p there step (inl (Accepted v, is, inl lacks)) holds = never_held step.kept step.outcome lacks.nothing.kept holds
+  silent_begins p there step (inl (Accepted v, is, inr run)) holds = silent_end run.drove.log_failed (end_of_drive run.drove.end) step.outcome run.drove.answer
+  silent_begins p there step (inr wanting) holds = never_held step.kept step.outcome wanting.1.kept holds
+
+  silent_after : (t : TakenUp) (mid : Output) (told : Result (Unit {0}) DriveFault) (step : Step) → GoesOnAfter manner t mid told step → step.kept ≡ true → IsSilent step.outcome
+  silent_after t mid (Ok done) step (inl run) holds = silent_end run.log_failed (end_of_rest run.end) step.outcome run.answer
+  silent_after t mid (Ok done) step (inr lacks) holds = silent_end lacks.log_failed (end_of_rest lacks.end) step.outcome lacks.answer
+  silent_after t mid (Err fault) step is holds = silent_fault _ step.outcome is.0
+
+  silent_taken_up : (taken : Result TakenUp TakeUpFault) (step : Step) → GoesOnTaken manner taken step → step.kept ≡ true → IsSilent step.outcome
+  silent_taken_up (Ok t) step on holds = silent_after t on.mid on.told step on.goes_on holds
+  silent_taken_up (Err fault) step is holds = never_held step.kept step.outcome is.1.kept holds
+
+  silent_opened : (p : PlannedShop) (opened : Result (Option (List ℕ)) FileFault) (step : Step) → DrivesOpened folder folder_after path manner at p opened step → step.kept ≡ true → IsSilent step.outcome
+  silent_opened p (Err fault) step is holds = never_held step.kept step.outcome is.1.kept holds
+  silent_opened p (Ok None) step is holds = silent_begins p false step is holds
+  silent_opened p (Ok (Some [])) step is holds = silent_begins p true step is holds
+  silent_opened p (Ok (Some (byte ∷ bytes))) step is holds = silent_taken_up is.0.taken step is.0.goes_on holds
+
+  pub silent_logged : (shaped : Result (Result PlannedShop ShapeFault) CommandFault) (step : Step) → DrivesShaped folder folder_after path manner at shaped step → step.kept ≡ true → IsSilent step.outcome
+  silent_logged (Err fault) step is holds = never_held step.kept step.outcome is.1.kept holds
+  silent_logged (Ok (Err fault)) step is holds = never_held step.kept step.outcome is.1.kept holds
+  silent_logged (Ok (Ok p)) step is holds = silent_opened p is.opened step is.drives holds

@@ -1,0 +1,107 @@
+ghost use Rattle.std.specs.Prelude.{◌≡◌, option_map, bytes_eq};
+
+use crate::memory_log::MemoryLog;
+use run_journal::{FileFault, Logs};
+use std::alloc::Global;
+use std::marker::Model;
+
+/// A folder in memory with room for one log, which fails from some call on.
+#[derive(Drop)]
+pub struct MemoryLogs {
+    alloc: Global,
+    /// The path of its log.
+    path: Vec<u8>,
+    /// The bytes of the log, if it is there.
+    bytes: Option<Vec<u8>>,
+    /// Whether its name is on the disk.
+    named: bool,
+    /// How many calls don't fail any more.
+    calls: usize,
+}
+
+impl Model for MemoryLogs {
+    ghost use Rattle.std.specs.Prelude.{option_map};
+    ghost use Rattle.journal_tests.specs.Memory.{OneLog};
+
+    ghost Value = { OneLog };
+
+    ghost view = { λ m. record { path = m.path.items; bytes = option_map (λ bytes. bytes.items) m.bytes; named = m.named } };
+}
+
+/// Whether both have the same bytes.
+fn are_same(one: &[u8], other: &[u8]) -> bool
+    ensures { result ≡ bytes_eq one.now other.now }
+{
+    one == other
+}
+
+impl MemoryLogs {
+    /// A folder for the log of this path, which isn't there. So many calls don't fail.
+    pub fn new(alloc: Global, path: Vec<u8>, calls: usize) -> MemoryLogs {
+        MemoryLogs {
+            alloc,
+            path,
+            bytes: None,
+            named: false,
+            calls,
+        }
+    }
+
+    /// Whether the log is there, and whether its name is on the disk.
+    pub fn has_log(&self) -> (bool, bool) {
+        (self.bytes.is_some(), self.named)
+    }
+
+    /// Counts a call, and tells whether it doesn't fail.
+    fn passes(&mut self) -> bool
+        ensures { self.new ≡ self.old }
+    {
+        if self.calls == 0 {
+            return false;
+        }
+        self.calls -= 1;
+        true
+    }
+}
+
+impl Logs for MemoryLogs {
+    ghost use Rattle.std.specs.Prelude.{Some};
+    ghost use Rattle.journal_tests.specs.Memory.{logs_in};
+
+    type Log = MemoryLog;
+
+    ghost folder = { λ m. Some (logs_in m) };
+
+    fn open(&mut self, path: &str) -> Result<Option<MemoryLog>, FileFault> {
+        if !self.passes() {
+            return Err(FileFault::Log);
+        }
+        if !are_same(&self.path, path.as_bytes()) {
+            return Ok(None);
+        }
+        match &self.bytes {
+            Some(bytes) => match bytes.to_vec(self.alloc) {
+                Ok(bytes) => Ok(Some(MemoryLog::new(bytes, self.calls, 0))),
+                Err(_) => Err(FileFault::Memory),
+            },
+            None => Ok(None),
+        }
+    }
+
+    fn make(&mut self, path: &str) -> Result<MemoryLog, FileFault> {
+        if !self.passes() || self.bytes.is_some() || !are_same(&self.path, path.as_bytes()) {
+            return Err(FileFault::Log);
+        }
+        self.bytes = Some(Vec::new(self.alloc));
+        self.named = false;
+        Ok(MemoryLog::new(Vec::new(self.alloc), self.calls, 0))
+    }
+
+    fn sync_name(&mut self, path: &str) -> Result<(), FileFault> {
+        if !self.passes() || self.bytes.is_none() || !are_same(&self.path, path.as_bytes()) {
+            return Err(FileFault::Log);
+        }
+        self.named = true;
+        Ok(())
+    }
+}

@@ -1,0 +1,82 @@
+//! Runs that are taken up from what a crash left of their logs.
+
+use super::MemoryLog;
+use super::two_jobs::{
+    FIRST, LATER, PLAIN, PieceReader, REPORTS, TELLING, accepted, joined, shaped,
+};
+use byte_streams::{FromRead, Gathered, Outlet};
+use cell_drive::{Manner, tell_again_in};
+use logged_drive::{drive_logged, go_on_logged, take_up_log};
+use run_journal::{LogFile, Untold, read_log};
+use std::alloc::Global;
+use std::test::Fail;
+
+/// The log of the run, each answer of which is shown before the next report comes. So many calls of it don't fail.
+fn broken_off(alloc: Global, manner: Manner, calls: usize) -> Result<MemoryLog, Fail> {
+    let mut reader = FromRead::new(PieceReader { bytes: REPORTS });
+    let log = MemoryLog::new(Vec::new(alloc), calls, 5);
+    let output = Gathered::new(alloc, 16, Vec::new(alloc))?;
+    let verified = accepted(alloc)?;
+    let run = drive_logged(alloc, verified, manner, &mut reader, log, output, Untold);
+    Ok(run.log)
+}
+
+/// The log at the end of the run that is taken up from these bytes, to which all reports are sent once more.
+fn taken_up(alloc: Global, manner: Manner, left: Vec<u8>) -> Result<Vec<u8>, Fail> {
+    let mut log = MemoryLog::new(left, 1000, 0);
+    let text = read_log(alloc, &mut log)?;
+    let Ok(taken) = take_up_log(alloc, shaped(alloc)?, &mut log, &text, None) else {
+        return Err("the run isn't taken up".into());
+    };
+    let mut output = Gathered::new(alloc, 16, Vec::new(alloc))?;
+    tell_again_in(alloc, &taken, manner, &mut output)?;
+    output.show()?;
+    let mut reader = FromRead::new(REPORTS);
+    let mut run = go_on_logged(alloc, taken, manner, &mut reader, log, output, Untold);
+    Ok(run.log.read(alloc, 1000)?)
+}
+
+/// These lines without the empty ones.
+fn without_empty_lines(alloc: Global, lines: &[u8]) -> Result<Vec<u8>, Fail> {
+    let mut others = Vec::new(alloc);
+    let mut last = b'\n';
+    for byte in lines {
+        if *byte != b'\n' || last != b'\n' {
+            others.push(*byte)?;
+        }
+        last = *byte;
+    }
+    Ok(others)
+}
+
+/// Whether the run is taken up, and comes to the same events, whatever a crash leaves of its log.
+fn goes_on(alloc: Global, manner: Manner, log: &MemoryLog, events: &[u8]) -> Result<bool, Fail> {
+    let (least, most) = log.bounds();
+    for count in least..most.saturating_add(1) {
+        for unwritten in 0..2 {
+            let whole = taken_up(alloc, manner, log.after_crash(alloc, count, unwritten)?)?;
+            if without_empty_lines(alloc, &whole)?.as_slice() != events {
+                return Ok(false);
+            }
+        }
+    }
+    Ok(true)
+}
+
+#[test]
+fn a_run_goes_on_after_each_crash(rt: HostRuntime) -> Result<(), Fail> {
+    let events = joined(rt.alloc(), &[FIRST, LATER])?;
+    for calls in 0..14 {
+        let log = broken_off(rt.alloc(), PLAIN, calls)?;
+        assert!(rt; goes_on(rt.alloc(), PLAIN, &log, &events)?);
+    }
+    Ok(())
+}
+
+#[test]
+fn a_run_in_version_2_goes_on_after_a_crash(rt: HostRuntime) -> Result<(), Fail> {
+    let events = joined(rt.alloc(), &[FIRST, LATER])?;
+    let log = broken_off(rt.alloc(), TELLING, 5)?;
+    assert!(rt; goes_on(rt.alloc(), TELLING, &log, &events)?);
+    Ok(())
+}

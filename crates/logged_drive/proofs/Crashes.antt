@@ -1,0 +1,192 @@
+-- What a crash leaves of a log is taken up.
+use Rattle.std.proofs.Common.{◌≡◌, ℕ, List, [], ◌∷◌, ◌++◌, length, map, drop, Option, inl, inr, refl, sym, ap, ◌∙◌, subst, arith, append_assoc, append-nil, take-append-drop}
+use Rattle.std.proofs.lemmas.List.{append_cancel_left}
+use Rattle.shop_base.specs.declared.move_order.MoveOrder.{MoveOrder}
+use Rattle.shop_base.specs.Plan.{PlannedShop, IsWellShaped}
+use Rattle.shop_base.specs.Cell.{start}
+use Rattle.shop_base.specs.Run.{IsRun, IsAtRest}
+use Rattle.shop_base.specs.Sound.{IsSound}
+use Rattle.shop_base.proofs.Cycles.{ranks_exclude_cycle}
+use Rattle.shop_base.proofs.Keeping.{run-sound}
+use Rattle.shop_base.proofs.ControlledRuns.{events_join}
+use Rattle.text_lines.specs.Lines.{lines_of, ended_lines}
+use Rattle.text_lines.proofs.EndedLines.{ended-more}
+use Rattle.plan_verifier.specs.Accepted.{HasNoCycle, IsAcceptable}
+use Rattle.cell_tables.specs.declared.entry.Entry.{Entry}
+use Rattle.cell_tables.specs.declared.entry.Entry.TheVariants.{Order as OrderEntry}
+use Rattle.cell_tables.specs.Events.{events_of}
+use Rattle.run_log.proofs.Audits.{events-join}
+use Rattle.event_lines.specs.EventLines.{entry_line, entry_lines, order_lines}
+use Rattle.event_lines.specs.LogLines.{LinesTell}
+use Rattle.event_lines.specs.ReadBack.{TellsFirst}
+use Rattle.event_lines.proofs.Readings.{tell-parts}
+use Rattle.event_lines.proofs.Telling.{tells_both}
+use Rattle.cell_drive.specs.declared.manner.Manner.{Manner}
+use Rattle.cell_drive.specs.AnswerText.{DrivenCell, undriven}
+use Rattle.cell_drive.specs.Stated.{StatedAnswers}
+use Rattle.cell_drive.specs.TakenUp.{TakenUp, IsTakenRun, IsTakenUp, plan_of, told_in, cell_told}
+use Rattle.cell_drive.specs.Resuming.{due_text, driven_so_far}
+use Rattle.cell_drive.proofs.CutLogs.{closing_part}
+use Rattle.cell_drive.proofs.OneText.{IsOnCourse, start_on_course}
+use Rattle.cell_drive.proofs.OneStated.{stated_lines_keep}
+use Rattle.cell_drive.proofs.OwnRuns.{front_events}
+use Rattle.cell_drive.proofs.ReadBack.{AreTold, all_told, answers_told, tells_moves}
+use Rattle.cell_drive.proofs.StatedTold.{stated_line_told}
+use Rattle.run_journal.specs.LogFiles.{IsLeft}
+use Rattle.run_journal.specs.WholeLines.{whole_lines}
+use Rattle.run_journal.specs.LoggedLines.{logged}
+use Rattle.run_journal.proofs.Formed.{IsFormed, formed-both, formed-line, left_torn}
+use Rattle.run_journal.proofs.LeftEvents.{left_log, ended_whole}
+use Rattle.logged_drive.specs.CrashLaw.{IsTakenUpAgain, AreAnswered, IsGiven, ADrivenRunIsTakenUp, IsTakenUpOnceMore, ATakenUpRunIsTakenUp}
+use Rattle.logged_drive.proofs.FormedAnswers.{answers_formed, all_formed, formed_moves, last_formed}
+use Rattle.logged_drive.proofs.FormedStates.{stated_formed}
+
+none_in_front : (front back : List Entry) → front ++ back ≡ [] → front ≡ []
+none_in_front [] back none = refl
+none_in_front (entry ∷ front) back none = absurd (cc none)
+
+-- a text tells events behind those of whole lines, with which they are a run; of its first bytes some were shown
+module _ (p : PlannedShop) (base : List ℕ) (told : List Entry) (text shown pending lost left : List ℕ) (all : List Entry) where
+  again : whole_lines base ≡ base → LinesTell p (ended_lines base) told → LinesTell p (lines_of text) all → IsRun p (events_of (told ++ all)) → IsFormed text → text ≡ (shown ++ pending) ++ lost
+      → IsLeft (length (base ++ logged shown)) (base ++ logged (shown ++ pending)) left → HasNoCycle p → (told ≡ [] → IsAcceptable p) → IsTakenUpAgain p told all shown left
+  again whole tells_base tells_text run formed split is acyclic accepted =
+      let came = shown ++ pending in
+      let (more, lines) = ended-more came lost in
+      let (a, b, first, second, parts) = tell-parts p (ended_lines came) more all (subst (λ (ls : List (List ℕ)). LinesTell p ls all) (ap lines_of split ∙ lines) tells_text) in
+      let log = left_log p base shown pending left told a whole is tells_base first in
+      let all_is : all ≡ log.kept ++ (log.lost ++ b) = parts ∙ ap (λ (es : List Entry). es ++ b) log.came_so ∙ append_assoc log.kept log.lost b in
+      let both : told ++ all ≡ (told ++ log.kept) ++ (log.lost ++ b) = ap (λ (es : List Entry). told ++ es) all_is ∙ sym (append_assoc told log.kept (log.lost ++ b)) in
+      let events : events_of (told ++ all) ≡ events_of (told ++ log.kept) ++ events_of (log.lost ++ b) = ap events_of both ∙ events-join (told ++ log.kept) (log.lost ++ b) in
+      let tells = subst (λ (ls : List (List ℕ)). LinesTell p ls (told ++ log.kept)) (sym (ended_whole left)) log.tells in
+      record {
+        kept = log.kept;
+        lost = log.lost ++ b;
+        came_so = all_is;
+        tells = tells;
+        has_shown = log.has_shown;
+        can = record {
+          told = told ++ log.kept;
+          tells = tells;
+          is_run = front_events p (start p) (events_of (told ++ log.kept)) (events_of (log.lost ++ b)) (subst (IsRun p) events run);
+          not_past = omega arith;
+          acyclic = acyclic;
+          accepted = λ none. accepted (none_in_front told log.kept none);
+        };
+        torn = left_torn base shown pending lost text left whole formed split is;
+      }
+
+-- ---- what was answered
+
+module _ (p : PlannedShop) (shaped : IsWellShaped p) (manner : Manner) where
+  answered_told : (before end : DrivenCell) (lines : List (Option (List ℕ))) (text : List ℕ) → IsOnCourse p before.cell → AreAnswered p manner before lines text end → AreTold p shaped before text end
+  answered_told before end lines text on (inl plain) = answers_told p shaped lines before end 1 text on plain
+  answered_told before end lines text on (inr stated) = all_told p shaped (StatedAnswers p manner) (stated_lines_keep p manner) (stated_line_told p shaped manner) lines before end 1 text on stated
+
+  answered_formed : (before end : DrivenCell) (lines : List (Option (List ℕ))) (text : List ℕ) → IsOnCourse p before.cell → AreAnswered p manner before lines text end → IsFormed text
+  answered_formed before end lines text on (inl plain) = answers_formed p shaped lines before end 1 text on plain
+  answered_formed before end lines text on (inr stated) = all_formed p shaped (StatedAnswers p manner) (stated_lines_keep p manner) (stated_formed p shaped manner) lines before end 1 text on stated
+
+whole_text : (p : PlannedShop) (text : List ℕ) (entries : List Entry) → TellsFirst p text entries → LinesTell p (lines_of text) entries
+whole_text p text entries tells =
+    subst (λ (t : List ℕ). LinesTell p (lines_of t) entries) (append-nil text) (subst (λ (es : List Entry). LinesTell p (lines_of (text ++ [])) es) (append-nil entries) (tells [] [] refl))
+
+pub driven_run : ADrivenRunIsTakenUp
+driven_run p manner lines answers closing shown pending left end shaped acceptable are given is =
+    let on = start_on_course p shaped in
+    let told = answered_told p shaped manner (undriven p) end lines answers on are in
+    let text = answers ++ closing in
+    let tells : TellsFirst p text (told.more ++ []) = tells_both p answers closing told.more [] told.tells (closing_part p end closing given.closes) in
+    let entries : told.more ++ [] ≡ end.entries = append-nil told.more ∙ sym told.entries in
+    again p [] [] text shown pending given.lost left end.entries refl refl
+    (subst (λ (es : List Entry). LinesTell p (lines_of text) es) entries (whole_text p text (told.more ++ []) tells))
+    (subst (λ (es : List Entry). IsRun p (events_of es)) (sym told.entries) told.events)
+    (formed-both answers closing (answered_formed p shaped manner (undriven p) end lines answers on are) (last_formed p shaped end closing given.closes))
+    given.given is acceptable.acyclic (λ none. acceptable)
+
+-- ---- a run that was taken up
+
+empty_line : (p : PlannedShop) → TellsFirst p (10 ∷ []) []
+empty_line p rest later tells = ([], later, refl, tells, refl)
+
+lines_of_orders : (orders : List MoveOrder) → entry_lines (map OrderEntry orders) ≡ order_lines orders
+lines_of_orders [] = refl
+lines_of_orders (o ∷ orders) = ap (λ (l : List ℕ). entry_line (OrderEntry o) ++ l) (lines_of_orders orders)
+
+module _ (taken : TakenUp) (run : IsTakenRun taken) where
+  abbrev p : PlannedShop
+  p = plan_of taken
+
+  abbrev orders : List MoveOrder
+  orders = taken.driven.control.orders
+
+  abbrev noted : List Entry
+  noted = taken.driven.log.entries
+
+  due_is : due_text taken ≡ (10 ∷ []) ++ order_lines orders
+  due_is =
+      let parts : told_in taken ++ drop (length taken.late) noted ≡ told_in taken ++ map OrderEntry orders = take-append-drop (length taken.late) noted ∙ run.due in
+      ap (λ (es : List Entry). 10 ∷ entry_lines es) (append_cancel_left (told_in taken) (drop (length taken.late) noted) (map OrderEntry orders) parts) ∙ ap (λ (l : List ℕ). 10 ∷ l) (lines_of_orders orders)
+
+  told_sound : IsRun p (events_of (told_in taken)) → IsSound p (cell_told taken)
+  told_sound is_run = run-sound p (events_of (told_in taken)) run.driven.shaped is_run
+
+  orders_tell : IsRun p (events_of (told_in taken)) → TellsFirst p (due_text taken) (map OrderEntry orders)
+  orders_tell is_run =
+      let settled = run.begun.settled in
+      let t = taken.driven.control.began in
+      let tells = tells_moves p run.driven.shaped (cell_told taken) t settled.movers (told_sound is_run) settled.settles.moves in
+      let lines = subst (λ (os : List MoveOrder). TellsFirst p (order_lines os) (map OrderEntry os)) (sym settled.orders_are) tells in
+      subst (λ (l : List ℕ). TellsFirst p l (map OrderEntry orders)) (sym due_is) (tells_both p (10 ∷ []) (order_lines orders) [] (map OrderEntry orders) (empty_line p) lines)
+
+  orders_formed : IsRun p (events_of (told_in taken)) → IsFormed (due_text taken)
+  orders_formed is_run =
+      let settled = run.begun.settled in
+      let t = taken.driven.control.began in
+      let lines = subst (λ (os : List MoveOrder). IsFormed (order_lines os)) (sym settled.orders_are) (formed_moves p run.driven.shaped (cell_told taken) t settled.movers (told_sound is_run) settled.settles.moves) in
+      subst IsFormed (sym due_is) (formed-both (10 ∷ []) (order_lines orders) (formed-line [] tt (λ is. refl)) lines)
+
+  on_course : IsOnCourse p (driven_so_far p noted).cell
+  on_course = record {
+    shaped = run.driven.shaped;
+    sound = run-sound p (events_of noted) run.driven.shaped run.driven.told.run;
+    rest = subst (IsAtRest p) run.driven.told.cell run.driven.control.at_rest;
+  }
+
+  taken_again : (manner : Manner) (base : List ℕ) (at : Option ℕ) (lines : List (Option (List ℕ))) (answers closing shown pending left : List ℕ) (end : DrivenCell)
+      → whole_lines base ≡ base → IsTakenUp p (ended_lines base) at taken → AreAnswered p manner (driven_so_far p noted) lines answers end → IsGiven p (due_text taken ++ answers) shown pending closing end
+      → IsLeft (length (base ++ logged shown)) (base ++ logged (shown ++ pending)) left → IsTakenUpOnceMore p taken shown left end
+  taken_again manner base at lines answers closing shown pending left end whole up are given is =
+      let from = up.taken_from in
+      let shaped = run.driven.shaped in
+      let is_run = subst (λ (es : List Entry). IsRun p (events_of es)) (sym from.told_is) up.is_run in
+      let on = answered_told p shaped manner (driven_so_far p noted) end lines answers on_course are in
+      let came = map OrderEntry orders ++ on.more in
+      let all : end.entries ≡ told_in taken ++ came = on.entries ∙ ap (λ (es : List Entry). es ++ on.more) run.due ∙ append_assoc (told_in taken) (map OrderEntry orders) on.more in
+      let joined : events_of end.entries ≡ events_of noted ++ events_of on.more = ap events_of on.entries ∙ events-join noted on.more in
+      let run_all : IsRun p (events_of end.entries) = subst (IsRun p) (sym joined) (events_join p (start p) (events_of noted) (events_of on.more) run.driven.told.run on.events) in
+      let text = (due_text taken ++ answers) ++ closing in
+      let tells : TellsFirst p text (came ++ []) =
+      tells_both p (due_text taken ++ answers) closing came [] (tells_both p (due_text taken) answers (map OrderEntry orders) on.more (orders_tell is_run) on.tells) (closing_part p end closing given.closes) in
+      let ranks = run.driven.control.ranks in
+      record {
+        came = came;
+        whole = all;
+        again = again p base (told_in taken) text shown pending given.lost left came whole
+            (subst (λ (es : List Entry). LinesTell p (ended_lines base) es) (sym from.told_is) up.tells)
+            (subst (λ (es : List Entry). LinesTell p (lines_of text) es) (append-nil came) (whole_text p text (came ++ []) tells))
+            (subst (λ (es : List Entry). IsRun p (events_of es)) all run_all)
+            (formed-both (due_text taken ++ answers) closing (formed-both (due_text taken) answers (orders_formed is_run) (answered_formed p shaped manner (driven_so_far p noted) end lines answers on_course are))
+            (last_formed p shaped end closing given.closes))
+            given.given is (λ nodes cycle. ranks_exclude_cycle p _ nodes ranks.rise cycle) (λ none. from.accepted (sym from.told_is ∙ none));
+      }
+
+-- what is so of the plan of a run, is so of the plan that it is
+abbrev TakesAgain : TakenUp → Manner → List ℕ → Option ℕ → List (Option (List ℕ)) → List ℕ → List ℕ → List ℕ → List ℕ → List ℕ → DrivenCell → PlannedShop → Type 0
+TakesAgain taken manner base at lines answers closing shown pending left end p =
+    IsTakenUp p (ended_lines base) at taken → AreAnswered p manner (driven_so_far p taken.driven.log.entries) lines answers end → IsGiven p (due_text taken ++ answers) shown pending closing end
+    → IsTakenUpOnceMore p taken shown left end
+
+pub taken_up_run : ATakenUpRunIsTakenUp
+taken_up_run p manner base at taken lines answers closing shown pending left end whole up are given is =
+    subst (TakesAgain taken manner base at lines answers closing shown pending left end) up.taken_from.planned
+    (λ up_so are_so given_so. taken_again taken up.taken_from.run manner base at lines answers closing shown pending left end whole up_so are_so given_so is) up are given

@@ -1,0 +1,115 @@
+-- What a driven cell answers, as a log gets it.
+use Rattle.std.proofs.Common.{◌≡◌, ℕ, ◌+◌, ◌<◌, ◌≤◌, List, [], ◌∷◌, ◌++◌, codes, Option, None, Some, Bool, true, false, cond, ◌⊎◌, inl, inr, refl, sym, subst, arith}
+use Rattle.shop_base.specs.declared.limits.TheConstants.{MAX_MOMENT}
+use Rattle.shop_base.specs.declared.move_order.Spot.{Spot}
+use Rattle.shop_base.specs.declared.move_order.Spot.TheVariants.{Out, At}
+use Rattle.shop_base.specs.Plan.{PlannedShop, IsWellShaped, jobs, machines}
+use Rattle.shop_base.specs.Cell.{Cell}
+use Rattle.shop_base.specs.Report.{after_report}
+use Rattle.shop_base.specs.Move.{order_for, after_move}
+use Rattle.shop_base.specs.Controlled.{AreMoves, IsStep, orders_for, step_orders}
+use Rattle.shop_base.specs.Sound.{IsSound}
+use Rattle.shop_base.proofs.Keeping.{after_report-sound, after_move-sound}
+use Rattle.cell_tables.specs.Moving.{IsSpotOf}
+use Rattle.cell_tables.specs.Reports.{said}
+use Rattle.cell_tables.specs.declared.report.Report.{Report}
+use Rattle.cell_tables.specs.declared.report.Report.TheVariants.{Arrive, Finish, Clean}
+use Rattle.cell_tables.specs.declared.entry.Entry.{Entry}
+use Rattle.cell_tables.specs.declared.entry.Entry.TheVariants.{Report as ReportEntry, Order as OrderEntry}
+use Rattle.byte_streams.specs.Answering.{AnswerAll}
+use Rattle.event_lines.specs.Words.{short, moment}
+use Rattle.event_lines.specs.EventLines.{spot_word, told_words, entry_words, report_line, order_line, order_lines}
+use Rattle.event_lines.specs.AnswerLines.{late_words, late_line}
+use Rattle.event_lines.specs.LogLines.{IsEntryOf}
+use Rattle.event_lines.specs.ReadBack.{IsFitting, AreFitting}
+use Rattle.cell_drive.specs.LineAnswers.{ReportAnswer}
+use Rattle.cell_drive.specs.AnswerText.{DrivenCell, CellAnswers, CellCloses}
+use Rattle.cell_drive.proofs.OneText.{IsOnCourse, driven_lines_keep}
+use Rattle.cell_drive.proofs.ReadBack.{name_spaceless}
+use Rattle.cell_drive.proofs.ShopEntries.{report_of_shop, order_of_shop}
+use Rattle.run_journal.proofs.Formed.{IsFormed, formed-none, formed-both}
+use Rattle.run_journal.proofs.FormedLines.{formed-entry, formed-late, formed-refused, formed-done, formed-unfinished}
+
+pub moment_fits : (at : ℕ) → at ≤ MAX_MOMENT → IsFitting (moment at)
+moment_fits at in_range = (omega arith, omega (arith, in_range), omega (arith, in_range))
+
+pub late_fits : (at : ℕ) → at ≤ MAX_MOMENT → AreFitting (late_words at)
+late_fits at in_range = (refl, (moment_fits at in_range, tt))
+
+module _ (p : PlannedShop) (shaped : IsWellShaped p) where
+  pub job_fits : (j : ℕ) → j < jobs p → IsFitting (short j)
+  job_fits j inside = let few = shaped.shop.counts.few_jobs in (omega arith, omega (arith, inside, few), omega (arith, inside, few))
+
+  pub machine_fits : (m : ℕ) → m < machines p → IsFitting (short m)
+  machine_fits m inside = let few = shaped.shop.counts.few_machines in (omega arith, omega (arith, inside, few), omega (arith, inside, few))
+
+  spot_fits : (spot : Spot) → IsSpotOf p spot → IsFitting (spot_word spot)
+  spot_fits Out of_shop = refl
+  spot_fits (At m) of_shop = machine_fits m of_shop
+
+  report_fits : (report : Report) → IsEntryOf p (ReportEntry report) → AreFitting (told_words report)
+  report_fits (Arrive job at) of_shop = (refl, (moment_fits at of_shop.1, (refl, (job_fits job of_shop.0, tt))))
+  report_fits (Finish job machine at) of_shop = (refl, (moment_fits at of_shop.1, (refl, (job_fits job of_shop.0.0, (machine_fits machine of_shop.0.1, tt)))))
+  report_fits (Clean machine at) of_shop = (refl, (moment_fits at of_shop.1, (refl, (machine_fits machine of_shop.0, tt))))
+
+  entry_fits : (entry : Entry) → IsEntryOf p entry → AreFitting (entry_words entry)
+  entry_fits (ReportEntry report) of_shop = report_fits report of_shop
+  entry_fits (OrderEntry o) of_shop = (refl, (moment_fits o.at of_shop.3, (job_fits o.job of_shop.0, (spot_fits o.source of_shop.1, (spot_fits o.target of_shop.2, tt)))))
+
+  -- ---- the lines of a step
+
+  pub formed_moves : (c : Cell) (t : ℕ) (js : List ℕ) → IsSound p c → AreMoves p c t js → IsFormed (order_lines (orders_for p c t js))
+  formed_moves c t [] sound moves = formed-none
+  formed_moves c t (j ∷ js) sound moves =
+      let o = order_for p c j t in
+      formed-both (order_line o) (order_lines (orders_for p (after_move p c j t) t js)) (formed-entry (OrderEntry o) (entry_fits (OrderEntry o) (order_of_shop p c j t shaped sound moves.0)))
+      (formed_moves (after_move p c j t) t js (after_move-sound p c j t shaped sound moves.0 moves.1) moves.2)
+
+  pub step_formed : (c : Cell) (report : Report) (movers : List ℕ) → IsSound p c → IsStep p c (said report) movers → IsFormed (order_lines (step_orders p c (said report) movers))
+  step_formed c report movers sound step = formed_moves (after_report c (said report)) (said report).at movers (after_report-sound p c (said report) shaped sound step.can) step.moves
+
+  pub report_formed : (c : Cell) (report : Report) (movers : List ℕ) → IsSound p c → IsStep p c (said report) movers → IsFormed (report_line report)
+  report_formed c report movers sound step = formed-entry (ReportEntry report) (entry_fits (ReportEntry report) (report_of_shop p c report shaped sound step.can))
+
+  late_formed : (at : ℕ) (late : Bool) → at ≤ MAX_MOMENT → IsFormed (cond late (late_line at) [])
+  late_formed at true in_range = formed-late at (late_fits at in_range)
+  late_formed at false in_range = formed-none
+
+  -- ---- answers
+
+  answer_formed : (c next : Cell) (number : ℕ) (report : Report) (text : List ℕ) (more : List Entry) → IsSound p c → ReportAnswer p [] c number report text more next → IsFormed text
+  answer_formed c next number report text more sound (inl is) = subst IsFormed (sym is.text_is) (formed-refused number _ (name_spaceless is.reason))
+  answer_formed c next number report text more sound (inr is) =
+      let late = cond is.late (late_line (said report).at) [] in
+      let orders = order_lines (step_orders p c (said report) is.movers) in
+      subst IsFormed (sym is.text_is)
+      (formed-both (report_line report) (late ++ orders) (report_formed c report is.movers sound is.step)
+      (formed-both late orders (late_formed (said report).at is.late is.step.can.moment.in_range) (step_formed c report is.movers sound is.step)))
+
+  line_formed : (before : DrivenCell) (number : ℕ) (line : Option (List ℕ)) (text : List ℕ) (end : DrivenCell) → IsSound p before.cell → CellAnswers p before number line text end → IsFormed text
+  line_formed before number None text end sound is = subst IsFormed (sym is.text_is) (formed-refused number (codes "LongLine") refl)
+  line_formed before number (Some []) text end sound is = subst IsFormed (sym is.text_is) formed-none
+  line_formed before number (Some (b ∷ line)) text end sound (inl is) = subst IsFormed (sym is.1.text_is) (formed-refused number (codes "BadLine") refl)
+  line_formed before number (Some (b ∷ line)) text end sound (inr is) = answer_formed before.cell end.cell number is.what text is.answer.more sound is.answer.answer
+
+  -- lines, whatever is answered to each
+  module _ (answers : DrivenCell → ℕ → Option (List ℕ) → List ℕ → DrivenCell → Type 0)
+      (keeps : (before : DrivenCell) (number : ℕ) (line : Option (List ℕ)) (text : List ℕ) (end : DrivenCell) → IsOnCourse p before.cell → answers before number line text end → IsOnCourse p end.cell)
+      (formed : (before : DrivenCell) (number : ℕ) (line : Option (List ℕ)) (text : List ℕ) (end : DrivenCell) → IsSound p before.cell → answers before number line text end → IsFormed text) where
+    pub all_formed : (lines : List (Option (List ℕ))) (before end : DrivenCell) (number : ℕ) (text : List ℕ) → IsOnCourse p before.cell → AnswerAll answers before number lines text end → IsFormed text
+    all_formed [] before end number text on all = subst IsFormed (sym all.0) formed-none
+    all_formed (line ∷ lines) before end number text on all =
+        subst IsFormed (sym all.5) (formed-both all.0 all.1 (formed before number line all.0 all.2 on.sound all.3)
+        (all_formed lines all.2 end (number + 1) all.1 (keeps before number line all.0 all.2 on all.3) all.4))
+
+  pub answers_formed : (lines : List (Option (List ℕ))) (before end : DrivenCell) (number : ℕ) (text : List ℕ) → IsOnCourse p before.cell → AnswerAll (CellAnswers p) before number lines text end → IsFormed text
+  answers_formed lines before end number text on all = all_formed (CellAnswers p) (driven_lines_keep p) line_formed lines before end number text on all
+
+  closing_formed : (end : DrivenCell) (text : List ℕ) → CellCloses p end text → IsFormed text
+  closing_formed end text (inl ended) = subst IsFormed (sym ended.1) (formed-done end.cell.last)
+  closing_formed end text (inr unfinished) = subst IsFormed (sym unfinished.1) (formed-unfinished _)
+
+  -- the closing line, where it stands behind the answers
+  pub last_formed : (end : DrivenCell) (closing : List ℕ) → (closing ≡ []) ⊎ CellCloses p end closing → IsFormed closing
+  last_formed end closing (inl none) = subst IsFormed (sym none) formed-none
+  last_formed end closing (inr closes) = closing_formed end closing closes

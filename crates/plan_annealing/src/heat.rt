@@ -1,0 +1,45 @@
+//! How hot a round is.
+
+/// How hot a round begins. A hot one gets away from a plan that the others can't leave. A cool one keeps most of the plan
+/// that it begins with: if there are many steps, a warm round looks at too few plans to find a better one again.
+#[derive(Clone, Copy, PartialEq, Eq)]
+pub(crate) enum Heat {
+    Warm,
+    Cool,
+    Hot,
+}
+
+/// The most steps for which no round is cool.
+const FEW_STEPS: u64 = 100;
+
+impl Heat {
+    /// The heat of a round over so many steps, by whether a job is late: every fourth round is hot (1, 5, ..), and the
+    /// first is warm.
+    pub fn of(round: u32, steps: u64, is_late: bool) -> Heat {
+        if round & 3 == 1 {
+            Heat::Hot
+        } else if round == 0 || steps <= FEW_STEPS || is_late {
+            Heat::Warm
+        } else {
+            Heat::Cool
+        }
+    }
+
+    /// The temperature at the beginning, in hundredths of the mean time of a step.
+    pub fn beginning(self) -> u64 {
+        match self {
+            Heat::Warm => 80,
+            Heat::Cool => 40,
+            Heat::Hot => 240,
+        }
+    }
+
+    /// By what it is multiplied in each of 256 phases, in 1/65536: after all of them it is at 15 hundredths.
+    pub fn fall(self) -> u64 {
+        match self {
+            Heat::Warm => 65108,
+            Heat::Cool => 65285,
+            Heat::Hot => 64830,
+        }
+    }
+}
