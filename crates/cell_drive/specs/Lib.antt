@@ -7,7 +7,6 @@ pub mod OneTextLaw
 pub mod AuditLaw
 pub mod ManyCells
 pub mod CellsTextLaw
-pub mod CellsAlone
 pub mod ManyRuns
 pub mod RestCell
 pub mod LateEvents
@@ -17,25 +16,17 @@ pub mod ToldLines
 pub mod Resuming
 pub mod CutLogs
 pub mod CutLaw
-pub mod AnswerLaw
-pub mod TakingUpLaw
 pub mod Manners
 pub mod Refusals
 pub mod States
-pub mod StatesLaw
 pub mod Stated
 pub mod StatedRest
 pub mod Retold
 pub mod StatedResume
 pub mod InManner
 pub mod StatedLaw
-pub mod LeapLaw
-pub mod VersionsLaw
-pub mod StatedRestLaw
-pub mod ShortLinesLaw
 pub mod StatedCells
 pub mod StatedCellsLaw
-pub mod CellsVersionsLaw
 -- Of proofs and private contracts alone.
 pub mod Tickets
 pub mod Judging

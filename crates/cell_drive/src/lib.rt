@@ -9,7 +9,6 @@ mod answers;
 mod in_manner;
 mod judging;
 mod lateness;
-pub mod laws;
 mod manner;
 mod many_cells;
 mod many_runs;

@@ -1,7 +1,6 @@
 pub mod Planning
 pub mod Improving
 pub mod ImprovingRests
-pub mod PlainWords
 pub mod Telling
 pub mod Accepting
 pub mod Refusing
@@ -12,8 +11,3 @@ pub mod Keepers
 pub mod Choosing
 pub mod Endings
 pub mod LogsAtEnd
-pub mod GoodFiles
-pub mod GoodHubs
-pub mod GoodInputs
-pub mod SameWriting
-pub mod SameResuming

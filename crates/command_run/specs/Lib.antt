@@ -12,6 +12,5 @@ pub mod Ending
 pub mod Tellings
 pub mod Program
 pub mod Laws
-pub mod ResumeLaw
 -- Of proofs and private contracts alone.
 pub mod Unchosen

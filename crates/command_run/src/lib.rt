@@ -8,7 +8,6 @@ mod ending;
 mod hubs;
 mod improvers;
 mod input;
-pub mod laws;
 mod logs;
 mod pictures;
 mod planners;

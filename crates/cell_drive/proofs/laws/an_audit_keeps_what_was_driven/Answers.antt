@@ -1,9 +1,0 @@
-use Rattle.cell_drive.proofs.AuditKeeps.{an_audit_keeps_what_was_driven}
-use Rattle.cell_drive.proofs.StatedAudits.{an_audit_keeps_what_was_stated}
-use Rattle.cell_drive.proofs.laws.an_audit_keeps_what_was_driven.Goals as goal
-
-pub returns-clause-plain : goal.returns-clause-plain
-returns-clause-plain c = an_audit_keeps_what_was_driven
-
-pub returns-clause-stated : goal.returns-clause-stated
-returns-clause-stated c = an_audit_keeps_what_was_stated

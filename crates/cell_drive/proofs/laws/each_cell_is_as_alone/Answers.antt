@@ -1,5 +1,0 @@
-use Rattle.cell_drive.proofs.CellsAlone.{as_alone}
-use Rattle.cell_drive.proofs.laws.each_cell_is_as_alone.Goals as goal
-
-pub returns : goal.returns
-returns c = as_alone

@@ -1,9 +1,0 @@
-use Rattle.cell_drive.proofs.ResumedTexts.{what_was_resumed_goes_on}
-use Rattle.cell_drive.proofs.StatedResumes.{what_was_stated_on_goes_on}
-use Rattle.cell_drive.proofs.laws.what_was_resumed_goes_on.Goals as goal
-
-pub returns-clause-plain : goal.returns-clause-plain
-returns-clause-plain c = what_was_resumed_goes_on
-
-pub returns-clause-stated : goal.returns-clause-stated
-returns-clause-stated c = what_was_stated_on_goes_on

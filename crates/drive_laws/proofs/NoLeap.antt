@@ -1,0 +1,45 @@
+-- No punctual report leaps, where no time of the plan is longer than the longest that may pass.
+use Rattle.std.proofs.Common.{◌≡◌, ℕ, ◌+◌, ◌-◌, ◌≤◌, nat_lt, Bool, true, false, cond, Option, Some, le-ltb, ltb-true, refl, ap, ◌∙◌, arith}
+use Rattle.shop_base.specs.Plan.{PlannedShop}
+use Rattle.shop_base.specs.Cell.{Cell}
+use Rattle.shop_base.specs.Activity.{Activity, Arrival, Operation, Cleaning, GoesOn}
+use Rattle.shop_base.specs.Sound.{IsSound}
+use Rattle.shop_base.proofs.InShop.{outside_in_shop, cleaned_in_shop}
+use Rattle.shop_base.proofs.Keeping.{run-sound}
+use Rattle.shop_base.proofs.Visits.{visits_job}
+use Rattle.cell_tables.specs.Reports.{said}
+use Rattle.cell_tables.specs.Events.{events_of}
+use Rattle.event_lines.specs.Requests.{claimed}
+use Rattle.cell_drive.specs.declared.manner.Manner.{Manner}
+use Rattle.cell_drive.specs.Manners.{leap_base, leaps, is_too_long}
+use Rattle.cell_drive.specs.OneRun.{cell_after}
+use Rattle.drive_laws.specs.LeapLaw.{HasNoLongerTime, NoPunctualReportLeaps}
+use Rattle.drive_laws.proofs.BegunByLast.{AreBegunByLast, begun_in_run}
+use Rattle.cell_drive.proofs.Refusing.{can_report}
+
+-- whatever goes on is due so soon after the last moment
+due_soon : (p : PlannedShop) (c : Cell) (longest : ℕ) → IsSound p c → AreBegunByLast c → HasNoLongerTime p longest → (a : Activity) (due : ℕ) → GoesOn p c a due → due ≤ c.last + longest
+due_soon p c longest sound begun short (Arrival j) due is = omega (arith, is.is_due, short.releases j (outside_in_shop p c j sound is.outside))
+due_soon p c longest sound begun short (Operation j m) due (k, is) =
+    omega (arith, is.is_due, sound.begun j, short.nominals j k (visits_job p j k m is.on.visits) is.on.visits.within)
+due_soon p c longest sound begun short (Cleaning m) due (s, is) =
+    omega (arith, is.is_due, begun m s is.is_cleaned, short.cleanings m (cleaned_in_shop p c m s sound is.is_cleaned))
+
+-- a leap counts from the last moment or a later one
+counted_from : (last from : ℕ) (is : Bool) → nat_lt last from ≡ is → last ≤ cond is from last
+counted_from last from true is = omega (arith, ltb-true last from is)
+counted_from last from false is = omega arith
+
+no_leap : (manner : Manner) (longest last at : ℕ) → manner.longest ≡ Some longest → at ≤ last + longest → leaps manner last at ≡ false
+no_leap manner longest last at is soon =
+    let base = leap_base manner last in
+    let from : last ≤ base = counted_from last manner.from (nat_lt last manner.from) refl in
+    ap (λ (o : Option ℕ). is_too_long o (at - base)) is ∙ le-ltb longest (at - base) (omega (arith, from, soon))
+
+pub no_punctual_report_leaps : NoPunctualReportLeaps
+no_punctual_report_leaps p manner longest entries claim shaped is short run can punctual =
+    let c = cell_after p entries in
+    let r = said (claimed claim) in
+    let going = (can_report p c claim can).going in
+    let soon = due_soon p c longest (run-sound p (events_of entries) shaped run) (begun_in_run p shaped (events_of entries) run) short r.ended going.0 going.1 in
+    (can, no_leap manner longest c.last r.at is (omega (arith, soon, punctual r.ended going.0 going.1)))

@@ -1,0 +1,91 @@
+-- What a run that was taken up writes in version 2 of the lines only adds to what it writes in version 1.
+use Rattle.std.proofs.Common.{◌≡◌, ℕ, List, [], ◌∷◌, ◌++◌, Bool, true, false, cond, Option, None, length, take, drop, refl, sym, ap, ◌∙◌, subst, append_assoc, append-nil}
+use Rattle.shop_base.specs.Plan.{PlannedShop}
+use Rattle.shop_base.specs.Cell.{Cell, start}
+use Rattle.shop_base.specs.Run.{after}
+use Rattle.cell_tables.specs.declared.report.Report.{Report}
+use Rattle.cell_tables.specs.Reports.{said}
+use Rattle.cell_tables.specs.declared.entry.Entry.{Entry}
+use Rattle.cell_tables.specs.declared.entry.Entry.TheVariants.{Report as ReportEntry, Order as OrderEntry}
+use Rattle.cell_tables.specs.Events.{event_of}
+use Rattle.event_lines.specs.EventLines.{report_line, order_line, entry_lines}
+use Rattle.event_lines.specs.AnswerLines.{late_line}
+use Rattle.event_lines.specs.declared.details.Overdue.{Overdue}
+use Rattle.cell_drive.specs.Stated.{lateness_part, taken_lines, told_overdue}
+use Rattle.cell_drive.specs.ToldLines.{told_lines}
+use Rattle.cell_drive.specs.Retold.{retold_line, retold_lines}
+use Rattle.cell_drive.specs.Resuming.{again_text, driven_so_far}
+use Rattle.drive_laws.specs.StatedRestLaw.{RetoldAsEver, ResumingOnlyAdds, restated_text}
+use Rattle.drive_laws.specs.VersionsLaw.{IsPlainText, taken, ordered, empty_line, in_version}
+use Rattle.drive_laws.proofs.Versions.{version_2_only_adds}
+
+untold_lateness : (tells : Bool) (at : ℕ) (late : Bool) (overdue : Option Overdue) → tells ≡ false → lateness_part [] at late (cond tells overdue None) ≡ cond late (late_line at) []
+untold_lateness true at late overdue plain = absurd (cc)
+untold_lateness false at late overdue plain = refl
+
+pub retold_as_ever : RetoldAsEver
+retold_as_ever p manner c [] late plain = refl
+retold_as_ever p manner c (entry ∷ entries) [] plain = refl
+retold_as_ever p manner c (ReportEntry report ∷ entries) (was_late ∷ late) plain =
+    ap (λ (rest : List ℕ). retold_line p manner c (ReportEntry report) was_late ++ rest) (retold_as_ever p manner (after p c (event_of (ReportEntry report))) entries late plain)
+    ∙ ap (λ (line : List ℕ). (report_line report ++ line) ++ told_lines entries late) (untold_lateness manner.tells (said report).at was_late _ plain)
+retold_as_ever p manner c (OrderEntry order ∷ entries) (was_late ∷ late) plain =
+    ap (λ (rest : List ℕ). order_line order ++ rest) (retold_as_ever p manner (after p c (event_of (OrderEntry order))) entries late plain)
+
+-- the line of a report and that it was late, and what stands behind them, as the lines of an accepted report without orders
+as_taken : (report : Report) (late : Bool) (overdue : Option Overdue) (rest more : List ℕ)
+    → ((report_line report ++ lateness_part [] (said report).at late overdue) ++ rest) ++ more ≡ taken_lines [] report late overdue [] false ++ (rest ++ more)
+as_taken report late overdue rest more =
+    let lateness = lateness_part [] (said report).at late overdue in
+    append_assoc (report_line report ++ lateness) rest more ∙ ap (λ (t : List ℕ). (report_line report ++ t) ++ (rest ++ more)) (sym (append-nil lateness))
+
+plain_report : (report : Report) (late : Bool) (overdue : Option Overdue) (rest more other others : List ℕ) → IsPlainText (rest ++ more) (other ++ others)
+    → IsPlainText (((report_line report ++ lateness_part [] (said report).at late overdue) ++ rest) ++ more) (((report_line report ++ cond late (late_line (said report).at) []) ++ other) ++ others)
+plain_report report late overdue rest more other others plain =
+    subst (λ (t : List ℕ). IsPlainText t (((report_line report ++ cond late (late_line (said report).at) []) ++ other) ++ others)) (sym (as_taken report late overdue rest more))
+    (subst (λ (t : List ℕ). IsPlainText (taken_lines [] report late overdue [] false ++ (rest ++ more)) t) (sym (as_taken report late None other others))
+    (taken report late overdue [] false (rest ++ more) (other ++ others) plain))
+
+-- the lines of events, and what stands behind them
+plain_entries : (entries : List Entry) (more others : List ℕ) → IsPlainText more others → IsPlainText (entry_lines entries ++ more) (entry_lines entries ++ others)
+plain_entries [] more others plain = plain
+plain_entries (ReportEntry report ∷ entries) more others plain =
+    let rest = entry_lines entries in
+    subst (λ (line : List ℕ). IsPlainText ((line ++ rest) ++ more) ((line ++ rest) ++ others)) (append-nil (report_line report))
+    (plain_report report false None rest more rest others (plain_entries entries more others plain))
+plain_entries (OrderEntry order ∷ entries) more others plain =
+    let rest = entry_lines entries in
+    subst (λ (t : List ℕ). IsPlainText t ((order_line order ++ rest) ++ others)) (sym (append_assoc (order_line order) rest more))
+    (subst (λ (t : List ℕ). IsPlainText (order_line order ++ (rest ++ more)) t) (sym (append_assoc (order_line order) rest others))
+    (ordered order (rest ++ more) (rest ++ others) (plain_entries entries more others plain)))
+
+module _ (p : PlannedShop) (longest : Option ℕ) (from : ℕ) where
+  -- those that are told again, and what stands behind them
+  plain_again : (c : Cell) (entries : List Entry) (late : List Bool) (more others : List ℕ) → IsPlainText more others
+      → IsPlainText (retold_lines p (in_version true longest from) c entries late ++ more) (told_lines entries late ++ others)
+  plain_again c [] late more others plain = plain
+  plain_again c (entry ∷ entries) [] more others plain = plain
+  plain_again c (ReportEntry report ∷ entries) (was_late ∷ late) more others plain =
+      let next = after p c (event_of (ReportEntry report)) in
+      plain_report report was_late (told_overdue (in_version true longest from) p c report) (retold_lines p (in_version true longest from) next entries late) more (told_lines entries late) others
+      (plain_again next entries late more others plain)
+  plain_again c (OrderEntry order ∷ entries) (was_late ∷ late) more others plain =
+      let next = after p c (event_of (OrderEntry order)) in
+      let rest = retold_lines p (in_version true longest from) next entries late in
+      subst (λ (t : List ℕ). IsPlainText t ((order_line order ++ told_lines entries late) ++ others)) (sym (append_assoc (order_line order) rest more))
+      (subst (λ (t : List ℕ). IsPlainText (order_line order ++ (rest ++ more)) t) (sym (append_assoc (order_line order) (told_lines entries late) others))
+      (ordered order (rest ++ more) (told_lines entries late ++ others) (plain_again next entries late more others plain)))
+
+  plain_text : (entries : List Entry) (late : List Bool) (text other : List ℕ) → IsPlainText text other
+      → IsPlainText (restated_text p (in_version true longest from) entries late ++ text) (again_text entries late ++ other)
+  plain_text entries late text other plain =
+      let told = take (length late) entries in
+      let due = entry_lines (drop (length late) entries) in
+      subst (λ (t : List ℕ). IsPlainText t (again_text entries late ++ other)) (sym (append_assoc (retold_lines p (in_version true longest from) (start p) told late) (10 ∷ due) text))
+      (subst (λ (t : List ℕ). IsPlainText (retold_lines p (in_version true longest from) (start p) told late ++ (10 ∷ (due ++ text))) t) (sym (append_assoc (told_lines told late) (10 ∷ due) other))
+      (plain_again (start p) told late (10 ∷ (due ++ text)) (10 ∷ (due ++ other)) (empty_line (due ++ text) (due ++ other) (plain_entries (drop (length late) entries) text other plain))))
+
+pub resuming_only_adds : ResumingOnlyAdds
+resuming_only_adds p longest from entries late lines text end of all =
+    let one = version_2_only_adds p longest from 1 lines text (driven_so_far p entries) end of all in
+    (one.0, one.1, plain_text p longest from entries late text one.0 one.2)

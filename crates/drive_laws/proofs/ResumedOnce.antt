@@ -1,0 +1,39 @@
+-- What was reported in a run isn't taken again, where the run goes on either.
+use Rattle.std.proofs.Common.{◌≡◌, List, ◌∷◌, ◌++◌, sym, ap, ◌∙◌, subst, append_assoc}
+use Rattle.shop_base.specs.Cell.{Cell, start}
+use Rattle.shop_base.specs.Run.{Event, Reported, after_all, IsRun}
+use Rattle.shop_base.proofs.ControlledRuns.{events_join, after_all_join}
+use Rattle.cell_tables.specs.Reports.{said}
+use Rattle.cell_tables.specs.declared.entry.Entry.TheVariants.{Report as ReportEntry}
+use Rattle.cell_tables.specs.Events.{events_of}
+use Rattle.cell_control.proofs.Once.{once}
+use Rattle.run_log.proofs.Audits.{events-join}
+use Rattle.event_lines.specs.Requests.{claimed}
+use Rattle.cell_drive.specs.Refusals.{CanClaim}
+use Rattle.cell_drive.specs.OneRun.{cell_after}
+use Rattle.cell_drive.specs.Resuming.{driven_so_far}
+use Rattle.cell_drive.specs.StatedLaw.{NothingOfARunIsClaimedAgain}
+use Rattle.drive_laws.specs.StatedRestLaw.{NothingOfALogIsTakenAgain}
+use Rattle.cell_drive.proofs.Refusing.{can_report}
+use Rattle.drive_laws.proofs.ResumedTexts.{rests_on_course}
+use Rattle.drive_laws.proofs.TakenOnce.{tells_named, told}
+
+pub nothing_of_a_run_is_claimed_again : NothingOfARunIsClaimedAgain
+nothing_of_a_run_is_claimed_again p before after report again ended shaped run tells names can =
+    let whole : events_of (before ++ ReportEntry report ∷ after) ≡ events_of before ++ Reported (said report) ∷ events_of after = events-join before (ReportEntry report ∷ after) in
+    let can_then : CanClaim p (after_all p (start p) (events_of before ++ Reported (said report) ∷ events_of after)) again =
+    subst (λ (es : List Event). CanClaim p (after_all p (start p) es) again) whole can in
+    once p (events_of before) (events_of after) (said report) (said (claimed again)) ended shaped (subst (IsRun p) whole run) tells
+    (tells_named p (after_all p (start p) (events_of before ++ Reported (said report) ∷ events_of after)) again ended names can_then)
+    (can_report p (after_all p (start p) (events_of before ++ Reported (said report) ∷ events_of after)) again can_then)
+
+pub nothing_of_a_log_is_taken_again : NothingOfALogIsTakenAgain
+nothing_of_a_log_is_taken_again p manner before after report lines number text end again ended shaped run tells answered names can =
+    let entries = before ++ ReportEntry report ∷ after in
+    let further = told p manner shaped lines (driven_so_far p entries) end number text (rests_on_course p entries shaped run) answered in
+    let all = before ++ ReportEntry report ∷ (after ++ further.more) in
+    let parts : entries ++ further.more ≡ all = append_assoc before (ReportEntry report ∷ after) further.more in
+    let joined : events_of entries ++ events_of further.more ≡ events_of all = sym (events-join entries further.more) ∙ ap events_of parts in
+    let is_run : IsRun p (events_of all) = subst (IsRun p) joined (events_join p (start p) (events_of entries) (events_of further.more) run.0 further.events) in
+    let to_end : end.cell ≡ cell_after p all = further.cell ∙ sym (after_all_join p (start p) (events_of entries) (events_of further.more)) ∙ ap (after_all p (start p)) joined in
+    nothing_of_a_run_is_claimed_again p before (after ++ further.more) report again ended shaped is_run tells names (subst (λ (x : Cell). CanClaim p x again) to_end can)

@@ -1,0 +1,10 @@
+-- Reached by public clauses: to be read and believed.
+pub mod CellsAlone
+pub mod AnswerLaw
+pub mod TakingUpLaw
+pub mod StatesLaw
+pub mod LeapLaw
+pub mod VersionsLaw
+pub mod StatedRestLaw
+pub mod ShortLinesLaw
+pub mod CellsVersionsLaw

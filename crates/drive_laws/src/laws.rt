@@ -1,0 +1,226 @@
+//! The laws of answer texts, and of runs that are taken up. Two of them join the two ends of the program: they speak of what `drive`
+//! and `resume` promise of their success, and of what `audit` promises.
+
+// Nothing is done here: a function's contract is the law, so a check of this crate proves it.
+
+ghost use Rattle.cell_drive.specs.OneTextLaw.{OneAnswerText, OneTextForLines, ADrivenCellAnswersSo};
+ghost use Rattle.cell_drive.specs.CellsTextLaw.{OneCellsAnswerText, OneCellsTextForLines};
+ghost use Rattle.drive_laws.specs.CellsAlone.{EachCellIsAsAlone};
+ghost use Rattle.cell_drive.specs.AuditLaw.{AnAnswerTextIsALog, AnAuditKeepsWhatWasDriven};
+ghost use Rattle.drive_laws.specs.AnswerLaw.{ToldAsAnswered};
+ghost use Rattle.cell_drive.specs.CutLaw.{ACutLogIsTakenUp, WhatWasResumedIsTakenUp, WhatWasResumedCanBeTakenUp, ACutLogHasItsOrders, WhatWasDrivenHasItsOrders, ItCanBeTakenUp, ItIsTakenUpWithItsOrders};
+ghost use Rattle.cell_drive.specs.Resuming.{AResumedTextIsALog, AnAuditKeepsWhatWasResumed, OneResumedText, WhatWasResumedIsSuchAText, WhatWasResumedGoesOn};
+ghost use Rattle.drive_laws.specs.TakingUpLaw.{OneTakingUp, OneTextFromALog, OneStatedTextFromALog, ALogWithoutEventsIsDriven, ALogWithoutEventsIsDrivenSo};
+ghost use Rattle.drive_laws.specs.StatesLaw.{OnlyGoneJobsAreLeftOut, OnlyCleanMachinesAreLeftOut};
+ghost use Rattle.drive_laws.specs.ShortLinesLaw.{StateLinesAreShort, RefusalsAreShort, LateLinesAreShort, StandingsAreShort, DetailsAreShort, OverdueIsShort, LineNumbersAreShort};
+ghost use Rattle.cell_drive.specs.StatedCellsLaw.{OneStatedCellsText, OneStatedCellsTextForLines, EachStatedCellIsAlone, PlainlyAsEverForCells};
+ghost use Rattle.drive_laws.specs.LeapLaw.{NoPunctualReportLeaps};
+ghost use Rattle.drive_laws.specs.VersionsLaw.{Version2OnlyAdds};
+ghost use Rattle.drive_laws.specs.CellsVersionsLaw.{Version2OnlyAddsForCells};
+ghost use Rattle.drive_laws.specs.StatedRestLaw.{AStatedRestAnswersSo, NothingOfALogIsTakenAgain, RetoldAsEver, ResumingOnlyAdds, AStatedResumedTextIsALog, OneStatedResumedText, WhatWasStatedIsTakenUp, WhatWasStatedHasItsOrders, WhatWasStatedOnIsTakenUp, WhatWasStatedOnCanBeTakenUp, WhatWasStatedOnIsSuchAText, AnAuditKeepsWhatWasStatedOn, WhatWasStatedOnGoesOn};
+ghost use Rattle.cell_drive.specs.StatedLaw.{OneStatedText, AStatedCellAnswersSo, AStatedTextIsALog, AnAuditKeepsWhatWasStated, PlainlyAsEver, NothingIsTakenTwice, NothingOfARunIsClaimedAgain, ALateReportFindsSomethingOverdue};
+
+pub use byte_streams::laws::the_limits_of_an_input_in_numbers;
+
+/// For a well-shaped plan an input has one answer text at most, which leads to one cell with one list of events; and
+/// so have its first lines. So what is written depends on the plan and on the bytes of the input, and not on the
+/// pieces in which these come. What a driven cell has answered is such a text.
+pub fn one_answer_text()
+    ensures whole { OneAnswerText }
+    ensures lines { OneTextForLines }
+    ensures driven { ADrivenCellAnswersSo }
+{}
+
+/// The same of an input of several cells, each of an accepted plan: one text at most, which leads to one list of what
+/// the cells hold.
+pub fn one_answer_text_of_cells()
+    ensures whole { OneCellsAnswerText }
+    ensures lines { OneCellsTextForLines }
+{}
+
+/// Let cells by accepted plans answer any lines. Each of them is then as with a controller alone that was made of its
+/// plan and given the reports on it that the lines have. These events are their controlled run, through which all
+/// stays as the plan promises, and which has ended exactly where as many reports were accepted as the stated number.
+pub fn each_cell_is_as_alone()
+    ensures { EachCellIsAsAlone }
+{}
+
+/// For a well-shaped plan the lines of an answer text record, in order, exactly the reports that were accepted and the
+/// moves that were ordered. These are a run of the plan, which leads to the cell at the end.
+pub fn an_answer_text_is_a_log()
+    ensures { AnAnswerTextIsALog }
+{}
+
+/// Let `drive` succeed, in any manner, into a writer whose bytes are known, and audit what it wrote against the same plan.
+/// The only fault of the audit is `Memory`. The audit finds the events of the log, how many reports were accepted and
+/// moves ordered, the last moment, and `complete` exactly if driving was `done`.
+pub fn an_audit_keeps_what_was_driven()
+    ensures plain { AnAuditKeepsWhatWasDriven }
+    ensures stated { AnAuditKeepsWhatWasStated }
+{}
+
+/// Cut the log of a run after any number of bytes. The ended lines of what is left tell the first events of that run. So
+/// it is with what `resume` writes, up to any point; and that can be taken up again by the same plan, wherever the line of
+/// its first event is out, or the plan is an accepted one.
+pub fn a_cut_log_is_taken_up()
+    ensures log { ACutLogIsTakenUp }
+    ensures resumed { WhatWasResumedIsTakenUp }
+    ensures again { WhatWasResumedCanBeTakenUp }
+{}
+
+/// Cut what a cell has written in any manner, from the start of its run or from where that was taken up, after any number of
+/// bytes. The ended lines of what is left tell the first events of the run; and what was taken up can be taken up again, under
+/// the same condition.
+pub fn a_cut_log_of_any_manner_is_taken_up()
+    ensures driven { WhatWasStatedIsTakenUp }
+    ensures resumed { WhatWasStatedOnIsTakenUp }
+    ensures again { WhatWasStatedOnCanBeTakenUp }
+{}
+
+/// Cut the log of a controlled run after any number of bytes, as one that `drive` writes in any manner. The events of its
+/// ended lines, with the orders that are due, are the first events of that run. By an accepted plan what is left can be
+/// taken up; and if no present moment is given, it is taken up with just these orders.
+pub fn a_cut_log_has_its_orders()
+    ensures log { ACutLogHasItsOrders }
+    ensures driven { WhatWasDrivenHasItsOrders }
+    ensures stated { WhatWasStatedHasItsOrders }
+    ensures can { ItCanBeTakenUp }
+    ensures orders { ItIsTakenUpWithItsOrders }
+{}
+
+/// Let a log be that of a controlled run, and let the lines of an input be the reports of that run, one after another. The events that
+/// are written again, and then the orders that are due, are what `drive` answers to those lines. The mark between
+/// them isn't.
+pub fn told_as_answered()
+    ensures { ToldAsAnswered }
+{}
+
+/// For a well-shaped plan an input has one text that answers it after what was taken up, which leads to one cell
+/// with one list of events. What `resume` writes, if it succeeds, is that text for what it read.
+pub fn one_resumed_text()
+    ensures one { OneResumedText }
+    ensures resumed { WhatWasResumedIsSuchAText }
+{}
+
+/// A log is taken up in one way: by a plan, and at a present moment, as one cell with one list of events, of which the same are
+/// told as late. So an input has one text that answers it from there, in each manner.
+pub fn one_taking_up()
+    ensures one { OneTakingUp }
+    ensures text { OneTextFromALog }
+    ensures stated { OneStatedTextFromALog }
+{}
+
+/// Let a log tell no event, and be taken up without a present moment. What is written to answer an input is then an empty line
+/// and, behind that, what `drive` answers, in each manner.
+pub fn a_log_without_events_is_driven()
+    ensures plain { ALogWithoutEventsIsDriven }
+    ensures stated { ALogWithoutEventsIsDrivenSo }
+{}
+
+/// What a run that was taken up writes is by itself a log of the whole run. Let `resume` succeed, into a writer whose bytes
+/// are known, and audit what it wrote against the same plan. The only fault of the audit is `Memory`. The audit finds the
+/// events of the log, and is complete exactly if driving was done.
+pub fn an_audit_keeps_what_was_resumed()
+    ensures log { AResumedTextIsALog }
+    ensures audit { AnAuditKeepsWhatWasResumed }
+    ensures stated { AnAuditKeepsWhatWasStatedOn }
+{}
+
+/// After the events of its log, a run that was taken up is the controlled run that goes on from their cell, at the present
+/// moment. So each law of the rest of a run holds of it: it is never stuck, ends after exactly the reports that were left, and
+/// keeps to the moments kept for it.
+pub fn what_was_resumed_goes_on()
+    ensures plain { WhatWasResumedGoesOn }
+    ensures stated { WhatWasStatedOnGoesOn }
+{}
+
+/// In each manner in which a cell of a well-shaped plan can be driven, an input has one answer text at most, which
+/// leads to one cell with one list of events, and is a log of these. What a cell that is driven so has answered is such
+/// a text.
+pub fn one_stated_text_which_is_a_log()
+    ensures one { OneStatedText }
+    ensures driven { AStatedCellAnswersSo }
+    ensures log { AStatedTextIsALog }
+{}
+
+/// The same of an input of several cells, each of an accepted plan, in each manner: one answer text at most, which
+/// leads to one list of what the cells hold.
+pub fn one_stated_text_of_cells()
+    ensures whole { OneStatedCellsText }
+    ensures lines { OneStatedCellsTextForLines }
+{}
+
+/// Let cells by accepted plans answer any lines in a manner. Each of them answers what the lines ask of it as it would
+/// alone, whatever they ask of the others: these events are the controlled run of some reports, through which all stays
+/// as the plan promises, and which has ended exactly where as many reports were accepted as the stated number.
+pub fn each_stated_cell_is_alone()
+    ensures { EachStatedCellIsAlone }
+{}
+
+/// In each manner in which a run that was taken up can be driven on, an input has one text at most, which leads to one cell with
+/// one list of events, and is by itself a log of the whole run. What is written, if driving on succeeds, is that text for what was
+/// read.
+pub fn one_stated_resumed_text()
+    ensures one { OneStatedResumedText }
+    ensures driven { AStatedRestAnswersSo }
+    ensures resumed { WhatWasStatedOnIsSuchAText }
+    ensures log { AStatedResumedTextIsALog }
+{}
+
+/// In version 1 of the lines, and with no moment that leaps, each line is answered as `drive` answers it, and by several cells
+/// as `hub` answers it. In version 1 the events of a log are told again as ever.
+pub fn plainly_as_ever()
+    ensures answered { PlainlyAsEver }
+    ensures cells { PlainlyAsEverForCells }
+    ensures retold { RetoldAsEver }
+{}
+
+/// Lines among which there is neither `status` nor `clean M J T` lead in both versions to the same cell, with the same
+/// events. The answers of version 1 are those of version 2 without what stands after a refusal's name or a late report's
+/// moment, and without the `done` that comes at once. So it is with what `resume` writes, from the first event that it tells again,
+/// and with what several cells answer, of whose refusals version 1 doesn't tell their numbers either.
+pub fn version_2_only_adds()
+    ensures answered { Version2OnlyAdds }
+    ensures resumed { ResumingOnlyAdds }
+    ensures cells { Version2OnlyAddsForCells }
+{}
+
+/// However often the lines of an arrival, of a finish or of a cleaning after a job are sent to a driven cell, and with
+/// whatever moments, it takes one of them at most. Once there is such a report in a run, it takes none: so in the run of each cell
+/// of a hub, and in one that was taken up from a log.
+pub fn nothing_is_taken_twice()
+    ensures driven { NothingIsTakenTwice }
+    ensures run { NothingOfARunIsClaimedAgain }
+    ensures resumed { NothingOfALogIsTakenAgain }
+{}
+
+/// A state has a line of each job that isn't gone and of each machine that is being cleaned, and no other.
+pub fn a_state_leaves_nothing_out()
+    ensures jobs { OnlyGoneJobsAreLeftOut }
+    ensures machines { OnlyCleanMachinesAreLeftOut }
+{}
+
+/// A line of version 2 has at most 128 bytes, with a number of a cell before it: that of what is under way, of a refusal by the
+/// number of one of the first 99,999,999 lines, and of a late report. The numbers of jobs and machines have at most three
+/// digits, those of moments thirteen. So it is with the numbers that are told in any run of a well-shaped plan: of its jobs and
+/// machines, of refusals, and of what is overdue. No input has a line of a higher number.
+pub fn lines_of_version_2_are_short()
+    ensures states { StateLinesAreShort }
+    ensures refusals { RefusalsAreShort }
+    ensures late { LateLinesAreShort }
+    ensures numbers { StandingsAreShort }
+    ensures details { DetailsAreShort }
+    ensures overdue { OverdueIsShort }
+    ensures lines { LineNumbersAreShort }
+{}
+
+/// A late report finds something overdue, its own activity or another: so its line always says what.
+pub fn a_late_report_finds_something_overdue()
+    ensures { ALateReportFindsSomethingOverdue }
+{}
+
+/// Let the longest time that may pass be no shorter than any release, nominal time and cleaning time of the plan. In a run of
+/// that, whatever is possible and punctual is taken: no punctual report is refused as a leap.
+pub fn no_punctual_report_leaps()
+    ensures { NoPunctualReportLeaps }
+{}

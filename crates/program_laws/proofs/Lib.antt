@@ -1,0 +1,6 @@
+pub mod PlainWords
+pub mod GoodFiles
+pub mod GoodHubs
+pub mod GoodInputs
+pub mod SameWriting
+pub mod SameResuming

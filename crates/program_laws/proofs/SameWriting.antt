@@ -1,0 +1,300 @@
+-- A driven cell writes the same.
+use Rattle.std.proofs.Common.{◌≡◌, ◌↔◌, ℕ, ◌≤◌, ◌++◌, List, [], ◌⊎◌, Bool, true, false, IsTrue, Option, Some, None, Result, Ok, Err, IfSome, length, length-append, get_or, map, option_map, inl, inr, ap, sym, ◌∙◌, subst, arith, refl}
+use Rattle.std.specs.Prelude.{unwrap_or}
+use Rattle.std.specs.Io.KnownBytes.{Appends, Consumes, IsAtEnd}
+use Rattle.std.specs.String.{string_bytes}
+use Rattle.std.proofs.KnownBytes.{Appends-trans, Consumes-whole}
+use Rattle.std.proofs.lemmas.List.{append_cancel_left, append-nil}
+use Rattle.shop_base.specs.Plan.{PlannedShop, IsWellShaped}
+use Rattle.shop_base.specs.Ends.{stated_number, reports_in}
+use Rattle.text_lines.specs.declared.limits.TheConstants.{MAX_INPUT}
+use Rattle.cell_tables.specs.Events.{events_of}
+use Rattle.plan_verifier.specs.Accepted.{VerifiedPlan, IsAcceptable}
+use Rattle.cell_drive.specs.declared.manner.Manner.{Manner}
+use Rattle.cell_drive.specs.declared.one_run.DriveEnd.{DriveEnd}
+use Rattle.byte_streams.specs.declared.drive_fault.DriveFault.{DriveFault}
+use Rattle.byte_streams.specs.declared.drive_fault.DriveFault.TheVariants.{Read as NotRead, Write as NotWritten, InputTooLong as TooLong, Memory as WantOfMemory}
+use Rattle.byte_streams.specs.declared.rooms.TheConstants.{MAX_PIECE}
+use Rattle.byte_streams.specs.Lines.{input_lines}
+use Rattle.byte_streams.specs.Streams.{IsStreamed}
+use Rattle.run_log.specs.Log.{Noted}
+use Rattle.cell_drive.specs.AnswerText.{DrivenCell, IsAnswerText}
+use Rattle.cell_drive.specs.OneCell.{DriveState, DriveAnswer, DriveCloses, drive_start, seen}
+use Rattle.cell_drive.specs.OneRun.{IsEndOf, IsSoFar, IsStreamedFrom}
+use Rattle.cell_drive.specs.Stated.{StatedAnswer, StatedCloses, IsStatedDrive, IsStatedText, stated_start}
+use Rattle.cell_drive.proofs.OneRun.{driven_text, seen_closes}
+use Rattle.cell_drive.proofs.OneText.{one_answer_text}
+use Rattle.cell_drive.proofs.OneStated.{one_stated_text, a_stated_cell_answers_so}
+use Rattle.command_words.specs.declared.words.Chosen.{Chosen}
+use Rattle.command_words.specs.declared.words.CommandName.{CommandName}
+use Rattle.command_words.specs.declared.words.CommandName.TheVariants.{Input, Facts, Shape, Check, Explain, Schedule, Bounds, Plan, Improve, Drive, Resume, Hub, Audit, Gantt}
+use Rattle.command_words.specs.declared.words.Lines.{Lines}
+use Rattle.command_words.specs.declared.words.WordsFault.{WordsFault}
+use Rattle.command_words.specs.declared.words.WordsFault.TheVariants.{Usage, Memory as NoWordsMemory}
+use Rattle.command_words.specs.Choice.{word_of, IsChoiceOf, TellsOneOf, found_in, rows_found, at_in, lines_in, leap_in}
+use Rattle.command_answers.specs.declared.answer.Answer.{Answer}
+use Rattle.command_answers.specs.declared.command_fault.CommandFault.{CommandFault}
+use Rattle.command_answers.specs.declared.command_fault.CommandFault.TheVariants.{Write, Memory}
+use Rattle.command_answers.specs.Commands.{PairOfFiles}
+use Rattle.command_run.specs.Streams.{Streams, Output, Errors}
+use Rattle.command_run.specs.Drives.{IsEnded, IsEndAnswer, DrivesBy, DrivesCell, is_plain, status_at, end_of_drive}
+use Rattle.command_run.specs.Ending.{IsTold, IsPrinted, IsToldAfter, Ends}
+use Rattle.command_run.specs.Program.{AreWordsRead, RunsDrive, RunsCommand, RunsChosen, Follows, is_second, keeps_log, kept_log_in, log_kept_by, manner_in, pair_in}
+use Rattle.command_run.specs.Laws.{Shelf, TellPlan, AskForDrive, RunsWell}
+use Rattle.program_laws.proofs.GoodFiles.{good_drive}
+
+driven_or_not : {P Q R S : Type 0} → (P × Q) ⊎ (R × S) → Q ⊎ R
+driven_or_not (inl both) = inl both.1
+driven_or_not (inr other) = inr other.0
+
+-- ---- the words
+
+abbrev pub first : Option (List ℕ) → ℕ
+first None = 0
+first (Some word) = get_or word 0 0
+
+is_drive : (name : CommandName) → word_of name ≡ word_of Drive → name ≡ Drive
+is_drive Input word = absurd (cc word)
+is_drive Drive word = refl
+is_drive Facts word = (let differ : 102 ≡ 100 = ap first word in absurd (omega (arith, differ)))
+is_drive Shape word = (let differ : 115 ≡ 100 = ap first word in absurd (omega (arith, differ)))
+is_drive Check word = (let differ : 99 ≡ 100 = ap first word in absurd (omega (arith, differ)))
+is_drive Explain word = (let differ : 101 ≡ 100 = ap first word in absurd (omega (arith, differ)))
+is_drive Schedule word = (let differ : 115 ≡ 100 = ap first word in absurd (omega (arith, differ)))
+is_drive Bounds word = (let differ : 98 ≡ 100 = ap first word in absurd (omega (arith, differ)))
+is_drive Plan word = (let differ : 112 ≡ 100 = ap first word in absurd (omega (arith, differ)))
+is_drive Improve word = (let differ : 105 ≡ 100 = ap first word in absurd (omega (arith, differ)))
+is_drive Resume word = (let differ : 114 ≡ 100 = ap first word in absurd (omega (arith, differ)))
+is_drive Hub word = (let differ : 104 ≡ 100 = ap first word in absurd (omega (arith, differ)))
+is_drive Audit word = (let differ : 97 ≡ 100 = ap first word in absurd (omega (arith, differ)))
+is_drive Gantt word = (let differ : 103 ≡ 100 = ap first word in absurd (omega (arith, differ)))
+
+same_pair : (words : List (List ℕ)) (pair : PairOfFiles) (chosen : Chosen) → AskForDrive words pair → IsChoiceOf (found_in words) chosen → pair_in chosen ≡ pair
+same_pair words pair chosen ask is =
+    let path : get_or (map string_bytes chosen.files.items) 0 [] ≡ pair.path = ap (λ (fs : List (List ℕ)). get_or fs 0 []) is.files ∙ sym ask.path in
+    let plan : get_or (map string_bytes chosen.files.items) 1 [] ≡ pair.plan = ap (λ (fs : List (List ℕ)). get_or fs 1 []) is.files ∙ sym ask.plan in
+    let name : option_map string_bytes chosen.instance ≡ pair.name = is.instance ∙ sym ask.name in
+    let of : List ℕ → Option (List ℕ) → List ℕ → PairOfFiles = λ a b c. record { path = a; name = b; plan = c } in
+    ap (λ a. of a (option_map string_bytes chosen.instance) (get_or (map string_bytes chosen.files.items) 1 [])) path
+    ∙ ap (λ b. of pair.path b (get_or (map string_bytes chosen.files.items) 1 [])) name ∙ ap (λ c. of pair.path pair.name c) plan
+
+-- the manner that words ask for
+abbrev pub manner_of : List (List ℕ) → Manner
+manner_of words = record { tells = is_second (lines_in (rows_found (found_in words))); longest = leap_in (rows_found (found_in words)); from = unwrap_or (at_in (rows_found (found_in words))) 0 }
+
+pub same_manner : (words : List (List ℕ)) (chosen : Chosen) → IsChoiceOf (found_in words) chosen → manner_in chosen ≡ manner_of words
+same_manner words chosen is =
+    ap (λ (v : Option Lines). record { tells = is_second v; longest = chosen.leap; from = unwrap_or chosen.at 0 }) is.lines
+    ∙ ap (λ (l : Option ℕ). record { tells = is_second (lines_in (rows_found (found_in words))); longest = l; from = unwrap_or chosen.at 0 }) is.leap
+    ∙ ap (λ (a : Option ℕ). record { tells = is_second (lines_in (rows_found (found_in words))); longest = leap_in (rows_found (found_in words)); from = unwrap_or a 0 }) is.at
+
+-- and no log
+none_kept : (keeps : Bool) (log : Option (List ℕ)) → log ≡ None → log_kept_by keeps log ≡ None
+none_kept true log none = none
+none_kept false log none = refl
+
+no_log : (words : List (List ℕ)) (pair : PairOfFiles) (chosen : Chosen) → AskForDrive words pair → IsChoiceOf (found_in words) chosen → kept_log_in chosen ≡ None
+no_log words pair chosen ask is = none_kept (keeps_log chosen.name) (option_map string_bytes chosen.log) (is.log ∙ ask.log)
+
+-- ---- the bytes
+
+pub all_read : (before after : Option (List ℕ)) (input came : List ℕ) → before ≡ Some input → Consumes before after came → IsAtEnd after → came ≡ input
+all_read before after input came same was end =
+    let whole = Consumes-whole before after came (λ xs. xs ≡ came) was end refl in
+    sym (subst (λ o. IfSome o (λ xs. xs ≡ came)) same whole)
+
+fewer_of : (after : Option (List ℕ)) (input came : List ℕ) → Consumes (Some input) after came → length came ≤ length input
+fewer_of None input came was = absurd was
+fewer_of (Some ys) input came was = omega (arith, ap length was, length-append came ys)
+
+pub fewer : (before after : Option (List ℕ)) (input came : List ℕ) → before ≡ Some input → Consumes before after came → length came ≤ length input
+fewer before after input came same was = fewer_of after input came (subst (λ o. Consumes o after came) same was)
+
+pub written_is : (before mid after : Option (List ℕ)) (start written text more : List ℕ) → before ≡ Some start → after ≡ Some (start ++ written) → Appends before mid text → Appends mid after more → more ≡ [] → written ≡ text
+written_is before mid after start written text more from to first second none =
+    let both = Appends-trans before mid after text more first second in
+    let known : start ++ written ≡ start ++ (text ++ more) = subst (λ o. Appends o (Some (start ++ written)) (text ++ more)) from (subst (λ o. Appends before o (text ++ more)) to both) in
+    append_cancel_left start written (text ++ more) known ∙ ap (λ xs. text ++ xs) none ∙ append-nil text
+
+-- ---- how it ends
+
+pub memory_status : (before after : Errors) (status : ℕ) → IsTold Memory before after status → status ≡ 4
+memory_status before after status (inl out) = out.own
+memory_status before after status (inr (text, out)) = absurd text
+
+pub memory_ends : (outcome : Result Answer CommandFault) (before after : Output) (told_before told_after : Errors) (status : ℕ) → outcome ≡ Err Memory → Ends outcome before after told_before told_after status → status ≡ 4
+memory_ends outcome before after told_before told_after status is ends =
+    let wanting = subst (λ o. Ends o before after told_before told_after status) is ends in memory_status told_before told_after status wanting.1
+
+pub write_ends : (outcome : Result Answer CommandFault) (before after : Output) (told_before told_after : Errors) (status : ℕ) → outcome ≡ Err Write → Ends outcome before after told_before told_after status → after ≡ before
+write_ends outcome before after told_before told_after status is ends =
+    let failed = subst (λ o. Ends o before after told_before told_after status) is ends in failed.0
+
+printed_as : (answer : Answer) (printed : Result ℕ CommandFault) (before after : Output) (told_before told_after : Errors) (status : ℕ) → after.failed ≡ false → IsPrinted answer before after printed
+    → IsToldAfter printed told_before told_after status → (status ≡ answer.status) × Appends before.taken after.taken answer.text.items
+printed_as answer (Ok shown) before after told_before told_after status unfailed is told = (told.1 ∙ is.0, is.1)
+printed_as answer (Err fault) before after told_before told_after status unfailed is told = absurd (let failed : true ≡ false = sym is.2 ∙ unfailed in cc failed)
+
+pub ended_as : (done : Bool) (outcome : Result Answer CommandFault) (before after : Output) (told_before told_after : Errors) (status : ℕ) → after.failed ≡ false → IsEnded done outcome
+    → Ends outcome before after told_before told_after status → (status ≡ status_at done) × ((more : List ℕ) × (more ≡ []) × Appends before.taken after.taken more)
+ended_as done (Ok answer) before after told_before told_after status unfailed is ends =
+    let printed = printed_as answer ends.printed before after told_before told_after status unfailed ends.is ends.told in
+    (printed.0 ∙ is.1, (answer.text.items, is.0, printed.1))
+ended_as done (Err fault) before after told_before told_after status unfailed is ends = absurd is
+
+-- what a good run of `drive` wrote: the answer text of its input, as ever or in this manner
+abbrev pub IsTextBy : Bool → Manner → PlannedShop → List ℕ → List ℕ → DrivenCell → Type 0
+IsTextBy true manner p input text end = IsAnswerText p input text end
+IsTextBy false manner p input text end = IsStatedText p manner input text end
+
+pub record Wrote (p : PlannedShop) (manner : Manner) (input : List ℕ) (status : ℕ) (written : List ℕ) : Type 0 where
+  pub state : DrivenCell
+  pub done : Bool
+  pub last : ℕ
+  pub left : ℕ
+  pub is_text : IsTextBy (is_plain manner) manner p input written state
+  pub so_far : IsSoFar p state.entries done last left
+  pub own : status ≡ status_at done
+
+-- what was written in a manner is the answer text of what was read
+stated_text : (v : VerifiedPlan) (manner : Manner) (end : DriveEnd) (before after : Streams) (is : IsStatedDrive v manner before after (Ok end))
+    → IsStatedText v.planned manner is.streamed.input (is.streamed.comes_to.text ++ is.streamed.comes_to.closing) (seen is.end.driven)
+stated_text v manner end before after is =
+    let all = is.streamed.comes_to in
+    let answers = a_stated_cell_answers_so (stated_start manner v) is.end 1 (input_lines is.streamed.input) all.text all.are_answers in
+    record {
+      answers = all.text;
+      are_answers = answers.0;
+      closing = all.closing;
+      is_closing = seen_closes v.planned is.end.driven all.closing (ap (λ (w : VerifiedPlan). w.planned) answers.1) all.is_closing;
+      whole = refl;
+    }
+
+module _ (content : List ℕ → Result (List ℕ) CommandFault) (words : List (List ℕ)) (p : PlannedShop) (input : List ℕ) (few : length input ≤ MAX_INPUT)
+    (status : ℕ) (written : List ℕ) (well : RunsWell content words input status written) where
+  -- all was read and written, whoever answers the lines
+  module _ {S : Type 0} (answers : S → ℕ → Option (List ℕ) → List ℕ → S → Type 0) (closes : S → List ℕ → Type 0) (start last : S) (mid : Streams) (outcome : Result Answer CommandFault)
+      (same_input : well.after.streams.input ≡ mid.input) (ends : Ends outcome mid.output well.after.streams.output well.before.errors well.after.errors status) where
+    ended_well : (end : DriveEnd) (is : IsStreamed (Ok end) MAX_PIECE answers closes start last well.before.streams mid) → IsEndAnswer (end_of_drive (Ok end)) outcome
+        → (is.input ≡ input) × (written ≡ is.comes_to.text ++ is.comes_to.closing) × (status ≡ status_at end.done)
+    ended_well end is answer =
+        let all = is.comes_to in
+        let whole : List ℕ = all.text ++ all.closing in
+        let ended = ended_as end.done outcome mid.output well.after.streams.output well.before.errors well.after.errors status well.was_written answer ends in (
+          all_read well.before.streams.input.left mid.input.left input is.input well.given is.was_read all.at_end,
+          written_is well.before.streams.output.taken mid.output.taken well.after.streams.output.taken well.start written whole ended.1.0 well.empty well.wrote all.written ended.1.2 ended.1.1,
+          ended.0,
+        )
+
+    never_broke : (fault : DriveFault) → IsStreamedFrom {T = DriveEnd} answers closes start (Err fault) last well.before.streams mid → IsEndAnswer (Err fault) outcome → ⊥
+    never_broke NotRead is answer = absurd (let failed : true ≡ false = sym is.comes_to.0 ∙ sym (ap (λ i. i.failed) same_input) ∙ well.was_read in cc failed)
+    never_broke NotWritten is answer =
+        let same_output = write_ends outcome mid.output well.after.streams.output well.before.errors well.after.errors status answer ends in
+        absurd (let failed : true ≡ false = sym is.comes_to.0 ∙ sym (ap (λ (o : Output). o.failed) same_output) ∙ well.was_written in cc failed)
+    never_broke TooLong is answer =
+        let less = fewer well.before.streams.input.left mid.input.left input is.input well.given is.was_read in
+        absurd (omega (arith, less, few, is.comes_to.0))
+    never_broke WantOfMemory is answer = absurd (well.no_want (memory_ends outcome mid.output well.after.streams.output well.before.errors well.after.errors status answer ends))
+
+  so_far_of : (v : VerifiedPlan) (state : DriveState) (end : DriveEnd) → v.planned ≡ p → IsEndOf v state end → IsSoFar p state.log.entries end.done end.last end.left
+  so_far_of v state end same is =
+      subst (λ q. IsSoFar q state.log.entries end.done end.last end.left) same (subst (λ (l : Noted). IsSoFar v.planned l.entries end.done end.last end.left) is.log is.so_far)
+
+  -- as ever, or in a manner
+  drive_wrote : (manner : Manner) (plain : Bool) → is_plain manner ≡ plain → (v : VerifiedPlan) (mid : Streams) (outcome : Result Answer CommandFault) (end : Result DriveEnd DriveFault) → v.planned ≡ p
+      → DrivesBy plain manner v well.before.streams mid end → IsEndAnswer (end_of_drive end) outcome → well.after.streams.input ≡ mid.input
+      → Ends outcome mid.output well.after.streams.output well.before.errors well.after.errors status → Wrote p manner input status written
+  drive_wrote manner true plain v mid outcome (Ok end) same is answer same_input ends =
+      let all = is.streamed.comes_to in
+      let whole : List ℕ = all.text ++ all.closing in
+      let ended = ended_well DriveAnswer DriveCloses (drive_start v) is.end mid outcome same_input ends end is.streamed answer in
+      let answered : IsAnswerText p is.streamed.input whole (seen is.end) = subst (λ q. IsAnswerText q is.streamed.input whole (seen is.end)) same (driven_text v end well.before.streams mid is) in
+      record {
+        state = seen is.end;
+        done = end.done;
+        last = end.last;
+        left = end.left;
+        is_text = subst (λ (b : Bool). IsTextBy b manner p input written (seen is.end)) (sym plain)
+            (subst (λ xs. IsAnswerText p input xs (seen is.end)) (sym ended.1) (subst (λ xs. IsAnswerText p xs whole (seen is.end)) ended.0 answered));
+        so_far = so_far_of v is.end end same is.came_to;
+        own = ended.2;
+      }
+  drive_wrote manner false plain v mid outcome (Ok end) same is answer same_input ends =
+      let all = is.streamed.comes_to in
+      let whole : List ℕ = all.text ++ all.closing in
+      let ended = ended_well StatedAnswer StatedCloses (stated_start manner v) is.end mid outcome same_input ends end is.streamed answer in
+      let answered : IsStatedText p manner is.streamed.input whole (seen is.end.driven) =
+      subst (λ q. IsStatedText q manner is.streamed.input whole (seen is.end.driven)) same (stated_text v manner end well.before.streams mid is) in
+      record {
+        state = seen is.end.driven;
+        done = end.done;
+        last = end.last;
+        left = end.left;
+        is_text = subst (λ (b : Bool). IsTextBy b manner p input written (seen is.end.driven)) (sym plain)
+            (subst (λ xs. IsStatedText p manner input xs (seen is.end.driven)) (sym ended.1) (subst (λ xs. IsStatedText p manner xs whole (seen is.end.driven)) ended.0 answered));
+        so_far = so_far_of v is.end.driven end same is.came_to;
+        own = ended.2;
+      }
+  drive_wrote manner true plain v mid outcome (Err fault) same is answer same_input ends =
+      absurd (never_broke DriveAnswer DriveCloses (drive_start v) is.end mid outcome same_input ends fault is.streamed answer)
+  drive_wrote manner false plain v mid outcome (Err fault) same is answer same_input ends =
+      absurd (never_broke StatedAnswer StatedCloses (stated_start manner v) is.end mid outcome same_input ends fault is.streamed answer)
+
+  cell_wrote : (manner : Manner) (mid : Streams) (outcome : Result Answer CommandFault) → ((v : VerifiedPlan) × (v.planned ≡ p) × DrivesCell manner v well.before.streams mid outcome) ⊎ (outcome ≡ Err Memory)
+      → well.after.streams.input ≡ mid.input → Ends outcome mid.output well.after.streams.output well.before.errors well.after.errors status → Wrote p manner input status written
+  cell_wrote manner mid outcome (inl (v, same, cell)) same_input ends = drive_wrote manner (is_plain manner) refl v mid outcome cell.end same cell.is cell.answer same_input ends
+  cell_wrote manner mid outcome (inr none) same_input ends =
+      absurd (well.no_want (memory_ends outcome mid.output well.after.streams.output well.before.errors well.after.errors status none ends))
+
+  pub follows_wrote : (pair : PairOfFiles) (read : Result Chosen WordsFault) → AskForDrive words pair → TellPlan content pair p → IsWellShaped p → IsAcceptable p → AreWordsRead words read
+      → Follows (Shelf content) read well.before status well.after well.kept → Wrote p (manner_of words) input status written
+  follows_wrote pair (Ok chosen) ask good shaped acceptable are follows =
+      let name = is_drive chosen.name (are.chosen.name ∙ ask.drive) in
+      let manner = manner_of words in
+      let unlogged : RunsCommand (Shelf content) chosen.name chosen well.before.texts well.before.streams follows.outcome well.after.texts follows.mid =
+      (subst (λ (l : Option (List ℕ)). RunsChosen (Shelf content) l chosen well.before follows.outcome follows.mid well.after well.kept) (no_log words pair chosen ask are.chosen) follows.runs).0 in
+      let runs : RunsDrive (Shelf content) (manner_in chosen) (pair_in chosen) well.before.texts well.before.streams follows.outcome well.after.texts follows.mid =
+      subst (λ n. RunsCommand (Shelf content) n chosen well.before.texts well.before.streams follows.outcome well.after.texts follows.mid) name unlogged in
+      let drive : RunsDrive (Shelf content) manner pair [] well.before.streams follows.outcome well.after.texts follows.mid =
+      subst (λ (q : PairOfFiles). RunsDrive (Shelf content) manner q [] well.before.streams follows.outcome well.after.texts follows.mid) (same_pair words pair chosen ask are.chosen)
+      (subst (λ (m : Manner). RunsDrive (Shelf content) m (pair_in chosen) [] well.before.streams follows.outcome well.after.texts follows.mid) (same_manner words chosen are.chosen)
+      (subst (λ (asked : List (List ℕ)). RunsDrive (Shelf content) (manner_in chosen) (pair_in chosen) asked well.before.streams follows.outcome well.after.texts follows.mid) well.unasked runs)) in
+      cell_wrote manner follows.mid follows.outcome (driven_or_not (good_drive content pair p good manner well.before.streams follows.mid follows.outcome well.after.texts shaped acceptable drive)) follows.input follows.ends
+  follows_wrote pair (Err (Usage help text)) ask good shaped acceptable are follows =
+      absurd (let told = subst (λ kinds. TellsOneOf kinds (Usage help text)) ask.taken are.refused in told.1)
+  follows_wrote pair (Err NoWordsMemory) ask good shaped acceptable are follows = absurd (well.no_want (memory_status well.before.errors well.after.errors status follows.0.1))
+
+-- ---- two runs
+
+same_truth : (a b : Bool) → (IsTrue a → IsTrue b) → (IsTrue b → IsTrue a) → b ≡ a
+same_truth true true there back = refl
+same_truth true false there back = absurd (let bad : false ≡ true = there refl in cc bad)
+same_truth false true there back = absurd (let bad : false ≡ true = back refl in cc bad)
+same_truth false false there back = refl
+
+pub one_text_by : (plain : Bool) (manner : Manner) (p : PlannedShop) (input text other : List ℕ) (end last : DrivenCell) → IsWellShaped p → IsTextBy plain manner p input text end → IsTextBy plain manner p input other last
+    → (other ≡ text) × (last ≡ end)
+one_text_by true manner p input text other end last shaped is also = one_answer_text p input text other end last shaped is also
+one_text_by false manner p input text other end last shaped is also = one_stated_text p manner input text other end last shaped is also
+
+-- the same events have come as far
+pub same_done : (p : PlannedShop) (one two : DrivenCell) (done also : Bool) (last last_too left left_too : ℕ) → IsSoFar p one.entries done last left → IsSoFar p two.entries also last_too left_too → two ≡ one → also ≡ done
+same_done p one two done also last last_too left left_too so_far so_far_too same =
+    let entries : two.entries ≡ one.entries = ap (λ (d : DrivenCell). d.entries) same in
+    let counted : IsTrue also ↔ (reports_in (events_of one.entries) ≡ stated_number p) = subst (λ es. IsTrue also ↔ (reports_in (events_of es) ≡ stated_number p)) entries so_far_too.counted in
+    same_truth done also (λ yet. counted.1 (so_far.counted.0 yet)) (λ yet. so_far.counted.1 (counted.0 yet))
+
+wrote_the_same : (p : PlannedShop) (manner : Manner) (input : List ℕ) (status other_status : ℕ) (written other : List ℕ) → IsWellShaped p → Wrote p manner input status written → Wrote p manner input other_status other
+    → (other_status ≡ status) × (other ≡ written)
+wrote_the_same p manner input status other_status written other shaped one two =
+    let same = one_text_by (is_plain manner) manner p input written other _ _ shaped one.is_text two.is_text in
+    let done : two.done ≡ one.done = same_done p one.state two.state one.done two.done one.last two.last one.left two.left one.so_far two.so_far same.1 in
+    (two.own ∙ ap status_at done ∙ sym one.own, same.0)
+
+pub drive_writes_the_same : (content : List ℕ → Result (List ℕ) CommandFault) (words : List (List ℕ)) (pair : PairOfFiles) (p : PlannedShop) (input : List ℕ) (status other_status : ℕ) (written other : List ℕ)
+    → AskForDrive words pair → TellPlan content pair p → IsWellShaped p → IsAcceptable p → length input ≤ MAX_INPUT
+    → RunsWell content words input status written → RunsWell content words input other_status other → (other_status ≡ status) × (other ≡ written)
+drive_writes_the_same content words pair p input status other_status written other ask good shaped acceptable few one two =
+    wrote_the_same p (manner_of words) input status other_status written other shaped
+    (follows_wrote content words p input few status written one pair one.run.read ask good shaped acceptable one.run.is one.run.follows)
+    (follows_wrote content words p input few other_status other two pair two.run.read ask good shaped acceptable two.run.is two.run.follows)

@@ -1,0 +1,62 @@
+use Rattle.command_answers.specs.Shapes.{IsShapeLine}
+use Rattle.command_answers.specs.Checks.{IsCheckLine}
+use Rattle.command_answers.specs.Explains.{IsExplanation}
+use Rattle.command_answers.specs.Timetables.{IsTimetable}
+use Rattle.command_answers.specs.BoundLines.{AreBounds}
+use Rattle.command_answers.specs.LogLines.{IsLogLine}
+use Rattle.command_answers.specs.Rests.{IsRestLine}
+use Rattle.program_laws.proofs.GoodFiles.{good_facts, good_plan, good_log, good_schedule_picture, good_log_picture, good_search, good_improvement, good_rest_improvement, good_drive, good_resume}
+use Rattle.program_laws.proofs.GoodHubs.{good_hub}
+use Rattle.program_laws.proofs.GoodInputs.{good_input}
+use Rattle.program_laws.proofs.laws.good_files_are_answered.Goals as goal
+
+pub returns-clause-facts : goal.returns-clause-facts
+returns-clause-facts c = λ content path text description name shop outcome asked is tells run. good_facts content path text description name shop outcome asked is tells run
+
+pub returns-clause-shape : goal.returns-clause-shape
+returns-clause-shape c = λ content pair p outcome asked good run. good_plan content pair p good IsShapeLine outcome asked run
+
+pub returns-clause-check : goal.returns-clause-check
+returns-clause-check c = λ content pair p outcome asked good run. good_plan content pair p good IsCheckLine outcome asked run
+
+pub returns-clause-explain : goal.returns-clause-explain
+returns-clause-explain c = λ content pair p outcome asked good run. good_plan content pair p good IsExplanation outcome asked run
+
+pub returns-clause-schedule : goal.returns-clause-schedule
+returns-clause-schedule c = λ content pair p outcome asked good run. good_plan content pair p good IsTimetable outcome asked run
+
+pub returns-clause-bounds : goal.returns-clause-bounds
+returns-clause-bounds c = λ content pair p outcome asked good run. good_plan content pair p good AreBounds outcome asked run
+
+pub returns-clause-log : goal.returns-clause-log
+returns-clause-log c = λ telling content pair log text p outcome asked good is shaped run. good_log content pair p good (IsLogLine telling) log text outcome asked is shaped run
+
+pub returns-clause-rest : goal.returns-clause-rest
+returns-clause-rest c = λ telling at content pair log text p outcome asked good is shaped run. good_log content pair p good (IsRestLine telling at) log text outcome asked is shaped run
+
+pub returns-clause-schedule_picture : goal.returns-clause-schedule_picture
+returns-clause-schedule_picture c = λ before after content pair p outcome asked good run. good_schedule_picture content pair p good before after outcome asked run
+
+pub returns-clause-log_picture : goal.returns-clause-log_picture
+returns-clause-log_picture c = λ before after content pair log text p outcome asked good is shaped run. good_log_picture content pair p good before after log text outcome asked is shaped run
+
+pub returns-clause-plan : goal.returns-clause-plan
+returns-clause-plan c = λ rounds content pair p outcome asked good run. good_search content pair p good rounds outcome asked run
+
+pub returns-clause-improve : goal.returns-clause-improve
+returns-clause-improve c = λ rounds content pair p outcome asked good run. good_improvement content pair p good rounds outcome asked run
+
+pub returns-clause-improve_rest : goal.returns-clause-improve_rest
+returns-clause-improve_rest c = λ at rounds content pair log text p outcome asked good is shaped run. good_rest_improvement content pair p good at rounds log text outcome asked is shaped run
+
+pub returns-clause-drive : goal.returns-clause-drive
+returns-clause-drive c = λ manner before after content pair p outcome asked good shaped acceptable run. good_drive content pair p good manner before after outcome asked shaped acceptable run
+
+pub returns-clause-resume : goal.returns-clause-resume
+returns-clause-resume c = λ manner at before after content pair log text p outcome asked good shaped is run. good_resume content pair p good manner at before after log text outcome asked shaped is run
+
+pub returns-clause-hub : goal.returns-clause-hub
+returns-clause-hub c = λ manner before after content path instance name files plans outcome asked is good run. good_hub content instance name manner path files plans before after outcome asked is good run
+
+pub returns-clause-input : goal.returns-clause-input
+returns-clause-input c = λ before after text description shop outcome given few tells run. good_input before after text description shop outcome given few tells run

@@ -1,0 +1,50 @@
+use Rattle.program_laws.proofs.PlainWords.{told_first, facts_first, plan_first, improve_first, improve_rest_first, picture_first, drive_first, resume_first, hub_first}
+use Rattle.program_laws.proofs.laws.instance_first.Goals as goal
+
+pub returns-clause-facts : goal.returns-clause-facts
+returns-clause-facts c = λ content pair text fault outcome asked is first run. facts_first content pair.path text pair.name fault is first outcome asked run
+
+pub returns-clause-shape : goal.returns-clause-shape
+returns-clause-shape c = λ content pair text fault outcome asked is first run. told_first content pair text fault is first _ outcome asked run
+
+pub returns-clause-check : goal.returns-clause-check
+returns-clause-check c = λ content pair text fault outcome asked is first run. told_first content pair text fault is first _ outcome asked run
+
+pub returns-clause-explain : goal.returns-clause-explain
+returns-clause-explain c = λ content pair text fault outcome asked is first run. told_first content pair text fault is first _ outcome asked run
+
+pub returns-clause-schedule : goal.returns-clause-schedule
+returns-clause-schedule c = λ content pair text fault outcome asked is first run. told_first content pair text fault is first _ outcome asked run
+
+pub returns-clause-bounds : goal.returns-clause-bounds
+returns-clause-bounds c = λ content pair text fault outcome asked is first run. told_first content pair text fault is first _ outcome asked run
+
+pub returns-clause-log : goal.returns-clause-log
+returns-clause-log c = λ telling log content pair text fault outcome asked is first run. told_first content pair text fault is first _ outcome asked run
+
+pub returns-clause-rest : goal.returns-clause-rest
+returns-clause-rest c = λ telling at log content pair text fault outcome asked is first run. told_first content pair text fault is first _ outcome asked run
+
+pub returns-clause-schedule_picture : goal.returns-clause-schedule_picture
+returns-clause-schedule_picture c = λ before after content pair text fault outcome asked is first run. picture_first content pair text fault is first _ before after outcome asked run
+
+pub returns-clause-log_picture : goal.returns-clause-log_picture
+returns-clause-log_picture c = λ log before after content pair text fault outcome asked is first run. picture_first content pair text fault is first _ before after outcome asked run
+
+pub returns-clause-plan : goal.returns-clause-plan
+returns-clause-plan c = λ rounds content pair text fault outcome asked is first run. plan_first content pair text fault is first rounds outcome asked run
+
+pub returns-clause-improve : goal.returns-clause-improve
+returns-clause-improve c = λ rounds content pair text fault outcome asked is first run. improve_first content pair text fault is first rounds outcome asked run
+
+pub returns-clause-improve_rest : goal.returns-clause-improve_rest
+returns-clause-improve_rest c = λ at rounds log content pair text fault outcome asked is first run. improve_rest_first content pair text fault is first at rounds log outcome asked run
+
+pub returns-clause-drive : goal.returns-clause-drive
+returns-clause-drive c = λ manner before after content pair text fault outcome asked is first run. drive_first content pair text fault is first manner before after outcome asked run
+
+pub returns-clause-resume : goal.returns-clause-resume
+returns-clause-resume c = λ manner at log before after content pair text fault outcome asked is first run. resume_first content pair text fault is first manner at log before after outcome asked run
+
+pub returns-clause-hub : goal.returns-clause-hub
+returns-clause-hub c = λ manner plans before after content pair text fault outcome asked is first run. hub_first content pair.path text pair.name fault is first manner pair.plan plans before after outcome asked run

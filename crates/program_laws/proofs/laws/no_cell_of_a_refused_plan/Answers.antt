@@ -1,0 +1,17 @@
+use Rattle.program_laws.proofs.GoodFiles.{no_drive, no_unshaped_resume, no_resume}
+use Rattle.program_laws.proofs.GoodHubs.{no_hub}
+use Rattle.program_laws.proofs.laws.no_cell_of_a_refused_plan.Goals as goal
+
+pub returns-clause-drive : goal.returns-clause-drive
+returns-clause-drive c = λ manner before after content pair p outcome asked good never run. no_drive content pair p good manner before after outcome asked never run
+
+pub returns-clause-unshaped : goal.returns-clause-unshaped
+returns-clause-unshaped c = λ manner at log before after content pair p outcome asked good never run. no_unshaped_resume content pair p good manner at log before after outcome asked never run
+
+pub returns-clause-resume : goal.returns-clause-resume
+returns-clause-resume c = λ manner at before after content pair log text p told outcome asked good well is tells events not_past no_plan run.
+    no_resume content pair p good manner at text told well tells events not_past no_plan log before after outcome asked is run
+
+pub returns-clause-hub : goal.returns-clause-hub
+returns-clause-hub c = λ manner before after content path instance name files plans file p others outcome asked is good told never run.
+    no_hub content instance name file p others told never manner path files plans before after outcome asked is good run

@@ -1,0 +1,115 @@
+//! The laws of the program. The first four speak of files that don't change (`Shelf`), and the first three also of
+//! which paths are asked for. The others speak of every run of the whole program, over any files, input, output and
+//! error output. For `audit`, `gantt` and `--after` `good_files_are_answered` takes a well shaped plan. The clause of
+//! `run` says what else they do.
+
+// Nothing is done here: a function's contract is the law, so a check of this crate proves it.
+
+ghost use Rattle.command_run.specs.Laws.{FactsTellInstanceFirst, ShapeTellsInstanceFirst, CheckTellsInstanceFirst, ExplainTellsInstanceFirst, ScheduleTellsInstanceFirst, BoundsTellInstanceFirst};
+ghost use Rattle.command_run.specs.Laws.{LogTellsInstanceFirst, RestTellsInstanceFirst, PlanTellsInstanceFirst, ImproveTellsInstanceFirst, ImproveRestTellsInstanceFirst};
+ghost use Rattle.command_run.specs.Laws.{DriveTellsInstanceFirst, ResumeTellsInstanceFirst, HubTellsInstanceFirst};
+ghost use Rattle.command_run.specs.Laws.{ScheduleDrawsInstanceFirst, LogDrawsInstanceFirst, ScheduleIsDrawn, LogIsDrawn};
+ghost use Rattle.command_run.specs.Laws.{FactsAnswerShop, ShapeAnswersPlan, CheckAnswersPlan, ExplainAnswersPlan, ScheduleAnswersPlan, BoundsAnswerPlan, LogIsAnswered, RestIsAnswered};
+ghost use Rattle.command_run.specs.Laws.{PlanAnswersPlan, ImproveAnswersPlan, ImproveAnswersRest, DriveDrivesPlan, ResumeGoesOn};
+ghost use Rattle.command_run.specs.Laws.{HubDrivesPlans, InputAnswersShop};
+ghost use Rattle.command_run.specs.Laws.{DriveAnswersByCheck, ResumeAnswersUnshaped, ResumeAnswersByCheck, HubAnswersByCheck, DriveWritesTheSame};
+ghost use Rattle.command_run.specs.Laws.{WhatFailsIsTold, NothingIsHeldBack, WhatFailsIsNoAnswer};
+ghost use Rattle.program_laws.specs.ResumeLaw.{ResumeWritesTheSame, ResumeWritesAsDrive};
+
+use command_answers::Texts;
+
+/// In each command over files: if the text of the instance is refused, its first fault is reported, unless memory
+/// runs out, and no other file is asked for. `drive`, `resume`, `hub` and a command with `--svg` then read and write no
+/// byte. (For `plan` and `improve` memory may also run out before any file is asked for.)
+pub fn instance_first()
+    ensures facts { FactsTellInstanceFirst }
+    ensures shape { ShapeTellsInstanceFirst }
+    ensures check { CheckTellsInstanceFirst }
+    ensures explain { ExplainTellsInstanceFirst }
+    ensures schedule { ScheduleTellsInstanceFirst }
+    ensures bounds { BoundsTellInstanceFirst }
+    ensures log { LogTellsInstanceFirst }
+    ensures rest { RestTellsInstanceFirst }
+    ensures schedule_picture { ScheduleDrawsInstanceFirst }
+    ensures log_picture { LogDrawsInstanceFirst }
+    ensures plan { PlanTellsInstanceFirst }
+    ensures improve { ImproveTellsInstanceFirst }
+    ensures improve_rest { ImproveRestTellsInstanceFirst }
+    ensures drive { DriveTellsInstanceFirst }
+    ensures resume { ResumeTellsInstanceFirst }
+    ensures hub { HubTellsInstanceFirst }
+{}
+
+/// Files that give a shop and a plan are answered, unless memory runs out, and exactly they are asked for. `plan` and
+/// `improve` answer what their search allows. An accepted plan has its cell driven by `drive` without `--log`. By
+/// `resume` a well-shaped plan has its cell driven on from its log, or the answer is why not. `hub` drives the cells of
+/// its plans, if all are accepted. With `--svg` an accepted plan is drawn by `schedule`, and a log that isn't refused by
+/// `gantt`. If memory runs out before a cell is driven or a picture drawn, no byte is read or written. Without words an
+/// input within the limit that gives a shop is answered by its facts, unless a read fails or memory runs out.
+pub fn good_files_are_answered()
+    ensures facts { FactsAnswerShop }
+    ensures shape { ShapeAnswersPlan }
+    ensures check { CheckAnswersPlan }
+    ensures explain { ExplainAnswersPlan }
+    ensures schedule { ScheduleAnswersPlan }
+    ensures bounds { BoundsAnswerPlan }
+    ensures log { LogIsAnswered }
+    ensures rest { RestIsAnswered }
+    ensures schedule_picture { ScheduleIsDrawn }
+    ensures log_picture { LogIsDrawn }
+    ensures plan { PlanAnswersPlan }
+    ensures improve { ImproveAnswersPlan }
+    ensures improve_rest { ImproveAnswersRest }
+    ensures drive { DriveDrivesPlan }
+    ensures resume { ResumeGoesOn }
+    ensures hub { HubDrivesPlans }
+    ensures input { InputAnswersShop }
+{}
+
+/// Let the files give a plan that isn't accepted. Then `drive` without `--log` answers the line of `check`, unless
+/// memory runs out. It asks for no further file, and drives no cell: up to this line no byte is read or written. The
+/// same holds for the first plan of `hub` that isn't accepted: its number comes before that line, and no plan after it
+/// is asked for. By `resume` it holds for a plan that isn't well shaped; and once the log has been asked for and records
+/// a run, for a plan with a cycle, or one that isn't accepted where that run has no event.
+pub fn no_cell_of_a_refused_plan()
+    ensures drive { DriveAnswersByCheck }
+    ensures unshaped { ResumeAnswersUnshaped }
+    ensures resume { ResumeAnswersByCheck }
+    ensures hub { HubAnswersByCheck }
+{}
+
+/// Let the words ask for `drive` without `--log`, let the files give an accepted plan, and let the input be within its
+/// limit. Then two runs on the same words, files and input write the same bytes and end with the same status, whatever
+/// pieces the input comes in. This holds unless memory runs out or a read or write fails.
+pub fn drive_writes_the_same()
+    ensures { DriveWritesTheSame }
+{}
+
+/// The same holds of `resume`, where the plan is well shaped and the log can be taken up by it. If the log tells no event, the plan
+/// is accepted and no present moment is given, `resume` writes an empty line, and then what `drive` writes with the same
+/// files, the same input and the same manner of the lines.
+pub fn resume_writes_the_same()
+    ensures same { ResumeWritesTheSame }
+    ensures as_drive { ResumeWritesAsDrive }
+{}
+
+/// A run ends with 0 or 1 and writes nothing on the error output. (The line of progress on a terminal goes to another
+/// device.) Or it ends with 2 or more, and what failed is written there: with 2 what is wrong with the words, else the
+/// line of the fault in which the command ended. In place of a refused text it may be that memory ran out, and if
+/// an answer couldn't be written, that. This is written whole, unless a write of the error output has failed.
+pub fn what_fails_is_told<T: Texts>()
+    ensures { WhatFailsIsTold T.gives }
+{}
+
+/// At the end of a run nothing that the output has taken is held back, unless a write of it has failed.
+pub fn nothing_is_held_back<T: Texts>()
+    ensures { NothingIsHeldBack T.gives }
+{}
+
+/// If a run ends with 2 or more, only what driven cells answered was written on the output (for a run that was
+/// taken up, its events once more before that), or a picture, whole or up to a write that failed. They are the cells of
+/// the plans, and the picture of the plan or the log, in the files that the words name. Such a plan is accepted, or a run
+/// was taken up by it. After that come at most the first bytes of the command's answer, if a write of it failed.
+pub fn what_fails_is_no_answer<T: Texts>()
+    ensures { WhatFailsIsNoAnswer T.gives }
+{}

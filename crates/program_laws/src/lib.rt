@@ -1,0 +1,4 @@
+//! The laws of the whole program.
+#![tactic(auto)]
+
+pub mod laws;
