@@ -42,6 +42,7 @@ pub use manner::Manner;
 pub use many_runs::{HubEnd, drive_hub};
 pub use one_cell::{Driven, take_report};
 pub use one_run::{DriveEnd, drive, end_driven, start_driven};
+pub use refusals::Refusal;
 pub use rest_cell::RestDriven;
 pub use rest_run::{RestEnd, end_rest};
 pub use resume_fault::ResumeFault;

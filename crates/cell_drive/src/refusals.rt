@@ -14,7 +14,7 @@ use shop_base::Planned;
 
 /// Why what a line claims is refused.
 #[derive(Clone, Copy, Debug, PartialEq, Eq)]
-pub(crate) enum Refusal {
+pub enum Refusal {
     /// It isn't possible.
     Reason(ReportFault),
     /// Its moment is a leap.
