@@ -1,52 +1,60 @@
--- The events of a log that was taken up, as they were answered.
-use Rattle.std.proofs.Common.{◌≡◌, ℕ, ◌+◌, Bool, false, cond, List, [], ◌∷◌, ◌++◌, Option, Some, map, length, take, drop, inr, refl, sym, ap, ◌∙◌, subst, append_assoc, append-nil}
+-- The events of a log that was taken up, as they were answered in a manner.
+use Rattle.std.proofs.Common.{◌≡◌, ◌⊎◌, ℕ, ◌+◌, Bool, true, false, List, [], ◌∷◌, ◌++◌, Option, Some, map, length, take, drop, inl, inr, refl, sym, ap, ◌∙◌, subst, append_assoc, append-nil}
+use Rattle.std.specs.Prelude.{◌↔◌}
 use Rattle.std.proofs.lemmas.List.{append_cancel_left, take-append-drop}
 use Rattle.shop_base.specs.declared.move_order.MoveOrder.{MoveOrder}
 use Rattle.shop_base.specs.Plan.{PlannedShop}
 use Rattle.shop_base.specs.Cell.{Cell, start}
 use Rattle.shop_base.specs.Report as base
-use Rattle.shop_base.specs.Report.{after_report}
+use Rattle.shop_base.specs.Report.{CanReport, after_report}
+use Rattle.shop_base.specs.Punctual.{IsPunctual}
 use Rattle.shop_base.specs.Run.{Event, Moved, after, after_all}
 use Rattle.shop_base.specs.Controlled.{moved, IsStep, after_step, step_orders, Leads, done, accepted, refused}
 use Rattle.shop_base.proofs.ControlledRuns.{after_all-moves}
+use Rattle.shop_base.proofs.CellFacts.{after_report-last}
+use Rattle.cell_tables.specs.declared.report.Report as reports
 use Rattle.cell_tables.specs.Reports.{said}
 use Rattle.cell_tables.specs.declared.entry.Entry.{Entry}
 use Rattle.cell_tables.specs.declared.entry.Entry.TheVariants.{Report as ReportEntry, Order as OrderEntry}
 use Rattle.cell_tables.specs.Events.{event_of, events_of}
-use Rattle.event_lines.specs.EventLines.{report_line, order_line, entry_lines, order_lines}
 use Rattle.byte_streams.specs.Answering.{AnswerAll}
-use Rattle.event_lines.specs.AnswerLines.{late_line}
-use Rattle.cell_drive.specs.AnswerText.{DrivenCell, CellReports, CellAnswers}
-use Rattle.event_lines.specs.SentLines.{IsReportLine}
+use Rattle.event_lines.specs.EventLines.{report_line, order_line, entry_lines, order_lines}
+use Rattle.event_lines.specs.declared.requests.Claim.{Claim}
+use Rattle.event_lines.specs.declared.requests.Claim.TheVariants.{Report, CleanAfter}
+use Rattle.event_lines.specs.declared.requests.Request.TheVariants.{Claim as ClaimRequest}
+use Rattle.event_lines.specs.Requests.{claimed}
 use Rattle.event_lines.proofs.Readings.{some_line}
-use Rattle.cell_drive.proofs.LineAnswers.{asked_line}
-use Rattle.cell_drive.specs.OneRun.{cell_after}
-use Rattle.cell_drive.specs.CutLogs.{IsOwnRun}
+use Rattle.cell_drive.specs.declared.manner.Manner.{Manner}
+use Rattle.cell_drive.specs.AnswerText.{DrivenCell}
+use Rattle.cell_drive.specs.CutLogs.{IsOwnRun, IsCutLogOf}
 use Rattle.cell_drive.specs.LateEvents.{AreLate}
-use Rattle.cell_drive.specs.ToldLines.{told_line, told_lines}
-use Rattle.drive_laws.specs.AnswerLaw.{AreReportLines, ToldAsAnswered}
+use Rattle.cell_drive.specs.OneRun.{cell_after}
+use Rattle.cell_drive.specs.Refusals.{IsTaken}
+use Rattle.cell_drive.specs.Resuming.{driven_so_far}
+use Rattle.cell_drive.specs.Retold.{retold_line, retold_lines}
+use Rattle.cell_drive.specs.Stated.{AsksFor, CellRequests, StatedAnswers, AreStatedTo, told_overdue, lateness_part, tells_end, end_part, taken_lines}
+use Rattle.cell_drive.proofs.CutRuns.{FirstStep, first_step}
+use Rattle.cell_drive.proofs.LineAnswers.{asked_line}
 use Rattle.cell_drive.proofs.Parts.{entries_moved}
+use Rattle.drive_laws.specs.AnswerLaw.{AreClaimLines}
+use Rattle.drive_laws.proofs.SettledCuts.{moves_last}
 
 -- orders are never late
 abbrev on_time : List MoveOrder → List Bool
 on_time [] = []
 on_time (o ∷ due) = false ∷ on_time due
 
-told_orders : (due : List MoveOrder) → told_lines (map OrderEntry due) (on_time due) ≡ entry_lines (map OrderEntry due)
-told_orders [] = refl
-told_orders (o ∷ due) = ap (λ (t : List ℕ). order_line o ++ t) (told_orders due)
+-- the lines of a report, what it was late for, its orders and the end of the run, and what stands behind them
+told_step : (line late orders ended rest behind more : List ℕ) → rest ++ behind ≡ ended ++ more
+    → ((line ++ late) ++ (orders ++ rest)) ++ behind ≡ (line ++ (late ++ (orders ++ ended))) ++ more
+told_step line late orders ended rest behind more same =
+    append_assoc (line ++ late) (orders ++ rest) behind
+    ∙ ap (λ (t : List ℕ). (line ++ late) ++ t) (append_assoc orders rest behind ∙ ap (λ (t : List ℕ). orders ++ t) same ∙ sym (append_assoc orders ended more))
+    ∙ append_assoc line late ((orders ++ ended) ++ more)
+    ∙ ap (λ (t : List ℕ). line ++ t) (sym (append_assoc late (orders ++ ended) more))
+    ∙ sym (append_assoc line (late ++ (orders ++ ended)) more)
 
--- the line of a report, whether it is late, the lines of its orders, and what stands behind them
-told_step : (line late orders rest more : List ℕ) → more ≡ orders ++ rest → (line ++ late) ++ more ≡ (line ++ (late ++ orders)) ++ rest
-told_step line late orders rest more same =
-    ap (λ (t : List ℕ). (line ++ late) ++ t) same ∙ sym (append_assoc (line ++ late) orders rest) ∙ ap (λ (t : List ℕ). t ++ rest) (append_assoc line late orders)
-
--- the lines that are the reports among these events are those of the events behind some orders
-behind_orders : (os : List MoveOrder) (later : List Entry) (lines : List (Option (List ℕ))) → AreReportLines lines (map OrderEntry os ++ later) → AreReportLines lines later
-behind_orders [] later lines are = are
-behind_orders (o ∷ os) later lines are = behind_orders os later lines are
-
-module _ (p : PlannedShop) where
+module _ (p : PlannedShop) (manner : Manner) where
   -- ---- orders that are due, behind events
 
   due_on_time : (c : Cell) (due : List MoveOrder) → AreLate p c (map OrderEntry due) (on_time due)
@@ -58,12 +66,18 @@ module _ (p : PlannedShop) where
   late_due c (e ∷ es) [] due are = absurd are
   late_due c (e ∷ es) (f ∷ late) due are = (are.0, late_due (after p c (event_of e)) es late due are.1)
 
+  told_orders : (c : Cell) (due : List MoveOrder) → retold_lines p manner c (map OrderEntry due) (on_time due) ≡ entry_lines (map OrderEntry due)
+  told_orders c [] = refl
+  told_orders c (o ∷ due) = ap (λ (t : List ℕ). order_line o ++ t) (told_orders (after p c (Moved o)) due)
+
   told_due : (c : Cell) (es : List Entry) (late : List Bool) (due : List MoveOrder) → AreLate p c es late
-      → told_lines (es ++ map OrderEntry due) (late ++ on_time due) ≡ told_lines es late ++ entry_lines (map OrderEntry due)
-  told_due c [] late due none = ap (λ (l : List Bool). told_lines (map OrderEntry due) (l ++ on_time due)) none ∙ told_orders due
+      → retold_lines p manner c (es ++ map OrderEntry due) (late ++ on_time due) ≡ retold_lines p manner c es late ++ entry_lines (map OrderEntry due)
+  told_due c [] late due none = ap (λ (l : List Bool). retold_lines p manner c (map OrderEntry due) (l ++ on_time due)) none ∙ told_orders c due
   told_due c (e ∷ es) [] due are = absurd are
   told_due c (e ∷ es) (f ∷ late) due are =
-      ap (λ (t : List ℕ). told_line e f ++ t) (told_due (after p c (event_of e)) es late due are.1) ∙ sym (append_assoc (told_line e f) (told_lines es late) (entry_lines (map OrderEntry due)))
+      let next = after p c (event_of e) in
+      ap (λ (t : List ℕ). retold_line p manner c e f ++ t) (told_due next es late due are.1)
+      ∙ sym (append_assoc (retold_line p manner c e f) (retold_lines p manner next es late) (entry_lines (map OrderEntry due)))
 
   -- ---- a step
 
@@ -71,81 +85,170 @@ module _ (p : PlannedShop) where
   record AreLateBehind (c : Cell) (os : List MoveOrder) (later : List Entry) (late : List Bool) : Type 0 where
     rest : List Bool
     are : AreLate p (after_all p c (moved os)) later rest
-    text : told_lines (map OrderEntry os ++ later) late ≡ order_lines os ++ told_lines later rest
+    text : retold_lines p manner c (map OrderEntry os ++ later) late ≡ order_lines os ++ retold_lines p manner (after_all p c (moved os)) later rest
 
   late_behind : (c : Cell) (os : List MoveOrder) (later : List Entry) (late : List Bool) → AreLate p c (map OrderEntry os ++ later) late → AreLateBehind c os later late
   late_behind c [] later late are = record { rest = late; are = are; text = refl }
   late_behind c (o ∷ os) later [] are = absurd are
   late_behind c (o ∷ os) later (f ∷ late) are =
-      let others = late_behind (after p c (Moved o)) os later late are.1 in
+      let next = after p c (Moved o) in
+      let others = late_behind next os later late are.1 in
       record {
         rest = others.rest;
         are = others.are;
-        text = ap (λ (t : List ℕ). order_line o ++ t) others.text ∙ sym (append_assoc (order_line o) (order_lines os) (told_lines later others.rest));
+        text = ap (λ (t : List ℕ). order_line o ++ t) others.text ∙ sym (append_assoc (order_line o) (order_lines os) (retold_lines p manner (after_all p next (moved os)) later others.rest));
       }
 
-  -- ---- the events of a controlled run, one step after another
+  -- the lines that claim the reports among these events claim those behind some orders
+  behind_orders : (c : Cell) (os : List MoveOrder) (later : List Entry) (lines : List (Option (List ℕ))) → AreClaimLines p manner c lines (map OrderEntry os ++ later)
+      → AreClaimLines p manner (after_all p c (moved os)) lines later
+  behind_orders c [] later lines are = are
+  behind_orders c (o ∷ os) later lines are = behind_orders (after p c (Moved o)) os later lines are
 
   abbrev driven_to : Cell → List Entry → DrivenCell
   driven_to c entries = record { cell = c; entries = entries }
 
-  answered : (c end : Cell) (rs : List base.Report) (es : List Event) → Leads p c rs es end
-      → (entries : List Entry) (late : List Bool) (lines : List (Option (List ℕ))) (number : ℕ) (before : List Entry)
-      → events_of entries ≡ es → AreLate p c entries late → AreReportLines lines entries
-      → AnswerAll (CellAnswers p) (driven_to c before) number lines (told_lines entries late) (driven_to end (before ++ entries))
-  answered _ _ _ _ (done c) [] late lines number before same are say =
-      subst (λ (ls : List (Option (List ℕ))). AnswerAll (CellAnswers p) (driven_to c before) number ls [] (driven_to c (before ++ []))) (sym say) (refl, ap (driven_to c) (append-nil before))
-  answered _ _ _ _ (done c) (ReportEntry report ∷ entries) late lines number before same are say = absurd (cc)
-  answered _ _ _ _ (done c) (OrderEntry order ∷ entries) late lines number before same are say = absurd (cc)
-  answered _ _ _ _ (refused c r rs es end cannot leads) entries late lines number before same are say = answered c end rs es leads entries late lines number before same are say
-  answered _ _ _ _ (accepted c r js rs es end step leads) [] late lines number before same are say = absurd (cc)
-  answered _ _ _ _ (accepted c r js rs es end step leads) (OrderEntry order ∷ entries) late lines number before same are say = absurd (cc)
-  answered _ _ _ _ (accepted c r js rs es end step leads) (ReportEntry report ∷ entries) [] lines number before same are say = absurd are
-  answered _ _ _ _ (accepted c r js rs es end step leads) (ReportEntry report ∷ entries) (f ∷ fs) lines number before same are (line, rest, is_line, says, whole) =
-      let os : List MoveOrder = step_orders p c r js in
-      let is_said : said report ≡ r = cc in
-      let tails : events_of entries ≡ moved os ++ es = cc in
-      let (later, split, events) = entries_moved entries os es tails in
-      let behind : AreLateBehind (after_report c (said report)) os later fs =
-      late_behind (after_report c (said report)) os later fs (subst (λ (xs : List Entry). AreLate p (after_report c (said report)) xs fs) split are.1) in
-      let are_later : AreLate p (after_step p c r js) later behind.rest =
-      subst (λ (d : Cell). AreLate p d later behind.rest) (after_all-moves p (after_report c r) r.at js)
-      (subst (λ (q : base.Report). AreLate p (after_all p (after_report c q) (moved os)) later behind.rest) is_said behind.are) in
-      let next : List Entry = before ++ ReportEntry report ∷ map OrderEntry os in
-      let text : List ℕ = cond f (late_line (said report).at) [] in
-      let said_so : List ℕ = report_line report ++ (text ++ order_lines os) in
-      let answer : CellAnswers p (driven_to c before) number (Some line) said_so (driven_to (after_step p c r js) next) =
-      subst (λ (q : base.Report). CellAnswers p (driven_to c before) number (Some line) (report_line report ++ (text ++ order_lines (step_orders p c q js))) (driven_to (after_step p c q js) (before ++ ReportEntry report ∷ map OrderEntry (step_orders p c q js)))) is_said
-      (asked_line IsReportLine (CellReports p) (driven_to c before) number line _ report (driven_to (after_step p c (said report) js) (before ++ ReportEntry report ∷ map OrderEntry (step_orders p c (said report) js))) (some_line line report is_line) is_line (record {
-        more = ReportEntry report ∷ map OrderEntry (step_orders p c (said report) js);
-        answer = inr (record { movers = js; step = subst (λ (q : base.Report). IsStep p c q js) (sym is_said) step; late = f; late_is = are.0; text_is = refl; events_are = refl; next_is = refl });
-        entries = refl;
-      })) in
-      let others = answered (after_step p c r js) end rs es leads later behind.rest rest (number + 1) next events are_later
-      (behind_orders os later rest (subst (λ (xs : List Entry). AreReportLines rest xs) split says)) in
-      let joined : next ++ later ≡ before ++ ReportEntry report ∷ entries =
-      append_assoc before (ReportEntry report ∷ map OrderEntry os) later ∙ ap (λ (xs : List Entry). before ++ ReportEntry report ∷ xs) (sym split) in
-      let told : told_lines (ReportEntry report ∷ entries) (f ∷ fs) ≡ (report_line report ++ (text ++ order_lines os)) ++ told_lines later behind.rest =
-      ap (λ (xs : List Entry). (report_line report ++ text) ++ told_lines xs fs) split
-      ∙ told_step (report_line report) text (order_lines os) (told_lines later behind.rest) (told_lines (map OrderEntry os ++ later) fs) behind.text in
-      subst (λ (ls : List (Option (List ℕ))). AnswerAll (CellAnswers p) (driven_to c before) number ls (told_lines (ReportEntry report ∷ entries) (f ∷ fs)) (driven_to end (before ++ ReportEntry report ∷ entries))) (sym whole) (
-        said_so,
-        told_lines later behind.rest,
-        driven_to (after_step p c r js) next,
-        answer,
-        subst (λ (xs : List Entry). AnswerAll (CellAnswers p) (driven_to (after_step p c r js) next) (number + 1) rest (told_lines later behind.rest) (driven_to end xs)) joined others,
-        told,
-      )
+  -- the events of a report that is taken
+  abbrev step_entries : Cell → reports.Report → List ℕ → List Entry
+  step_entries c report js = ReportEntry report ∷ map OrderEntry (step_orders p c (said report) js)
 
-pub told_as_answered : ToldAsAnswered
-told_as_answered p log entries late lines taken are says =
-    let n : ℕ = length late in
-    let run : IsOwnRun p entries = subst (λ (es : List Entry). IsOwnRun p es) (sym taken.whole) taken.log.run in
-    let are_all : AreLate p (start p) entries (late ++ on_time taken.due) =
-    subst (λ (es : List Entry). AreLate p (start p) es (late ++ on_time taken.due)) (sym taken.whole) (late_due p (start p) (take n entries) late taken.due are) in
-    let due : drop n entries ≡ map OrderEntry taken.due = append_cancel_left (take n entries) (drop n entries) (map OrderEntry taken.due) (take-append-drop n entries ∙ taken.whole) in
-    let text : told_lines entries (late ++ on_time taken.due) ≡ told_lines (take n entries) late ++ entry_lines (drop n entries) =
-    ap (λ (es : List Entry). told_lines es (late ++ on_time taken.due)) taken.whole ∙ told_due p (start p) (take n entries) late taken.due are
-    ∙ ap (λ (es : List Entry). told_lines (take n entries) late ++ entry_lines es) (sym due) in
-    subst (λ (t : List ℕ). AnswerAll (CellAnswers p) (driven_to p (start p) []) 1 lines t (driven_to p (cell_after p entries) entries)) text
-    (answered p (start p) (cell_after p entries) _ (events_of entries) run entries (late ++ on_time taken.due) lines 1 [] refl are_all says)
+  -- its answer, with whether it was late
+  abbrev step_text : Cell → reports.Report → List ℕ → Bool → List ℕ
+  step_text c report js late = taken_lines [] report late (told_overdue manner p c report) (step_orders p c (said report) js) (tells_end manner p (after_step p c (said report) js))
+
+  some_words : (tells : Bool) (line : List ℕ) (claim : Claim) → AsksFor tells line (ClaimRequest claim) → line ≡ [] → ⊥
+  some_words tells line claim asked none = go tells claim (subst (λ (l : List ℕ). AsksFor tells l (ClaimRequest claim)) none asked)
+    where
+      go : (t : Bool) (q : Claim) → AsksFor t [] (ClaimRequest q) → ⊥
+      go true (Report report) is = some_line [] report is refl
+      go true (CleanAfter machine job at) is = is.1
+      go false (Report report) is = some_line [] report is refl
+      go false (CleanAfter machine job at) is = is
+
+  -- a line that claims it is answered so
+  claim_answered : (c : Cell) (before : List Entry) (number : ℕ) (line : List ℕ) (claim : Claim) (report : reports.Report) (js : List ℕ) (late : Bool) → claimed claim ≡ report
+      → AsksFor manner.tells line (ClaimRequest claim) → IsTaken manner p c claim → IsStep p c (said report) js → ((late ≡ false) ↔ IsPunctual p c (said report))
+      → StatedAnswers p manner (driven_to c before) number (Some line) (step_text c report js late) (driven_to (after_step p c (said report) js) (before ++ step_entries c report js))
+  claim_answered c before number line claim report js late same asked taken step late_is =
+      subst (λ (q : reports.Report). StatedAnswers p manner (driven_to c before) number (Some line) (step_text c q js late) (driven_to (after_step p c (said q) js) (before ++ step_entries c q js))) same
+      (asked_line (AsksFor manner.tells) (CellRequests p manner) (driven_to c before) number line (step_text c own js late) (ClaimRequest claim) (driven_to (after_step p c (said own) js) (before ++ step_entries c own js))
+      (some_words manner.tells line claim asked) asked (record {
+        more = step_entries c own js;
+        answer = inr (record {
+          taken = taken;
+          movers = js;
+          step = subst (λ (q : reports.Report). IsStep p c (said q) js) (sym same) step;
+          late = late;
+          late_is = subst (λ (q : reports.Report). (late ≡ false) ↔ IsPunctual p c (said q)) (sym same) late_is;
+          text_is = refl;
+          events_are = refl;
+          next_is = refl;
+        });
+        entries = refl;
+      }))
+    where
+      own : reports.Report
+      own = claimed claim
+
+  -- ---- the events of a controlled run, one step after another
+
+  -- the end of the run, where it is told behind some events
+  abbrev pub end_behind : List Entry → Cell → List ℕ
+  end_behind [] end = []
+  end_behind (e ∷ entries) end = end_part [] end.last (tells_end manner p end)
+
+  nothing_led : (c end : Cell) (rs : List base.Report) (es : List Event) → Leads p c rs es end → es ≡ [] → end ≡ c
+  nothing_led _ _ _ _ (done c) none = refl
+  nothing_led _ end _ _ (refused c r rs es last cannot leads) none = nothing_led c end rs es leads none
+  nothing_led _ end _ _ (accepted c r js rs es last step leads) none = absurd (cc)
+
+  -- while reports are possible the end isn't told
+  module _ (On : Cell → Type 0) (keeps : (c : Cell) (r : base.Report) (js : List ℕ) → On c → IsStep p c r js → On (after_step p c r js))
+      (goes : (c : Cell) (r : base.Report) → On c → CanReport p c r → tells_end manner p c ≡ false) where
+    -- so it is told behind the last step
+    end_in_turn : (c end : Cell) (rs : List base.Report) (later : List Entry) (rest : List Bool) (t : ℕ) → On c → Leads p c rs (events_of later) end → c.last ≡ t
+        → retold_lines p manner c later rest ++ end_part [] end.last (tells_end manner p end) ≡ end_part [] t (tells_end manner p c) ++ (retold_lines p manner c later rest ++ end_behind later end)
+    end_in_turn c end rs [] rest t on leads now =
+        ap (λ (x : Cell). end_part [] x.last (tells_end manner p x)) (nothing_led c end rs [] leads refl)
+        ∙ ap (λ (n : ℕ). end_part [] n (tells_end manner p c)) now ∙ sym (append-nil (end_part [] t (tells_end manner p c)))
+    end_in_turn c end rs (e ∷ later) rest t on leads now = go (first_step p c rs (events_of (e ∷ later)) end leads)
+      where
+        ending : List ℕ
+        ending = end_part [] end.last (tells_end manner p end)
+
+        go : (events_of (e ∷ later) ≡ []) ⊎ FirstStep p c (events_of (e ∷ later)) end → retold_lines p manner c (e ∷ later) rest ++ ending ≡ end_part [] t (tells_end manner p c) ++ (retold_lines p manner c (e ∷ later) rest ++ ending)
+        go (inl none) = absurd (cc)
+        go (inr first) = ap (λ (b : Bool). end_part [] t b ++ (retold_lines p manner c (e ∷ later) rest ++ ending)) (sym (goes c first.report on first.step.can))
+
+    answered : (c end : Cell) (rs : List base.Report) (es : List Event) → Leads p c rs es end → On c
+        → (entries : List Entry) (late : List Bool) (lines : List (Option (List ℕ))) (number : ℕ) (before : List Entry)
+        → events_of entries ≡ es → AreLate p c entries late → AreClaimLines p manner c lines entries
+        → AnswerAll (StatedAnswers p manner) (driven_to c before) number lines (retold_lines p manner c entries late ++ end_behind entries end) (driven_to end (before ++ entries))
+    answered _ _ _ _ (done c) on [] late lines number before same are say =
+        subst (λ (ls : List (Option (List ℕ))). AnswerAll (StatedAnswers p manner) (driven_to c before) number ls [] (driven_to c (before ++ []))) (sym say) (refl, ap (driven_to c) (append-nil before))
+    answered _ _ _ _ (done c) on (ReportEntry report ∷ entries) late lines number before same are say = absurd (cc)
+    answered _ _ _ _ (done c) on (OrderEntry order ∷ entries) late lines number before same are say = absurd (cc)
+    answered _ _ _ _ (refused c r rs es end cannot leads) on entries late lines number before same are say = answered c end rs es leads on entries late lines number before same are say
+    answered _ _ _ _ (accepted c r js rs es end step leads) on [] late lines number before same are say = absurd (cc)
+    answered _ _ _ _ (accepted c r js rs es end step leads) on (OrderEntry order ∷ entries) late lines number before same are say = absurd (cc)
+    answered _ _ _ _ (accepted c r js rs es end step leads) on (ReportEntry report ∷ entries) [] lines number before same are say = absurd are
+    answered _ _ _ _ (accepted c r js rs es end step leads) on (ReportEntry report ∷ entries) (f ∷ fs) lines number before same are (line, claim, rest, asked, is_claimed, taken, says, whole) =
+        let os : List MoveOrder = step_orders p c r js in
+        let is_said : said report ≡ r = cc in
+        let tails : events_of entries ≡ moved os ++ es = cc in
+        let (later, split, events) = entries_moved entries os es tails in
+        let next : Cell = after_step p c r js in
+        let led : after_all p (after_report c (said report)) (moved os) ≡ next = ap (λ (q : base.Report). after_all p (after_report c q) (moved os)) is_said ∙ after_all-moves p (after_report c r) r.at js in
+        let behind : AreLateBehind (after_report c (said report)) os later fs =
+        late_behind (after_report c (said report)) os later fs (subst (λ (xs : List Entry). AreLate p (after_report c (said report)) xs fs) split are.1) in
+        let are_later : AreLate p next later behind.rest = subst (λ (d : Cell). AreLate p d later behind.rest) led behind.are in
+        let says_later : AreClaimLines p manner next rest later =
+        subst (λ (d : Cell). AreClaimLines p manner d rest later) led
+        (behind_orders (after_report c (said report)) os later rest (subst (AreClaimLines p manner (after_report c (said report)) rest) split says)) in
+        let now : next.last ≡ (said report).at = moves_last p (after_report c r) r.at js (after_report-last c r) ∙ ap (λ (q : base.Report). q.at) (sym is_said) in
+        let entries_then : List Entry = before ++ ReportEntry report ∷ map OrderEntry os in
+        let lateness : List ℕ = lateness_part [] (said report).at f (told_overdue manner p c report) in
+        let ended : List ℕ = end_part [] (said report).at (tells_end manner p next) in
+        let text : List ℕ = report_line report ++ (lateness ++ (order_lines os ++ ended)) in
+        let answer : StatedAnswers p manner (driven_to c before) number (Some line) text (driven_to next entries_then) =
+        subst (λ (q : base.Report). StatedAnswers p manner (driven_to c before) number (Some line)
+        (report_line report ++ (lateness ++ (order_lines (step_orders p c q js) ++ end_part [] (said report).at (tells_end manner p (after_step p c q js)))))
+        (driven_to (after_step p c q js) (before ++ ReportEntry report ∷ map OrderEntry (step_orders p c q js)))) is_said
+        (claim_answered c before number line claim report js f is_claimed asked taken (subst (λ (q : base.Report). IsStep p c q js) (sym is_said) step) are.0) in
+        let text_then : List ℕ = retold_lines p manner next later behind.rest ++ end_behind later end in
+        let others = answered next end rs es leads (keeps c r js on step) later behind.rest rest (number + 1) entries_then events are_later says_later in
+        let joined : entries_then ++ later ≡ before ++ ReportEntry report ∷ entries =
+        append_assoc before (ReportEntry report ∷ map OrderEntry os) later ∙ ap (λ (xs : List Entry). before ++ ReportEntry report ∷ xs) (sym split) in
+        let told : retold_lines p manner c (ReportEntry report ∷ entries) (f ∷ fs) ≡ (report_line report ++ lateness) ++ (order_lines os ++ retold_lines p manner next later behind.rest) =
+        ap (λ (xs : List Entry). (report_line report ++ lateness) ++ retold_lines p manner (after_report c (said report)) xs fs) split
+        ∙ ap (λ (t : List ℕ). (report_line report ++ lateness) ++ t) (behind.text ∙ ap (λ (d : Cell). order_lines os ++ retold_lines p manner d later behind.rest) led) in
+        let ending : List ℕ = end_part [] end.last (tells_end manner p end) in
+        let whole_text : retold_lines p manner c (ReportEntry report ∷ entries) (f ∷ fs) ++ ending ≡ text ++ text_then =
+        ap (λ (t : List ℕ). t ++ ending) told
+        ∙ told_step (report_line report) lateness (order_lines os) ended (retold_lines p manner next later behind.rest) ending text_then
+        (end_in_turn next end rs later behind.rest (said report).at (keeps c r js on step) (subst (λ (xs : List Event). Leads p next rs xs end) (sym events) leads) now) in
+        subst (λ (ls : List (Option (List ℕ))). AnswerAll (StatedAnswers p manner) (driven_to c before) number ls (retold_lines p manner c (ReportEntry report ∷ entries) (f ∷ fs) ++ ending) (driven_to end (before ++ ReportEntry report ∷ entries))) (sym whole) (
+          text,
+          text_then,
+          driven_to next entries_then,
+          answer,
+          subst (λ (xs : List Entry). AnswerAll (StatedAnswers p manner) (driven_to next entries_then) (number + 1) rest text_then (driven_to end xs)) joined others,
+          whole_text,
+        )
+
+    pub told_again : (log : List (List ℕ)) (entries : List Entry) (late : List Bool) (lines : List (Option (List ℕ))) → On (start p)
+        → IsCutLogOf p log entries (length late) → AreLate p (start p) (take (length late) entries) late → AreClaimLines p manner (start p) lines entries
+        → AreStatedTo p manner lines (retold_lines p manner (start p) (take (length late) entries) late ++ (entry_lines (drop (length late) entries) ++ end_behind entries (cell_after p entries))) (driven_so_far p entries)
+    told_again log entries late lines on taken are says =
+        let n : ℕ = length late in
+        let run : IsOwnRun p entries = subst (λ (es : List Entry). IsOwnRun p es) (sym taken.whole) taken.log.run in
+        let are_all : AreLate p (start p) entries (late ++ on_time taken.due) =
+        subst (λ (es : List Entry). AreLate p (start p) es (late ++ on_time taken.due)) (sym taken.whole) (late_due (start p) (take n entries) late taken.due are) in
+        let due : drop n entries ≡ map OrderEntry taken.due = append_cancel_left (take n entries) (drop n entries) (map OrderEntry taken.due) (take-append-drop n entries ∙ taken.whole) in
+        let ending : List ℕ = end_behind entries (cell_after p entries) in
+        let text : retold_lines p manner (start p) entries (late ++ on_time taken.due) ++ ending ≡ retold_lines p manner (start p) (take n entries) late ++ (entry_lines (drop n entries) ++ ending) =
+        ap (λ (es : List Entry). retold_lines p manner (start p) es (late ++ on_time taken.due) ++ ending) taken.whole
+        ∙ ap (λ (t : List ℕ). t ++ ending) (told_due (start p) (take n entries) late taken.due are ∙ ap (λ (es : List Entry). retold_lines p manner (start p) (take n entries) late ++ entry_lines es) (sym due))
+        ∙ append_assoc (retold_lines p manner (start p) (take n entries) late) (entry_lines (drop n entries)) ending in
+        subst (λ (t : List ℕ). AreStatedTo p manner lines t (driven_so_far p entries)) text
+        (answered (start p) (cell_after p entries) _ (events_of entries) run on entries (late ++ on_time taken.due) lines 1 [] refl are_all says)

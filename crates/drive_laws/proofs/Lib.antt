@@ -4,12 +4,15 @@ pub mod SettledCuts
 pub mod ResumedTexts
 pub mod OneTaking
 pub mod AnsweredAgain
+pub mod ToldAsStated
 pub mod LeftOut
 pub mod ShortLines
 pub mod StatedAudits
 pub mod Plainly
 pub mod Versions
 pub mod TakenOnce
+pub mod OrderedRightly
+pub mod SentTruly
 pub mod OnlyAdds
 pub mod ResumedOnce
 pub mod StatedLeads

@@ -49,7 +49,7 @@ module _ (p : PlannedShop) where
   no_moves c t (j ∷ js) rest moves = absurd (rest j t moves.0 moves.1)
 
   -- the last moment after moves at a moment
-  moves_last : (c : Cell) (t : ℕ) (js : List ℕ) → c.last ≡ t → (after_moves p c t js).last ≡ t
+  pub moves_last : (c : Cell) (t : ℕ) (js : List ℕ) → c.last ≡ t → (after_moves p c t js).last ≡ t
   moves_last c t [] now = now
   moves_last c t (j ∷ js) now = moves_last (after_move p c j t) t js refl
 

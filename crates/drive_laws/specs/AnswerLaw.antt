@@ -1,14 +1,24 @@
 -- The law that the events of a log of a controlled run are told once more as they were answered.
 use Rattle.std.specs.Prelude.{◌≡◌, ℕ, List, [], ◌∷◌, ◌++◌, Bool, Option, Some, length, take, drop}
-use Rattle.shop_base.specs.Plan.{PlannedShop}
-use Rattle.shop_base.specs.Cell.{start}
+use Rattle.shop_base.specs.Plan.{PlannedShop, IsWellShaped}
+use Rattle.shop_base.specs.Cell.{Cell, start}
+use Rattle.shop_base.specs.Run.{after}
 use Rattle.cell_tables.specs.declared.entry.Entry.{Entry}
 use Rattle.cell_tables.specs.declared.entry.Entry.TheVariants.{Report as ReportEntry, Order as OrderEntry}
+use Rattle.cell_tables.specs.Events.{event_of}
 use Rattle.event_lines.specs.EventLines.{entry_lines}
 use Rattle.event_lines.specs.SentLines.{IsReportLine}
+use Rattle.event_lines.specs.declared.requests.Claim.{Claim}
+use Rattle.event_lines.specs.declared.requests.Request.TheVariants.{Claim as ClaimRequest}
+use Rattle.event_lines.specs.Requests.{claimed}
+use Rattle.cell_drive.specs.declared.manner.Manner.{Manner}
 use Rattle.cell_drive.specs.AnswerText.{AreAnswersTo}
 use Rattle.cell_drive.specs.CutLogs.{IsCutLogOf}
 use Rattle.cell_drive.specs.LateEvents.{AreLate}
+use Rattle.cell_drive.specs.OneRun.{cell_after}
+use Rattle.cell_drive.specs.Refusals.{IsTaken}
+use Rattle.cell_drive.specs.Retold.{retold_lines}
+use Rattle.cell_drive.specs.Stated.{AsksFor, AreStatedTo, tells_end, end_part}
 use Rattle.cell_drive.specs.ToldLines.{told_lines}
 use Rattle.cell_drive.specs.Resuming.{driven_so_far}
 
@@ -23,3 +33,21 @@ abbrev pub ToldAsAnswered : Type 0
 ToldAsAnswered = (p : PlannedShop) (log : List (List ℕ)) (entries : List Entry) (late : List Bool) (lines : List (Option (List ℕ)))
     → IsCutLogOf p log entries (length late) → AreLate p (start p) (take (length late) entries) late → AreReportLines lines entries
     → AreAnswersTo p lines (told_lines (take (length late) entries) late ++ entry_lines (drop (length late) entries)) (driven_so_far p entries)
+
+-- the lines of an input claim the reports among these events, one after another and nothing else, each so that it is taken in a manner, from this cell on
+abbrev pub AreClaimLines : PlannedShop → Manner → Cell → List (Option (List ℕ)) → List Entry → Type 0
+AreClaimLines p manner c lines [] = lines ≡ []
+AreClaimLines p manner c lines (ReportEntry report ∷ entries) =
+    (line : List ℕ) × (claim : Claim) × (rest : List (Option (List ℕ))) × AsksFor manner.tells line (ClaimRequest claim) × (claimed claim ≡ report) × IsTaken manner p c claim
+    × AreClaimLines p manner (after p c (event_of (ReportEntry report))) rest entries × (lines ≡ Some line ∷ rest)
+AreClaimLines p manner c lines (OrderEntry order ∷ entries) = AreClaimLines p manner (after p c (event_of (OrderEntry order))) lines entries
+
+-- `done T`, where these events have ended the run, and that is told at once
+abbrev pub end_told : PlannedShop → Manner → List Entry → List ℕ
+end_told p manner entries = end_part [] (cell_after p entries).last (tells_end manner p (cell_after p entries))
+
+-- so it is in each manner, with `done T` at once behind it where that is answered
+abbrev pub ToldAsStated : Type 0
+ToldAsStated = (p : PlannedShop) (manner : Manner) (log : List (List ℕ)) (entries : List Entry) (late : List Bool) (lines : List (Option (List ℕ))) → IsWellShaped p
+    → IsCutLogOf p log entries (length late) → AreLate p (start p) (take (length late) entries) late → AreClaimLines p manner (start p) lines entries
+    → AreStatedTo p manner lines (retold_lines p manner (start p) (take (length late) entries) late ++ (entry_lines (drop (length late) entries) ++ end_told p manner entries)) (driven_so_far p entries)

@@ -2,6 +2,7 @@
 pub mod CellsAlone
 pub mod AnswerLaw
 pub mod TakingUpLaw
+pub mod FloorLaw
 pub mod StatesLaw
 pub mod LeapLaw
 pub mod VersionsLaw

@@ -7,13 +7,14 @@ ghost use Rattle.cell_drive.specs.OneTextLaw.{OneAnswerText, OneTextForLines, AD
 ghost use Rattle.cell_drive.specs.CellsTextLaw.{OneCellsAnswerText, OneCellsTextForLines};
 ghost use Rattle.drive_laws.specs.CellsAlone.{EachCellIsAsAlone};
 ghost use Rattle.cell_drive.specs.AuditLaw.{AnAnswerTextIsALog, AnAuditKeepsWhatWasDriven};
-ghost use Rattle.drive_laws.specs.AnswerLaw.{ToldAsAnswered};
+ghost use Rattle.drive_laws.specs.AnswerLaw.{ToldAsAnswered, ToldAsStated};
 ghost use Rattle.cell_drive.specs.CutLaw.{ACutLogIsTakenUp, WhatWasResumedIsTakenUp, WhatWasResumedCanBeTakenUp, ACutLogHasItsOrders, WhatWasDrivenHasItsOrders, ItCanBeTakenUp, ItIsTakenUpWithItsOrders};
 ghost use Rattle.cell_drive.specs.Resuming.{AResumedTextIsALog, AnAuditKeepsWhatWasResumed, OneResumedText, WhatWasResumedIsSuchAText, WhatWasResumedGoesOn};
 ghost use Rattle.drive_laws.specs.TakingUpLaw.{OneTakingUp, OneTextFromALog, OneStatedTextFromALog, ALogWithoutEventsIsDriven, ALogWithoutEventsIsDrivenSo};
 ghost use Rattle.drive_laws.specs.StatesLaw.{OnlyGoneJobsAreLeftOut, OnlyCleanMachinesAreLeftOut};
 ghost use Rattle.drive_laws.specs.ShortLinesLaw.{StateLinesAreShort, RefusalsAreShort, LateLinesAreShort, StandingsAreShort, DetailsAreShort, OverdueIsShort, LineNumbersAreShort};
 ghost use Rattle.cell_drive.specs.StatedCellsLaw.{OneStatedCellsText, OneStatedCellsTextForLines, EachStatedCellIsAlone, PlainlyAsEverForCells};
+ghost use Rattle.drive_laws.specs.FloorLaw.{NothingIsOrderedWrongly, ADrivenCellOrdersRightly, ARunThatGoesOnOrdersRightly, EachCellOrdersRightly};
 ghost use Rattle.drive_laws.specs.LeapLaw.{NoPunctualReportLeaps};
 ghost use Rattle.drive_laws.specs.VersionsLaw.{Version2OnlyAdds};
 ghost use Rattle.drive_laws.specs.CellsVersionsLaw.{Version2OnlyAddsForCells};
@@ -90,9 +91,11 @@ pub fn a_cut_log_has_its_orders()
 
 /// Let a log be that of a controlled run, and let the lines of an input be the reports of that run, one after another. The events that
 /// are written again, and then the orders that are due, are what `drive` answers to those lines. The mark between
-/// them isn't.
+/// them isn't. So it is in each manner in which those lines are taken, where a cleaning may be reported by its job; but `done T`, which
+/// the manner may ask for at once behind the last order of a run, isn't written again.
 pub fn told_as_answered()
-    ensures { ToldAsAnswered }
+    ensures plain { ToldAsAnswered }
+    ensures stated { ToldAsStated }
 {}
 
 /// For a well-shaped plan an input has one text that answers it after what was taken up, which leads to one cell
@@ -192,6 +195,20 @@ pub fn nothing_is_taken_twice()
     ensures driven { NothingIsTakenTwice }
     ensures run { NothingOfARunIsClaimedAgain }
     ensures resumed { NothingOfALogIsTakenAgain }
+{}
+
+/// Let what has ended so far on a floor be given, in one run: each arrival, each operation, and each cleaning after a job, and at
+/// which moment. Let a program report to a driven cell nothing but these, each as often as it likes, in any order, and with any
+/// moment from its end on; `clean M T`, which names no job, it doesn't send. Then each order so far is right. What its job did where
+/// it stands has ended, each job that was ordered onto the same machine before has been ordered away from it, and the cleaning after
+/// each of these has ended, if there is one; and no later than at the moment of the order. So it is in any run whose reports tell
+/// what has ended, in one that was taken up from the log of such a run, and in each cell of a hub. That parts stand where they were
+/// ordered to is up to the floor.
+pub fn nothing_is_ordered_wrongly()
+    ensures driven { ADrivenCellOrdersRightly }
+    ensures run { NothingIsOrderedWrongly }
+    ensures resumed { ARunThatGoesOnOrdersRightly }
+    ensures cells { EachCellOrdersRightly }
 {}
 
 /// A state has a line of each job that isn't gone and of each machine that is being cleaned, and no other.

@@ -1,0 +1,287 @@
+-- In a run whose reports tell what has ended, each order is right.
+use Rattle.std.proofs.Common.{◌≡◌, ℕ, ◌-◌, ◌<◌, ◌≤◌, List, [], ◌∷◌, ◌++◌, length, true, false, ◌⊎◌, inl, inr, sym, ap, ◌∙◌, subst, arith}
+use Rattle.std.proofs.lemmas.Bool.{cases_eq, cases_Bool, false≢true}
+use Rattle.shop_base.specs.declared.job_state.JobState.{JobState}
+use Rattle.shop_base.specs.declared.move_order.MoveOrder.{MoveOrder}
+use Rattle.shop_base.specs.declared.move_order.Spot.TheVariants.{Out, At}
+use Rattle.shop_base.specs.Plan.{PlannedShop, job_at, clean, Visits, Stands, IsWellShaped}
+use Rattle.shop_base.specs.Cell.{Cell, made, ready, entries, start, IsOn}
+use Rattle.shop_base.specs.Activity.{Activity, Arrival, Operation, Cleaning, GoesOn}
+use Rattle.shop_base.specs.Report.{Report, CanReport, after_end, after_report}
+use Rattle.shop_base.specs.Move.{spot_after, source, CanObey, after_move}
+use Rattle.shop_base.specs.Run.{Event, Reported, Moved, CanHappen, AreEvents, after, after_all}
+use Rattle.shop_base.specs.Sound.{IsSound}
+use Rattle.shop_base.specs.AgainLaw.{HasLeft}
+use Rattle.shop_base.proofs.Changes.{IsMoved, after_move-moved, with_ready-readied, with_clean-tidied, moves_within}
+use Rattle.shop_base.proofs.Keeping.{after_report-like, after-sound, after_all-sound, start-sound, target_free}
+use Rattle.shop_base.proofs.CellFacts.{source_on, source_outside, after_report-last}
+use Rattle.shop_base.proofs.ControlledRuns.{after_all_join, start_not_ready}
+use Rattle.shop_base.proofs.LowerBounds.{events_split}
+use Rattle.shop_base.proofs.InShop.{outside_in_shop}
+use Rattle.shop_base.proofs.Visits.{visits_job, visits_once, visits-stands}
+use Rattle.cell_tables.specs.Readings.{IsCleanedAfter}
+use Rattle.cell_control.specs.OnceLaw.{NamedEnd, Arrived, Finished, Cleaned, Tells}
+use Rattle.cell_control.proofs.Seats.{on_source}
+use Rattle.run_log.proofs.PossibleEntries.{obeyed_target}
+use Rattle.drive_laws.specs.FloorLaw.{Floor, HasEndedBy, end_at, IsRight, TellsTruth, TellTruth, NothingIsOrderedWrongly}
+
+-- where the next move of a job begins depends on how many it has made
+same_source : (p : PlannedShop) (c new : Cell) (j : ℕ) → made new j ≡ made c j → source p new j ≡ source p c j
+same_source p c new j same = ap (spot_after p j) same
+
+module _ (floor : Floor) (p : PlannedShop) (shaped : IsWellShaped p) where
+  later_by : (ended : NamedEnd) (s t : ℕ) → s ≤ t → HasEndedBy floor ended s → HasEndedBy floor ended t
+  later_by ended s t later by = (by.0, by.1, omega (arith, later, by.2))
+
+  last_grows : (c : Cell) (e : Event) → CanHappen p c e → c.last ≤ (after p c e).last
+  last_grows c (Reported r) can = omega (arith, can.moment.in_order, after_report-last c r)
+  last_grows c (Moved o) can = can.0.can.moment.in_order
+
+  -- ---- what a ready job did where it stands
+
+  -- the activity is that of the job where it stands
+  abbrev IsOwn : Cell → ℕ → Activity → Type 0
+  IsOwn c j a = ((a ≡ Arrival j) × (source p c j ≡ Out)) ⊎ ((m : ℕ) × (a ≡ Operation j m) × (source p c j ≡ At m))
+
+  -- a job becomes ready by the end of its own activity
+  ended_own : (c : Cell) (a : Activity) (due t j : ℕ) → IsSound p c → GoesOn p c a due → ready c j ≡ false → ready (after_end c a t) j ≡ true → IsOwn c j a
+  ended_own c (Arrival i) due t j sound goes idle now = go (cases_eq j i)
+    where
+      go : (j ≡ i) ⊎ (j ≡ i → ⊥) → IsOwn c j (Arrival i)
+      go (inl same) = inl (ap Arrival (sym same), source_outside p c j (ap (made c) same ∙ goes.outside))
+      go (inr other) =
+          let change = with_ready-readied c i t goes.not_ready (omega (arith, sound.job_count, outside_in_shop p c i sound goes.outside)) in
+          absurd (false≢true (sym idle ∙ sym (ap (λ (x : JobState). x.ready) (change.others j other)) ∙ now))
+  ended_own c (Operation i m) due t j sound (k, goes) idle now = go (cases_eq j i)
+    where
+      go : (j ≡ i) ⊎ (j ≡ i → ⊥) → IsOwn c j (Operation i m)
+      go (inl same) = inr (m, ap (λ x. Operation x m) (sym same), source_on p c j k m (subst (λ x. IsOn p c x k m) (sym same) goes.on))
+      go (inr other) =
+          let change = with_ready-readied c i t goes.not_ready (omega (arith, sound.job_count, visits_job p i k m goes.on.visits)) in
+          absurd (false≢true (sym idle ∙ sym (ap (λ (x : JobState). x.ready) (change.others j other)) ∙ now))
+  ended_own c (Cleaning m) due t j sound goes idle now = absurd (false≢true (sym idle ∙ now))
+
+  -- which is what a report of it tells
+  own_told : (c : Cell) (r : Report) (ended : NamedEnd) (j : ℕ) → Tells p c r ended → IsOwn c j r.ended → ended ≡ end_at j (source p c j)
+  own_told c r (Arrived i) j tells (inl (is, out)) = let same : i ≡ j = cc in ap Arrived same ∙ ap (end_at j) (sym out)
+  own_told c r (Arrived i) j tells (inr (m, is, at)) = absurd (cc)
+  own_told c r (Finished i n) j tells (inl (is, out)) = absurd (cc)
+  own_told c r (Finished i n) j tells (inr (m, is, at)) = let same : Finished i n ≡ Finished j m = cc in same ∙ ap (end_at j) (sym at)
+  own_told c r (Cleaned n i) j (tells, cleaned) (inl (is, out)) = absurd (cc)
+  own_told c r (Cleaned n i) j (tells, cleaned) (inr (m, is, at)) = absurd (cc)
+
+  -- of each ready job it has ended
+  abbrev IsKnown : Cell → Type 0
+  IsKnown c = (j : ℕ) → ready c j ≡ true → HasEndedBy floor (end_at j (source p c j)) c.last
+
+  known_report : (c : Cell) (r : Report) → IsSound p c → CanReport p c r → TellsTruth floor p c r → IsKnown c → IsKnown (after_report c r)
+  known_report c r sound can (ended, tells, by) known j now =
+      let new = after_report c r in
+      let same : source p new j ≡ source p c j = same_source p c new j ((after_report-like p c r sound can).made_same j) in
+      let last : new.last ≡ r.at = after_report-last c r in
+      subst (λ s. HasEndedBy floor (end_at j s) new.last) (sym same) (subst (λ t. HasEndedBy floor (end_at j (source p c j)) t) (sym last) (go (cases_Bool (ready c j))))
+    where
+      go : (ready c j ≡ true) ⊎ (ready c j ≡ false) → HasEndedBy floor (end_at j (source p c j)) r.at
+      go (inl was) = later_by (end_at j (source p c j)) c.last r.at can.moment.in_order (known j was)
+      go (inr idle) =
+          subst (λ e. HasEndedBy floor e r.at) (own_told c r ended j tells (ended_own c r.ended can.going.0 r.at j sound can.going.1 idle now)) by
+
+  known_move : (c : Cell) (o : MoveOrder) → IsSound p c → CanObey p c o → IsKnown c → IsKnown (after_move p c o.job o.at)
+  known_move c o sound can known j now = go (cases_eq j o.job)
+    where
+      new : Cell
+      new = after_move p c o.job o.at
+
+      change : IsMoved p c o.job o.at new
+      change = after_move-moved p c o.job o.at shaped sound can.can
+
+      go : (j ≡ o.job) ⊎ (j ≡ o.job → ⊥) → HasEndedBy floor (end_at j (source p new j)) new.last
+      go (inl same) = absurd (false≢true (sym (ap (ready new) same ∙ change.ready_mine) ∙ now))
+      go (inr other) =
+          let was = change.others j other in
+          let same : source p new j ≡ source p c j = same_source p c new j (ap (λ (x : JobState). x.made) was) in
+          subst (λ s. HasEndedBy floor (end_at j s) new.last) (sym same)
+          (later_by (end_at j (source p c j)) c.last new.last can.can.moment.in_order (known j (sym (ap (λ (x : JobState). x.ready) was) ∙ now)))
+
+  known_events : (c : Cell) (es : List Event) → IsSound p c → AreEvents p c es → TellTruth floor p c es → IsKnown c → IsKnown (after_all p c es)
+  known_events c [] sound events truth known = known
+  known_events c (Reported r ∷ es) sound events truth known =
+      known_events (after_report c r) es (after-sound p c (Reported r) shaped sound events.0) events.1 truth.1 (known_report c r sound events.0 truth.0 known)
+  known_events c (Moved o ∷ es) sound events truth known =
+      known_events (after_move p c o.job o.at) es (after-sound p c (Moved o) shaped sound events.0) events.1 truth (known_move c o sound events.0.0 known)
+
+  -- ---- the cleaning after a job
+
+  module _ (m j : ℕ) where
+    -- it goes on, or has ended
+    abbrev IsCleanedSince : Cell → Type 0
+    IsCleanedSince c = IsCleanedAfter p c m j ⊎ HasEndedBy floor (Cleaned m j) c.last
+
+    cleaned_report : (c : Cell) (r : Report) → IsSound p c → CanReport p c r → TellsTruth floor p c r → IsCleanedSince c → IsCleanedSince (after_report c r)
+    cleaned_report c r sound can truth (inr by) = inr (later_by (Cleaned m j) c.last (after_report c r).last (last_grows c (Reported r) can) by)
+    cleaned_report c r sound can (ended, tells, by) (inl was) = go ended tells by
+      where
+        of : Activity → Type 0
+        of a = IsCleanedSince (after_report c (record { ended = a; at = r.at }))
+
+        go : (e : NamedEnd) → Tells p c r e → HasEndedBy floor e r.at → of r.ended
+        go (Arrived i) is by = subst of (sym is) (inl (record { from = was.from; is_cleaned = was.is_cleaned; last_in = was.last_in }))
+        go (Finished i n) is by = subst of (sym is) (inl (record { from = was.from; is_cleaned = was.is_cleaned; last_in = was.last_in }))
+        go (Cleaned n i) (is, other) by = subst of (sym is) (elim (cases_eq m n) [
+          | inl same ↦
+              let last : job_at p m (length (entries c m) - 1) ≡ i = subst (λ x. job_at p x (length (entries c x) - 1) ≡ i) (sym same) other.last_in in
+              let mine : job_at p m (length (entries c m) - 1) ≡ j = was.last_in in
+              let is_it : Cleaned n i ≡ Cleaned m j = cc in
+              inr (subst (λ e. HasEndedBy floor e r.at) is_it by)
+          | inr differ ↦
+              let change = with_clean-tidied c n other.from r.at other.is_cleaned in
+              inl (record {
+                from = was.from;
+                is_cleaned = change.cleaning_elsewhere m differ ∙ was.is_cleaned;
+                last_in = ap (λ (es : List ℕ). job_at p m (length es - 1)) (change.entries_same m) ∙ was.last_in;
+              })
+        ])
+
+    cleaned_move : (c : Cell) (o : MoveOrder) → IsSound p c → CanObey p c o → IsCleanedSince c → IsCleanedSince (after_move p c o.job o.at)
+    cleaned_move c o sound can (inr by) = inr (later_by (Cleaned m j) c.last o.at can.can.moment.in_order by)
+    cleaned_move c o sound can (inl was) =
+        let change = after_move-moved p c o.job o.at shaped sound can.can in
+        inl (record {
+          from = was.from;
+          is_cleaned = change.cleaning_elsewhere m (sound.cleaned_free m was.from was.is_cleaned o.job) ∙ was.is_cleaned;
+          last_in = ap (λ (es : List ℕ). job_at p m (length es - 1)) (change.not_entered m off) ∙ was.last_in;
+        })
+      where
+        off : Visits p o.job (made c o.job) m → ⊥
+        off visits = let none = (target_free p c o.job o.at m can.can visits).1 in let some = was.is_cleaned in cc
+
+    cleaned_events : (c : Cell) (es : List Event) → IsSound p c → AreEvents p c es → TellTruth floor p c es → IsCleanedSince c → IsCleanedSince (after_all p c es)
+    cleaned_events c [] sound events truth was = was
+    cleaned_events c (Reported r ∷ es) sound events truth was =
+        cleaned_events (after_report c r) es (after-sound p c (Reported r) shaped sound events.0) events.1 truth.1 (cleaned_report c r sound events.0 truth.0 was)
+    cleaned_events c (Moved o ∷ es) sound events truth was =
+        cleaned_events (after_move p c o.job o.at) es (after-sound p c (Moved o) shaped sound events.0) events.1 truth (cleaned_move c o sound events.0.0 was)
+
+  -- it begins as the job leaves
+  cleaning_begins : (c : Cell) (o : MoveOrder) (m : ℕ) → IsSound p c → CanObey p c o → o.source ≡ At m → 0 < clean p m → IsCleanedAfter p (after_move p c o.job o.at) m o.job
+  cleaning_begins c o m sound can from timed = record {
+    from = o.at;
+    is_cleaned = change.cleaning_begins k m on timed;
+    last_in = ap (job_at p m) place ∙ stands.1.job;
+  }
+    where
+      k : ℕ
+      k = made c o.job - 1
+
+      new : Cell
+      new = after_move p c o.job o.at
+
+      change : IsMoved p c o.job o.at new
+      change = after_move-moved p c o.job o.at shaped sound can.can
+
+      on : IsOn p c o.job k m
+      on = on_source p c o.job m (moves_within p c o.job o.at sound can.can) (sym (ap (λ (q : MoveOrder). q.source) can.is_move) ∙ from)
+
+      stands : (a : ℕ) × Stands p m a o.job k
+      stands = visits-stands p o.job k m shaped on.visits
+
+      off : Visits p o.job (made c o.job) m → ⊥
+      off visits = omega (arith, on.entered, visits_once p o.job (made c o.job) k m shaped visits on.visits)
+
+      place : length (entries new m) - 1 ≡ stands.0
+      place = omega (arith, ap length (change.not_entered m off), sound.newest m stands.0 o.job k stands.1 on.entered)
+
+  -- ---- a job on a machine
+
+  -- it stays until it is ordered away
+  stays_on : (j k m : ℕ) (c : Cell) (es : List Event) → IsSound p c → AreEvents p c es → IsOn p c j k m → IsOn p (after_all p c es) j k m ⊎ HasLeft j m es
+  stays_on j k m c [] sound events on = inl on
+  stays_on j k m c (Reported r ∷ es) sound events on =
+      let same = (after_report-like p c r sound events.0).made_same j in
+      stays_on j k m (after_report c r) es (after-sound p c (Reported r) shaped sound events.0) events.1 (record { entered = same ∙ on.entered; visits = on.visits })
+  stays_on j k m c (Moved o ∷ es) sound events on = elim (cases_eq j o.job) [
+    | inl same ↦ inr (inl (sym same, ap (λ (q : MoveOrder). q.source) events.0.0.is_move ∙ source_on p c o.job k m (subst (λ i. IsOn p c i k m) same on)))
+    | inr other ↦
+        let change = after_move-moved p c o.job o.at shaped sound events.0.0.can in
+        let same = ap (λ (x : JobState). x.made) (change.others j other) in
+        elim (stays_on j k m (after_move p c o.job o.at) es (after-sound p c (Moved o) shaped sound events.0) events.1 (record { entered = same ∙ on.entered; visits = on.visits })) [
+          | inl still ↦ inl still
+          | inr left ↦ inr (inr left)
+        ]
+  ]
+
+  -- ---- an order, and an earlier one
+
+  truth_split : (c : Cell) (es fs : List Event) → TellTruth floor p c (es ++ fs) → TellTruth floor p c es × TellTruth floor p (after_all p c es) fs
+  truth_split c [] fs truth = (tt, truth)
+  truth_split c (Reported r ∷ es) fs truth = let (front, back) = truth_split (after_report c r) es fs truth.1 in ((truth.0, front), back)
+  truth_split c (Moved o ∷ es) fs truth = truth_split (after_move p c o.job o.at) es fs truth
+
+  module _ (before between : List Event) (earlier o : MoveOrder) (m : ℕ) (events : AreEvents p (start p) (before ++ Moved earlier ∷ between))
+      (can : CanObey p (after_all p (start p) (before ++ Moved earlier ∷ between)) o) (to : o.target ≡ At m) where
+    abbrev c : Cell
+    c = after_all p (start p) before
+
+    abbrev next : Cell
+    next = after_move p c earlier.job earlier.at
+
+    abbrev end : Cell
+    end = after_all p next between
+
+    parts : AreEvents p (start p) before × AreEvents p c (Moved earlier ∷ between)
+    parts = events_split p (start p) before (Moved earlier ∷ between) events
+
+    sound : IsSound p c
+    sound = after_all-sound p (start p) before shaped (start-sound p shaped) parts.0
+
+    next_sound : IsSound p next
+    next_sound = after-sound p c (Moved earlier) shaped sound parts.1.0
+
+    there : CanObey p end o
+    there = subst (λ (d : Cell). CanObey p d o) (after_all_join p (start p) before (Moved earlier ∷ between)) can
+
+    comes_free : earlier.target ≡ At m → HasLeft earlier.job m between
+    comes_free came =
+        let change = after_move-moved p c earlier.job earlier.at shaped sound parts.1.0.0.can in
+        let visits = obeyed_target p c earlier m parts.1.0.0 came in
+        let on : IsOn p next earlier.job (made c earlier.job) m = record { entered = change.made_mine; visits = visits } in
+        elim (stays_on earlier.job (made c earlier.job) m next between next_sound parts.1.1 on) [
+          | inl still ↦ absurd ((target_free p end o.job o.at m there.can (obeyed_target p end o m there to)).0 earlier.job (made c earlier.job) still)
+          | inr left ↦ left
+        ]
+
+    comes_clean : TellTruth floor p (start p) (before ++ Moved earlier ∷ between) → earlier.source ≡ At m → 0 < clean p m → HasEndedBy floor (Cleaned m earlier.job) o.at
+    comes_clean truth from timed =
+        elim (cleaned_events m earlier.job next between next_sound parts.1.1 (truth_split (start p) before (Moved earlier ∷ between) truth).1
+        (inl (cleaning_begins c earlier m sound parts.1.0.0 from timed))) [
+          | inl still ↦ (let none = (target_free p end o.job o.at m there.can (obeyed_target p end o m there to)).1 in let some = still.is_cleaned in absurd (cc))
+          | inr by ↦ later_by (Cleaned m earlier.job) end.last o.at there.can.moment.in_order by
+        ]
+
+  right_behind : (before later : List Event) (o : MoveOrder) → AreEvents p (start p) (before ++ Moved o ∷ later) → TellTruth floor p (start p) (before ++ Moved o ∷ later) → IsRight floor p before o
+  right_behind before later o events truth = record {
+    own = subst (λ s. HasEndedBy floor (end_at o.job s) o.at) (sym (ap (λ (q : MoveOrder). q.source) can.is_move))
+        (later_by (end_at o.job (source p c o.job)) c.last o.at can.can.moment.in_order (known o.job can.can.is_ready));
+    free = λ m first between earlier is to came. comes_free first between earlier o m (subst (AreEvents p (start p)) is parts.0) (subst (λ es. CanObey p (after_all p (start p) es) o) is can) to came;
+    cleaned = λ m first between earlier is to from timed.
+        comes_clean first between earlier o m (subst (AreEvents p (start p)) is parts.0) (subst (λ es. CanObey p (after_all p (start p) es) o) is can) to
+        (subst (TellTruth floor p (start p)) is truths.0) from timed;
+  }
+    where
+      c : Cell
+      c = after_all p (start p) before
+
+      parts : AreEvents p (start p) before × AreEvents p c (Moved o ∷ later)
+      parts = events_split p (start p) before (Moved o ∷ later) events
+
+      truths : TellTruth floor p (start p) before × TellTruth floor p c (Moved o ∷ later)
+      truths = truth_split (start p) before (Moved o ∷ later) truth
+
+      can : CanObey p c o
+      can = parts.1.0.0
+
+      known : (j : ℕ) → ready c j ≡ true → HasEndedBy floor (end_at j (source p c j)) c.last
+      known = known_events (start p) before (start-sound p shaped) parts.0 truths.0 (λ j now. absurd (false≢true (sym (start_not_ready p j) ∙ now)))
+
+pub nothing_is_ordered_wrongly : NothingIsOrderedWrongly
+nothing_is_ordered_wrongly floor p es shaped run truth before later o is = right_behind floor p shaped before later o (subst (AreEvents p (start p)) is run) (subst (TellTruth floor p (start p)) is truth)

@@ -1,0 +1,99 @@
+-- The law that a program which sends only what has ended on its floor never has a part ordered wrongly.
+use Rattle.std.specs.Prelude.{◌≡◌, ℕ, ◌<◌, ◌≤◌, List, [], ◌∷◌, ◌++◌, Option, Some}
+use Rattle.shop_base.specs.declared.move_order.Spot.{Spot}
+use Rattle.shop_base.specs.declared.move_order.Spot.TheVariants.{Out, At}
+use Rattle.shop_base.specs.declared.move_order.MoveOrder.{MoveOrder}
+use Rattle.shop_base.specs.Plan.{PlannedShop, clean, IsWellShaped}
+use Rattle.shop_base.specs.Cell.{Cell, start}
+use Rattle.shop_base.specs.Report.{Report}
+use Rattle.shop_base.specs.Run.{Event, Reported, Moved, after, IsRun}
+use Rattle.shop_base.specs.AgainLaw.{HasLeft}
+use Rattle.cell_tables.specs.Reports.{said}
+use Rattle.cell_tables.specs.declared.entry.Entry.{Entry}
+use Rattle.cell_tables.specs.Events.{events_of}
+use Rattle.cell_control.specs.OnceLaw.{NamedEnd, Arrived, Finished, Cleaned, Tells}
+use Rattle.byte_streams.specs.Answering.{AnswerAll}
+use Rattle.event_lines.specs.declared.requests.Claim.{Claim}
+use Rattle.event_lines.specs.declared.requests.Request.{Request}
+use Rattle.event_lines.specs.declared.requests.Request.TheVariants.{Claim as ClaimRequest}
+use Rattle.event_lines.specs.Requests.{claimed}
+use Rattle.cell_drive.specs.declared.manner.Manner.{Manner}
+use Rattle.cell_drive.specs.AnswerText.{DrivenCell}
+use Rattle.cell_drive.specs.Stated.{AsksFor, AreStatedTo, StatedAnswers}
+use Rattle.cell_drive.specs.StatedCells.{AsksCell}
+use Rattle.cell_drive.specs.StatedCellsLaw.{SeesLines}
+use Rattle.cell_drive.specs.StatedLaw.{named}
+use Rattle.cell_drive.specs.Resuming.{driven_so_far}
+
+-- what has ended so far on a floor, in one run: each arrival, each operation and each cleaning after a job, and at which moment
+abbrev pub Floor : Type 0
+Floor = NamedEnd → Option ℕ
+
+-- this has ended, at this moment or before
+abbrev pub HasEndedBy : Floor → NamedEnd → ℕ → Type 0
+HasEndedBy floor ended t = (s : ℕ) × (floor ended ≡ Some s) × (s ≤ t)
+
+-- ---- what is ordered
+
+-- the end of what a job does where it stands: it arrives, or is worked on that machine
+abbrev pub end_at : ℕ → Spot → NamedEnd
+end_at job Out = Arrived job
+end_at job (At machine) = Finished job machine
+
+-- an order behind these events is right: what its job did where it stands has ended; each job that was ordered onto its target has been ordered away from there, and the cleaning after each of those has ended, if there is one
+pub record IsRight (floor : Floor) (p : PlannedShop) (es : List Event) (o : MoveOrder) : Type 0 where
+  pub own : HasEndedBy floor (end_at o.job o.source) o.at
+  pub free : (m : ℕ) (before between : List Event) (earlier : MoveOrder) → es ≡ before ++ Moved earlier ∷ between → o.target ≡ At m → earlier.target ≡ At m → HasLeft earlier.job m between
+  pub cleaned : (m : ℕ) (before between : List Event) (earlier : MoveOrder) → es ≡ before ++ Moved earlier ∷ between → o.target ≡ At m → earlier.source ≡ At m → 0 < clean p m
+      → HasEndedBy floor (Cleaned m earlier.job) o.at
+
+-- so is each order among these events
+abbrev pub AreRight : Floor → PlannedShop → List Event → Type 0
+AreRight floor p es = (before later : List Event) (o : MoveOrder) → es ≡ before ++ Moved o ∷ later → IsRight floor p before o
+
+-- ---- what is reported
+
+-- the report tells what has ended by its moment
+abbrev pub TellsTruth : Floor → PlannedShop → Cell → Report → Type 0
+TellsTruth floor p c r = (ended : NamedEnd) × Tells p c r ended × HasEndedBy floor ended r.at
+
+-- so does each report among these events, from this cell on
+abbrev pub TellTruth : Floor → PlannedShop → Cell → List Event → Type 0
+TellTruth floor p c [] = Unit {0}
+TellTruth floor p c (Reported r ∷ es) = TellsTruth floor p c r × TellTruth floor p (after p c (Reported r)) es
+TellTruth floor p c (Moved o ∷ es) = TellTruth floor p (after p c (Moved o)) es
+
+-- in any run whose reports do, each order is right
+abbrev pub NothingIsOrderedWrongly : Type 0
+NothingIsOrderedWrongly = (floor : Floor) (p : PlannedShop) (es : List Event) → IsWellShaped p → IsRun p es → TellTruth floor p (start p) es → AreRight floor p es
+
+-- ---- what is sent
+
+-- what is claimed to have ended has a name, so it isn't said by `clean M T`, and has ended by the moment of the claim
+abbrev pub IsTruthful : Floor → Claim → Type 0
+IsTruthful floor claim = (ended : NamedEnd) × (named claim ≡ Some ended) × HasEndedBy floor ended (said (claimed claim)).at
+
+-- whatever is claimed by the line, if it asks for anything, is so
+abbrev pub SaysTruth : Floor → (List ℕ → Request → Type 0) → Option (List ℕ) → Type 0
+SaysTruth floor asks line = (words : List ℕ) (claim : Claim) → line ≡ Some words → asks words (ClaimRequest claim) → IsTruthful floor claim
+
+-- and by each of these lines
+abbrev pub SayTruth : Floor → (List ℕ → Request → Type 0) → List (Option (List ℕ)) → Type 0
+SayTruth floor asks [] = Unit {0}
+SayTruth floor asks (line ∷ lines) = SaysTruth floor asks line × SayTruth floor asks lines
+
+-- each order that answers such lines is right
+abbrev pub ADrivenCellOrdersRightly : Type 0
+ADrivenCellOrdersRightly = (floor : Floor) (p : PlannedShop) (manner : Manner) (lines : List (Option (List ℕ))) (text : List ℕ) (end : DrivenCell) → IsWellShaped p
+    → AreStatedTo p manner lines text end → SayTruth floor (AsksFor manner.tells) lines → AreRight floor p (events_of end.entries)
+
+-- also behind the events of a log, whose reports tell the truth
+abbrev pub ARunThatGoesOnOrdersRightly : Type 0
+ARunThatGoesOnOrdersRightly = (floor : Floor) (p : PlannedShop) (manner : Manner) (entries : List Entry) (lines : List (Option (List ℕ))) (number : ℕ) (text : List ℕ) (end : DrivenCell) → IsWellShaped p
+    → IsRun p (events_of entries) → TellTruth floor p (start p) (events_of entries) → AnswerAll (StatedAnswers p manner) (driven_so_far p entries) number lines text end
+    → SayTruth floor (AsksFor manner.tells) lines → AreRight floor p (events_of end.entries)
+
+-- and in each cell of several, of whose lines those are such that ask something of it
+abbrev pub EachCellOrdersRightly : Type 0
+EachCellOrdersRightly = (floor : Floor) (p : PlannedShop) (manner : Manner) (cell number : ℕ) (lines : List (Option (List ℕ))) (events : List Entry) (end : Cell) → IsWellShaped p
+    → SeesLines p manner cell number (start p) lines events end → SayTruth floor (λ words. AsksCell manner.tells words cell) lines → AreRight floor p (events_of events)
