@@ -31,5 +31,6 @@ pub mod RetoldFaults
 pub mod OneStated
 pub mod StatedTold
 pub mod OnTime
+pub mod StillLeft
 pub mod OneStatedCells
 pub mod StatedHubs

@@ -20,7 +20,7 @@ use cell_control::{Controller, Dues, Report};
 use cell_tables::WorkCell;
 use event_lines::{Claim, Detail, Overdue, refused_detail_line};
 use rest_control::RestController;
-use shop_base::Planned;
+use shop_base::{Moment, Planned};
 
 /// What comes of a claim.
 #[derive(Clone, Copy)]
@@ -117,9 +117,16 @@ pub(crate) fn tells_end<D: Dues>(manner: Manner, controller: &Controller<D>) -> 
     manner.tells && controller.reports_left() == 0
 }
 
-/// Whether the end of a run that was taken up is told at once.
+/// Whether the end of a run that was taken up is told at once. Only where nothing goes on are the reports that are left counted.
 pub(crate) fn tells_end_rest<D: Dues>(manner: Manner, controller: &RestController<D>) -> bool
     ensures { result ≡ tells_end manner controller.now.planned controller.now.cell }
 {
-    manner.tells && controller.reports_left() == 0
+    if !manner.tells {
+        return false;
+    }
+    let _plan = controller.shaped();
+    if controller.is_late(Moment::MAX) {
+        return false;
+    }
+    controller.reports_left() == 0
 }

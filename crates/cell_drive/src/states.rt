@@ -3,6 +3,7 @@
 ghost use Rattle.std.specs.Prelude.{◌≡◌, ◌+◌, ◌<◌, ◌≤◌, [], ◌++◌, OnOk};
 ghost use Rattle.shop_base.specs.declared.limits.TheConstants.{MAX_JOBS};
 ghost use Rattle.byte_streams.specs.Lent.{WroteTo};
+ghost use Rattle.event_lines.specs.StandingLines.{unfinished_standing_line};
 ghost use Rattle.cell_drive.specs.States.{is_over, standing_part, jobs_text, machines_text, state_text, count_of, one_more, with_one, with_jobs, with_machines, own_first, overdue_in};
 
 use crate::answers::{put_behind, put_closing};
@@ -15,6 +16,7 @@ use rest_control::RestController;
 use shop_base::{Moment, Planned};
 
 /// Whether nothing is under way.
+#[inline(always)]
 fn is_over(standing: Standing) -> bool
     ensures { result ≡ is_over standing }
 {
@@ -44,6 +46,18 @@ fn is_over(standing: Standing) -> bool
 }
 
 /// Writes the line of what is under way.
+#[inline(never)]
+fn put_line<W: Sink>(prefix: &[u8], standing: Standing, writer: &mut W) -> Result<(), WriteFault>
+    ensures wrote { WroteTo W.Sink result writer.old writer.new (prefix.now ++ unfinished_standing_line standing) }
+    ensures unfailed { OnOk result (W.failed writer.new ≡ W.failed writer.old) }
+{
+    let mut line = DetailText::ended();
+    put_unfinished_standing(&mut line, standing);
+    put_behind(prefix, line.bytes(), writer)
+}
+
+/// Writes the line of what is under way, if anything is. A job that is gone or a clean machine costs a few instructions.
+#[inline(always)]
 fn put_standing<W: Sink>(
     prefix: &[u8],
     standing: Standing,
@@ -55,9 +69,7 @@ fn put_standing<W: Sink>(
     if is_over(standing) {
         return Ok(());
     }
-    let mut line = DetailText::ended();
-    put_unfinished_standing(&mut line, standing);
-    put_behind(prefix, line.bytes(), writer)
+    put_line(prefix, standing, writer)
 }
 
 /// Writes the line of each job that isn't gone.
