@@ -1,4 +1,4 @@
-mod LoggedSteps
+pub mod LoggedSteps
 mod FormedAnswers
 mod FormedStates
 mod Crashes

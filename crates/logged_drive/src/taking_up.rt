@@ -1,6 +1,6 @@
 //! The taking up of a run from its log file.
 
-ghost use Rattle.std.specs.Prelude.{◌≡◌, ◌≤◌, List, ℕ, length, true, Some, IfOk, IfErr, IfSome, OnOk};
+ghost use Rattle.std.specs.Prelude.{◌≡◌, ◌≤◌, List, ℕ, length, true, false, Some, IfOk, IfErr, IfSome, OnOk};
 ghost use Rattle.shop_base.specs.declared.limits.TheConstants.{MAX_MOMENT};
 ghost use Rattle.text_lines.specs.Lines.{ended_lines, lines_of};
 ghost use Rattle.cell_drive.specs.TakenUp.{CanBeTakenUp, IsTakenUp};
@@ -77,6 +77,7 @@ pub fn take_up_log<D: LogFile>(
 ) -> Result<Taken, TakeUpFault>
     requires at_most { IfSome at (λ present. present ≤ MAX_MOMENT) }
     requires settled { IsSettled (D.seen log.old) (D.may_leave log.old) }
+    requires unfailed { D.failed log.old ≡ false }
     requires read { IfSome (D.seen log.old) (λ file. text.now ≡ file) }
     ensures taken { IfOk result (IsTakenUp shaped (ended_lines (whole_lines text.now)) at) }
     ensures torn { OnOk result (is_torn (torn_end text.now) ≡ true) }

@@ -1,5 +1,5 @@
 -- What becomes of a log and an output that bytes are given to.
-use Rattle.std.proofs.Common.{◌≡◌, ℕ, ◌+◌, ◌<◌, ◌≤◌, List, [], ◌++◌, length, take, drop, Option, None, Some, IfSome, Bool, true, false, refl, sym, ap, ◌∙◌, subst, arith, append_assoc, append-nil, length-append, take-append-drop}
+use Rattle.std.proofs.Common.{◌≡◌, ℕ, ◌+◌, ◌<◌, ◌≤◌, List, [], ◌++◌, length, take, drop, Option, None, Some, IfSome, Err, Bool, true, false, refl, sym, ap, ◌∙◌, subst, arith, append_assoc, append-nil, length-append, take-append-drop}
 use Rattle.std.specs.Io.KnownBytes.{Appends}
 use Rattle.std.proofs.lemmas.List.{take_all}
 use Rattle.run_journal.specs.declared.logged.TheConstants.{MAX_PENDING}
@@ -8,7 +8,9 @@ use Rattle.run_journal.specs.LogFiles.{Leaves, IsSettled}
 use Rattle.run_journal.specs.LoggedLines.{logged}
 use Rattle.run_journal.specs.Selecting.{Selected, at_first, behind_bytes, got}
 use Rattle.run_journal.specs.Standings.{IsStanding, open_line}
-use Rattle.run_journal.specs.Logged.{AreBefore, IsSoFar, IsSound}
+use Rattle.run_journal.specs.declared.logged.Unshown.{Unshown}
+use Rattle.run_journal.specs.declared.logged.Unshown.TheVariants.{Log, Output}
+use Rattle.run_journal.specs.Logged.{AreBefore, IsSoFar, IsSound, OnKept, OnLogFault}
 use Rattle.run_journal.proofs.Fronts.{settled_leaves, fewer_leave, if_some-map}
 use Rattle.run_journal.proofs.Selected.{logged-front, got_next, stands_next}
 
@@ -182,3 +184,13 @@ module _ (before : Option (List ℕ × List ℕ)) (seen : Option (List ℕ)) (ma
               line = λ yes. subst (λ (s : Selected). IsStanding s.standing s.front (open_line text)) (sym selects_on) (stands_next selected step.shown gathered (so_far.line unfailed));
             }) sound.so_far;
       }
+
+-- ---- which has failed
+
+pub on_log_fault : (fault : Unshown) (P : Type 0) → fault ≡ Log → OnLogFault (Err fault) P → P
+on_log_fault Log P is p = p
+on_log_fault Output P is p = absurd (cc is)
+
+pub on_output_fault : (fault : Unshown) (P : Type 0) → fault ≡ Output → OnKept (Err fault) P → P
+on_output_fault Log P is p = absurd (cc is)
+on_output_fault Output P is p = p

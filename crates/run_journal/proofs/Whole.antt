@@ -1,9 +1,10 @@
 -- The whole lines of texts that are cut, or put together.
-use Rattle.std.proofs.Common.{◌≡◌, ◌≢◌, ℕ, zero, suc, ◌+◌, ◌≤◌, ◌<◌, Bool, true, false, List, [], ◌∷◌, ◌++◌, length, take, get_or, if◌then◌else◌, ◌==◌, refl, sym, ap, ◌∙◌, arith}
+use Rattle.std.proofs.Common.{◌≡◌, ◌≢◌, ℕ, zero, suc, ◌+◌, ◌≤◌, ◌<◌, Bool, true, false, List, [], ◌∷◌, ◌++◌, length, take, drop, get_or, Option, None, Some, IfSome, take-append-drop, append-nil, if◌then◌else◌, ◌==◌, refl, sym, ap, ◌∙◌, arith}
 use Rattle.std.proofs.lemmas.List.{take_more}
+use Rattle.std.proofs.lemmas.Bool.{eqb-true}
 use Rattle.std.proofs.lemmas.Bool.Decides.{nat_tests}
 use Rattle.run_journal.specs.LogFiles.{zeros, IsLeft}
-use Rattle.run_journal.specs.WholeLines.{before_any, whole_lines}
+use Rattle.run_journal.specs.WholeLines.{before_any, whole_lines, torn_end}
 
 -- one byte more at the front, where this says whether it is a line feed
 abbrev step : Bool → ℕ → List ℕ → List ℕ
@@ -108,3 +109,15 @@ whole-zeros (x ∷ xs) n = ap (λ w. step (x == 10) x w) (whole-zeros xs n)
 pub left_whole : (file left : List ℕ) (least : ℕ) → length (whole_lines file) ≤ least → IsLeft least file left → whole_lines left ≡ whole_lines file
 left_whole file left least within is =
     ap whole_lines is.is ∙ whole-zeros (take is.count file) is.unwritten ∙ cut_keeps file is.count (omega (arith, within, is.at_least))
+
+-- a file without a torn end has whole lines alone
+pub untorn : (file : List ℕ) → torn_end file ≡ [] → whole_lines file ≡ file
+untorn file none =
+    let front = length (whole_lines file) in
+    sym (take_whole file) ∙ sym (append-nil (take front file)) ∙ ap (λ l. take front file ++ l) (sym none) ∙ take-append-drop front file
+
+pub uncut : (seen : Option (List ℕ)) (text end : List ℕ) → end ≡ torn_end text → (length end == 0) ≡ true → IfSome seen (λ file. text ≡ file) → IfSome seen (λ file. seen ≡ Some (whole_lines file))
+uncut None text end is none same = tt
+uncut (Some file) text end is none same =
+    let no_end : [] ≡ end = no_length end (omega (arith, eqb-true (length end) 0 none)) in
+    ap Some (sym (untorn file (ap torn_end (sym same) ∙ sym is ∙ sym no_end)))

@@ -1,6 +1,8 @@
 -- A log and an output that bytes go to, the log first.
-use Rattle.std.specs.Prelude.{◌≡◌, ◌⊎◌, ℕ, ◌+◌, ◌<◌, ◌≤◌, List, [], ◌++◌, length, drop, Option, Some, Bool, true, false, IfSome}
+use Rattle.std.specs.Prelude.{◌≡◌, ◌⊎◌, ℕ, ◌+◌, ◌<◌, ◌≤◌, List, [], ◌++◌, length, drop, Option, Some, Bool, true, false, IfSome, Result, Ok, Err}
 use Rattle.run_journal.specs.declared.logged.TheConstants.{MAX_PENDING}
+use Rattle.run_journal.specs.declared.logged.Unshown.{Unshown}
+use Rattle.run_journal.specs.declared.logged.Unshown.TheVariants.{Log, Output}
 use Rattle.run_journal.specs.declared.selection.TheConstants.{DECIDING}
 use Rattle.run_journal.specs.LogFiles.{Leaves, IsSettled}
 use Rattle.run_journal.specs.LoggedLines.{logged}
@@ -58,3 +60,15 @@ pub record IsSound (before : Option (List ℕ × List ℕ)) (seen : Option (List
   pub none_out : failed ≡ false → sent ≡ 0
   pub settled : failed ≡ false → IsSettled seen may_leave
   pub so_far : IfSome before (λ told. IsSoFar told.0 told.1 seen may_leave taken (drop sent gathered) failed selected)
+
+-- where the log has what it gets, whether the output then takes all or not
+abbrev pub OnKept : Result (Unit {0}) Unshown → Type 0 → Type 0
+OnKept (Ok done) P = P
+OnKept (Err Output) P = P
+OnKept (Err Log) P = Unit {0}
+
+-- where the log has failed
+abbrev pub OnLogFault : Result (Unit {0}) Unshown → Type 0 → Type 0
+OnLogFault (Ok done) P = Unit {0}
+OnLogFault (Err Output) P = Unit {0}
+OnLogFault (Err Log) P = P

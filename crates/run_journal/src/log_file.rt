@@ -1,4 +1,4 @@
-ghost use Rattle.std.specs.Prelude.{◌≡◌, ℕ, ◌≤◌, ◌<◌, ◌++◌, List, length, take, Option, Some, Bool, true, IfOk, IfErr, IfSome, OnErr, OnOk};
+ghost use Rattle.std.specs.Prelude.{◌≡◌, ℕ, ◌≤◌, ◌<◌, ◌++◌, List, length, take, Option, Some, Bool, true, false, IfOk, IfErr, IfSome, OnErr, OnOk};
 ghost use Rattle.run_journal.specs.LogFiles.{Leaves, IsSettled, LeavesNoMore};
 
 use crate::file_fault::FileFault;
@@ -6,9 +6,10 @@ use std::alloc::Global;
 
 /// A file that is appended to, and what a crash may leave of it: of the program, or of the machine.
 ///
-/// Each call may fail, and from any call on all of them may. So a crash in the middle of some code is one of the runs
-/// that its contract covers: the run in which each call after the crash fails and does nothing. A crash in the middle
-/// of a call leaves what it may leave before that call or after it.
+/// Each call may fail, and from any call on all of them may; once an append, a cut or a sync has failed, none of these is
+/// called any more. So a crash in the middle of some code is one of the runs that its contract covers: the run in which
+/// each call after the crash fails and does nothing. A crash in the middle of a call leaves what it may leave before that
+/// call or after it.
 pub trait LogFile {
     // The bytes that a read gives, where they are told.
     ghost seen: { Self → Option (List ℕ) };
@@ -31,7 +32,8 @@ pub trait LogFile {
     /// Appends to a file that is synced. Until the next sync a crash may leave only the first of these bytes, and zeros
     /// in place of the others.
     fn append(&mut self, bytes: &[u8]) -> Result<(), FileFault>
-        requires { IsSettled (seen self.old) (may_leave self.old) }
+        requires settled { IsSettled (seen self.old) (may_leave self.old) }
+        requires unfailed { failed self.old ≡ false }
         ensures appended { OnOk result (IfSome (seen self.old) (λ file. seen self.new ≡ Some (file ++ bytes.now))) }
         ensures crash { IfSome (seen self.old) (λ file. Leaves (may_leave self.new) (length file) (file ++ bytes.now)) }
         ensures unfailed { OnOk result (failed self.new ≡ failed self.old) }
@@ -40,6 +42,7 @@ pub trait LogFile {
     /// Cuts a file that is synced to its first bytes. Until the next sync a crash may leave more of them.
     fn cut(&mut self, len: usize) -> Result<(), FileFault>
         requires settled { IsSettled (seen self.old) (may_leave self.old) }
+        requires unfailed { failed self.old ≡ false }
         requires within { IfSome (seen self.old) (λ file. len ≤ length file) }
         ensures cut { OnOk result (IfSome (seen self.old) (λ file. seen self.new ≡ Some (take len file))) }
         ensures crash { IfSome (seen self.old) (Leaves (may_leave self.new) len) }
@@ -48,6 +51,7 @@ pub trait LogFile {
 
     /// After it a crash leaves what a read gives.
     fn sync(&mut self) -> Result<(), FileFault>
+        requires unfailed { failed self.old ≡ false }
         ensures settled { OnOk result (IsSettled (seen self.new) (may_leave self.new)) }
         ensures seen { seen self.new ≡ seen self.old }
         ensures crash { LeavesNoMore (may_leave self.old) (may_leave self.new) }

@@ -1,9 +1,9 @@
 //! An output whose events a log gets, on the disk, before they are shown.
 
-ghost use Rattle.std.specs.Prelude.{◌≡◌, ◌⊎◌, ◌+◌, ◌<◌, ◌≤◌, ◌++◌, [], length, take, vec_capacity, Some, true, false, IfOk, IfErr, IfSome, OnErr, OnOk, IsTrue};
-ghost use Rattle.std.specs.Io.KnownBytes.{Appends};
+ghost use Rattle.std.specs.Prelude.{◌≡◌, ◌⊎◌, ◌+◌, ◌<◌, ◌≤◌, ◌++◌, [], length, take, vec_capacity, Some, Err, true, false, IfOk, IfErr, IfSome, OnErr, OnOk, IsTrue};
+ghost use Rattle.std.specs.Io.KnownBytes.{Appends, Keeps, append_known};
 ghost use Rattle.run_journal.specs.LogFiles.{IsSettled, Leaves};
-ghost use Rattle.run_journal.specs.Logged.{HoldsNothing, StayInStep, AreBefore};
+ghost use Rattle.run_journal.specs.Logged.{HoldsNothing, StayInStep, AreBefore, OnKept, OnLogFault};
 ghost use Rattle.run_journal.specs.Selecting.{at_first};
 
 use crate::file_fault::FileFault;
@@ -193,19 +193,42 @@ impl<W: Outlet, D: LogFile, B: Before> Outlet for Logged<W, D, B> {
         if self.failed {
             return Err(WriteFault);
         }
+        self.show_all()
+    }
+}
+
+impl<W: Outlet, D: LogFile, B: Before> Logged<W, D, B> {
+    /// Shows all, once the log has what it gets of it. No call has failed before.
+    fn show_all(&mut self) -> Result<(), WriteFault>
+        requires unfailed { self.old.failed ≡ false }
+        ensures taken { Keeps (append_known self.old.taken self.old.pending) (append_known self.new.taken self.new.pending) }
+        ensures shown { OnOk result (self.new.pending ≡ []) }
+        ensures unfailed { OnOk result (self.new.failed ≡ false) }
+        ensures failed { OnErr result (self.new.failed ≡ true) }
+    {
         // Until all has gone well.
         self.failed = true;
         self.events.clear();
         self.selection.take(&self.gathered, &mut self.events);
-        let Ok(()) = keep(&mut self.log, &self.events) else {
-            self.log_failed = true;
-            return Err(WriteFault);
-        };
-        pass_on(&mut self.outlet, &self.gathered, &mut self.sent)?;
-        self.gathered.clear();
-        self.sent = 0;
-        self.failed = false;
-        Ok(())
+        match keep_and_pass_on(
+            &mut self.log,
+            &self.events,
+            &mut self.outlet,
+            &self.gathered,
+            &mut self.sent,
+        ) {
+            Ok(()) => {
+                self.gathered.clear();
+                self.sent = 0;
+                self.failed = false;
+                Ok(())
+            }
+            Err(Unshown::Log) => {
+                self.log_failed = true;
+                Err(WriteFault)
+            }
+            Err(Unshown::Output) => Err(WriteFault),
+        }
     }
 }
 
@@ -222,9 +245,51 @@ fn is_shown_first(gathered: usize, bytes: &[u8]) -> bool
     gathered >= FULL && bytes.starts_with(b"report ")
 }
 
+/// Which has failed, where not all is shown.
+#[derive(Clone, Copy, Debug, PartialEq, Eq)]
+enum Unshown {
+    Log,
+    Output,
+}
+
+/// Puts these events into the log, and onto the disk, and only then gives these bytes to the output, which shows them.
+fn keep_and_pass_on<W: Outlet, D: LogFile>(
+    log: &mut D,
+    events: &[u8],
+    outlet: &mut W,
+    bytes: &[u8],
+    sent: &mut usize,
+) -> Result<(), Unshown>
+    requires settled { IsSettled (D.seen log.old) (D.may_leave log.old) }
+    requires unfailed { D.failed log.old ≡ false }
+    requires none_out { sent.old ≡ 0 }
+
+    // Where they aren't on the disk, the output is given nothing.
+    ensures first { OnLogFault result ((outlet.new ≡ outlet.old) × (sent.new ≡ sent.old)) }
+    ensures log_failed { OnLogFault result (D.failed log.new ≡ true) }
+    ensures kept { OnKept result (IfSome (D.seen log.old) (λ file. D.seen log.new ≡ Some (file ++ events.now))) }
+    ensures settled { OnKept result (IsSettled (D.seen log.new) (D.may_leave log.new)) }
+    ensures unfailed { OnKept result (D.failed log.new ≡ D.failed log.old) }
+    ensures crash { IfSome (D.seen log.old) (λ file. Leaves (D.may_leave log.new) (length file) (file ++ events.now)) }
+    ensures within { OnKept result (sent.new ≤ length bytes.now) }
+    ensures taken { OnKept result (Appends (W.taken outlet.old) (W.taken outlet.new) (take sent.new bytes.now)) }
+    ensures shown { OnKept result (HoldsNothing (W.pending outlet.new) (W.failed outlet.new)) }
+    ensures all { OnOk result (sent.new ≡ length bytes.now) }
+    ensures output_failed { result ≡ Err Unshown.Output → W.failed outlet.new ≡ true }
+{
+    let Ok(()) = keep(log, events) else {
+        return Err(Unshown::Log);
+    };
+    match pass_on(outlet, bytes, sent) {
+        Ok(()) => Ok(()),
+        Err(_) => Err(Unshown::Output),
+    }
+}
+
 /// Puts these bytes into the log, and onto the disk. Where there are none, nothing is done.
 fn keep<D: LogFile>(log: &mut D, bytes: &[u8]) -> Result<(), FileFault>
-    requires { IsSettled (D.seen log.old) (D.may_leave log.old) }
+    requires settled { IsSettled (D.seen log.old) (D.may_leave log.old) }
+    requires unfailed { D.failed log.old ≡ false }
     ensures settled { OnOk result (IsSettled (D.seen log.new) (D.may_leave log.new)) }
     ensures kept { OnOk result (IfSome (D.seen log.old) (λ file. D.seen log.new ≡ Some (file ++ bytes.now))) }
     ensures crash { IfSome (D.seen log.old) (λ file. Leaves (D.may_leave log.new) (length file) (file ++ bytes.now)) }

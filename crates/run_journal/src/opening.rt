@@ -65,6 +65,7 @@ impl LogText {
 
 /// The bytes of a log, which are then on the disk. Nothing is changed: whatever the file is, it may still be refused.
 pub fn read_log<D: LogFile>(alloc: Global, log: &mut D) -> Result<LogText, FileFault>
+    requires unfailed { D.failed log.old ≡ false }
     ensures text { IfOk result (λ text. IfSome (D.seen log.old) (λ file. text ≡ file)) }
     ensures within { IfOk result (λ text. length text ≤ MAX_INPUT) }
     ensures seen { D.seen log.new ≡ D.seen log.old }
@@ -131,6 +132,7 @@ pub fn new_log<L: Logs>(
 /// Cuts off what comes after the whole lines of a log that was read.
 pub fn cut_end<D: LogFile>(log: &mut D, text: &LogText) -> Result<(), FileFault>
     requires settled { IsSettled (D.seen log.old) (D.may_leave log.old) }
+    requires unfailed { D.failed log.old ≡ false }
     requires read { IfSome (D.seen log.old) (λ file. text.now ≡ file) }
     ensures cut { OnOk result (IfSome (D.seen log.old) (λ file. D.seen log.new ≡ Some (whole_lines file))) }
     ensures settled { OnOk result (IsSettled (D.seen log.new) (D.may_leave log.new)) }
@@ -140,6 +142,10 @@ pub fn cut_end<D: LogFile>(log: &mut D, text: &LogText) -> Result<(), FileFault>
     // A crash at any moment leaves the same whole lines.
     ensures crash { IfSome (D.seen log.old) (λ file. (left : List ℕ) → D.may_leave log.new left → whole_lines left ≡ whole_lines file) }
 {
+    // A file that may be appended to but not cut serves as long as nothing is to be cut off.
+    if text.end().is_empty() {
+        return Ok(());
+    }
     log.cut(text.lines().len())?;
     // What is appended to a file whose cut isn't on the disk might stand behind the torn end.
     log.sync()

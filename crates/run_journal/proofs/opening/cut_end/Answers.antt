@@ -1,7 +1,7 @@
-use Rattle.std.proofs.Common.{ℕ, length, take, Some, ap, ◌∙◌, arith}
+use Rattle.std.proofs.Common.{ℕ, length, take, Some, ap, sym, ◌∙◌, arith}
 use Rattle.run_journal.specs.WholeLines.{whole_lines}
 use Rattle.run_journal.proofs.Fronts.{if_some-map, if_some-both, on_ok-any}
-use Rattle.run_journal.proofs.Whole.{whole-length, take_whole, left_whole}
+use Rattle.run_journal.proofs.Whole.{whole-length, take_whole, left_whole, uncut}
 use Rattle.run_journal.proofs.opening.cut_end.Goals as goal
 
 pub cut-requires-clause-within : goal.cut-requires-clause-within
@@ -22,3 +22,9 @@ pub returns-clause-cut : goal.returns-clause-cut
 returns-clause-cut g c = on_ok-any c.sync.result (if_some-both (g.D.LogFile.seen c.args.log.now)
     (λ file is cut. c.sync.ensures.seen ∙ cut ∙ ap Some (ap (λ (k : ℕ). take k file) (ap length (c.lines.ensures ∙ ap whole_lines is)) ∙ take_whole file))
     c.requires.read c.in_ok-cut.ensures.cut)
+
+pub returns-then-is_empty-clause-crash : goal.returns-then-is_empty-clause-crash
+returns-then-is_empty-clause-crash g c = if_some-map (g.D.LogFile.seen c.args.log.now) (λ file settled left leave. ap whole_lines (settled left leave)) c.requires.settled
+
+pub returns-then-is_empty-clause-cut : goal.returns-then-is_empty-clause-cut
+returns-then-is_empty-clause-cut g c = uncut (g.D.LogFile.seen c.args.log.now) c.args.text.now c.end.result.now c.end.ensures (sym c.is_empty.ensures ∙ c.if-is_empty.true) c.requires.read
