@@ -21,7 +21,7 @@ use Rattle.event_lines.specs.Words.{short, moment}
 use Rattle.event_lines.specs.EventLines.{spot_word, told_words, entry_words, report_line, order_line, order_lines}
 use Rattle.event_lines.specs.AnswerLines.{late_words, late_line}
 use Rattle.event_lines.specs.LogLines.{IsEntryOf}
-use Rattle.event_lines.specs.ReadBack.{IsFitting, AreFitting}
+use Rattle.run_journal.specs.TornEnds.{IsNarrow, AreNarrow}
 use Rattle.cell_drive.specs.LineAnswers.{ReportAnswer}
 use Rattle.cell_drive.specs.AnswerText.{DrivenCell, CellAnswers, CellCloses}
 use Rattle.cell_drive.proofs.OneText.{IsOnCourse, driven_lines_keep}
@@ -30,29 +30,29 @@ use Rattle.cell_drive.proofs.ShopEntries.{report_of_shop, order_of_shop}
 use Rattle.run_journal.proofs.Formed.{IsFormed, formed-none, formed-both}
 use Rattle.run_journal.proofs.FormedLines.{formed-entry, formed-late, formed-refused, formed-done, formed-unfinished}
 
-pub moment_fits : (at : ℕ) → at ≤ MAX_MOMENT → IsFitting (moment at)
-moment_fits at in_range = (omega arith, omega (arith, in_range), omega (arith, in_range))
+pub moment_fits : (at : ℕ) → at ≤ MAX_MOMENT → IsNarrow (moment at)
+moment_fits at in_range = ((omega arith, omega (arith, in_range), omega (arith, in_range)), inl refl)
 
-pub late_fits : (at : ℕ) → at ≤ MAX_MOMENT → AreFitting (late_words at)
+pub late_fits : (at : ℕ) → at ≤ MAX_MOMENT → AreNarrow (late_words at)
 late_fits at in_range = (refl, (moment_fits at in_range, tt))
 
 module _ (p : PlannedShop) (shaped : IsWellShaped p) where
-  pub job_fits : (j : ℕ) → j < jobs p → IsFitting (short j)
-  job_fits j inside = let few = shaped.shop.counts.few_jobs in (omega arith, omega (arith, inside, few), omega (arith, inside, few))
+  pub job_fits : (j : ℕ) → j < jobs p → IsNarrow (short j)
+  job_fits j inside = let few = shaped.shop.counts.few_jobs in ((omega arith, omega (arith, inside, few), omega (arith, inside, few)), inr (omega (arith, inside, few)))
 
-  pub machine_fits : (m : ℕ) → m < machines p → IsFitting (short m)
-  machine_fits m inside = let few = shaped.shop.counts.few_machines in (omega arith, omega (arith, inside, few), omega (arith, inside, few))
+  pub machine_fits : (m : ℕ) → m < machines p → IsNarrow (short m)
+  machine_fits m inside = let few = shaped.shop.counts.few_machines in ((omega arith, omega (arith, inside, few), omega (arith, inside, few)), inr (omega (arith, inside, few)))
 
-  spot_fits : (spot : Spot) → IsSpotOf p spot → IsFitting (spot_word spot)
+  spot_fits : (spot : Spot) → IsSpotOf p spot → IsNarrow (spot_word spot)
   spot_fits Out of_shop = refl
   spot_fits (At m) of_shop = machine_fits m of_shop
 
-  report_fits : (report : Report) → IsEntryOf p (ReportEntry report) → AreFitting (told_words report)
+  report_fits : (report : Report) → IsEntryOf p (ReportEntry report) → AreNarrow (told_words report)
   report_fits (Arrive job at) of_shop = (refl, (moment_fits at of_shop.1, (refl, (job_fits job of_shop.0, tt))))
   report_fits (Finish job machine at) of_shop = (refl, (moment_fits at of_shop.1, (refl, (job_fits job of_shop.0.0, (machine_fits machine of_shop.0.1, tt)))))
   report_fits (Clean machine at) of_shop = (refl, (moment_fits at of_shop.1, (refl, (machine_fits machine of_shop.0, tt))))
 
-  entry_fits : (entry : Entry) → IsEntryOf p entry → AreFitting (entry_words entry)
+  entry_fits : (entry : Entry) → IsEntryOf p entry → AreNarrow (entry_words entry)
   entry_fits (ReportEntry report) of_shop = report_fits report of_shop
   entry_fits (OrderEntry o) of_shop = (refl, (moment_fits o.at of_shop.3, (job_fits o.job of_shop.0, (spot_fits o.source of_shop.1, (spot_fits o.target of_shop.2, tt)))))
 

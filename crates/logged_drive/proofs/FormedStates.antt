@@ -23,7 +23,8 @@ use Rattle.event_lines.specs.Words.{Word}
 use Rattle.event_lines.specs.EventLines.{report_line, order_lines}
 use Rattle.event_lines.specs.AnswerLines.{done_line, unfinished_line}
 use Rattle.event_lines.specs.LogLines.{IsEntryOf}
-use Rattle.event_lines.specs.ReadBack.{IsSpaceless, AreFitting}
+use Rattle.event_lines.specs.ReadBack.{IsSpaceless}
+use Rattle.run_journal.specs.TornEnds.{AreNarrow}
 use Rattle.event_lines.specs.StandingLines.{standing_words, others_words, unfinished_standing_line, refused_detail_line}
 use Rattle.event_lines.specs.declared.details.Overdue.{Overdue}
 use Rattle.event_lines.specs.declared.requests.Request.{Request}
@@ -72,12 +73,12 @@ state_formed p c =
 
 -- words that fit, where what they are of is overdue
 abbrev FitsAt : ℕ → Standing → Type 0
-FitsAt at standing = is_overdue standing at ≡ true → AreFitting (standing_words standing)
+FitsAt at standing = is_overdue standing at ≡ true → AreNarrow (standing_words standing)
 
 -- what is overdue fits its line, and there are so many at most
 abbrev AreFew : ℕ → ℕ → Option Overdue → Type 0
 AreFew at most None = Unit {0}
-AreFew at most (Some overdue) = (is_overdue overdue.first at ≡ true) × AreFitting (standing_words overdue.first) × (overdue.others + 1 ≤ most)
+AreFew at most (Some overdue) = (is_overdue overdue.first at ≡ true) × AreNarrow (standing_words overdue.first) × (overdue.others + 1 ≤ most)
 
 more_few : (at most : ℕ) (found : Option Overdue) → AreFew at most found → AreFew at (most + 1) found
 more_few at most None few = tt
@@ -109,11 +110,11 @@ own_few : (at most : ℕ) (own : Standing) (found : Option Overdue) → FitsAt a
 own_few at most own None fits few = tt
 own_few at most own (Some overdue) fits few = (first.0, first.1, few.2)
   where
-    chosen : (is_own : Bool) → is_overdue own at ≡ is_own → (is_overdue (cond is_own own overdue.first) at ≡ true) × AreFitting (standing_words (cond is_own own overdue.first))
+    chosen : (is_own : Bool) → is_overdue own at ≡ is_own → (is_overdue (cond is_own own overdue.first) at ≡ true) × AreNarrow (standing_words (cond is_own own overdue.first))
     chosen true is = (is, fits is)
     chosen false not = (few.0, few.1)
 
-    first : (is_overdue (cond (is_overdue own at) own overdue.first) at ≡ true) × AreFitting (standing_words (cond (is_overdue own at) own overdue.first))
+    first : (is_overdue (cond (is_overdue own at) own overdue.first) at ≡ true) × AreNarrow (standing_words (cond (is_overdue own at) own overdue.first))
     first = chosen (is_overdue own at) refl
 
 module _ (p : PlannedShop) (shaped : IsWellShaped p) (c : Cell) (at : ℕ) (in_range : at ≤ MAX_MOMENT) where
@@ -202,13 +203,13 @@ module _ (p : PlannedShop) (shaped : IsWellShaped p) (c : Cell) (at : ℕ) (in_r
   own_fits (Finish job machine t) of_shop = after_fits job (made c job) of_shop.0.0
   own_fits (CleanReport machine t) of_shop = cleaning_fits machine (cleaning c machine) of_shop.0
 
-both_fit : (one other : List Word) → AreFitting one → AreFitting other → AreFitting (one ++ other)
+both_fit : (one other : List Word) → AreNarrow one → AreNarrow other → AreNarrow (one ++ other)
 both_fit [] other first second = second
 both_fit (word ∷ one) other first second = (first.0, both_fit one other first.1 second)
 
-others_fit : (others : ℕ) → others < 10 ^ 10 → AreFitting (others_words others)
+others_fit : (others : ℕ) → others < 10 ^ 3 → AreNarrow (others_words others)
 others_fit zero few = tt
-others_fit (suc k) few = (refl, ((omega arith, few, omega (arith, few)), (refl, tt)))
+others_fit (suc k) few = (refl, (((omega arith, omega (arith, few), omega (arith, few)), inr few), (refl, tt)))
 
 -- the name of a refusal is one word
 refusal_spaceless : (leaps : Bool) (reason : ReportFault) → IsSpaceless (refusal_word (first_refusal leaps reason))

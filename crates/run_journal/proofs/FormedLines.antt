@@ -7,18 +7,18 @@ use Rattle.cell_tables.specs.declared.entry.Entry.{Entry}
 use Rattle.cell_tables.specs.declared.standing.Standing.{Standing}
 use Rattle.cell_tables.specs.declared.standing.Standing.TheVariants.{Awaited, Outside, Worked, Done, Gone, Cleaned, Clean}
 use Rattle.cell_tables.specs.Standings.{is_overdue}
-use Rattle.event_lines.specs.Words.{Word, written, words_before, line_of}
+use Rattle.event_lines.specs.Words.{Word, Text, Number, written, words_before, line_of}
 use Rattle.event_lines.specs.EventLines.{entry_words, entry_line}
 use Rattle.event_lines.specs.AnswerLines.{late_words, refused_words, done_words, unfinished_words, late_line, refused_line, done_line, unfinished_line}
 use Rattle.event_lines.specs.StandingLines.{detail_words, unfinished_standing_words, refused_detail_words, late_overdue_words, unfinished_standing_line, refused_detail_line, late_overdue_line}
 use Rattle.event_lines.specs.declared.details.Detail.{Detail}
 use Rattle.event_lines.specs.declared.details.Detail.TheVariants.{Nothing, Last, Stands}
 use Rattle.event_lines.specs.declared.details.Overdue.{Overdue}
-use Rattle.event_lines.specs.ReadBack.{IsSpaceless, AreFitting}
+use Rattle.event_lines.specs.ReadBack.{IsSpaceless, IsFitting, AreFitting}
 use Rattle.event_lines.proofs.WrittenWords.{AreSpaceless, all_spaceless, before-append, decimal_spaceless}
 use Rattle.event_lines.proofs.Telling.{standing_spaceless}
 use Rattle.run_journal.specs.LoggedLines.{is_logged}
-use Rattle.run_journal.specs.TornEnds.{begins_line}
+use Rattle.run_journal.specs.TornEnds.{begins_line, AreNarrow, IsNarrow}
 use Rattle.run_journal.proofs.Formed.{IsFormed, formed-line}
 use Rattle.run_journal.proofs.TornEnds.{event_begins, late_begins, late_overdue_begins}
 
@@ -50,14 +50,22 @@ formed-words words are begins =
 formed-passed : (words : List Word) → AreSpaceless words → is_logged (line_of words) ≡ false → IsFormed (line_of words)
 formed-passed words are not = formed-words words are (λ is. absurd (false≢true (sym not ∙ is)))
 
-pub formed-entry : (entry : Entry) → AreFitting (entry_words entry) → IsFormed (entry_line entry)
-formed-entry entry fits = formed-words (entry_words entry) (all_spaceless (entry_words entry) fits) (λ is. event_begins entry fits)
+narrow_fits : (word : Word) → IsNarrow word → IsFitting word
+narrow_fits (Text text) is = is
+narrow_fits (Number most n) is = is.0
 
-pub formed-late : (at : ℕ) → AreFitting (late_words at) → IsFormed (late_line at)
-formed-late at fits = formed-words (late_words at) (all_spaceless (late_words at) fits) (λ is. late_begins at fits)
+narrow_fit : (words : List Word) → AreNarrow words → AreFitting words
+narrow_fit [] are = tt
+narrow_fit (word ∷ words) are = (narrow_fits word are.0, narrow_fit words are.1)
 
-pub formed-late_overdue : (at : ℕ) (overdue : Overdue) → is_overdue overdue.first at ≡ true → AreFitting (late_overdue_words at overdue) → IsFormed (late_overdue_line at overdue)
-formed-late_overdue at overdue is_late fits = formed-words (late_overdue_words at overdue) (all_spaceless (late_overdue_words at overdue) fits) (λ is. late_overdue_begins at overdue is_late fits)
+pub formed-entry : (entry : Entry) → AreNarrow (entry_words entry) → IsFormed (entry_line entry)
+formed-entry entry fits = formed-words (entry_words entry) (all_spaceless (entry_words entry) (narrow_fit (entry_words entry) fits)) (λ is. event_begins entry fits)
+
+pub formed-late : (at : ℕ) → AreNarrow (late_words at) → IsFormed (late_line at)
+formed-late at fits = formed-words (late_words at) (all_spaceless (late_words at) (narrow_fit (late_words at) fits)) (λ is. late_begins at fits)
+
+pub formed-late_overdue : (at : ℕ) (overdue : Overdue) → is_overdue overdue.first at ≡ true → AreNarrow (late_overdue_words at overdue) → IsFormed (late_overdue_line at overdue)
+formed-late_overdue at overdue is_late fits = formed-words (late_overdue_words at overdue) (all_spaceless (late_overdue_words at overdue) (narrow_fit (late_overdue_words at overdue) fits)) (λ is. late_overdue_begins at overdue is_late fits)
 
 pub formed-refused : (number : ℕ) (name : List ℕ) → IsSpaceless name → IsFormed (refused_line number name)
 formed-refused number name is = formed-passed (refused_words number name) (refl, (decimal_spaceless number, (is, tt))) refl

@@ -1,8 +1,8 @@
 -- What is left of a line that wasn't whole on the disk.
-use Rattle.std.proofs.Common.{◌≡◌, ◌≢◌, ℕ, zero, suc, ◌+◌, ◌^◌, ◌<◌, ◌==◌, ◌&&◌, ◌||◌, if◌then◌else◌, Bool, true, false, List, [], ◌∷◌, ◌++◌, length, take, drop, get_or, codes, decimal, inl, inr, refl, sym, ap, ◌∙◌, subst, arith, append_assoc, length-append, take-append-drop}
+use Rattle.std.proofs.Common.{◌≡◌, ◌≢◌, ℕ, zero, suc, ◌+◌, ◌-◌, ◌^◌, ◌<◌, ◌≤◌, nat_lt, ◌==◌, ◌&&◌, ◌||◌, if◌then◌else◌, Bool, true, false, List, [], ◌∷◌, ◌++◌, length, take, drop, get_or, codes, decimal, inl, inr, refl, sym, ap, ◌∙◌, subst, arith, append_assoc, length-append, take-append-drop}
 use Rattle.std.specs.List.{list_all}
-use Rattle.std.proofs.lemmas.Bool.{cases_Bool, ne_eqb}
-use Rattle.std.proofs.lemmas.Fmt.{decimal_nonempty}
+use Rattle.std.proofs.lemmas.Bool.{cases_Bool, ne_eqb, lt-ltb}
+use Rattle.std.proofs.lemmas.Fmt.{decimal_nonempty, length-decimal-le}
 use Rattle.std.proofs.lemmas.List.{take-append-le, take_more}
 use Rattle.shop_base.specs.declared.move_order.Spot.{Spot}
 use Rattle.shop_base.specs.declared.move_order.Spot.TheVariants.{Out, At}
@@ -12,7 +12,7 @@ use Rattle.cell_tables.specs.declared.report.Report.{Report}
 use Rattle.cell_tables.specs.declared.report.Report.TheVariants.{Arrive, Finish, Clean}
 use Rattle.cell_tables.specs.declared.entry.Entry.{Entry}
 use Rattle.cell_tables.specs.declared.entry.Entry.TheVariants.{Report as ReportEntry, Order as OrderEntry}
-use Rattle.event_lines.specs.Words.{Word, written, words_before, line_of}
+use Rattle.event_lines.specs.Words.{Word, Number, short, moment, written, words_before, line_of}
 use Rattle.event_lines.specs.EventLines.{spot_word, told_words, order_words, entry_words}
 use Rattle.cell_tables.specs.declared.standing.Standing.{Standing}
 use Rattle.cell_tables.specs.declared.standing.Standing.TheVariants.{Awaited, Outside, Worked, Done, Gone, Cleaned, Clean as CleanMachine}
@@ -20,11 +20,10 @@ use Rattle.cell_tables.specs.Standings.{is_overdue}
 use Rattle.event_lines.specs.declared.details.Overdue.{Overdue}
 use Rattle.event_lines.specs.AnswerLines.{late_words}
 use Rattle.event_lines.specs.StandingLines.{others_words, late_overdue_words}
-use Rattle.event_lines.specs.ReadBack.{IsFitting, AreFitting}
 use Rattle.event_lines.proofs.WrittenWords.{before-append}
 use Rattle.run_journal.specs.LogFiles.{zeros}
 use Rattle.run_journal.proofs.Starts.{any-kept}
-use Rattle.run_journal.specs.TornEnds.{stands_for, goes_on, begins_report, begins_order, begins_late, without_zeros, begins_line, is_torn, UnwrittenLinesAreTorn}
+use Rattle.run_journal.specs.TornEnds.{digits_of, stands_for, goes_on, IsNarrow, AreNarrow, begins_report, begins_order, begins_late, without_zeros, begins_line, is_torn, UnwrittenLinesAreTorn}
 
 -- ---- the first bytes of bytes
 
@@ -67,21 +66,21 @@ unzeroed-take_other xs n within other =
     is ∙ sym (no_zero (take n xs) (get_or xs n 0) (ne_eqb (get_or xs n 0) 0 other)) ∙ sym (ap without_zeros is)
 
 -- what begins a line is begun by its own beginning
-shorter : (number : Bool) (form front rest : List ℕ) → goes_on number form (front ++ rest) ≡ true → goes_on number form front ≡ true
-shorter number form [] rest is = refl
-shorter number [] (byte ∷ front) rest is = elim (cases_Bool (number && is_digit byte)) [
-  | inl digit ↦ rw digit (shorter number [] front rest (subst (λ (t : Bool). (if t then goes_on number [] (front ++ rest) else false) ≡ true) digit is))
-  | inr other ↦ absurd (cc (subst (λ (t : Bool). (if t then goes_on number [] (front ++ rest) else false) ≡ true) other is))
+shorter : (more : ℕ) (form front rest : List ℕ) → goes_on more form (front ++ rest) ≡ true → goes_on more form front ≡ true
+shorter more form [] rest is = refl
+shorter more [] (byte ∷ front) rest is = elim (cases_Bool (nat_lt 0 more && is_digit byte)) [
+  | inl digit ↦ rw digit (shorter (more - 1) [] front rest (subst (λ (t : Bool). (if t then goes_on (more - 1) [] (front ++ rest) else false) ≡ true) digit is))
+  | inr other ↦ absurd (cc (subst (λ (t : Bool). (if t then goes_on (more - 1) [] (front ++ rest) else false) ≡ true) other is))
 ]
-shorter number (c ∷ form) (byte ∷ front) rest is = elim (cases_Bool (number && is_digit byte)) [
-  | inl digit ↦ rw digit (shorter number (c ∷ form) front rest
-      (subst (λ (t : Bool). (if t then goes_on number (c ∷ form) (front ++ rest) else (if stands_for c byte then goes_on (c == 35) form (front ++ rest) else false)) ≡ true) digit is))
+shorter more (c ∷ form) (byte ∷ front) rest is = elim (cases_Bool (nat_lt 0 more && is_digit byte)) [
+  | inl digit ↦ rw digit (shorter (more - 1) (c ∷ form) front rest
+      (subst (λ (t : Bool). (if t then goes_on (more - 1) (c ∷ form) (front ++ rest) else (if stands_for c byte then goes_on (digits_of c - 1) form (front ++ rest) else false)) ≡ true) digit is))
   | inr other ↦
-      let wanted : (if stands_for c byte then goes_on (c == 35) form (front ++ rest) else false) ≡ true =
-      subst (λ (t : Bool). (if t then goes_on number (c ∷ form) (front ++ rest) else (if stands_for c byte then goes_on (c == 35) form (front ++ rest) else false)) ≡ true) other is in
+      let wanted : (if stands_for c byte then goes_on (digits_of c - 1) form (front ++ rest) else false) ≡ true =
+      subst (λ (t : Bool). (if t then goes_on (more - 1) (c ∷ form) (front ++ rest) else (if stands_for c byte then goes_on (digits_of c - 1) form (front ++ rest) else false)) ≡ true) other is in
       rw other (elim (cases_Bool (stands_for c byte)) [
-        | inl stands ↦ rw stands (shorter (c == 35) form front rest (subst (λ (t : Bool). (if t then goes_on (c == 35) form (front ++ rest) else false) ≡ true) stands wanted))
-        | inr not ↦ absurd (cc (subst (λ (t : Bool). (if t then goes_on (c == 35) form (front ++ rest) else false) ≡ true) not wanted))
+        | inl stands ↦ rw stands (shorter (digits_of c - 1) form front rest (subst (λ (t : Bool). (if t then goes_on (digits_of c - 1) form (front ++ rest) else false) ≡ true) stands wanted))
+        | inr not ↦ absurd (cc (subst (λ (t : Bool). (if t then goes_on (digits_of c - 1) form (front ++ rest) else false) ≡ true) not wanted))
       ])
 ]
 
@@ -91,17 +90,53 @@ both : (a b : Bool) → a && b ≡ true → (a ≡ true) × (b ≡ true)
 both true b is = (refl, is)
 both false b is = absurd (cc is)
 
-digits_on : (digits form rest : List ℕ) → list_all is_digit digits ≡ true → goes_on true form rest ≡ true → goes_on true form (digits ++ rest) ≡ true
-digits_on [] form rest all is = is
-digits_on (d ∷ digits) [] rest all is = let (first, others) = both (is_digit d) (list_all is_digit digits) all in rw first (digits_on digits [] rest others is)
-digits_on (d ∷ digits) (c ∷ form) rest all is = let (first, others) = both (is_digit d) (list_all is_digit digits) all in rw first (digits_on digits (c ∷ form) rest others is)
+some_more : (more : ℕ) → nat_lt 0 (suc more) ≡ true
+some_more more = lt-ltb 0 (suc more) (omega arith)
 
-number_on : (n : ℕ) (form rest : List ℕ) → n < 2 ^ 64 → goes_on true form rest ≡ true → goes_on false (35 ∷ form) (decimal n ++ rest) ≡ true
-number_on n form rest small is = go (decimal n) (decimal_digits n) (decimal_nonempty n small)
+one_less : (more : ℕ) → more ≡ suc more - 1
+one_less more = omega arith
+
+digits_on : (digits : List ℕ) (more : ℕ) (form rest : List ℕ) → list_all is_digit digits ≡ true → length digits ≤ more → ((k : ℕ) → goes_on k form rest ≡ true) → goes_on more form (digits ++ rest) ≡ true
+digits_on [] more form rest all few is = is more
+digits_on (d ∷ digits) zero form rest all few is = absurd (omega (arith, few))
+digits_on (d ∷ digits) (suc more) [] rest all few is =
+    let (first, others) = both (is_digit d) (list_all is_digit digits) all in
+    rw (some_more more) (rw first (subst (λ (k : ℕ). goes_on k [] (digits ++ rest) ≡ true) (one_less more) (digits_on digits more [] rest others (omega (arith, few)) is)))
+digits_on (d ∷ digits) (suc more) (c ∷ form) rest all few is =
+    let (first, others) = both (is_digit d) (list_all is_digit digits) all in
+    rw (some_more more) (rw first (subst (λ (k : ℕ). goes_on k (c ∷ form) (digits ++ rest) ≡ true) (one_less more) (digits_on digits more (c ∷ form) rest others (omega (arith, few)) is)))
+
+-- the digits of a number where the form has one, of which there may be so many
+moment_digits : (digits form rest : List ℕ) → list_all is_digit digits ≡ true → 0 < length digits → length digits ≤ 13 → ((k : ℕ) → goes_on k form rest ≡ true) → goes_on 0 (35 ∷ form) (digits ++ rest) ≡ true
+moment_digits [] form rest all some few is = absurd (omega (arith, some))
+moment_digits (d ∷ digits) form rest all some few is = let (first, others) = both (is_digit d) (list_all is_digit digits) all in rw first (digits_on digits 12 form rest others (omega (arith, few)) is)
+
+other_digits : (digits form rest : List ℕ) → list_all is_digit digits ≡ true → 0 < length digits → length digits ≤ 3 → ((k : ℕ) → goes_on k form rest ≡ true) → goes_on 0 (37 ∷ form) (digits ++ rest) ≡ true
+other_digits [] form rest all some few is = absurd (omega (arith, some))
+other_digits (d ∷ digits) form rest all some few is = let (first, others) = both (is_digit d) (list_all is_digit digits) all in rw first (digits_on digits 2 form rest others (omega (arith, few)) is)
+
+moment_on : (n : ℕ) (form rest : List ℕ) → IsNarrow (moment n) → ((k : ℕ) → goes_on k form rest ≡ true) → goes_on 0 (35 ∷ form) (decimal n ++ rest) ≡ true
+moment_on n form rest fits is = moment_digits (decimal n) form rest (decimal_digits n) (decimal_nonempty n fits.0.2) (length-decimal-le 13 n (omega arith) fits.0.1 fits.0.2) is
+
+other_on : (most n : ℕ) (form rest : List ℕ) → (most ≡ 13 → ⊥) → IsNarrow (Number most n) → ((k : ℕ) → goes_on k form rest ≡ true) → goes_on 0 (37 ∷ form) (decimal n ++ rest) ≡ true
+other_on most n form rest other fits is = other_digits (decimal n) form rest (decimal_digits n) (decimal_nonempty n fits.0.2) (length-decimal-le 3 n (omega arith) few fits.0.2) is
   where
-    go : (digits : List ℕ) → list_all is_digit digits ≡ true → 0 < length digits → goes_on false (35 ∷ form) (digits ++ rest) ≡ true
-    go [] all some = absurd (omega (arith, some))
-    go (d ∷ digits) all some = let (first, others) = both (is_digit d) (list_all is_digit digits) all in rw first (digits_on digits form rest others is)
+    few : n < 10 ^ 3
+    few = elim fits.1 [
+      | inl same ↦ absurd (other same)
+      | inr below ↦ below
+    ]
+
+short_on : (n : ℕ) (form rest : List ℕ) → IsNarrow (short n) → ((k : ℕ) → goes_on k form rest ≡ true) → goes_on 0 (37 ∷ form) (decimal n ++ rest) ≡ true
+short_on n form rest fits is = other_on 9 n form rest (λ same. omega (arith, same)) fits is
+
+-- a space ends it
+spaced : (form rest : List ℕ) → goes_on 0 form rest ≡ true → (k : ℕ) → goes_on k (32 ∷ form) (32 ∷ rest) ≡ true
+spaced form rest is zero = is
+spaced form rest is (suc k) = rw (some_more k) is
+
+ended : (k : ℕ) → goes_on k [] [] ≡ true
+ended k = refl
 
 -- ---- the lines that a log gets
 
@@ -112,48 +147,56 @@ or-right : (a b : Bool) → b ≡ true → a || b ≡ true
 or-right true b is = refl
 or-right false b is = is
 
-begun_report : (report : Report) → AreFitting (told_words report) → begins_report (words_before (told_words report) []) ≡ true
+begun_report : (report : Report) → AreNarrow (told_words report) → begins_report (words_before (told_words report) []) ≡ true
 begun_report (Arrive job at) (_, (t, (_, (j, _)))) = or-left _ _ (or-left _ _ (
-    number_on at (codes " arrive #") (32 ∷ (codes "arrive" ++ 32 ∷ (decimal job ++ []))) t.2 (number_on job [] [] j.2 refl)
+    moment_on at (codes " arrive %") (32 ∷ (codes "arrive" ++ 32 ∷ (decimal job ++ []))) t (spaced (codes "arrive %") (codes "arrive" ++ 32 ∷ (decimal job ++ []))
+    (short_on job [] [] j ended))
     ))
 begun_report (Finish job machine at) (_, (t, (_, (j, (m, _))))) = or-left _ _ (or-right _ _ (
-    number_on at (codes " finish # #") (32 ∷ (codes "finish" ++ 32 ∷ (decimal job ++ 32 ∷ (decimal machine ++ [])))) t.2
-    (number_on job (codes " #") (32 ∷ (decimal machine ++ [])) j.2 (number_on machine [] [] m.2 refl))
+    moment_on at (codes " finish % %") (32 ∷ (codes "finish" ++ 32 ∷ (decimal job ++ 32 ∷ (decimal machine ++ [])))) t (spaced (codes "finish % %") (codes "finish" ++ 32 ∷ (decimal job ++ 32 ∷ (decimal machine ++ [])))
+    (short_on job (codes " %") (32 ∷ (decimal machine ++ [])) j (spaced (codes "%") (decimal machine ++ [])
+    (short_on machine [] [] m ended))))
     ))
 begun_report (Clean machine at) (_, (t, (_, (m, _)))) = or-right _ _ (
-    number_on at (codes " clean #") (32 ∷ (codes "clean" ++ 32 ∷ (decimal machine ++ []))) t.2 (number_on machine [] [] m.2 refl)
+    moment_on at (codes " clean %") (32 ∷ (codes "clean" ++ 32 ∷ (decimal machine ++ []))) t (spaced (codes "clean %") (codes "clean" ++ 32 ∷ (decimal machine ++ []))
+    (short_on machine [] [] m ended))
     )
 
-begun_order : (at job : ℕ) (source target : Spot) → at < 2 ^ 64 → job < 2 ^ 64 → IsFitting (spot_word source) → IsFitting (spot_word target)
+begun_order : (at job : ℕ) (source target : Spot) → IsNarrow (moment at) → IsNarrow (short job) → IsNarrow (spot_word source) → IsNarrow (spot_word target)
     → begins_order (codes "order" ++ 32 ∷ (decimal at ++ 32 ∷ (decimal job ++ 32 ∷ (written (spot_word source) ++ 32 ∷ (written (spot_word target) ++ []))))) ≡ true
 begun_order at job (At m) (At n) t j s d = or-left _ _ (or-left _ _ (or-left _ _ (
-    number_on at (codes " # # #") (32 ∷ (decimal job ++ 32 ∷ (decimal m ++ 32 ∷ (decimal n ++ [])))) t
-    (number_on job (codes " # #") (32 ∷ (decimal m ++ 32 ∷ (decimal n ++ []))) j (number_on m (codes " #") (32 ∷ (decimal n ++ [])) s.2 (number_on n [] [] d.2 refl)))
+    moment_on at (codes " % % %") (32 ∷ (decimal job ++ 32 ∷ (decimal m ++ 32 ∷ (decimal n ++ [])))) t (spaced (codes "% % %") (decimal job ++ 32 ∷ (decimal m ++ 32 ∷ (decimal n ++ [])))
+    (short_on job (codes " % %") (32 ∷ (decimal m ++ 32 ∷ (decimal n ++ []))) j (spaced (codes "% %") (decimal m ++ 32 ∷ (decimal n ++ []))
+    (short_on m (codes " %") (32 ∷ (decimal n ++ [])) s (spaced (codes "%") (decimal n ++ [])
+    (short_on n [] [] d ended))))))
     )))
 begun_order at job (At m) Out t j s d = or-left _ _ (or-left _ _ (or-right _ _ (
-    number_on at (codes " # # out") (32 ∷ (decimal job ++ 32 ∷ (decimal m ++ 32 ∷ (codes "out" ++ [])))) t
-    (number_on job (codes " # out") (32 ∷ (decimal m ++ 32 ∷ (codes "out" ++ []))) j (number_on m (codes " out") (32 ∷ (codes "out" ++ [])) s.2 refl))
+    moment_on at (codes " % % out") (32 ∷ (decimal job ++ 32 ∷ (decimal m ++ 32 ∷ (codes "out" ++ [])))) t (spaced (codes "% % out") (decimal job ++ 32 ∷ (decimal m ++ 32 ∷ (codes "out" ++ [])))
+    (short_on job (codes " % out") (32 ∷ (decimal m ++ 32 ∷ (codes "out" ++ []))) j (spaced (codes "% out") (decimal m ++ 32 ∷ (codes "out" ++ []))
+    (short_on m (codes " out") (32 ∷ (codes "out" ++ [])) s (spaced (codes "out") (codes "out" ++ []) refl)))))
     )))
 begun_order at job Out (At n) t j s d = or-left _ _ (or-right _ _ (
-    number_on at (codes " # out #") (32 ∷ (decimal job ++ 32 ∷ (codes "out" ++ 32 ∷ (decimal n ++ [])))) t
-    (number_on job (codes " out #") (32 ∷ (codes "out" ++ 32 ∷ (decimal n ++ []))) j (number_on n [] [] d.2 refl))
+    moment_on at (codes " % out %") (32 ∷ (decimal job ++ 32 ∷ (codes "out" ++ 32 ∷ (decimal n ++ [])))) t (spaced (codes "% out %") (decimal job ++ 32 ∷ (codes "out" ++ 32 ∷ (decimal n ++ [])))
+    (short_on job (codes " out %") (32 ∷ (codes "out" ++ 32 ∷ (decimal n ++ []))) j (spaced (codes "out %") (codes "out" ++ 32 ∷ (decimal n ++ []))
+    (short_on n [] [] d ended))))
     ))
 begun_order at job Out Out t j s d = or-right _ _ (
-    number_on at (codes " # out out") (32 ∷ (decimal job ++ 32 ∷ (codes "out" ++ 32 ∷ (codes "out" ++ [])))) t
-    (number_on job (codes " out out") (32 ∷ (codes "out" ++ 32 ∷ (codes "out" ++ []))) j refl)
+    moment_on at (codes " % out out") (32 ∷ (decimal job ++ 32 ∷ (codes "out" ++ 32 ∷ (codes "out" ++ [])))) t (spaced (codes "% out out") (decimal job ++ 32 ∷ (codes "out" ++ 32 ∷ (codes "out" ++ [])))
+    (short_on job (codes " out out") (32 ∷ (codes "out" ++ 32 ∷ (codes "out" ++ []))) j (spaced (codes "out out") (codes "out" ++ 32 ∷ (codes "out" ++ [])) refl)))
     )
 
-begun_late : (at : ℕ) → at < 2 ^ 64 → begins_late (words_before (late_words at) []) ≡ true
-begun_late at small = or-left _ _ (or-left _ _ (number_on at (codes " job # arrives # and # more") [] small refl))
+begun_late : (at : ℕ) → IsNarrow (moment at) → begins_late (words_before (late_words at) []) ≡ true
+begun_late at fits = or-left _ _ (or-left _ _ (moment_on at (codes " job % arrives # and % more") [] fits (λ k. refl)))
 
 -- behind the words of what is overdue, others may be told
 abbrev others_text : ℕ → List ℕ
 others_text zero = []
 others_text (suc k) = 32 ∷ (codes "and" ++ 32 ∷ (decimal (suc k) ++ 32 ∷ (codes "more" ++ [])))
 
-others_on : (others : ℕ) → AreFitting (others_words others) → goes_on true (codes " and # more") (others_text others) ≡ true
-others_on zero fits = refl
-others_on (suc k) fits = number_on (suc k) (codes " more") (32 ∷ (codes "more" ++ [])) fits.1.0.2 refl
+others_on : (others : ℕ) → AreNarrow (others_words others) → (k : ℕ) → goes_on k (codes " and % more") (others_text others) ≡ true
+others_on zero fits k = refl
+others_on (suc n) fits k = spaced (codes "and % more") (codes "and" ++ 32 ∷ (decimal (suc n) ++ 32 ∷ (codes "more" ++ [])))
+    (other_on 10 (suc n) (codes " more") (32 ∷ (codes "more" ++ [])) (λ same. omega (arith, same)) fits.1.0 (spaced (codes "more") (codes "more" ++ []) refl)) k
 
 awaited_text : (at job due others : ℕ) → words_before (late_overdue_words at (record { first = Awaited job due; others = others })) []
     ≡ codes "late" ++ 32 ∷ (decimal at ++ 32 ∷ (codes "job" ++ 32 ∷ (decimal job ++ 32 ∷ (codes "arrives" ++ 32 ∷ (decimal due ++ others_text others)))))
@@ -172,30 +215,42 @@ cleaned_text : (at machine job from due others : ℕ) → words_before (late_ove
 cleaned_text at machine job from due zero = refl
 cleaned_text at machine job from due (suc k) = refl
 
-begun_overdue : (at : ℕ) (first : Standing) (others : ℕ) → is_overdue first at ≡ true → AreFitting (late_overdue_words at (record { first = first; others = others }))
+begun_overdue : (at : ℕ) (first : Standing) (others : ℕ) → is_overdue first at ≡ true → AreNarrow (late_overdue_words at (record { first = first; others = others }))
     → begins_late (words_before (late_overdue_words at (record { first = first; others = others })) []) ≡ true
-begun_overdue at (Awaited job due) others is (_, (t, (_, (j, (_, (d, more)))))) = ap begins_late (awaited_text at job due others) ∙ or-left _ _ (or-left _ _ (
-    number_on at (codes " job # arrives # and # more") (32 ∷ (codes "job" ++ 32 ∷ (decimal job ++ 32 ∷ (codes "arrives" ++ 32 ∷ (decimal due ++ others_text others))))) t.2
-    (number_on job (codes " arrives # and # more") (32 ∷ (codes "arrives" ++ 32 ∷ (decimal due ++ others_text others))) j.2
-    (number_on due (codes " and # more") (others_text others) d.2 (others_on others more)))
+begun_overdue at (Awaited job due) others is (_, (t, (_, (j, (_, (d, more)))))) =
+    let end = others_text others in
+    let behind_job = codes "arrives" ++ 32 ∷ (decimal due ++ end) in
+    let behind_at = codes "job" ++ 32 ∷ (decimal job ++ 32 ∷ behind_job) in
+    ap begins_late (awaited_text at job due others) ∙ or-left _ _ (or-left _ _ (
+    moment_on at (codes " job % arrives # and % more") (32 ∷ behind_at) t (spaced (codes "job % arrives # and % more") behind_at
+    (short_on job (codes " arrives # and % more") (32 ∷ behind_job) j (spaced (codes "arrives # and % more") behind_job
+    (moment_on due (codes " and % more") end d (others_on others more)))))
     ))
-begun_overdue at (Worked job machine from due) others is (_, (t, (_, (j, (_, (_, (m, (_, (s, (_, (d, more))))))))))) = ap begins_late (worked_text at job machine from due others) ∙ or-left _ _ (or-right _ _ (
-    number_on at (codes " job # on machine # since # due # and # more")
-    (32 ∷ (codes "job" ++ 32 ∷ (decimal job ++ 32 ∷ (codes "on" ++ 32 ∷ (codes "machine" ++ 32 ∷ (decimal machine ++ 32 ∷ (codes "since" ++ 32 ∷ (decimal from ++ 32 ∷ (codes "due" ++ 32 ∷ (decimal due ++ others_text others)))))))))) t.2
-    (number_on job (codes " on machine # since # due # and # more")
-    (32 ∷ (codes "on" ++ 32 ∷ (codes "machine" ++ 32 ∷ (decimal machine ++ 32 ∷ (codes "since" ++ 32 ∷ (decimal from ++ 32 ∷ (codes "due" ++ 32 ∷ (decimal due ++ others_text others)))))))) j.2
-    (number_on machine (codes " since # due # and # more") (32 ∷ (codes "since" ++ 32 ∷ (decimal from ++ 32 ∷ (codes "due" ++ 32 ∷ (decimal due ++ others_text others))))) m.2
-    (number_on from (codes " due # and # more") (32 ∷ (codes "due" ++ 32 ∷ (decimal due ++ others_text others))) s.2
-    (number_on due (codes " and # more") (others_text others) d.2 (others_on others more)))))
+begun_overdue at (Worked job machine from due) others is (_, (t, (_, (j, (_, (_, (m, (_, (s, (_, (d, more))))))))))) =
+    let end = others_text others in
+    let behind_from = codes "due" ++ 32 ∷ (decimal due ++ end) in
+    let behind_machine = codes "since" ++ 32 ∷ (decimal from ++ 32 ∷ behind_from) in
+    let behind_job = codes "on" ++ 32 ∷ (codes "machine" ++ 32 ∷ (decimal machine ++ 32 ∷ behind_machine)) in
+    let behind_at = codes "job" ++ 32 ∷ (decimal job ++ 32 ∷ behind_job) in
+    ap begins_late (worked_text at job machine from due others) ∙ or-left _ _ (or-right _ _ (
+    moment_on at (codes " job % on machine % since # due # and % more") (32 ∷ behind_at) t (spaced (codes "job % on machine % since # due # and % more") behind_at
+    (short_on job (codes " on machine % since # due # and % more") (32 ∷ behind_job) j (spaced (codes "on machine % since # due # and % more") behind_job
+    (short_on machine (codes " since # due # and % more") (32 ∷ behind_machine) m (spaced (codes "since # due # and % more") behind_machine
+    (moment_on from (codes " due # and % more") (32 ∷ behind_from) s (spaced (codes "due # and % more") behind_from
+    (moment_on due (codes " and % more") end d (others_on others more)))))))))
     ))
-begun_overdue at (Cleaned machine job from due) others is (_, (t, (_, (m, (_, (_, (_, (j, (_, (s, (_, (d, more)))))))))))) = ap begins_late (cleaned_text at machine job from due others) ∙ or-right _ _ (
-    number_on at (codes " machine # cleaned after job # since # due # and # more")
-    (32 ∷ (codes "machine" ++ 32 ∷ (decimal machine ++ 32 ∷ (codes "cleaned" ++ 32 ∷ (codes "after" ++ 32 ∷ (codes "job" ++ 32 ∷ (decimal job ++ 32 ∷ (codes "since" ++ 32 ∷ (decimal from ++ 32 ∷ (codes "due" ++ 32 ∷ (decimal due ++ others_text others))))))))))) t.2
-    (number_on machine (codes " cleaned after job # since # due # and # more")
-    (32 ∷ (codes "cleaned" ++ 32 ∷ (codes "after" ++ 32 ∷ (codes "job" ++ 32 ∷ (decimal job ++ 32 ∷ (codes "since" ++ 32 ∷ (decimal from ++ 32 ∷ (codes "due" ++ 32 ∷ (decimal due ++ others_text others))))))))) m.2
-    (number_on job (codes " since # due # and # more") (32 ∷ (codes "since" ++ 32 ∷ (decimal from ++ 32 ∷ (codes "due" ++ 32 ∷ (decimal due ++ others_text others))))) j.2
-    (number_on from (codes " due # and # more") (32 ∷ (codes "due" ++ 32 ∷ (decimal due ++ others_text others))) s.2
-    (number_on due (codes " and # more") (others_text others) d.2 (others_on others more)))))
+begun_overdue at (Cleaned machine job from due) others is (_, (t, (_, (m, (_, (_, (_, (j, (_, (s, (_, (d, more)))))))))))) =
+    let end = others_text others in
+    let behind_from = codes "due" ++ 32 ∷ (decimal due ++ end) in
+    let behind_job = codes "since" ++ 32 ∷ (decimal from ++ 32 ∷ behind_from) in
+    let behind_machine = codes "cleaned" ++ 32 ∷ (codes "after" ++ 32 ∷ (codes "job" ++ 32 ∷ (decimal job ++ 32 ∷ behind_job))) in
+    let behind_at = codes "machine" ++ 32 ∷ (decimal machine ++ 32 ∷ behind_machine) in
+    ap begins_late (cleaned_text at machine job from due others) ∙ or-right _ _ (
+    moment_on at (codes " machine % cleaned after job % since # due # and % more") (32 ∷ behind_at) t (spaced (codes "machine % cleaned after job % since # due # and % more") behind_at
+    (short_on machine (codes " cleaned after job % since # due # and % more") (32 ∷ behind_machine) m (spaced (codes "cleaned after job % since # due # and % more") behind_machine
+    (short_on job (codes " since # due # and % more") (32 ∷ behind_job) j (spaced (codes "since # due # and % more") behind_job
+    (moment_on from (codes " due # and % more") (32 ∷ behind_from) s (spaced (codes "due # and % more") behind_from
+    (moment_on due (codes " and % more") end d (others_on others more)))))))))
     )
 begun_overdue at (Outside job to) others is fits = absurd (cc is)
 begun_overdue at (Done job machine to) others is fits = absurd (cc is)
@@ -206,15 +261,15 @@ begun_overdue at (CleanMachine machine) others is fits = absurd (cc is)
 
 module _ (front rest : List ℕ) where
   less_report : begins_report (front ++ rest) ≡ true → begins_report front ≡ true
-  less_report is = any-kept _ _ _ _ (any-kept _ _ _ _ (shorter false (codes "report # arrive #") front rest) (shorter false (codes "report # finish # #") front rest)) (shorter false (codes "report # clean #") front rest) is
+  less_report is = any-kept _ _ _ _ (any-kept _ _ _ _ (shorter 0 (codes "report # arrive %") front rest) (shorter 0 (codes "report # finish % %") front rest)) (shorter 0 (codes "report # clean %") front rest) is
 
   less_order : begins_order (front ++ rest) ≡ true → begins_order front ≡ true
-  less_order is = any-kept _ _ _ _ (any-kept _ _ _ _ (any-kept _ _ _ _ (shorter false (codes "order # # # #") front rest) (shorter false (codes "order # # # out") front rest)) (shorter false (codes "order # # out #") front rest))
-      (shorter false (codes "order # # out out") front rest) is
+  less_order is = any-kept _ _ _ _ (any-kept _ _ _ _ (any-kept _ _ _ _ (shorter 0 (codes "order # % % %") front rest) (shorter 0 (codes "order # % % out") front rest)) (shorter 0 (codes "order # % out %") front rest))
+      (shorter 0 (codes "order # % out out") front rest) is
 
   less_late : begins_late (front ++ rest) ≡ true → begins_late front ≡ true
-  less_late is = any-kept _ _ _ _ (any-kept _ _ _ _ (shorter false (codes "late # job # arrives # and # more") front rest) (shorter false (codes "late # job # on machine # since # due # and # more") front rest))
-      (shorter false (codes "late # machine # cleaned after job # since # due # and # more") front rest) is
+  less_late is = any-kept _ _ _ _ (any-kept _ _ _ _ (shorter 0 (codes "late # job % arrives # and % more") front rest) (shorter 0 (codes "late # job % on machine % since # due # and % more") front rest))
+      (shorter 0 (codes "late # machine % cleaned after job % since # due # and % more") front rest) is
 
 less : (front rest : List ℕ) → begins_line (front ++ rest) ≡ true → begins_line front ≡ true
 less front rest is = any-kept _ _ _ _ (any-kept _ _ _ _ (less_report front rest) (less_order front rest)) (less_late front rest) is
@@ -244,14 +299,14 @@ any_order bytes is = or-left (begins_report bytes || begins_order bytes) (begins
 any_late : (bytes : List ℕ) → begins_late bytes ≡ true → begins_line bytes ≡ true
 any_late bytes is = or-right (begins_report bytes || begins_order bytes) (begins_late bytes) is
 
-pub event_begins : (entry : Entry) → AreFitting (entry_words entry) → begins_line (words_before (entry_words entry) []) ≡ true
+pub event_begins : (entry : Entry) → AreNarrow (entry_words entry) → begins_line (words_before (entry_words entry) []) ≡ true
 event_begins (ReportEntry report) fits = any_report (words_before (told_words report) []) (begun_report report fits)
-event_begins (OrderEntry o) fits = any_order (words_before (order_words o) []) (begun_order o.at o.job o.source o.target fits.1.0.2 fits.1.1.0.2 fits.1.1.1.0 fits.1.1.1.1.0)
+event_begins (OrderEntry o) fits = any_order (words_before (order_words o) []) (begun_order o.at o.job o.source o.target fits.1.0 fits.1.1.0 fits.1.1.1.0 fits.1.1.1.1.0)
 
-pub late_begins : (at : ℕ) → AreFitting (late_words at) → begins_line (words_before (late_words at) []) ≡ true
-late_begins at fits = any_late (words_before (late_words at) []) (begun_late at fits.1.0.2)
+pub late_begins : (at : ℕ) → AreNarrow (late_words at) → begins_line (words_before (late_words at) []) ≡ true
+late_begins at fits = any_late (words_before (late_words at) []) (begun_late at fits.1.0)
 
-pub late_overdue_begins : (at : ℕ) (overdue : Overdue) → is_overdue overdue.first at ≡ true → AreFitting (late_overdue_words at overdue) → begins_line (words_before (late_overdue_words at overdue) []) ≡ true
+pub late_overdue_begins : (at : ℕ) (overdue : Overdue) → is_overdue overdue.first at ≡ true → AreNarrow (late_overdue_words at overdue) → begins_line (words_before (late_overdue_words at overdue) []) ≡ true
 late_overdue_begins at overdue is fits = any_late (words_before (late_overdue_words at overdue) []) (begun_overdue at overdue.first overdue.others is fits)
 
 pub left_lines : UnwrittenLinesAreTorn

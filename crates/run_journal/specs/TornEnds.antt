@@ -1,5 +1,5 @@
 -- What a crash can leave behind the whole lines of a log.
-use Rattle.std.specs.Prelude.{◌≡◌, ℕ, ◌<◌, ◌==◌, ◌&&◌, ◌||◌, if◌then◌else◌, Bool, true, false, List, [], ◌∷◌, ◌++◌, length, take, codes}
+use Rattle.std.specs.Prelude.{◌≡◌, ◌⊎◌, ℕ, ◌-◌, ◌^◌, ◌<◌, nat_lt, ◌==◌, ◌&&◌, ◌||◌, if◌then◌else◌, Bool, true, false, List, [], ◌∷◌, ◌++◌, length, take, codes}
 use Rattle.text_lines.specs.Numbers.{is_digit}
 use Rattle.cell_tables.specs.declared.entry.Entry.{Entry}
 use Rattle.event_lines.specs.EventLines.{entry_words, entry_line}
@@ -7,35 +7,41 @@ use Rattle.cell_tables.specs.Standings.{is_overdue}
 use Rattle.event_lines.specs.declared.details.Overdue.{Overdue}
 use Rattle.event_lines.specs.AnswerLines.{late_words, late_line}
 use Rattle.event_lines.specs.StandingLines.{late_overdue_words, late_overdue_line}
-use Rattle.event_lines.specs.ReadBack.{AreFitting}
+use Rattle.event_lines.specs.Words.{Word, Text, Number}
+use Rattle.event_lines.specs.ReadBack.{IsFitting}
+use Rattle.run_journal.specs.declared.torn_end.TheConstants.{MOMENT_DIGITS, OTHER_DIGITS}
 use Rattle.run_journal.specs.LogFiles.{zeros}
 
--- a byte of a line's form stands for itself, but `#` for a digit
+-- how many digits a number of a line's form has at most: `#` is a moment, and `%` any other number
+abbrev pub digits_of : ℕ → ℕ
+digits_of form = if form == 35 then MOMENT_DIGITS else (if form == 37 then OTHER_DIGITS else 0)
+
+-- any other byte of the form stands for itself
 abbrev pub stands_for : ℕ → ℕ → Bool
-stands_for form byte = if form == 35 then is_digit byte else form == byte
+stands_for form byte = if digits_of form == 0 then form == byte else is_digit byte
 
--- the rest of a line of this form begins with these bytes; the last of those before them may be a digit of a number that goes on
-abbrev pub goes_on : Bool → List ℕ → List ℕ → Bool
-goes_on number form [] = true
-goes_on number [] (byte ∷ bytes) = if number && is_digit byte then goes_on number [] bytes else false
-goes_on number (c ∷ form) (byte ∷ bytes) = if number && is_digit byte then goes_on number (c ∷ form) bytes
-    else (if stands_for c byte then goes_on (c == 35) form bytes else false)
+-- the rest of a line of this form begins with these bytes, behind a number that may have so many digits more
+abbrev pub goes_on : ℕ → List ℕ → List ℕ → Bool
+goes_on more form [] = true
+goes_on more [] (byte ∷ bytes) = if nat_lt 0 more && is_digit byte then goes_on (more - 1) [] bytes else false
+goes_on more (c ∷ form) (byte ∷ bytes) = if nat_lt 0 more && is_digit byte then goes_on (more - 1) (c ∷ form) bytes
+    else (if stands_for c byte then goes_on (digits_of c - 1) form bytes else false)
 
--- a line of this form, in which `#` stands for a number, begins with these bytes
+-- a line of this form begins with these bytes
 abbrev pub begins : List ℕ → List ℕ → Bool
-begins form bytes = goes_on false form bytes
+begins form bytes = goes_on 0 form bytes
 
 -- the line of a report, of an order, or that a report was late
 abbrev pub begins_report : List ℕ → Bool
-begins_report bytes = begins (codes "report # arrive #") bytes || begins (codes "report # finish # #") bytes || begins (codes "report # clean #") bytes
+begins_report bytes = begins (codes "report # arrive %") bytes || begins (codes "report # finish % %") bytes || begins (codes "report # clean %") bytes
 
 abbrev pub begins_order : List ℕ → Bool
-begins_order bytes = begins (codes "order # # # #") bytes || begins (codes "order # # # out") bytes || begins (codes "order # # out #") bytes || begins (codes "order # # out out") bytes
+begins_order bytes = begins (codes "order # % % %") bytes || begins (codes "order # % % out") bytes || begins (codes "order # % out %") bytes || begins (codes "order # % out out") bytes
 
 abbrev pub begins_late : List ℕ → Bool
-begins_late bytes = begins (codes "late # job # arrives # and # more") bytes
-    || begins (codes "late # job # on machine # since # due # and # more") bytes
-    || begins (codes "late # machine # cleaned after job # since # due # and # more") bytes
+begins_late bytes = begins (codes "late # job % arrives # and % more") bytes
+    || begins (codes "late # job % on machine % since # due # and % more") bytes
+    || begins (codes "late # machine % cleaned after job % since # due # and % more") bytes
 
 -- these bytes without the zeros at their end
 abbrev pub without_zeros : List ℕ → List ℕ
@@ -50,9 +56,18 @@ begins_line bytes = begins_report bytes || begins_order bytes || begins_late byt
 abbrev pub is_torn : List ℕ → Bool
 is_torn end = begins_line (without_zeros end)
 
+-- a word of such a line: of its numbers, a moment alone has more digits than the others may have
+abbrev pub IsNarrow : Word → Type 0
+IsNarrow (Text text) = IsFitting (Text text)
+IsNarrow (Number most n) = IsFitting (Number most n) × ((most ≡ MOMENT_DIGITS) ⊎ (n < 10 ^ OTHER_DIGITS))
+
+abbrev pub AreNarrow : List Word → Type 0
+AreNarrow [] = Unit {0}
+AreNarrow (word ∷ words) = IsNarrow word × AreNarrow words
+
 -- so it is with what is left of a line that a log gets, where its line feed isn't on the disk
 pub record UnwrittenLinesAreTorn : Type 0 where
-  pub events : (entry : Entry) (count unwritten : ℕ) → AreFitting (entry_words entry) → count < length (entry_line entry) → is_torn (take count (entry_line entry) ++ zeros unwritten) ≡ true
-  pub late : (at count unwritten : ℕ) → AreFitting (late_words at) → count < length (late_line at) → is_torn (take count (late_line at) ++ zeros unwritten) ≡ true
-  pub late_overdue : (at count unwritten : ℕ) (overdue : Overdue) → is_overdue overdue.first at ≡ true → AreFitting (late_overdue_words at overdue) → count < length (late_overdue_line at overdue)
+  pub events : (entry : Entry) (count unwritten : ℕ) → AreNarrow (entry_words entry) → count < length (entry_line entry) → is_torn (take count (entry_line entry) ++ zeros unwritten) ≡ true
+  pub late : (at count unwritten : ℕ) → AreNarrow (late_words at) → count < length (late_line at) → is_torn (take count (late_line at) ++ zeros unwritten) ≡ true
+  pub late_overdue : (at count unwritten : ℕ) (overdue : Overdue) → is_overdue overdue.first at ≡ true → AreNarrow (late_overdue_words at overdue) → count < length (late_overdue_line at overdue)
       → is_torn (take count (late_overdue_line at overdue) ++ zeros unwritten) ≡ true

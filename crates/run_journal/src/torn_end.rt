@@ -1,7 +1,7 @@
 //! What a crash can leave after the whole lines of a log: the beginning of a line that the log gets, and zeros.
 
 ghost use Rattle.std.specs.Prelude.{◌≡◌, ◌≤◌, length, take};
-ghost use Rattle.run_journal.specs.TornEnds.{stands_for, begins, begins_report, begins_order, begins_late, without_zeros, is_torn};
+ghost use Rattle.run_journal.specs.TornEnds.{digits_of, stands_for, begins, begins_report, begins_order, begins_late, without_zeros, is_torn};
 
 /// Whether a crash can have left these bytes after the whole lines: the beginning of some line of a report, of an order
 /// or of a late report, or nothing, and then zeros, or none.
@@ -18,48 +18,51 @@ pub fn is_torn_end(end: &[u8]) -> bool
 fn begins_report(bytes: &[u8]) -> bool
     ensures { result ≡ begins_report bytes.now }
 {
-    begins(b"report # arrive #", bytes)
-        || begins(b"report # finish # #", bytes)
-        || begins(b"report # clean #", bytes)
+    begins(b"report # arrive %", bytes)
+        || begins(b"report # finish % %", bytes)
+        || begins(b"report # clean %", bytes)
 }
 
 fn begins_order(bytes: &[u8]) -> bool
     ensures { result ≡ begins_order bytes.now }
 {
-    begins(b"order # # # #", bytes)
-        || begins(b"order # # # out", bytes)
-        || begins(b"order # # out #", bytes)
-        || begins(b"order # # out out", bytes)
+    begins(b"order # % % %", bytes)
+        || begins(b"order # % % out", bytes)
+        || begins(b"order # % out %", bytes)
+        || begins(b"order # % out out", bytes)
 }
 
 /// What comes after the moment is of version 2 of the lines.
 fn begins_late(bytes: &[u8]) -> bool
     ensures { result ≡ begins_late bytes.now }
 {
-    begins(b"late # job # arrives # and # more", bytes)
-        || begins(b"late # job # on machine # since # due # and # more", bytes)
+    begins(b"late # job % arrives # and % more", bytes)
+        || begins(b"late # job % on machine % since # due # and % more", bytes)
         || begins(
-            b"late # machine # cleaned after job # since # due # and # more",
+            b"late # machine % cleaned after job % since # due # and % more",
             bytes,
         )
 }
 
-/// Whether a line of this form, in which `#` stands for a number, begins with these bytes.
+/// Whether a line of this form, in which `#` stands for a moment and `%` for another number, begins with these bytes.
 fn begins(form: &[u8], bytes: &[u8]) -> bool
     ensures { result ≡ begins form.now bytes.now }
 {
     let mut wanted = form;
-    let mut number = false;
+    // How many more digits the number may have.
+    let mut more = 0_usize;
     let mut rest = bytes;
     while let Some((byte, after)) = rest.split_first() {
-        if !(number && byte.is_ascii_digit()) {
+        if more > 0 && byte.is_ascii_digit() {
+            more -= 1;
+        } else {
             let Some((first, behind)) = wanted.split_first() else {
                 return false;
             };
             if !stands_for(*first, *byte) {
                 return false;
             }
-            number = *first == b'#';
+            more = digits_of(*first).saturating_sub(1);
             wanted = behind;
         }
         rest = after;
@@ -67,14 +70,31 @@ fn begins(form: &[u8], bytes: &[u8]) -> bool
     true
 }
 
+/// The most digits of a moment.
+const MOMENT_DIGITS: usize = 13;
+
+/// The most digits of the number of a job or of a machine, or of how many more are overdue.
+const OTHER_DIGITS: usize = 3;
+
+/// The most digits of the number for which this stands in a form: 0 where it stands for itself.
+fn digits_of(form: u8) -> usize
+    ensures { result ≡ digits_of form }
+{
+    match form {
+        b'#' => MOMENT_DIGITS,
+        b'%' => OTHER_DIGITS,
+        _ => 0,
+    }
+}
+
 /// Whether the byte of a line is as its form says.
 fn stands_for(form: u8, byte: u8) -> bool
     ensures { result ≡ stands_for form byte }
 {
-    if form == b'#' {
-        byte.is_ascii_digit()
-    } else {
+    if digits_of(form) == 0 {
         form == byte
+    } else {
+        byte.is_ascii_digit()
     }
 }
 
