@@ -1,5 +1,5 @@
 -- What the command that was chosen runs, and what is told of its log.
-use Rattle.std.proofs.Common.{◌≡◌, ℕ, List, Bool, false, Option, None, Some, IfSome, Result, sym, subst}
+use Rattle.std.proofs.Common.{◌≡◌, ℕ, List, Option, None, Some, IfSome, Result, sym, subst}
 use Rattle.command_words.specs.Choice.{IsChoiceOf, found_in}
 use Rattle.command_words.specs.declared.words.Chosen.{Chosen}
 use Rattle.cell_drive.specs.declared.manner.Manner.{Manner}
@@ -7,22 +7,22 @@ use Rattle.command_answers.specs.Commands.{PairOfFiles}
 use Rattle.command_answers.specs.declared.answer.Answer.{Answer}
 use Rattle.command_answers.specs.declared.command_fault.CommandFault.{CommandFault}
 use Rattle.command_run.specs.Streams.{Devices, Streams}
-use Rattle.command_run.specs.Logs.{IsToldOfLog, step_of}
+use Rattle.command_run.specs.Logs.{IsToldOfLog, LogEnd, step_of}
 use Rattle.command_run.specs.Program.{IsToldOfChosen, IsToldOfWords, NoLog, RunsChosen, RunsCommand, RunsLoggedDrive, kept_log_in, manner_in, pair_in}
 
 module _ {W : Type 0} (gives : W → List ℕ → Result (List ℕ) CommandFault → W → Type 0) where
   pub unlogged : (chosen : Chosen) (before after : Devices W) (outcome : Result Answer CommandFault) (mid : Streams) → kept_log_in chosen ≡ None
-      → RunsCommand gives chosen.name chosen before.texts before.streams outcome after.texts mid → NoLog before after false → RunsChosen gives (kept_log_in chosen) chosen before outcome mid after false
+      → RunsCommand gives chosen.name chosen before.texts before.streams outcome after.texts mid → NoLog before after None → RunsChosen gives (kept_log_in chosen) chosen before outcome mid after None
   unlogged chosen before after outcome mid none runs same =
-      subst (λ (log : Option (List ℕ)). RunsChosen gives log chosen before outcome mid after false) (sym none) (runs, same)
+      subst (λ (log : Option (List ℕ)). RunsChosen gives log chosen before outcome mid after None) (sym none) (runs, same)
 
-  pub logged : (chosen : Chosen) (before after : Devices W) (outcome : Result Answer CommandFault) (mid : Streams) (kept : Bool) (path : List ℕ) (pair : PairOfFiles) (manner : Manner) → kept_log_in chosen ≡ Some path
-      → pair ≡ pair_in chosen → manner ≡ manner_in chosen → RunsLoggedDrive gives before.folder after.folder path manner chosen.at pair before.texts (step_of before.streams outcome mid kept) after.texts
-      → RunsChosen gives (kept_log_in chosen) chosen before outcome mid after kept
-  logged chosen before after outcome mid kept path pair manner keeps same_pair same_manner runs =
-      subst (λ (log : Option (List ℕ)). RunsChosen gives log chosen before outcome mid after kept) (sym keeps)
-      (subst (λ (m : Manner). RunsLoggedDrive gives before.folder after.folder path m chosen.at (pair_in chosen) before.texts (step_of before.streams outcome mid kept) after.texts) same_manner
-      (subst (λ (q : PairOfFiles). RunsLoggedDrive gives before.folder after.folder path manner chosen.at q before.texts (step_of before.streams outcome mid kept) after.texts) same_pair runs))
+  pub logged : (chosen : Chosen) (before after : Devices W) (outcome : Result Answer CommandFault) (mid : Streams) (end : Option LogEnd) (path : List ℕ) (pair : PairOfFiles) (manner : Manner) → kept_log_in chosen ≡ Some path
+      → pair ≡ pair_in chosen → manner ≡ manner_in chosen → RunsLoggedDrive gives before.folder after.folder path manner chosen.at pair before.texts (step_of before.streams outcome mid end) after.texts
+      → RunsChosen gives (kept_log_in chosen) chosen before outcome mid after end
+  logged chosen before after outcome mid end path pair manner keeps same_pair same_manner runs =
+      subst (λ (log : Option (List ℕ)). RunsChosen gives log chosen before outcome mid after end) (sym keeps)
+      (subst (λ (m : Manner). RunsLoggedDrive gives before.folder after.folder path m chosen.at (pair_in chosen) before.texts (step_of before.streams outcome mid end) after.texts) same_manner
+      (subst (λ (q : PairOfFiles). RunsLoggedDrive gives before.folder after.folder path manner chosen.at q before.texts (step_of before.streams outcome mid end) after.texts) same_pair runs))
 
   pub told_of_path : (chosen : Chosen) (before : Devices W) (path : List ℕ) (told : Option (List ℕ × List ℕ)) → kept_log_in chosen ≡ Some path → IfSome told (IsToldOfChosen gives chosen before)
       → IfSome told (IsToldOfLog gives before.folder (pair_in chosen) path (manner_in chosen) chosen.at before.texts before.streams.output.taken)

@@ -48,7 +48,7 @@ use Rattle.command_run.specs.Drives.{Drives, DrivesBy, is_plain}
 use Rattle.command_run.specs.Resumes.{IsTaking, ResumesTaken, ResumesText, Resumes}
 use Rattle.command_run.specs.Hubs.{DriveBy, DrivesAll}
 use Rattle.command_run.specs.Ending.{Ends, IsPrinted, IsTold, IsToldAfter, IsOfText, IsLineOut}
-use Rattle.command_run.specs.Logs.{step_of}
+use Rattle.command_run.specs.Logs.{LogEnd, step_of}
 use Rattle.command_run.specs.Program.{AreWordsRead, RunsCommand, RunsChosen, Follows, file_at, kept_log_in, log_in, manner_in, name_in, pair_in, plans_in}
 use Rattle.command_run.specs.Laws.{IsOutcomeOfWords, IsFailureOf, EndsAsTold, HoldsNothing, WereDriven, WereRefused, IsUnanswered, Ran, WroteNoMore}
 use Rattle.command_run.proofs.LowStatuses.{IsLow, low}
@@ -257,43 +257,43 @@ ended_no_more (Err fault) before after told_before told_after status low high en
 
 -- ---- each run of the program
 
-module _ {W : Type 0} (gives : W → List ℕ → Result (List ℕ) CommandFault → W → Type 0) (chosen : Chosen) (before after : Devices W) (outcome : Result Answer CommandFault) (mid : Streams) (kept : Bool) where
+module _ {W : Type 0} (gives : W → List ℕ → Result (List ℕ) CommandFault → W → Type 0) (chosen : Chosen) (before after : Devices W) (outcome : Result Answer CommandFault) (mid : Streams) (end : Option LogEnd) where
   -- what a command wrote, with a log of its own or without
-  chosen_written : (log : Option (List ℕ)) → kept_log_in chosen ≡ log → RunsChosen gives log chosen before outcome mid after kept → WereDriven gives chosen.name chosen before.texts before.streams mid
+  chosen_written : (log : Option (List ℕ)) → kept_log_in chosen ≡ log → RunsChosen gives log chosen before outcome mid after end → WereDriven gives chosen.name chosen before.texts before.streams mid
   chosen_written None none run = written gives chosen before.texts before.streams mid chosen.name after.texts outcome run.0
   chosen_written (Some path) keeps run =
-      elim (logged_written gives (pair_in chosen) (manner_in chosen) before.texts after.texts before.streams mid outcome kept before.folder after.folder path chosen.at run.shaped run.shapes run.drives) [
+      elim (logged_written gives (pair_in chosen) (manner_in chosen) before.texts after.texts before.streams mid outcome end before.folder after.folder path chosen.at run.shaped run.shapes run.drives) [
         | inl same ↦ inl same
         | inr drove ↦ inr (inl (keeper chosen.name (option_map string_bytes chosen.log) path keeps, inr drove))
       ]
 
   -- and its answer is a good one, or one that refuses
-  chosen_low : (log : Option (List ℕ)) → RunsChosen gives log chosen before outcome mid after kept → IsLow outcome
+  chosen_low : (log : Option (List ℕ)) → RunsChosen gives log chosen before outcome mid after end → IsLow outcome
   chosen_low None run = low gives chosen.name chosen before.texts before.streams outcome after.texts mid run.0
-  chosen_low (Some path) run = low_logged before.folder after.folder path (manner_in chosen) chosen.at run.shaped (step_of before.streams outcome mid kept) run.drives
+  chosen_low (Some path) run = low_logged before.folder after.folder path (manner_in chosen) chosen.at run.shaped (step_of before.streams outcome mid end) run.drives
 
-module _ {W : Type 0} (gives : W → List ℕ → Result (List ℕ) CommandFault → W → Type 0) (words : List (List ℕ)) (before : Devices W) (status : ℕ) (after : Devices W) (kept : Bool) where
+module _ {W : Type 0} (gives : W → List ℕ → Result (List ℕ) CommandFault → W → Type 0) (words : List (List ℕ)) (before : Devices W) (status : ℕ) (after : Devices W) (end : Option LogEnd) where
   -- a command that was run, as a part of the program's run
   ran : (chosen : Chosen) → reasons_in words ≡ [] → IsChoiceOf (found_in words) chosen → (outcome : Result Answer CommandFault) (mid : Streams)
-      → RunsChosen gives (kept_log_in chosen) chosen before outcome mid after kept → Ran gives words before outcome mid after kept
+      → RunsChosen gives (kept_log_in chosen) chosen before outcome mid after end → Ran gives words before outcome mid after end
   ran chosen taken is outcome mid runs =
-      inl (record { chosen = chosen; taken = taken; is = is; runs = runs; driven = chosen_written gives chosen before after outcome mid kept (kept_log_in chosen) refl runs })
+      inl (record { chosen = chosen; taken = taken; is = is; runs = runs; driven = chosen_written gives chosen before after outcome mid end (kept_log_in chosen) refl runs })
 
   -- words that choose no command
-  chose_none : (fault : WordsFault) → TellsOneOf (reasons_in words) fault → (outcome : Result Answer CommandFault) → IsOutcomeOfWords fault outcome → Ran gives words before outcome before.streams after kept
+  chose_none : (fault : WordsFault) → TellsOneOf (reasons_in words) fault → (outcome : Result Answer CommandFault) → IsOutcomeOfWords fault outcome → Ran gives words before outcome before.streams after end
   chose_none fault refused outcome is = inr (record { fault = fault; refused = refused; is = is; same = refl })
 
   -- what was told at the end of what ran
-  ends_told : (outcome : Result Answer CommandFault) (mid : Streams) → Ran gives words before outcome mid after kept
-      → EndsWell outcome after.streams.output before.errors after.errors status → EndsAsTold gives words before status after kept
+  ends_told : (outcome : Result Answer CommandFault) (mid : Streams) → Ran gives words before outcome mid after end
+      → EndsWell outcome after.streams.output before.errors after.errors status → EndsAsTold gives words before status after end
   ends_told outcome mid ran (inl failure) =
       inl (failure.high, inr (record { outcome = outcome; mid = mid; ran = ran; fault = failure.fault; failed = failure.failed; told = failure.told }))
   ends_told outcome mid ran (inr good) = inr good
 
-  pub follows_ends : (read : Result Chosen WordsFault) → AreWordsRead words read → Follows gives read before status after kept → EndsAsTold gives words before status after kept
+  pub follows_ends : (read : Result Chosen WordsFault) → AreWordsRead words read → Follows gives read before status after end → EndsAsTold gives words before status after end
   follows_ends (Ok chosen) are is =
       ends_told is.outcome is.mid (ran chosen are.taken are.chosen is.outcome is.mid is.runs)
-      (outcome_ends is.outcome is.mid.output after.streams.output before.errors after.errors status (chosen_low gives chosen before after is.outcome is.mid kept (kept_log_in chosen) is.runs) is.ends)
+      (outcome_ends is.outcome is.mid.output after.streams.output before.errors after.errors status (chosen_low gives chosen before after is.outcome is.mid end (kept_log_in chosen) is.runs) is.ends)
   follows_ends (Err (Usage true text)) are is =
       ends_told (Ok is.help) before.streams (chose_none (Usage true text) are.refused (Ok is.help) (is.help, refl, is.text_is.0))
       (outcome_ends (Ok is.help) before.streams.output after.streams.output before.errors after.errors status (omega (arith, is.text_is.1)) is.ends)
@@ -303,23 +303,23 @@ module _ {W : Type 0} (gives : W → List ℕ → Result (List ℕ) CommandFault
       ends_told (Err Memory) before.streams (chose_none NoWordsMemory are.refused (Err Memory) refl)
       (outcome_ends (Err Memory) before.streams.output after.streams.output before.errors after.errors status tt is.0)
 
-  pub follows_shown : (read : Result Chosen WordsFault) → before.streams.output.pending ≡ [] → Follows gives read before status after kept → HoldsNothing after.streams.output
+  pub follows_shown : (read : Result Chosen WordsFault) → before.streams.output.pending ≡ [] → Follows gives read before status after end → HoldsNothing after.streams.output
   follows_shown (Ok chosen) none is =
       ended_shown is.outcome is.mid.output after.streams.output before.errors after.errors status
-      (driven_shown gives chosen before.texts before.streams is.mid chosen.name (chosen_written gives chosen before after is.outcome is.mid kept (kept_log_in chosen) refl is.runs) none) is.ends
+      (driven_shown gives chosen before.texts before.streams is.mid chosen.name (chosen_written gives chosen before after is.outcome is.mid end (kept_log_in chosen) refl is.runs) none) is.ends
   follows_shown (Err (Usage true text)) none is = printed_shown is.help is.ends.printed before.streams.output after.streams.output is.ends.is
   follows_shown (Err (Usage false text)) none is = inl (ap (λ (s : Streams). s.output.pending) is.3 ∙ none)
   follows_shown (Err NoWordsMemory) none is = inl (ap (λ (o : Output). o.pending) is.0.0 ∙ none)
 
-  pub follows_no_more : (read : Result Chosen WordsFault) → AreWordsRead words read → 2 ≤ status → Follows gives read before status after kept
-      → WereRefused words before status after ⊎ WroteNoMore gives words before after kept
+  pub follows_no_more : (read : Result Chosen WordsFault) → AreWordsRead words read → 2 ≤ status → Follows gives read before status after end
+      → WereRefused words before status after ⊎ WroteNoMore gives words before after end
   follows_no_more (Ok chosen) are high is =
       inr (record {
         outcome = is.outcome;
         mid = is.mid;
         ran = ran chosen are.taken are.chosen is.outcome is.mid is.runs;
         unanswered = ended_no_more is.outcome is.mid.output after.streams.output before.errors after.errors status
-            (chosen_low gives chosen before after is.outcome is.mid kept (kept_log_in chosen) is.runs) high is.ends;
+            (chosen_low gives chosen before after is.outcome is.mid end (kept_log_in chosen) is.runs) high is.ends;
       })
   follows_no_more (Err (Usage true text)) are high is =
       inr (record {

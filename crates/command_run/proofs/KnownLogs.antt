@@ -5,18 +5,19 @@ use Rattle.std.proofs.KnownBytes.{Appends-kept}
 use Rattle.std.proofs.lemmas.List.{append-nil}
 use Rattle.shop_base.specs.Plan.{PlannedShop}
 use Rattle.text_lines.specs.declared.limits.TheConstants.{MAX_INPUT}
+use Rattle.text_lines.specs.Lines.{ended_lines}
 use Rattle.text_lines.proofs.NextLines.{lines_of-le}
 use Rattle.byte_streams.specs.declared.drive_fault.DriveFault.TheVariants.{Write as NotWritten}
 use Rattle.byte_streams.specs.Lent.{Output, taker}
 use Rattle.cell_drive.specs.declared.manner.Manner.{Manner}
-use Rattle.cell_drive.specs.TakenUp.{TakenUp}
+use Rattle.cell_drive.specs.TakenUp.{TakenUp, IsTakenUp}
 use Rattle.cell_drive.specs.InManner.{TellsBy}
 use Rattle.run_journal.specs.Folders.{NamedLog, held}
 use Rattle.run_journal.specs.WholeLines.{before_any, whole_lines}
 use Rattle.logged_drive.specs.declared.taken_log.TakeUpFault.{TakeUpFault}
 use Rattle.logged_drive.specs.declared.taken_log.TakeUpFault.TheVariants.{Resume, NoTornEnd, File}
 use Rattle.logged_drive.specs.TakenLogs.{IsTakeUpFault}
-use Rattle.command_run.specs.Logs.{Begins, DrivesOpened, HasFewLines, IsToldOfOld, Step, TakesUp}
+use Rattle.command_run.specs.Logs.{Begins, DrivesOpened, HasFewLines, IsTakenFromLog, IsToldOfOld, Step, TakesUp}
 
 -- ---- what is told again
 
@@ -51,9 +52,14 @@ whole_length [] = omega arith
 whole_length (byte ∷ bytes) = with_byte_length (byte == 10) byte (whole_lines bytes) (length bytes) (whole_length bytes)
 
 module _ (p : PlannedShop) (manner : Manner) (at : Option ℕ) (text : List ℕ) (seen taken : Option (List ℕ)) where
-  pub old_whole : (told : Option (List ℕ × List ℕ)) → IfSome told (λ t. (seen ≡ Some text) × IsToldOfOld p manner at text taken t) → IfSome told (λ t. whole_lines t.0 ≡ t.0)
-  old_whole None is = tt
-  old_whole (Some t) is = ap whole_lines is.1.log ∙ whole_whole text ∙ sym is.1.log
+  pub old_taken : (told : Option (List ℕ × List ℕ)) → IfSome told (λ b. (seen ≡ Some text) × IsToldOfOld p manner at text taken b)
+      → (t : TakenUp) → IsTakenUp p (ended_lines (whole_lines text)) at t → IfSome told (λ b. IsTakenFromLog t b.0)
+  old_taken None is t up = tt
+  old_taken (Some b) is t up = (
+    ap whole_lines is.1.log ∙ whole_whole text ∙ sym is.1.log,
+    at,
+    subst (λ (q : PlannedShop). IsTakenUp q (ended_lines b.0) at t) (sym up.taken_from.planned) (subst (λ (base : List ℕ). IsTakenUp p (ended_lines base) at t) (sym is.1.log) up),
+  )
 
 pub few_lines : (p : PlannedShop) (at : Option ℕ) (text : List ℕ) (fault : TakeUpFault) → length text ≤ MAX_INPUT → IsTakeUpFault p text at fault → HasFewLines fault
 few_lines p at text (Resume fault) few is = tt

@@ -6,6 +6,7 @@ pub mod Accepting
 pub mod Refusing
 pub mod LowStatuses
 pub mod KnownLogs
+pub mod HeldLogs
 pub mod LoggedEndings
 pub mod Keepers
 pub mod Choosing

@@ -23,7 +23,7 @@ use Rattle.command_answers.specs.Commands.{PairOfFiles, Shapes}
 use Rattle.command_run.specs.Streams.{Streams, Output}
 use Rattle.command_run.specs.Drives.{end_of_drive}
 use Rattle.command_run.specs.Resumes.{end_of_rest}
-use Rattle.command_run.specs.Logs.{Begins, BeginsBy, DrivesNothing, DrivesOpened, DrivesShaped, GoesOnAfter, GoesOnTaken, IsLoggedAnswer, IsLogUntakenTold, IsVerdict, Step, TakesLog, TellsAgain, step_of}
+use Rattle.command_run.specs.Logs.{Begins, BeginsBy, DrivesNothing, DrivesOpened, DrivesShaped, GoesOnAfter, GoesOnTaken, IsLoggedAnswer, IsLogUntakenTold, IsVerdict, LogEnd, Driven, Untaken, Step, TakesLog, TellsAgain, step_of}
 use Rattle.command_run.specs.Laws.{DroveWithLog, HoldsNothing}
 use Rattle.command_run.proofs.LowStatuses.{IsLow, low_end, low_line_of, low_log_fault, low_or, low_untaken}
 
@@ -53,15 +53,15 @@ module _ (folder folder_after : Option (List NamedLog)) (path : List ℕ) (manne
   low_after t mid (Ok done) step (inr lacks) = low_logged_end lacks.log_failed (end_of_rest lacks.end) step.outcome lacks.answer
   low_after t mid (Err fault) step is = subst IsLow (sym is.0) tt
 
-  low_taken_up : (taken : Result TakenUp TakeUpFault) (step : Step) → GoesOnTaken manner taken step → IsLow step.outcome
-  low_taken_up (Ok t) step on = low_after t on.mid on.told step on.goes_on
-  low_taken_up (Err fault) step is = low_log_untaken fault step.outcome is.0
+  low_taken_up : (text : List ℕ) (taken : Result TakenUp TakeUpFault) (step : Step) → GoesOnTaken manner text taken step → IsLow step.outcome
+  low_taken_up text (Ok t) step on = low_after t on.mid on.told step on.goes_on
+  low_taken_up text (Err fault) step is = low_log_untaken fault step.outcome is.0
 
   low_opened : (p : PlannedShop) (opened : Result (Option (List ℕ)) FileFault) (step : Step) → DrivesOpened folder folder_after path manner at p opened step → IsLow step.outcome
   low_opened p (Err fault) step is = subst IsLow (sym is.0) tt
   low_opened p (Ok None) step is = low_begins p false step is
   low_opened p (Ok (Some [])) step is = low_begins p true step is
-  low_opened p (Ok (Some (byte ∷ bytes))) step is = low_taken_up is.0.taken step is.0.goes_on
+  low_opened p (Ok (Some (byte ∷ bytes))) step is = low_taken_up (byte ∷ bytes) is.0.taken step is.0.goes_on
 
   pub low_logged : (shaped : Result (Result PlannedShop ShapeFault) CommandFault) (step : Step) → DrivesShaped folder folder_after path manner at shaped step → IsLow step.outcome
   low_logged (Err fault) step is = subst IsLow (sym is.0) tt
@@ -71,40 +71,43 @@ module _ (folder folder_after : Option (List NamedLog)) (path : List ℕ) (manne
 -- ---- what is written
 
 module _ {W : Type 0} (gives : W → List ℕ → Result (List ℕ) CommandFault → W → Type 0) (pair : PairOfFiles) (manner : Manner) (texts later : W) (before after : Streams)
-    (outcome : Result Answer CommandFault) (kept : Bool) where
+    (outcome : Result Answer CommandFault) (end : Option LogEnd) where
   -- nothing, or what the cell answered
   abbrev Written : Type 0
   Written = (after.output ≡ before.output) ⊎ DroveWithLog gives manner pair texts before after
 
-  nothing : DrivesNothing (step_of before outcome after kept) → Written
-  nothing none = inl (ap (λ (s : Streams). s.output) none.same)
+  unwritten : after ≡ before → Written
+  unwritten same = inl (ap (λ (s : Streams). s.output) same)
+
+  nothing : DrivesNothing (step_of before outcome after end) → Written
+  nothing none = unwritten none.same
 
   module _ (p : PlannedShop) (shapes : Shapes gives pair texts (Ok (Ok p)) later) where
     begun : (folder folder_after : Option (List NamedLog)) (path : List ℕ) (there : Bool) (verdict : Verdict) → IsVerdict p verdict
-        → BeginsBy folder folder_after path manner there verdict (step_of before outcome after kept) → Written
+        → BeginsBy folder folder_after path manner there verdict (step_of before outcome after end) → Written
     begun folder folder_after path there (Refused back why) is by = nothing by.1
     begun folder folder_after path there (Accepted v) is (inl lacks) = nothing lacks.nothing
     begun folder folder_after path there (Accepted v) is (inr run) =
-        inr (record { plan = p; later = later; shapes = shapes; outcome = outcome; kept = kept; is = inl (v, is.accepted.0, run.drove) })
+        inr (record { plan = p; later = later; shapes = shapes; outcome = outcome; log = end; is = inl (v, is.accepted.0, run.drove) })
 
-    begins : (folder folder_after : Option (List NamedLog)) (path : List ℕ) (there : Bool) → Begins folder folder_after path manner p there (step_of before outcome after kept) → Written
+    begins : (folder folder_after : Option (List NamedLog)) (path : List ℕ) (there : Bool) → Begins folder folder_after path manner p there (step_of before outcome after end) → Written
     begins folder folder_after path there (inl (verdict, is, by)) = begun folder folder_after path there verdict is by
     begins folder folder_after path there (inr wanting) = nothing wanting.1
 
-    taken_up : (at : Option ℕ) (text : List ℕ) (taken : Result TakenUp TakeUpFault) → TakesLog p at text taken → GoesOnTaken manner taken (step_of before outcome after kept) → Written
+    taken_up : (at : Option ℕ) (text : List ℕ) (taken : Result TakenUp TakeUpFault) → TakesLog p at text taken → GoesOnTaken manner text taken (step_of before outcome after end) → Written
     taken_up at text (Ok t) takes on =
-        inr (record { plan = p; later = later; shapes = shapes; outcome = outcome; kept = kept; is = inr (t, takes.is.taken_from.planned, on) })
-    taken_up at text (Err fault) takes is = nothing is.1
+        inr (record { plan = p; later = later; shapes = shapes; outcome = outcome; log = end; is = inr (t, takes.is.taken_from.planned, on) })
+    taken_up at text (Err fault) takes is = unwritten is.1
 
     opened_written : (folder folder_after : Option (List NamedLog)) (path : List ℕ) (at : Option ℕ) (opened : Result (Option (List ℕ)) FileFault)
-        → DrivesOpened folder folder_after path manner at p opened (step_of before outcome after kept) → Written
+        → DrivesOpened folder folder_after path manner at p opened (step_of before outcome after end) → Written
     opened_written folder folder_after path at (Err fault) is = nothing is.1
     opened_written folder folder_after path at (Ok None) is = begins folder folder_after path false is
     opened_written folder folder_after path at (Ok (Some [])) is = begins folder folder_after path true is
     opened_written folder folder_after path at (Ok (Some (byte ∷ bytes))) is = taken_up at (byte ∷ bytes) is.0.taken is.0.takes is.0.goes_on
 
   pub logged_written : (folder folder_after : Option (List NamedLog)) (path : List ℕ) (at : Option ℕ) (shaped : Result (Result PlannedShop ShapeFault) CommandFault) → Shapes gives pair texts shaped later
-      → DrivesShaped folder folder_after path manner at shaped (step_of before outcome after kept) → Written
+      → DrivesShaped folder folder_after path manner at shaped (step_of before outcome after end) → Written
   logged_written folder folder_after path at (Err fault) shapes is = nothing is.1
   logged_written folder folder_after path at (Ok (Err fault)) shapes is = nothing is.1
   logged_written folder folder_after path at (Ok (Ok p)) shapes is = opened_written p shapes folder folder_after path at is.opened is.drives
@@ -141,17 +144,23 @@ pub logged_shown : {W : Type 0} (gives : W → List ℕ → Result (List ℕ) Co
     (drove : DroveWithLog gives manner pair texts before after) → before.output.pending ≡ [] → HoldsNothing after.output
 logged_shown gives manner pair texts before after drove none = elim drove.is [
   | inl (v, same, run) ↦ run.shows.shown
-  | inr (t, same, on) ↦ gone_on_shown manner t on.mid on.told (step_of before drove.outcome after drove.kept) on.tells on.goes_on none
+  | inr (t, same, on) ↦ gone_on_shown manner t on.mid on.told (step_of before drove.outcome after drove.log) on.tells on.goes_on none
 ]
 
--- ---- what is answered where the log is held
+-- ---- what is answered where a cell was driven with the log
 
 -- no more than the lines of the cell
 abbrev IsSilent : Result Answer CommandFault → Type 0
 IsSilent outcome = IfOk outcome (λ answer. answer.text.items ≡ [])
 
-never_held : (kept : Bool) (outcome : Result Answer CommandFault) → kept ≡ false → kept ≡ true → IsSilent outcome
-never_held kept outcome none holds = absurd (let both : false ≡ true = sym none ∙ holds in cc both)
+-- a cell was driven with it
+abbrev pub IsDriven : Option LogEnd → Type 0
+IsDriven None = ⊥
+IsDriven (Some (Driven p told held)) = Unit {0}
+IsDriven (Some (Untaken text fault)) = ⊥
+
+never_driven : (end other : Option LogEnd) (outcome : Result Answer CommandFault) → end ≡ other → (IsDriven other → ⊥) → IsDriven end → IsSilent outcome
+never_driven end other outcome is other_isnt driven = absurd (other_isnt (subst IsDriven is driven))
 
 silent_fault : (fault : CommandFault) (outcome : Result Answer CommandFault) → outcome ≡ Err fault → IsSilent outcome
 silent_fault fault outcome is = subst IsSilent (sym is) tt
@@ -161,29 +170,32 @@ silent_end log_failed (Ok done) (Ok answer) is = is.0
 silent_end log_failed (Ok done) (Err fault) is = tt
 silent_end log_failed (Err fault) outcome is = silent_fault _ outcome is
 
+nothing_driven : (step : Step) → DrivesNothing step → IsDriven step.log → IsSilent step.outcome
+nothing_driven step none = never_driven step.log None step.outcome none.log (λ bad. bad)
+
 module _ (folder folder_after : Option (List NamedLog)) (path : List ℕ) (manner : Manner) (at : Option ℕ) where
-  silent_begins : (p : PlannedShop) (there : Bool) (step : Step) → Begins folder folder_after path manner p there step → step.kept ≡ true → IsSilent step.outcome
-  silent_begins p there step (inl (Refused back why, is, by)) holds = never_held step.kept step.outcome by.1.kept holds
-  silent_begins p there step (inl (Accepted v, is, inl lacks)) holds = never_held step.kept step.outcome lacks.nothing.kept holds
-  silent_begins p there step (inl (Accepted v, is, inr run)) holds = silent_end run.drove.log_failed (end_of_drive run.drove.end) step.outcome run.drove.answer
-  silent_begins p there step (inr wanting) holds = never_held step.kept step.outcome wanting.1.kept holds
+  silent_begins : (p : PlannedShop) (there : Bool) (step : Step) → Begins folder folder_after path manner p there step → IsDriven step.log → IsSilent step.outcome
+  silent_begins p there step (inl (Refused back why, is, by)) = nothing_driven step by.1
+  silent_begins p there step (inl (Accepted v, is, inl lacks)) = nothing_driven step lacks.nothing
+  silent_begins p there step (inl (Accepted v, is, inr run)) = λ driven. silent_end run.drove.log_failed (end_of_drive run.drove.end) step.outcome run.drove.answer
+  silent_begins p there step (inr wanting) = nothing_driven step wanting.1
 
-  silent_after : (t : TakenUp) (mid : Output) (told : Result (Unit {0}) DriveFault) (step : Step) → GoesOnAfter manner t mid told step → step.kept ≡ true → IsSilent step.outcome
-  silent_after t mid (Ok done) step (inl run) holds = silent_end run.log_failed (end_of_rest run.end) step.outcome run.answer
-  silent_after t mid (Ok done) step (inr lacks) holds = silent_end lacks.log_failed (end_of_rest lacks.end) step.outcome lacks.answer
-  silent_after t mid (Err fault) step is holds = silent_fault _ step.outcome is.0
+  silent_after : (t : TakenUp) (mid : Output) (told : Result (Unit {0}) DriveFault) (step : Step) → GoesOnAfter manner t mid told step → IsSilent step.outcome
+  silent_after t mid (Ok done) step (inl run) = silent_end run.log_failed (end_of_rest run.end) step.outcome run.answer
+  silent_after t mid (Ok done) step (inr lacks) = silent_end lacks.log_failed (end_of_rest lacks.end) step.outcome lacks.answer
+  silent_after t mid (Err fault) step is = silent_fault _ step.outcome is.0
 
-  silent_taken_up : (taken : Result TakenUp TakeUpFault) (step : Step) → GoesOnTaken manner taken step → step.kept ≡ true → IsSilent step.outcome
-  silent_taken_up (Ok t) step on holds = silent_after t on.mid on.told step on.goes_on holds
-  silent_taken_up (Err fault) step is holds = never_held step.kept step.outcome is.1.kept holds
+  silent_taken_up : (text : List ℕ) (taken : Result TakenUp TakeUpFault) (step : Step) → GoesOnTaken manner text taken step → IsDriven step.log → IsSilent step.outcome
+  silent_taken_up text (Ok t) step on = λ driven. silent_after t on.mid on.told step on.goes_on
+  silent_taken_up text (Err fault) step is = never_driven step.log (Some (Untaken text fault)) step.outcome is.2 (λ bad. bad)
 
-  silent_opened : (p : PlannedShop) (opened : Result (Option (List ℕ)) FileFault) (step : Step) → DrivesOpened folder folder_after path manner at p opened step → step.kept ≡ true → IsSilent step.outcome
-  silent_opened p (Err fault) step is holds = never_held step.kept step.outcome is.1.kept holds
-  silent_opened p (Ok None) step is holds = silent_begins p false step is holds
-  silent_opened p (Ok (Some [])) step is holds = silent_begins p true step is holds
-  silent_opened p (Ok (Some (byte ∷ bytes))) step is holds = silent_taken_up is.0.taken step is.0.goes_on holds
+  silent_opened : (p : PlannedShop) (opened : Result (Option (List ℕ)) FileFault) (step : Step) → DrivesOpened folder folder_after path manner at p opened step → IsDriven step.log → IsSilent step.outcome
+  silent_opened p (Err fault) step is = nothing_driven step is.1
+  silent_opened p (Ok None) step is = silent_begins p false step is
+  silent_opened p (Ok (Some [])) step is = silent_begins p true step is
+  silent_opened p (Ok (Some (byte ∷ bytes))) step is = silent_taken_up (byte ∷ bytes) is.0.taken step is.0.goes_on
 
-  pub silent_logged : (shaped : Result (Result PlannedShop ShapeFault) CommandFault) (step : Step) → DrivesShaped folder folder_after path manner at shaped step → step.kept ≡ true → IsSilent step.outcome
-  silent_logged (Err fault) step is holds = never_held step.kept step.outcome is.1.kept holds
-  silent_logged (Ok (Err fault)) step is holds = never_held step.kept step.outcome is.1.kept holds
-  silent_logged (Ok (Ok p)) step is holds = silent_opened p is.opened step is.drives holds
+  pub silent_logged : (shaped : Result (Result PlannedShop ShapeFault) CommandFault) (step : Step) → DrivesShaped folder folder_after path manner at shaped step → IsDriven step.log → IsSilent step.outcome
+  silent_logged (Err fault) step is = nothing_driven step is.1
+  silent_logged (Ok (Err fault)) step is = nothing_driven step is.1
+  silent_logged (Ok (Ok p)) step is = silent_opened p is.opened step is.drives

@@ -1,15 +1,20 @@
 -- What the log of a driven cell has at the end of the program.
 use Rattle.std.proofs.Common.{◌≡◌, ◌≤◌, ◌++◌, ℕ, List, [], ◌∷◌, true, Option, None, Some, IfSome, Result, Ok, Err, IfOk, ap, sym, ◌∙◌, subst, arith, refl}
-use Rattle.std.specs.Prelude.{IsOk, is_some}
+use Rattle.std.specs.Prelude.{IsOk}
 use Rattle.std.specs.Io.KnownBytes.{Appends}
 use Rattle.std.proofs.lemmas.List.{append-nil}
+use Rattle.shop_base.specs.Plan.{PlannedShop}
+use Rattle.cell_tables.specs.declared.entry.Entry.{Entry}
+use Rattle.run_journal.specs.Logged.{Held}
+use Rattle.logged_drive.specs.CrashLaw.{IsTakenUpAfter}
 use Rattle.logged_drive.specs.LoggedRuns.{IsAllInLog, KeepsShown}
 use Rattle.command_answers.specs.declared.answer.Answer.{Answer}
 use Rattle.command_answers.specs.declared.command_fault.CommandFault.{CommandFault}
 use Rattle.command_run.specs.Streams.{Errors, Output}
 use Rattle.command_run.specs.Ending.{Ends, IsPrinted}
-use Rattle.command_run.specs.Logs.{KeepsInLog}
+use Rattle.command_run.specs.Logs.{Driven, Untaken, IsHeldAfter, IsLogAfter, KeepsInLog, LogEnd}
 use Rattle.command_run.proofs.Endings.{fault_ends}
+use Rattle.command_run.proofs.LoggedEndings.{IsDriven}
 
 no_more : (before after : Option (List ℕ)) (start text : List ℕ) → before ≡ Some start → Appends before after text → text ≡ [] → after ≡ before
 no_more None after start text was grown none = absurd (cc was)
@@ -27,34 +32,44 @@ silent_print answer (Ok status) before after start was none is = no_more before.
 silent_print answer (Err fault) before after start was none is =
     let part = is.1 in no_more before.taken after.taken start part.1.out was part.1.took (no_first part.1.out part.0 answer.text.items part.1.whole none)
 
--- so the log keeps at the end what it kept before
-kept_one : (told : List ℕ × List ℕ) (seen : Option (List ℕ)) (may_leave : List ℕ → Type 0) (outcome : Result Answer CommandFault) (before after : Output) (told_before told_after : Errors) (status : ℕ)
-    → IfOk outcome (λ answer. answer.text.items ≡ []) → Ends outcome before after told_before told_after status
-    → KeepsInLog seen may_leave before.taken (IsOk outcome) told → KeepsInLog seen may_leave after.taken (status ≤ 1) told
-kept_one told seen may_leave (Ok answer) before after told_before told_after status none ends keeps =
-    let same = silent_print answer ends.printed before after _ keeps.crash.output none ends.is in record {
-      crash = subst (KeepsShown told.0 told.1 may_leave) (sym same) keeps.crash;
-      in_log = λ low. subst (IsAllInLog told.0 told.1 seen may_leave) (sym same) (keeps.in_log refl);
-    }
-kept_one told seen may_leave (Err fault) before after told_before told_after status none ends keeps =
-    let same = ap (λ (o : Output). o.taken) ends.0 in
-    let high = (fault_ends fault after told_before told_after status ends.1).high in record {
-      crash = subst (KeepsShown told.0 told.1 may_leave) (sym same) keeps.crash;
-      in_log = λ low. absurd (omega (arith, low, high));
-    }
+abbrev IsGood : Result Answer CommandFault → Type 0
+IsGood outcome = IsOk outcome
+
+-- so the log has at the end what it had before
+moved : (seen : Option (List ℕ)) (may_leave : List ℕ → Type 0) (before after : Option (List ℕ)) (one other : Type 0) (p : PlannedShop) (events : List Entry) (held : Held) (told : List ℕ × List ℕ)
+    → after ≡ before → (other → one) → KeepsInLog seen may_leave before one p events held told → KeepsInLog seen may_leave after other p events held told
+moved seen may_leave before after one other p events held told same is_good keeps = record {
+  in_step = keeps.in_step;
+  crash = subst (KeepsShown told.0 told.1 may_leave) (sym same) keeps.crash;
+  taken_up = subst (IsTakenUpAfter p events told.1 may_leave) (sym same) keeps.taken_up;
+  in_log = λ good. subst (IsAllInLog told.0 told.1 seen may_leave) (sym same) (keeps.in_log (is_good good));
+}
+
+kept_one : (seen : Option (List ℕ)) (may_leave : List ℕ → Type 0) (outcome : Result Answer CommandFault) (before after : Output) (told_before told_after : Errors) (status : ℕ)
+    (p : PlannedShop) (events : List Entry) (held : Held) (told : List ℕ × List ℕ) → IfOk outcome (λ answer. answer.text.items ≡ []) → Ends outcome before after told_before told_after status
+    → KeepsInLog seen may_leave before.taken (IsOk outcome) p events held told → KeepsInLog seen may_leave after.taken (status ≤ 1) p events held told
+kept_one seen may_leave (Ok answer) before after told_before told_after status p events held told none ends keeps =
+    moved seen may_leave before.taken after.taken (IsGood (Ok answer)) (status ≤ 1) p events held told
+    (silent_print answer ends.printed before after _ keeps.crash.output none ends.is) (λ low. refl) keeps
+kept_one seen may_leave (Err fault) before after told_before told_after status p events held told none ends keeps =
+    let high = (fault_ends fault after told_before told_after status ends.1).high in
+    moved seen may_leave before.taken after.taken (IsGood (Err fault)) (status ≤ 1) p events held told
+    (ap (λ (o : Output). o.taken) ends.0) (λ low. absurd (omega (arith, low, high))) keeps
 
 kept_at_end : (told : Option (List ℕ × List ℕ)) (seen : Option (List ℕ)) (may_leave : List ℕ → Type 0) (outcome : Result Answer CommandFault) (before after : Output) (told_before told_after : Errors) (status : ℕ)
-    → IfOk outcome (λ answer. answer.text.items ≡ []) → Ends outcome before after told_before told_after status
-    → IfSome told (KeepsInLog seen may_leave before.taken (IsOk outcome)) → IfSome told (KeepsInLog seen may_leave after.taken (status ≤ 1))
-kept_at_end None seen may_leave outcome before after told_before told_after status none ends keeps = tt
-kept_at_end (Some t) seen may_leave outcome before after told_before told_after status none ends keeps =
-    kept_one t seen may_leave outcome before after told_before told_after status none ends keeps
+    (end : LogEnd) → (IsDriven (Some end) → IfOk outcome (λ answer. answer.text.items ≡ [])) → Ends outcome before after told_before told_after status
+    → IfSome told (IsLogAfter seen may_leave before.taken (IsOk outcome) end) → IfSome told (IsLogAfter seen may_leave after.taken (status ≤ 1) end)
+kept_at_end None seen may_leave outcome before after told_before told_after status end silent ends is = tt
+kept_at_end (Some t) seen may_leave outcome before after told_before told_after status (Driven p events held) silent ends keeps =
+    kept_one seen may_leave outcome before after told_before told_after status p events held t (silent tt) ends keeps
+kept_at_end (Some t) seen may_leave outcome before after told_before told_after status (Untaken text fault) silent ends is = is
 
 -- of the log that is held
-pub kept_log_at_end : {D : Type 0} (log : Option D) (told : Option (List ℕ × List ℕ)) (seen : D → Option (List ℕ)) (may_leave : D → List ℕ → Type 0) (outcome : Result Answer CommandFault)
-    (before after : Output) (told_before told_after : Errors) (status : ℕ) → (is_some log ≡ true → IfOk outcome (λ answer. answer.text.items ≡ []))
-    → Ends outcome before after told_before told_after status → IfSome log (λ l. IfSome told (KeepsInLog (seen l) (may_leave l) before.taken (IsOk outcome)))
-    → IfSome log (λ l. IfSome told (KeepsInLog (seen l) (may_leave l) after.taken (status ≤ 1)))
-kept_log_at_end None told seen may_leave outcome before after told_before told_after status silent ends keeps = tt
-kept_log_at_end (Some l) told seen may_leave outcome before after told_before told_after status silent ends keeps =
-    kept_at_end told (seen l) (may_leave l) outcome before after told_before told_after status (silent refl) ends keeps
+pub held_at_end : {D : Type 0} (seen : D → Option (List ℕ)) (may_leave : D → List ℕ → Type 0) (told : Option (List ℕ × List ℕ)) (outcome : Result Answer CommandFault)
+    (before after : Output) (told_before told_after : Errors) (status : ℕ) (log : Option D) (end : Option LogEnd) → (IsDriven end → IfOk outcome (λ answer. answer.text.items ≡ []))
+    → Ends outcome before after told_before told_after status → IsHeldAfter seen may_leave told before.taken (IsOk outcome) log end → IsHeldAfter seen may_leave told after.taken (status ≤ 1) log end
+held_at_end seen may_leave told outcome before after told_before told_after status None None silent ends is = tt
+held_at_end seen may_leave told outcome before after told_before told_after status None (Some end) silent ends is = is
+held_at_end seen may_leave told outcome before after told_before told_after status (Some l) None silent ends is = is
+held_at_end seen may_leave told outcome before after told_before told_after status (Some l) (Some end) silent ends is =
+    kept_at_end told (seen l) (may_leave l) outcome before after told_before told_after status end silent ends is

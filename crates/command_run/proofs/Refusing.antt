@@ -1,5 +1,5 @@
 -- What words that choose no command come to.
-use Rattle.std.proofs.Common.{◌≡◌, ℕ, List, true, false, Result, Ok, Err, String, Global, string_bytes, subst, refl}
+use Rattle.std.proofs.Common.{◌≡◌, ℕ, List, true, false, None, Result, Ok, Err, String, Global, string_bytes, subst, refl}
 use Rattle.command_words.specs.declared.words.WordsFault.{WordsFault}
 use Rattle.command_words.specs.declared.words.WordsFault.TheVariants.{Usage, Memory}
 use Rattle.command_answers.specs.declared.answer.Answer.{Answer}
@@ -12,7 +12,7 @@ use Rattle.command_run.specs.Program.{Follows}
 
 pub refused_ends : {W : Type 0} (gives : W → List ℕ → Result (List ℕ) CommandFault → W → Type 0) (fault : WordsFault) (outcome : Result Answer CommandFault)
     (before : Devices W) (status : ℕ) (after : Devices W) → IsOutcomeOf fault outcome → Ends outcome before.streams.output after.streams.output before.errors after.errors status
-    → after.texts ≡ before.texts → after.streams.input ≡ before.streams.input → after.folder ≡ before.folder → Follows gives (Err fault) before status after false
+    → after.texts ≡ before.texts → after.streams.input ≡ before.streams.input → after.folder ≡ before.folder → Follows gives (Err fault) before status after None
 refused_ends gives (Usage true text) (Ok answer) before status after comes ends same_texts same_input same_logs =
     record { help = answer; text_is = comes; ends = ends; same = (same_texts, same_input); logs = (same_logs, refl) }
 refused_ends gives (Usage true text) (Err f) before status after comes ends same_texts same_input same_logs = absurd comes
@@ -24,7 +24,7 @@ refused_ends gives Memory (Err f) before status after comes ends same_texts same
 
 pub refused_words : {W : Type 0} (gives : W → List ℕ → Result (List ℕ) CommandFault → W → Type 0) (fault : WordsFault) (told : String Global)
     (before : Devices W) (status : ℕ) (after : Devices W) → Comes fault (Wrong told) → WasTold (string_bytes told) before.errors after.errors → status ≡ 2
-    → after.texts ≡ before.texts → after.streams ≡ before.streams → after.folder ≡ before.folder → Follows gives (Err fault) before status after false
+    → after.texts ≡ before.texts → after.streams ≡ before.streams → after.folder ≡ before.folder → Follows gives (Err fault) before status after None
 refused_words gives (Usage true text) told before status after comes was two same_texts same_streams same_logs = absurd comes
 refused_words gives (Usage false text) told before status after comes was two same_texts same_streams same_logs =
     (subst (λ (s : String Global). WasTold (string_bytes s) before.errors after.errors) comes was, two, same_texts, same_streams, (same_logs, refl))

@@ -60,7 +60,7 @@ use Rattle.command_run.specs.Planners.{search_by_two, SeeksPlan}
 use Rattle.command_run.specs.Improvers.{AsksOne, ImprovesPlan, AsksOneForRest, ImprovesRest}
 use Rattle.command_run.specs.Pictures.{IsPictureOut, Draws, RunsPicture}
 use Rattle.command_run.specs.Drives.{IsDriveIn, DrivesCell, end_of_drive}
-use Rattle.command_run.specs.Logs.{DrivesWithLog, GoesOnWithLog, step_of}
+use Rattle.command_run.specs.Logs.{DrivesWithLog, GoesOnWithLog, LogEnd, step_of}
 use Rattle.command_run.specs.Resumes.{ResumesText, IsTaking}
 use Rattle.command_run.specs.Hubs.{AreDrivesIn, DrivesCells}
 use Rattle.command_run.specs.Ending.{WasTold, IsLineOut, IsOfText}
@@ -348,8 +348,8 @@ pub record AskForDrive (words : List (List ℕ)) (pair : PairOfFiles) : Type 0 w
 pub record RunsWell (content : List ℕ → Result (List ℕ) CommandFault) (words : List (List ℕ)) (input : List ℕ) (status : ℕ) (written : List ℕ) : Type 0 where
   pub before : Devices (List (List ℕ))
   pub after : Devices (List (List ℕ))
-  pub kept : Bool
-  pub run : RunsProgram (Shelf content) words before status after kept
+  pub log : Option LogEnd
+  pub run : RunsProgram (Shelf content) words before status after log
   pub unasked : before.texts ≡ []
   pub given : before.streams.input.left ≡ Some input
   pub start : List ℕ
@@ -422,9 +422,9 @@ module _ {W : Type 0} (gives : W → List ℕ → Result (List ℕ) CommandFault
     pub later : W
     pub shapes : Shapes gives pair texts (Ok (Ok plan)) later
     pub outcome : Result Answer CommandFault
-    pub kept : Bool
-    pub is : ((v : VerifiedPlan) × (v.planned ≡ plan) × DrivesWithLog (IsDriveIn manner v) end_of_drive (step_of before outcome after kept))
-        ⊎ ((t : TakenUp) × (plan_of t ≡ plan) × GoesOnWithLog manner t (step_of before outcome after kept))
+    pub log : Option LogEnd
+    pub is : ((v : VerifiedPlan) × (v.planned ≡ plan) × DrivesWithLog v.planned [] (IsDriveIn manner v) end_of_drive (step_of before outcome after log))
+        ⊎ ((t : TakenUp) × (plan_of t ≡ plan) × GoesOnWithLog manner t (step_of before outcome after log))
 
   -- the plan is well shaped, its run was taken up from the log, and driven on in this manner to this end or up to this fault
   pub record DroveOn (manner : Manner) (at : Option ℕ) (pair : PairOfFiles) (log : List ℕ) (texts : W) (before after : Streams) : Type 0 where
@@ -467,48 +467,48 @@ module _ {W : Type 0} (gives : W → List ℕ → Result (List ℕ) CommandFault
       ⊎ ((name ≡ Gantt) × DrewPicture (DrawsLog gives (pair_in chosen) (file_at chosen 2)) texts before after)))))
 
   -- the command that the words choose was run to an outcome
-  pub record RanCommand (words : List (List ℕ)) (before : Devices W) (outcome : Result Answer CommandFault) (mid : Streams) (after : Devices W) (kept : Bool) : Type 0 where
+  pub record RanCommand (words : List (List ℕ)) (before : Devices W) (outcome : Result Answer CommandFault) (mid : Streams) (after : Devices W) (log : Option LogEnd) : Type 0 where
     pub chosen : Chosen
     pub taken : reasons_in words ≡ []
     pub is : IsChoiceOf (found_in words) chosen
-    pub runs : RunsChosen gives (kept_log_in chosen) chosen before outcome mid after kept
+    pub runs : RunsChosen gives (kept_log_in chosen) chosen before outcome mid after log
     pub driven : WereDriven chosen.name chosen before.texts before.streams mid
 
   -- what the words come to, before it is printed or told
-  abbrev pub Ran : List (List ℕ) → Devices W → Result Answer CommandFault → Streams → Devices W → Bool → Type 0
-  Ran words before outcome mid after kept = RanCommand words before outcome mid after kept ⊎ ChoseNone words before.streams outcome mid
+  abbrev pub Ran : List (List ℕ) → Devices W → Result Answer CommandFault → Streams → Devices W → Option LogEnd → Type 0
+  Ran words before outcome mid after log = RanCommand words before outcome mid after log ⊎ ChoseNone words before.streams outcome mid
 
   -- what failed was told by its own line with its status
-  pub record WasFailureTold (words : List (List ℕ)) (before : Devices W) (status : ℕ) (after : Devices W) (kept : Bool) : Type 0 where
+  pub record WasFailureTold (words : List (List ℕ)) (before : Devices W) (status : ℕ) (after : Devices W) (log : Option LogEnd) : Type 0 where
     pub outcome : Result Answer CommandFault
     pub mid : Streams
-    pub ran : Ran words before outcome mid after kept
+    pub ran : Ran words before outcome mid after log
     pub fault : CommandFault
     pub failed : IsFailureOf outcome after.streams.output fault
     pub told : IsLineOut fault before.errors after.errors status
 
   -- nothing was written but what driven cells answered, or a picture, and after it at most the first bytes of an answer whose write failed
-  pub record WroteNoMore (words : List (List ℕ)) (before after : Devices W) (kept : Bool) : Type 0 where
+  pub record WroteNoMore (words : List (List ℕ)) (before after : Devices W) (log : Option LogEnd) : Type 0 where
     pub outcome : Result Answer CommandFault
     pub mid : Streams
-    pub ran : Ran words before outcome mid after kept
+    pub ran : Ran words before outcome mid after log
     pub unanswered : IsUnanswered outcome mid.output after.streams.output
 
   -- the status is 2 or more, and what failed was told; or it is 0 or 1, and nothing was told
-  abbrev pub EndsAsTold : List (List ℕ) → Devices W → ℕ → Devices W → Bool → Type 0
-  EndsAsTold words before status after kept =
-      ((2 ≤ status) × (WereRefused words before status after ⊎ WasFailureTold words before status after kept)) ⊎ ((status ≤ 1) × (after.errors ≡ before.errors))
+  abbrev pub EndsAsTold : List (List ℕ) → Devices W → ℕ → Devices W → Option LogEnd → Type 0
+  EndsAsTold words before status after log =
+      ((2 ≤ status) × (WereRefused words before status after ⊎ WasFailureTold words before status after log)) ⊎ ((status ≤ 1) × (after.errors ≡ before.errors))
 
   -- in each run of the program what fails is told on the error output with its status, and nothing else is told
   abbrev pub WhatFailsIsTold : Type 0
-  WhatFailsIsTold = (words : List (List ℕ)) (before : Devices W) (status : ℕ) (after : Devices W) (kept : Bool) → RunsProgram gives words before status after kept → EndsAsTold words before status after kept
+  WhatFailsIsTold = (words : List (List ℕ)) (before : Devices W) (status : ℕ) (after : Devices W) (log : Option LogEnd) → RunsProgram gives words before status after log → EndsAsTold words before status after log
 
   -- at the end of each run of the program nothing is held back, unless a write of the output has failed
   abbrev pub NothingIsHeldBack : Type 0
-  NothingIsHeldBack = (words : List (List ℕ)) (before : Devices W) (status : ℕ) (after : Devices W) (kept : Bool) → before.streams.output.pending ≡ [] → RunsProgram gives words before status after kept
+  NothingIsHeldBack = (words : List (List ℕ)) (before : Devices W) (status : ℕ) (after : Devices W) (log : Option LogEnd) → before.streams.output.pending ≡ [] → RunsProgram gives words before status after log
       → HoldsNothing after.streams.output
 
   -- where the status is 2 or more, nothing was written but what driven cells answered, or a picture, and the first bytes of an answer whose write failed
   abbrev pub WhatFailsIsNoAnswer : Type 0
-  WhatFailsIsNoAnswer = (words : List (List ℕ)) (before : Devices W) (status : ℕ) (after : Devices W) (kept : Bool) → 2 ≤ status → RunsProgram gives words before status after kept
-      → WereRefused words before status after ⊎ WroteNoMore words before after kept
+  WhatFailsIsNoAnswer = (words : List (List ℕ)) (before : Devices W) (status : ℕ) (after : Devices W) (log : Option LogEnd) → 2 ≤ status → RunsProgram gives words before status after log
+      → WereRefused words before status after ⊎ WroteNoMore words before after log

@@ -1,5 +1,5 @@
 -- What driving a cell with a log of its own comes to.
-use Rattle.std.specs.Prelude.{◌≡◌, ◌≤◌, ◌⊎◌, ◌++◌, ℕ, suc, List, [], ◌∷◌, Bool, true, false, if◌then◌else◌, Option, None, Some, Result, Ok, Err, IfOk, IfErr, IfSome, OnOk}
+use Rattle.std.specs.Prelude.{◌≡◌, ◌≤◌, ◌⊎◌, ◌++◌, ℕ, suc, List, [], ◌∷◌, Bool, true, false, if◌then◌else◌, Option, None, Some, Result, Ok, Err, IsOk, IfOk, IfErr, IfSome, OnOk}
 use Rattle.shop_base.specs.declared.shape_fault.ShapeFault.{ShapeFault}
 use Rattle.shop_base.specs.Plan.{PlannedShop}
 use Rattle.text_lines.specs.declared.limits.TheConstants.{MAX_INPUT}
@@ -11,23 +11,26 @@ use Rattle.plan_verifier.specs.Verdicts.{OnAccepted, OnRefused, IsReason}
 use Rattle.byte_streams.specs.declared.drive_fault.DriveFault.{DriveFault}
 use Rattle.byte_streams.specs.declared.drive_fault.DriveFault.TheVariants.{Read as NotReadOn, Write as NotWritten, InputTooLong as InputTooLongToDrive, Memory as NoMemoryToDrive}
 use Rattle.byte_streams.specs.Lent.{taker}
+use Rattle.cell_tables.specs.declared.entry.Entry.{Entry}
 use Rattle.run_log.specs.declared.audit_fault.AuditFault.TheVariants.{BadLine}
 use Rattle.cell_drive.specs.declared.manner.Manner.{Manner}
 use Rattle.cell_drive.specs.declared.rest_run.RestEnd.{RestEnd}
-use Rattle.cell_drive.specs.TakenUp.{TakenUp, IsTakenUp, CanBeTakenUp}
+use Rattle.cell_drive.specs.TakenUp.{TakenUp, IsTakenUp, CanBeTakenUp, plan_of, told_in}
 use Rattle.cell_drive.specs.Resuming.{told_text}
 use Rattle.cell_drive.specs.Retold.{retold_text}
 use Rattle.cell_drive.specs.InManner.{IsDriveIn, IsGoneOnIn, IsToldAgainIn, is_plain}
 use Rattle.run_journal.specs.declared.file_fault.FileFault.{FileFault}
 use Rattle.run_journal.specs.declared.file_fault.FileFault.TheVariants.{Log as NotLogged, InUse, Read as NotRead, TooLong, Memory as NoMemoryForLog}
 use Rattle.run_journal.specs.Folders.{NamedLog, held, with_log, with_name}
-use Rattle.run_journal.specs.Logged.{Held}
+use Rattle.run_journal.specs.LogFiles.{IsSettled}
+use Rattle.run_journal.specs.Logged.{AreInStep, Held}
 use Rattle.run_journal.specs.TornEnds.{is_torn}
 use Rattle.run_journal.specs.WholeLines.{torn_end, whole_lines}
 use Rattle.logged_drive.specs.declared.taken_log.TakeUpFault.{TakeUpFault}
 use Rattle.logged_drive.specs.declared.taken_log.TakeUpFault.TheVariants.{Resume, NoTornEnd, File}
-use Rattle.logged_drive.specs.LoggedRuns.{IsAllInLog, IsUnbegun, KeepsShown, ShowsRun}
-use Rattle.logged_drive.specs.TakenLogs.{IsOfDevice, IsTakeUpFault}
+use Rattle.logged_drive.specs.CrashLaw.{IsTakenUpAfter}
+use Rattle.logged_drive.specs.LoggedRuns.{IsAllInLog, IsUnbegun, KeepsShown, ShowsRun, nothing_held}
+use Rattle.logged_drive.specs.TakenLogs.{IsOfDevice, IsOfText, IsTakeUpFault}
 use Rattle.command_answers.specs.declared.answer.Answer.{Answer}
 use Rattle.command_answers.specs.declared.command_fault.CommandFault.{CommandFault}
 use Rattle.command_answers.specs.declared.command_fault.CommandFault.TheVariants.{Read, Write, InputTooLong, Log, LogInUse, Memory}
@@ -74,38 +77,43 @@ HasFewLines (File fault) = Unit {0}
 
 -- ---- a cell that is driven with a log
 
--- the streams before a step and after it, what the step has come to, and whether the log is held behind it
+-- what became of a log that is held: a run of the plan went on with it, behind the events that it told, up to what its writer held; or it wasn't taken up for this reason, and its bytes were these
+pub data LogEnd : Type 0 where
+  Driven : PlannedShop → List Entry → Held → LogEnd
+  Untaken : List ℕ → TakeUpFault → LogEnd
+
+-- the streams before a step and after it, what the step has come to, and what became of the log, if it is held behind it
 pub record Step : Type 0 where
   pub before : Streams
   pub outcome : Result Answer CommandFault
   pub after : Streams
-  pub kept : Bool
+  pub log : Option LogEnd
 
-abbrev pub step_of : Streams → Result Answer CommandFault → Streams → Bool → Step
-step_of before outcome after kept = record { before = before; outcome = outcome; after = after; kept = kept }
+abbrev pub step_of : Streams → Result Answer CommandFault → Streams → Option LogEnd → Step
+step_of before outcome after log = record { before = before; outcome = outcome; after = after; log = log }
 
 -- nothing was driven: no byte was read or written, and no log is held
 pub record DrivesNothing (step : Step) : Type 0 where
   pub same : step.after ≡ step.before
-  pub kept : step.kept ≡ false
+  pub log : step.log ≡ None
 
--- a cell was driven so by a writer that keeps a log, and shows only what the log has got; where a write failed, and not the log's, the output has. The status says whether the run has ended, and the log is held
-pub record DrivesWithLog {T : Type 0} (drives : Streams → Streams → Result T DriveFault → Type 0) (ends : Result T DriveFault → Result Bool DriveFault) (step : Step) : Type 0 where
+-- a cell was driven so by the plan, behind these events, by a writer that keeps a log, and shows only what the log has got; where a write failed, and not the log's, the output has. The status says whether the run has ended, and the log is held
+pub record DrivesWithLog {T : Type 0} (p : PlannedShop) (told : List Entry) (drives : Streams → Streams → Result T DriveFault → Type 0) (ends : Result T DriveFault → Result Bool DriveFault) (step : Step) : Type 0 where
   pub end : Result T DriveFault
   pub log_failed : Bool
   pub held : Held
   pub shows : ShowsRun drives step.before.input step.before.output.taken end log_failed step.after.input step.after.output held
   pub output_failed : end ≡ Err NotWritten → log_failed ≡ false → step.after.output.failed ≡ true
   pub answer : IsLoggedAnswer log_failed (ends end) step.outcome
-  pub kept : step.kept ≡ true
+  pub log : step.log ≡ Some (Driven p told held)
 
 -- memory ran out for the writer, before a byte was read or written, and the log is held
-pub record LacksWriter (step : Step) : Type 0 where
+pub record LacksWriter (p : PlannedShop) (told : List Entry) (step : Step) : Type 0 where
   pub end : Result RestEnd DriveFault
   pub log_failed : Bool
   pub unbegun : IsUnbegun step.before.input step.before.output.taken end log_failed step.after.input step.after.output
   pub answer : IsLoggedAnswer log_failed (end_of_rest end) step.outcome
-  pub kept : step.kept ≡ true
+  pub log : step.log ≡ Some (Driven p told (nothing_held step.before.output.taken))
 
 -- the verdict on a plan
 pub record IsVerdict (p : PlannedShop) (verdict : Verdict) : Type 0 where
@@ -124,7 +132,7 @@ module _ (folder folder_after : Option (List NamedLog)) (path : List ℕ) where
 
   -- the log is there with its name on the disk, made if there was none, and the cell was driven with it
   pub record BeginsRun (manner : Manner) (there : Bool) (v : VerifiedPlan) (step : Step) : Type 0 where
-    pub drove : DrivesWithLog (IsDriveIn manner v) end_of_drive step
+    pub drove : DrivesWithLog v.planned [] (IsDriveIn manner v) end_of_drive step
     pub made : IfSome folder (λ logs. folder_after ≡ Some (with_name path (with_log there path logs)))
 
   -- an accepted plan has its cell driven; any other is answered by its line, and no log is made
@@ -162,8 +170,8 @@ from_output mid step = record step { before = with_output step.before mid }
 
 -- then the run goes on with the log; or the telling has failed, with no byte read
 abbrev pub GoesOnAfter : Manner → TakenUp → Output → Result (Unit {0}) DriveFault → Step → Type 0
-GoesOnAfter manner t mid (Ok done) step = DrivesWithLog (IsGoneOnIn manner t) end_of_rest (from_output mid step) ⊎ LacksWriter (from_output mid step)
-GoesOnAfter manner t mid (Err fault) step = (step.outcome ≡ Err (drive_command_fault fault)) × (step.after ≡ with_output step.before mid) × (step.kept ≡ false)
+GoesOnAfter manner t mid (Ok done) step = DrivesWithLog (plan_of t) (told_in t) (IsGoneOnIn manner t) end_of_rest (from_output mid step) ⊎ LacksWriter (plan_of t) (told_in t) (from_output mid step)
+GoesOnAfter manner t mid (Err fault) step = (step.outcome ≡ Err (drive_command_fault fault)) × (step.after ≡ with_output step.before mid) × (step.log ≡ None)
 
 -- so a run that was taken up goes on
 pub record GoesOnWithLog (manner : Manner) (t : TakenUp) (step : Step) : Type 0 where
@@ -172,16 +180,16 @@ pub record GoesOnWithLog (manner : Manner) (t : TakenUp) (step : Step) : Type 0 
   pub tells : TellsAgain manner t step.before.output mid told
   pub goes_on : GoesOnAfter manner t mid told step
 
--- what follows the taking up: the run goes on with the log; of a log that isn't taken up the fault is told
-abbrev pub GoesOnTaken : Manner → Result TakenUp TakeUpFault → Step → Type 0
-GoesOnTaken manner (Ok t) step = GoesOnWithLog manner t step
-GoesOnTaken manner (Err fault) step = IsLogUntakenTold fault step.outcome × DrivesNothing step
+-- what follows the taking up of a log with these bytes: the run goes on with it; of one that isn't taken up the fault is told, with no byte read or written, and it is held
+abbrev pub GoesOnTaken : Manner → List ℕ → Result TakenUp TakeUpFault → Step → Type 0
+GoesOnTaken manner text (Ok t) step = GoesOnWithLog manner t step
+GoesOnTaken manner text (Err fault) step = IsLogUntakenTold fault step.outcome × (step.after ≡ step.before) × (step.log ≡ Some (Untaken text fault))
 
 -- the log with these bytes is taken up, and the run goes on
 pub record TakesUp (p : PlannedShop) (manner : Manner) (at : Option ℕ) (text : List ℕ) (step : Step) : Type 0 where
   pub taken : Result TakenUp TakeUpFault
   pub takes : TakesLog p at text taken
-  pub goes_on : GoesOnTaken manner taken step
+  pub goes_on : GoesOnTaken manner text taken step
 
 -- ---- any log
 
@@ -207,10 +215,58 @@ DrivesShaped folder folder_after path manner at (Ok (Ok p)) step = DrivesByLog f
 
 -- ---- what the log has
 
--- what a crash leaves of the log has, behind what was told of it before, all that was shown behind what was told of the output; and at a good end it has all of that
-pub record KeepsInLog (seen : Option (List ℕ)) (may_leave : List ℕ → Type 0) (taken : Option (List ℕ)) (good : Type 0) (told : List ℕ × List ℕ) : Type 0 where
+-- Of a run of the plan, behind these events, up to what its writer held: the log is in step with the output. What a crash leaves of it has, behind what was told of it before, all that was shown
+-- behind what was told of the output, and the run is taken up from that. At a good end it has all of it.
+pub record KeepsInLog (seen : Option (List ℕ)) (may_leave : List ℕ → Type 0) (taken : Option (List ℕ)) (good : Type 0) (p : PlannedShop) (before : List Entry) (held : Held) (told : List ℕ × List ℕ) : Type 0 where
+  pub in_step : AreInStep told.0 told.1 seen may_leave held.taken held.pending held.failed
   pub crash : KeepsShown told.0 told.1 may_leave taken
+  pub taken_up : IsTakenUpAfter p before told.1 may_leave taken
   pub in_log : good → IsAllInLog told.0 told.1 seen may_leave taken
+
+-- a log with these bytes that wasn't taken up has them still, unless cutting off its torn end has failed; what a crash leaves of it has the same whole lines
+pub record IsAsItWas (seen : Option (List ℕ)) (may_leave : List ℕ → Type 0) (text : List ℕ) (fault : TakeUpFault) : Type 0 where
+  pub untouched : IsOfText fault → (seen ≡ Some text) × IsSettled seen may_leave
+  pub crash : (left : List ℕ) → may_leave left → whole_lines left ≡ whole_lines text
+
+-- so by what became of it
+abbrev pub IsLogAfter : Option (List ℕ) → (List ℕ → Type 0) → Option (List ℕ) → Type 0 → LogEnd → List ℕ × List ℕ → Type 0
+IsLogAfter seen may_leave taken good (Driven p before held) told = KeepsInLog seen may_leave taken good p before held told
+IsLogAfter seen may_leave taken good (Untaken text fault) told = IsAsItWas seen may_leave text fault
+
+-- so it is with the log that is held, if one is, where it is told what there was before
+abbrev pub IsHeldAfter : {D : Type 0} → (D → Option (List ℕ)) → (D → List ℕ → Type 0) → Option (List ℕ × List ℕ) → Option (List ℕ) → Type 0 → Option D → Option LogEnd → Type 0
+IsHeldAfter seen may_leave told taken good None None = Unit {0}
+IsHeldAfter seen may_leave told taken good None (Some end) = ⊥
+IsHeldAfter seen may_leave told taken good (Some log) None = ⊥
+IsHeldAfter seen may_leave told taken good (Some log) (Some end) = IfSome told (IsLogAfter (seen log) (may_leave log) taken good end)
+
+-- something was done with a log, and the log that is held after it, if one is, is as is said of it
+pub record WithLog {D : Type 0} (seen : D → Option (List ℕ)) (may_leave : D → List ℕ → Type 0) (told : Option (List ℕ × List ℕ)) (taken : Option (List ℕ)) (good : Type 0) (log : Option D)
+    (done : Option LogEnd → Type 0) : Type 0 where
+  pub end : Option LogEnd
+  pub is : done end
+  pub held : IsHeldAfter seen may_leave told taken good log end
+
+-- a step was made with a log
+abbrev pub StepsWith : {D : Type 0} → (D → Option (List ℕ)) → (D → List ℕ → Type 0) → Option (List ℕ × List ℕ) → Streams → Result Answer CommandFault → Streams → Option D → (Step → Type 0) → Type 0
+StepsWith seen may_leave told before outcome after log makes = WithLog seen may_leave told after.output.taken (IsOk outcome) log (λ end. makes (step_of before outcome after end))
+
+-- ---- what a log is before a run
+
+-- it is on the disk, and no call of it has failed
+pub record IsReady (seen : Option (List ℕ)) (may_leave : List ℕ → Type 0) (failed : Bool) : Type 0 where
+  pub settled : IsSettled seen may_leave
+  pub unfailed : failed ≡ false
+
+-- and it has no bytes, which is told where the logs are
+pub record IsEmptyLog (seen : Option (List ℕ)) (may_leave : List ℕ → Type 0) (failed : Bool) (folder : Option (List NamedLog)) : Type 0 where
+  pub ready : IsReady seen may_leave failed
+  pub empty : IfSome seen (λ file. file ≡ [])
+  pub told : IfSome folder (λ _. seen ≡ Some [])
+
+-- the run was taken up from the whole lines that the log has
+abbrev pub IsTakenFromLog : TakenUp → List ℕ → Type 0
+IsTakenFromLog t base = (whole_lines base ≡ base) × (at : Option ℕ) × IsTakenUp (plan_of t) (ended_lines base) at t
 
 -- ---- what the log holds before
 

@@ -30,7 +30,7 @@ use Rattle.command_run.specs.Planners.{SeeksPlan}
 use Rattle.command_run.specs.Improvers.{Improves}
 use Rattle.command_run.specs.Drives.{Drives}
 use Rattle.command_run.specs.Resumes.{Resumes}
-use Rattle.command_run.specs.Logs.{DrivesShaped, IsToldOfLog, Step, step_of}
+use Rattle.command_run.specs.Logs.{DrivesShaped, IsToldOfLog, LogEnd, Step, step_of}
 use Rattle.command_run.specs.Hubs.{DrivesAll}
 use Rattle.command_run.specs.Ending.{Ends, IsAnswerEnd, WasTold}
 
@@ -85,8 +85,8 @@ abbrev pub pair_in : Chosen → PairOfFiles
 pair_in chosen = record { path = file_at chosen 0; name = name_in chosen; plan = file_at chosen 1 }
 
 -- no log was touched, and none is held
-abbrev pub NoLog : {W : Type 0} → Devices W → Devices W → Bool → Type 0
-NoLog before after kept = (after.folder ≡ before.folder) × (kept ≡ false)
+abbrev pub NoLog : {W : Type 0} → Devices W → Devices W → Option LogEnd → Type 0
+NoLog before after log = (after.folder ≡ before.folder) × (log ≡ None)
 
 module _ {W : Type 0} (gives : W → List ℕ → Result (List ℕ) CommandFault → W → Type 0) where
   -- the plan is loaded, and then the input is read
@@ -146,43 +146,43 @@ module _ {W : Type 0} (gives : W → List ℕ → Result (List ℕ) CommandFault
       RunsDrawing gives chosen.svg (pair_in chosen) (file_at chosen 2) texts before outcome texts_after after
 
   -- the command that was chosen, with the log that it keeps, if it keeps one; else no log is touched
-  abbrev pub RunsChosen : Option (List ℕ) → Chosen → Devices W → Result Answer CommandFault → Streams → Devices W → Bool → Type 0
-  RunsChosen None chosen before outcome mid after kept =
-      RunsCommand chosen.name chosen before.texts before.streams outcome after.texts mid × NoLog before after kept
-  RunsChosen (Some path) chosen before outcome mid after kept =
-      RunsLoggedDrive before.folder after.folder path (manner_in chosen) chosen.at (pair_in chosen) before.texts (step_of before.streams outcome mid kept) after.texts
+  abbrev pub RunsChosen : Option (List ℕ) → Chosen → Devices W → Result Answer CommandFault → Streams → Devices W → Option LogEnd → Type 0
+  RunsChosen None chosen before outcome mid after log =
+      RunsCommand chosen.name chosen before.texts before.streams outcome after.texts mid × NoLog before after log
+  RunsChosen (Some path) chosen before outcome mid after log =
+      RunsLoggedDrive before.folder after.folder path (manner_in chosen) chosen.at (pair_in chosen) before.texts (step_of before.streams outcome mid log) after.texts
 
   -- the command is run, and then its answer printed, or its fault told
-  pub record Commands (chosen : Chosen) (before : Devices W) (status : ℕ) (after : Devices W) (kept : Bool) : Type 0 where
+  pub record Commands (chosen : Chosen) (before : Devices W) (status : ℕ) (after : Devices W) (log : Option LogEnd) : Type 0 where
     pub outcome : Result Answer CommandFault
     pub mid : Streams
-    pub runs : RunsChosen (kept_log_in chosen) chosen before outcome mid after kept
+    pub runs : RunsChosen (kept_log_in chosen) chosen before outcome mid after log
     pub input : after.streams.input ≡ mid.input
     pub ends : Ends outcome mid.output after.streams.output before.errors after.errors status
 
   -- help or the version that was asked for is a good answer
-  pub record Helps (text : List ℕ) (before : Devices W) (status : ℕ) (after : Devices W) (kept : Bool) : Type 0 where
+  pub record Helps (text : List ℕ) (before : Devices W) (status : ℕ) (after : Devices W) (log : Option LogEnd) : Type 0 where
     pub help : Answer
     pub text_is : (help.text.items ≡ text) × (help.status ≡ 0)
     pub ends : IsAnswerEnd help before.streams.output after.streams.output before.errors after.errors status
     pub same : (after.texts ≡ before.texts) × (after.streams.input ≡ before.streams.input)
-    pub logs : NoLog before after kept
+    pub logs : NoLog before after log
 
   -- what follows the reading of the words: the command that was chosen, help or the version, or a line on the standard error
-  abbrev pub Follows : Result Chosen WordsFault → Devices W → ℕ → Devices W → Bool → Type 0
-  Follows (Ok chosen) before status after kept = Commands chosen before status after kept
-  Follows (Err (Usage true text)) before status after kept = Helps (string_bytes text) before status after kept
-  Follows (Err (Usage false text)) before status after kept =
-      WasTold (string_bytes text) before.errors after.errors × (status ≡ 2) × (after.texts ≡ before.texts) × (after.streams ≡ before.streams) × NoLog before after kept
-  Follows (Err Memory) before status after kept =
+  abbrev pub Follows : Result Chosen WordsFault → Devices W → ℕ → Devices W → Option LogEnd → Type 0
+  Follows (Ok chosen) before status after log = Commands chosen before status after log
+  Follows (Err (Usage true text)) before status after log = Helps (string_bytes text) before status after log
+  Follows (Err (Usage false text)) before status after log =
+      WasTold (string_bytes text) before.errors after.errors × (status ≡ 2) × (after.texts ≡ before.texts) × (after.streams ≡ before.streams) × NoLog before after log
+  Follows (Err Memory) before status after log =
       Ends (Err Wanting) before.streams.output after.streams.output before.errors after.errors status
-      × (after.texts ≡ before.texts) × (after.streams.input ≡ before.streams.input) × NoLog before after kept
+      × (after.texts ≡ before.texts) × (after.streams.input ≡ before.streams.input) × NoLog before after log
 
-  -- the program: the words are read, and what they ask for is done; and whether a log is held
-  pub record RunsProgram (words : List (List ℕ)) (before : Devices W) (status : ℕ) (after : Devices W) (kept : Bool) : Type 0 where
+  -- the program: the words are read, and what they ask for is done; and what became of the log, if one is held
+  pub record RunsProgram (words : List (List ℕ)) (before : Devices W) (status : ℕ) (after : Devices W) (log : Option LogEnd) : Type 0 where
     pub read : Result Chosen WordsFault
     pub is : AreWordsRead words read
-    pub follows : Follows read before status after kept
+    pub follows : Follows read before status after log
 
 -- what is told of the log that the command keeps, if it keeps one, and of what the output has taken once the events in that are told again
 abbrev pub IsToldOfChosen : {W : Type 0} → (W → List ℕ → Result (List ℕ) CommandFault → W → Type 0) → Chosen → Devices W → List ℕ × List ℕ → Type 0

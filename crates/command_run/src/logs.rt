@@ -1,16 +1,15 @@
 //! The command `drive` with a log of its own.
 
-ghost use Rattle.std.specs.Prelude.{◌≡◌, ◌≤◌, ◌<◌, ◌⊎◌, [], length, is_some, false, Some, Ok, IsOk, IfSome};
+ghost use Rattle.std.specs.Prelude.{◌≡◌, ◌≤◌, ◌⊎◌, [], length, is_some, Some, IfSome};
 ghost use Rattle.shop_base.specs.declared.limits.TheConstants.{MAX_MOMENT};
 ghost use Rattle.text_lines.specs.declared.limits.TheConstants.{MAX_INPUT};
 ghost use Rattle.byte_streams.specs.Lent.{output_of};
-ghost use Rattle.run_journal.specs.LogFiles.{IsSettled};
+ghost use Rattle.cell_drive.specs.TakenUp.{plan_of, told_in};
 ghost use Rattle.run_journal.specs.Logged.{AreBefore};
-ghost use Rattle.run_journal.specs.WholeLines.{whole_lines};
 ghost use Rattle.cell_drive.specs.InManner.{IsDriveIn, IsGoneOnIn};
 ghost use Rattle.command_run.specs.Drives.{IsLineTold, end_of_drive};
 ghost use Rattle.command_run.specs.Resumes.{end_of_rest};
-ghost use Rattle.command_run.specs.Logs.{Begins, BeginsBy, BeginsRun, DrivesByLog, DrivesWithLog, GoesOnWithLog, HasFewLines, IsLoggedAnswer, IsLogUntakenTold, IsToldBehind, IsToldOfLog, IsToldOfNew, IsToldOfOld, IsToldOfPath, KeepsInLog, LacksLog, LacksWriter, TakesUp, TellsAgain, log_command_fault, logged_command_fault, step_of, told_in_manner};
+ghost use Rattle.command_run.specs.Logs.{Begins, BeginsBy, BeginsRun, DrivesByLog, DrivesWithLog, GoesOnWithLog, HasFewLines, IsEmptyLog, IsLogUntakenTold, IsLoggedAnswer, IsReady, IsTakenFromLog, IsToldBehind, IsToldOfLog, IsToldOfNew, IsToldOfOld, IsToldOfPath, LacksLog, LacksWriter, StepsWith, TakesUp, TellsAgain, log_command_fault, logged_command_fault, told_in_manner};
 ghost use Rattle.command_run.specs.Program.{RunsLoggedDrive};
 
 use crate::devices::Streams;
@@ -76,7 +75,7 @@ impl From<LoggedFault> for LogTold {
 pub(crate) struct LoggedRun<R: Source, W: Outlet, D: Drop> {
     pub outcome: Answered,
     pub streams: Streams<R, W>,
-    /// The log, once the cell is driven with it.
+    /// The log, once the cell is driven with it, or if it isn't taken up.
     pub log: Option<D>,
 }
 
@@ -140,13 +139,11 @@ fn drive_with<R: Source, W: Outlet + Drop, D: LogFile + Drop, B: Before>(
     streams: Streams<R, W>,
     before: B,
 ) -> LoggedRun<R, W, D>
-    requires settled { IsSettled (D.seen log) (D.may_leave log) }
-    requires unfailed { D.failed log ≡ false }
+    requires ready { IsReady (D.seen log) (D.may_leave log) (D.failed log) }
     requires before { AreBefore B.before (D.seen log) streams.output.taken }
-    requires whole { IfSome B.before (λ told. whole_lines told.0 ≡ told.0) }
+    requires empty { IfSome B.before (λ told. told.0 ≡ []) }
     requires shown { streams.output.pending ≡ [] }
-    ensures drove { DrivesWithLog (IsDriveIn manner verified) end_of_drive (step_of streams result.outcome result.streams (is_some result.log)) }
-    ensures kept { IfSome result.log (λ log. IfSome B.before (KeepsInLog (D.seen log) (D.may_leave log) result.streams.output.taken (IsOk result.outcome))) }
+    ensures drove { StepsWith D.seen D.may_leave B.before streams result.outcome result.streams result.log (DrivesWithLog verified.planned [] (IsDriveIn manner verified) end_of_drive) }
 {
     let Streams { mut input, output } = streams;
     let LoggedEnd {
@@ -172,14 +169,12 @@ fn go_on_with<R: Source, W: Outlet + Drop, D: LogFile + Drop, B: Before>(
     streams: Streams<R, W>,
     before: B,
 ) -> LoggedRun<R, W, D>
-    requires settled { IsSettled (D.seen log) (D.may_leave log) }
-    requires unfailed { D.failed log ≡ false }
+    requires ready { IsReady (D.seen log) (D.may_leave log) (D.failed log) }
     requires before { AreBefore B.before (D.seen log) streams.output.taken }
-    requires whole { IfSome B.before (λ told. whole_lines told.0 ≡ told.0) }
+    requires taken_up { IfSome B.before (λ told. IsTakenFromLog taken told.0) }
     requires shown { streams.output.pending ≡ [] }
-    ensures went_on { DrivesWithLog (IsGoneOnIn manner taken) end_of_rest (step_of streams result.outcome result.streams (is_some result.log))
-        ⊎ LacksWriter (step_of streams result.outcome result.streams (is_some result.log)) }
-    ensures kept { IfSome result.log (λ log. IfSome B.before (KeepsInLog (D.seen log) (D.may_leave log) result.streams.output.taken (IsOk result.outcome))) }
+    ensures went_on { StepsWith D.seen D.may_leave B.before streams result.outcome result.streams result.log
+        (λ step. DrivesWithLog (plan_of taken) (told_in taken) (IsGoneOnIn manner taken) end_of_rest step ⊎ LacksWriter (plan_of taken) (told_in taken) step) }
 {
     let Streams { mut input, output } = streams;
     let LoggedEnd {
@@ -223,13 +218,11 @@ fn tell_and_go_on<R: Source, W: Outlet + Drop, D: LogFile + Drop, B: Before>(
     streams: Streams<R, W>,
     before: B,
 ) -> LoggedRun<R, W, D>
-    requires settled { IsSettled (D.seen log) (D.may_leave log) }
-    requires unfailed { D.failed log ≡ false }
+    requires ready { IsReady (D.seen log) (D.may_leave log) (D.failed log) }
     requires seen { IfSome B.before (λ told. D.seen log ≡ Some told.0) }
+    requires taken_up { IfSome B.before (λ told. IsTakenFromLog taken told.0) }
     requires output { IfSome B.before (λ told. IsToldBehind streams.output.taken (told_in_manner manner taken) told.1) }
-    requires whole { IfSome B.before (λ told. whole_lines told.0 ≡ told.0) }
-    ensures went_on { GoesOnWithLog manner taken (step_of streams result.outcome result.streams (is_some result.log)) }
-    ensures kept { IfSome result.log (λ log. IfSome B.before (KeepsInLog (D.seen log) (D.may_leave log) result.streams.output.taken (IsOk result.outcome))) }
+    ensures went_on { StepsWith D.seen D.may_leave B.before streams result.outcome result.streams result.log (GoesOnWithLog manner taken) }
 {
     let Streams { input, mut output } = streams;
     match show_again(alloc, &taken, manner, &mut output) {
@@ -254,13 +247,11 @@ fn take_up_with<R: Source, W: Outlet + Drop, D: LogFile + Drop, B: Before>(
     before: B,
 ) -> LoggedRun<R, W, D>
     requires at_most { IfSome at (λ present. present ≤ MAX_MOMENT) }
-    requires settled { IsSettled (D.seen log) (D.may_leave log) }
-    requires unfailed { D.failed log ≡ false }
+    requires ready { IsReady (D.seen log) (D.may_leave log) (D.failed log) }
     requires read { IfSome (D.seen log) (λ file. text.now ≡ file) }
     requires within { length text.now ≤ MAX_INPUT }
     requires told { IfSome B.before (λ told. (D.seen log ≡ Some text.now) × IsToldOfOld shaped manner at text.now streams.output.taken told) }
-    ensures took_up { TakesUp shaped manner at text.now (step_of streams result.outcome result.streams (is_some result.log)) }
-    ensures kept { IfSome result.log (λ log. IfSome B.before (KeepsInLog (D.seen log) (D.may_leave log) result.streams.output.taken (IsOk result.outcome))) }
+    ensures took_up { StepsWith D.seen D.may_leave B.before streams result.outcome result.streams result.log (TakesUp shaped manner at text.now) }
 {
     let mut log = log;
     match take_up_log(alloc, shaped, &mut log, text, at) {
@@ -268,7 +259,7 @@ fn take_up_with<R: Source, W: Outlet + Drop, D: LogFile + Drop, B: Before>(
         Err(fault) => LoggedRun {
             outcome: untaken_log_answer(alloc, fault),
             streams,
-            log: None,
+            log: Some(log),
         },
     }
 }
@@ -285,16 +276,12 @@ fn drive_new<R: Source, W: Outlet + Drop, L: Logs, B: Before>(
     logs: &mut L,
     before: B,
 ) -> LoggedRun<R, W, L::Log>
-    requires empty { IfSome opened (λ log. IfSome (L.Log.seen log) (λ file. file ≡ [])) }
-    requires settled { IfSome opened (λ log. IsSettled (L.Log.seen log) (L.Log.may_leave log)) }
-    requires unfailed { IfSome opened (λ log. L.Log.failed log ≡ false) }
-    requires told_empty { IfSome opened (λ log. IfSome (L.folder logs.old) (λ _. L.Log.seen log ≡ Some [])) }
+    requires empty { IfSome opened (λ log. IsEmptyLog (L.Log.seen log) (L.Log.may_leave log) (L.Log.failed log) (L.folder logs.old)) }
     requires shown { streams.output.pending ≡ [] }
     requires told { IfSome B.before (IsToldOfNew (L.folder logs.old) streams.output.taken) }
-    ensures drove { let step = step_of streams result.outcome result.streams (is_some result.log) in
-        LacksLog (L.folder logs.old) (L.folder logs.new) path.now (is_some opened) step
-        ⊎ BeginsRun (L.folder logs.old) (L.folder logs.new) path.now manner (is_some opened) verified step }
-    ensures kept { IfSome result.log (λ log. IfSome B.before (KeepsInLog (L.Log.seen log) (L.Log.may_leave log) result.streams.output.taken (IsOk result.outcome))) }
+    ensures drove { StepsWith L.Log.seen L.Log.may_leave B.before streams result.outcome result.streams result.log
+        (λ step. LacksLog (L.folder logs.old) (L.folder logs.new) path.now (is_some opened) step
+        ⊎ BeginsRun (L.folder logs.old) (L.folder logs.new) path.now manner (is_some opened) verified step) }
 {
     match new_log(logs, path, opened) {
         Ok(log) => drive_with(alloc, verified, manner, log, streams, before),
@@ -318,15 +305,11 @@ fn begin_by<R: Source, W: Outlet + Drop, L: Logs, B: Before>(
     logs: &mut L,
     before: B,
 ) -> LoggedRun<R, W, L::Log>
-    requires empty { IfSome opened (λ log. IfSome (L.Log.seen log) (λ file. file ≡ [])) }
-    requires settled { IfSome opened (λ log. IsSettled (L.Log.seen log) (L.Log.may_leave log)) }
-    requires unfailed { IfSome opened (λ log. L.Log.failed log ≡ false) }
-    requires told_empty { IfSome opened (λ log. IfSome (L.folder logs.old) (λ _. L.Log.seen log ≡ Some [])) }
+    requires empty { IfSome opened (λ log. IsEmptyLog (L.Log.seen log) (L.Log.may_leave log) (L.Log.failed log) (L.folder logs.old)) }
     requires shown { streams.output.pending ≡ [] }
     requires told { IfSome B.before (IsToldOfNew (L.folder logs.old) streams.output.taken) }
-    ensures began { BeginsBy (L.folder logs.old) (L.folder logs.new) path.now manner (is_some opened) verdict
-        (step_of streams result.outcome result.streams (is_some result.log)) }
-    ensures kept { IfSome result.log (λ log. IfSome B.before (KeepsInLog (L.Log.seen log) (L.Log.may_leave log) result.streams.output.taken (IsOk result.outcome))) }
+    ensures began { StepsWith L.Log.seen L.Log.may_leave B.before streams result.outcome result.streams result.log
+        (BeginsBy (L.folder logs.old) (L.folder logs.new) path.now manner (is_some opened) verdict) }
 {
     match verdict {
         Verdict::Accepted(verified) => {
@@ -354,15 +337,11 @@ fn begin<R: Source, W: Outlet + Drop, L: Logs, B: Before>(
     logs: &mut L,
     before: B,
 ) -> LoggedRun<R, W, L::Log>
-    requires empty { IfSome opened (λ log. IfSome (L.Log.seen log) (λ file. file ≡ [])) }
-    requires settled { IfSome opened (λ log. IsSettled (L.Log.seen log) (L.Log.may_leave log)) }
-    requires unfailed { IfSome opened (λ log. L.Log.failed log ≡ false) }
-    requires told_empty { IfSome opened (λ log. IfSome (L.folder logs.old) (λ _. L.Log.seen log ≡ Some [])) }
+    requires empty { IfSome opened (λ log. IsEmptyLog (L.Log.seen log) (L.Log.may_leave log) (L.Log.failed log) (L.folder logs.old)) }
     requires shown { streams.output.pending ≡ [] }
     requires told { IfSome B.before (IsToldOfNew (L.folder logs.old) streams.output.taken) }
-    ensures began { Begins (L.folder logs.old) (L.folder logs.new) path.now manner shaped (is_some opened)
-        (step_of streams result.outcome result.streams (is_some result.log)) }
-    ensures kept { IfSome result.log (λ log. IfSome B.before (KeepsInLog (L.Log.seen log) (L.Log.may_leave log) result.streams.output.taken (IsOk result.outcome))) }
+    ensures began { StepsWith L.Log.seen L.Log.may_leave B.before streams result.outcome result.streams result.log
+        (Begins (L.folder logs.old) (L.folder logs.new) path.now manner shaped (is_some opened)) }
 {
     match verify(alloc, shaped) {
         Ok(verdict) => begin_by(alloc, verdict, manner, path, opened, streams, logs, before),
@@ -389,9 +368,8 @@ fn drive_by_log<R: Source, W: Outlet + Drop, L: Logs, B: Before>(
     requires at_most { IfSome at (λ present. present ≤ MAX_MOMENT) }
     requires shown { streams.output.pending ≡ [] }
     requires told { IfSome B.before (IsToldOfPath (L.folder logs.old) path.now shaped manner at streams.output.taken) }
-    ensures drove { DrivesByLog (L.folder logs.old) (L.folder logs.new) path.now manner at shaped
-        (step_of streams result.outcome result.streams (is_some result.log)) }
-    ensures kept { IfSome result.log (λ log. IfSome B.before (KeepsInLog (L.Log.seen log) (L.Log.may_leave log) result.streams.output.taken (IsOk result.outcome))) }
+    ensures drove { StepsWith L.Log.seen L.Log.may_leave B.before streams result.outcome result.streams result.log
+        (DrivesByLog (L.folder logs.old) (L.folder logs.new) path.now manner at shaped) }
 {
     match open_log(alloc, logs, path) {
         Ok(None) => begin(alloc, shaped, manner, path, None, streams, logs, before),
@@ -435,9 +413,8 @@ pub(crate) fn logged_answer<T: Texts, R: Source, W: Outlet + Drop, L: Logs, B: B
     requires at_most { IfSome at (λ present. present ≤ MAX_MOMENT) }
     requires shown { streams.output.pending ≡ [] }
     requires told { IfSome B.before (IsToldOfLog T.gives (L.folder logs.old) pair.now path.now manner at texts.old streams.output.taken) }
-    ensures runs { RunsLoggedDrive T.gives (L.folder logs.old) (L.folder logs.new) path.now manner at pair.now texts.old
-        (step_of streams result.outcome result.streams (is_some result.log)) texts.new }
-    ensures kept { IfSome result.log (λ log. IfSome B.before (KeepsInLog (L.Log.seen log) (L.Log.may_leave log) result.streams.output.taken (IsOk result.outcome))) }
+    ensures runs { StepsWith L.Log.seen L.Log.may_leave B.before streams result.outcome result.streams result.log
+        (λ step. RunsLoggedDrive T.gives (L.folder logs.old) (L.folder logs.new) path.now manner at pair.now texts.old step texts.new) }
 {
     match shape_files(alloc, texts, pair) {
         Ok(Ok(shaped)) => drive_by_log(alloc, shaped, manner, at, path, streams, logs, before),

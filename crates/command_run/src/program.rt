@@ -1,8 +1,8 @@
 //! The whole program.
 
-ghost use Rattle.std.specs.Prelude.{◌≡◌, ◌≤◌, [], map, is_some, false, None, Some, Err, IfSome};
+ghost use Rattle.std.specs.Prelude.{◌≡◌, ◌≤◌, [], map, None, Some, Err, IfSome};
 ghost use Rattle.command_words.specs.Choice.{IsWithin};
-ghost use Rattle.command_run.specs.Logs.{KeepsInLog};
+ghost use Rattle.command_run.specs.Logs.{WithLog};
 ghost use Rattle.command_run.specs.Program.{Commands, Follows, IsToldOfChosen, IsToldOfWords, RunsProgram, kept_log_in};
 
 use crate::command::{command, kept_log, manner, pair};
@@ -27,10 +27,10 @@ pub fn run<T: Texts, R: Source, W: Outlet + Drop, E: Sink, S: Screen, L: Logs, B
 ) -> (u8, Devices<T, R, W, E, S, L>, Option<L::Log>)
     requires shown { devices.streams.output.pending ≡ [] }
     requires told { IfSome B.before (IsToldOfWords T.gives (map (λ word. word.now) words.now) devices) }
-    ensures runs { RunsProgram T.gives (map (λ word. word.now) words.now) devices result.0 result.1 (is_some result.2) }
 
     // What a crash leaves of the log has all that was shown. Where the status is 0 or 1, the log has it on the disk.
-    ensures log { IfSome result.2 (λ log. IfSome B.before (KeepsInLog (L.Log.seen log) (L.Log.may_leave log) result.1.streams.output.taken (result.0 ≤ 1))) }
+    ensures runs { WithLog L.Log.seen L.Log.may_leave B.before result.1.streams.output.taken (result.0 ≤ 1) result.2
+        (RunsProgram T.gives (map (λ word. word.now) words.now) devices result.0 result.1) }
 {
     let mut devices = devices;
     match read_words(alloc, words) {
@@ -52,8 +52,8 @@ fn follow<T: Texts, R: Source, W: Outlet + Drop, E: Sink, S: Screen, L: Logs, B:
     requires within { IsWithin chosen.now }
     requires shown { devices.streams.output.pending ≡ [] }
     requires told { IfSome B.before (IsToldOfChosen T.gives chosen.now devices) }
-    ensures runs { Commands T.gives chosen.now devices result.0 result.1 (is_some result.2) }
-    ensures log { IfSome result.2 (λ log. IfSome B.before (KeepsInLog (L.Log.seen log) (L.Log.may_leave log) result.1.streams.output.taken (result.0 ≤ 1))) }
+    ensures runs { WithLog L.Log.seen L.Log.may_leave B.before result.1.streams.output.taken (result.0 ≤ 1) result.2
+        (Commands T.gives chosen.now devices result.0 result.1) }
 {
     match kept_log(chosen) {
         Some(path) => drive_logged(alloc, chosen, path, devices, before),
@@ -77,8 +77,8 @@ fn drive_logged<T: Texts, R: Source, W: Outlet + Drop, E: Sink, S, L: Logs, B: B
     requires kept { kept_log_in chosen.now ≡ Some path.now }
     requires shown { devices.streams.output.pending ≡ [] }
     requires told { IfSome B.before (IsToldOfChosen T.gives chosen.now devices) }
-    ensures runs { Commands T.gives chosen.now devices result.0 result.1 (is_some result.2) }
-    ensures log { IfSome result.2 (λ log. IfSome B.before (KeepsInLog (L.Log.seen log) (L.Log.may_leave log) result.1.streams.output.taken (result.0 ≤ 1))) }
+    ensures runs { WithLog L.Log.seen L.Log.may_leave B.before result.1.streams.output.taken (result.0 ≤ 1) result.2
+        (Commands T.gives chosen.now devices result.0 result.1) }
 {
     let Devices {
         mut texts,
@@ -115,7 +115,7 @@ fn unlogged<T: Texts, R: Source, W: Outlet, E: Sink, S: Screen, L: Logs>(
     requires within { IsWithin chosen.now }
     requires unlogged { kept_log_in chosen.now ≡ None }
     requires shown { devices.old.streams.output.pending ≡ [] }
-    ensures { Commands T.gives chosen.now devices.old result devices.new false }
+    ensures { Commands T.gives chosen.now devices.old result devices.new None }
 {
     let Devices {
         texts,
@@ -134,7 +134,7 @@ fn unchosen<T: Texts, R: Source, W: Outlet, E: Sink, S, L: Logs>(
     fault: WordsFault,
     devices: &mut Devices<T, R, W, E, S, L>,
 ) -> u8
-    ensures { Follows T.gives (Err fault) devices.old result devices.new false }
+    ensures { Follows T.gives (Err fault) devices.old result devices.new None }
 {
     let Devices {
         texts: _,

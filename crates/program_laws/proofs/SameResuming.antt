@@ -200,13 +200,13 @@ module _ (content : List ℕ → Result (List ℕ) CommandFault) (words : List (
         absurd (not_wanting (subst (λ (f : ResumeFault). IsUntakenTold f outcome) (is.can can) on.0))
 
   follows_resumed : (pair : PairOfFiles) (log text : List ℕ) (read : Result Chosen WordsFault) → AskForResume words pair log → TellPlan content pair p → IsWellShaped p → content log ≡ Ok text
-      → CanBeTakenUp p (ended_lines text) (moment_given words) → AreWordsRead words read → Follows (Shelf content) read well.before status well.after well.kept
+      → CanBeTakenUp p (ended_lines text) (moment_given words) → AreWordsRead words read → Follows (Shelf content) read well.before status well.after well.log
       → Resumed p (manner_of words) (ended_lines text) (moment_given words) input status written
   follows_resumed pair log text (Ok chosen) ask good shaped came can are follows =
       let name : chosen.name ≡ Resume = is_resume chosen.name (are.chosen.name ∙ ask.resume) in
       let no_log : kept_log_in chosen ≡ None = ap (λ (n : CommandName). log_kept_by (keeps_log n) (option_map string_bytes chosen.log)) name in
       let unlogged : RunsCommand (Shelf content) chosen.name chosen well.before.texts well.before.streams follows.outcome well.after.texts follows.mid =
-      (subst (λ (l : Option (List ℕ)). RunsChosen (Shelf content) l chosen well.before follows.outcome follows.mid well.after well.kept) no_log follows.runs).0 in
+      (subst (λ (l : Option (List ℕ)). RunsChosen (Shelf content) l chosen well.before follows.outcome follows.mid well.after well.log) no_log follows.runs).0 in
       let runs : RunsResume (Shelf content) (manner_in chosen) chosen.at (pair_in chosen) (file_at chosen 2) well.before.texts well.before.streams follows.outcome well.after.texts follows.mid =
       subst (λ n. RunsCommand (Shelf content) n chosen well.before.texts well.before.streams follows.outcome well.after.texts follows.mid) name unlogged in
       let resume : RunsResume (Shelf content) (manner_of words) (moment_given words) pair log [] well.before.streams follows.outcome well.after.texts follows.mid =

@@ -247,12 +247,12 @@ module _ (content : List ℕ → Result (List ℕ) CommandFault) (words : List (
       absurd (well.no_want (memory_ends outcome mid.output well.after.streams.output well.before.errors well.after.errors status none ends))
 
   pub follows_wrote : (pair : PairOfFiles) (read : Result Chosen WordsFault) → AskForDrive words pair → TellPlan content pair p → IsWellShaped p → IsAcceptable p → AreWordsRead words read
-      → Follows (Shelf content) read well.before status well.after well.kept → Wrote p (manner_of words) input status written
+      → Follows (Shelf content) read well.before status well.after well.log → Wrote p (manner_of words) input status written
   follows_wrote pair (Ok chosen) ask good shaped acceptable are follows =
       let name = is_drive chosen.name (are.chosen.name ∙ ask.drive) in
       let manner = manner_of words in
       let unlogged : RunsCommand (Shelf content) chosen.name chosen well.before.texts well.before.streams follows.outcome well.after.texts follows.mid =
-      (subst (λ (l : Option (List ℕ)). RunsChosen (Shelf content) l chosen well.before follows.outcome follows.mid well.after well.kept) (no_log words pair chosen ask are.chosen) follows.runs).0 in
+      (subst (λ (l : Option (List ℕ)). RunsChosen (Shelf content) l chosen well.before follows.outcome follows.mid well.after well.log) (no_log words pair chosen ask are.chosen) follows.runs).0 in
       let runs : RunsDrive (Shelf content) (manner_in chosen) (pair_in chosen) well.before.texts well.before.streams follows.outcome well.after.texts follows.mid =
       subst (λ n. RunsCommand (Shelf content) n chosen well.before.texts well.before.streams follows.outcome well.after.texts follows.mid) name unlogged in
       let drive : RunsDrive (Shelf content) manner pair [] well.before.streams follows.outcome well.after.texts follows.mid =
