@@ -98,6 +98,7 @@ class Told:
         self.reports = self.taken = 0  # how many were accepted by now, and before what was read last
         self.left_last = {}  # the job that left each machine last
         self.last = 0  # the moment of the last report or order
+        self.sent = 0  # and the latest of what was sent
         self.marked = not resumed  # what comes is new, and no event of the log
         self.ended = False
         self.goes_on = set()  # what cellplan waits for, by the lines of a state
@@ -256,14 +257,19 @@ class Floor:
 
     def reports(self, told, unsure):
         """The lines for what has ended: what is new with the present moment; of what cellplan may lack, and what goes on by the state that it has
-        told, with its own moment, or the last one where that is later."""
+        told, with its own moment. Where a later one was told or sent before, that."""
         ended = list(self.has_ended(told))
         again = sorted((what for what in ended if what in unsure and what in told.state), key=self.moments.get)
         fresh = [what for what in ended if what not in self.moments]
         self.moments.update((what, int(self.now())) for what in fresh)
         told.state = set()
         unsure.difference_update(again)
-        return [" ".join(map(str, [*what, max(self.moments[what], told.last)])) for what in again + fresh]
+        return [self.line(told, what) for what in again + fresh]
+
+    def line(self, told, what):
+        """The line that reports it."""
+        told.sent = max(self.moments[what], told.last, told.sent)
+        return " ".join(map(str, [*what, told.sent]))
 
     def asks(self, told, unsure, answered, late):
         """Whether the state is asked for: where it was told since it was asked for last, and a report was refused, or one was accepted after which
