@@ -1,6 +1,7 @@
 //! An output whose events a log gets, on the disk, before they are shown.
 
-ghost use Rattle.std.specs.Prelude.{◌≡◌, ◌⊎◌, ◌+◌, ◌<◌, ◌≤◌, ◌++◌, [], length, take, vec_capacity, Some, Err, true, false, IfOk, IfErr, IfSome, OnErr, OnOk, IsTrue};
+ghost use Rattle.std.specs.Prelude.{◌≡◌, ◌⊎◌, ◌+◌, ◌<◌, ◌≤◌, ◌++◌, [], length, take, vec_capacity, nat_eq, codes, Some, Err, true, false, IfOk, IfErr, IfSome, OnErr, OnOk, IsTrue};
+ghost use Rattle.std.specs.List.{starts_with};
 ghost use Rattle.std.specs.Io.KnownBytes.{Appends, Keeps, append_known};
 ghost use Rattle.run_journal.specs.LogFiles.{IsSettled, Leaves};
 ghost use Rattle.run_journal.specs.Logged.{HoldsNothing, StayInStep, AreBefore, OnKept, OnLogFault};
@@ -237,6 +238,8 @@ fn is_shown_first(gathered: usize, bytes: &[u8]) -> bool
     requires within { gathered ≤ MAX_PENDING }
     requires some { 0 < length bytes.now }
     ensures room { result ≡ false → gathered < MAX_PENDING }
+    ensures whole { result ≡ false → (gathered + length bytes.now ≤ MAX_PENDING) ⊎ (gathered ≡ 0) }
+    ensures begun { FULL ≤ gathered → starts_with nat_eq bytes.now (codes "report ") ≡ true → IsTrue result }
     ensures fits { IsTrue result → (MAX_PENDING < gathered + length bytes.now) ⊎ (FULL ≤ gathered) }
 {
     if bytes.len() > MAX_PENDING - gathered {
