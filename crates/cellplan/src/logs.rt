@@ -139,6 +139,21 @@ fn locked(file: File) -> Result<SystemLog, FileFault>
     }
 }
 
+/// Puts the names in the folder of the file of this path onto the disk.
+fn sync_folder(rt: &HostRuntime, path: &str) -> Result<(), FileFault> {
+    let folder = match Path::new(path).parent() {
+        Some(folder) => folder.as_str(),
+        None => "/",
+    };
+    // A path with one name has an empty one before that.
+    let folder = if folder.is_empty() { "." } else { folder };
+    let opened = fs::open(rt, folder).map_err(LogFailure::from)?;
+    match opened.sync_all() {
+        Ok(()) => Ok(()),
+        Err(error) => Err(LogFailure::from(error).0),
+    }
+}
+
 impl Logs for SystemLogs<'_> {
     type Log = SystemLog;
 
@@ -176,15 +191,11 @@ impl Logs for SystemLogs<'_> {
     }
 
     fn sync_name(&mut self, path: &str) -> Result<(), FileFault> {
-        let place = fs::canonicalize(self.rt, path).map_err(LogFailure::from)?;
-        let folder = match Path::new(place.as_str()).parent() {
-            Some(folder) => folder.as_str(),
-            None => "/",
-        };
-        let opened = fs::open(self.rt, folder).map_err(LogFailure::from)?;
-        match opened.sync_all() {
-            Ok(()) => Ok(()),
-            Err(error) => Err(LogFailure::from(error).0),
+        let file = fs::symlink_metadata(self.rt, path).map_err(LogFailure::from)?;
+        if !file.is_symlink() {
+            return sync_folder(self.rt, path);
         }
+        let place = fs::canonicalize(self.rt, path).map_err(LogFailure::from)?;
+        sync_folder(self.rt, place.as_str())
     }
 }
