@@ -9,9 +9,11 @@ use run_journal::{LogFile, LogText, Untold};
 use std::alloc::Global;
 use std::test::Fail;
 
-const REFUSED: &[u8] = b"refused 3 BadLine\n";
+/// The answer to a line that is none.
+pub(super) const REFUSED: &[u8] = b"refused 3 BadLine\n";
 
-const DONE: &[u8] = b"done 9\n";
+/// The closing line.
+pub(super) const DONE: &[u8] = b"done 9\n";
 
 /// Their reports with that, of which the second comes too early, and one too late.
 const ASKING: &[u8] =

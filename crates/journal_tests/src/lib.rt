@@ -3,9 +3,11 @@
 
 mod memory_log;
 mod memory_logs;
+mod told;
 
 pub use memory_log::MemoryLog;
 pub use memory_logs::MemoryLogs;
+pub use told::{driven_from_nothing, gone_on_from_nothing};
 
 #[cfg(test)]
 mod crashes;
@@ -15,5 +17,7 @@ mod driven;
 mod folders;
 #[cfg(test)]
 mod taken_up;
+#[cfg(test)]
+mod told_runs;
 #[cfg(test)]
 mod two_jobs;

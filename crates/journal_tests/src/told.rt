@@ -1,0 +1,133 @@
+//! Runs with a log and an output whose bytes are told, so that what is said of these is asked for, and used.
+
+ghost use Rattle.std.specs.Prelude.{◌≡◌, [], Some, true, false, IfOk};
+ghost use Rattle.run_journal.specs.LogFiles.{IsSettled};
+ghost use Rattle.logged_drive.specs.LoggedRuns.{IsAllInLog, KeepsShown};
+ghost use Rattle.journal_tests.specs.Memory.{MayLeave};
+ghost use Rattle.journal_tests.specs.Told.{HasWhatIsShown};
+
+use crate::memory_log::MemoryLog;
+use byte_streams::{FromRead, Gathered, Outlet, Sink};
+use cell_drive::{DriveEnd, Manner, RestEnd, Taken};
+use logged_drive::{LoggedEnd, drive_logged, go_on_logged, take_up_log};
+use plan_verifier::Verified;
+use run_journal::{Before, FileFault, LogFile, read_log};
+use shop_base::Shaped;
+use std::alloc::Global;
+
+/// Neither the log nor the output had a whole line.
+#[derive(Drop)]
+struct NothingYet;
+
+impl Before for NothingYet {
+    ghost use Rattle.std.specs.Prelude.{[], Some};
+
+    ghost before = { Some ([], []) };
+}
+
+/// Drives a cell by these lines, with a log and an output that have no bytes.
+fn drive_from_nothing(
+    alloc: Global,
+    verified: Verified,
+    manner: Manner,
+    lines: &[u8],
+    log: MemoryLog,
+    output: Gathered<Vec<u8>>,
+) -> LoggedEnd<DriveEnd, Gathered<Vec<u8>>, MemoryLog>
+    requires log { (log.seen ≡ []) × (log.synced ≡ true) × (log.failed ≡ false) }
+    requires output { ⟦<Gathered<Vec<u8>> as Sink>⟧.taken output ≡ Some [] }
+    requires shown { ⟦<Gathered<Vec<u8>> as Outlet>⟧.pending output ≡ [] }
+    ensures crash { KeepsShown [] [] (MayLeave result.log) (⟦<Gathered<Vec<u8>> as Sink>⟧.taken result.output) }
+    ensures in_log { IfOk result.end (λ _. IsAllInLog [] [] (Some result.log.seen) (MayLeave result.log) (⟦<Gathered<Vec<u8>> as Sink>⟧.taken result.output)) }
+{
+    let mut reader = FromRead::new(lines);
+    drive_logged(
+        alloc,
+        verified,
+        manner,
+        &mut reader,
+        log,
+        output,
+        NothingYet,
+    )
+}
+
+/// Goes on with a run that was taken up from a log without a whole line, with an output that has no bytes.
+fn go_on_from_nothing(
+    alloc: Global,
+    taken: Taken,
+    manner: Manner,
+    lines: &[u8],
+    log: MemoryLog,
+    output: Gathered<Vec<u8>>,
+) -> LoggedEnd<RestEnd, Gathered<Vec<u8>>, MemoryLog>
+    requires log { (log.seen ≡ []) × IsSettled (Some log.seen) (MayLeave log) × (log.failed ≡ false) }
+    requires output { ⟦<Gathered<Vec<u8>> as Sink>⟧.taken output ≡ Some [] }
+    requires shown { ⟦<Gathered<Vec<u8>> as Outlet>⟧.pending output ≡ [] }
+    ensures crash { KeepsShown [] [] (MayLeave result.log) (⟦<Gathered<Vec<u8>> as Sink>⟧.taken result.output) }
+    ensures in_log { IfOk result.end (λ _. IsAllInLog [] [] (Some result.log.seen) (MayLeave result.log) (⟦<Gathered<Vec<u8>> as Sink>⟧.taken result.output)) }
+{
+    let mut reader = FromRead::new(lines);
+    go_on_logged(alloc, taken, manner, &mut reader, log, output, NothingYet)
+}
+
+/// What the log and the output have, once all is shown.
+fn both_at_end(
+    alloc: Global,
+    log: MemoryLog,
+    output: Gathered<Vec<u8>>,
+) -> Result<(Vec<u8>, Vec<u8>), FileFault>
+    requires { IsAllInLog [] [] (Some log.seen) (MayLeave log) (⟦<Gathered<Vec<u8>> as Sink>⟧.taken output) }
+    ensures { IfOk result (λ both. HasWhatIsShown [] [] both.0.items both.1.items) }
+{
+    let (mut log, mut output) = (log, output);
+    if output.show().is_err() {
+        return Err(FileFault::Log);
+    }
+    let bytes = log.read(alloc, 1000)?;
+    Ok((bytes, output.into_inner()))
+}
+
+/// What the log and the output have after a run of these lines from its start.
+pub fn driven_from_nothing(
+    alloc: Global,
+    verified: Verified,
+    manner: Manner,
+    lines: &[u8],
+) -> Result<(Vec<u8>, Vec<u8>), FileFault>
+    ensures { IfOk result (λ both. HasWhatIsShown [] [] both.0.items both.1.items) }
+{
+    let log = MemoryLog::new(Vec::new(alloc), 1000, 0);
+    let Ok(output) = Gathered::new(alloc, 16, Vec::new(alloc)) else {
+        return Err(FileFault::Memory);
+    };
+    let run = drive_from_nothing(alloc, verified, manner, lines, log, output);
+    match run.end {
+        Ok(_) => both_at_end(alloc, run.log, run.output),
+        Err(_) => Err(FileFault::Log),
+    }
+}
+
+/// What they have after a run of these lines that is taken up from a log without bytes.
+pub fn gone_on_from_nothing(
+    alloc: Global,
+    shaped: Shaped,
+    manner: Manner,
+    lines: &[u8],
+) -> Result<(Vec<u8>, Vec<u8>), FileFault>
+    ensures { IfOk result (λ both. HasWhatIsShown [] [] both.0.items both.1.items) }
+{
+    let mut log = MemoryLog::new(Vec::new(alloc), 1000, 0);
+    let text = read_log(alloc, &mut log)?;
+    let Ok(taken) = take_up_log(alloc, shaped, &mut log, &text, None) else {
+        return Err(FileFault::Log);
+    };
+    let Ok(output) = Gathered::new(alloc, 16, Vec::new(alloc)) else {
+        return Err(FileFault::Memory);
+    };
+    let run = go_on_from_nothing(alloc, taken, manner, lines, log, output);
+    match run.end {
+        Ok(_) => both_at_end(alloc, run.log, run.output),
+        Err(_) => Err(FileFault::Log),
+    }
+}
