@@ -2,9 +2,9 @@
 use Rattle.std.proofs.Common.{ℕ, ◌+◌, ◌-◌, ◌<◌, ◌≤◌, length, refl, ap, sym, ◌∙◌, subst, arith, length-append}
 use Rattle.shop_base.specs.Plan.{PlannedShop, jobs, order, clean, IsWellShaped}
 use Rattle.shop_base.specs.Cell.{Cell, entries}
-use Rattle.shop_base.specs.Activity.{Cleaning}
 use Rattle.shop_base.specs.Report.{CanReport}
 use Rattle.shop_base.specs.Sound.{IsSound}
+use Rattle.shop_base.specs.declared.report.Report.TheVariants.{Clean}
 use Rattle.shop_base.proofs.Sizes.{place_job}
 use Rattle.shop_base.proofs.InShop.{cleaned_in_shop}
 use Rattle.cell_tables.specs.Readings.{IsCleanedAfter}
@@ -17,7 +17,7 @@ pub entered_few : (p : PlannedShop) (c : Cell) (m : ℕ) → IsSound p c → len
 entered_few p c m sound = let (rest, is) = sound.in_order m in omega (arith, ap length is, length-append (entries c m) rest)
 
 -- what is possible of a cleaning after a job is possible of the cleaning
-pub can_clean : (p : PlannedShop) (c : Cell) (m j t : ℕ) → CanCleanAfter p c m j t → CanReport p c (record { ended = Cleaning m; at = t })
+pub can_clean : (p : PlannedShop) (c : Cell) (m j t : ℕ) → CanCleanAfter p c m j t → CanReport p c (Clean m t)
 can_clean p c m j t can = record {
   going = (can.after.from + clean p m, (can.after.from, record { is_cleaned = can.after.is_cleaned; is_due = refl }));
   moment = can.moment;

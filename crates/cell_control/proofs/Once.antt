@@ -5,7 +5,7 @@ use Rattle.shop_base.specs.declared.job_state.JobState.{JobState}
 use Rattle.shop_base.specs.Plan.{PlannedShop, job_at, Visits, IsWellShaped}
 use Rattle.shop_base.specs.Cell.{Cell, made, entries, cleaning, start, IsFree}
 use Rattle.shop_base.specs.Activity.{Cleaning}
-use Rattle.shop_base.specs.Report.{Report, CanReport, after_report}
+use Rattle.shop_base.specs.Report.{Report, ended, at, CanReport, after_end, after_report}
 use Rattle.shop_base.specs.Move.{after_move}
 use Rattle.shop_base.specs.Run.{Event, Reported, Moved, CanHappen, AreEvents, after, after_all, ends_in}
 use Rattle.shop_base.specs.Sound.{IsSound}
@@ -86,7 +86,7 @@ not_again p c m n j shaped sound (inr more) some was again =
     omega (arith, same, more, some)
 
 cleaned_once : (p : PlannedShop) (c : Cell) (r : Report) (fs : List Event) (m j : ℕ) → IsWellShaped p → IsSound p c → CanReport p c r → AreEvents p (after_report c r) fs
-    → r.ended ≡ Cleaning m → IsCleanedAfter p c m j → IsCleanedAfter p (after_all p (after_report c r) fs) m j → ⊥
+    → ended r ≡ Cleaning m → IsCleanedAfter p c m j → IsCleanedAfter p (after_all p (after_report c r) fs) m j → ⊥
 cleaned_once p c r fs m j shaped sound can events is was again =
     not_again p (after_all p (after_report c r) fs) m n j shaped (after_all-sound p (after_report c r) fs shaped new_sound events)
     (past_events p shaped m n (after_report c r) fs new_sound events (inl vacant)) some was.last_in again
@@ -103,8 +103,8 @@ cleaned_once p c r fs m j shaped sound can events is was again =
     like : IsLike p c (after_report c r)
     like = after_report-like p c r sound can
 
-    tidied : IsTidied c m r.at (after_report c r)
-    tidied = subst (λ a. IsTidied c m r.at (after_report c (record { ended = a; at = r.at }))) (sym is) (with_clean-tidied c m was.from r.at was.is_cleaned)
+    tidied : IsTidied c m (at r) (after_report c r)
+    tidied = subst (λ a. IsTidied c m (at r) (after_end c a (at r))) (sym is) (with_clean-tidied c m was.from (at r) was.is_cleaned)
 
     vacant : IsVacant p shaped m n (after_report c r)
     vacant = record {

@@ -5,7 +5,7 @@ use Rattle.shop_base.specs.declared.limits.TheConstants.{MAX_MOMENT}
 use Rattle.shop_base.specs.Plan.{PlannedShop, machine_of}
 use Rattle.shop_base.specs.Cell.{Cell, made}
 use Rattle.shop_base.specs.Activity.{Activity, Arrival, Operation, Cleaning}
-use Rattle.shop_base.specs.Report.{Report}
+use Rattle.shop_base.specs.Report.{Report, ended, at}
 use Rattle.cell_control.specs.declared.report_fault.ReportFault.{ReportFault}
 use Rattle.cell_control.specs.declared.report_fault.ReportFault.TheVariants.{JobOutOfRange, MachineOutOfRange, MomentTooLarge, Backwards, NotExpected, WrongKind, WrongMachine}
 use Rattle.cell_control.specs.Reports.{IsOfShop, IsOfNoJob, IsOfNoMachine, IsUnexpected, IsOtherKind, IsElsewhere, IsFirstReason, IsOnlyReason}
@@ -77,7 +77,7 @@ module _ (p : PlannedShop) (c : Cell) where
 
   -- of two reasons the one at the earlier place isn't the first
   module _ (r : Report) where
-    of_shop : (g : ReportFault) → 1 < place_of g → IsFirstReason p c r g → IsOfShop p r.ended
+    of_shop : (g : ReportFault) → 1 < place_of g → IsFirstReason p c r g → IsOfShop p (ended r)
     of_shop JobOutOfRange later reason = absurd (omega (arith, later))
     of_shop MachineOutOfRange later reason = absurd (omega (arith, later))
     of_shop MomentTooLarge later reason = reason.0
@@ -86,7 +86,7 @@ module _ (p : PlannedShop) (c : Cell) where
     of_shop WrongKind later reason = reason.0.of_shop
     of_shop (WrongMachine actual) later reason = reason.0.of_shop
 
-    in_range : (g : ReportFault) → 2 < place_of g → IsFirstReason p c r g → r.at ≤ MAX_MOMENT
+    in_range : (g : ReportFault) → 2 < place_of g → IsFirstReason p c r g → at r ≤ MAX_MOMENT
     in_range JobOutOfRange later reason = absurd (omega (arith, later))
     in_range MachineOutOfRange later reason = absurd (omega (arith, later))
     in_range MomentTooLarge later reason = absurd (omega (arith, later))
@@ -95,7 +95,7 @@ module _ (p : PlannedShop) (c : Cell) where
     in_range WrongKind later reason = reason.0.moment.in_range
     in_range (WrongMachine actual) later reason = reason.0.moment.in_range
 
-    in_order : (g : ReportFault) → 3 < place_of g → IsFirstReason p c r g → c.last ≤ r.at
+    in_order : (g : ReportFault) → 3 < place_of g → IsFirstReason p c r g → c.last ≤ at r
     in_order JobOutOfRange later reason = absurd (omega (arith, later))
     in_order MachineOutOfRange later reason = absurd (omega (arith, later))
     in_order MomentTooLarge later reason = absurd (omega (arith, later))
@@ -104,32 +104,32 @@ module _ (p : PlannedShop) (c : Cell) where
     in_order WrongKind later reason = reason.0.moment.in_order
     in_order (WrongMachine actual) later reason = reason.0.moment.in_order
 
-    no_job : (g : ReportFault) → IsOfNoJob p r.ended → 0 < place_of g → IsFirstReason p c r g → ⊥
+    no_job : (g : ReportFault) → IsOfNoJob p (ended r) → 0 < place_of g → IsFirstReason p c r g → ⊥
     no_job JobOutOfRange none later reason = absurd (omega (arith, later))
-    no_job MachineOutOfRange none later reason = job_or_machine r.ended none reason
-    no_job MomentTooLarge none later reason = not_of_shop r.ended none reason.0
-    no_job (Backwards last) none later reason = not_of_shop r.ended none reason.0
-    no_job NotExpected none later reason = not_of_shop r.ended none reason.0.of_shop
-    no_job WrongKind none later reason = not_of_shop r.ended none reason.0.of_shop
-    no_job (WrongMachine actual) none later reason = not_of_shop r.ended none reason.0.of_shop
+    no_job MachineOutOfRange none later reason = job_or_machine (ended r) none reason
+    no_job MomentTooLarge none later reason = not_of_shop (ended r) none reason.0
+    no_job (Backwards last) none later reason = not_of_shop (ended r) none reason.0
+    no_job NotExpected none later reason = not_of_shop (ended r) none reason.0.of_shop
+    no_job WrongKind none later reason = not_of_shop (ended r) none reason.0.of_shop
+    no_job (WrongMachine actual) none later reason = not_of_shop (ended r) none reason.0.of_shop
 
-    unexpected : (g : ReportFault) → IsUnexpected p c r.ended → 4 < place_of g → IsFirstReason p c r g → ⊥
+    unexpected : (g : ReportFault) → IsUnexpected p c (ended r) → 4 < place_of g → IsFirstReason p c r g → ⊥
     unexpected JobOutOfRange idle later reason = absurd (omega (arith, later))
     unexpected MachineOutOfRange idle later reason = absurd (omega (arith, later))
     unexpected MomentTooLarge idle later reason = absurd (omega (arith, later))
     unexpected (Backwards last) idle later reason = absurd (omega (arith, later))
     unexpected NotExpected idle later reason = absurd (omega (arith, later))
-    unexpected WrongKind idle later reason = other_kind-expected r.ended idle reason.1
-    unexpected (WrongMachine actual) idle later reason = unexpected_elsewhere r.ended actual idle reason.1
+    unexpected WrongKind idle later reason = other_kind-expected (ended r) idle reason.1
+    unexpected (WrongMachine actual) idle later reason = unexpected_elsewhere (ended r) actual idle reason.1
 
-    wrong_kind : (g : ReportFault) → IsOtherKind p c r.ended → 5 < place_of g → IsFirstReason p c r g → ⊥
+    wrong_kind : (g : ReportFault) → IsOtherKind p c (ended r) → 5 < place_of g → IsFirstReason p c r g → ⊥
     wrong_kind JobOutOfRange kind later reason = absurd (omega (arith, later))
     wrong_kind MachineOutOfRange kind later reason = absurd (omega (arith, later))
     wrong_kind MomentTooLarge kind later reason = absurd (omega (arith, later))
     wrong_kind (Backwards last) kind later reason = absurd (omega (arith, later))
     wrong_kind NotExpected kind later reason = absurd (omega (arith, later))
     wrong_kind WrongKind kind later reason = absurd (omega (arith, later))
-    wrong_kind (WrongMachine actual) kind later reason = other_kind_elsewhere r.ended actual kind reason.1
+    wrong_kind (WrongMachine actual) kind later reason = other_kind_elsewhere (ended r) actual kind reason.1
 
     last_place : (g : ReportFault) → 6 < place_of g → ⊥
     last_place JobOutOfRange later = absurd (omega (arith, later))
@@ -142,7 +142,7 @@ module _ (p : PlannedShop) (c : Cell) where
 
     not_earlier : (f g : ReportFault) → place_of f < place_of g → IsFirstReason p c r f → IsFirstReason p c r g → ⊥
     not_earlier JobOutOfRange g later first reason = no_job g first later reason
-    not_earlier MachineOutOfRange g later first reason = no_machine_of_shop r.ended first (of_shop g later reason)
+    not_earlier MachineOutOfRange g later first reason = no_machine_of_shop (ended r) first (of_shop g later reason)
     not_earlier MomentTooLarge g later first reason = absurd (omega (arith, first.1, in_range g later reason))
     not_earlier (Backwards last) g later first reason = absurd (omega (arith, first.2, in_order g later reason))
     not_earlier NotExpected g later first reason = unexpected g first.1 later reason
@@ -153,7 +153,7 @@ module _ (p : PlannedShop) (c : Cell) where
     abbrev reason_at : ℕ → ReportFault
     reason_at place =
         cond (eqb place 0) JobOutOfRange (cond (eqb place 1) MachineOutOfRange (cond (eqb place 2) MomentTooLarge
-        (cond (eqb place 3) (Backwards c.last) (cond (eqb place 4) NotExpected (cond (eqb place 5) WrongKind (WrongMachine (machine_under r.ended)))))))
+        (cond (eqb place 3) (Backwards c.last) (cond (eqb place 4) NotExpected (cond (eqb place 5) WrongKind (WrongMachine (machine_under (ended r))))))))
 
     at_its_place : (f : ReportFault) → IsFirstReason p c r f → f ≡ reason_at (place_of f)
     at_its_place JobOutOfRange first = refl
@@ -162,7 +162,7 @@ module _ (p : PlannedShop) (c : Cell) where
     at_its_place (Backwards last) first = ap Backwards first.3
     at_its_place NotExpected first = refl
     at_its_place WrongKind first = refl
-    at_its_place (WrongMachine actual) first = ap WrongMachine (elsewhere_under r.ended actual first.1)
+    at_its_place (WrongMachine actual) first = ap WrongMachine (elsewhere_under (ended r) actual first.1)
 
 -- so a first reason against a report is the only one
 pub only_reason : (p : PlannedShop) (c : Cell) (r : Report) (f : ReportFault) → IsFirstReason p c r f → IsOnlyReason p c r f

@@ -3,7 +3,7 @@ use Rattle.std.specs.Prelude.{◌≡◌, ℕ, List, ◌∷◌, ◌++◌}
 use Rattle.shop_base.specs.Plan.{PlannedShop, IsWellShaped}
 use Rattle.shop_base.specs.Cell.{Cell}
 use Rattle.shop_base.specs.Activity.{Arrival, Operation, Cleaning}
-use Rattle.shop_base.specs.Report.{Report, CanReport}
+use Rattle.shop_base.specs.Report.{Report, ended, CanReport}
 use Rattle.shop_base.specs.Run.{Event, Reported, IsRun, ends_in}
 use Rattle.cell_tables.specs.Readings.{IsCleanedAfter}
 
@@ -15,9 +15,9 @@ pub data NamedEnd : Type 0 where
 
 -- in this cell the report tells that end
 abbrev pub Tells : PlannedShop → Cell → Report → NamedEnd → Type 0
-Tells p c r (Arrived j) = r.ended ≡ Arrival j
-Tells p c r (Finished j m) = r.ended ≡ Operation j m
-Tells p c r (Cleaned m j) = (r.ended ≡ Cleaning m) × IsCleanedAfter p c m j
+Tells p c r (Arrived j) = ended r ≡ Arrival j
+Tells p c r (Finished j m) = ended r ≡ Operation j m
+Tells p c r (Cleaned m j) = (ended r ≡ Cleaning m) × IsCleanedAfter p c m j
 
 -- in any run, once an end that names its job was reported, no report that tells it is possible again, at whatever moment
 abbrev pub NoNamedEndIsAcceptedTwice : Type 0

@@ -4,8 +4,7 @@ use Rattle.shop_base.specs.declared.limits.TheConstants.{MAX_MOMENT}
 use Rattle.shop_base.specs.Plan.{PlannedShop, jobs, machines}
 use Rattle.shop_base.specs.Cell.{Cell, ready, cleaning, IsOutside, IsOn, IsGone}
 use Rattle.shop_base.specs.Activity.{Activity, Arrival, Operation, Cleaning}
-use Rattle.shop_base.specs.Report as base
-use Rattle.shop_base.specs.Report.{IsNextMoment}
+use Rattle.shop_base.specs.Report.{Report, ended, at, IsNextMoment}
 use Rattle.cell_tables.specs.Readings.{IsCleanedAfter}
 use Rattle.cell_control.specs.declared.report_fault.ReportFault.{ReportFault}
 use Rattle.cell_control.specs.declared.report_fault.ReportFault.TheVariants.{JobOutOfRange, MachineOutOfRange, MomentTooLarge, Backwards, NotExpected, WrongKind, WrongMachine}
@@ -23,9 +22,9 @@ IsUnexpected p c (Operation j m) = (ready c j ≡ true) ⊎ IsGone p c j
 IsUnexpected p c (Cleaning m) = cleaning c m ≡ None
 
 -- a report that is of the shop, and at a moment that can be the next
-pub record IsInTurn (p : PlannedShop) (c : Cell) (r : base.Report) : Type 0 where
-  pub of_shop : IsOfShop p r.ended
-  pub moment : IsNextMoment c r.at
+pub record IsInTurn (p : PlannedShop) (c : Cell) (r : Report) : Type 0 where
+  pub of_shop : IsOfShop p (ended r)
+  pub moment : IsNextMoment c (at r)
 
 -- job j has an activity: it is neither ready nor gone
 pub record IsBusy (p : PlannedShop) (c : Cell) (j : ℕ) : Type 0 where
@@ -57,17 +56,17 @@ IsOfNoMachine p (Operation j m) = ⊥
 IsOfNoMachine p (Cleaning m) = machines p ≤ m
 
 -- this is the first reason for which a report isn't possible
-abbrev pub IsFirstReason : PlannedShop → Cell → base.Report → ReportFault → Type 0
-IsFirstReason p c r JobOutOfRange = IsOfNoJob p r.ended
-IsFirstReason p c r MachineOutOfRange = IsOfNoMachine p r.ended
-IsFirstReason p c r MomentTooLarge = IsOfShop p r.ended × (MAX_MOMENT < r.at)
-IsFirstReason p c r (Backwards last) = IsOfShop p r.ended × (r.at ≤ MAX_MOMENT) × (r.at < c.last) × (last ≡ c.last)
-IsFirstReason p c r NotExpected = IsInTurn p c r × IsUnexpected p c r.ended
-IsFirstReason p c r WrongKind = IsInTurn p c r × IsOtherKind p c r.ended
-IsFirstReason p c r (WrongMachine actual) = IsInTurn p c r × IsElsewhere p c r.ended actual
+abbrev pub IsFirstReason : PlannedShop → Cell → Report → ReportFault → Type 0
+IsFirstReason p c r JobOutOfRange = IsOfNoJob p (ended r)
+IsFirstReason p c r MachineOutOfRange = IsOfNoMachine p (ended r)
+IsFirstReason p c r MomentTooLarge = IsOfShop p (ended r) × (MAX_MOMENT < at r)
+IsFirstReason p c r (Backwards last) = IsOfShop p (ended r) × (at r ≤ MAX_MOMENT) × (at r < c.last) × (last ≡ c.last)
+IsFirstReason p c r NotExpected = IsInTurn p c r × IsUnexpected p c (ended r)
+IsFirstReason p c r WrongKind = IsInTurn p c r × IsOtherKind p c (ended r)
+IsFirstReason p c r (WrongMachine actual) = IsInTurn p c r × IsElsewhere p c (ended r) actual
 
 -- no fault but this one is a first reason against the report, its fields included
-abbrev pub IsOnlyReason : PlannedShop → Cell → base.Report → ReportFault → Type 0
+abbrev pub IsOnlyReason : PlannedShop → Cell → Report → ReportFault → Type 0
 IsOnlyReason p c r fault = (other : ReportFault) → IsFirstReason p c r other → other ≡ fault
 
 -- the report that machine m was cleaned after job j, at moment t, is possible

@@ -2,7 +2,6 @@
 
 ghost use Rattle.std.specs.Prelude.{OnOk, IfErr};
 ghost use Rattle.shop_base.specs.Report.{CanReport, IsNextMoment};
-ghost use Rattle.cell_tables.specs.Reports.{said};
 ghost use Rattle.cell_control.specs.Reports.{IsFirstReason, IsFirstCleanReason, CanCleanAfter, IsMomentReason, IsJobReason, IsBusyInTurn};
 
 use crate::report_fault::ReportFault;
@@ -12,8 +11,8 @@ use shop_base::{JobNo, MachineNo, Moment, Planned};
 
 /// Checks that the report is possible.
 pub fn check_report<P: Planned>(cell: &WorkCell<P>, report: Report) -> Result<(), ReportFault>
-    ensures possible { OnOk result (CanReport cell.now.plan cell.now.cell (said report)) }
-    ensures first { IfErr result (IsFirstReason cell.now.plan cell.now.cell (said report)) }
+    ensures possible { OnOk result (CanReport cell.now.plan cell.now.cell report) }
+    ensures first { IfErr result (IsFirstReason cell.now.plan cell.now.cell report) }
 {
     match report {
         Report::Arrive { job, at } => check_arrival(cell, job, at),
@@ -23,8 +22,8 @@ pub fn check_report<P: Planned>(cell: &WorkCell<P>, report: Report) -> Result<()
 }
 
 fn check_arrival<P: Planned>(cell: &WorkCell<P>, job: JobNo, at: Moment) -> Result<(), ReportFault>
-    ensures possible { OnOk result (CanReport cell.now.plan cell.now.cell (said (Report.Arrive job at))) }
-    ensures first { IfErr result (IsFirstReason cell.now.plan cell.now.cell (said (Report.Arrive job at))) }
+    ensures possible { OnOk result (CanReport cell.now.plan cell.now.cell (Report.Arrive job at)) }
+    ensures first { IfErr result (IsFirstReason cell.now.plan cell.now.cell (Report.Arrive job at)) }
 {
     check_job(cell, job, at)?;
     match cell.machine_of(job) {
@@ -39,8 +38,8 @@ fn check_finish<P: Planned>(
     machine: MachineNo,
     at: Moment,
 ) -> Result<(), ReportFault>
-    ensures possible { OnOk result (CanReport cell.now.plan cell.now.cell (said (Report.Finish job machine at))) }
-    ensures first { IfErr result (IsFirstReason cell.now.plan cell.now.cell (said (Report.Finish job machine at))) }
+    ensures possible { OnOk result (CanReport cell.now.plan cell.now.cell (Report.Finish job machine at)) }
+    ensures first { IfErr result (IsFirstReason cell.now.plan cell.now.cell (Report.Finish job machine at)) }
 {
     check_job(cell, job, at)?;
     let Some(actual) = cell.machine_of(job) else {
@@ -57,8 +56,8 @@ fn check_cleaning<P: Planned>(
     machine: MachineNo,
     at: Moment,
 ) -> Result<(), ReportFault>
-    ensures possible { OnOk result (CanReport cell.now.plan cell.now.cell (said (Report.Clean machine at))) }
-    ensures first { IfErr result (IsFirstReason cell.now.plan cell.now.cell (said (Report.Clean machine at))) }
+    ensures possible { OnOk result (CanReport cell.now.plan cell.now.cell (Report.Clean machine at)) }
+    ensures first { IfErr result (IsFirstReason cell.now.plan cell.now.cell (Report.Clean machine at)) }
 {
     if machine >= cell.machine_count() {
         return Err(ReportFault::MachineOutOfRange);

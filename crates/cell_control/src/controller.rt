@@ -6,7 +6,6 @@ ghost use Rattle.shop_base.specs.Ends.{stated_number, HasEnded};
 ghost use Rattle.shop_base.specs.ReportsLeft.{reports_left};
 ghost use Rattle.cell_control.specs.Control.{Control, at_start, IsAnswered, IfEndsNow, IsControl};
 ghost use Rattle.cell_control.specs.Reports.{IsFirstReason, IsOnlyReason, CanCleanAfter, IsFirstCleanReason, IsOnlyCleanReason};
-ghost use Rattle.cell_tables.specs.Reports.{said};
 ghost use Rattle.cell_control.specs.Promises.{IsCalled};
 ghost use Rattle.cell_control.specs.DueMoments.{AreDueMoments};
 ghost use Rattle.cell_tables.specs.Readings.{IsCleanedFor};
@@ -78,13 +77,13 @@ impl<D: Dues> Controller<D> {
     /// the plan, until no further one can be made: they are in [`Controller::orders`]. If it isn't
     /// possible, the call returns the first reason, which is unique, and nothing changes.
     pub fn report(&mut self, report: Report) -> Result<Ack, ReportFault>
-        ensures possible { IsOk result ↔ CanReport self.old.plan.planned self.old.cell (said report) }
-        ensures answered { IfOk result (λ ack. IsAnswered self.old (said report) ack self.new) }
-        ensures first_reason { IfErr result (IsFirstReason self.old.plan.planned self.old.cell (said report)) }
-        ensures only_reason { IfErr result (IsOnlyReason self.old.plan.planned self.old.cell (said report)) }
+        ensures possible { IsOk result ↔ CanReport self.old.plan.planned self.old.cell report }
+        ensures answered { IfOk result (λ ack. IsAnswered self.old report ack self.new) }
+        ensures first_reason { IfErr result (IsFirstReason self.old.plan.planned self.old.cell report) }
+        ensures only_reason { IfErr result (IsOnlyReason self.old.plan.planned self.old.cell report) }
         ensures unchanged { IfErr result (λ fault. self.new ≡ self.old) }
-        ensures called { (es : List Event) × IsCalled self.old (said report) es self.new }
-        ensures never_refused { IfEndsNow self.old (said report) (IsOk result) }
+        ensures called { (es : List Event) × IsCalled self.old report es self.new }
+        ensures never_refused { IfEndsNow self.old report (IsOk result) }
     {
         check_report(&self.cell, report)?;
         let ack = make_step(&mut self.cell, &mut self.dues, &mut self.orders, report);
@@ -96,8 +95,8 @@ impl<D: Dues> Controller<D> {
 
     /// Whether a report is possible, or the first reason for which it isn't. Nothing changes.
     pub fn check(&self, report: Report) -> Result<(), ReportFault>
-        ensures possible { OnOk result (CanReport self.now.plan.planned self.now.cell (said report)) }
-        ensures first_reason { IfErr result (IsFirstReason self.now.plan.planned self.now.cell (said report)) }
+        ensures possible { OnOk result (CanReport self.now.plan.planned self.now.cell report) }
+        ensures first_reason { IfErr result (IsFirstReason self.now.plan.planned self.now.cell report) }
     {
         let cell = &self.cell;
         check_report(cell, report)
@@ -126,7 +125,7 @@ impl<D: Dues> Controller<D> {
         at: Moment,
     ) -> Result<Ack, ReportFault>
         ensures possible { IsOk result ↔ CanCleanAfter self.old.plan.planned self.old.cell machine job at }
-        ensures answered { IfOk result (λ ack. IsAnswered self.old (said (Report.Clean machine at)) ack self.new) }
+        ensures answered { IfOk result (λ ack. IsAnswered self.old (Report.Clean machine at) ack self.new) }
         ensures first_reason { IfErr result (IsFirstCleanReason self.old.plan.planned self.old.cell machine job at) }
         ensures only_reason { IfErr result (IsOnlyCleanReason self.old.plan.planned self.old.cell machine job at) }
         ensures unchanged { IfErr result (λ fault. self.new ≡ self.old) }

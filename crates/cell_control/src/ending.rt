@@ -6,7 +6,6 @@ ghost use Rattle.shop_base.specs.Report.{CanReport, after_report};
 ghost use Rattle.shop_base.specs.Run.{IsAtRest};
 ghost use Rattle.cell_control.specs.DueMoments.{AreDueMoments};
 ghost use Rattle.cell_control.specs.Sequences.{OnlyMay};
-ghost use Rattle.cell_tables.specs.Reports.{said};
 
 use crate::due_moments::cleaning_key;
 use crate::dues::Dues;
@@ -21,8 +20,8 @@ pub(crate) fn end_activity<P: Planned, D: Dues>(
 ) -> Option<JobNo>
     requires due_moments { AreDueMoments cell.old.plan cell.old.cell (D.dues dues.old) }
     requires rest { IsAtRest cell.old.plan cell.old.cell }
-    requires possible { CanReport cell.old.plan cell.old.cell (said report) }
-    ensures ended { cell.new ≡ record cell.old { cell = after_report cell.old.cell (said report) } }
+    requires possible { CanReport cell.old.plan cell.old.cell report }
+    ensures ended { cell.new ≡ record cell.old { cell = after_report cell.old.cell report } }
     ensures due_moments { AreDueMoments cell.old.plan cell.new.cell (D.dues dues.new) }
     ensures only { OnlyMay cell.old.plan cell.new.cell result }
     ensures of_shop { IfSome result (λ job. job < jobs cell.old.plan) }

@@ -2,10 +2,9 @@
 
 ghost use Rattle.std.specs.Prelude.{◌≡◌, ◌≤◌, ◌↔◌, ◌&&◌, not, [], false};
 ghost use Rattle.shop_base.specs.Plan.{jobs};
-ghost use Rattle.shop_base.specs.Report.{CanReport};
+ghost use Rattle.shop_base.specs.Report.{at, CanReport};
 ghost use Rattle.shop_base.specs.Run.{IsAtRest};
 ghost use Rattle.cell_control.specs.DueMoments.{AreDueMoments};
-ghost use Rattle.cell_tables.specs.Reports.{said};
 ghost use Rattle.cell_control.specs.Steps.{IsMade, AreDueFrom};
 
 use crate::dues::Dues;
@@ -24,9 +23,9 @@ pub fn make_step<P: Planned, D: Dues>(
 ) -> Ack
     requires due_moments { AreDueMoments cell.old.plan cell.old.cell (D.dues dues.old) }
     requires rest { IsAtRest cell.old.plan cell.old.cell }
-    requires possible { CanReport cell.old.plan cell.old.cell (said report) }
+    requires possible { CanReport cell.old.plan cell.old.cell report }
     requires room { jobs cell.old.plan ≤ orders.old.capacity }
-    ensures made { IsMade cell.old.plan cell.old.cell (said report) result orders.new.items cell.new.cell }
+    ensures made { IsMade cell.old.plan cell.old.cell report result orders.new.items cell.new.cell }
     ensures due_moments { AreDueMoments cell.old.plan cell.new.cell (D.dues dues.new) }
     ensures same_plan { cell.new ≡ record cell.old { cell = cell.new.cell } }
     ensures capacity { orders.new.capacity ≡ orders.old.capacity }
@@ -43,7 +42,7 @@ pub fn make_step<P: Planned, D: Dues>(
 
 /// Whether the report comes past a due moment.
 fn is_late<D: Dues>(dues: &D, report: Report) -> bool
-    ensures { (result ≡ false) ↔ AreDueFrom (D.dues dues.now) (said report).at }
+    ensures { (result ≡ false) ↔ AreDueFrom (D.dues dues.now) (at report) }
 {
     is_past_due(dues, report.at())
 }

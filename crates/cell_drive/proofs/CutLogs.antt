@@ -2,13 +2,11 @@
 use Rattle.std.proofs.Common.{◌≡◌, ℕ, ◌+◌, List, [], ◌∷◌, ◌++◌, map, Option, Some, None, length, ◌⊎◌, inl, inr, refl, sym, ap, ◌∙◌, subst, arith, append_assoc, append-nil}
 use Rattle.shop_base.specs.Plan.{PlannedShop, IsWellShaped}
 use Rattle.shop_base.specs.Cell.{Cell, start}
-use Rattle.shop_base.specs.Report as base
 use Rattle.shop_base.specs.Run.{Event, Reported, IsRun}
 use Rattle.shop_base.specs.Controlled.{Leads, accepted, done, refused, moved, step_orders, after_step, IsControlledRun}
+use Rattle.shop_base.specs.declared.report.Report.{Report}
 use Rattle.shop_base.proofs.ControlledRuns.{controlled_to_run}
 use Rattle.text_lines.specs.Lines.{lines_of, ended_lines}
-use Rattle.cell_tables.specs.declared.report.Report.{Report}
-use Rattle.cell_tables.specs.Reports.{said}
 use Rattle.cell_tables.specs.declared.entry.Entry.{Entry}
 use Rattle.cell_tables.specs.declared.entry.Entry.TheVariants.{Report as ReportEntry, Order as OrderEntry}
 use Rattle.cell_tables.specs.Events.{events_of}
@@ -31,7 +29,7 @@ use Rattle.text_lines.proofs.EndedLines.{ended-more}
 use Rattle.cell_drive.proofs.OwnRuns.{own_run, due_events, front_events}
 
 -- the events of a controlled run, with the cell to which they lead
-pub run_of_leads : (p : PlannedShop) (reports : List base.Report) (entries : List Entry) (end : Cell) → IsWellShaped p → IsControlledRun p reports (events_of entries) end → IsRunOf p entries
+pub run_of_leads : (p : PlannedShop) (reports : List Report) (entries : List Entry) (end : Cell) → IsWellShaped p → IsControlledRun p reports (events_of entries) end → IsRunOf p entries
 run_of_leads p reports entries end shaped run =
     (reports, subst (IsControlledRun p reports (events_of entries)) (controlled_to_run p reports (events_of entries) end shaped run).1 run)
 
@@ -65,7 +63,7 @@ a_cut_log_has_its_orders p cut lost entries shaped tells run =
 -- ---- answers are steps of the controlled run
 
 -- one controlled run behind another
-pub leads_join : (p : PlannedShop) (c mid end : Cell) (rs qs : List base.Report) (es fs : List Event) → Leads p c rs es mid → Leads p mid qs fs end → Leads p c (rs ++ qs) (es ++ fs) end
+pub leads_join : (p : PlannedShop) (c mid end : Cell) (rs qs : List Report) (es fs : List Event) → Leads p c rs es mid → Leads p mid qs fs end → Leads p c (rs ++ qs) (es ++ fs) end
 leads_join p c mid end rs qs es fs (done same) later = later
 leads_join p c mid end rs qs es fs (accepted same r js us gs last step leads) later =
     subst (λ hs. Leads p c (r ∷ us ++ qs) hs end) (ap (λ hs. Reported r ∷ hs) (sym (append_assoc (moved (step_orders p c r js)) gs fs)))
@@ -76,7 +74,7 @@ leads_join p c mid end rs qs es fs (refused same r us gs last cannot leads) late
 pub record AreLed (p : PlannedShop) (before end : DrivenCell) : Type 0 where
   pub more : List Entry
   pub entries : end.entries ≡ before.entries ++ more
-  pub reports : List base.Report
+  pub reports : List Report
   pub leads : Leads p before.cell reports (events_of more) end.cell
 
 pub nothing_led : (p : PlannedShop) (before end : DrivenCell) → end ≡ before → AreLed p before end
@@ -96,7 +94,7 @@ report_leads p before end number report text more entries (inl is) = record {
   leads = subst (Leads p before.cell [] []) (sym is.next_is) (done before.cell);
 }
 report_leads p before end number report text more entries (inr is) =
-    let r = said report in
+    let r = report in
     let orders = step_orders p before.cell r is.movers in
     let next = after_step p before.cell r is.movers in
     let moves : moved orders ++ [] ≡ events_of (map OrderEntry orders) = append-nil (moved orders) ∙ sym (events-orders orders) in

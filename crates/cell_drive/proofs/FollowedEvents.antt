@@ -4,12 +4,12 @@ use Rattle.std.proofs.lemmas.List.{take_more}
 use Rattle.shop_base.specs.declared.job_state.JobState.{JobState}
 use Rattle.shop_base.specs.Plan.{PlannedShop, jobs, machines}
 use Rattle.shop_base.specs.Cell.{Cell, MachineState, job_in, cleaning}
-use Rattle.shop_base.specs.Activity.{Arrival, Operation, Cleaning}
-use Rattle.shop_base.specs.Report.{Report, CanReport, with_ready, with_clean}
+use Rattle.shop_base.specs.Report.{Report, at, CanReport, with_ready, with_clean}
 use Rattle.shop_base.specs.Punctual.{IsPunctual}
 use Rattle.shop_base.specs.Run.{AreEvents, after, after_all}
 use Rattle.shop_base.specs.Movers.{due_of_job, due_of_cleaning, due_after}
 use Rattle.shop_base.specs.Sound.{IsSound}
+use Rattle.shop_base.specs.declared.report.Report.TheVariants.{Arrive, Finish, Clean}
 use Rattle.shop_base.proofs.Changes.{IsReadied, IsTidied, with_ready-readied, with_clean-tidied}
 use Rattle.shop_base.proofs.InShop.{outside_in_shop, cleaned_in_shop}
 use Rattle.shop_base.proofs.Visits.{visits_job}
@@ -26,10 +26,10 @@ use Rattle.cell_control.proofs.DueMoments.{due_moments_but-renewed, due_moments-
 
 module _ (p : PlannedShop) (c : Cell) (dues : List (Option ℕ)) (sound : IsSound p c) (due_moments : AreDueMoments p c dues) where
   -- a report is late exactly where its moment is past a due moment
-  pub late_exactly : (r : Report) (at : ℕ) (late : Bool) → at ≡ r.at → (late ≡ false) ↔ AreDueFrom dues at → (late ≡ false) ↔ IsPunctual p c r
-  late_exactly r at late same is =
+  pub late_exactly : (r : Report) (moment : ℕ) (late : Bool) → moment ≡ at r → (late ≡ false) ↔ AreDueFrom dues moment → (late ≡ false) ↔ IsPunctual p c r
+  late_exactly r moment late same is =
       let punctual = due_from-punctual p c dues r sound due_moments in
-      let from : (late ≡ false) ↔ AreDueFrom dues r.at = subst (λ (t : ℕ). (late ≡ false) ↔ AreDueFrom dues t) same is in
+      let from : (late ≡ false) ↔ AreDueFrom dues (at r) = subst (λ (t : ℕ). (late ≡ false) ↔ AreDueFrom dues t) same is in
       ((λ not_late. punctual.0 (from.0 not_late)), λ holds. from.1 (punctual.1 holds))
 
   -- a job that has become ready has no due moment
@@ -43,22 +43,22 @@ module _ (p : PlannedShop) (c : Cell) (dues : List (Option ℕ)) (sound : IsSoun
   inside_there : (j : ℕ) → j < jobs p → j < length c.jobs
   inside_there j inside = omega (arith, inside, sound.job_count)
 
-  pub arrived_dues : (new : Cell) (j t : ℕ) → CanReport p c (record { ended = Arrival j; at = t }) → new ≡ with_ready c j t → AreDueMoments p new (set dues j None)
+  pub arrived_dues : (new : Cell) (j t : ℕ) → CanReport p c (Arrive j t) → new ≡ with_ready c j t → AreDueMoments p new (set dues j None)
   arrived_dues new j t can is =
       let awaited = can.going.1 in
       let inside = outside_in_shop p c j sound awaited.outside in
       subst (λ (x : Cell). AreDueMoments p x (set dues j None)) (sym is) (readied (with_ready c j t) j t inside (with_ready-readied c j t awaited.not_ready (inside_there j inside)))
 
-  pub worked_dues : (new : Cell) (j m t : ℕ) → CanReport p c (record { ended = Operation j m; at = t }) → new ≡ with_ready c j t → AreDueMoments p new (set dues j None)
+  pub worked_dues : (new : Cell) (j m t : ℕ) → CanReport p c (Finish j m t) → new ≡ with_ready c j t → AreDueMoments p new (set dues j None)
   worked_dues new j m t can is =
       let worked = can.going.1.1 in
       let inside = visits_job p j can.going.1.0 m worked.on.visits in
       subst (λ (x : Cell). AreDueMoments p x (set dues j None)) (sym is) (readied (with_ready c j t) j t inside (with_ready-readied c j t worked.not_ready (inside_there j inside)))
 
-  pub cleaned_there : (m t : ℕ) → CanReport p c (record { ended = Cleaning m; at = t }) → m < machines p
+  pub cleaned_there : (m t : ℕ) → CanReport p c (Clean m t) → m < machines p
   cleaned_there m t can = cleaned_in_shop p c m can.going.1.0 sound can.going.1.1.is_cleaned
 
-  pub cleaned_dues : (new : Cell) (m t : ℕ) → CanReport p c (record { ended = Cleaning m; at = t }) → new ≡ with_clean c m t
+  pub cleaned_dues : (new : Cell) (m t : ℕ) → CanReport p c (Clean m t) → new ≡ with_clean c m t
       → AreDueMoments p new (set dues (jobs p + m) (due_of_cleaning p m (cleaning new m)))
   cleaned_dues new m t can is =
       let tidied : IsTidied c m t new = subst (IsTidied c m t) (sym is) (with_clean-tidied c m can.going.1.0 t can.going.1.1.is_cleaned) in

@@ -3,9 +3,8 @@ use Rattle.std.proofs.Common.{◌≡◌, ◌==◌, ℕ, zero, suc, length, codes
 use Rattle.std.specs.Prelude.{slice_get}
 use Rattle.std.proofs.lemmas.Bool.{eqb-true, false≢true}
 use Rattle.shop_base.specs.declared.move_order.MoveOrder.{MoveOrder}
+use Rattle.shop_base.specs.declared.report.Report.{Report}
 use Rattle.plan_verifier.specs.Accepted.{VerifiedPlan}
-use Rattle.cell_tables.specs.declared.report.Report.{Report}
-use Rattle.cell_tables.specs.Reports.{said}
 use Rattle.cell_tables.specs.declared.entry.Entry.TheVariants.{Report as ReportEntry, Order as OrderEntry}
 use Rattle.cell_control.specs.declared.report.Ack.{Ack}
 use Rattle.cell_control.specs.declared.report_fault.ReportFault.{ReportFault}
@@ -64,7 +63,7 @@ set_same (d ∷ cells) zero c found = let same : d ≡ c = cc in ap (λ (x : Pla
 set_same (d ∷ cells) (suc k) c found = ap (λ (xs : List PlannedCell). d ∷ xs) (set_same cells k c found)
 
 -- a report that a controller accepts
-pub accepts : (prefix : List ℕ) (before after : Control) (report : Report) (ack : Ack) (orders : List MoveOrder) → orders ≡ after.orders → IsAnswered before (said report) ack after
+pub accepts : (prefix : List ℕ) (before after : Control) (report : Report) (ack : Ack) (orders : List MoveOrder) → orders ≡ after.orders → IsAnswered before report ack after
     → IsAccepted before.plan.planned prefix before.cell report (accepted_lines prefix report ack.late orders) (ReportEntry report ∷ map OrderEntry after.orders) after.cell
 accepts prefix before after report ack orders are is = record {
   movers = is.movers;
@@ -84,7 +83,7 @@ unchanged s number line text answer = record { answer = answer; plan = refl; res
 
 -- to a report that isn't possible
 pub drive_refuses : (s e : DriveState) (number : ℕ) (line : List ℕ) (report : Report) (reason : ReportFault) → (line ≡ [] → ⊥) → IsReportLine line report
-    → IsFirstReason s.control.plan.planned s.control.cell (said report) reason → e.control ≡ s.control → e.log ≡ s.log
+    → IsFirstReason s.control.plan.planned s.control.cell report reason → e.control ≡ s.control → e.log ≡ s.log
     → DriveAnswer s number (Some line) (refused_line number (reason_name reason)) e
 drive_refuses s e number line report reason some is_line first same_control same_log = record {
   answer = asked_line IsReportLine (CellReports s.control.plan.planned) (seen s) number line _ report (seen e) some is_line (record {
@@ -98,7 +97,7 @@ drive_refuses s e number line report reason some is_line first same_control same
 
 -- to one that is
 pub drive_accepts : (s e : DriveState) (number : ℕ) (line : List ℕ) (report : Report) (ack : Ack) (orders : List MoveOrder) → (line ≡ [] → ⊥) → IsReportLine line report → orders ≡ e.control.orders
-    → IsAnswered s.control (said report) ack e.control → Notes s.log e.log (ReportEntry report ∷ map OrderEntry e.control.orders)
+    → IsAnswered s.control report ack e.control → Notes s.log e.log (ReportEntry report ∷ map OrderEntry e.control.orders)
     → DriveAnswer s number (Some line) (accepted_lines [] report ack.late orders) e
 drive_accepts s e number line report ack orders some is_line are answered notes = record {
   answer = asked_line IsReportLine (CellReports s.control.plan.planned) (seen s) number line _ report (seen e) some is_line (record {

@@ -7,13 +7,12 @@ use Rattle.shop_base.specs.Cell.{start}
 use Rattle.shop_base.specs.Run.{Event, Reported, Moved}
 use Rattle.shop_base.specs.Controlled.{moved, step_orders, after_step, done, IsControlledRun}
 use Rattle.shop_base.specs.Ends.{reports_in, moves_in, stated_number}
+use Rattle.shop_base.specs.declared.report.Report as told
 use Rattle.shop_base.proofs.Appending.{leads_more}
 use Rattle.shop_base.proofs.StatedNumber.{ends_on_the_stated_number-holds, orders_never_outnumber_reports-holds}
 use Rattle.cell_control.specs.declared.report.Ack.{Ack}
-use Rattle.cell_tables.specs.declared.report.Report as told
 use Rattle.plan_verifier.specs.Accepted.{VerifiedPlan, IsVerified}
 use Rattle.cell_control.specs.Control.{Control, at_start, IsAnswered}
-use Rattle.cell_tables.specs.Reports.{said}
 use Rattle.cell_tables.specs.declared.entry.Entry.{Entry}
 use Rattle.cell_tables.specs.declared.entry.Entry.TheVariants.{Report as ReportEntry, Order as OrderEntry}
 use Rattle.run_log.specs.Log.{Noted, Notes}
@@ -64,7 +63,7 @@ driven-never_full s driven =
     let reserved = driven.reserved in
     record { reserved = reserved; fits = omega (arith, reports, moves, reserved, length-events s.log.entries, length-counts (events_of s.log.entries)) }
 
-module _ (s : DriveState) (report : told.Report) (ack : Ack) (after : Control) (driven : IsDriven s) (answered : IsAnswered s.control (said report) ack after) where
+module _ (s : DriveState) (report : told.Report) (ack : Ack) (after : Control) (driven : IsDriven s) (answered : IsAnswered s.control report ack after) where
   abbrev p : PlannedShop
   p = s.control.plan.planned
 
@@ -72,23 +71,23 @@ module _ (s : DriveState) (report : told.Report) (ack : Ack) (after : Control) (
   new_entries = ReportEntry report ∷ map OrderEntry after.orders
 
   abbrev new_events : List Event
-  new_events = events_of s.log.entries ++ Reported (said report) ∷ moved (step_orders p s.control.cell (said report) answered.movers)
+  new_events = events_of s.log.entries ++ Reported report ∷ moved (step_orders p s.control.cell report answered.movers)
 
   events_are : events_of (s.log.entries ++ new_entries) ≡ new_events
   events_are =
-      let orders : events_of (map OrderEntry after.orders) ≡ moved (step_orders p s.control.cell (said report) answered.movers) =
+      let orders : events_of (map OrderEntry after.orders) ≡ moved (step_orders p s.control.cell report answered.movers) =
       events-orders after.orders ∙ ap moved answered.orders in
-      events-join s.log.entries new_entries ∙ ap (λ es. events_of s.log.entries ++ Reported (said report) ∷ es) orders
+      events-join s.log.entries new_entries ∙ ap (λ es. events_of s.log.entries ++ Reported report ∷ es) orders
 
   -- the run with the step of the report
-  longer_run : IsControlledRun p (driven.reports ++ said report ∷ []) new_events (after_step p s.control.cell (said report) answered.movers)
-  longer_run = leads_more p (start p) s.control.cell driven.reports (events_of s.log.entries) (said report) answered.movers driven.run answered.step
+  longer_run : IsControlledRun p (driven.reports ++ report ∷ []) new_events (after_step p s.control.cell report answered.movers)
+  longer_run = leads_more p (start p) s.control.cell driven.reports (events_of s.log.entries) report answered.movers driven.run answered.step
 
   -- the log has room for it
   pub room_for : length s.log.entries + (1 + length after.orders) ≤ s.log.reserved
   room_for =
-      let rs = driven.reports ++ said report ∷ [] in
-      let end = after_step p s.control.cell (said report) answered.movers in
+      let rs = driven.reports ++ report ∷ [] in
+      let end = after_step p s.control.cell report answered.movers in
       let reports = (ends_on_the_stated_number-holds p rs new_events end driven.verified.schedule.shaped longer_run).0 in
       let moves = orders_never_outnumber_reports-holds p rs new_events end driven.verified.schedule.shaped longer_run in
       let entries : length (s.log.entries ++ new_entries) ≡ length new_events = sym (length-events (s.log.entries ++ new_entries)) ∙ ap length events_are in
@@ -104,18 +103,18 @@ module _ (s : DriveState) (report : told.Report) (ack : Ack) (after : Control) (
       let count : reports_in new_events ≡ after.accepted =
       omega (
         arith,
-        reports_in-append (events_of s.log.entries) (Reported (said report) ∷ moved (step_orders p s.control.cell (said report) answered.movers)),
-        reports_in-moved (step_orders p s.control.cell (said report) answered.movers),
+        reports_in-append (events_of s.log.entries) (Reported report ∷ moved (step_orders p s.control.cell report answered.movers)),
+        reports_in-moved (step_orders p s.control.cell report answered.movers),
         accepted,
         counted,
       ) in
       let same_plan : after.plan ≡ s.control.plan = answered.plan in
       record {
         verified = subst (λ (v : VerifiedPlan). IsVerified v) (sym same_plan) driven.verified;
-        reports = driven.reports ++ said report ∷ [];
-        run = subst (λ (v : VerifiedPlan). IsControlledRun v.planned (driven.reports ++ said report ∷ []) (events_of log.entries) after.cell) (sym same_plan)
-            (subst (λ c. IsControlledRun p (driven.reports ++ said report ∷ []) (events_of log.entries) c) (sym answered.cell)
-            (subst (λ es. IsControlledRun p (driven.reports ++ said report ∷ []) es (after_step p s.control.cell (said report) answered.movers)) (sym entries) longer_run));
+        reports = driven.reports ++ report ∷ [];
+        run = subst (λ (v : VerifiedPlan). IsControlledRun v.planned (driven.reports ++ report ∷ []) (events_of log.entries) after.cell) (sym same_plan)
+            (subst (λ c. IsControlledRun p (driven.reports ++ report ∷ []) (events_of log.entries) c) (sym answered.cell)
+            (subst (λ es. IsControlledRun p (driven.reports ++ report ∷ []) es (after_step p s.control.cell report answered.movers)) (sym entries) longer_run));
         accepted = ap reports_in entries ∙ count;
         reserved = notes.reserved ∙ driven.reserved ∙ ap (λ (v : VerifiedPlan). 2 * stated_number v.planned) (sym same_plan);
       }

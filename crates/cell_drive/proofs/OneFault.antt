@@ -7,8 +7,8 @@ use Rattle.shop_base.specs.declared.move_order.Spot.TheVariants.{Out, At}
 use Rattle.shop_base.specs.Plan.{PlannedShop}
 use Rattle.shop_base.specs.Cell.{Cell, ready}
 use Rattle.shop_base.specs.Run.{ends_in}
-use Rattle.cell_tables.specs.declared.report.Report.{Report}
-use Rattle.cell_tables.specs.Reports.{said}
+use Rattle.shop_base.specs.Report.{ended}
+use Rattle.shop_base.specs.declared.report.Report.{Report}
 use Rattle.cell_tables.specs.declared.entry.Entry.{Entry}
 use Rattle.cell_tables.specs.declared.entry.Entry.TheVariants.{Report as ReportEntry, Order as OrderEntry}
 use Rattle.cell_tables.specs.Events.{events_of}
@@ -137,7 +137,7 @@ module _ (p : PlannedShop) (c : Cell) where
   ]
 
   -- and a report
-  report_fault : (r : Report) (f : AuditFault) → IsFaultOf p c (ReportEntry r) f → ((kind f ≡ 1) × (IsGoingOn p c (said r).ended → ⊥)) ⊎ ((kind f ≡ 2) × IsGoingOn p c (said r).ended)
+  report_fault : (r : Report) (f : AuditFault) → IsFaultOf p c (ReportEntry r) f → ((kind f ≡ 1) × (IsGoingOn p c (ended r) → ⊥)) ⊎ ((kind f ≡ 2) × IsGoingOn p c (ended r))
   report_fault r (BadLine line) fault = absurd fault
   report_fault r (NotExpected line) fault = inl (refl, fault)
   report_fault r (Backwards line) fault = inr (refl, fault.0)
@@ -151,8 +151,8 @@ module _ (p : PlannedShop) (c : Cell) where
   report_kinds : (r : Report) (f g : AuditFault) → IsFaultOf p c (ReportEntry r) f → IsFaultOf p c (ReportEntry r) g → kind f ≡ kind g
   report_kinds r f g fault other = go (report_fault r f fault) (report_fault r g other)
     where
-      go : ((kind f ≡ 1) × (IsGoingOn p c (said r).ended → ⊥)) ⊎ ((kind f ≡ 2) × IsGoingOn p c (said r).ended)
-          → ((kind g ≡ 1) × (IsGoingOn p c (said r).ended → ⊥)) ⊎ ((kind g ≡ 2) × IsGoingOn p c (said r).ended) → kind f ≡ kind g
+      go : ((kind f ≡ 1) × (IsGoingOn p c (ended r) → ⊥)) ⊎ ((kind f ≡ 2) × IsGoingOn p c (ended r))
+          → ((kind g ≡ 1) × (IsGoingOn p c (ended r) → ⊥)) ⊎ ((kind g ≡ 2) × IsGoingOn p c (ended r)) → kind f ≡ kind g
       go (inl one) (inl two) = one.0 ∙ sym two.0
       go (inl one) (inr two) = absurd (one.1 two.1)
       go (inr one) (inl two) = absurd (two.1 one.1)

@@ -7,7 +7,6 @@ use Rattle.shop_base.specs.Controlled.{after_step, step_orders}
 use Rattle.shop_base.proofs.ControlledRuns.{after_step-sound}
 use Rattle.shop_base.proofs.OneStep.{one_step}
 use Rattle.plan_verifier.specs.Accepted.{VerifiedPlan}
-use Rattle.cell_tables.specs.Reports.{said}
 use Rattle.cell_tables.specs.declared.entry.Entry.{Entry}
 use Rattle.cell_tables.specs.declared.entry.Entry.TheVariants.{Report as ReportEntry, Order as OrderEntry}
 use Rattle.byte_streams.specs.declared.drive_fault.DriveFault.{DriveFault}
@@ -58,7 +57,7 @@ module _ (p : PlannedShop) (manner : Manner) (prefix : List ℕ) (c : Cell) (num
   one_claim_answer claim text other events events' next next' (inl one) (inr also) = absurd (refused_or_taken p c on.shaped on.sound manner claim one.refusal one.first also.taken)
   one_claim_answer claim text other events events' next next' (inr one) (inl also) = absurd (refused_or_taken p c on.shaped on.sound manner claim also.refusal also.first one.taken)
   one_claim_answer claim text other events events' next next' (inr one) (inr also) =
-      let r = said (claimed claim) in
+      let r = claimed claim in
       let only = one_step p c r on.shaped on.sound on.rest one.step.can in
       let moves : also.movers ≡ one.movers = only.2 also.movers also.step ∙ sym (only.2 one.movers one.step) in
       let orders : step_orders p c r also.movers ≡ step_orders p c r one.movers = ap (step_orders p c r) moves in
@@ -86,7 +85,7 @@ module _ (p : PlannedShop) (manner : Manner) (prefix : List ℕ) (c : Cell) (num
   pub request_keeps : (request : Request) (text : List ℕ) (events : List Entry) (next : Cell) → RequestAnswer p manner prefix c number request text events next → IsOnCourse p next
   request_keeps (ClaimRequest claim) text events next (inl is) = subst (IsOnCourse p) (sym is.next_is) on
   request_keeps (ClaimRequest claim) text events next (inr is) =
-      subst (IsOnCourse p) (sym is.next_is) (record { shaped = on.shaped; sound = after_step-sound p c (said (claimed claim)) is.movers on.shaped on.sound is.step; rest = is.step.rest })
+      subst (IsOnCourse p) (sym is.next_is) (record { shaped = on.shaped; sound = after_step-sound p c (claimed claim) is.movers on.shaped on.sound is.step; rest = is.step.rest })
   request_keeps Status text events next is = subst (IsOnCourse p) (sym is.next_is) on
 
 -- ---- lines

@@ -7,11 +7,10 @@ use Rattle.shop_base.specs.Cell.{Cell}
 use Rattle.shop_base.specs.Run.{IsAtRest}
 use Rattle.shop_base.specs.Controlled.{after_step, step_orders}
 use Rattle.shop_base.specs.Sound.{IsSound}
+use Rattle.shop_base.specs.declared.report.Report.{Report}
 use Rattle.shop_base.proofs.Keeping.{start-sound}
 use Rattle.shop_base.proofs.ControlledRuns.{start_at_rest, after_step-sound}
 use Rattle.shop_base.proofs.OneStep.{one_step}
-use Rattle.cell_tables.specs.declared.report.Report.{Report}
-use Rattle.cell_tables.specs.Reports.{said}
 use Rattle.cell_tables.specs.declared.entry.Entry.{Entry}
 use Rattle.cell_tables.specs.declared.entry.Entry.TheVariants.{Report as ReportEntry, Order as OrderEntry}
 use Rattle.cell_control.specs.ReasonNames.{reason_name}
@@ -85,28 +84,28 @@ module _ (p : PlannedShop) (prefix : List ℕ) (c : Cell) (number : ℕ) (report
   one_report_answer : (text other : List ℕ) (events events' : List Entry) (next next' : Cell)
       → ReportAnswer p prefix c number report text events next → ReportAnswer p prefix c number report other events' next' → IsOne text other events events' next next'
   one_report_answer text other events events' next next' (inl one) (inl also) =
-      let name = ap reason_name (only_reason p c (said report) also.reason also.first one.reason one.first) in
+      let name = ap reason_name (only_reason p c report also.reason also.first one.reason one.first) in
       record {
         text_is = also.text_is ∙ ap (refused_line number) (sym name) ∙ sym one.text_is;
         events_are = also.events_are ∙ sym one.events_are;
         next_is = also.next_is ∙ sym one.next_is;
       }
-  one_report_answer text other events events' next next' (inl one) (inr also) = absurd (reason-cannot p c (said report) one.reason on.sound one.first also.step.can)
-  one_report_answer text other events events' next next' (inr one) (inl also) = absurd (reason-cannot p c (said report) also.reason on.sound also.first one.step.can)
+  one_report_answer text other events events' next next' (inl one) (inr also) = absurd (reason-cannot p c report one.reason on.sound one.first also.step.can)
+  one_report_answer text other events events' next next' (inr one) (inl also) = absurd (reason-cannot p c report also.reason on.sound also.first one.step.can)
   one_report_answer text other events events' next next' (inr one) (inr also) =
-      let only = one_step p c (said report) on.shaped on.sound on.rest one.step.can in
+      let only = one_step p c report on.shaped on.sound on.rest one.step.can in
       let moves : also.movers ≡ one.movers = only.2 also.movers also.step ∙ sym (only.2 one.movers one.step) in
-      let orders : step_orders p c (said report) also.movers ≡ step_orders p c (said report) one.movers = ap (step_orders p c (said report)) moves in
+      let orders : step_orders p c report also.movers ≡ step_orders p c report one.movers = ap (step_orders p c report) moves in
       record {
-        text_is = also.text_is ∙ ap (λ (l : Bool). accepted_lines prefix report l (step_orders p c (said report) also.movers)) (same_truth one.late also.late one.late_is also.late_is)
+        text_is = also.text_is ∙ ap (λ (l : Bool). accepted_lines prefix report l (step_orders p c report also.movers)) (same_truth one.late also.late one.late_is also.late_is)
             ∙ ap (accepted_lines prefix report one.late) orders ∙ sym one.text_is;
         events_are = also.events_are ∙ ap (λ (os : List MoveOrder). ReportEntry report ∷ map OrderEntry os) orders ∙ sym one.events_are;
-        next_is = also.next_is ∙ ap (after_step p c (said report)) moves ∙ sym one.next_is;
+        next_is = also.next_is ∙ ap (after_step p c report) moves ∙ sym one.next_is;
       }
 
   pub stays : (text : List ℕ) (events : List Entry) (next : Cell) → ReportAnswer p prefix c number report text events next → IsOnCourse p next
   stays text events next (inl is) = subst (IsOnCourse p) (sym is.next_is) on
-  stays text events next (inr is) = subst (IsOnCourse p) (sym is.next_is) (record { shaped = on.shaped; sound = after_step-sound p c (said report) is.movers on.shaped on.sound is.step; rest = is.step.rest })
+  stays text events next (inr is) = subst (IsOnCourse p) (sym is.next_is) (record { shaped = on.shaped; sound = after_step-sound p c report is.movers on.shaped on.sound is.step; rest = is.step.rest })
 
 pub start_on_course : (p : PlannedShop) → IsWellShaped p → IsOnCourse p (undriven p).cell
 start_on_course p shaped = record { shaped = shaped; sound = start-sound p shaped; rest = start_at_rest p }

@@ -2,19 +2,18 @@
 use Rattle.std.proofs.Common.{◌≡◌, ℕ, ◌+◌, Bool, true, false, cond, List, [], ◌∷◌, ◌++◌, Option, Some, None, codes, map, refl, sym, ap, ◌∙◌, subst, inl, inr, append_assoc, append-nil}
 use Rattle.shop_base.specs.Plan.{PlannedShop, IsWellShaped}
 use Rattle.shop_base.specs.Cell.{Cell}
-use Rattle.shop_base.specs.Report.{after_report}
+use Rattle.shop_base.specs.Report.{at, after_report}
 use Rattle.shop_base.specs.Move.{order_for, after_move}
 use Rattle.shop_base.specs.Run.{AreEvents, after_all, IsRun, ends_in}
 use Rattle.shop_base.specs.Controlled.{moved, AreMoves, IsStep, after_step, orders_for, step_orders}
 use Rattle.shop_base.specs.Sound.{IsSound}
+use Rattle.shop_base.specs.declared.report.Report.{Report}
 use Rattle.shop_base.proofs.Keeping.{after_report-sound, after_move-sound}
 use Rattle.shop_base.proofs.ControlledRuns.{events_join, after_all_join, moves-events, after_all-moves}
 use Rattle.text_lines.specs.Lines.{lines_of}
 use Rattle.cell_control.specs.declared.report_fault.ReportFault.{ReportFault}
 use Rattle.cell_control.specs.declared.report_fault.ReportFault.TheVariants.{JobOutOfRange, MachineOutOfRange, MomentTooLarge, Backwards, NotExpected, WrongKind, WrongMachine}
 use Rattle.cell_control.specs.ReasonNames.{reason_name}
-use Rattle.cell_tables.specs.declared.report.Report.{Report}
-use Rattle.cell_tables.specs.Reports.{said}
 use Rattle.cell_tables.specs.declared.entry.Entry.{Entry}
 use Rattle.cell_tables.specs.declared.entry.Entry.TheVariants.{Report as ReportEntry, Order as OrderEntry}
 use Rattle.cell_tables.specs.Events.{events_of}
@@ -79,29 +78,29 @@ module _ (p : PlannedShop) where
       cell = ap (λ (d : DrivenCell). d.cell) same;
     }
 
-    pub step_told : (before : DrivenCell) (report : Report) (text : List ℕ) (end : DrivenCell) (movers : List ℕ) → IsSound p before.cell → IsStep p before.cell (said report) movers
-        → TellsFirst p text (ReportEntry report ∷ map OrderEntry (step_orders p before.cell (said report) movers))
-        → end.entries ≡ before.entries ++ ReportEntry report ∷ map OrderEntry (step_orders p before.cell (said report) movers) → end.cell ≡ after_step p before.cell (said report) movers → AreTold before text end
+    pub step_told : (before : DrivenCell) (report : Report) (text : List ℕ) (end : DrivenCell) (movers : List ℕ) → IsSound p before.cell → IsStep p before.cell report movers
+        → TellsFirst p text (ReportEntry report ∷ map OrderEntry (step_orders p before.cell report movers))
+        → end.entries ≡ before.entries ++ ReportEntry report ∷ map OrderEntry (step_orders p before.cell report movers) → end.cell ≡ after_step p before.cell report movers → AreTold before text end
     step_told before report text end movers sound step tells entries next_is =
         let c = before.cell in
-        let r = said report in
+        let r = report in
         let next = after_report c r in
         let moves : events_of (map OrderEntry (step_orders p c r movers)) ≡ moved (step_orders p c r movers) = events-orders (step_orders p c r movers) in
         record {
           more = ReportEntry report ∷ map OrderEntry (step_orders p c r movers);
           tells = tells;
           entries = entries;
-          events = (step.can, subst (AreEvents p next) (sym moves) (moves-events p next r.at movers step.moves));
-          cell = next_is ∙ sym (ap (after_all p next) moves ∙ after_all-moves p next r.at movers);
+          events = (step.can, subst (AreEvents p next) (sym moves) (moves-events p next (at r) movers step.moves));
+          cell = next_is ∙ sym (ap (after_all p next) moves ∙ after_all-moves p next (at r) movers);
         }
 
     -- the lines of a step's moves
-    pub step_moves : (c : Cell) (report : Report) (movers : List ℕ) → IsSound p c → IsStep p c (said report) movers
-        → TellsFirst p (order_lines (step_orders p c (said report) movers)) (map OrderEntry (step_orders p c (said report) movers))
-    step_moves c report movers sound step = tells_moves (after_report c (said report)) (said report).at movers (after_report-sound p c (said report) shaped sound step.can) step.moves
+    pub step_moves : (c : Cell) (report : Report) (movers : List ℕ) → IsSound p c → IsStep p c report movers
+        → TellsFirst p (order_lines (step_orders p c report movers)) (map OrderEntry (step_orders p c report movers))
+    step_moves c report movers sound step = tells_moves (after_report c report) (at report) movers (after_report-sound p c report shaped sound step.can) step.moves
 
     -- and that of its report
-    pub step_report : (c : Cell) (report : Report) (movers : List ℕ) → IsSound p c → IsStep p c (said report) movers → TellsFirst p (report_line report) (ReportEntry report ∷ [])
+    pub step_report : (c : Cell) (report : Report) (movers : List ℕ) → IsSound p c → IsStep p c report movers → TellsFirst p (report_line report) (ReportEntry report ∷ [])
     step_report c report movers sound step = tells_entry p shaped (ReportEntry report) (report_of_shop p c report shaped sound step.can)
 
     report_told : (before : DrivenCell) (number : ℕ) (report : Report) (text : List ℕ) (end : DrivenCell) (more : List Entry) → IsSound p before.cell → end.entries ≡ before.entries ++ more
@@ -115,12 +114,12 @@ module _ (p : PlannedShop) where
     }
     report_told before number report text end more sound entries (inr is) =
         let c = before.cell in
-        let orders = step_orders p c (said report) is.movers in
-        let late = cond is.late (late_line (said report).at) [] in
+        let orders = step_orders p c report is.movers in
+        let late = cond is.late (late_line (at report)) [] in
         step_told before report text end is.movers sound is.step
         (subst (λ (t : List ℕ). TellsFirst p t (ReportEntry report ∷ map OrderEntry orders)) (sym is.text_is)
         (tells_both p (report_line report) (late ++ order_lines orders) (ReportEntry report ∷ []) (map OrderEntry orders) (step_report c report is.movers sound is.step)
-        (tells_both p late (order_lines orders) [] (map OrderEntry orders) (late_told (said report).at is.late) (step_moves c report is.movers sound is.step))))
+        (tells_both p late (order_lines orders) [] (map OrderEntry orders) (late_told (at report) is.late) (step_moves c report is.movers sound is.step))))
         (entries ∙ ap (λ (es : List Entry). before.entries ++ es) is.events_are) is.next_is
 
     line_told : (before : DrivenCell) (number : ℕ) (line : Option (List ℕ)) (text : List ℕ) (end : DrivenCell) → IsSound p before.cell → CellAnswers p before number line text end → AreTold before text end

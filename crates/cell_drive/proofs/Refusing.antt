@@ -2,11 +2,10 @@
 use Rattle.std.proofs.Common.{◌≡◌, ◌≤◌, length, Bool, true, false, cond, sym, ap, ◌∙◌, subst, inl, inr, arith}
 use Rattle.shop_base.specs.Plan.{PlannedShop, IsWellShaped}
 use Rattle.shop_base.specs.Cell.{Cell}
-use Rattle.shop_base.specs.Report.{CanReport}
+use Rattle.shop_base.specs.Report.{ended, CanReport}
 use Rattle.shop_base.specs.Sound.{IsSound}
-use Rattle.cell_tables.specs.declared.report.Report as reports
-use Rattle.cell_tables.specs.declared.report.Report.TheVariants.{Arrive, Finish, Clean}
-use Rattle.cell_tables.specs.Reports.{said}
+use Rattle.shop_base.specs.declared.report.Report as reports
+use Rattle.shop_base.specs.declared.report.Report.TheVariants.{Arrive, Finish, Clean}
 use Rattle.cell_control.specs.declared.report_fault.ReportFault.{ReportFault}
 use Rattle.cell_control.specs.declared.report_fault.ReportFault.TheVariants.{JobOutOfRange, MachineOutOfRange, MomentTooLarge, Backwards, NotExpected, WrongKind, WrongMachine}
 use Rattle.cell_control.specs.Reports.{IsOfShop}
@@ -23,19 +22,19 @@ use Rattle.cell_drive.specs.Refusals.{CanClaim, IsClaimReason, IsRefusal, IsTake
 use Rattle.cell_drive.proofs.ShopEntries.{report_of_shop}
 
 -- what can be claimed can be reported
-pub can_report : (p : PlannedShop) (c : Cell) (claim : Claim) → CanClaim p c claim → CanReport p c (said (claimed claim))
+pub can_report : (p : PlannedShop) (c : Cell) (claim : Claim) → CanClaim p c claim → CanReport p c (claimed claim)
 can_report p c (Report report) can = can
 can_report p c (CleanAfter machine job at) can = can_clean p c machine job at can
 
 -- what can be reported is of the shop
-pub reported_of_shop : (p : PlannedShop) (c : Cell) (report : reports.Report) → IsWellShaped p → IsSound p c → CanReport p c (said report) → IsOfShop p (said report).ended
+pub reported_of_shop : (p : PlannedShop) (c : Cell) (report : reports.Report) → IsWellShaped p → IsSound p c → CanReport p c report → IsOfShop p (ended report)
 reported_of_shop p c (Arrive job at) shaped sound can = (report_of_shop p c (Arrive job at) shaped sound can).0
 reported_of_shop p c (Finish job machine at) shaped sound can = (report_of_shop p c (Finish job machine at) shaped sound can).0.0
 reported_of_shop p c (Clean machine at) shaped sound can = (report_of_shop p c (Clean machine at) shaped sound can).0
 
 module _ (p : PlannedShop) (c : Cell) where
   -- what has a reason against it that is looked for after a leap is of the shop
-  claim_of_shop : (claim : Claim) (reason : ReportFault) → IsClaimReason p c claim reason → is_before_leap reason ≡ false → IsOfShop p (said (claimed claim)).ended
+  claim_of_shop : (claim : Claim) (reason : ReportFault) → IsClaimReason p c claim reason → is_before_leap reason ≡ false → IsOfShop p (ended (claimed claim))
   claim_of_shop claim JobOutOfRange is after = absurd (cc)
   claim_of_shop claim MachineOutOfRange is after = absurd (cc)
   claim_of_shop claim MomentTooLarge is after = absurd (cc)
@@ -59,16 +58,16 @@ module _ (p : PlannedShop) (c : Cell) where
   refused_reason manner claim reason (inr (can, does_leap, same)) = absurd (cc)
 
   -- and so it is of the shop, where that is looked for after a leap
-  pub refused_of_shop : (manner : Manner) (claim : Claim) (reason : ReportFault) → IsRefusal manner p c claim (Reason reason) → is_before_leap reason ≡ false → IsOfShop p (said (claimed claim)).ended
+  pub refused_of_shop : (manner : Manner) (claim : Claim) (reason : ReportFault) → IsRefusal manner p c claim (Reason reason) → is_before_leap reason ≡ false → IsOfShop p (ended (claimed claim))
   refused_of_shop manner claim reason is after = claim_of_shop claim reason (refused_reason manner claim reason is) after
 
   module _ (shaped : IsWellShaped p) (sound : IsSound p c) where
     only_claim_reason : (claim : Claim) (one other : ReportFault) → IsClaimReason p c claim one → IsClaimReason p c claim other → other ≡ one
-    only_claim_reason (Report report) one other is also = only_reason p c (said report) one is other also
+    only_claim_reason (Report report) one other is also = only_reason p c report one is other also
     only_claim_reason (CleanAfter machine job at) one other is also = only_clean_reason p c machine job at shaped sound one is other also
 
     claim_reason-cannot : (claim : Claim) (reason : ReportFault) → IsClaimReason p c claim reason → CanClaim p c claim → ⊥
-    claim_reason-cannot (Report report) reason is can = reason-cannot p c (said report) reason sound is can
+    claim_reason-cannot (Report report) reason is can = reason-cannot p c report reason sound is can
     claim_reason-cannot (CleanAfter machine job at) reason is can = clean_reason-cannot p c machine job at shaped sound reason is can
 
     module _ (manner : Manner) (claim : Claim) where

@@ -2,8 +2,7 @@
 use Rattle.std.proofs.Common.{◌≡◌, ℕ, ◌+◌, List, [], ◌∷◌, map, Option, Some, refl, sym, ap, ◌∙◌, subst, append-nil, inl, inr}
 use Rattle.shop_base.specs.declared.move_order.MoveOrder.{MoveOrder}
 use Rattle.shop_base.specs.Plan.{PlannedShop}
-use Rattle.cell_tables.specs.declared.report.Report.{Report}
-use Rattle.cell_tables.specs.Reports.{said}
+use Rattle.shop_base.specs.declared.report.Report.{Report}
 use Rattle.cell_tables.specs.declared.entry.Entry.TheVariants.{Report as ReportEntry, Order as OrderEntry}
 use Rattle.cell_control.specs.declared.report.Ack.{Ack}
 use Rattle.cell_control.specs.declared.report_fault.ReportFault.{ReportFault}
@@ -27,7 +26,7 @@ rest_unchanged s number line text answer = record { answer = answer; planned = r
 
 -- to a report that isn't possible
 pub rest_refuses : (s e : RestState) (number : ℕ) (line : List ℕ) (report : Report) (reason : ReportFault) → (line ≡ [] → ⊥) → IsReportLine line report
-    → IsFirstReason s.control.planned s.control.cell (said report) reason → e.control ≡ s.control → e.log ≡ s.log
+    → IsFirstReason s.control.planned s.control.cell report reason → e.control ≡ s.control → e.log ≡ s.log
     → RestAnswer s number (Some line) (refused_line number (reason_name reason)) e
 rest_refuses s e number line report reason some is_line first same_control same_log = record {
   answer = asked_line IsReportLine (CellReports s.control.planned) (rest_seen s) number line _ report (rest_seen e) some is_line (record {
@@ -41,7 +40,7 @@ rest_refuses s e number line report reason some is_line first same_control same_
 
 -- to one that is
 pub rest_accepts : (s e : RestState) (number : ℕ) (line : List ℕ) (report : Report) (ack : Ack) (orders : List MoveOrder) → (line ≡ [] → ⊥) → IsReportLine line report → orders ≡ e.control.orders
-    → IsRestAnswered s.control (said report) ack e.control → Notes s.log e.log (ReportEntry report ∷ map OrderEntry e.control.orders)
+    → IsRestAnswered s.control report ack e.control → Notes s.log e.log (ReportEntry report ∷ map OrderEntry e.control.orders)
     → RestAnswer s number (Some line) (accepted_lines [] report ack.late orders) e
 rest_accepts s e number line report ack orders some is_line are answered notes = record {
   answer = asked_line IsReportLine (CellReports s.control.planned) (rest_seen s) number line _ report (rest_seen e) some is_line (record {

@@ -6,18 +6,17 @@ use Rattle.shop_base.specs.Cell.{Cell, made}
 use Rattle.shop_base.specs.Report.{CanReport}
 use Rattle.shop_base.specs.Move.{CanMove, CanLeave, CanEnter, target, order_for}
 use Rattle.shop_base.specs.Sound.{IsSound}
+use Rattle.shop_base.specs.declared.report.Report.{Report}
+use Rattle.shop_base.specs.declared.report.Report.TheVariants.{Arrive, Finish, Clean}
 use Rattle.shop_base.proofs.Visits.{visits_job, visits_machine, leaves_past}
 use Rattle.shop_base.proofs.InShop.{outside_in_shop, ready_in_shop, cleaned_in_shop}
 use Rattle.shop_base.proofs.CellFacts.{target_visited, target_out}
-use Rattle.cell_tables.specs.declared.report.Report.{Report}
-use Rattle.cell_tables.specs.declared.report.Report.TheVariants.{Arrive, Finish, Clean}
 use Rattle.cell_tables.specs.Moving.{IsSpotOf}
-use Rattle.cell_tables.specs.Reports.{said}
 use Rattle.cell_tables.proofs.MoveParts.{source_or_out}
 use Rattle.cell_tables.specs.declared.entry.Entry.TheVariants.{Report as ReportEntry, Order as OrderEntry}
 use Rattle.event_lines.specs.LogLines.{IsEntryOf}
 
-pub report_of_shop : (p : PlannedShop) (c : Cell) (report : Report) → IsWellShaped p → IsSound p c → CanReport p c (said report) → IsEntryOf p (ReportEntry report)
+pub report_of_shop : (p : PlannedShop) (c : Cell) (report : Report) → IsWellShaped p → IsSound p c → CanReport p c report → IsEntryOf p (ReportEntry report)
 report_of_shop p c (Arrive job at) shaped sound can = (outside_in_shop p c job sound can.going.1.outside, can.moment.in_range)
 report_of_shop p c (Finish job machine at) shaped sound can =
     let worked = can.going.1 in

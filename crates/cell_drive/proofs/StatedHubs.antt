@@ -4,9 +4,8 @@ use Rattle.std.specs.Prelude.{slice_get}
 use Rattle.shop_base.specs.declared.move_order.MoveOrder.{MoveOrder}
 use Rattle.shop_base.specs.Cell.{Cell}
 use Rattle.shop_base.specs.Report.{CanReport}
+use Rattle.shop_base.specs.declared.report.Report as reports
 use Rattle.plan_verifier.specs.Accepted.{VerifiedPlan}
-use Rattle.cell_tables.specs.Reports.{said}
-use Rattle.cell_tables.specs.declared.report.Report as reports
 use Rattle.cell_tables.specs.declared.entry.Entry.{Entry}
 use Rattle.cell_tables.specs.declared.entry.Entry.TheVariants.{Report as ReportEntry, Order as OrderEntry}
 use Rattle.cell_control.specs.declared.report.Ack.{Ack}
@@ -83,11 +82,11 @@ of_its_cell cells k c P found holds other is = let same : c ≡ other = cc in su
 -- ---- what is taken
 
 -- a report that is possible in the ticket's cell is accepted
-pub is_accepted : (o : Option Control) (outcome : Result Ack HubFault) (report : reports.Report) → (v : Control) × (o ≡ Some v) × CanReport v.plan.planned v.cell (said report)
-    → IfSome o (λ c. IsOk outcome ↔ CanReport c.plan.planned c.cell (said report)) → IsOk outcome
+pub is_accepted : (o : Option Control) (outcome : Result Ack HubFault) (report : reports.Report) → (v : Control) × (o ≡ Some v) × CanReport v.plan.planned v.cell report
+    → IfSome o (λ c. IsOk outcome ↔ CanReport c.plan.planned c.cell report) → IsOk outcome
 is_accepted None outcome report (v, there, can) possible = absurd (cc)
 is_accepted (Some w) outcome report (v, there, can) possible =
-    let same : v ≡ w = cc in possible.1 (subst (λ (c : Control). CanReport c.plan.planned c.cell (said report)) same can)
+    let same : v ≡ w = cc in possible.1 (subst (λ (c : Control). CanReport c.plan.planned c.cell report) same can)
 
 module _ (h : HubState) (tickets : List Ticket) (k : ℕ) (numbered : AreNumbered h 0 tickets) where
   -- where there is a cell, there is a ticket
@@ -96,11 +95,11 @@ module _ (h : HubState) (tickets : List Ticket) (k : ℕ) (numbered : AreNumbere
   has_ticket c (Some t) is found = refl
 
   module _ (t : Ticket) (found : slice_get tickets k ≡ Some t) (manner : Manner) (claim : Claim) (taken : IfCell (cells_of h tickets) k (λ c. IsTaken manner c.plan.planned c.cell claim)) where
-    pub can_take : (report : reports.Report) → claimed claim ≡ report → (c : Control) × (cell_at h t ≡ Some c) × CanReport c.plan.planned c.cell (said report)
+    pub can_take : (report : reports.Report) → claimed claim ≡ report → (c : Control) × (cell_at h t ≡ Some c) × CanReport c.plan.planned c.cell report
     can_take report same =
         let at = is_at h 0 tickets k t numbered found in
         let v = at.content in
-        (v, at.there, subst (λ (r : reports.Report). CanReport v.plan.planned v.cell (said r)) same (can_report v.plan.planned v.cell claim (taken (planned_cell v) at.cell_is).0))
+        (v, at.there, subst (CanReport v.plan.planned v.cell) same (can_report v.plan.planned v.cell claim (taken (planned_cell v) at.cell_is).0))
 
     module _ (new : HubState) (ack : Ack) (orders : List MoveOrder) (overdue : Option Overdue) (ended : Bool)
         (orders_are : (content : Control) → cell_at new t ≡ Some content → orders ≡ content.orders)

@@ -5,7 +5,7 @@ use Rattle.shop_base.specs.Cell.{Cell}
 use Rattle.shop_base.specs.Controlled.{step_orders}
 use Rattle.shop_base.specs.ReportsLeft.{reports_left}
 use Rattle.shop_base.specs.Sound.{IsSound}
-use Rattle.cell_tables.specs.Reports.{said}
+use Rattle.shop_base.specs.Report.{at}
 use Rattle.cell_tables.specs.declared.entry.Entry.{Entry}
 use Rattle.cell_tables.specs.declared.entry.Entry.TheVariants.{Report as ReportEntry, Order as OrderEntry}
 use Rattle.cell_tables.specs.declared.standing.Standing.{Standing}
@@ -91,16 +91,16 @@ module _ (p : PlannedShop) where
     request_told before number (ClaimRequest claim) text end more sound entries (inr is) =
         let report = claimed claim in
         let c = before.cell in
-        let orders = step_orders p c (said report) is.movers in
-        let lateness = lateness_part [] (said report).at is.late (told_overdue manner p c report) in
-        let ending = end_part [] (said report).at (tells_end manner p end.cell) in
+        let orders = step_orders p c report is.movers in
+        let lateness = lateness_part [] (at report) is.late (told_overdue manner p c report) in
+        let ending = end_part [] (at report) (tells_end manner p end.cell) in
         let moves : TellsFirst p (order_lines orders ++ ending) (map OrderEntry orders) =
         subst (λ (es : List Entry). TellsFirst p (order_lines orders ++ ending) es) (append-nil (map OrderEntry orders))
-        (tells_both p (order_lines orders) ending (map OrderEntry orders) [] (step_moves p shaped c report is.movers sound is.step) (end_told (said report).at (tells_end manner p end.cell))) in
+        (tells_both p (order_lines orders) ending (map OrderEntry orders) [] (step_moves p shaped c report is.movers sound is.step) (end_told (at report) (tells_end manner p end.cell))) in
         step_told p shaped before report text end is.movers sound is.step
         (subst (λ (t : List ℕ). TellsFirst p t (ReportEntry report ∷ map OrderEntry orders)) (sym is.text_is)
         (tells_both p (report_line report) (lateness ++ (order_lines orders ++ ending)) (ReportEntry report ∷ []) (map OrderEntry orders) (step_report p shaped c report is.movers sound is.step)
-        (tells_both p lateness (order_lines orders ++ ending) [] (map OrderEntry orders) (lateness_told (said report).at is.late (told_overdue manner p c report)) moves)))
+        (tells_both p lateness (order_lines orders ++ ending) [] (map OrderEntry orders) (lateness_told (at report) is.late (told_overdue manner p c report)) moves)))
         (entries ∙ ap (λ (es : List Entry). before.entries ++ es) is.events_are) is.next_is
     request_told before number Status text end more sound entries is = record {
       more = [];

@@ -5,10 +5,9 @@ use Rattle.shop_base.specs.Plan.{PlannedShop}
 use Rattle.shop_base.specs.Cell.{Cell}
 use Rattle.shop_base.specs.Report.{CanReport}
 use Rattle.shop_base.specs.Sound.{IsSound}
+use Rattle.shop_base.specs.declared.report.Report as reports
 use Rattle.shop_base.proofs.ControlledRuns.{controlled_to_run}
 use Rattle.plan_verifier.specs.Accepted.{VerifiedPlan}
-use Rattle.cell_tables.specs.Reports.{said}
-use Rattle.cell_tables.specs.declared.report.Report as reports
 use Rattle.cell_tables.specs.declared.entry.Entry.TheVariants.{Report as ReportEntry, Order as OrderEntry}
 use Rattle.cell_tables.specs.Events.{events_of}
 use Rattle.cell_control.specs.declared.report.Ack.{Ack}
@@ -47,10 +46,10 @@ driven_sound s driven =
     let (run, leads, sound, rest) = controlled_to_run s.control.plan.planned driven.reports (events_of s.log.entries) s.control.cell driven.verified.schedule.shaped driven.run in sound
 
 -- a report that is possible isn't refused
-pub is_taken : (p : PlannedShop) (c : Cell) (report : reports.Report) (outcome : Result Ack ReportFault) → IsSound p c → CanReport p c (said report)
-    → IfErr outcome (IsFirstReason p c (said report)) → IsOk outcome
+pub is_taken : (p : PlannedShop) (c : Cell) (report : reports.Report) (outcome : Result Ack ReportFault) → IsSound p c → CanReport p c report
+    → IfErr outcome (IsFirstReason p c report) → IsOk outcome
 is_taken p c report (Ok ack) sound can first = refl
-is_taken p c report (Err reason) sound can first = absurd (reason-cannot p c (said report) reason sound first can)
+is_taken p c report (Err reason) sound can first = absurd (reason-cannot p c report reason sound first can)
 
 either_way : (tells : Bool) (prefix : List ℕ) → cond tells prefix prefix ≡ prefix
 either_way true prefix = refl
@@ -69,7 +68,7 @@ no_report line none Status asked = asked
 -- a claim that a controller takes
 pub claim_taken : (manner : Manner) (prefix : List ℕ) (before after : Control) (claim : Claim) (ack : Ack) (orders : List MoveOrder) (overdue : Option Overdue) (ended : Bool)
     → IsTaken manner before.plan.planned before.cell claim → orders ≡ after.orders → overdue ≡ told_overdue manner before.plan.planned before.cell (claimed claim)
-    → ended ≡ tells_end manner after.plan.planned after.cell → IsAnswered before (said (claimed claim)) ack after
+    → ended ≡ tells_end manner after.plan.planned after.cell → IsAnswered before (claimed claim) ack after
     → IsClaimTaken before.plan.planned manner prefix before.cell claim (taken_lines prefix (claimed claim) ack.late overdue orders ended) (ReportEntry (claimed claim) ∷ map OrderEntry after.orders) after.cell
 claim_taken manner prefix before after claim ack orders overdue ended taken are overdue_is ended_is answered =
     let told = told_overdue manner before.plan.planned before.cell (claimed claim) in
@@ -106,7 +105,7 @@ module _ (manner : Manner) (s : DriveState) (number : ℕ) where
   -- to one that is taken
   pub takes : (e : DriveState) (claim : Claim) (ack : Ack) (orders : List MoveOrder) (overdue : Option Overdue) (ended : Bool) → IsTaken manner p s.control.cell claim
       → orders ≡ e.control.orders → overdue ≡ told_overdue manner p s.control.cell (claimed claim) → ended ≡ tells_end manner e.control.plan.planned e.control.cell
-      → IsAnswered s.control (said (claimed claim)) ack e.control → Notes s.log e.log (ReportEntry (claimed claim) ∷ map OrderEntry e.control.orders)
+      → IsAnswered s.control (claimed claim) ack e.control → Notes s.log e.log (ReportEntry (claimed claim) ∷ map OrderEntry e.control.orders)
       → AnswersRequest manner s number (ClaimRequest claim) e (taken_lines [] (claimed claim) ack.late overdue orders ended)
   takes e claim ack orders overdue ended taken are overdue_is ended_is answered notes = record {
     answer = record {
@@ -121,10 +120,10 @@ module _ (manner : Manner) (s : DriveState) (number : ℕ) where
   -- whose report this is
   pub takes_as : (e : DriveState) (claim : Claim) (ack : Ack) (orders : List MoveOrder) (overdue : Option Overdue) (ended : Bool) (report : reports.Report) → claimed claim ≡ report
       → IsTaken manner p s.control.cell claim → ended ≡ tells_end manner e.control.plan.planned e.control.cell
-      → orders ≡ e.control.orders → overdue ≡ told_overdue manner p s.control.cell report → IsAnswered s.control (said report) ack e.control
+      → orders ≡ e.control.orders → overdue ≡ told_overdue manner p s.control.cell report → IsAnswered s.control report ack e.control
       → Notes s.log e.log (ReportEntry report ∷ map OrderEntry e.control.orders) → AnswersRequest manner s number (ClaimRequest claim) e (taken_lines [] report ack.late overdue orders ended)
   takes_as e claim ack orders overdue ended report same taken ended_is =
-      subst (λ (r : reports.Report). orders ≡ e.control.orders → overdue ≡ told_overdue manner p s.control.cell r → IsAnswered s.control (said r) ack e.control
+      subst (λ (r : reports.Report). orders ≡ e.control.orders → overdue ≡ told_overdue manner p s.control.cell r → IsAnswered s.control r ack e.control
       → Notes s.log e.log (ReportEntry r ∷ map OrderEntry e.control.orders) → AnswersRequest manner s number (ClaimRequest claim) e (taken_lines [] r ack.late overdue orders ended)) same
       (λ are overdue_is answered notes. takes e claim ack orders overdue ended taken are overdue_is ended_is answered notes)
 

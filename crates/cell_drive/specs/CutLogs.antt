@@ -2,7 +2,7 @@
 use Rattle.std.specs.Prelude.{◌≡◌, ℕ, ◌≤◌, List, [], ◌∷◌, ◌++◌, length, map, take}
 use Rattle.shop_base.specs.Plan.{PlannedShop}
 use Rattle.shop_base.specs.declared.move_order.MoveOrder.{MoveOrder}
-use Rattle.shop_base.specs.Report as base
+use Rattle.shop_base.specs.Report.{Report}
 use Rattle.shop_base.specs.Run.{Event, Reported, Moved}
 use Rattle.shop_base.specs.Controlled.{IsControlledRun}
 use Rattle.cell_tables.specs.declared.entry.Entry.{Entry}
@@ -12,7 +12,7 @@ use Rattle.event_lines.specs.LogLines.{LinesTell}
 use Rattle.cell_drive.specs.OneRun.{cell_after}
 
 -- the reports among the events
-abbrev pub reported : List Event → List base.Report
+abbrev pub reported : List Event → List Report
 reported [] = []
 reported (Reported r ∷ es) = r ∷ reported es
 reported (Moved o ∷ es) = reported es

@@ -4,14 +4,13 @@ use Rattle.shop_base.specs.Plan.{PlannedShop}
 use Rattle.shop_base.specs.Cell.{Cell}
 use Rattle.shop_base.specs.Run.{after}
 use Rattle.shop_base.specs.Punctual.{IsPunctual}
-use Rattle.cell_tables.specs.Reports.{said}
 use Rattle.cell_tables.specs.declared.entry.Entry.{Entry}
 use Rattle.cell_tables.specs.declared.entry.Entry.TheVariants.{Report as ReportEntry, Order as OrderEntry}
 use Rattle.cell_tables.specs.Events.{event_of}
 
 -- whether the event is a late report
 abbrev pub IsLateEvent : PlannedShop → Cell → Entry → Bool → Type 0
-IsLateEvent p c (ReportEntry report) late = (late ≡ false) ↔ IsPunctual p c (said report)
+IsLateEvent p c (ReportEntry report) late = (late ≡ false) ↔ IsPunctual p c report
 IsLateEvent p c (OrderEntry order) late = late ≡ false
 
 -- whether each of these events is, one after another

@@ -8,8 +8,8 @@ use Rattle.shop_base.specs.Controlled.{IsStep, after_step, step_orders}
 use Rattle.shop_base.specs.Punctual.{IsPunctual}
 use Rattle.shop_base.specs.Ends.{HasEnded}
 use Rattle.shop_base.specs.ReportsLeft.{reports_left}
-use Rattle.cell_tables.specs.declared.report.Report.{Report}
-use Rattle.cell_tables.specs.Reports.{said}
+use Rattle.shop_base.specs.Report.{at}
+use Rattle.shop_base.specs.declared.report.Report.{Report}
 use Rattle.cell_tables.specs.declared.entry.Entry.{Entry}
 use Rattle.cell_tables.specs.declared.entry.Entry.TheVariants.{Report as ReportEntry, Order as OrderEntry}
 use Rattle.cell_control.specs.declared.report_fault.ReportFault.{ReportFault}
@@ -43,12 +43,12 @@ LineAnswer asks answers start number (Some (b ∷ line)) text end =
 -- the lines that answer an accepted report, with this before each: its own line, the line that it was late if it was, and the lines of its moves
 abbrev pub accepted_lines : List ℕ → Report → Bool → List MoveOrder → List ℕ
 accepted_lines prefix report late orders =
-    (prefix ++ report_line report) ++ ((if late then prefix ++ late_line (said report).at else []) ++ flat_map (λ o. prefix ++ order_line o) orders)
+    (prefix ++ report_line report) ++ ((if late then prefix ++ late_line (at report) else []) ++ flat_map (λ o. prefix ++ order_line o) orders)
 
 -- the report isn't possible in the cell: it is refused by its first reason, and nothing changes
 pub record IsRefused (p : PlannedShop) (c : Cell) (number : ℕ) (report : Report) (text : List ℕ) (events : List Entry) (next : Cell) : Type 0 where
   pub reason : ReportFault
-  pub first : IsFirstReason p c (said report) reason
+  pub first : IsFirstReason p c report reason
   pub text_is : text ≡ refused_line number (reason_name reason)
   pub events_are : events ≡ []
   pub next_is : next ≡ c
@@ -56,12 +56,12 @@ pub record IsRefused (p : PlannedShop) (c : Cell) (number : ℕ) (report : Repor
 -- the report is possible: it makes a step of the controlled run, with these events
 pub record IsAccepted (p : PlannedShop) (prefix : List ℕ) (c : Cell) (report : Report) (text : List ℕ) (events : List Entry) (next : Cell) : Type 0 where
   pub movers : List ℕ
-  pub step : IsStep p c (said report) movers
+  pub step : IsStep p c report movers
   pub late : Bool
-  pub late_is : (late ≡ false) ↔ IsPunctual p c (said report)
-  pub text_is : text ≡ accepted_lines prefix report late (step_orders p c (said report) movers)
-  pub events_are : events ≡ ReportEntry report ∷ map OrderEntry (step_orders p c (said report) movers)
-  pub next_is : next ≡ after_step p c (said report) movers
+  pub late_is : (late ≡ false) ↔ IsPunctual p c report
+  pub text_is : text ≡ accepted_lines prefix report late (step_orders p c report movers)
+  pub events_are : events ≡ ReportEntry report ∷ map OrderEntry (step_orders p c report movers)
+  pub next_is : next ≡ after_step p c report movers
 
 -- in a cell a report, by its line of this number, is answered by this text, with this before each line but a refusal. It adds these events, and the cell is then another
 abbrev pub ReportAnswer : PlannedShop → List ℕ → Cell → ℕ → Report → List ℕ → List Entry → Cell → Type 0

@@ -2,10 +2,9 @@
 use Rattle.std.specs.Prelude.{◌≡◌, ℕ, List, codes, Bool, true, false, ◌⊎◌, if◌then◌else◌}
 use Rattle.shop_base.specs.Plan.{PlannedShop}
 use Rattle.shop_base.specs.Cell.{Cell}
-use Rattle.shop_base.specs.Report.{CanReport}
-use Rattle.cell_tables.specs.declared.report.Report as reports
-use Rattle.cell_tables.specs.declared.report.Report.TheVariants.{Arrive, Finish, Clean}
-use Rattle.cell_tables.specs.Reports.{said}
+use Rattle.shop_base.specs.Report.{at, CanReport}
+use Rattle.shop_base.specs.declared.report.Report as reports
+use Rattle.shop_base.specs.declared.report.Report.TheVariants.{Arrive, Finish, Clean}
 use Rattle.cell_tables.specs.declared.standing.Standing.{Standing}
 use Rattle.cell_tables.specs.Standings.{job_standing, machine_standing}
 use Rattle.cell_control.specs.declared.report_fault.ReportFault.{ReportFault}
@@ -24,17 +23,17 @@ use Rattle.cell_drive.specs.declared.refusals.Refusal.TheVariants.{Reason, Leap}
 
 -- what is claimed is possible
 abbrev pub CanClaim : PlannedShop → Cell → Claim → Type 0
-CanClaim p c (Report report) = CanReport p c (said report)
+CanClaim p c (Report report) = CanReport p c report
 CanClaim p c (CleanAfter machine job at) = CanCleanAfter p c machine job at
 
 -- this is the first reason for which it isn't
 abbrev pub IsClaimReason : PlannedShop → Cell → Claim → ReportFault → Type 0
-IsClaimReason p c (Report report) reason = IsFirstReason p c (said report) reason
+IsClaimReason p c (Report report) reason = IsFirstReason p c report reason
 IsClaimReason p c (CleanAfter machine job at) reason = IsFirstCleanReason p c machine job at reason
 
 -- whether its moment leaps
 abbrev pub claim_leaps : Manner → Cell → Claim → Bool
-claim_leaps manner c claim = leaps manner c.last (said (claimed claim)).at
+claim_leaps manner c claim = leaps manner c.last (at (claimed claim))
 
 -- whether the reason is looked for before a leap: it is one against the numbers, or the moment is before the last one
 abbrev pub is_before_leap : ReportFault → Bool

@@ -4,7 +4,7 @@ use Rattle.std.specs.Io.KnownBytes.{Appends}
 use Rattle.shop_base.specs.Plan.{PlannedShop}
 use Rattle.shop_base.specs.Cell.{Cell, start}
 use Rattle.shop_base.specs.Run.{after}
-use Rattle.cell_tables.specs.Reports.{said}
+use Rattle.shop_base.specs.Report.{at}
 use Rattle.cell_tables.specs.declared.entry.Entry.{Entry}
 use Rattle.cell_tables.specs.declared.entry.Entry.TheVariants.{Report as ReportEntry, Order as OrderEntry}
 use Rattle.cell_tables.specs.Events.{event_of}
@@ -19,7 +19,7 @@ use Rattle.cell_drive.specs.TakenUp.{TakenUp, plan_of, told_in}
 
 -- the line of an event of this cell, and behind that of a late report the line that it was late, with what was overdue as it came
 abbrev pub retold_line : PlannedShop → Manner → Cell → Entry → Bool → List ℕ
-retold_line p manner c (ReportEntry report) late = report_line report ++ lateness_part [] (said report).at late (told_overdue manner p c report)
+retold_line p manner c (ReportEntry report) late = report_line report ++ lateness_part [] (at report) late (told_overdue manner p c report)
 retold_line p manner c (OrderEntry order) late = order_line order
 
 -- these lines of events that happen from this cell on, one after another

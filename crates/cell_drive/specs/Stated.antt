@@ -7,9 +7,9 @@ use Rattle.shop_base.specs.Cell.{Cell}
 use Rattle.shop_base.specs.Controlled.{IsStep, after_step, step_orders}
 use Rattle.shop_base.specs.Punctual.{IsPunctual}
 use Rattle.shop_base.specs.ReportsLeft.{reports_left}
+use Rattle.shop_base.specs.Report.{at}
+use Rattle.shop_base.specs.declared.report.Report as reports
 use Rattle.plan_verifier.specs.Accepted.{VerifiedPlan}
-use Rattle.cell_tables.specs.declared.report.Report as reports
-use Rattle.cell_tables.specs.Reports.{said}
 use Rattle.cell_tables.specs.declared.entry.Entry.{Entry}
 use Rattle.cell_tables.specs.declared.entry.Entry.TheVariants.{Report as ReportEntry, Order as OrderEntry}
 use Rattle.cell_control.specs.Control.{Control}
@@ -47,7 +47,7 @@ AsksFor false line Status = ⊥
 
 -- what is told to be overdue as a report comes, from version 2 on
 abbrev pub told_overdue : Manner → PlannedShop → Cell → reports.Report → Option Overdue
-told_overdue manner p c report = if manner.tells then overdue_in p c (standing_of p c report) (said report).at else None
+told_overdue manner p c report = if manner.tells then overdue_in p c (standing_of p c report) (at report) else None
 
 -- whether the end of the run is told at once
 abbrev pub tells_end : Manner → PlannedShop → Cell → Bool
@@ -69,8 +69,8 @@ end_part prefix at ended = if ended then prefix ++ done_line at else []
 -- the lines that answer an accepted report, with this before each: its own line, the line that it was late, the lines of its moves, and that of the end
 abbrev pub taken_lines : List ℕ → reports.Report → Bool → Option Overdue → List MoveOrder → Bool → List ℕ
 taken_lines prefix report late overdue orders ended =
-    (prefix ++ report_line report) ++ (lateness_part prefix (said report).at late overdue
-    ++ (flat_map (λ o. prefix ++ order_line o) orders ++ end_part prefix (said report).at ended))
+    (prefix ++ report_line report) ++ (lateness_part prefix (at report) late overdue
+    ++ (flat_map (λ o. prefix ++ order_line o) orders ++ end_part prefix (at report) ended))
 
 -- the claim is refused, and nothing changes
 pub record IsClaimRefused (p : PlannedShop) (manner : Manner) (prefix : List ℕ) (c : Cell) (number : ℕ) (claim : Claim) (text : List ℕ) (events : List Entry) (next : Cell) : Type 0 where
@@ -84,12 +84,12 @@ pub record IsClaimRefused (p : PlannedShop) (manner : Manner) (prefix : List ℕ
 pub record IsClaimTaken (p : PlannedShop) (manner : Manner) (prefix : List ℕ) (c : Cell) (claim : Claim) (text : List ℕ) (events : List Entry) (next : Cell) : Type 0 where
   pub taken : IsTaken manner p c claim
   pub movers : List ℕ
-  pub step : IsStep p c (said (claimed claim)) movers
+  pub step : IsStep p c (claimed claim) movers
   pub late : Bool
-  pub late_is : (late ≡ false) ↔ IsPunctual p c (said (claimed claim))
-  pub text_is : text ≡ taken_lines prefix (claimed claim) late (told_overdue manner p c (claimed claim)) (step_orders p c (said (claimed claim)) movers) (tells_end manner p next)
-  pub events_are : events ≡ ReportEntry (claimed claim) ∷ map OrderEntry (step_orders p c (said (claimed claim)) movers)
-  pub next_is : next ≡ after_step p c (said (claimed claim)) movers
+  pub late_is : (late ≡ false) ↔ IsPunctual p c (claimed claim)
+  pub text_is : text ≡ taken_lines prefix (claimed claim) late (told_overdue manner p c (claimed claim)) (step_orders p c (claimed claim) movers) (tells_end manner p next)
+  pub events_are : events ≡ ReportEntry (claimed claim) ∷ map OrderEntry (step_orders p c (claimed claim) movers)
+  pub next_is : next ≡ after_step p c (claimed claim) movers
 
 -- the state is told, and nothing changes
 pub record IsStateTold (p : PlannedShop) (prefix : List ℕ) (c : Cell) (text : List ℕ) (events : List Entry) (next : Cell) : Type 0 where

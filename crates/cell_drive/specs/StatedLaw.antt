@@ -5,11 +5,11 @@ use Rattle.shop_base.specs.Cell.{Cell}
 use Rattle.shop_base.specs.Run.{IsRun}
 use Rattle.shop_base.specs.Punctual.{IsPunctual}
 use Rattle.shop_base.specs.Sound.{IsSound}
+use Rattle.shop_base.specs.Report.{at}
+use Rattle.shop_base.specs.declared.report.Report as reports
+use Rattle.shop_base.specs.declared.report.Report.TheVariants.{Arrive, Finish, Clean}
 use Rattle.text_lines.specs.Lines.{lines_of}
 use Rattle.plan_verifier.specs.Accepted.{VerifiedPlan}
-use Rattle.cell_tables.specs.Reports.{said}
-use Rattle.cell_tables.specs.declared.report.Report as reports
-use Rattle.cell_tables.specs.declared.report.Report.TheVariants.{Arrive, Finish, Clean}
 use Rattle.cell_tables.specs.declared.entry.Entry.{Entry}
 use Rattle.cell_tables.specs.declared.entry.Entry.TheVariants.{Report as ReportEntry}
 use Rattle.cell_tables.specs.Events.{events_of}
@@ -71,7 +71,7 @@ named (CleanAfter machine job at) = Some (Cleaned machine job)
 -- once what names its job was reported in a run, it can't be claimed at its end, at whatever moment
 abbrev pub NothingOfARunIsClaimedAgain : Type 0
 NothingOfARunIsClaimedAgain = (p : PlannedShop) (before after : List Entry) (report : reports.Report) (again : Claim) (ended : NamedEnd) → IsWellShaped p → IsRun p (events_of (before ++ ReportEntry report ∷ after))
-    → Tells p (cell_after p before) (said report) ended → named again ≡ Some ended → CanClaim p (cell_after p (before ++ ReportEntry report ∷ after)) again → ⊥
+    → Tells p (cell_after p before) report ended → named again ≡ Some ended → CanClaim p (cell_after p (before ++ ReportEntry report ∷ after)) again → ⊥
 
 -- a claim that names its job was taken behind some lines, and then further lines were answered: what it said to have ended can't be claimed again, at whatever moment
 abbrev pub NothingIsTakenTwice : Type 0
@@ -81,4 +81,4 @@ NothingIsTakenTwice = (p : PlannedShop) (manner : Manner) (lines later : List (O
 
 -- where a report finds nothing overdue, it is punctual: so of each late one it is told what is
 abbrev pub ALateReportFindsSomethingOverdue : Type 0
-ALateReportFindsSomethingOverdue = (p : PlannedShop) (c : Cell) (report : reports.Report) → IsSound p c → overdue_in p c (standing_of p c report) (said report).at ≡ None → IsPunctual p c (said report)
+ALateReportFindsSomethingOverdue = (p : PlannedShop) (c : Cell) (report : reports.Report) → IsSound p c → overdue_in p c (standing_of p c report) (at report) ≡ None → IsPunctual p c report

@@ -2,7 +2,7 @@
 
 ghost use Rattle.std.specs.Prelude.{◌≡◌, [], ◌++◌, if◌then◌else◌, OnOk};
 ghost use Rattle.std.specs.List.{flat_map};
-ghost use Rattle.cell_tables.specs.Reports.{said};
+ghost use Rattle.shop_base.specs.Report.{at};
 ghost use Rattle.event_lines.specs.EventLines.{report_line, order_line};
 ghost use Rattle.byte_streams.specs.Lent.{WroteTo};
 ghost use Rattle.event_lines.specs.AnswerLines.{late_line};
@@ -51,7 +51,7 @@ fn put_late<W: Sink>(
     late: bool,
     writer: &mut W,
 ) -> Result<(), WriteFault>
-    ensures wrote { WroteTo W.Sink result writer.old writer.new (if late then prefix.now ++ late_line (said report).at else []) }
+    ensures wrote { WroteTo W.Sink result writer.old writer.new (if late then prefix.now ++ late_line (at report) else []) }
     ensures unfailed { OnOk result (W.failed writer.new ≡ W.failed writer.old) }
 {
     if !late {

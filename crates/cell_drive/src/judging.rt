@@ -1,8 +1,7 @@
 //! Whether what is claimed is taken, and what the answer says of it.
 
 ghost use Rattle.std.specs.Prelude.{◌≡◌, ◌++◌, false, OnOk};
-ghost use Rattle.shop_base.specs.Report.{CanReport};
-ghost use Rattle.cell_tables.specs.Reports.{said};
+ghost use Rattle.shop_base.specs.Report.{at, CanReport};
 ghost use Rattle.cell_control.specs.Readings.{IsOnTime};
 ghost use Rattle.byte_streams.specs.Lent.{WroteTo};
 ghost use Rattle.event_lines.specs.StandingLines.{refused_detail_line};
@@ -38,8 +37,8 @@ pub(crate) fn told_overdue<P: Planned>(
     late: bool,
     report: Report,
 ) -> Option<Overdue>
-    requires possible { CanReport cell.now.plan cell.now.cell (said report) }
-    requires on_time { late ≡ false → IsOnTime cell.now.plan cell.now.cell (said report).at }
+    requires possible { CanReport cell.now.plan cell.now.cell report }
+    requires on_time { late ≡ false → IsOnTime cell.now.plan cell.now.cell (at report) }
     ensures { result ≡ told_overdue manner cell.now.plan cell.now.cell report }
 {
     if !manner.tells {
@@ -59,7 +58,7 @@ pub(crate) fn judge_in<P: Planned>(
     late: bool,
     claim: Claim,
 ) -> Judged
-    requires { late ≡ false → IsOnTime cell.now.plan cell.now.cell (said (claimed claim)).at }
+    requires { late ≡ false → IsOnTime cell.now.plan cell.now.cell (at (claimed claim)) }
     ensures { IsJudged manner cell.now.plan cell.now.cell claim result }
 {
     match refusal_of(manner, cell, claim) {

@@ -6,7 +6,6 @@ ghost use Rattle.shop_base.specs.Report.{CanReport, after_report};
 ghost use Rattle.shop_base.specs.Move.{CanObey, KeepsPlan, after_move};
 ghost use Rattle.shop_base.specs.Run.{CanHappen, after, AreEvents, IsRun};
 ghost use Rattle.shop_base.specs.Punctual.{IsPunctual};
-ghost use Rattle.cell_tables.specs.Reports.{said};
 ghost use Rattle.cell_tables.specs.Events.{event_of, events_of};
 ghost use Rattle.cell_control.specs.DueMoments.{AreDueMoments};
 ghost use Rattle.cell_drive.specs.LateEvents.{IsLateEvent, AreLate};
@@ -97,9 +96,9 @@ fn follow_event<P: Planned, D: Dues>(cell: &mut WorkCell<P>, dues: &mut D, entry
 /// Ends the activity of a possible report, and tells whether the report is late.
 fn follow_report<P: Planned, D: Dues>(cell: &mut WorkCell<P>, dues: &mut D, report: Report) -> bool
     requires due_moments { AreDueMoments cell.old.plan cell.old.cell (D.dues dues.old) }
-    requires possible { CanReport cell.old.plan cell.old.cell (said report) }
-    ensures late { (result ≡ false) ↔ IsPunctual cell.old.plan cell.old.cell (said report) }
-    ensures ended { cell.new ≡ record cell.old { cell = after_report cell.old.cell (said report) } }
+    requires possible { CanReport cell.old.plan cell.old.cell report }
+    ensures late { (result ≡ false) ↔ IsPunctual cell.old.plan cell.old.cell report }
+    ensures ended { cell.new ≡ record cell.old { cell = after_report cell.old.cell report } }
     ensures due_moments { AreDueMoments cell.old.plan cell.new.cell (D.dues dues.new) }
 {
     // Called for its clauses alone: the plan is well shaped, and the cell sound.

@@ -2,7 +2,6 @@
 
 ghost use Rattle.std.specs.Prelude.{◌≡◌, ◌≢◌, ◌+◌, ◌≤◌, [], ◌∷◌, length, map, IfOk, IfErr, OnOk, OnErr};
 ghost use Rattle.cell_control.specs.Control.{IsAnswered};
-ghost use Rattle.cell_tables.specs.Reports.{said};
 ghost use Rattle.cell_control.specs.Reports.{IsFirstReason};
 ghost use Rattle.run_log.specs.Log.{Notes};
 ghost use Rattle.byte_streams.specs.Lent.{WroteTo, WroteOneTo};
@@ -53,9 +52,9 @@ pub fn take_report<D: Dues>(
 ) -> Result<Ack, ReportFault>
     requires { IsDriven (driven_by controller.old log.old) }
     ensures driven { IsDriven (driven_by controller.new log.new) }
-    ensures accepted { IfOk result (λ ack. IsAnswered controller.old (said report) ack controller.new) }
+    ensures accepted { IfOk result (λ ack. IsAnswered controller.old report ack controller.new) }
     ensures noted { OnOk result (Notes log.old log.new (Entry.Report report ∷ map Entry.Order controller.new.orders)) }
-    ensures refused { IfErr result (IsFirstReason controller.old.plan.planned controller.old.cell (said report)) }
+    ensures refused { IfErr result (IsFirstReason controller.old.plan.planned controller.old.cell report) }
     ensures unchanged { OnErr result ((controller.new ≡ controller.old) × (log.new ≡ log.old)) }
 {
     let ack = controller.report(report)?;

@@ -1,7 +1,7 @@
 //! Why what a line claims is refused, and what the answer says of it.
 
 ghost use Rattle.std.specs.Prelude.{◌≡◌, false, OnOk, IfErr, MatchOption};
-ghost use Rattle.cell_tables.specs.Reports.{said};
+ghost use Rattle.shop_base.specs.Report.{ended};
 ghost use Rattle.cell_control.specs.Reports.{IsOfShop};
 ghost use Rattle.event_lines.specs.Requests.{claimed};
 ghost use Rattle.cell_drive.specs.Refusals.{CanClaim, IsClaimReason, IsRefusal, IsTaken, claim_leaps, first_refusal, is_before_leap, reason_detail, refusal_detail, refusal_word, standing_of};
@@ -97,7 +97,7 @@ pub(crate) fn refusal_of<P: Planned>(
 
 /// The state of the job or the machine of the report.
 pub(crate) fn standing_of<P: Planned>(cell: &WorkCell<P>, report: Report) -> Standing
-    requires { IsOfShop cell.now.plan (said report).ended }
+    requires { IsOfShop cell.now.plan (ended report) }
     ensures { result ≡ standing_of cell.now.plan cell.now.cell report }
 {
     match report {
@@ -114,7 +114,7 @@ pub(crate) fn standing_of<P: Planned>(cell: &WorkCell<P>, report: Report) -> Sta
 /// What the controller has instead of what was reported. A reason that is looked for after a leap is against a report
 /// of the shop.
 fn reason_detail<P: Planned>(cell: &WorkCell<P>, report: Report, reason: ReportFault) -> Detail
-    requires { is_before_leap reason ≡ false → IsOfShop cell.now.plan (said report).ended }
+    requires { is_before_leap reason ≡ false → IsOfShop cell.now.plan (ended report) }
     ensures { result ≡ reason_detail cell.now.plan cell.now.cell report reason }
 {
     match reason {

@@ -1,7 +1,6 @@
 //! A cell that is driven on from a log: its controller of the rest of the run, and the log of the whole run.
 
 ghost use Rattle.std.specs.Prelude.{◌≡◌, ◌≢◌, [], ◌∷◌, map, IfOk, IfErr, OnOk, OnErr};
-ghost use Rattle.cell_tables.specs.Reports.{said};
 ghost use Rattle.cell_control.specs.Reports.{IsFirstReason};
 ghost use Rattle.rest_control.specs.RestControl.{IsRestAnswered};
 ghost use Rattle.run_log.specs.Log.{Notes};
@@ -44,9 +43,9 @@ pub(crate) fn take_report<D: Dues>(
 ) -> Result<Ack, ReportFault>
     requires { IsRestDriven (rest_by controller.old log.old) }
     ensures driven { IsRestDriven (rest_by controller.new log.new) }
-    ensures accepted { IfOk result (λ ack. IsRestAnswered controller.old (said report) ack controller.new) }
+    ensures accepted { IfOk result (λ ack. IsRestAnswered controller.old report ack controller.new) }
     ensures noted { OnOk result (Notes log.old log.new (Entry.Report report ∷ map Entry.Order controller.new.orders)) }
-    ensures refused { IfErr result (IsFirstReason controller.old.planned controller.old.cell (said report)) }
+    ensures refused { IfErr result (IsFirstReason controller.old.planned controller.old.cell report) }
     ensures unchanged { OnErr result ((controller.new ≡ controller.old) × (log.new ≡ log.old)) }
 {
     let ack = controller.report(report)?;

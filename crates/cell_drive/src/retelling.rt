@@ -1,9 +1,8 @@
 //! The lines of the events that a log told, written once more in a manner.
 
 ghost use Rattle.std.specs.Prelude.{◌≡◌, [], length, OnOk};
-ghost use Rattle.shop_base.specs.Report.{CanReport};
+ghost use Rattle.shop_base.specs.Report.{at, CanReport};
 ghost use Rattle.shop_base.specs.Run.{CanHappen, after, AreEvents};
-ghost use Rattle.cell_tables.specs.Reports.{said};
 ghost use Rattle.cell_tables.specs.Events.{event_of, events_of};
 ghost use Rattle.byte_streams.specs.Lent.{WroteTo};
 ghost use Rattle.event_lines.specs.EventLines.{order_line};
@@ -28,9 +27,9 @@ fn put_was_late<P: Planned, W: Sink>(
     late: bool,
     writer: &mut W,
 ) -> Result<(), WriteFault>
-    requires { CanReport cell.now.plan cell.now.cell (said report) }
+    requires { CanReport cell.now.plan cell.now.cell report }
     ensures wrote { WroteTo W.Sink result writer.old writer.new
-        (lateness_part [] (said report).at late (told_overdue manner cell.now.plan cell.now.cell report)) }
+        (lateness_part [] (at report) late (told_overdue manner cell.now.plan cell.now.cell report)) }
     ensures unfailed { OnOk result (W.failed writer.new ≡ W.failed writer.old) }
 {
     if !late {
@@ -58,7 +57,7 @@ fn put_retold_report<P: Planned, W: Sink>(
     late: bool,
     writer: &mut W,
 ) -> Result<(), WriteFault>
-    requires { CanReport cell.now.plan cell.now.cell (said report) }
+    requires { CanReport cell.now.plan cell.now.cell report }
     ensures wrote { WroteTo W.Sink result writer.old writer.new (retold_line cell.now.plan manner cell.now.cell (Entry.Report report) late) }
     ensures unfailed { OnOk result (W.failed writer.new ≡ W.failed writer.old) }
 {

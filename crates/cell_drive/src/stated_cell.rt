@@ -3,7 +3,6 @@
 ghost use Rattle.std.specs.Prelude.{◌≡◌, ◌≢◌, ℕ, [], ◌∷◌, map};
 ghost use Rattle.text_lines.specs.Searches.{SomeIfAny};
 ghost use Rattle.shop_base.specs.Report.{CanReport};
-ghost use Rattle.cell_tables.specs.Reports.{said};
 ghost use Rattle.cell_control.specs.Control.{IsAnswered};
 ghost use Rattle.run_log.specs.Log.{Notes};
 ghost use Rattle.byte_streams.specs.Lent.{WroteOneTo};
@@ -82,9 +81,9 @@ pub(crate) fn asked_of(tells: bool, line: &[u8]) -> Option<Request>
 /// Takes a report that is possible, and notes it with the moves that it releases.
 fn take_possible<D: Dues>(controller: &mut Controller<D>, log: &mut RunLog, report: Report) -> Ack
     requires driven { IsDriven (driven_by controller.old log.old) }
-    requires possible { CanReport controller.old.plan.planned controller.old.cell (said report) }
+    requires possible { CanReport controller.old.plan.planned controller.old.cell report }
     ensures driven { IsDriven (driven_by controller.new log.new) }
-    ensures accepted { IsAnswered controller.old (said report) result controller.new }
+    ensures accepted { IsAnswered controller.old report result controller.new }
     ensures noted { Notes log.old log.new (Entry.Report report ∷ map Entry.Order controller.new.orders) }
 {
     take_report(controller, log, report).unwrap()

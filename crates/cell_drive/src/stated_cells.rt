@@ -5,7 +5,6 @@ ghost use Rattle.shop_base.specs.Report.{CanReport};
 ghost use Rattle.cell_control.specs.Control.{Control};
 ghost use Rattle.cell_hub.specs.Hub.{cell_at};
 ghost use Rattle.cell_hub.specs.Calls.{IsReported};
-ghost use Rattle.cell_tables.specs.Reports.{said};
 ghost use Rattle.byte_streams.specs.Lent.{WroteOneTo};
 ghost use Rattle.event_lines.specs.Requests.{claimed};
 ghost use Rattle.cell_drive.specs.ManyCells.{PlannedCell, AreAllDone};
@@ -88,7 +87,7 @@ fn tells_end_of<D: Dues>(manner: Manner, hub: &Hub<D>, ticket: Ticket) -> bool
 
 /// Takes a report on the ticket's cell that is possible there.
 fn take_possible<D: Dues>(hub: &mut Hub<D>, ticket: Ticket, report: Report) -> Ack
-    requires { (content : Control) × (cell_at hub.old ticket ≡ Some content) × CanReport content.plan.planned content.cell (said report) }
+    requires { (content : Control) × (cell_at hub.old ticket ≡ Some content) × CanReport content.plan.planned content.cell report }
     ensures { IsReported hub.old ticket report result hub.new }
 {
     hub.report(ticket, report).unwrap()

@@ -2,7 +2,6 @@
 
 ghost use Rattle.std.specs.Prelude.{◌≡◌, ◌≢◌, ℕ, [], ◌∷◌, map};
 ghost use Rattle.shop_base.specs.Report.{CanReport};
-ghost use Rattle.cell_tables.specs.Reports.{said};
 ghost use Rattle.rest_control.specs.RestControl.{IsRestAnswered};
 ghost use Rattle.run_log.specs.Log.{Notes};
 ghost use Rattle.byte_streams.specs.Lent.{WroteOneTo};
@@ -77,9 +76,9 @@ fn take_possible<D: Dues>(
     report: Report,
 ) -> Ack
     requires driven { IsRestDriven (rest_by controller.old log.old) }
-    requires possible { CanReport controller.old.planned controller.old.cell (said report) }
+    requires possible { CanReport controller.old.planned controller.old.cell report }
     ensures driven { IsRestDriven (rest_by controller.new log.new) }
-    ensures accepted { IsRestAnswered controller.old (said report) result controller.new }
+    ensures accepted { IsRestAnswered controller.old report result controller.new }
     ensures noted { Notes log.old log.new (Entry.Report report ∷ map Entry.Order controller.new.orders) }
 {
     take_report(controller, log, report).unwrap()

@@ -1,7 +1,7 @@
 //! The lines that answer what was claimed and is taken.
 
 ghost use Rattle.std.specs.Prelude.{◌≡◌, OnOk};
-ghost use Rattle.cell_tables.specs.Reports.{said};
+ghost use Rattle.shop_base.specs.Report.{at};
 ghost use Rattle.byte_streams.specs.Lent.{WroteTo};
 ghost use Rattle.cell_drive.specs.Stated.{lateness_part, end_part, taken_lines};
 
@@ -19,7 +19,7 @@ pub(crate) fn put_lateness<W: Sink>(
     overdue: Option<Overdue>,
     writer: &mut W,
 ) -> Result<(), WriteFault>
-    ensures wrote { WroteTo W.Sink result writer.old writer.new (lateness_part prefix.now (said report).at late overdue) }
+    ensures wrote { WroteTo W.Sink result writer.old writer.new (lateness_part prefix.now (at report) late overdue) }
     ensures unfailed { OnOk result (W.failed writer.new ≡ W.failed writer.old) }
 {
     if !late {
@@ -44,7 +44,7 @@ fn put_end<W: Sink>(
     ended: bool,
     writer: &mut W,
 ) -> Result<(), WriteFault>
-    ensures wrote { WroteTo W.Sink result writer.old writer.new (end_part prefix.now (said report).at ended) }
+    ensures wrote { WroteTo W.Sink result writer.old writer.new (end_part prefix.now (at report) ended) }
     ensures unfailed { OnOk result (W.failed writer.new ≡ W.failed writer.old) }
 {
     if !ended {

@@ -2,13 +2,12 @@
 use Rattle.std.proofs.Common.{◌≡◌, ◌↔◌, ℕ, ◌+◌, ◌<◌, Some, None, IfOk, IfErr, OnErr, refl, sym, ap, ◌∙◌, subst}
 use Rattle.std.specs.Prelude.{Result}
 use Rattle.std.specs.declared.result.Result.TheVariants.{Ok, Err}
+use Rattle.shop_base.specs.declared.report.Report.{Report}
 use Rattle.slab.specs.Slab.{Slab, get, Updates}
 use Rattle.plan_verifier.specs.Accepted.{VerifiedPlan}
 use Rattle.cell_control.specs.Control.{Control, at_start}
-use Rattle.cell_tables.specs.Reports.{said}
 use Rattle.cell_control.specs.Reports.{IsFirstReason}
 use Rattle.cell_control.proofs.OneReason.{only_reason}
-use Rattle.cell_tables.specs.declared.report.Report.{Report}
 use Rattle.cell_control.specs.declared.report.Ack.{Ack}
 use Rattle.cell_hub.specs.declared.ticket.Ticket.{Ticket}
 use Rattle.cell_hub.specs.declared.slots.Placed.{Placed}
@@ -74,7 +73,7 @@ only_refusal h t r (Cell reason) first (Cell another) other =
     let e = first.1 in
     let f = other.1 in
     let same : other.0 ≡ first.0 = cc in
-    ap Cell (only_reason first.0.plan.planned first.0.cell (said r) reason first.2 another (subst (λ (c : Control). IsFirstReason c.plan.planned c.cell (said r) another) same other.2))
+    ap Cell (only_reason first.0.plan.planned first.0.cell r reason first.2 another (subst (λ (c : Control). IsFirstReason c.plan.planned c.cell r another) same other.2))
 
 pub report_only : (old new : HubState) (t : Ticket) (r : Report) (result : Result Ack HubFault) → IsCall old (Reported t r result) new → IfErr result (IsOnlyRefusal old t r)
 report_only old new t r (Ok ack) is = tt

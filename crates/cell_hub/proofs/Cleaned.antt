@@ -3,9 +3,8 @@ use Rattle.std.proofs.Common.{◌≡◌, ◌↔◌, ℕ, false, true, Option, So
 use Rattle.std.specs.Prelude.{IsOk, Result}
 use Rattle.std.specs.declared.result.Result.TheVariants.{Ok, Err}
 use Rattle.std.proofs.lemmas.Bool.{false≢true}
-use Rattle.shop_base.specs.Activity.{Cleaning}
 use Rattle.shop_base.specs.Report.{CanReport}
-use Rattle.cell_tables.specs.declared.report.Report.TheVariants.{Clean}
+use Rattle.shop_base.specs.declared.report.Report.TheVariants.{Clean}
 use Rattle.cell_control.specs.declared.report.Ack.{Ack}
 use Rattle.cell_control.specs.declared.report_fault.ReportFault.{ReportFault}
 use Rattle.cell_control.specs.Control.{Control, IsControl}
@@ -24,10 +23,10 @@ module _ (o : Option Control) (v : Control) (there : o ≡ Some v) (m j t : ℕ)
       subst (λ (x : Option Control). IfSome x (λ c. false ≡ true ↔ CanCleanAfter c.plan.planned c.cell m j t)) (sym there) ((λ wrong. absurd (false≢true wrong)), λ can. absurd (cannot can))
 
   module _ (result : Result Ack HubFault) (can : CanCleanAfter v.plan.planned v.cell m j t)
-      (possible : IfSome o (λ c. IsOk result ↔ CanReport c.plan.planned c.cell (record { ended = Cleaning m; at = t }))) where
+      (possible : IfSome o (λ c. IsOk result ↔ CanReport c.plan.planned c.cell (Clean m t))) where
     pub accepted : IsOk result
     accepted =
-        (subst (λ (x : Option Control). IfSome x (λ c. IsOk result ↔ CanReport c.plan.planned c.cell (record { ended = Cleaning m; at = t }))) there possible).1
+        (subst (λ (x : Option Control). IfSome x (λ c. IsOk result ↔ CanReport c.plan.planned c.cell (Clean m t))) there possible).1
         (can_clean v.plan.planned v.cell m j t can)
 
     -- where it is possible, its controller takes the end of the cleaning

@@ -1,12 +1,11 @@
 -- What a look into a slot, and a change of it, say of a hub.
 use Rattle.std.proofs.Common.{◌≡◌, ℕ, Option, Some, None, IsSome, is_some, IfSome, option_copied, Bor, true, false, inl, inr, refl, sym, ap, ◌∙◌, subst}
 use Rattle.std.proofs.lemmas.Bool.{cases_eq, eq-eqb, ne_eqb}
+use Rattle.shop_base.specs.declared.report.Report.{Report}
 use Rattle.slab.specs.Slab.{Slab, get, with_value, Updates}
 use Rattle.slab.proofs.SlabLemmas.{Updates-with_value}
-use Rattle.cell_tables.specs.declared.report.Report.{Report}
 use Rattle.cell_control.specs.declared.report.Ack.{Ack}
 use Rattle.cell_control.specs.Control.{Control, IsAnswered}
-use Rattle.cell_tables.specs.Reports.{said}
 use Rattle.cell_hub.specs.declared.ticket.Ticket.{Ticket}
 use Rattle.cell_hub.specs.declared.slots.Placed.{Placed}
 use Rattle.cell_hub.specs.Hub.{cell_at, Puts}
@@ -39,7 +38,7 @@ module _ {D : Type 0} (s : Slab (Placed D)) (t : Ticket) where
       subst (Puts (hub_of s before) (hub_of new after) t) (rw (eq-eqb t.serial placed.serial (sym same)) refl)
       (slot_puts s new before after t (Some placed) updates had (sym same))
 
-  pub reports_there : (placed : Placed D) (r : Report) (ack : Ack) (after : Control) → Some placed ≡ get s t.slot → placed.serial ≡ t.serial → IsAnswered placed.controller (said r) ack after → (next : ℕ) → IsReported (hub_of s next) t r ack (hub_of (with_value s t.slot (record placed { controller = after })) next)
+  pub reports_there : (placed : Placed D) (r : Report) (ack : Ack) (after : Control) → Some placed ≡ get s t.slot → placed.serial ≡ t.serial → IsAnswered placed.controller r ack after → (next : ℕ) → IsReported (hub_of s next) t r ack (hub_of (with_value s t.slot (record placed { controller = after })) next)
   reports_there placed r ack after found same is next = record {
     before = placed.controller;
     after = after;

@@ -2,11 +2,10 @@
 use Rattle.std.proofs.Common.{◌≡◌, ◌≢◌, ℕ, ◌<◌, ◌≤◌, List, [], ◌∷◌, ◌++◌, Option, None, All, refl, sym, ap, ◌∙◌, inl, inr, arith, subst}
 use Rattle.std.proofs.lemmas.List.Elements.{All-nil, All-cons}
 use Rattle.std.specs.declared.result.Result.TheVariants.{Ok, Err}
+use Rattle.shop_base.specs.declared.report.Report.{Report}
 use Rattle.plan_verifier.specs.Accepted.{VerifiedPlan}
-use Rattle.cell_tables.specs.declared.report.Report.{Report}
 use Rattle.cell_control.specs.declared.report.Ack.{Ack}
 use Rattle.cell_control.specs.Control.{Control, at_start, IsAnswered}
-use Rattle.cell_tables.specs.Reports.{said}
 use Rattle.cell_control.specs.Reports.{IsFirstReason}
 use Rattle.cell_hub.specs.declared.ticket.Ticket.{Ticket}
 use Rattle.cell_hub.specs.declared.hub_fault.HubFault.{HubFault}
@@ -81,7 +80,7 @@ answered_on old new t r ack (stands c) is fits =
     let same : is.before ≡ c = cc in
     record {
       next = stands is.after;
-      lives = law.answered c is.after r ack (subst (λ x. IsAnswered x (said r) ack is.after) same is.answered);
+      lives = law.answered c is.after r ack (subst (λ x. IsAnswered x r ack is.after) same is.answered);
       fits = record { content = is.cells.changed; spent = λ was. absurd (cc) };
     }
 answered_on old new t r ack dismissed is fits = let e = fits.content in let f = is.cell in absurd (cc)
@@ -95,7 +94,7 @@ refused_on old t r (Cell reason) (stands c) is fits =
     let e = fits.content in
     let f = is.1 in
     let same : is.0 ≡ c = cc in
-    law.refused c r reason (subst (λ (x : Control). IsFirstReason x.plan.planned x.cell (said r) reason) same is.2)
+    law.refused c r reason (subst (λ (x : Control). IsFirstReason x.plan.planned x.cell r reason) same is.2)
 refused_on old t r (Cell reason) dismissed is fits = let e = fits.content in let f = is.1 in absurd (cc)
 
 shown_on : (old : HubState) (t : Ticket) (content : Option Control) (life : Life) → content ≡ cell_at old t → Fits old t life → Lives t life (Shown t content) life

@@ -3,7 +3,7 @@ use Rattle.std.proofs.Common.{◌≡◌, ◌≢◌, List, [], ◌∷◌, ◌++�
 use Rattle.std.proofs.lemmas.Bool.{eq-eqb, ne_eqb, cases_eq}
 use Rattle.std.specs.declared.result.Result.TheVariants.{Ok, Err}
 use Rattle.shop_base.specs.Plan.{PlannedShop, IsWellShaped}
-use Rattle.shop_base.specs.Report as base
+use Rattle.shop_base.specs.Report.{Report}
 use Rattle.shop_base.specs.Run.{Event}
 use Rattle.shop_base.specs.Sound.{IsSound}
 use Rattle.shop_base.proofs.Keeping.{start-sound}
@@ -11,7 +11,6 @@ use Rattle.shop_base.proofs.ControlledRuns.{after_step-sound}
 use Rattle.plan_verifier.specs.Accepted.{VerifiedPlan}
 use Rattle.cell_control.specs.declared.report.Ack.{Ack}
 use Rattle.cell_control.specs.Control.{Control, at_start, IsAnswered}
-use Rattle.cell_tables.specs.Reports.{said}
 use Rattle.cell_control.specs.Promises as promise
 use Rattle.cell_control.specs.Promises.{AreCalled}
 use Rattle.cell_control.proofs.Promises.{calls_make_the_controlled_run}
@@ -38,7 +37,7 @@ another t other differ =
     ]
 
 -- a report on the ticket comes first, and a call on another ticket adds none
-own_first : (t : Ticket) (r : _) (answer : _) (calls : List HubCall) → reports_on t (Reported t r answer ∷ calls) ≡ said r ∷ reports_on t calls
+own_first : (t : Ticket) (r : _) (answer : _) (calls : List HubCall) → reports_on t (Reported t r answer ∷ calls) ≡ r ∷ reports_on t calls
 own_first t r answer calls = rw (its_own t) refl
 
 elsewhere_adds_none : (t : Ticket) (call : HubCall) (calls : List HubCall) → (IsOnTicket t call → ⊥) → reports_on t (call ∷ calls) ≡ reports_on t calls
@@ -53,12 +52,12 @@ stays_dismissed t _ _ (law.none_yet same) = refl
 stays_dismissed t _ _ (law.once_more _ _ end call calls (law.after same none) rest) = stays_dismissed t calls end rest
 
 -- the calls on a ticket from where a controller stands under it, as calls of report on this controller
-record AreItsCalls (c : Control) (rs : List base.Report) (content : Control) : Type 0 where
+record AreItsCalls (c : Control) (rs : List Report) (content : Control) : Type 0 where
   events : List Event
   calls : AreCalled c rs events content
 
 module _ (p : PlannedShop) (shaped : IsWellShaped p) (t : Ticket) where
-  answered_sound : (c new : Control) (r : base.Report) (ack : Ack) → c.plan.planned ≡ p → IsSound p c.cell → IsAnswered c r ack new → (new.plan.planned ≡ p) × IsSound p new.cell
+  answered_sound : (c new : Control) (r : Report) (ack : Ack) → c.plan.planned ≡ p → IsSound p c.cell → IsAnswered c r ack new → (new.plan.planned ≡ p) × IsSound p new.cell
   answered_sound c new r ack of_plan sound is = (
     ap (λ (v : VerifiedPlan). v.planned) is.plan ∙ of_plan,
     subst (λ q. IsSound q new.cell) of_plan
@@ -72,17 +71,17 @@ module _ (p : PlannedShop) (shaped : IsWellShaped p) (t : Ticket) where
       let same : c ≡ content = cc in
       subst (λ x. AreItsCalls c [] x) same (record { events = []; calls = promise.not_yet c })
   stand _ _ _ content of_plan sound (law.once_more _ _ end _ calls (law.answered c new r ack is) rest) there =
-      let (of_same, sound_after) = answered_sound c new (said r) ack of_plan sound is in
+      let (of_same, sound_after) = answered_sound c new r ack of_plan sound is in
       let more = stand new calls end content of_same sound_after rest there in
       subst (λ rs. AreItsCalls c rs content) (sym (own_first t r (Ok ack) calls))
-      (record { events = _; calls = promise.once_more c new content (said r) (reports_on t calls) _ more.events (promise.answered c (said r) ack new is) more.calls })
+      (record { events = _; calls = promise.once_more c new content r (reports_on t calls) _ more.events (promise.answered c r ack new is) more.calls })
   stand _ _ _ content of_plan sound (law.once_more _ _ end _ calls (law.refused c r reason first) rest) there =
       let more = stand c calls end content of_plan sound rest there in
       subst (λ rs. AreItsCalls c rs content) (sym (own_first t r (Err (Cell reason)) calls))
       (record {
         events = _;
-        calls = promise.once_more c c content (said r) (reports_on t calls) [] more.events
-            (promise.refused c (said r) (reason-cannot c.plan.planned c.cell (said r) reason (subst (λ q. IsSound q c.cell) (sym of_plan) sound) first)) more.calls;
+        calls = promise.once_more c c content r (reports_on t calls) [] more.events
+            (promise.refused c r (reason-cannot c.plan.planned c.cell r reason (subst (λ q. IsSound q c.cell) (sym of_plan) sound) first)) more.calls;
       })
   stand _ _ _ content of_plan sound (law.once_more _ _ end _ calls (law.shown c) rest) there = stand c calls end content of_plan sound rest there
   stand _ _ _ content of_plan sound (law.once_more _ _ end _ calls (law.taken c) rest) there = let none = stays_dismissed t calls end rest in absurd (cc)

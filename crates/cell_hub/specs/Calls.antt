@@ -2,12 +2,12 @@
 use Rattle.std.specs.Prelude.{◌≡◌, ℕ, ◌+◌, ◌-◌, ◌^◌, ◌<◌, List, [], ◌∷◌, Option, None, Some, Result}
 use Rattle.std.specs.declared.result.Result.TheVariants.{Ok, Err}
 use Rattle.shop_base.specs.Activity.{GoesOn}
+use Rattle.shop_base.specs.Report.{ended, at}
+use Rattle.shop_base.specs.declared.report.Report.{Report}
+use Rattle.shop_base.specs.declared.report.Report.TheVariants.{Clean}
 use Rattle.plan_verifier.specs.Accepted.{VerifiedPlan}
-use Rattle.cell_tables.specs.declared.report.Report.{Report}
-use Rattle.cell_tables.specs.declared.report.Report.TheVariants.{Clean}
 use Rattle.cell_control.specs.declared.report.Ack.{Ack}
 use Rattle.cell_control.specs.Control.{Control, at_start, IsAnswered}
-use Rattle.cell_tables.specs.Reports.{said}
 use Rattle.cell_control.specs.Reports.{IsFirstReason, IsFirstCleanReason}
 use Rattle.cell_hub.specs.declared.ticket.Ticket.{Ticket}
 use Rattle.cell_hub.specs.declared.hub_fault.HubFault.{HubFault}
@@ -38,7 +38,7 @@ pub record IsReported (old : HubState) (t : Ticket) (r : Report) (ack : Ack) (ne
   pub before : Control
   pub after : Control
   pub cell : cell_at old t ≡ Some before
-  pub answered : IsAnswered before (said r) ack after
+  pub answered : IsAnswered before r ack after
   pub cells : Puts old new t (Some after)
   pub next_serial : new.next_serial ≡ old.next_serial
 
@@ -47,7 +47,7 @@ abbrev pub IsNotReported : HubState → Ticket → Report → HubFault → Type 
 IsNotReported h t r NoSuchCell = cell_at h t ≡ None
 IsNotReported h t r SerialsSpent = ⊥
 IsNotReported h t r Memory = ⊥
-IsNotReported h t r (Cell reason) = (c : Control) × (cell_at h t ≡ Some c) × IsFirstReason c.plan.planned c.cell (said r) reason
+IsNotReported h t r (Cell reason) = (c : Control) × (cell_at h t ≡ Some c) × IsFirstReason c.plan.planned c.cell r reason
 
 -- no fault but this one is a reason why the report isn't taken, the fields of a first reason included
 abbrev pub IsOnlyRefusal : HubState → Ticket → Report → HubFault → Type 0
@@ -67,8 +67,8 @@ IsOnlyCleanRefusal h t m j at fault = (other : HubFault) → IsNotCleaned h t m 
 -- what the report says to have ended goes on in the cell, and the report's moment is the last one
 pub record EndsNow (c : Control) (r : Report) : Type 0 where
   pub due : ℕ
-  pub going : GoesOn c.plan.planned c.cell (said r).ended due
-  pub now : (said r).at ≡ c.cell.last
+  pub going : GoesOn c.plan.planned c.cell (ended r) due
+  pub now : at r ≡ c.cell.last
 
 -- the ticket's cell is taken out with this content
 pub record IsDismissed (old : HubState) (t : Ticket) (content : Control) (new : HubState) : Type 0 where

@@ -1,14 +1,12 @@
 -- What holds of every list of calls on a hub.
 use Rattle.std.specs.Prelude.{◌≡◌, ◌≢◌, ℕ, List, [], ◌∷◌, ◌++◌, Option, None, Some, All, if◌then◌else◌}
 use Rattle.std.specs.declared.result.Result.TheVariants.{Ok, Err}
-use Rattle.shop_base.specs.Report as base
 use Rattle.shop_base.specs.Run.{Event}
+use Rattle.shop_base.specs.declared.report.Report.{Report}
 use Rattle.plan_verifier.specs.Accepted.{VerifiedPlan, IsVerified}
-use Rattle.cell_tables.specs.declared.report.Report.{Report}
 use Rattle.cell_control.specs.declared.report.Ack.{Ack}
 use Rattle.cell_control.specs.declared.report_fault.ReportFault.{ReportFault}
 use Rattle.cell_control.specs.Control.{Control, at_start, IsAnswered}
-use Rattle.cell_tables.specs.Reports.{said}
 use Rattle.cell_control.specs.Reports.{IsFirstReason}
 use Rattle.cell_control.specs.Promises.{IsControllerAfter}
 use Rattle.cell_hub.specs.declared.ticket.Ticket.{Ticket}
@@ -50,8 +48,8 @@ content_in dismissed = None
 -- what a call makes of a ticket's life, where a controller alone answers: it is made of the plan for which the ticket is given, takes each report on the ticket, is shown, and is given back when the ticket is dismissed. Before and after that no cell is found. A call on another ticket is nothing to it
 pub data Lives (t : Ticket) : Life → HubCall → Life → Type 0 where
   given : (plan : VerifiedPlan) → Lives t not_given (Admitted plan (Ok t)) (stands (at_start plan))
-  answered : (c new : Control) (r : Report) (ack : Ack) → IsAnswered c (said r) ack new → Lives t (stands c) (Reported t r (Ok ack)) (stands new)
-  refused : (c : Control) (r : Report) (reason : ReportFault) → IsFirstReason c.plan.planned c.cell (said r) reason → Lives t (stands c) (Reported t r (Err (Cell reason))) (stands c)
+  answered : (c new : Control) (r : Report) (ack : Ack) → IsAnswered c r ack new → Lives t (stands c) (Reported t r (Ok ack)) (stands new)
+  refused : (c : Control) (r : Report) (reason : ReportFault) → IsFirstReason c.plan.planned c.cell r reason → Lives t (stands c) (Reported t r (Err (Cell reason))) (stands c)
   shown : (c : Control) → Lives t (stands c) (Shown t (Some c)) (stands c)
   taken : (c : Control) → Lives t (stands c) (Dismissed t (Ok c)) dismissed
   elsewhere : (c : Control) (call : HubCall) → (IsOnTicket t call → ⊥) → Lives t (stands c) call (stands c)
@@ -69,10 +67,10 @@ CellsAreApart = (first : ℕ) (calls : List HubCall) (end : HubState) (t : Ticke
     → (life : Life) × AreLived t not_given calls life × (cell_at end t ≡ content_in life)
 
 -- the reports that these calls make on the ticket, in order
-abbrev pub reports_on : Ticket → List HubCall → List base.Report
+abbrev pub reports_on : Ticket → List HubCall → List Report
 reports_on t [] = []
 reports_on t (Admitted plan answer ∷ calls) = reports_on t calls
-reports_on t (Reported other r answer ∷ calls) = if is_ticket t other then said r ∷ reports_on t calls else reports_on t calls
+reports_on t (Reported other r answer ∷ calls) = if is_ticket t other then r ∷ reports_on t calls else reports_on t calls
 reports_on t (Shown other content ∷ calls) = reports_on t calls
 reports_on t (Dismissed other answer ∷ calls) = reports_on t calls
 

@@ -1,6 +1,5 @@
 ghost use Rattle.std.specs.Prelude.{◌≡◌, ◌↔◌, None, option_copied, IfOk, IfErr, IfSome, IsOk, OnErr};
 ghost use Rattle.shop_base.specs.Report.{CanReport};
-ghost use Rattle.cell_tables.specs.Reports.{said};
 ghost use Rattle.cell_control.specs.Reports.{CanCleanAfter};
 ghost use Rattle.cell_hub.specs.Hub.{hub_from, cell_at, AreSerialsBelow};
 ghost use Rattle.cell_hub.specs.Calls.{IsAdmitted, IsNotAdmitted, IsReported, IsNotReported, IsNotCleaned, IsOnlyRefusal, IsOnlyCleanRefusal, EndsNow, IsDismissed, IsCall, cleaning_call, Admitted, Reported, Shown, Dismissed};
@@ -90,7 +89,7 @@ impl<D: Dues> Hub<D> {
     /// is possible in that cell.
     pub fn report(&mut self, ticket: Ticket, report: Report) -> Result<Ack, HubFault>
         ensures reported { IfOk result (λ ack. IsReported self.old ticket report ack self.new) }
-        ensures possible { IfSome (cell_at self.old ticket) (λ c. IsOk result ↔ CanReport c.plan.planned c.cell (said report)) }
+        ensures possible { IfSome (cell_at self.old ticket) (λ c. IsOk result ↔ CanReport c.plan.planned c.cell report) }
         ensures never_refused { IfSome (cell_at self.old ticket) (λ c. EndsNow c report → IsOk result) }
         ensures refused { IfErr result (IsNotReported self.old ticket report) }
         ensures only_reason { IfErr result (IsOnlyRefusal self.old ticket report) }

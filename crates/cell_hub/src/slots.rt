@@ -3,7 +3,6 @@
 ghost use Rattle.std.specs.Prelude.{◌≡◌, ◌↔◌, ℕ, None, option_copied, IfOk, IfErr, IsOk, OnOk, OnErr};
 ghost use Rattle.slab.specs.Slab.{HasRoomFor};
 ghost use Rattle.shop_base.specs.Report.{CanReport};
-ghost use Rattle.cell_tables.specs.Reports.{said};
 ghost use Rattle.cell_hub.specs.Hub.{cell_at};
 ghost use Rattle.cell_hub.specs.Slots.{hub_of, IfCell, IsReportedIn, IsDismissedFrom};
 ghost use Rattle.cell_hub.specs.Calls.{IsNotReported, EndsNow};
@@ -48,7 +47,7 @@ pub(crate) fn report_in<D: Dues>(
 ) -> Result<Ack, HubFault>
     ensures reported { IfOk result (λ ack. IsReportedIn cells.old ticket report ack cells.new) }
     ensures refused { IfErr result (λ fault. (next : ℕ) → IsNotReported (hub_of cells.old next) ticket report fault) }
-    ensures possible { IfCell cells.old ticket (λ c. IsOk result ↔ CanReport c.plan.planned c.cell (said report)) }
+    ensures possible { IfCell cells.old ticket (λ c. IsOk result ↔ CanReport c.plan.planned c.cell report) }
     ensures never_refused { IfCell cells.old ticket (λ c. EndsNow c report → IsOk result) }
     ensures unchanged { OnErr result (cells.new ≡ cells.old) }
 {

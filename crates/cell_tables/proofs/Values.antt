@@ -8,7 +8,8 @@ use Rattle.shop_base.specs.declared.move_order.MoveOrder.{MoveOrder}
 use Rattle.shop_base.specs.Plan.{PlannedShop, jobs, machines}
 use Rattle.shop_base.specs.Cell.{Cell, absent, made, with_job, start}
 use Rattle.shop_base.specs.Activity.{Activity, Arrival, Operation, Cleaning}
-use Rattle.shop_base.specs.Report.{Report, CanReport, after_end, after_report}
+use Rattle.shop_base.specs.Report.{Report, ended, at, CanReport, after_report}
+use Rattle.shop_base.specs.declared.report.Report.TheVariants.{Arrive, Finish, Clean}
 use Rattle.shop_base.specs.Move.{CanMove, KeepsPlan, after_leaving, with_entry, with_moved, after_move, order_for}
 use Rattle.shop_base.specs.Sound.{IsSound}
 use Rattle.shop_base.proofs.Sizes.{steps_few, order_few}
@@ -48,24 +49,24 @@ IsEndPut old (Operation j m) at new = IsJobPut old j (record (get_or old.jobs.it
 IsEndPut old (Cleaning m) at new = IsMachinePut old m (record { entered = entered_at old m; cleaning = None }) at new
 
 -- they make the cell after a possible report, and are tables
-end_put : (p : PlannedShop) (old new : Tables) (a : Activity) (at : ℕ) → AreSound p old → CanReport p (cell_of p old) (record { ended = a; at = at })
-    → IsEndPut old a at new → (cell_of p new ≡ after_end (cell_of p old) a at) × AreTables p new
-end_put p old new (Arrival j) at sound can put =
+end_put : (p : PlannedShop) (old new : Tables) (r : Report) → AreSound p old → CanReport p (cell_of p old) r
+    → IsEndPut old (ended r) (at r) new → (cell_of p new ≡ after_report (cell_of p old) r) × AreTables p new
+end_put p old new (Arrive j at) sound can put =
     let inside : j < jobs p = outside_in_shop p (cell_of p old) j sound.sound can.going.1.outside in
     (readied_cell p old new j at put, readied-are_tables p old new j at sound.tables inside can.moment.in_range put)
-end_put p old new (Operation j m) at sound can put =
+end_put p old new (Finish j m at) sound can put =
     let inside : j < jobs p = visits_job p j can.going.1.0 m can.going.1.1.on.visits in
     (readied_cell p old new j at put, readied-are_tables p old new j at sound.tables inside can.moment.in_range put)
-end_put p old new (Cleaning m) at sound can put =
+end_put p old new (Clean m at) sound can put =
     let inside : m < machines p = cleaned_in_shop p (cell_of p old) m can.going.1.0 sound.sound can.going.1.1.is_cleaned in
     (tidied_cell p old new m at sound.tables inside put, tidied-are_tables p old new m at sound.tables inside can.moment.in_range put)
 
 -- the value once a possible report is written
-pub ended : {P : Type 0} (basis : P) (p : PlannedShop) (old new : Tables) (v : PlannedCell P) (r : Report) → value_of basis p old ≡ v → AreSound p old
-    → CanReport v.plan v.cell r → IsEndPut old r.ended r.at new → AreSound p new × (value_of basis p new ≡ record v { cell = after_report v.cell r })
-ended basis p old new v r is sound can put =
+pub ended_value : {P : Type 0} (basis : P) (p : PlannedShop) (old new : Tables) (v : PlannedCell P) (r : Report) → value_of basis p old ≡ v → AreSound p old
+    → CanReport v.plan v.cell r → IsEndPut old (ended r) (at r) new → AreSound p new × (value_of basis p new ≡ record v { cell = after_report v.cell r })
+ended_value basis p old new v r is sound can put =
     let can_here : CanReport p (cell_of p old) r = subst (λ (w : PlannedCell _). CanReport w.plan w.cell r) (sym is) can in
-    let made : (cell_of p new ≡ after_report (cell_of p old) r) × AreTables p new = end_put p old new r.ended r.at sound can_here put in (
+    let made : (cell_of p new ≡ after_report (cell_of p old) r) × AreTables p new = end_put p old new r sound can_here put in (
       sound_after p new _ made.1 made.0 (after_report-sound p (cell_of p old) r sound.tables.shaped sound.sound can_here),
       changed_value basis p old new v (λ q c. after_report c r) is made.0,
     )

@@ -3,6 +3,5 @@ pub mod Events
 pub mod Moving
 pub mod PlannedCell
 pub mod Readings
-pub mod Reports
 pub mod Standings
 pub mod Tables

@@ -1,5 +1,4 @@
-use crate::report::Report;
-use shop_base::MoveOrder;
+use shop_base::{MoveOrder, Report};
 
 /// An event of a run: a report that was accepted, or a move that was ordered.
 #[derive(Clone, Copy, Debug, PartialEq, Eq)]

@@ -12,13 +12,12 @@ mod entry;
 mod moves;
 mod places;
 mod plan_readers;
-mod report;
 mod standing;
 mod tables;
 mod work_cell;
 
 pub use entry::Entry;
-pub use report::Report;
+pub use shop_base::Report;
 pub use standing::Standing;
 pub use tables::{MachineRow, Tables};
 pub use work_cell::WorkCell;

@@ -6,17 +6,15 @@ ghost use Rattle.shop_base.specs.Plan.{jobs, steps};
 ghost use Rattle.shop_base.specs.Cell.{made};
 ghost use Rattle.shop_base.specs.Report.{CanReport, after_report};
 ghost use Rattle.shop_base.specs.Move.{CanMove, KeepsPlan, source, target, after_move, order_for};
-ghost use Rattle.cell_tables.specs.Reports.{said};
 
-use crate::report::Report;
 use crate::work_cell::WorkCell;
-use shop_base::{JobNo, JobState, Moment, MoveOrder, Planned, Spot};
+use shop_base::{JobNo, JobState, Moment, MoveOrder, Planned, Report, Spot};
 
 impl<P: Planned> WorkCell<P> {
     /// Ends the activity of a possible report.
     pub fn end(&mut self, report: Report)
-        requires possible { CanReport self.old.plan self.old.cell (said report) }
-        ensures { self.new ≡ record self.old { cell = after_report self.old.cell (said report) } }
+        requires possible { CanReport self.old.plan self.old.cell report }
+        ensures { self.new ≡ record self.old { cell = after_report self.old.cell report } }
     {
         match report {
             Report::Arrive { job, at } => self.tables.note_ready(job, at),

@@ -2,8 +2,7 @@
 use Rattle.std.proofs.Common.{◌≡◌, ℕ, ◌≤◌, ◌↔◌, Bool, Result, Ok, Err, IfOk, IfErr, inl, inr, sym, subst, arith}
 use Rattle.shop_base.specs.declared.limits.TheConstants.{MAX_MOMENT}
 use Rattle.shop_base.specs.Sound.{IsSound}
-use Rattle.cell_tables.specs.declared.report.Report.TheVariants.{Clean}
-use Rattle.cell_tables.specs.Reports.{said}
+use Rattle.shop_base.specs.declared.report.Report.TheVariants.{Clean}
 use Rattle.cell_control.specs.declared.report.Ack.{Ack}
 use Rattle.cell_control.specs.declared.report_fault.ReportFault.{ReportFault}
 use Rattle.cell_control.specs.declared.report_fault.ReportFault.TheVariants.{JobOutOfRange, MachineOutOfRange, MomentTooLarge, Backwards, NotExpected, WrongKind, WrongMachine}
@@ -38,9 +37,9 @@ module _ (v : RestControl) (machine job at : ℕ) where
   })
 
   -- the report of a cleaning after a job calls for that of the cleaning, or changes nothing
-  pub clean_called : (told : Result Ack ReportFault) (new : RestControl) → IfOk told (λ ack. IsRestAnswered v (said (Clean machine at)) ack new) → IfErr told (λ fault. new ≡ v)
+  pub clean_called : (told : Result Ack ReportFault) (new : RestControl) → IfOk told (λ ack. IsRestAnswered v (Clean machine at) ack new) → IfErr told (λ fault. new ≡ v)
       → Calls v (CleanedAfter machine job at) new
-  clean_called (Ok ack) new answered same = inl (_, promise.answered v (said (Clean machine at)) ack new answered)
+  clean_called (Ok ack) new answered same = inl (_, promise.answered v (Clean machine at) ack new answered)
   clean_called (Err fault) new answered same = inr same
 
 number_high : (fault : ReportFault) → 16 ≤ fault_number fault

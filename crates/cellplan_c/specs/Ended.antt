@@ -2,8 +2,7 @@
 use Rattle.std.specs.Prelude.{◌≡◌, ◌⊎◌, List}
 use Rattle.shop_base.specs.Report.{Report, CanReport}
 use Rattle.shop_base.specs.Run.{Event}
-use Rattle.cell_tables.specs.declared.report.Report.TheVariants.{Clean}
-use Rattle.cell_tables.specs.Reports.{said}
+use Rattle.shop_base.specs.declared.report.Report.TheVariants.{Clean}
 use Rattle.cell_tables.specs.Readings.{IsCleanedAfter}
 use Rattle.cell_control.specs.Reports.{IsFirstReason, IsOnlyReason, CanCleanAfter, IsFirstCleanReason, IsOnlyCleanReason}
 use Rattle.cell_control.specs.declared.report_fault.ReportFault.{ReportFault}
@@ -14,30 +13,30 @@ use Rattle.cellplan_c.specs.declared.told.Ended.TheVariants.{Reported, CleanedAf
 
 -- the report of what has ended: of a cleaning after a job it is that of the cleaning
 abbrev pub ended_by : Ended → Report
-ended_by (Reported report) = said report
-ended_by (CleanedAfter machine job at) = said (Clean machine at)
+ended_by (Reported report) = report
+ended_by (CleanedAfter machine job at) = Clean machine at
 
 -- the report is possible; of a cleaning after a job, the machine is being cleaned after just that one
 abbrev pub CanEnd : RestControl → Ended → Type 0
-CanEnd v (Reported report) = CanReport v.planned v.cell (said report)
+CanEnd v (Reported report) = CanReport v.planned v.cell report
 CanEnd v (CleanedAfter machine job at) = CanCleanAfter v.planned v.cell machine job at
 
 -- this is the first reason for which it isn't
 abbrev pub IsFirstFor : RestControl → Ended → ReportFault → Type 0
-IsFirstFor v (Reported report) fault = IsFirstReason v.planned v.cell (said report) fault
+IsFirstFor v (Reported report) fault = IsFirstReason v.planned v.cell report fault
 IsFirstFor v (CleanedAfter machine job at) fault = IsFirstCleanReason v.planned v.cell machine job at fault
 
 -- no other one is
 abbrev pub IsOnlyFor : RestControl → Ended → ReportFault → Type 0
-IsOnlyFor v (Reported report) fault = IsOnlyReason v.planned v.cell (said report) fault
+IsOnlyFor v (Reported report) fault = IsOnlyReason v.planned v.cell report fault
 IsOnlyFor v (CleanedAfter machine job at) fault = IsOnlyCleanReason v.planned v.cell machine job at fault
 
 -- this holds if what is reported goes on and its moment is the last one
 abbrev pub IfGoesOnNow : RestControl → Ended → Type 0 → Type 0
-IfGoesOnNow v (Reported report) Holds = IfRestEndsNow v (said report) Holds
+IfGoesOnNow v (Reported report) Holds = IfRestEndsNow v report Holds
 IfGoesOnNow v (CleanedAfter machine job at) Holds = IsCleanedAfter v.planned v.cell machine job → at ≡ v.cell.last → Holds
 
 -- what the controller after it is: as after a call of report; where a cleaning after a job is refused it may be of another job, and the controller is the same
 abbrev pub Calls : RestControl → Ended → RestControl → Type 0
-Calls old (Reported report) new = (es : List Event) × IsRestCalled old (said report) es new
-Calls old (CleanedAfter machine job at) new = ((es : List Event) × IsRestCalled old (said (Clean machine at)) es new) ⊎ (new ≡ old)
+Calls old (Reported report) new = (es : List Event) × IsRestCalled old report es new
+Calls old (CleanedAfter machine job at) new = ((es : List Event) × IsRestCalled old (Clean machine at) es new) ⊎ (new ≡ old)

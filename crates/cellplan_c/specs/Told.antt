@@ -3,7 +3,7 @@ use Rattle.std.specs.Prelude.{◌≢◌, ℕ, List, [], ◌∷◌, Option, None,
 use Rattle.shop_base.specs.declared.move_order.Spot.{Spot}
 use Rattle.shop_base.specs.declared.move_order.Spot.TheVariants.{Out, At}
 use Rattle.shop_base.specs.declared.move_order.MoveOrder.{MoveOrder}
-use Rattle.cell_tables.specs.declared.report.Report.TheVariants.{Arrive, Finish, Clean}
+use Rattle.shop_base.specs.declared.report.Report.TheVariants.{Arrive, Finish, Clean}
 use Rattle.cell_control.specs.declared.report.Phase.{Phase as Whereabouts}
 use Rattle.cell_control.specs.declared.report.Phase.TheVariants.{Outside, OnMachine, Gone}
 use Rattle.cell_control.specs.declared.report_fault.ReportFault.{ReportFault}

@@ -4,7 +4,7 @@ use Rattle.std.proofs.lemmas.Bool.{cases_lt}
 use Rattle.shop_base.specs.Plan.{PlannedShop, IsWellShaped, clean}
 use Rattle.shop_base.specs.Cell.{Cell, MachineState, cleaning, start}
 use Rattle.shop_base.specs.Activity.{Activity, Arrival, Operation, Cleaning}
-use Rattle.shop_base.specs.Report.{Report, CanReport, after_end, after_report}
+use Rattle.shop_base.specs.Report.{Report, ended, at, CanReport, after_end, after_report}
 use Rattle.shop_base.specs.Move.{CanMove, after_move}
 use Rattle.shop_base.specs.Run.{Event, Reported, Moved, AreEvents, IsRun, after_all, ends_in}
 use Rattle.shop_base.specs.Sound.{IsSound}
@@ -24,7 +24,7 @@ ended_at c (Cleaning m) t = refl
 module _ (p : PlannedShop) (shaped : IsWellShaped p) where
   begun_reported : (c : Cell) (r : Report) → IsSound p c → CanReport p c r → AreBegunByLast c → AreBegunByLast (after_report c r)
   begun_reported c r sound can begun m s cleaned =
-      omega (arith, begun m s ((after_report-like p c r sound can).cleaned_before m s cleaned), can.moment.in_order, ended_at c r.ended r.at)
+      omega (arith, begun m s ((after_report-like p c r sound can).cleaned_before m s cleaned), can.moment.in_order, ended_at c (ended r) (at r))
 
   begun_moved : (c : Cell) (j t : ℕ) → IsSound p c → CanMove p c j t → AreBegunByLast c → AreBegunByLast (after_move p c j t)
   begun_moved c j t sound can begun m s cleaned = elim (on_or_not p c j m) [

@@ -3,13 +3,11 @@ use Rattle.std.proofs.Common.{◌≡◌, ◌==◌, ℕ, zero, suc, ◌+◌, List
 use Rattle.std.proofs.lemmas.Bool.{eqb-true, eqb-false, cases_Bool}
 use Rattle.std.specs.Prelude.{slice_get}
 use Rattle.shop_base.specs.Cell.{Cell}
-use Rattle.shop_base.specs.Report as base
 use Rattle.shop_base.specs.Run.{Event, Reported}
 use Rattle.shop_base.specs.Controlled.{moved, step_orders}
+use Rattle.shop_base.specs.declared.report.Report.{Report}
 use Rattle.shop_base.proofs.StatedNumber.{ends_on_the_stated_number-holds}
 use Rattle.plan_verifier.specs.Accepted.{VerifiedPlan, IsVerified}
-use Rattle.cell_tables.specs.declared.report.Report.{Report}
-use Rattle.cell_tables.specs.Reports.{said}
 use Rattle.cell_tables.specs.declared.entry.Entry.{Entry}
 use Rattle.cell_control.specs.Control.{Control, at_start}
 use Rattle.cell_control.specs.Promises as promise
@@ -79,7 +77,7 @@ record IsCall (k : ℕ) (v : Control) (line : Option (List ℕ)) (next : List Pl
   is_report : IsCellReport words k report
   events : List Event
   after : Control
-  called : IsCalled v (said report) events after
+  called : IsCalled v report events after
   there : slice_get next k ≡ Some (planned_cell after)
 
 -- the line is none, and the cell stays
@@ -106,14 +104,14 @@ module _ (cells : List PlannedCell) (number k : ℕ) (v : Control) (in_run : IsI
     is_report = subst (λ (n : ℕ). IsCellReport line n on.report) same is_line;
     events = [];
     after = v;
-    called = promise.refused v (said on.report) (reason-cannot v.plan.planned v.cell (said on.report) is.reason in_run.sound is.first);
+    called = promise.refused v on.report (reason-cannot v.plan.planned v.cell on.report is.reason in_run.sound is.first);
     there = there_is on (planned_cell v) next same (end_is ∙ ap (λ (c : Cell). set cells on.cell (record { plan = v.plan; cell = c })) is.next_is);
   }
   called_by line on text events cell next same is_line (inr is) end_is =
       let after : Control = record {
         plan = v.plan;
         cell = cell;
-        orders = step_orders v.plan.planned v.cell (said on.report) is.movers;
+        orders = step_orders v.plan.planned v.cell on.report is.movers;
         accepted = v.accepted + 1;
         punctual = v.punctual && not is.late;
       } in
@@ -122,9 +120,9 @@ module _ (cells : List PlannedCell) (number k : ℕ) (v : Control) (in_run : IsI
         is_it = refl;
         report = on.report;
         is_report = subst (λ (n : ℕ). IsCellReport line n on.report) same is_line;
-        events = Reported (said on.report) ∷ moved after.orders;
+        events = Reported on.report ∷ moved after.orders;
         after = after;
-        called = promise.answered v (said on.report) (record { late = is.late }) after
+        called = promise.answered v on.report (record { late = is.late }) after
             (record { movers = is.movers; step = is.step; plan = refl; cell = is.next_is; orders = refl; accepted = refl; late = is.late_is; punctual = refl });
         there = there_is on (planned_cell after) next same end_is;
       }
@@ -156,7 +154,7 @@ module _ (cells : List PlannedCell) (number k : ℕ) (v : Control) (in_run : IsI
 -- ---- all lines
 
 record AreCalls (k : ℕ) (v : Control) (lines : List (Option (List ℕ))) (end : List PlannedCell) : Type 0 where
-  reports : List base.Report
+  reports : List Report
   have : HaveReports k lines reports
   events : List Event
   last : Control
@@ -173,11 +171,11 @@ calls k (line ∷ lines) cells end number text v in_run found all =
       | inl call ↦
           let rest = calls k lines all.2 end (number + 1) all.1 call.after kept call.there all.4 in
           record {
-            reports = said call.report ∷ rest.reports;
-            have = subst (λ (l : Option (List ℕ)). HaveReports k (l ∷ lines) (said call.report ∷ rest.reports)) call.is_it (on_it call.words call.report lines rest.reports call.is_report rest.have);
+            reports = call.report ∷ rest.reports;
+            have = subst (λ (l : Option (List ℕ)). HaveReports k (l ∷ lines) (call.report ∷ rest.reports)) call.is_it (on_it call.words call.report lines rest.reports call.is_report rest.have);
             events = call.events ++ rest.events;
             last = rest.last;
-            called = once_more v call.after rest.last (said call.report) rest.reports call.events rest.events call.called rest.called;
+            called = once_more v call.after rest.last call.report rest.reports call.events rest.events call.called rest.called;
             there = rest.there;
           }
       | inr passed ↦

@@ -2,8 +2,6 @@
 use Rattle.std.proofs.Common.{◌≡◌, ℕ, ◌+◌, List, [], ◌∷◌, ◌++◌, codes, true, false, Option, None, Some, refl, sym, subst, inl, inr}
 use Rattle.std.specs.Prelude.{slice_get}
 use Rattle.shop_base.specs.Controlled.{step_orders}
-use Rattle.cell_tables.specs.declared.report.Report as reports
-use Rattle.cell_tables.specs.Reports.{said}
 use Rattle.byte_streams.specs.Answering.{AnswerAll}
 use Rattle.event_lines.specs.AnswerLines.{refused_line}
 use Rattle.event_lines.specs.SentLines.{cell_prefix}
@@ -13,6 +11,7 @@ use Rattle.event_lines.specs.declared.requests.Request.TheVariants.{Claim as Cla
 use Rattle.event_lines.specs.Requests.{IsCellRequest}
 use Rattle.cell_tables.specs.declared.entry.Entry.{Entry}
 use Rattle.shop_base.specs.Cell.{Cell}
+use Rattle.shop_base.specs.declared.report.Report as reports
 use Rattle.cell_drive.specs.Refusals.{refusal_word, refusal_detail}
 use Rattle.cell_drive.specs.ManyCells.{PlannedCell}
 use Rattle.cell_drive.specs.Stated.{RequestAnswer, taken_lines, tells_end, told_overdue}
@@ -41,7 +40,7 @@ module _ (longest : Option ℕ) (from : ℕ) where
   }
   plain_answer c cell number report text events next (inr is) =
       let p = c.plan.planned in
-      let orders = step_orders p c.cell (said report) is.movers in
+      let orders = step_orders p c.cell report is.movers in
       record {
         other = taken_lines (cell_prefix cell) report is.late None orders false;
         answer = inr (record { taken = is.taken; movers = is.movers; step = is.step; late = is.late; late_is = is.late_is; text_is = refl; events_are = is.events_are; next_is = is.next_is });

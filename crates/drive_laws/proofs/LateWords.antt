@@ -5,12 +5,12 @@ use Rattle.shop_base.specs.Plan.{PlannedShop, jobs, machines, steps, release, no
 use Rattle.shop_base.specs.Cell.{Cell, ready, since}
 use Rattle.shop_base.specs.Activity.{Activity, Arrival, Operation, Cleaning, GoesOn, IsAwaited, IsWorked, IsCleaned}
 use Rattle.shop_base.specs.Sound.{IsSound}
+use Rattle.shop_base.specs.Report.{at}
 use Rattle.shop_base.proofs.InShop.{outside_in_shop, cleaned_in_shop}
 use Rattle.shop_base.proofs.Visits.{visits_job}
 use Rattle.cell_tables.specs.declared.standing.Standing.{Standing}
 use Rattle.cell_tables.specs.declared.standing.Standing.TheVariants.{Awaited, Worked, Gone}
 use Rattle.cell_tables.specs.Standings.{job_standing, machine_standing, outside_standing, inside_standing, standing_after, cleaning_standing, is_overdue}
-use Rattle.cell_tables.specs.Reports.{said}
 use Rattle.event_lines.specs.declared.details.Overdue.{Overdue}
 use Rattle.cell_drive.specs.Refusals.{standing_of}
 use Rattle.cell_drive.specs.States.{one_more, with_one, with_those, with_jobs, own_first}
@@ -67,7 +67,7 @@ module _ (t : ℕ) where
 
 pub late_finds_overdue : ALateReportFindsSomethingOverdue
 late_finds_overdue p c report sound none =
-    let t = (said report).at in
+    let t = at report in
     let machines_none = those_none t (machine_standing p c) (with_jobs p c t) 0 (machines p) (own_none t (standing_of p c report) _ none) in
     let jobs_none = those_none t (job_standing p c) None 0 (jobs p) machines_none.0 in
     in_time t p c sound (λ j below. jobs_none.1 j (omega arith) (omega (arith, below))) (λ m below. machines_none.1 m (omega arith) (omega (arith, below)))

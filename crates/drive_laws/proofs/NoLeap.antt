@@ -4,10 +4,10 @@ use Rattle.shop_base.specs.Plan.{PlannedShop}
 use Rattle.shop_base.specs.Cell.{Cell}
 use Rattle.shop_base.specs.Activity.{Activity, Arrival, Operation, Cleaning, GoesOn}
 use Rattle.shop_base.specs.Sound.{IsSound}
+use Rattle.shop_base.specs.Report.{ended, at}
 use Rattle.shop_base.proofs.InShop.{outside_in_shop, cleaned_in_shop}
 use Rattle.shop_base.proofs.Keeping.{run-sound}
 use Rattle.shop_base.proofs.Visits.{visits_job}
-use Rattle.cell_tables.specs.Reports.{said}
 use Rattle.cell_tables.specs.Events.{events_of}
 use Rattle.event_lines.specs.Requests.{claimed}
 use Rattle.cell_drive.specs.declared.manner.Manner.{Manner}
@@ -39,7 +39,7 @@ no_leap manner longest last at is soon =
 pub no_punctual_report_leaps : NoPunctualReportLeaps
 no_punctual_report_leaps p manner longest entries claim shaped is short run can punctual =
     let c = cell_after p entries in
-    let r = said (claimed claim) in
+    let r = claimed claim in
     let going = (can_report p c claim can).going in
-    let soon = due_soon p c longest (run-sound p (events_of entries) shaped run) (begun_in_run p shaped (events_of entries) run) short r.ended going.0 going.1 in
-    (can, no_leap manner longest c.last r.at is (omega (arith, soon, punctual r.ended going.0 going.1)))
+    let soon = due_soon p c longest (run-sound p (events_of entries) shaped run) (begun_in_run p shaped (events_of entries) run) short (ended r) going.0 going.1 in
+    (can, no_leap manner longest c.last (at r) is (omega (arith, soon, punctual (ended r) going.0 going.1)))

@@ -3,8 +3,8 @@ use Rattle.std.proofs.Common.{◌≡◌, ℕ, List, [], ◌∷◌, ◌++◌, Boo
 use Rattle.shop_base.specs.Plan.{PlannedShop}
 use Rattle.shop_base.specs.Cell.{Cell, start}
 use Rattle.shop_base.specs.Run.{after}
-use Rattle.cell_tables.specs.declared.report.Report.{Report}
-use Rattle.cell_tables.specs.Reports.{said}
+use Rattle.shop_base.specs.Report.{at}
+use Rattle.shop_base.specs.declared.report.Report.{Report}
 use Rattle.cell_tables.specs.declared.entry.Entry.{Entry}
 use Rattle.cell_tables.specs.declared.entry.Entry.TheVariants.{Report as ReportEntry, Order as OrderEntry}
 use Rattle.cell_tables.specs.Events.{event_of}
@@ -28,21 +28,21 @@ retold_as_ever p manner c [] late plain = refl
 retold_as_ever p manner c (entry ∷ entries) [] plain = refl
 retold_as_ever p manner c (ReportEntry report ∷ entries) (was_late ∷ late) plain =
     ap (λ (rest : List ℕ). retold_line p manner c (ReportEntry report) was_late ++ rest) (retold_as_ever p manner (after p c (event_of (ReportEntry report))) entries late plain)
-    ∙ ap (λ (line : List ℕ). (report_line report ++ line) ++ told_lines entries late) (untold_lateness manner.tells (said report).at was_late _ plain)
+    ∙ ap (λ (line : List ℕ). (report_line report ++ line) ++ told_lines entries late) (untold_lateness manner.tells (at report) was_late _ plain)
 retold_as_ever p manner c (OrderEntry order ∷ entries) (was_late ∷ late) plain =
     ap (λ (rest : List ℕ). order_line order ++ rest) (retold_as_ever p manner (after p c (event_of (OrderEntry order))) entries late plain)
 
 -- the line of a report and that it was late, and what stands behind them, as the lines of an accepted report without orders
 as_taken : (report : Report) (late : Bool) (overdue : Option Overdue) (rest more : List ℕ)
-    → ((report_line report ++ lateness_part [] (said report).at late overdue) ++ rest) ++ more ≡ taken_lines [] report late overdue [] false ++ (rest ++ more)
+    → ((report_line report ++ lateness_part [] (at report) late overdue) ++ rest) ++ more ≡ taken_lines [] report late overdue [] false ++ (rest ++ more)
 as_taken report late overdue rest more =
-    let lateness = lateness_part [] (said report).at late overdue in
+    let lateness = lateness_part [] (at report) late overdue in
     append_assoc (report_line report ++ lateness) rest more ∙ ap (λ (t : List ℕ). (report_line report ++ t) ++ (rest ++ more)) (sym (append-nil lateness))
 
 plain_report : (report : Report) (late : Bool) (overdue : Option Overdue) (rest more other others : List ℕ) → IsPlainText (rest ++ more) (other ++ others)
-    → IsPlainText (((report_line report ++ lateness_part [] (said report).at late overdue) ++ rest) ++ more) (((report_line report ++ cond late (late_line (said report).at) []) ++ other) ++ others)
+    → IsPlainText (((report_line report ++ lateness_part [] (at report) late overdue) ++ rest) ++ more) (((report_line report ++ cond late (late_line (at report)) []) ++ other) ++ others)
 plain_report report late overdue rest more other others plain =
-    subst (λ (t : List ℕ). IsPlainText t (((report_line report ++ cond late (late_line (said report).at) []) ++ other) ++ others)) (sym (as_taken report late overdue rest more))
+    subst (λ (t : List ℕ). IsPlainText t (((report_line report ++ cond late (late_line (at report)) []) ++ other) ++ others)) (sym (as_taken report late overdue rest more))
     (subst (λ (t : List ℕ). IsPlainText (taken_lines [] report late overdue [] false ++ (rest ++ more)) t) (sym (as_taken report late None other others))
     (taken report late overdue [] false (rest ++ more) (other ++ others) plain))
 

@@ -1,7 +1,7 @@
 -- In version 1 of the lines, and with no leap, cells answer lines as a hub answers them.
 use Rattle.std.proofs.Common.{ℕ, ◌+◌, List, [], ◌∷◌, false, Option, Some, None, inl, inr}
 use Rattle.std.specs.Prelude.{slice_get}
-use Rattle.cell_tables.specs.declared.report.Report as reports
+use Rattle.shop_base.specs.declared.report.Report as reports
 use Rattle.event_lines.specs.SentLines.{cell_prefix}
 use Rattle.event_lines.specs.declared.requests.Claim.TheVariants.{Report, CleanAfter}
 use Rattle.event_lines.specs.declared.requests.Request.{Request}

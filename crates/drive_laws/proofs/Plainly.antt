@@ -4,8 +4,8 @@ use Rattle.std.specs.List.{flat_map}
 use Rattle.shop_base.specs.Plan.{PlannedShop}
 use Rattle.shop_base.specs.Cell.{Cell}
 use Rattle.shop_base.specs.Controlled.{step_orders}
-use Rattle.cell_tables.specs.declared.report.Report as reports
-use Rattle.cell_tables.specs.Reports.{said}
+use Rattle.shop_base.specs.Report.{at}
+use Rattle.shop_base.specs.declared.report.Report as reports
 use Rattle.cell_tables.specs.declared.entry.Entry.{Entry}
 use Rattle.cell_control.specs.declared.report_fault.ReportFault.{ReportFault}
 use Rattle.cell_control.specs.Reports.{IsFirstReason}
@@ -33,7 +33,7 @@ either_way false reason = refl
 module _ (p : PlannedShop) (from : ℕ) where
   -- the first reason against a report is that for which it is refused
   plain_reason : (c : Cell) (report : reports.Report) (refusal : Refusal) → IsRefusal (plain_from from) p c (Report report) refusal
-      → (reason : ReportFault) × IsFirstReason p c (said report) reason × (refusal ≡ Reason reason)
+      → (reason : ReportFault) × IsFirstReason p c report reason × (refusal ≡ Reason reason)
   plain_reason c report refusal (inl (reason, first, same)) = (reason, first, same ∙ either_way (is_before_leap reason) reason)
   plain_reason c report refusal (inr (can, does_leap, same)) = absurd (cc)
 
@@ -49,13 +49,13 @@ module _ (p : PlannedShop) (from : ℕ) where
         next_is = is.next_is;
       })
   plain_report prefix c number report text events next (inr is) =
-      let orders = step_orders p c (said report) is.movers in
+      let orders = step_orders p c report is.movers in
       inr (record {
         movers = is.movers;
         step = is.step;
         late = is.late;
         late_is = is.late_is;
-        text_is = is.text_is ∙ ap (λ (rest : List ℕ). (prefix ++ report_line report) ++ (cond is.late (prefix ++ late_line (said report).at) [] ++ rest)) (append-nil (flat_map (λ o. prefix ++ order_line o) orders));
+        text_is = is.text_is ∙ ap (λ (rest : List ℕ). (prefix ++ report_line report) ++ (cond is.late (prefix ++ late_line (at report)) [] ++ rest)) (append-nil (flat_map (λ o. prefix ++ order_line o) orders));
         events_are = is.events_are;
         next_is = is.next_is;
       })

@@ -3,7 +3,6 @@ use Rattle.std.proofs.Common.{◌≡◌, List, ◌∷◌, ◌++◌, sym, ap, ◌
 use Rattle.shop_base.specs.Cell.{Cell, start}
 use Rattle.shop_base.specs.Run.{Event, Reported, after_all, IsRun}
 use Rattle.shop_base.proofs.ControlledRuns.{events_join, after_all_join}
-use Rattle.cell_tables.specs.Reports.{said}
 use Rattle.cell_tables.specs.declared.entry.Entry.TheVariants.{Report as ReportEntry}
 use Rattle.cell_tables.specs.Events.{events_of}
 use Rattle.cell_control.proofs.Once.{once}
@@ -20,12 +19,12 @@ use Rattle.drive_laws.proofs.TakenOnce.{tells_named, told}
 
 pub nothing_of_a_run_is_claimed_again : NothingOfARunIsClaimedAgain
 nothing_of_a_run_is_claimed_again p before after report again ended shaped run tells names can =
-    let whole : events_of (before ++ ReportEntry report ∷ after) ≡ events_of before ++ Reported (said report) ∷ events_of after = events-join before (ReportEntry report ∷ after) in
-    let can_then : CanClaim p (after_all p (start p) (events_of before ++ Reported (said report) ∷ events_of after)) again =
+    let whole : events_of (before ++ ReportEntry report ∷ after) ≡ events_of before ++ Reported report ∷ events_of after = events-join before (ReportEntry report ∷ after) in
+    let can_then : CanClaim p (after_all p (start p) (events_of before ++ Reported report ∷ events_of after)) again =
     subst (λ (es : List Event). CanClaim p (after_all p (start p) es) again) whole can in
-    once p (events_of before) (events_of after) (said report) (said (claimed again)) ended shaped (subst (IsRun p) whole run) tells
-    (tells_named p (after_all p (start p) (events_of before ++ Reported (said report) ∷ events_of after)) again ended names can_then)
-    (can_report p (after_all p (start p) (events_of before ++ Reported (said report) ∷ events_of after)) again can_then)
+    once p (events_of before) (events_of after) report (claimed again) ended shaped (subst (IsRun p) whole run) tells
+    (tells_named p (after_all p (start p) (events_of before ++ Reported report ∷ events_of after)) again ended names can_then)
+    (can_report p (after_all p (start p) (events_of before ++ Reported report ∷ events_of after)) again can_then)
 
 pub nothing_of_a_log_is_taken_again : NothingOfALogIsTakenAgain
 nothing_of_a_log_is_taken_again p manner before after report lines number text end again ended shaped run tells answered names can =

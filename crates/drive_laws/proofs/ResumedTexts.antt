@@ -10,13 +10,13 @@ use Rattle.shop_base.specs.Run.{Reported, Moved, AreEvents, after, after_all, Is
 use Rattle.shop_base.specs.Controlled.{Leads, after_moves, orders_for, moved}
 use Rattle.shop_base.specs.Ahead.{GoesOnTo, settled}
 use Rattle.shop_base.specs.Sound.{IsSound}
+use Rattle.shop_base.specs.Report.{at}
 use Rattle.shop_base.proofs.Cycles.{ranks_exclude_cycle}
 use Rattle.shop_base.proofs.Keeping.{start-sound, run-sound, after_report-sound, after_move-sound}
 use Rattle.shop_base.proofs.ControlledRuns.{events_join, after_all_join}
 use Rattle.text_lines.specs.Lines.{lines_of, ended_lines}
 use Rattle.alt_graph.specs.Times.{AreRanks, rank_of}
 use Rattle.plan_verifier.specs.Accepted.{IsAcceptable}
-use Rattle.cell_tables.specs.Reports.{said}
 use Rattle.cell_tables.specs.declared.entry.Entry.{Entry}
 use Rattle.cell_tables.specs.declared.entry.Entry.TheVariants.{Report as ReportEntry, Order as OrderEntry}
 use Rattle.cell_tables.specs.Events.{events_of}
@@ -61,7 +61,7 @@ module _ (p : PlannedShop) (shaped : IsWellShaped p) where
   run_tells c [] sound events = tells_none p
   run_tells c (ReportEntry r ∷ entries) sound events =
       tells_both p (entry_line (ReportEntry r)) (entry_lines entries) (ReportEntry r ∷ []) entries (tells_entry p shaped (ReportEntry r) (report_of_shop p c r shaped sound events.0))
-      (run_tells (after p c (Reported (said r))) entries (after_report-sound p c (said r) shaped sound events.0) events.1)
+      (run_tells (after p c (Reported r)) entries (after_report-sound p c r shaped sound events.0) events.1)
   run_tells c (OrderEntry o ∷ entries) sound events =
       let is_of : IsEntryOf p (OrderEntry o) = subst (λ (q : MoveOrder). IsEntryOf p (OrderEntry q)) (sym events.0.0.is_move) (order_of_shop p c o.job o.at shaped sound events.0.0.can) in
       tells_both p (entry_line (OrderEntry o)) (entry_lines entries) (OrderEntry o ∷ []) entries (tells_entry p shaped (OrderEntry o) is_of)
@@ -75,8 +75,8 @@ module _ (p : PlannedShop) (shaped : IsWellShaped p) where
   parted_tells c (ReportEntry r ∷ told) (was_late ∷ late) rest same sound events =
       subst (λ (t : List ℕ). TellsFirst p t (ReportEntry r ∷ (told ++ rest))) (sym (append_assoc (told_line (ReportEntry r) was_late) (told_lines told late) (10 ∷ entry_lines rest)))
       (tells_both p (told_line (ReportEntry r) was_late) (told_lines told late ++ (10 ∷ entry_lines rest)) (ReportEntry r ∷ []) (told ++ rest)
-      (tells_both p (entry_line (ReportEntry r)) (cond was_late (late_line (said r).at) []) (ReportEntry r ∷ []) [] (tells_entry p shaped (ReportEntry r) (report_of_shop p c r shaped sound events.0)) (late_told p (said r).at was_late))
-      (parted_tells (after p c (Reported (said r))) told late rest (omega (arith, same)) (after_report-sound p c (said r) shaped sound events.0) events.1))
+      (tells_both p (entry_line (ReportEntry r)) (cond was_late (late_line (at r)) []) (ReportEntry r ∷ []) [] (tells_entry p shaped (ReportEntry r) (report_of_shop p c r shaped sound events.0)) (late_told p (at r) was_late))
+      (parted_tells (after p c (Reported r)) told late rest (omega (arith, same)) (after_report-sound p c r shaped sound events.0) events.1))
   parted_tells c (OrderEntry o ∷ told) (was_late ∷ late) rest same sound events =
       let is_of : IsEntryOf p (OrderEntry o) = subst (λ (q : MoveOrder). IsEntryOf p (OrderEntry q)) (sym events.0.0.is_move) (order_of_shop p c o.job o.at shaped sound events.0.0.can) in
       subst (λ (t : List ℕ). TellsFirst p t (OrderEntry o ∷ (told ++ rest))) (sym (append_assoc (entry_line (OrderEntry o)) (told_lines told late) (10 ∷ entry_lines rest)))

@@ -4,7 +4,7 @@ use Rattle.std.proofs.lemmas.List.{append_cancel_left}
 use Rattle.shop_base.specs.declared.move_order.MoveOrder.{MoveOrder}
 use Rattle.shop_base.specs.Plan.{PlannedShop, IsWellShaped}
 use Rattle.shop_base.specs.Cell.{Cell, start}
-use Rattle.shop_base.specs.Report.{Report, after_report}
+use Rattle.shop_base.specs.Report.{Report, at, after_report}
 use Rattle.shop_base.specs.Move.{order_for, after_move}
 use Rattle.shop_base.specs.Run.{Event, Reported, Moved, after, after_all, IsAtRest, IsRun}
 use Rattle.shop_base.specs.Controlled.{AreMoves, after_moves, orders_for, moved, IsStep, after_step, step_orders, Leads}
@@ -82,18 +82,18 @@ module _ (p : PlannedShop) where
         → moved (step_orders p c r jobs) ≡ a ++ b → moved due ≡ b → (d : Cell) → d ≡ after_all p (after_report c r) a → Settles p d d.last js → orders_for p d d.last js ≡ due
     within c r jobs js a b due sound rest step parts due_is d is settles =
         let next = after_report c r in
-        let cut = cut_moves next r.at jobs a b parts in
-        let here : d ≡ after_moves p next r.at cut.front = is ∙ ap (after_all p next) cut.first ∙ after_all-moves p next r.at cut.front in
-        let now : d.last ≡ r.at = ap (λ (x : Cell). x.last) here ∙ moves_last next r.at cut.front (after_report-last c r) in
-        let there : Settles p (after_moves p next r.at cut.front) r.at js =
-        subst (λ (x : Cell). Settles p x r.at js) here (subst (λ t. Settles p d t js) now settles) in
-        let moves : AreMoves p next r.at cut.front = front_moves next r.at cut.front cut.back (subst (AreMoves p next r.at) cut.jobs step.moves) in
+        let cut = cut_moves next (at r) jobs a b parts in
+        let here : d ≡ after_moves p next (at r) cut.front = is ∙ ap (after_all p next) cut.first ∙ after_all-moves p next (at r) cut.front in
+        let now : d.last ≡ at r = ap (λ (x : Cell). x.last) here ∙ moves_last next (at r) cut.front (after_report-last c r) in
+        let there : Settles p (after_moves p next (at r) cut.front) (at r) js =
+        subst (λ (x : Cell). Settles p x (at r) js) here (subst (λ t. Settles p d t js) now settles) in
+        let moves : AreMoves p next (at r) cut.front = front_moves next (at r) cut.front cut.back (subst (AreMoves p next (at r)) cut.jobs step.moves) in
         let whole : IsStep p c r (cut.front ++ js) = a_cut_step_settles-holds p c r cut.front js step.can moves there in
         let (found, is_step, only) = one_step p c r shaped sound rest step.can in
         let same : cut.front ++ js ≡ cut.front ++ cut.back = only (cut.front ++ js) whole ∙ sym (only jobs step) ∙ cut.jobs in
         let movers : js ≡ cut.back = append_cancel_left cut.front js cut.back same in
-        let orders : orders_for p d d.last js ≡ orders_for p (after_moves p next r.at cut.front) r.at cut.back =
-        ap (λ t. orders_for p d t js) now ∙ ap (λ (x : Cell). orders_for p x r.at js) here ∙ ap (orders_for p (after_moves p next r.at cut.front) r.at) movers in
+        let orders : orders_for p d d.last js ≡ orders_for p (after_moves p next (at r) cut.front) (at r) cut.back =
+        ap (λ t. orders_for p d t js) now ∙ ap (λ (x : Cell). orders_for p x (at r) js) here ∙ ap (orders_for p (after_moves p next (at r) cut.front) (at r)) movers in
         orders ∙ same_moves _ due (sym (due_is ∙ cut.second))
 
     pub cut_settles : (n : ℕ) (c end : Cell) (rs : List Report) (a : List Event) (due : List MoveOrder) (js : List ℕ) → length a ≤ n → IsSound p c → IsAtRest p c
@@ -119,7 +119,7 @@ module _ (p : PlannedShop) where
           | inl (b, longer, events) ↦
               again next first.later b (omega (arith, few, ap length longer, length-append os b)) (after_step-sound p c first.report first.jobs shaped sound first.step) first.step.rest
               (subst (λ es. Leads p next first.later es end) events first.leads) (there ∙ ap (after_all p ended) longer ∙ after_all_join p ended os b
-              ∙ ap (λ (x : Cell). after_all p x b) (after_all-moves p ended first.report.at first.jobs))
+              ∙ ap (λ (x : Cell). after_all p x b) (after_all-moves p ended (at first.report) first.jobs))
           | inr (b, shorter, events) ↦ within c first.report first.jobs js a b due sound rest first.step shorter (only b events) d there settles
         ]
           where

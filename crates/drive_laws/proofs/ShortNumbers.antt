@@ -7,17 +7,17 @@ use Rattle.shop_base.specs.Plan.{PlannedShop, IsWellShaped, jobs, machines, step
 use Rattle.shop_base.specs.Cell.{Cell, made, ready, since, entries, cleaning}
 use Rattle.shop_base.specs.Move.{target}
 use Rattle.shop_base.specs.Sound.{IsSound}
+use Rattle.shop_base.specs.Report.{ended, at}
+use Rattle.shop_base.specs.declared.report.Report as reports
+use Rattle.shop_base.specs.declared.report.Report.TheVariants.{Arrive, Finish, Clean}
 use Rattle.shop_base.proofs.Keeping.{run-sound}
 use Rattle.shop_base.proofs.Visits.{stop_at, stop_past, visits_job}
 use Rattle.text_lines.specs.Lines.{lines_of}
 use Rattle.text_lines.proofs.NextLines.{lines_of-le}
 use Rattle.byte_streams.specs.Lines.{within_limit}
-use Rattle.cell_tables.specs.declared.report.Report as reports
-use Rattle.cell_tables.specs.declared.report.Report.TheVariants.{Arrive, Finish, Clean}
 use Rattle.cell_tables.specs.declared.standing.Standing.{Standing}
 use Rattle.cell_tables.specs.declared.standing.Standing.TheVariants.{Gone}
 use Rattle.cell_tables.specs.Events.{events_of}
-use Rattle.cell_tables.specs.Reports.{said}
 use Rattle.cell_tables.specs.Standings.{outside_standing, inside_standing, standing_after, job_standing, cleaning_standing, machine_standing, is_overdue}
 use Rattle.cell_control.specs.Reports.{IsOfShop}
 use Rattle.cell_control.specs.declared.report_fault.ReportFault.{ReportFault}
@@ -129,20 +129,20 @@ module _ (p : PlannedShop) (c : Cell) (shaped : IsWellShaped p) (sound : IsSound
   machines_short : (m : ℕ) → m < machines p → IsShortStanding (machine_standing p c m)
   machines_short m below = cleaning_short m (cleaning c m) below refl
 
-  own_standing_short : (report : reports.Report) → IsOfShop p (said report).ended → IsShortStanding (standing_of p c report)
+  own_standing_short : (report : reports.Report) → IsOfShop p (ended report) → IsShortStanding (standing_of p c report)
   own_standing_short (Arrive job at) of = jobs_short job of
   own_standing_short (Finish job machine at) of = jobs_short job of
   own_standing_short (Clean machine at) of = machines_short machine of
 
-  overdue_short : (report : reports.Report) → IsOfShop p (said report).ended → IsShortFound 1000 (overdue_in p c (standing_of p c report) (said report).at)
+  overdue_short : (report : reports.Report) → IsOfShop p (ended report) → IsShortFound 1000 (overdue_in p c (standing_of p c report) (at report))
   overdue_short report of =
-      let at = (said report).at in
+      let moment = at report in
       let counts = shaped.shop.counts in
-      let of_jobs : IsShortFound (0 + jobs p) (with_jobs p c at) = those_short at (job_standing p c) 0 None 0 (jobs p) (λ j below. jobs_short j (omega (arith, below))) tt in
-      let of_both : IsShortFound ((0 + jobs p) + machines p) (with_machines p c at (with_jobs p c at)) =
-      those_short at (machine_standing p c) (0 + jobs p) (with_jobs p c at) 0 (machines p) (λ m below. machines_short m (omega (arith, below))) of_jobs in
-      own_short at 1000 (standing_of p c report) (with_machines p c at (with_jobs p c at)) (own_standing_short report of)
-      (of_more ((0 + jobs p) + machines p) 1000 (with_machines p c at (with_jobs p c at)) (omega (arith, counts.few_jobs, counts.few_machines)) of_both)
+      let of_jobs : IsShortFound (0 + jobs p) (with_jobs p c moment) = those_short moment (job_standing p c) 0 None 0 (jobs p) (λ j below. jobs_short j (omega (arith, below))) tt in
+      let of_both : IsShortFound ((0 + jobs p) + machines p) (with_machines p c moment (with_jobs p c moment)) =
+      those_short moment (machine_standing p c) (0 + jobs p) (with_jobs p c moment) 0 (machines p) (λ m below. machines_short m (omega (arith, below))) of_jobs in
+      own_short moment 1000 (standing_of p c report) (with_machines p c moment (with_jobs p c moment)) (own_standing_short report of)
+      (of_more ((0 + jobs p) + machines p) 1000 (with_machines p c moment (with_jobs p c moment)) (omega (arith, counts.few_jobs, counts.few_machines)) of_both)
 
   -- ---- a refusal
 
@@ -196,7 +196,7 @@ overdue_is_short p es report overdue shaped run can same =
     let c = cell_after p es in
     let sound = run-sound p (events_of es) shaped run in
     let begun = begun_in_run p shaped (events_of es) run in
-    let found = found_is (overdue_in p c (standing_of p c report) (said report).at) overdue same (overdue_short p c shaped sound begun report (reported_of_shop p c report shaped sound can)) in
+    let found = found_is (overdue_in p c (standing_of p c report) (at report)) overdue same (overdue_short p c shaped sound begun report (reported_of_shop p c report shaped sound can)) in
     (omega (arith, can.moment.in_range), found.0, found.1)
 
 -- ---- an input

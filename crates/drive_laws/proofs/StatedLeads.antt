@@ -2,10 +2,9 @@
 use Rattle.std.proofs.Common.{◌≡◌, ℕ, ◌+◌, List, [], ◌∷◌, ◌++◌, map, Option, Some, None, sym, ap, ◌∙◌, subst, inl, inr, append_assoc}
 use Rattle.shop_base.specs.Plan.{PlannedShop}
 use Rattle.shop_base.specs.Cell.{Cell}
-use Rattle.shop_base.specs.Report as base
+use Rattle.shop_base.specs.Report.{Report}
 use Rattle.shop_base.specs.Run.{Event, Reported}
 use Rattle.shop_base.specs.Controlled.{Leads, accepted, moved, step_orders}
-use Rattle.cell_tables.specs.Reports.{said}
 use Rattle.cell_tables.specs.declared.entry.Entry.{Entry}
 use Rattle.cell_tables.specs.declared.entry.Entry.TheVariants.{Report as ReportEntry, Order as OrderEntry}
 use Rattle.cell_tables.specs.Events.{events_of}
@@ -22,7 +21,7 @@ use Rattle.cell_drive.proofs.LogRoom.{events-orders}
 
 module _ (p : PlannedShop) (manner : Manner) where
   abbrev pub LeadsOn : Cell → List Entry → Cell → Type 0
-  LeadsOn c events end = (reports : List base.Report) × Leads p c reports (events_of events) end
+  LeadsOn c events end = (reports : List Report) × Leads p c reports (events_of events) end
 
   no_events : (c next end : Cell) (events more : List Entry) → events ≡ [] → next ≡ c → LeadsOn next more end → LeadsOn c (events ++ more) end
   no_events c next end events more none same on =
@@ -33,7 +32,7 @@ module _ (p : PlannedShop) (manner : Manner) where
       → LeadsOn c (events ++ more) end
   answer_leads prefix c next end number (ClaimRequest claim) text events more (inl is) on = no_events c next end events more is.events_are is.next_is on
   answer_leads prefix c next end number (ClaimRequest claim) text events more (inr is) on =
-      let r = said (claimed claim) in
+      let r = claimed claim in
       let orders = step_orders p c r is.movers in
       let own = ReportEntry (claimed claim) ∷ map OrderEntry orders in
       let es = events_of more in

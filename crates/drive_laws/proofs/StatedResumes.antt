@@ -7,10 +7,10 @@ use Rattle.shop_base.specs.Plan.{PlannedShop, IsWellShaped}
 use Rattle.shop_base.specs.Cell.{Cell, start}
 use Rattle.shop_base.specs.Run.{Reported, Moved, AreEvents, after}
 use Rattle.shop_base.specs.Sound.{IsSound}
+use Rattle.shop_base.specs.Report.{at}
 use Rattle.shop_base.proofs.Keeping.{start-sound, after_report-sound, after_move-sound}
 use Rattle.shop_base.proofs.ControlledRuns.{start_at_rest}
 use Rattle.text_lines.specs.Lines.{lines_of}
-use Rattle.cell_tables.specs.Reports.{said}
 use Rattle.cell_tables.specs.declared.entry.Entry.{Entry}
 use Rattle.cell_tables.specs.declared.entry.Entry.TheVariants.{Report as ReportEntry, Order as OrderEntry}
 use Rattle.cell_tables.specs.Events.{events_of}
@@ -49,12 +49,12 @@ module _ (p : PlannedShop) (shaped : IsWellShaped p) (manner : Manner) where
   retold_tells c [] late rest same sound events = tells_both p (10 ∷ []) (entry_lines rest) [] rest (empty_line p) (run_tells p shaped c rest sound events)
   retold_tells c (entry ∷ told) [] rest same sound events = absurd (omega (arith, same))
   retold_tells c (ReportEntry r ∷ told) (was_late ∷ late) rest same sound events =
-      let next = after p c (Reported (said r)) in
+      let next = after p c (Reported r) in
       let overdue = told_overdue manner p c r in
       subst (λ (t : List ℕ). TellsFirst p t (ReportEntry r ∷ (told ++ rest))) (sym (append_assoc (retold_line p manner c (ReportEntry r) was_late) (retold_lines p manner next told late) (10 ∷ entry_lines rest)))
       (tells_both p (retold_line p manner c (ReportEntry r) was_late) (retold_lines p manner next told late ++ (10 ∷ entry_lines rest)) (ReportEntry r ∷ []) (told ++ rest)
-      (tells_both p (entry_line (ReportEntry r)) (lateness_part [] (said r).at was_late overdue) (ReportEntry r ∷ []) [] (tells_entry p shaped (ReportEntry r) (report_of_shop p c r shaped sound events.0)) (lateness_told p (said r).at was_late overdue))
-      (retold_tells next told late rest (omega (arith, same)) (after_report-sound p c (said r) shaped sound events.0) events.1))
+      (tells_both p (entry_line (ReportEntry r)) (lateness_part [] (at r) was_late overdue) (ReportEntry r ∷ []) [] (tells_entry p shaped (ReportEntry r) (report_of_shop p c r shaped sound events.0)) (lateness_told p (at r) was_late overdue))
+      (retold_tells next told late rest (omega (arith, same)) (after_report-sound p c r shaped sound events.0) events.1))
   retold_tells c (OrderEntry o ∷ told) (was_late ∷ late) rest same sound events =
       let next = after p c (Moved o) in
       let is_of : IsEntryOf p (OrderEntry o) = subst (λ (q : MoveOrder). IsEntryOf p (OrderEntry q)) (sym events.0.0.is_move) (order_of_shop p c o.job o.at shaped sound events.0.0.can) in

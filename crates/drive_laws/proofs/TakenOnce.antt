@@ -2,12 +2,11 @@
 use Rattle.std.proofs.Common.{◌≡◌, ◌⊎◌, ℕ, List, [], ◌∷◌, ◌++◌, Option, Some, refl, sym, ap, ◌∙◌, subst, inl, inr}
 use Rattle.shop_base.specs.Plan.{PlannedShop, IsWellShaped}
 use Rattle.shop_base.specs.Cell.{Cell, start}
-use Rattle.shop_base.specs.Report.{after_report}
+use Rattle.shop_base.specs.Report.{at, after_report}
 use Rattle.shop_base.specs.Run.{Reported, AreEvents, after_all, IsRun, ends_in}
 use Rattle.shop_base.specs.Controlled.{moved, step_orders}
+use Rattle.shop_base.specs.declared.report.Report.TheVariants.{Arrive, Finish, Clean}
 use Rattle.shop_base.proofs.ControlledRuns.{events_join, after_all_join, moves-events, after_all-moves}
-use Rattle.cell_tables.specs.declared.report.Report.TheVariants.{Arrive, Finish, Clean}
-use Rattle.cell_tables.specs.Reports.{said}
 use Rattle.cell_tables.specs.declared.entry.Entry.{Entry}
 use Rattle.cell_tables.specs.Events.{events_of}
 use Rattle.cell_control.specs.OnceLaw.{NamedEnd, Arrived, Finished, Cleaned, Tells}
@@ -29,11 +28,11 @@ use Rattle.cell_drive.proofs.Refusing.{can_report, refused_or_taken}
 use Rattle.cell_drive.proofs.StatedTold.{stated_line_told}
 
 -- a claim that is possible tells what it names
-pub tells_named : (p : PlannedShop) (c : Cell) (claim : Claim) (ended : NamedEnd) → named claim ≡ Some ended → CanClaim p c claim → Tells p c (said (claimed claim)) ended
-tells_named p c (Report (Arrive job at)) ended is can = let same : Arrived job ≡ ended = cc in subst (Tells p c (said (Arrive job at))) same refl
-tells_named p c (Report (Finish job machine at)) ended is can = let same : Finished job machine ≡ ended = cc in subst (Tells p c (said (Finish job machine at))) same refl
+pub tells_named : (p : PlannedShop) (c : Cell) (claim : Claim) (ended : NamedEnd) → named claim ≡ Some ended → CanClaim p c claim → Tells p c (claimed claim) ended
+tells_named p c (Report (Arrive job at)) ended is can = let same : Arrived job ≡ ended = cc in subst (Tells p c (Arrive job at)) same refl
+tells_named p c (Report (Finish job machine at)) ended is can = let same : Finished job machine ≡ ended = cc in subst (Tells p c (Finish job machine at)) same refl
 tells_named p c (Report (Clean machine at)) ended is can = absurd (cc)
-tells_named p c (CleanAfter machine job at) ended is can = let same : Cleaned machine job ≡ ended = cc in subst (Tells p c (said (Clean machine at))) same (refl, can.after)
+tells_named p c (CleanAfter machine job at) ended is can = let same : Cleaned machine job ≡ ended = cc in subst (Tells p c (Clean machine at)) same (refl, can.after)
 
 module _ (p : PlannedShop) (manner : Manner) (shaped : IsWellShaped p) where
   abbrev answers : DrivenCell → ℕ → Option (List ℕ) → List ℕ → DrivenCell → Type 0
@@ -47,18 +46,18 @@ module _ (p : PlannedShop) (manner : Manner) (shaped : IsWellShaped p) where
         → named claim ≡ Some ended → named again ≡ Some ended → CanClaim p end.cell again → ⊥
     taken_once first events is then_told names names_again can =
         let c = before.cell in
-        let r = said (claimed claim) in
+        let r = claimed claim in
         let es = events_of first.more in
         let own = Reported r ∷ moved (step_orders p c r is.movers) in
         let gs = events_of then_told.more in
-        let own_events : AreEvents p c own = (is.step.can, moves-events p (after_report c r) r.at is.movers is.step.moves) in
-        let to_after : after.cell ≡ after_all p c own = is.next_is ∙ sym (after_all-moves p (after_report c r) r.at is.movers) in
+        let own_events : AreEvents p c own = (is.step.can, moves-events p (after_report c r) (at r) is.movers is.step.moves) in
+        let to_after : after.cell ≡ after_all p c own = is.next_is ∙ sym (after_all-moves p (after_report c r) (at r) is.movers) in
         let from_before : AreEvents p c (own ++ gs) = events_join p c own gs own_events (subst (λ (x : Cell). AreEvents p x gs) to_after then_told.events) in
         let run : IsRun p (es ++ (own ++ gs)) = events_join p (start p) es (own ++ gs) first.events (subst (λ (x : Cell). AreEvents p x (own ++ gs)) first.cell from_before) in
         let to_end : end.cell ≡ ends_in p (es ++ (own ++ gs)) =
         then_told.cell ∙ ap (λ (x : Cell). after_all p x gs) to_after ∙ sym (after_all_join p c own gs) ∙ ap (λ (x : Cell). after_all p x (own ++ gs)) first.cell ∙ sym (after_all_join p (start p) es (own ++ gs)) in
         let can_then : CanClaim p (ends_in p (es ++ (own ++ gs))) again = subst (λ (x : Cell). CanClaim p x again) to_end can in
-        once p es (moved (step_orders p c r is.movers) ++ gs) r (said (claimed again)) ended shaped run
+        once p es (moved (step_orders p c r is.movers) ++ gs) r (claimed again) ended shaped run
         (subst (λ (x : Cell). Tells p x r ended) first.cell (tells_named p c claim ended names is.taken.0))
         (tells_named p (ends_in p (es ++ (own ++ gs))) again ended names_again can_then)
         (can_report p (ends_in p (es ++ (own ++ gs))) again can_then)

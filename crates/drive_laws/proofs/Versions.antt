@@ -2,8 +2,7 @@
 use Rattle.std.proofs.Common.{◌≡◌, ℕ, ◌+◌, List, [], ◌∷◌, ◌++◌, codes, true, false, Option, None, Some, refl, sym, subst, inl, inr}
 use Rattle.shop_base.specs.Plan.{PlannedShop}
 use Rattle.shop_base.specs.Controlled.{step_orders}
-use Rattle.cell_tables.specs.declared.report.Report as reports
-use Rattle.cell_tables.specs.Reports.{said}
+use Rattle.shop_base.specs.declared.report.Report as reports
 use Rattle.byte_streams.specs.Answering.{AnswerAll}
 use Rattle.event_lines.specs.AnswerLines.{refused_line}
 use Rattle.event_lines.specs.SentLines.{IsReportLine}
@@ -48,7 +47,7 @@ module _ (p : PlannedShop) (longest : Option ℕ) (from : ℕ) where
             (refused number (refusal_word refusal.refusal) (refusal_detail (in_version true longest from) p start.cell report refusal.refusal) more others rest);
       }
       by (inr done) =
-          let orders = step_orders p start.cell (said report) done.movers in
+          let orders = step_orders p start.cell report done.movers in
           let overdue = told_overdue (in_version true longest from) p start.cell report in
           let ended = tells_end (in_version true longest from) p end.cell in
           record {

@@ -3,10 +3,9 @@ use Rattle.std.specs.Prelude.{◌≡◌, ◌↔◌, ℕ, List, [], ◌∷◌, Op
 use Rattle.shop_base.specs.Report.{Report}
 use Rattle.shop_base.specs.Run.{Event}
 use Rattle.shop_base.specs.Ends.{stated_number, reports_in, HasEnded}
+use Rattle.shop_base.specs.declared.report.Report as told
 use Rattle.plan_verifier.specs.Accepted.{VerifiedPlan}
-use Rattle.cell_tables.specs.declared.report.Report as told
 use Rattle.cell_control.specs.Control.{Control}
-use Rattle.cell_tables.specs.Reports.{said}
 use Rattle.cell_control.specs.Promises.{IsControllerAfter}
 use Rattle.event_lines.specs.SentLines.{IsCellReport}
 use Rattle.cell_drive.specs.ManyCells.{PlannedCell}
@@ -21,7 +20,7 @@ IsNotOn cell line = (words : List ℕ) (report : told.Report) → line ≡ Some 
 pub data HaveReports (cell : ℕ) : List (Option (List ℕ)) → List Report → Type 0 where
   none_left : HaveReports cell [] []
   on_it : (words : List ℕ) (report : told.Report) (lines : List (Option (List ℕ))) (reports : List Report) → IsCellReport words cell report
-      → HaveReports cell lines reports → HaveReports cell (Some words ∷ lines) (said report ∷ reports)
+      → HaveReports cell lines reports → HaveReports cell (Some words ∷ lines) (report ∷ reports)
   passed_over : (line : Option (List ℕ)) (lines : List (Option (List ℕ))) (reports : List Report) → IsNotOn cell line
       → HaveReports cell lines reports → HaveReports cell (line ∷ lines) reports
 

@@ -1,7 +1,7 @@
 -- The law that version 2 of the lines only adds to what cells of a hub answer in version 1.
 use Rattle.std.specs.Prelude.{◌≡◌, ℕ, List, [], ◌∷◌, ◌++◌, Bool, true, false, Option, None, Some}
 use Rattle.shop_base.specs.declared.move_order.MoveOrder.{MoveOrder}
-use Rattle.cell_tables.specs.declared.report.Report as reports
+use Rattle.shop_base.specs.declared.report.Report as reports
 use Rattle.byte_streams.specs.Answering.{AnswerAll}
 use Rattle.event_lines.specs.AnswerLines.{refused_line}
 use Rattle.event_lines.specs.StandingLines.{refused_detail_line}

@@ -3,7 +3,6 @@ use Rattle.std.specs.Prelude.{◌≡◌, ℕ, ◌<◌, ◌≤◌, List, Some}
 use Rattle.shop_base.specs.Plan.{PlannedShop, IsWellShaped, jobs, machines, steps, release, nominal, clean}
 use Rattle.shop_base.specs.Run.{IsRun}
 use Rattle.shop_base.specs.Punctual.{IsPunctual}
-use Rattle.cell_tables.specs.Reports.{said}
 use Rattle.cell_tables.specs.declared.entry.Entry.{Entry}
 use Rattle.cell_tables.specs.Events.{events_of}
 use Rattle.event_lines.specs.declared.requests.Claim.{Claim}
@@ -21,4 +20,4 @@ pub record HasNoLongerTime (p : PlannedShop) (longest : ℕ) : Type 0 where
 -- at the end of any run a claim that is possible and punctual is then taken
 abbrev pub NoPunctualReportLeaps : Type 0
 NoPunctualReportLeaps = (p : PlannedShop) (manner : Manner) (longest : ℕ) (entries : List Entry) (claim : Claim) → IsWellShaped p → manner.longest ≡ Some longest → HasNoLongerTime p longest
-    → IsRun p (events_of entries) → CanClaim p (cell_after p entries) claim → IsPunctual p (cell_after p entries) (said (claimed claim)) → IsTaken manner p (cell_after p entries) claim
+    → IsRun p (events_of entries) → CanClaim p (cell_after p entries) claim → IsPunctual p (cell_after p entries) (claimed claim) → IsTaken manner p (cell_after p entries) claim

@@ -2,7 +2,7 @@
 use Rattle.std.specs.Prelude.{◌≡◌, ℕ, List, [], ◌∷◌, ◌++◌, Bool, true, false, Option, None, Some}
 use Rattle.shop_base.specs.declared.move_order.MoveOrder.{MoveOrder}
 use Rattle.shop_base.specs.Plan.{PlannedShop}
-use Rattle.cell_tables.specs.declared.report.Report as reports
+use Rattle.shop_base.specs.declared.report.Report as reports
 use Rattle.byte_streams.specs.Answering.{AnswerAll}
 use Rattle.event_lines.specs.EventLines.{order_line}
 use Rattle.event_lines.specs.AnswerLines.{refused_line}

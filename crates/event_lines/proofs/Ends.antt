@@ -4,9 +4,9 @@ use Rattle.std.specs.List.{starts_with}
 use Rattle.std.proofs.lemmas.Bool.{eq-eqb}
 use Rattle.shop_base.specs.declared.move_order.Spot.{Spot}
 use Rattle.shop_base.specs.declared.move_order.Spot.TheVariants.{Out, At}
-use Rattle.cell_tables.specs.declared.report.Report.{Report}
-use Rattle.cell_tables.specs.declared.report.Report.TheVariants.{Arrive, Finish, Clean}
-use Rattle.cell_tables.specs.Reports.{said}
+use Rattle.shop_base.specs.Report.{at}
+use Rattle.shop_base.specs.declared.report.Report.{Report}
+use Rattle.shop_base.specs.declared.report.Report.TheVariants.{Arrive, Finish, Clean}
 use Rattle.cell_tables.specs.declared.entry.Entry.{Entry}
 use Rattle.cell_tables.specs.declared.entry.Entry.TheVariants.{Report as ReportEntry, Order as OrderEntry}
 use Rattle.event_lines.specs.Words.{Text, Number, short, moment, IsReadAs}
@@ -57,7 +57,7 @@ no_spot_alone line out none (At machine) found = none machine found
 
 -- a line with neither word first tells nothing
 no_line : (line : List ℕ) → ((rest : List ℕ) → line ≢ codes "report " ++ rest) → ((rest : List ℕ) → line ≢ codes "order " ++ rest) → (entry : Entry) → IsEntryLine line entry → ⊥
-no_line line r o (ReportEntry report) found = let first = text_before line (codes "report") (moment (said report).at) (end_words report) found in r first.0 first.1
+no_line line r o (ReportEntry report) found = let first = text_before line (codes "report") (moment (at report)) (end_words report) found in r first.0 first.1
 no_line line r o (OrderEntry order) found = let first = text_before line (codes "order") (moment order.at) (move_numbers order) found in o first.0 first.1
 
 -- with the first byte of `order` it is no report, and with another no order
@@ -69,5 +69,5 @@ no_line-report line first none = no_line line none (λ rest is. let other : star
 
 -- a line that tells an entry isn't passed over
 pub told-not_passed : (line : List ℕ) (entry : Entry) → IsEntryLine line entry → is_passed_over line ≡ false
-told-not_passed line (ReportEntry report) found = let first = text_before line (codes "report") (moment (said report).at) (end_words report) found in ap is_passed_over first.1
+told-not_passed line (ReportEntry report) found = let first = text_before line (codes "report") (moment (at report)) (end_words report) found in ap is_passed_over first.1
 told-not_passed line (OrderEntry order) found = let first = text_before line (codes "order") (moment order.at) (move_numbers order) found in ap is_passed_over first.1

@@ -4,11 +4,11 @@ use Rattle.shop_base.specs.declared.limits.TheConstants.{MAX_MOMENT}
 use Rattle.shop_base.specs.declared.move_order.Spot.{Spot}
 use Rattle.shop_base.specs.declared.move_order.Spot.TheVariants.{Out, At}
 use Rattle.shop_base.specs.Plan.{PlannedShop, jobs, machines, IsWellShaped}
+use Rattle.shop_base.specs.Report.{at}
+use Rattle.shop_base.specs.declared.report.Report.{Report}
+use Rattle.shop_base.specs.declared.report.Report.TheVariants.{Arrive, Finish, Clean}
 use Rattle.text_lines.specs.Lines.{lines_of}
-use Rattle.cell_tables.specs.declared.report.Report.{Report}
-use Rattle.cell_tables.specs.declared.report.Report.TheVariants.{Arrive, Finish, Clean}
 use Rattle.cell_tables.specs.Moving.{IsSpotOf}
-use Rattle.cell_tables.specs.Reports.{said}
 use Rattle.cell_tables.specs.declared.entry.Entry.{Entry}
 use Rattle.cell_tables.specs.declared.entry.Entry.TheVariants.{Report as ReportEntry, Order as OrderEntry}
 use Rattle.event_lines.specs.Words.{Word, Text, short, moment, written, words_before, line_of}
@@ -113,7 +113,7 @@ module _ (p : PlannedShop) where
     report_fits (Clean machine at) of_shop = (refl, (moment_fits at of_shop.1, (refl, (machine_fits machine of_shop.0, tt))))
 
     tells_fitting : (entry : Entry) → AreFitting (entry_words entry) → IsEntryOf p entry → TellsFirst p (line_of (entry_words entry)) (entry ∷ [])
-    tells_fitting (ReportEntry report) fit of_shop = tells_line (told_words report) (ReportEntry report ∷ []) (all_spaceless (told_words report) fit) (refl, read_back (Text (codes "report")) (moment (said report).at ∷ end_words report) fit, of_shop)
+    tells_fitting (ReportEntry report) fit of_shop = tells_line (told_words report) (ReportEntry report ∷ []) (all_spaceless (told_words report) fit) (refl, read_back (Text (codes "report")) (moment (at report) ∷ end_words report) fit, of_shop)
     tells_fitting (OrderEntry o) fit of_shop = tells_line (order_words o) (OrderEntry o ∷ []) (all_spaceless (order_words o) fit) (refl, read_back (Text (codes "order")) (move_words o) fit, of_shop)
 
     pub tells_entry : (entry : Entry) → IsEntryOf p entry → TellsFirst p (line_of (entry_words entry)) (entry ∷ [])

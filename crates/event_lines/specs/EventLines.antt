@@ -4,9 +4,9 @@ use Rattle.std.specs.List.{flat_map}
 use Rattle.shop_base.specs.declared.move_order.Spot.{Spot}
 use Rattle.shop_base.specs.declared.move_order.Spot.TheVariants.{Out, At}
 use Rattle.shop_base.specs.declared.move_order.MoveOrder.{MoveOrder}
-use Rattle.cell_tables.specs.declared.report.Report.{Report}
-use Rattle.cell_tables.specs.declared.report.Report.TheVariants.{Arrive, Finish, Clean}
-use Rattle.cell_tables.specs.Reports.{said}
+use Rattle.shop_base.specs.Report.{at}
+use Rattle.shop_base.specs.declared.report.Report.{Report}
+use Rattle.shop_base.specs.declared.report.Report.TheVariants.{Arrive, Finish, Clean}
 use Rattle.cell_tables.specs.declared.entry.Entry.{Entry}
 use Rattle.cell_tables.specs.declared.entry.Entry.TheVariants.{Report as ReportEntry, Order as OrderEntry}
 use Rattle.event_lines.specs.Words.{Word, Text, short, moment, line_of, IsReadAs}
@@ -29,7 +29,7 @@ end_words report = Text (end_name report) ∷ end_numbers report
 
 -- `report T arrive J`, `report T finish J M` or `report T clean M`
 abbrev pub told_words : Report → List Word
-told_words report = Text (codes "report") ∷ moment (said report).at ∷ end_words report
+told_words report = Text (codes "report") ∷ moment (at report) ∷ end_words report
 
 -- a machine's number, or `out` for outside the cell
 abbrev pub spot_word : Spot → Word

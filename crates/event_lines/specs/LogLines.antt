@@ -2,10 +2,10 @@
 use Rattle.std.specs.Prelude.{◌≡◌, ℕ, ◌<◌, ◌≤◌, true, false, List, [], ◌∷◌, ◌++◌}
 use Rattle.shop_base.specs.declared.limits.TheConstants.{MAX_MOMENT}
 use Rattle.shop_base.specs.Plan.{PlannedShop, jobs, machines}
-use Rattle.cell_tables.specs.declared.report.Report.{Report}
-use Rattle.cell_tables.specs.declared.report.Report.TheVariants.{Arrive, Finish, Clean}
+use Rattle.shop_base.specs.Report.{at}
+use Rattle.shop_base.specs.declared.report.Report.{Report}
+use Rattle.shop_base.specs.declared.report.Report.TheVariants.{Arrive, Finish, Clean}
 use Rattle.cell_tables.specs.Moving.{IsSpotOf}
-use Rattle.cell_tables.specs.Reports.{said}
 use Rattle.cell_tables.specs.declared.entry.Entry.{Entry}
 use Rattle.cell_tables.specs.declared.entry.Entry.TheVariants.{Report as ReportEntry, Order as OrderEntry}
 use Rattle.event_lines.specs.EventLines.{IsEntryLine}
@@ -19,7 +19,7 @@ AreEndsOf p (Clean machine at) = machine < machines p
 
 -- so are its moment and, of an order, both spots
 abbrev pub IsEntryOf : PlannedShop → Entry → Type 0
-IsEntryOf p (ReportEntry report) = AreEndsOf p report × ((said report).at ≤ MAX_MOMENT)
+IsEntryOf p (ReportEntry report) = AreEndsOf p report × (at report ≤ MAX_MOMENT)
 IsEntryOf p (OrderEntry order) = (order.job < jobs p) × IsSpotOf p order.source × IsSpotOf p order.target × (order.at ≤ MAX_MOMENT)
 
 -- the line is that of no entry of the shop

@@ -2,8 +2,8 @@
 use Rattle.std.specs.Prelude.{◌≡◌, ℕ, ◌^◌, ◌<◌, nat_lt, true, List, [], ◌∷◌, ◌++◌}
 use Rattle.std.specs.List.{list_all}
 use Rattle.shop_base.specs.Plan.{PlannedShop, IsWellShaped}
+use Rattle.shop_base.specs.declared.report.Report.{Report}
 use Rattle.text_lines.specs.Lines.{lines_of}
-use Rattle.cell_tables.specs.declared.report.Report.{Report}
 use Rattle.cell_tables.specs.declared.entry.Entry.{Entry}
 use Rattle.event_lines.specs.Words.{Word, Text, Number, short, line_of, IsReadAs}
 use Rattle.event_lines.specs.EventLines.{entry_line, IsEntryLine}

@@ -1,7 +1,7 @@
 -- The lines in which more is sent than reports, from version 2 of the lines on.
 use Rattle.std.specs.Prelude.{ℕ, List, [], ◌∷◌, codes}
-use Rattle.cell_tables.specs.declared.report.Report as reports
-use Rattle.cell_tables.specs.declared.report.Report.TheVariants.{Clean}
+use Rattle.shop_base.specs.declared.report.Report as reports
+use Rattle.shop_base.specs.declared.report.Report.TheVariants.{Clean}
 use Rattle.event_lines.specs.declared.requests.Claim.{Claim}
 use Rattle.event_lines.specs.declared.requests.Claim.TheVariants.{Report, CleanAfter}
 use Rattle.event_lines.specs.declared.requests.Request as requests

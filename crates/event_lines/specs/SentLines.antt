@@ -1,13 +1,13 @@
 -- The lines in which reports are sent.
 use Rattle.std.specs.Prelude.{ℕ, List, [], ◌∷◌, ◌++◌, decimal}
-use Rattle.cell_tables.specs.declared.report.Report.{Report}
-use Rattle.cell_tables.specs.Reports.{said}
+use Rattle.shop_base.specs.Report.{at}
+use Rattle.shop_base.specs.declared.report.Report.{Report}
 use Rattle.event_lines.specs.Words.{Word, Text, short, moment, IsReadAs}
 use Rattle.event_lines.specs.EventLines.{end_name, end_numbers}
 
 -- behind the word of what has ended: its numbers, and the moment
 abbrev pub sent_numbers : Report → List Word
-sent_numbers report = end_numbers report ++ moment (said report).at ∷ []
+sent_numbers report = end_numbers report ++ moment (at report) ∷ []
 
 -- `arrive J T`, `finish J M T` or `clean M T`
 abbrev pub sent_words : Report → List Word

@@ -1,8 +1,8 @@
 //! A report as it is logged: `report T arrive J`, `report T finish J M` or `report T clean M`.
 
 ghost use Rattle.std.specs.Prelude.{◌≡◌, ◌+◌, ◌≤◌, [], ◌∷◌, ◌++◌, length, codes, decimal};
+ghost use Rattle.shop_base.specs.Report.{at};
 ghost use Rattle.text_lines.specs.Searches.{SomeIfAny};
-ghost use Rattle.cell_tables.specs.Reports.{said};
 ghost use Rattle.event_lines.specs.Words.{moment, words_before, IsReadAs};
 ghost use Rattle.event_lines.specs.EventLines.{end_words, told_words, report_line};
 
@@ -78,12 +78,12 @@ pub fn put_report(line: &mut LineText, report: Report)
 
 /// What has ended at this moment, by these words.
 #[tactic(auto, using(crate::proofs::Ends::no_end))]
-fn ended_of(words: &[u8], at: Moment) -> Option<Report>
-    ensures { SomeIfAny result (λ report. IsReadAs words.now (end_words report) × ((said report).at ≡ at)) }
+fn ended_of(words: &[u8], moment: Moment) -> Option<Report>
+    ensures { SomeIfAny result (λ report. IsReadAs words.now (end_words report) × (at report ≡ moment)) }
 {
     if let Some(rest) = after_prefix(words, b"arrive ") {
         let job = short_last(rest)?;
-        return Some(Report::Arrive { job, at });
+        return Some(Report::Arrive { job, at: moment });
     }
     if let Some(rest) = after_prefix(words, b"finish ") {
         let (job, rest) = number_first(rest, 9)?;
@@ -91,18 +91,21 @@ fn ended_of(words: &[u8], at: Moment) -> Option<Report>
         return Some(Report::Finish {
             job: job as JobNo,
             machine,
-            at,
+            at: moment,
         });
     }
     let rest = after_prefix(words, b"clean ")?;
     let machine = short_last(rest)?;
-    Some(Report::Clean { machine, at })
+    Some(Report::Clean {
+        machine,
+        at: moment,
+    })
 }
 
 /// The report that the words after `report` give.
 #[tactic(auto, using(crate::proofs::WordByWord::word_steps, crate::proofs::WordByWord::same_first))]
 pub(crate) fn told_report_of(words: &[u8]) -> Option<Report>
-    ensures { SomeIfAny result (λ report. IsReadAs words.now (moment (said report).at ∷ end_words report)) }
+    ensures { SomeIfAny result (λ report. IsReadAs words.now (moment (at report) ∷ end_words report)) }
 {
     let (at, rest) = number_first(words, 13)?;
     let report = ended_of(rest, at)?;

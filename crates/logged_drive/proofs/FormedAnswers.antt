@@ -5,15 +5,14 @@ use Rattle.shop_base.specs.declared.move_order.Spot.{Spot}
 use Rattle.shop_base.specs.declared.move_order.Spot.TheVariants.{Out, At}
 use Rattle.shop_base.specs.Plan.{PlannedShop, IsWellShaped, jobs, machines}
 use Rattle.shop_base.specs.Cell.{Cell}
-use Rattle.shop_base.specs.Report.{after_report}
+use Rattle.shop_base.specs.Report.{at, after_report}
 use Rattle.shop_base.specs.Move.{order_for, after_move}
 use Rattle.shop_base.specs.Controlled.{AreMoves, IsStep, orders_for, step_orders}
 use Rattle.shop_base.specs.Sound.{IsSound}
+use Rattle.shop_base.specs.declared.report.Report.{Report}
+use Rattle.shop_base.specs.declared.report.Report.TheVariants.{Arrive, Finish, Clean}
 use Rattle.shop_base.proofs.Keeping.{after_report-sound, after_move-sound}
 use Rattle.cell_tables.specs.Moving.{IsSpotOf}
-use Rattle.cell_tables.specs.Reports.{said}
-use Rattle.cell_tables.specs.declared.report.Report.{Report}
-use Rattle.cell_tables.specs.declared.report.Report.TheVariants.{Arrive, Finish, Clean}
 use Rattle.cell_tables.specs.declared.entry.Entry.{Entry}
 use Rattle.cell_tables.specs.declared.entry.Entry.TheVariants.{Report as ReportEntry, Order as OrderEntry}
 use Rattle.byte_streams.specs.Answering.{AnswerAll}
@@ -65,10 +64,10 @@ module _ (p : PlannedShop) (shaped : IsWellShaped p) where
       formed-both (order_line o) (order_lines (orders_for p (after_move p c j t) t js)) (formed-entry (OrderEntry o) (entry_fits (OrderEntry o) (order_of_shop p c j t shaped sound moves.0)))
       (formed_moves (after_move p c j t) t js (after_move-sound p c j t shaped sound moves.0 moves.1) moves.2)
 
-  pub step_formed : (c : Cell) (report : Report) (movers : List ℕ) → IsSound p c → IsStep p c (said report) movers → IsFormed (order_lines (step_orders p c (said report) movers))
-  step_formed c report movers sound step = formed_moves (after_report c (said report)) (said report).at movers (after_report-sound p c (said report) shaped sound step.can) step.moves
+  pub step_formed : (c : Cell) (report : Report) (movers : List ℕ) → IsSound p c → IsStep p c report movers → IsFormed (order_lines (step_orders p c report movers))
+  step_formed c report movers sound step = formed_moves (after_report c report) (at report) movers (after_report-sound p c report shaped sound step.can) step.moves
 
-  pub report_formed : (c : Cell) (report : Report) (movers : List ℕ) → IsSound p c → IsStep p c (said report) movers → IsFormed (report_line report)
+  pub report_formed : (c : Cell) (report : Report) (movers : List ℕ) → IsSound p c → IsStep p c report movers → IsFormed (report_line report)
   report_formed c report movers sound step = formed-entry (ReportEntry report) (entry_fits (ReportEntry report) (report_of_shop p c report shaped sound step.can))
 
   late_formed : (at : ℕ) (late : Bool) → at ≤ MAX_MOMENT → IsFormed (cond late (late_line at) [])
@@ -80,11 +79,11 @@ module _ (p : PlannedShop) (shaped : IsWellShaped p) where
   answer_formed : (c next : Cell) (number : ℕ) (report : Report) (text : List ℕ) (more : List Entry) → IsSound p c → ReportAnswer p [] c number report text more next → IsFormed text
   answer_formed c next number report text more sound (inl is) = subst IsFormed (sym is.text_is) (formed-refused number _ (name_spaceless is.reason))
   answer_formed c next number report text more sound (inr is) =
-      let late = cond is.late (late_line (said report).at) [] in
-      let orders = order_lines (step_orders p c (said report) is.movers) in
+      let late = cond is.late (late_line (at report)) [] in
+      let orders = order_lines (step_orders p c report is.movers) in
       subst IsFormed (sym is.text_is)
       (formed-both (report_line report) (late ++ orders) (report_formed c report is.movers sound is.step)
-      (formed-both late orders (late_formed (said report).at is.late is.step.can.moment.in_range) (step_formed c report is.movers sound is.step)))
+      (formed-both late orders (late_formed (at report) is.late is.step.can.moment.in_range) (step_formed c report is.movers sound is.step)))
 
   line_formed : (before : DrivenCell) (number : ℕ) (line : Option (List ℕ)) (text : List ℕ) (end : DrivenCell) → IsSound p before.cell → CellAnswers p before number line text end → IsFormed text
   line_formed before number None text end sound is = subst IsFormed (sym is.text_is) (formed-refused number (codes "LongLine") refl)

@@ -8,10 +8,10 @@ use Rattle.shop_base.specs.Cell.{Cell, made, ready, since, entries, cleaning}
 use Rattle.shop_base.specs.Controlled.{step_orders}
 use Rattle.shop_base.specs.ReportsLeft.{reports_left}
 use Rattle.shop_base.specs.Sound.{IsSound}
+use Rattle.shop_base.specs.Report.{at}
+use Rattle.shop_base.specs.declared.report.Report.{Report}
+use Rattle.shop_base.specs.declared.report.Report.TheVariants.{Arrive, Finish, Clean as CleanReport}
 use Rattle.shop_base.proofs.Visits.{visits_job, visits_machine}
-use Rattle.cell_tables.specs.Reports.{said}
-use Rattle.cell_tables.specs.declared.report.Report.{Report}
-use Rattle.cell_tables.specs.declared.report.Report.TheVariants.{Arrive, Finish, Clean as CleanReport}
 use Rattle.cell_tables.specs.declared.entry.Entry.{Entry}
 use Rattle.cell_tables.specs.declared.entry.Entry.TheVariants.{Report as ReportEntry}
 use Rattle.cell_tables.specs.declared.standing.Standing.{Standing}
@@ -239,11 +239,11 @@ module _ (p : PlannedShop) (shaped : IsWellShaped p) (manner : Manner) where
   end_formed at true = formed-done at
   end_formed at false = formed-none
 
-  told_few : (c : Cell) (report : Report) → (said report).at ≤ MAX_MOMENT → IsEntryOf p (ReportEntry report) → AreFew (said report).at (jobs p + machines p) (told_overdue manner p c report)
+  told_few : (c : Cell) (report : Report) → at report ≤ MAX_MOMENT → IsEntryOf p (ReportEntry report) → AreFew (at report) (jobs p + machines p) (told_overdue manner p c report)
   told_few c report in_range of_shop = told manner.tells
     where
-      told : (tells : Bool) → AreFew (said report).at (jobs p + machines p) (cond tells (overdue_in p c (standing_of p c report) (said report).at) None)
-      told true = overdue_few p shaped c (said report).at in_range (standing_of p c report) (own_fits p shaped c (said report).at in_range report of_shop)
+      told : (tells : Bool) → AreFew (at report) (jobs p + machines p) (cond tells (overdue_in p c (standing_of p c report) (at report)) None)
+      told true = overdue_few p shaped c (at report) in_range (standing_of p c report) (own_fits p shaped c (at report) in_range report of_shop)
       told false = tt
 
   request_formed : (before : DrivenCell) (number : ℕ) (request : Request) (text : List ℕ) (end : DrivenCell) (more : List Entry) → IsSound p before.cell
@@ -259,16 +259,16 @@ module _ (p : PlannedShop) (shaped : IsWellShaped p) (manner : Manner) where
   request_formed before number (ClaimRequest claim) text end more sound (inr is) =
       let report = claimed claim in
       let c = before.cell in
-      let at = (said report).at in
+      let moment = at report in
       let in_range = is.step.can.moment.in_range in
       let overdue = told_overdue manner p c report in
-      let lateness = lateness_part [] at is.late overdue in
-      let orders = order_lines (step_orders p c (said report) is.movers) in
-      let ending = end_part [] at (tells_end manner p end.cell) in
+      let lateness = lateness_part [] moment is.late overdue in
+      let orders = order_lines (step_orders p c report is.movers) in
+      let ending = end_part [] moment (tells_end manner p end.cell) in
       subst IsFormed (sym is.text_is)
       (formed-both (report_line report) (lateness ++ (orders ++ ending)) (report_formed p shaped c report is.movers sound is.step)
-      (formed-both lateness (orders ++ ending) (lateness_formed at is.late overdue in_range (told_few c report in_range (report_of_shop p c report shaped sound is.step.can)))
-      (formed-both orders ending (step_formed p shaped c report is.movers sound is.step) (end_formed at (tells_end manner p end.cell)))))
+      (formed-both lateness (orders ++ ending) (lateness_formed moment is.late overdue in_range (told_few c report in_range (report_of_shop p c report shaped sound is.step.can)))
+      (formed-both orders ending (step_formed p shaped c report is.movers sound is.step) (end_formed moment (tells_end manner p end.cell)))))
   request_formed before number Status text end more sound is = subst IsFormed (sym is.text_is) (state_formed p before.cell)
 
   pub stated_formed : (before : DrivenCell) (number : ℕ) (line : Option (List ℕ)) (text : List ℕ) (end : DrivenCell) → IsSound p before.cell → StatedAnswers p manner before number line text end → IsFormed text

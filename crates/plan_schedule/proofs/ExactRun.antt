@@ -6,7 +6,7 @@ use Rattle.shop_base.specs.declared.job_state.JobState.{JobState}
 use Rattle.shop_base.specs.Plan.{PlannedShop, jobs, nominal, release, clean, IsWellShaped}
 use Rattle.shop_base.specs.Cell.{Cell, MachineState, made, since, entries, cleaning, start, IsOn}
 use Rattle.shop_base.specs.Activity.{Activity, Arrival, Operation, Cleaning, GoesOn}
-use Rattle.shop_base.specs.Report.{Report, IsNextMoment, after_report}
+use Rattle.shop_base.specs.Report.{Report, ended, at, IsNextMoment, after_report}
 use Rattle.shop_base.specs.Move.{CanMove, after_move}
 use Rattle.shop_base.specs.Run.{Event, Reported, Moved, AreEvents, ends_in, IsRun}
 use Rattle.shop_base.specs.Controlled.{IsControlledRun}
@@ -43,7 +43,7 @@ reports_exact : (p : PlannedShop) (c : Cell) (es : List Event) → ArePunctualFr
 reports_exact p c [] punctual not_early = tt
 reports_exact p c (Moved o ∷ es) punctual not_early = reports_exact p (after_move p c o.job o.at) es punctual not_early
 reports_exact p c (Reported r ∷ es) punctual not_early = (
-  record { punctual = soon; due = subst (GoesOn p c r.ended) (omega (arith, not_early.0.later, soon r.ended not_early.0.due not_early.0.going)) not_early.0.going },
+  record { punctual = soon; due = subst (GoesOn p c (ended r)) (omega (arith, not_early.0.later, soon (ended r) not_early.0.due not_early.0.going)) not_early.0.going },
   reports_exact p (after_report c r) es punctual.1 not_early.1,
 )
   where
@@ -143,7 +143,7 @@ module _ (p : PlannedShop) (rank moments : Node → ℕ) (shaped : IsWellShaped 
         → IsSound p c → AreEvents p c es → AreExact p c es → AreMadeBy p moments c es → HasBegunAsTold c → AreAsTold p moments due c es
     behind_as_told front [] c is run whole sound events exact by begun = tt
     behind_as_told front (Reported r ∷ es) c is run whole sound events exact by begun = (
-      ends_as_told c r.ended r.at begun exact.0.due,
+      ends_as_told c (ended r) (at r) begun exact.0.due,
       behind_as_told (front ++ Reported r ∷ []) es (after_report c r) (ap (λ x. after_report x r) is ∙ sym (after_all_join p (start p) front (Reported r ∷ [])))
           (subst (IsRun p) (sym (append_assoc front (Reported r ∷ []) es)) run) (subst (AreExact p (start p)) (sym (append_assoc front (Reported r ∷ []) es)) whole)
           (after_report-sound p c r shaped sound events.0) events.1 exact.1 by (report_as_told c (after_report c r) (after_report-like p c r sound events.0) begun),

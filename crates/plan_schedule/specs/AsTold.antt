@@ -5,6 +5,7 @@ use Rattle.shop_base.specs.Plan.{PlannedShop, steps, release, clean, Stands}
 use Rattle.shop_base.specs.Cell.{Cell, made, entries, IsOn}
 use Rattle.shop_base.specs.Activity.{Activity, Arrival, Operation, Cleaning}
 use Rattle.shop_base.specs.Run.{Event, Reported, Moved, after}
+use Rattle.shop_base.specs.Report.{ended, at}
 use Rattle.plan_schedule.specs.Schedules.{visit_of}
 
 -- the last visit of machine m so far is that of job j by its step k
@@ -26,5 +27,5 @@ module _ (p : PlannedShop) (at : Node → ℕ) (due : Node → Option ℕ) where
   -- each report and each move among the events comes as it is told
   abbrev pub AreAsTold : Cell → List Event → Type 0
   AreAsTold c [] = Unit {0}
-  AreAsTold c (Reported r ∷ es) = EndsAsTold c r.ended r.at × AreAsTold (after p c (Reported r)) es
+  AreAsTold c (Reported r ∷ es) = EndsAsTold c (ended r) (at r) × AreAsTold (after p c (Reported r)) es
   AreAsTold c (Moved o ∷ es) = MovesAsTold c o.job o.at × AreAsTold (after p c (Moved o)) es

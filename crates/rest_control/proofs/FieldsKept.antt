@@ -7,7 +7,7 @@ use Rattle.shop_base.specs.declared.move_order.MoveOrder.{MoveOrder}
 use Rattle.shop_base.specs.declared.node.Node.{Node}
 use Rattle.shop_base.specs.Plan.{PlannedShop, jobs}
 use Rattle.shop_base.specs.Cell.{Cell}
-use Rattle.shop_base.specs.Report.{Report, IsNextMoment}
+use Rattle.shop_base.specs.Report.{Report, at, IsNextMoment}
 use Rattle.shop_base.specs.Run.{IsAtRest}
 use Rattle.shop_base.specs.Controlled.{after_moves, after_step}
 use Rattle.shop_base.specs.Punctual.{IsPunctualFrom}
@@ -149,7 +149,7 @@ became_fields v c times dues orders punctual control is due_moments room = recor
 
 module _ (old : PlannedCell PlannedShop) (times : NodeTimes) (dues : List (Option ℕ)) (began : ℕ) (orders : SmallVec MoveOrder) (punctual : Bool) (fields : AreRestFields old times dues began orders punctual)
     (new : PlannedCell PlannedShop) (r : Report) (ack : Ack) (items : List MoveOrder) (made : IsMade old.plan old.cell r ack items new.cell)
-    (still : Bool) (told : IsTrue still ↔ (IsTrue punctual × ((ack.late ≡ false) ⊎ (r.at ≤ began)))) where
+    (still : Bool) (told : IsTrue still ↔ (IsTrue punctual × ((ack.late ≡ false) ⊎ (at r ≤ began)))) where
   abbrev p : PlannedShop
   p = old.plan
 
@@ -160,12 +160,12 @@ module _ (old : PlannedCell PlannedShop) (times : NodeTimes) (dues : List (Optio
   js = made.movers
 
   -- a report is punctual from the beginning on that isn't late or comes no later
-  soon_enough : (ack.late ≡ false) ⊎ (r.at ≤ began) → IsPunctualFrom p began old.cell r
+  soon_enough : (ack.late ≡ false) ⊎ (at r ≤ began) → IsPunctualFrom p began old.cell r
   soon_enough (inl not_late) a due going = inr (made.late.0 not_late a due going)
   soon_enough (inr soon) a due going = inl soon
 
-  enough_soon : IsPunctualFrom p began old.cell r → (ack.late ≡ false) ⊎ (r.at ≤ began)
-  enough_soon from = elim (cases_lt began r.at) [
+  enough_soon : IsPunctualFrom p began old.cell r → (ack.late ≡ false) ⊎ (at r ≤ began)
+  enough_soon from = elim (cases_lt began (at r)) [
     | inr soon ↦ inr soon
     | inl later ↦ inl (made.late.1 (λ a due going. elim (from a due going) [
       | inl soon ↦ absurd (omega arith)

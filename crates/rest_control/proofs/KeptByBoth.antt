@@ -7,12 +7,12 @@ use Rattle.shop_base.specs.declared.move_order.MoveOrder.{MoveOrder}
 use Rattle.shop_base.specs.declared.move_order.Spot.TheVariants.{Out, At}
 use Rattle.shop_base.specs.Plan.{PlannedShop, jobs, machines, steps, machine_of, clean, order, Visits, IsWellShaped}
 use Rattle.shop_base.specs.Cell.{Cell, MachineState, absent, unused, start, made, ready, entries, cleaning, IsOn}
-use Rattle.shop_base.specs.Activity.{Activity, Arrival, Operation, Cleaning}
-use Rattle.shop_base.specs.Report.{CanReport, with_ready, with_clean, after_end}
+use Rattle.shop_base.specs.Report.{Report, CanReport, with_ready, with_clean, after_report}
 use Rattle.shop_base.specs.Move.{IsPrefix, CanMove, KeepsPlan, target, after_move}
 use Rattle.shop_base.specs.Run.{Event, Reported, Moved, CanHappen, after, AreEvents, after_all}
 use Rattle.shop_base.specs.ReportsLeft.{departures, is_off}
 use Rattle.shop_base.specs.Sound.{IsSound}
+use Rattle.shop_base.specs.declared.report.Report.TheVariants.{Arrive, Finish, Clean}
 use Rattle.shop_base.proofs.Visits.{visits_job, visits_machine, visits_or_not, on_or_not}
 use Rattle.shop_base.proofs.InShop.{outside_in_shop, ready_in_shop, start_unused}
 use Rattle.shop_base.proofs.CellFacts.{target_visited, target_out, visits_target}
@@ -54,19 +54,19 @@ module _ (p q : PlannedShop) (c d : Cell) (shaped_p : IsWellShaped p) (shaped : 
       report_keeps (with_ready c j t) like (λ i past. ap (λ (s : JobState). s.ready) (change.others i (λ same. omega (arith, inside, past, same))))
       (λ m none. ap (λ (ms : List MachineState). (get_or ms m unused).cleaning) change.machines_same)
 
-  end_keeps : (a : Activity) (t : ℕ) → CanReport p c (record { ended = a; at = t }) → CanReport q d (record { ended = a; at = t }) → KeepsSoFar p (after_end c a t) q
-  end_keeps (Arrival j) t can also =
+  end_keeps : (r : Report) → CanReport p c r → CanReport q d r → KeepsSoFar p (after_report c r) q
+  end_keeps (Arrive j t) can also =
       readied_keeps j t (outside_in_shop q d j sound_d also.going.1.outside)
       (with_ready-readied c j t can.going.1.not_ready (omega (arith, sound.job_count, outside_in_shop p c j sound can.going.1.outside)))
-      (after_report-like p c (record { ended = Arrival j; at = t }) sound can)
-  end_keeps (Operation j m) t can also =
+      (after_report-like p c (Arrive j t) sound can)
+  end_keeps (Finish j m t) can also =
       readied_keeps j t (visits_job q j also.going.1.0 m also.going.1.1.on.visits)
       (with_ready-readied c j t can.going.1.1.not_ready (omega (arith, sound.job_count, visits_job p j can.going.1.0 m can.going.1.1.on.visits)))
-      (after_report-like p c (record { ended = Operation j m; at = t }) sound can)
-  end_keeps (Cleaning m) t can also =
+      (after_report-like p c (Finish j m t) sound can)
+  end_keeps (Clean m t) can also =
       let change : IsTidied c m t (with_clean c m t) = with_clean-tidied c m can.going.1.0 t can.going.1.1.is_cleaned in
       let timed : 0 < clean q m = sound_d.cleaned_timed m also.going.1.0 also.going.1.1.is_cleaned in
-      report_keeps (with_clean c m t) (after_report-like p c (record { ended = Cleaning m; at = t }) sound can)
+      report_keeps (with_clean c m t) (after_report-like p c (Clean m t) sound can)
       (λ i past. ap (λ (js : List JobState). (get_or js i absent).ready) change.jobs_same)
       (λ n none. change.cleaning_elsewhere n (λ same. omega (arith, timed, none, ap (clean q) same)))
 
@@ -162,7 +162,7 @@ module _ (p q : PlannedShop) (c d : Cell) (shaped_p : IsWellShaped p) (shaped : 
     }
 
   event_keeps : (e : Event) → CanHappen p c e → CanHappen q d e → NoneHasLeftUncleaned p (after p c e) q → KeepsSoFar p (after p c e) q
-  event_keeps (Reported r) can also none_left = end_keeps r.ended r.at can also
+  event_keeps (Reported r) can also none_left = end_keeps r can also
   event_keeps (Moved o) (obeys, keeps_plan) (obeys_there, keeps_other) none_left =
       move_keeps o.job o.at obeys.can obeys_there.can keeps_plan keeps_other (ap (λ (x : MoveOrder). x.target) (sym obeys.is_move ∙ obeys_there.is_move)) none_left
 

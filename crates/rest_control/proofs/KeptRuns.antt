@@ -7,12 +7,12 @@ use Rattle.shop_base.specs.declared.move_order.MoveOrder.{MoveOrder}
 use Rattle.shop_base.specs.declared.move_order.Spot.{Spot}
 use Rattle.shop_base.specs.Plan.{PlannedShop, jobs, machines, steps, machine_of, nominal, release, clean, order, Visits, IsWellShaped}
 use Rattle.shop_base.specs.Cell.{Cell, MachineState, absent, unused, start, job_in, made, ready, since, cleaning, IsOn}
-use Rattle.shop_base.specs.Activity.{Activity, Arrival, Operation, Cleaning}
-use Rattle.shop_base.specs.Report.{CanReport, IsNextMoment, with_ready, with_clean, after_end}
+use Rattle.shop_base.specs.Report.{Report, IsNextMoment, CanReport, with_ready, with_clean, after_report}
 use Rattle.shop_base.specs.Move.{IsPrefix, CanMove, KeepsPlan, CanEnter, spot_after, source, target, after_move, order_for}
 use Rattle.shop_base.specs.Run.{Event, Reported, Moved, CanHappen, after, AreEvents, after_all}
 use Rattle.shop_base.specs.ReportsLeft.{departures}
 use Rattle.shop_base.specs.Sound.{IsSound}
+use Rattle.shop_base.specs.declared.report.Report.TheVariants.{Arrive, Finish, Clean}
 use Rattle.shop_base.proofs.Visits.{visits_job, visits_machine, on_or_not, visits_or_not, stop_at, stop_past, leaves_past, past_leaves}
 use Rattle.shop_base.proofs.InShop.{outside_in_shop, ready_in_shop, cleaned_in_shop, start_unused}
 use Rattle.shop_base.proofs.Changes.{IsMoved, IsReadied, IsTidied, after_move-moved, with_ready-readied, with_clean-tidied, moves_within}
@@ -134,9 +134,9 @@ module _ (p q : PlannedShop) (c d : Cell) (shaped_p : IsWellShaped p) (shaped : 
       there = with_clean-tidied d m s t also
 
   -- a report that is possible is possible by the other plan, and carries the cell on
-  report_kept : (a : Activity) (t : ℕ) → CanReport p c (record { ended = a; at = t }) → KeepsSoFar p (after_end c a t) q
-      → CanReport q d (record { ended = a; at = t }) × IsCarried p (after_end c a t) q (after_end d a t)
-  report_kept (Arrival j) t can after =
+  report_kept : (r : Report) → CanReport p c r → KeepsSoFar p (after_report c r) q
+      → CanReport q d r × IsCarried p (after_report c r) q (after_report d r)
+  report_kept (Arrive j t) can after =
       let awaits = can.going.1 in
       let here : j < jobs p = outside_in_shop p c j sound awaits.outside in
       let turned : ready (with_ready c j t) j ≡ true = (with_ready-readied c j t awaits.not_ready (omega (arith, sound.job_count))).ready_mine in
@@ -154,7 +154,7 @@ module _ (p q : PlannedShop) (c d : Cell) (shaped_p : IsWellShaped p) (shaped : 
         },
         readied j t inside here awaits.not_ready,
       )
-  report_kept (Operation j m) t can after =
+  report_kept (Finish j m t) can after =
       let k : ℕ = can.going.1.0 in
       let works = can.going.1.1 in
       let here : j < jobs p = visits_job p j k m works.on.visits in
@@ -177,11 +177,11 @@ module _ (p q : PlannedShop) (c d : Cell) (shaped_p : IsWellShaped p) (shaped : 
         },
         readied j t inside here works.not_ready,
       )
-  report_kept (Cleaning m) t can after =
+  report_kept (Clean m t) can after =
       let s : ℕ = can.going.1.0 in
       let is : cleaning c m ≡ Some s = can.going.1.1.is_cleaned in
       let tidied : IsTidied c m t (with_clean c m t) = with_clean-tidied c m s t is in
-      let same : departures p (with_clean c m t) m ≡ departures p c m = report_departures p c (with_clean c m t) m (after_report-like p c (record { ended = Cleaning m; at = t }) sound can) in
+      let same : departures p (with_clean c m t) m ≡ departures p c m = report_departures p c (with_clean c m t) m (after_report-like p c (Clean m t) sound can) in
       let timed : 0 < clean q m = still_timed (with_clean c m t) m s t is tidied same after in
       let inside : m < machines q = elim (cases_lt m (machines q)) [ inl less ↦ less | inr past ↦ absurd (omega (arith, no_cleaning_time q m shaped past)) ] in
       let also : cleaning d m ≡ Some s = carried.cleaning_is m inside ∙ cleaning_timed c q m timed ∙ is in
@@ -328,7 +328,7 @@ module _ (p q : PlannedShop) (c d : Cell) (shaped_p : IsWellShaped p) (shaped : 
 
   -- an event that can happen can by the other plan, and carries the cell on
   pub event_kept : (e : Event) → CanHappen p c e → KeepsSoFar p (after p c e) q → CanHappen q d e × IsCarried p (after p c e) q (after q d e)
-  event_kept (Reported r) can after = report_kept r.ended r.at can after
+  event_kept (Reported r) can after = report_kept r can after
   event_kept (Moved o) (obeys, keeps_plan) after = (
     (
       record { can = can_there o.job o.at obeys.can keeps_plan after; is_move = obeys.is_move ∙ same_order o.job o.at obeys.can keeps_plan after },

@@ -4,7 +4,7 @@ use Rattle.std.specs.Prelude.{IsTrue}
 use Rattle.shop_base.specs.declared.move_order.MoveOrder.{MoveOrder}
 use Rattle.shop_base.specs.Plan.{PlannedShop}
 use Rattle.shop_base.specs.Cell.{Cell, start}
-use Rattle.shop_base.specs.Report.{Report, CanReport, after_report}
+use Rattle.shop_base.specs.Report.{Report, at, CanReport, after_report}
 use Rattle.shop_base.specs.Run.{Event, Reported, Moved, after}
 use Rattle.shop_base.specs.Controlled.{IsStep, after_moves, orders_for, after_step, step_orders, moved, Leads, done, accepted, refused}
 use Rattle.shop_base.specs.Punctual.{ArePunctual, IsPunctualFrom, ArePunctualFrom}
@@ -68,7 +68,7 @@ call_leads p t _ _ end _ rs _ later of_plan from (promise.answered before report
     moves : ArePunctualFrom p t (after_report before.cell report) (moved new.orders ++ later) ↔ ArePunctualFrom p t new.cell later
     moves = subst (λ (os : List MoveOrder). ArePunctualFrom p t (after_report before.cell report) (moved os ++ later) ↔ ArePunctualFrom p t new.cell later) (sym orders)
         (subst (λ x. ArePunctualFrom p t (after_report before.cell report) (moved (step_orders p before.cell report is.movers) ++ later) ↔ ArePunctualFrom p t x later) (sym leads_to)
-        (punctual_moved p t (after_report before.cell report) report.at is.movers later))
+        (punctual_moved p t (after_report before.cell report) (at report) is.movers later))
 
     there : IsTrue end.punctual → IsTrue before.punctual × ArePunctualFrom p t before.cell (Reported report ∷ (moved new.orders ++ later))
     there all =

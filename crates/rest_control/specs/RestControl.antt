@@ -5,7 +5,7 @@ use Rattle.shop_base.specs.declared.node.Node.{Node}
 use Rattle.shop_base.specs.Plan.{PlannedShop}
 use Rattle.shop_base.specs.Cell.{Cell}
 use Rattle.shop_base.specs.Activity.{GoesOn}
-use Rattle.shop_base.specs.Report.{Report, IsNextMoment}
+use Rattle.shop_base.specs.Report.{Report, ended, at, IsNextMoment}
 use Rattle.shop_base.specs.Run.{IsAtRest}
 use Rattle.shop_base.specs.Controlled.{IsStep, after_step, step_orders}
 use Rattle.shop_base.specs.Punctual.{IsPunctual, IsPunctualFrom}
@@ -57,7 +57,7 @@ pub record IsRestAnswered (before : RestControl) (r : Report) (ack : Ack) (new :
 
 -- this holds if what is reported goes on and its moment is the last one
 abbrev pub IfRestEndsNow : RestControl → Report → Type 0 → Type 0
-IfRestEndsNow v r Holds = (due : ℕ) → GoesOn v.planned v.cell r.ended due → r.at ≡ v.cell.last → Holds
+IfRestEndsNow v r Holds = (due : ℕ) → GoesOn v.planned v.cell (ended r) due → at r ≡ v.cell.last → Holds
 
 -- no node ahead is kept to a moment before t
 abbrev pub IsKeptFrom : PlannedShop → Cell → ℕ → (Node → ℕ) → Type 0

@@ -7,7 +7,6 @@ ghost use Rattle.shop_base.specs.ReportsLeft.{reports_left};
 ghost use Rattle.shop_base.specs.Graph.{leaving};
 ghost use Rattle.alt_graph.specs.Times.{earliest_of};
 ghost use Rattle.rest_times.specs.Rest.{AreOrderedAhead};
-ghost use Rattle.cell_tables.specs.Reports.{said};
 ghost use Rattle.cell_tables.specs.Readings.{IsCleanedFor};
 ghost use Rattle.cell_control.specs.Reports.{IsFirstReason, IsOnlyReason, CanCleanAfter, IsFirstCleanReason, IsOnlyCleanReason};
 ghost use Rattle.cell_control.specs.Readings.{IsPhaseOf, IsJobOn, IsDueOf, IsDueOfCleaning, IsOnTime};
@@ -160,13 +159,13 @@ impl<D: Dues> RestController<D> {
     /// Takes a report, as `Controller::report` does. If it is possible, its activity has ended, and the moves are made
     /// that then keep the plan. If it isn't, the call returns the first reason, and nothing changes.
     pub fn report(&mut self, report: Report) -> Result<Ack, ReportFault>
-        ensures possible { IsOk result ↔ CanReport self.old.planned self.old.cell (said report) }
-        ensures answered { IfOk result (λ ack. IsRestAnswered self.old (said report) ack self.new) }
-        ensures first_reason { IfErr result (IsFirstReason self.old.planned self.old.cell (said report)) }
-        ensures only_reason { IfErr result (IsOnlyReason self.old.planned self.old.cell (said report)) }
+        ensures possible { IsOk result ↔ CanReport self.old.planned self.old.cell report }
+        ensures answered { IfOk result (λ ack. IsRestAnswered self.old report ack self.new) }
+        ensures first_reason { IfErr result (IsFirstReason self.old.planned self.old.cell report) }
+        ensures only_reason { IfErr result (IsOnlyReason self.old.planned self.old.cell report) }
         ensures unchanged { IfErr result (λ fault. self.new ≡ self.old) }
-        ensures called { (es : List Event) × IsRestCalled self.old (said report) es self.new }
-        ensures never_refused { IfRestEndsNow self.old (said report) (IsOk result) }
+        ensures called { (es : List Event) × IsRestCalled self.old report es self.new }
+        ensures never_refused { IfRestEndsNow self.old report (IsOk result) }
     {
         check_report(&self.cell, report)?;
         let ack = make_step(&mut self.cell, &mut self.dues, &mut self.orders, report);
@@ -176,8 +175,8 @@ impl<D: Dues> RestController<D> {
 
     /// Whether a report is possible, or the first reason for which it isn't. Nothing changes.
     pub fn check(&self, report: Report) -> Result<(), ReportFault>
-        ensures possible { OnOk result (CanReport self.now.planned self.now.cell (said report)) }
-        ensures first_reason { IfErr result (IsFirstReason self.now.planned self.now.cell (said report)) }
+        ensures possible { OnOk result (CanReport self.now.planned self.now.cell report) }
+        ensures first_reason { IfErr result (IsFirstReason self.now.planned self.now.cell report) }
     {
         let cell = &self.cell;
         check_report(cell, report)
@@ -205,7 +204,7 @@ impl<D: Dues> RestController<D> {
         at: Moment,
     ) -> Result<Ack, ReportFault>
         ensures possible { IsOk result ↔ CanCleanAfter self.old.planned self.old.cell machine job at }
-        ensures answered { IfOk result (λ ack. IsRestAnswered self.old (said (Report.Clean machine at)) ack self.new) }
+        ensures answered { IfOk result (λ ack. IsRestAnswered self.old (Report.Clean machine at) ack self.new) }
         ensures first_reason { IfErr result (IsFirstCleanReason self.old.planned self.old.cell machine job at) }
         ensures only_reason { IfErr result (IsOnlyCleanReason self.old.planned self.old.cell machine job at) }
         ensures unchanged { IfErr result (λ fault. self.new ≡ self.old) }

@@ -6,11 +6,11 @@ use Rattle.shop_base.specs.Plan.{PlannedShop}
 use Rattle.shop_base.specs.Cell.{Cell, made, start}
 use Rattle.shop_base.specs.Move.{source, target, spot_after, after_leaving, with_entry, with_moved}
 use Rattle.shop_base.specs.Run.{Event, Reported, Moved, after, after_all, ends_in}
+use Rattle.shop_base.specs.declared.report.Report.TheVariants.{Arrive, Finish, Clean}
 use Rattle.cell_tables.specs.Events.{events_of}
 use Rattle.cell_tables.specs.Moving.{IsSpotOf}
 use Rattle.cell_tables.specs.declared.entry.Entry.{Entry}
 use Rattle.cell_tables.specs.declared.entry.Entry.TheVariants.{Report as ReportEntry, Order as OrderEntry}
-use Rattle.cell_tables.specs.declared.report.Report.TheVariants.{Arrive, Finish, Clean}
 use Rattle.event_lines.specs.LogLines.{IsEntryOf, LineTells, LinesTell}
 use Rattle.event_lines.proofs.Readings.{one_reading}
 use Rattle.plan_improve.specs.Reordered.{reordered, IsReordered}

@@ -5,8 +5,8 @@ use Rattle.std.specs.List.{range_with_len}
 use Rattle.shop_base.specs.declared.move_order.Spot.{Spot}
 use Rattle.shop_base.specs.declared.move_order.Spot.TheVariants.{Out, At}
 use Rattle.shop_base.specs.declared.move_order.MoveOrder.{MoveOrder}
-use Rattle.cell_tables.specs.declared.report.Report.TheVariants.{Arrive, Finish, Clean}
-use Rattle.cell_tables.specs.Reports.{said}
+use Rattle.shop_base.specs.Report.{at}
+use Rattle.shop_base.specs.declared.report.Report.TheVariants.{Arrive, Finish, Clean}
 use Rattle.cell_tables.specs.declared.entry.Entry.{Entry}
 use Rattle.cell_tables.specs.declared.entry.Entry.TheVariants.{Report as ReportEntry, Order as OrderEntry}
 use Rattle.run_gantt.specs.declared.visit.Visit.{Visit}
@@ -19,7 +19,7 @@ first_of f (x ∷ xs) = option_or (f x) (first_of f xs)
 
 -- the moment of an entry
 abbrev pub entry_moment : Entry → ℕ
-entry_moment (ReportEntry report) = (said report).at
+entry_moment (ReportEntry report) = at report
 entry_moment (OrderEntry order) = order.at
 
 -- the greatest moment of an entry, 0 where there is none

@@ -5,10 +5,10 @@ use Rattle.std.proofs.lemmas.Bool.{cases_Bool, eqb-true}
 use Rattle.std.proofs.lemmas.List.{append_cancel_left}
 use Rattle.std.proofs.Math.Seq.{take-append-add}
 use Rattle.shop_base.specs.Plan.{PlannedShop}
+use Rattle.shop_base.specs.Report.{at}
 use Rattle.text_lines.specs.Lines.{without_return, ended_lines}
 use Rattle.text_lines.specs.Cuts.{HasNone}
 use Rattle.text_lines.proofs.EndedLines.{ended-none, ended-first}
-use Rattle.cell_tables.specs.Reports.{said}
 use Rattle.cell_tables.specs.declared.entry.Entry.{Entry}
 use Rattle.cell_tables.specs.declared.entry.Entry.TheVariants.{Report as ReportEntry, Order as OrderEntry}
 use Rattle.event_lines.specs.Words.{moment}
@@ -83,7 +83,7 @@ without_return-front front = elim (cases_Bool (ends_with nat_eq front (13 ∷ []
 
 event_logged : (front more : List ℕ) (entry : Entry) → IsEntryLine (without_return front) entry → is_logged (front ++ more) ≡ true
 event_logged front more (ReportEntry report) found =
-    let first = text_before (without_return front) (codes "report") (moment (said report).at) (end_words report) found in
+    let first = text_before (without_return front) (codes "report") (moment (at report)) (end_words report) found in
     let end = without_return-front front in
     ap (λ l. is_logged (l ++ more)) (end.1 ∙ ap (λ l. l ++ end.0) first.1)
 event_logged front more (OrderEntry order) found =

@@ -9,7 +9,7 @@ use Rattle.shop_base.specs.Activity.{Activity, GoesOn}
 use Rattle.shop_base.specs.Move.{IsPrefix, source, target}
 use Rattle.shop_base.specs.Run.{IsRun, ends_in}
 use Rattle.shop_base.specs.Ends.{HasEnded, stated_number, reports_in, moves_in}
-use Rattle.cell_tables.specs.Reports.{said}
+use Rattle.shop_base.specs.Report.{ended, at}
 use Rattle.cell_tables.specs.declared.entry.Entry.{Entry}
 use Rattle.cell_tables.specs.declared.entry.Entry.TheVariants.{Report as ReportEntry, Order as OrderEntry}
 use Rattle.run_log.specs.declared.audit_fault.AuditFault.{AuditFault}
@@ -66,8 +66,8 @@ pub record IsTimely (c : Cell) (o : MoveOrder) : Type 0 where
 
 -- the first fault of an entry in a cell
 abbrev pub IsFaultOf : PlannedShop → Cell → Entry → AuditFault → Type 0
-IsFaultOf p c (ReportEntry report) (NotExpected line) = IsGoingOn p c (said report).ended → ⊥
-IsFaultOf p c (ReportEntry report) (Backwards line) = IsGoingOn p c (said report).ended × ((said report).at < c.last)
+IsFaultOf p c (ReportEntry report) (NotExpected line) = IsGoingOn p c (ended report) → ⊥
+IsFaultOf p c (ReportEntry report) (Backwards line) = IsGoingOn p c (ended report) × (at report < c.last)
 IsFaultOf p c (OrderEntry o) (Backwards line) = o.at < c.last
 IsFaultOf p c (OrderEntry o) (NotReady line) = (c.last ≤ o.at) × (ready c o.job ≡ false)
 IsFaultOf p c (OrderEntry o) (Occupied line) = IsTimely c o × IsOccupied p c o.target

@@ -5,8 +5,8 @@ ghost use Rattle.shop_base.specs.Plan.{jobs, steps};
 ghost use Rattle.shop_base.specs.Cell.{made};
 ghost use Rattle.shop_base.specs.Activity.{Arrival, Operation};
 ghost use Rattle.shop_base.specs.Run.{CanHappen, after};
+ghost use Rattle.shop_base.specs.Report.{ended};
 ghost use Rattle.cell_tables.specs.Moving.{IsSpotOf};
-ghost use Rattle.cell_tables.specs.Reports.{said};
 ghost use Rattle.cell_tables.specs.Events.{event_of};
 ghost use Rattle.event_lines.specs.LogLines.{AreEndsOf, IsEntryOf};
 ghost use Rattle.run_log.specs.Audits.{IsGoingOn, IsOpen, IsItsWay, IsFaultOf, IsTargetFault, IsWayFault, fault_line};
@@ -50,7 +50,7 @@ fn check_end<P: Planned>(cell: &WorkCell<P>, report: Report, line: usize) -> Res
 /// Whether the activity that is reported is going on.
 fn is_going_on<P: Planned>(cell: &WorkCell<P>, report: Report) -> bool
     requires of_shop { AreEndsOf cell.now.plan report }
-    ensures { IsTrue result ↔ IsGoingOn cell.now.plan cell.now.cell (said report).ended }
+    ensures { IsTrue result ↔ IsGoingOn cell.now.plan cell.now.cell (ended report) }
 {
     match report {
         Report::Arrive { job, at: _ } => is_awaited(cell, job),

@@ -5,7 +5,7 @@ use Rattle.shop_base.specs.declared.move_order.Spot.TheVariants.{Out, At}
 use Rattle.shop_base.specs.Plan.{PlannedShop, jobs, steps, machine_of, nominal, order, job_at, Visits, IsWellShaped}
 use Rattle.shop_base.specs.Cell.{Cell, job_in, made, ready, since, entries, cleaning, IsOutside, IsOn, IsFree}
 use Rattle.shop_base.specs.Activity.{Activity, Arrival, Operation, Cleaning, GoesOn}
-use Rattle.shop_base.specs.Report.{Report, after_end, after_report}
+use Rattle.shop_base.specs.Report.{Report, ended, at, after_end, after_report}
 use Rattle.shop_base.specs.Move.{KeepsPlan, source, target}
 use Rattle.shop_base.specs.Movers.{counted, ready_count, due_after, due_of_job, due_of_cleaning}
 use Rattle.shop_base.specs.Sound.{IsSound}
@@ -71,10 +71,10 @@ ready_count-le p c = omega (arith, sum_below-le (counted c) 1 (jobs p) λ j insi
     one false = omega arith
 
 -- after a report the last moment is its moment
-pub after_report-last : (c : Cell) (r : Report) → (after_report c r).last ≡ r.at
-after_report-last c r = go r.ended
+pub after_report-last : (c : Cell) (r : Report) → (after_report c r).last ≡ at r
+after_report-last c r = go (ended r)
   where
-    go : (a : Activity) → (after_end c a r.at).last ≡ r.at
+    go : (a : Activity) → (after_end c a (at r)).last ≡ at r
     go (Arrival j) = refl
     go (Operation j m) = refl
     go (Cleaning m) = refl

@@ -6,7 +6,7 @@ use Rattle.shop_base.specs.declared.limits.TheConstants.{MAX_MOMENT}
 use Rattle.shop_base.specs.Plan.{PlannedShop, jobs, steps, machine_of, release, nominal, clean, order, Visits}
 use Rattle.shop_base.specs.Cell.{Cell, made, ready, since, entries, cleaning, IsOn, IsFree}
 use Rattle.shop_base.specs.Activity.{Activity, Arrival, Operation, Cleaning, GoesOn}
-use Rattle.shop_base.specs.Report.{Report, IsNextMoment, CanReport}
+use Rattle.shop_base.specs.Report.{Report, ended, at, IsNextMoment, CanReport}
 use Rattle.shop_base.specs.Move.{CanLeave, CanEnter, CanMove, IsPrefix, KeepsPlan, order_for, CanObey}
 use Rattle.shop_base.specs.declared.move_order.MoveOrder.{MoveOrder}
 use Rattle.shop_base.specs.declared.move_order.Spot.{Spot}
@@ -261,17 +261,17 @@ due-is p c (Operation j m) due (k, works) = let same : k ≡ made c j - 1 = omeg
 due-is p c (Cleaning m) due (from, works) = works.is_due ∙ ap (λ (o : Option ℕ). cleaned_from o + clean p m) (sym works.is_cleaned)
 
 abbrev pub report_test : PlannedShop → Cell → Report → Bool
-report_test p c r = going_test p c r.ended && moment_test c r.at
+report_test p c r = going_test p c (ended r) && moment_test c (at r)
 
 pub report_decides : (p : PlannedShop) (c : Cell) (r : Report) → Decides (report_test p c r) (CanReport p c r)
 report_decides p c r = Decides-like (report_test p c r) can could
-    (Decides-and (going_test p c r.ended) (moment_test c r.at) (going_decides p c r.ended) (moment_decides c r.at))
+    (Decides-and (going_test p c (ended r)) (moment_test c (at r)) (going_decides p c (ended r)) (moment_decides c (at r)))
   where
-    can : GoesOn p c r.ended (due_of p c r.ended) × IsNextMoment c r.at → CanReport p c r
-    can (going, moment) = record { going = (due_of p c r.ended, going); moment = moment }
+    can : GoesOn p c (ended r) (due_of p c (ended r)) × IsNextMoment c (at r) → CanReport p c r
+    can (going, moment) = record { going = (due_of p c (ended r), going); moment = moment }
 
-    could : CanReport p c r → GoesOn p c r.ended (due_of p c r.ended) × IsNextMoment c r.at
-    could possible = (subst (GoesOn p c r.ended) (due-is p c r.ended possible.going.0 possible.going.1) possible.going.1, possible.moment)
+    could : CanReport p c r → GoesOn p c (ended r) (due_of p c (ended r)) × IsNextMoment c (at r)
+    could possible = (subst (GoesOn p c (ended r)) (due-is p c (ended r) possible.going.0 possible.going.1) possible.going.1, possible.moment)
 
 abbrev pub happen_test : PlannedShop → Cell → Event → Bool
 happen_test p c (Reported r) = report_test p c r

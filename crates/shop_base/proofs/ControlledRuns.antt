@@ -5,7 +5,7 @@ use Rattle.std.proofs.lemmas.Bool.{cases_lt}
 use Rattle.shop_base.specs.Plan.{PlannedShop, jobs, IsWellShaped}
 use Rattle.shop_base.specs.Cell.{Cell, absent, ready, start}
 use Rattle.shop_base.specs.declared.job_state.JobState.{JobState}
-use Rattle.shop_base.specs.Report.{Report, CanReport, after_report}
+use Rattle.shop_base.specs.Report.{Report, at, CanReport, after_report}
 use Rattle.shop_base.specs.Move.{after_move}
 use Rattle.shop_base.specs.Run.{Event, Reported, AreEvents, after, after_all, IsRun, ends_in, IsAtRest}
 use Rattle.shop_base.specs.Controlled.{AreMoves, after_moves, orders_for, after_step, step_orders, IsStep, moved, Leads, done, accepted, refused, IsControlledRun}
@@ -38,7 +38,7 @@ after_moves-sound p c t (j ∷ js) shaped sound moves =
 
 pub after_step-sound : (p : PlannedShop) (c : Cell) (r : Report) (js : List ℕ) → IsWellShaped p → IsSound p c → IsStep p c r js → IsSound p (after_step p c r js)
 after_step-sound p c r js shaped sound step =
-    after_moves-sound p (after_report c r) r.at js shaped (after_report-sound p c r shaped sound step.can) step.moves
+    after_moves-sound p (after_report c r) (at r) js shaped (after_report-sound p c r shaped sound step.can) step.moves
 
 -- no job is ready at the start
 pub start_not_ready : (p : PlannedShop) (j : ℕ) → ready (start p) j ≡ false
@@ -75,9 +75,9 @@ leads_to_run p c rs es end leads shaped sound rest =
     (λ c r js rs es end sound rest step later. (
       (
         step.can,
-        events_join p (after_report c r) (moved (step_orders p c r js)) es (moves-events p (after_report c r) r.at js step.moves) (rw (after_all-moves p (after_report c r) r.at js) later.0),
+        events_join p (after_report c r) (moved (step_orders p c r js)) es (moves-events p (after_report c r) (at r) js step.moves) (rw (after_all-moves p (after_report c r) (at r) js) later.0),
       ),
-      later.1 ∙ rw (after_all_join p (after_report c r) (moved (step_orders p c r js)) es, after_all-moves p (after_report c r) r.at js) refl,
+      later.1 ∙ rw (after_all_join p (after_report c r) (moved (step_orders p c r js)) es, after_all-moves p (after_report c r) (at r) js) refl,
       later.2,
       later.3,
     ))

@@ -1,9 +1,9 @@
 -- Deadlines: arcs that press lead from each node ahead to a leaving kept to its budget; so these moments are the latest, and tight.
-use Rattle.std.proofs.Common.{◌≡◌, ℕ, zero, suc, ◌+◌, ◌<◌, ◌≤◌, inl, inr, List, ◌∷◌, ◌++◌, subst, arith, le_refl, max, []}
+use Rattle.std.proofs.Common.{◌≡◌, ℕ, zero, suc, ◌+◌, ◌<◌, ◌≤◌, inl, inr, List, ◌∷◌, ◌++◌, sym, subst, arith, le_refl, max, []}
 use Rattle.shop_base.specs.declared.node.Node.{Node}
 use Rattle.shop_base.specs.Plan.{PlannedShop, jobs, steps, budget, IsWellShaped}
 use Rattle.shop_base.specs.Cell.{Cell, made, since, start, IsGone}
-use Rattle.shop_base.specs.Report.{Report, after_report}
+use Rattle.shop_base.specs.Report.{Report, ended, at, report_of, after_report}
 use Rattle.shop_base.specs.Move.{after_move}
 use Rattle.shop_base.specs.Run.{Event, Reported, Moved, AreEvents, IsRun, after_all, ends_in}
 use Rattle.shop_base.specs.Punctual.{AreNotEarly}
@@ -15,6 +15,7 @@ use Rattle.shop_base.specs.Within.{AreWithin, RiseAhead}
 use Rattle.shop_base.specs.Deadlines.{AreDeadlines}
 use Rattle.shop_base.specs.DeadlinesLaw.{DeadlinesAreTheLatest, DeadlinesAreTheSame, NoDeadlineIsTooEarly, InTimeByDeadlines, EachMoveIsByItsDeadline, AllOutByDeadlines, DeadlinesStay, DeadlinesAreTight, ALateEndIsTooLate, TheRestStaysAccepted}
 use Rattle.shop_base.proofs.Sums.{sum_below-le}
+use Rattle.shop_base.proofs.Reports.{at-report_of, after_report-of}
 use Rattle.shop_base.proofs.Keeping.{after_report-like, after_report-sound, run-sound}
 use Rattle.shop_base.proofs.ControlledRuns.{after_all_join}
 use Rattle.shop_base.proofs.Ahead.{IsLeftIn, arc_ahead, arc_left, held_left}
@@ -240,13 +241,14 @@ a_late_end_is_too_late-holds p rank kept es a due v shaped ranks run deadlines g
       found.inside,
       (λ gone. omega arith),
       λ t fs late whole not_early out.
-          let r : Report = record { ended = a; at = t } in
+          let r : Report = report_of a t in
           let back : AreEvents p (ends_in p es) (Reported r ∷ fs) = (events_split p (start p) es (Reported r ∷ fs) whole).1 in
           let join : ends_in p (es ++ Reported r ∷ fs) ≡ after_all p (ends_in p es) (Reported r ∷ fs) = after_all_join p (start p) es (Reported r ∷ fs) in
           let same : (j : ℕ) → made (after_report (ends_in p es) r) j ≡ made (ends_in p es) j = (after_report-like p (ends_in p es) r sound back.0).made_same in
           late_from p (after_report (ends_in p es) r) kept t v fs shaped (after_report-sound p (ends_in p es) r shaped sound back.0)
           (record { ahead = omega (arith, same v.job, left.ahead); job = left.job; place = left.place })
           (record { job = found.job; size = found.size; inside = found.inside; left = omega (arith, same found.job); leads = found.leads; exact = found.exact }) late back.1
-          (moves_from_last p (after_report (ends_in p es) r) t fs (omega (arith, report_last (ends_in p es) a t)) back.1) not_early
+          (moves_from_last p (after_report (ends_in p es) r) t fs (omega (arith, report_last (ends_in p es) (ended r) (at r), at-report_of a t)) back.1)
+          (subst (λ (c : Cell). AreNotEarly p c fs) (sym (after_report-of (ends_in p es) a t)) not_early)
           (rw join at (run-sound p (es ++ Reported r ∷ fs) shaped whole)) (rw join at out),
     )

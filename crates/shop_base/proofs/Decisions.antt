@@ -5,7 +5,7 @@ use Rattle.shop_base.specs.declared.limits.TheConstants.{MAX_MOMENT}
 use Rattle.shop_base.specs.Plan.{PlannedShop, steps, machine_of, release, nominal, clean, order, job_at, Visits, Stands, IsWellShaped}
 use Rattle.shop_base.specs.Cell.{Cell, made, ready, since, entries, cleaning, IsOn, IsFree}
 use Rattle.shop_base.specs.Activity.{Activity, Arrival, Operation, Cleaning, GoesOn}
-use Rattle.shop_base.specs.Report.{Report, IsNextMoment, CanReport}
+use Rattle.shop_base.specs.Report.{Report, ended, at, IsNextMoment, CanReport}
 use Rattle.shop_base.specs.Move.{CanLeave, CanEnter, CanMove, IsPrefix, KeepsPlan}
 use Rattle.shop_base.specs.Sound.{IsSound}
 use Rattle.shop_base.proofs.Visits.{visits-stands, stands_once, visits_or_not, on_or_not, leaves_past, past_leaves}
@@ -157,9 +157,9 @@ going_or_not p c (Cleaning m) = go (clean_or_not c m)
 
 -- a report is possible, or it isn't
 pub reports_or_not : (p : PlannedShop) (c : Cell) (r : Report) → CanReport p c r ⊎ (CanReport p c r → ⊥)
-reports_or_not p c r = go (going_or_not p c r.ended) (moment_or_not c r.at)
+reports_or_not p c r = go (going_or_not p c (ended r)) (moment_or_not c (at r))
   where
-    go : ((due : ℕ) × GoesOn p c r.ended due) ⊎ ((due : ℕ) × GoesOn p c r.ended due → ⊥) → IsNextMoment c r.at ⊎ (IsNextMoment c r.at → ⊥) → CanReport p c r ⊎ (CanReport p c r → ⊥)
+    go : ((due : ℕ) × GoesOn p c (ended r) due) ⊎ ((due : ℕ) × GoesOn p c (ended r) due → ⊥) → IsNextMoment c (at r) ⊎ (IsNextMoment c (at r) → ⊥) → CanReport p c r ⊎ (CanReport p c r → ⊥)
     go (inl going) (inl moment) = inl (record { going = going; moment = moment })
     go (inl going) (inr untimely) = inr λ can. untimely can.moment
     go (inr none) moment = inr λ can. none can.going

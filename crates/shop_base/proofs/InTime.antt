@@ -5,8 +5,8 @@ use Rattle.shop_base.specs.declared.node.Node.{Node}
 use Rattle.shop_base.specs.declared.job_state.JobState.{JobState}
 use Rattle.shop_base.specs.Plan.{PlannedShop, jobs, steps, machine_of, release, nominal, clean, Stands, IsWellShaped, budget}
 use Rattle.shop_base.specs.Cell.{Cell, made, ready, since, entries, cleaning, IsOn, IsGone}
-use Rattle.shop_base.specs.Activity.{Activity, Arrival, Operation, Cleaning, IsAwaited, IsWorked, GoesOn}
-use Rattle.shop_base.specs.Report.{Report, with_ready, with_clean, after_end, after_report}
+use Rattle.shop_base.specs.Activity.{Activity, Arrival, Operation, Cleaning, IsWorked, GoesOn}
+use Rattle.shop_base.specs.Report.{Report, ended, at, after_end, after_report}
 use Rattle.shop_base.specs.Move.{CanMove, after_move}
 use Rattle.shop_base.specs.Run.{Event, ends_in, IsAtRest, Reported, Moved}
 use Rattle.shop_base.specs.Controlled.{AreMoves, after_moves, after_step, IsStep, Leads, moved, orders_for}
@@ -206,10 +206,10 @@ fit_from_last : (p : PlannedShop) (kept : Node → ℕ) (c : Cell) (t : ℕ) →
 fit_from_last p kept c t later fit = fit_from p c t c.last kept fit (λ j inside here. omega (arith, fit.present j inside here))
 
 -- at rest no job makes its next move before a report within moments that rise ahead
-pub within-before : (p : PlannedShop) (rank kept : Node → ℕ) (c : Cell) (r : Report) → IsWellShaped p → RanksRise p rank → IsSound p c → IsAtRest p c → RiseAhead p c kept → IsWithin p kept c r → IsNoneBefore p c r.at kept
+pub within-before : (p : PlannedShop) (rank kept : Node → ℕ) (c : Cell) (r : Report) → IsWellShaped p → RanksRise p rank → IsSound p c → IsAtRest p c → RiseAhead p c kept → IsWithin p kept c r → IsNoneBefore p c (at r) kept
 within-before p rank kept c r shaped ranks sound rest rise within j inside left =
     let found : HasActivityBy p c (next_node c j) = rest-active p rank c j shaped ranks sound rest inside left in
-    let soon : r.at ≤ kept found.held = within found.activity found.due found.held found.going found.holds in
+    let soon : at r ≤ kept found.held = within found.activity found.due found.held found.going found.holds in
     let bound : kept found.held ≤ kept (next_node c j) = found.leads kept rise in
     omega arith
 
@@ -220,11 +220,11 @@ punctual-within p kept c t r fit punctual a due v going holds = omega (arith, pu
 -- a step of the controlled run keeps the moments, where its report is within them
 pub step-still_fits : (p : PlannedShop) (rank kept : Node → ℕ) (c : Cell) (r : Report) (js : List ℕ) → IsWellShaped p → RanksRise p rank → IsSound p c → IsAtRest p c → KeepsMoments p kept c → IsStep p c r js → IsWithin p kept c r → KeepsMoments p kept (after_step p c r js)
 step-still_fits p rank kept c r js shaped ranks sound rest fit step within =
-    let report_at : (after_report c r).last ≡ r.at = report_last c r.ended r.at in
-    fit_from_last p kept (after_step p c r js) r.at (moves_last p (after_report c r) r.at js (omega arith))
-    (moves-fit p kept (after_report c r) r.at js shaped (after_report-sound p c r shaped sound step.can) step.moves
-    (reported-fits p kept c (after_report c r) r.at (after_report-like p c r sound step.can)
-    (fit_from p c c.last r.at kept fit (within-before p rank kept c r shaped ranks sound rest (fit_rise p c c.last kept fit) within))))
+    let report_at : (after_report c r).last ≡ at r = report_last c (ended r) (at r) in
+    fit_from_last p kept (after_step p c r js) (at r) (moves_last p (after_report c r) (at r) js (omega arith))
+    (moves-fit p kept (after_report c r) (at r) js shaped (after_report-sound p c r shaped sound step.can) step.moves
+    (reported-fits p kept c (after_report c r) (at r) (after_report-like p c r sound step.can)
+    (fit_from p c c.last (at r) kept fit (within-before p rank kept c r shaped ranks sound rest (fit_rise p c c.last kept fit) within))))
 
 -- and so where it is punctual
 pub step-keeps_moments : (p : PlannedShop) (rank kept : Node → ℕ) (c : Cell) (r : Report) (js : List ℕ) → IsWellShaped p → RanksRise p rank → IsSound p c → IsAtRest p c → KeepsMoments p kept c → IsStep p c r js → IsPunctual p c r → KeepsMoments p kept (after_step p c r js)
@@ -246,7 +246,7 @@ leads-still_fits p rank kept c rs es end shaped ranks sound rest leads =
     leads_induction p (λ c rs es end. KeepsMoments p kept c → AreWithin p kept c es → KeepsMoments p kept end) shaped
     (λ c sound rest fit within. fit)
     (λ c r js rs es end sound rest step later fit within.
-    later (step-still_fits p rank kept c r js shaped ranks sound rest fit step within.0) (reports_later p (IsWithin p kept) (after_report c r) r.at js es within.1))
+    later (step-still_fits p rank kept c r js shaped ranks sound rest fit step within.0) (reports_later p (IsWithin p kept) (after_report c r) (at r) js es within.1))
     (λ c r rs es end sound rest cannot later fit within. later fit within) c rs es end sound rest leads
 
 -- where the moments fit, each job of the shop keeps to the moment of its leaving

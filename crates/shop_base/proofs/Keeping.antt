@@ -9,7 +9,7 @@ use Rattle.shop_base.specs.Plan.{PlannedShop, jobs, machines, steps, order, job_
 use Rattle.shop_base.specs.Cell.{Cell, MachineState, absent, unused, job_in, machine_in, made, ready, since, entries, cleaning, start, IsOn, IsGone, IsFree}
 use Rattle.shop_base.specs.declared.job_state.JobState.{JobState}
 use Rattle.shop_base.specs.Activity.{Activity, Arrival, Operation, Cleaning, GoesOn}
-use Rattle.shop_base.specs.Report.{Report, IsNextMoment, CanReport, with_ready, with_clean, after_end, after_report}
+use Rattle.shop_base.specs.Report.{Report, ended, at, IsNextMoment, CanReport, with_ready, with_clean, after_end, after_report}
 use Rattle.shop_base.specs.Move.{CanLeave, CanEnter, CanMove, KeepsPlan, IsPrefix, after_move}
 use Rattle.shop_base.specs.Run.{Event, Reported, Moved, CanHappen, AreEvents, after, after_all, IsRun, ends_in}
 use Rattle.shop_base.specs.Graph.{Arc, job_arc, blocking_arc, node}
@@ -160,7 +160,7 @@ after_end-like p c (Cleaning m) due t sound (from, going) moment =
 
 -- a report changes no moves and no entries
 pub after_report-like : (p : PlannedShop) (c : Cell) (r : Report) → IsSound p c → CanReport p c r → IsLike p c (after_report c r)
-after_report-like p c r sound can = after_end-like p c r.ended can.going.0 r.at sound can.going.1 can.moment
+after_report-like p c r sound can = after_end-like p c (ended r) can.going.0 (at r) sound can.going.1 can.moment
 
 pub after_report-sound : (p : PlannedShop) (c : Cell) (r : Report) → IsWellShaped p → IsSound p c → CanReport p c r → IsSound p (after_report c r)
 after_report-sound p c r shaped sound can = like-sound p c (after_report c r) sound (after_report-like p c r sound can)

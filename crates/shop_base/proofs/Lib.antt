@@ -7,6 +7,7 @@ pub mod OneFault
 pub mod Cleanings
 pub mod Sizes
 pub mod Visits
+pub mod Reports
 pub mod Changes
 pub mod Keeping
 pub mod ControlledRuns

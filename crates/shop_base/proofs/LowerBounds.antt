@@ -6,7 +6,7 @@ use Rattle.shop_base.specs.declared.job_state.JobState.{JobState}
 use Rattle.shop_base.specs.Plan.{PlannedShop, jobs, steps, nominal, clean, Stands, IsWellShaped}
 use Rattle.shop_base.specs.Cell.{Cell, made, ready, since, entries, cleaning, start, IsOn}
 use Rattle.shop_base.specs.Activity.{Activity, Arrival, Operation, Cleaning, IsCleaned, GoesOn}
-use Rattle.shop_base.specs.Report.{with_ready, with_clean, after_end, after_report}
+use Rattle.shop_base.specs.Report.{ended, at, with_ready, with_clean, after_end, after_report}
 use Rattle.shop_base.specs.Move.{CanMove, KeepsPlan, after_move}
 use Rattle.shop_base.specs.Run.{Event, Reported, Moved, AreEvents, after, after_all, ends_in}
 use Rattle.shop_base.specs.Punctual.{AreNotEarly}
@@ -284,7 +284,7 @@ module _ (p : PlannedShop) (c new : Cell) (j t u : ℕ) (shaped : IsWellShaped p
 pub moves_from_last : (p : PlannedShop) (c : Cell) (t : ℕ) (es : List Event) → t ≤ c.last → AreEvents p c es → MoveFrom t es
 moves_from_last p c t [] before events = tt
 moves_from_last p c t (Reported r ∷ es) before events =
-    moves_from_last p (after_report c r) t es (omega (arith, report_last c r.ended r.at, events.0.moment.in_order)) events.1
+    moves_from_last p (after_report c r) t es (omega (arith, report_last c (ended r) (at r), events.0.moment.in_order)) events.1
 moves_from_last p c t (Moved o ∷ es) before events =
     let now : t ≤ o.at = omega (arith, events.0.0.can.moment.in_order) in
     (now, moves_from_last p (after_move p c o.job o.at) t es now events.1)
@@ -337,11 +337,11 @@ made-no_earlier p c t [] nodes v n shaped sound path events from not_early last 
     let ahead : made c v.job ≤ v.place = (path_left p c t nodes v n sound path).ahead in
     absurd (omega arith)
 made-no_earlier p c t (Reported r ∷ fs) nodes v n shaped sound path events from not_early last =
-    let on = λ (found : HasPathOf p (after_report c r) (max t r.at) v n).
-    made-no_earlier p (after_report c r) (max t r.at) fs found.nodes v found.size shaped (after_report-sound p c r shaped sound events.0) found.path events.1
-    (moves_max t r.at fs from (moves_from_last p (after_report c r) r.at fs (omega (arith, report_last c r.ended r.at)) events.1)) not_early.1 last in
-    let found : HasPathOf p (after_report c r) (max t r.at) v n =
-    ended-path p c r.ended t (max t r.at) not_early.0.due r.at nodes v n (omega arith) (omega (arith, not_early.0.later)) sound not_early.0.going path
+    let on = λ (found : HasPathOf p (after_report c r) (max t (at r)) v n).
+    made-no_earlier p (after_report c r) (max t (at r)) fs found.nodes v found.size shaped (after_report-sound p c r shaped sound events.0) found.path events.1
+    (moves_max t (at r) fs from (moves_from_last p (after_report c r) (at r) fs (omega (arith, report_last c (ended r) (at r))) events.1)) not_early.1 last in
+    let found : HasPathOf p (after_report c r) (max t (at r)) v n =
+    ended-path p c (ended r) t (max t (at r)) not_early.0.due (at r) nodes v n (omega arith) (omega (arith, not_early.0.later)) sound not_early.0.going path
     (omega (arith, (after_report-like p c r sound events.0).made_same v.job, (path_left p c t nodes v n sound path).ahead)) in
     omega (arith, found.enough, on found)
 made-no_earlier p c t (Moved o ∷ fs) nodes v n shaped sound path events from not_early last = elim (cases_lt v.place (made new v.job)) [

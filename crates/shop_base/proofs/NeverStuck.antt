@@ -17,6 +17,7 @@ use Rattle.shop_base.specs.Ahead.{HoldsUp}
 use Rattle.shop_base.specs.Within.{RiseAhead}
 use Rattle.shop_base.specs.NeverStuckLaw.{CanReportEach, CanGoOn}
 use Rattle.shop_base.proofs.Visits.{visits_job, visits_machine, visits-stands, past_leaves}
+use Rattle.shop_base.proofs.Reports.{can-report_of}
 use Rattle.shop_base.proofs.Places.{stands_at, same_stand, prefix_grows}
 
 -- a machine is being cleaned since some moment, or it isn't
@@ -253,7 +254,7 @@ outside-gone p c j sound outside =
 
 -- each activity going on can be reported at the last moment
 pub sound-reportable : (p : PlannedShop) (c : Cell) → IsSound p c → CanReportEach p c
-sound-reportable p c sound a due going = record { going = (due, going); moment = record { in_order = le_refl c.last; in_range = sound.last_in_range } }
+sound-reportable p c sound a due going = can-report_of p c a due c.last going (record { in_order = le_refl c.last; in_range = sound.last_in_range })
 
 goes_on-reportable : (p : PlannedShop) (c : Cell) (a : Activity) (due : ℕ) → IsSound p c → GoesOn p c a due → CanGoOn p c
 goes_on-reportable p c a due sound going = (a, due, going, sound-reportable p c sound a due going)

@@ -6,7 +6,7 @@ use Rattle.shop_base.specs.Plan.{PlannedShop, jobs, steps, machine_of, clean, or
 use Rattle.shop_base.specs.Cell.{Cell, MachineState, absent, unused, job_in, machine_in, made, ready, entries, cleaning, IsOutside, IsOn, IsFree}
 use Rattle.shop_base.specs.declared.job_state.JobState.{JobState}
 use Rattle.shop_base.specs.Activity.{Activity, Arrival, Operation, Cleaning, GoesOn}
-use Rattle.shop_base.specs.Report.{Report, IsNextMoment, CanReport, with_ready, with_clean, after_end, after_report}
+use Rattle.shop_base.specs.Report.{Report, ended, at, IsNextMoment, CanReport, with_ready, with_clean, after_end, after_report}
 use Rattle.shop_base.specs.Move.{CanEnter, CanMove, IsPrefix, KeepsPlan, after_move}
 use Rattle.shop_base.specs.Run.{IsAtRest}
 use Rattle.shop_base.specs.Controlled.{AreMoves, after_moves, IsStep}
@@ -103,8 +103,8 @@ next_after_end p c (Operation j m) = j
 next_after_end p c (Cleaning m) = job_at p m (length (entries c m))
 
 -- from rest, after a possible report only one job can move
-pub only_one_after_report : (p : PlannedShop) (c : Cell) (r : Report) → IsSound p c → IsAtRest p c → CanReport p c r → OnlyMoves p (after_report c r) (next_after_end p c r.ended)
-only_one_after_report p c r sound rest can = go r.ended can.going.0 can.going.1
+pub only_one_after_report : (p : PlannedShop) (c : Cell) (r : Report) → IsSound p c → IsAtRest p c → CanReport p c r → OnlyMoves p (after_report c r) (next_after_end p c (ended r))
+only_one_after_report p c r sound rest can = go (ended r) can.going.0 can.going.1
   where
     inside : (j : ℕ) → made c j ≢ 1 → j < length c.jobs
     inside j other = lt_of_not-le λ past. other (ap (λ (x : JobState). x.made) (get_or_past c.jobs j absent past))
@@ -112,14 +112,14 @@ only_one_after_report p c r sound rest can = go r.ended can.going.0 can.going.1
     on-inside : (j k m : ℕ) → IsOn p c j k m → j < length c.jobs
     on-inside j k m on = omega (arith, sound.job_count, visits_job p j k m on.visits)
 
-    go : (a : Activity) (due : ℕ) → GoesOn p c a due → OnlyMoves p (after_end c a r.at) (next_after_end p c a)
+    go : (a : Activity) (due : ℕ) → GoesOn p c a due → OnlyMoves p (after_end c a (at r)) (next_after_end p c a)
     go (Arrival j) due awaited =
-        only_readied-moves p c (with_ready c j r.at) j r.at sound rest
-        (with_ready-readied c j r.at awaited.not_ready (inside j λ is. absurd (omega (arith, awaited.outside))))
+        only_readied-moves p c (with_ready c j (at r)) j (at r) sound rest
+        (with_ready-readied c j (at r) awaited.not_ready (inside j λ is. absurd (omega (arith, awaited.outside))))
     go (Operation j m) due (k, worked) =
-        only_readied-moves p c (with_ready c j r.at) j r.at sound rest (with_ready-readied c j r.at worked.not_ready (on-inside j k m worked.on))
+        only_readied-moves p c (with_ready c j (at r)) j (at r) sound rest (with_ready-readied c j (at r) worked.not_ready (on-inside j k m worked.on))
     go (Cleaning m) due (s, cleaned) =
-        only_next_in-moves p c (with_clean c m r.at) m r.at sound rest (with_clean-tidied c m s r.at cleaned.is_cleaned)
+        only_next_in-moves p c (with_clean c m (at r)) m (at r) sound rest (with_clean-tidied c m s (at r) cleaned.is_cleaned)
 
 -- job i is next where job j is: on a machine with no cleaning time, in whose order its next visit stands directly after the entrants
 pub record IsNextAfter (p : PlannedShop) (c : Cell) (j i : ℕ) : Type 0 where
@@ -320,11 +320,11 @@ pub one_step : (p : PlannedShop) (c : Cell) (r : Report) → IsWellShaped p → 
 one_step p c r shaped sound rest can = (
   found.0,
   record { can = can; moves = found.1; rest = found.2 },
-  λ others step. moves_unique p (after_report c r) j r.at found.0 others shaped sound_after only found.1 found.2 step.moves step.rest,
+  λ others step. moves_unique p (after_report c r) j (at r) found.0 others shaped sound_after only found.1 found.2 step.moves step.rest,
 )
   where
     j : ℕ
-    j = next_after_end p c r.ended
+    j = next_after_end p c (ended r)
 
     sound_after : IsSound p (after_report c r)
     sound_after = after_report-sound p c r shaped sound can
@@ -332,10 +332,10 @@ one_step p c r shaped sound rest can = (
     only : OnlyMoves p (after_report c r) j
     only = only_one_after_report p c r sound rest can
 
-    moment : (a : Activity) → IsNextMoment (after_end c a r.at) r.at
+    moment : (a : Activity) → IsNextMoment (after_end c a (at r)) (at r)
     moment (Arrival i) = record { in_order = omega arith; in_range = can.moment.in_range }
     moment (Operation i m) = record { in_order = omega arith; in_range = can.moment.in_range }
     moment (Cleaning m) = record { in_order = omega arith; in_range = can.moment.in_range }
 
-    found : (js : List ℕ) × AreMoves p (after_report c r) r.at js × IsAtRest p (after_moves p (after_report c r) r.at js)
-    found = moves_exist (moves_left p (after_report c r) + 1) p (after_report c r) j r.at shaped sound_after (moment r.ended) only (omega arith)
+    found : (js : List ℕ) × AreMoves p (after_report c r) (at r) js × IsAtRest p (after_moves p (after_report c r) (at r) js)
+    found = moves_exist (moves_left p (after_report c r) + 1) p (after_report c r) j (at r) shaped sound_after (moment (ended r)) only (omega arith)

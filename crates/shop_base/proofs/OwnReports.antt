@@ -4,7 +4,7 @@ use Rattle.shop_base.specs.declared.node.Node.{Node}
 use Rattle.shop_base.specs.Plan.{PlannedShop, IsWellShaped}
 use Rattle.shop_base.specs.Cell.{Cell, start}
 use Rattle.shop_base.specs.Activity.{Activity, Arrival, Operation, Cleaning, GoesOn, IsIdle}
-use Rattle.shop_base.specs.Report.{with_ready, with_clean, after_end, after_report}
+use Rattle.shop_base.specs.Report.{ended, at, with_ready, with_clean, after_end, after_report}
 use Rattle.shop_base.specs.Move.{after_move}
 use Rattle.shop_base.specs.Run.{Event, Reported, Moved, AreEvents, after_all, ends_in}
 use Rattle.shop_base.specs.Sound.{IsSound}
@@ -37,12 +37,12 @@ not_past : (p : PlannedShop) (kept : Node → ℕ) (c : Cell) (es : List Event) 
     → GoesOn p c a due → HoldsUp p c a v → c.last ≤ kept v
 not_past p kept c [] a due v shaped sound events idle own going holds = absurd (idle a due going)
 not_past p kept c (Reported r ∷ es) a due v shaped sound events idle own going holds =
-    elim (ended-holds p c r.ended events.0.going.0 r.at sound events.0.going.1 a due v going holds) [
+    elim (ended-holds p c (ended r) events.0.going.0 (at r) sound events.0.going.1 a due v going holds) [
       | inl mine ↦ omega (arith, own.0 v mine, events.0.moment.in_order)
       | inr (still, same) ↦ omega (
         arith,
         events.0.moment.in_order,
-        report_last c r.ended r.at,
+        report_last c (ended r) (at r),
         not_past p kept (after_report c r) es a due v shaped (after_report-sound p c r shaped sound events.0) events.1 idle own.1 still same,
       )
     ]
@@ -57,11 +57,11 @@ not_past p kept c (Moved o ∷ es) a due v shaped sound events idle own going ho
 pub own-within : (p : PlannedShop) (kept : Node → ℕ) (c : Cell) (es : List Event) → IsWellShaped p → IsSound p c → AreEvents p c es → IsIdle p (after_all p c es) → AreByTheirOwn p kept c es → AreWithin p kept c es
 own-within p kept c [] shaped sound events idle own = tt
 own-within p kept c (Reported r ∷ es) shaped sound events idle own = (
-  λ a due v going holds. elim (ended-holds p c r.ended events.0.going.0 r.at sound events.0.going.1 a due v going holds) [
+  λ a due v going holds. elim (ended-holds p c (ended r) events.0.going.0 (at r) sound events.0.going.1 a due v going holds) [
     | inl mine ↦ own.0 v mine
     | inr (still, same) ↦ omega (
       arith,
-      report_last c r.ended r.at,
+      report_last c (ended r) (at r),
       not_past p kept (after_report c r) es a due v shaped (after_report-sound p c r shaped sound events.0) events.1 idle own.1 still same,
     )
   ],

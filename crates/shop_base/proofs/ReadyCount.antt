@@ -4,7 +4,7 @@ use Rattle.shop_base.specs.Plan.{PlannedShop, jobs, IsWellShaped}
 use Rattle.shop_base.specs.Cell.{Cell, absent, ready, start}
 use Rattle.shop_base.specs.declared.job_state.JobState.{JobState}
 use Rattle.shop_base.specs.Activity.{Activity, Arrival, Operation, Cleaning, GoesOn}
-use Rattle.shop_base.specs.Report.{Report, CanReport, with_ready, with_clean, after_end, after_report}
+use Rattle.shop_base.specs.Report.{Report, ended, at, CanReport, with_ready, with_clean, after_end, after_report}
 use Rattle.shop_base.specs.Move.{CanMove, after_move}
 use Rattle.shop_base.specs.Run.{Event, Reported, Moved, AreEvents, after_all}
 use Rattle.shop_base.specs.Controlled.{AreMoves, after_moves}
@@ -52,7 +52,7 @@ end-ready_count p c (Cleaning m) t due sound (s, goes) =
 
 -- a possible report makes at most one job ready
 pub after_report-ready_count : (p : PlannedShop) (c : Cell) (r : Report) → IsSound p c → CanReport p c r → ready_count p (after_report c r) ≤ ready_count p c + 1
-after_report-ready_count p c r sound can = end-ready_count p c r.ended r.at can.going.0 sound can.going.1
+after_report-ready_count p c r sound can = end-ready_count p c (ended r) (at r) can.going.0 sound can.going.1
 
 -- a move makes one ready job not ready
 pub moved-ready_count : (p : PlannedShop) (c new : Cell) (j t : ℕ) → IsSound p c → CanMove p c j t → IsMoved p c j t new → ready_count p new + 1 ≡ ready_count p c

@@ -6,7 +6,7 @@ use Rattle.shop_base.specs.Plan.{PlannedShop, jobs, machines, steps, order, job_
 use Rattle.shop_base.specs.Cell.{Cell, MachineState, absent, unused, job_in, made, ready, entries, cleaning, start, IsOn, IsFree, IsGone}
 use Rattle.shop_base.specs.declared.job_state.JobState.{JobState}
 use Rattle.shop_base.specs.Activity.{Activity, Arrival, Operation, Cleaning, GoesOn, IsIdle}
-use Rattle.shop_base.specs.Report.{Report, CanReport, with_ready, with_clean, after_end, after_report}
+use Rattle.shop_base.specs.Report.{Report, ended, at, CanReport, with_ready, with_clean, after_end, after_report}
 use Rattle.shop_base.specs.Move.{CanMove, KeepsPlan, after_move}
 use Rattle.shop_base.specs.Run.{Event, Reported, Moved, AreEvents, after_all, IsAtRest}
 use Rattle.shop_base.specs.Controlled.{AreMoves, after_moves, IsStep, after_step}
@@ -216,7 +216,7 @@ end-reports_left p c (Cleaning m) t due sound (s, goes) =
 
 -- a possible report lowers the reports to come by one
 pub after_report-reports_left : (p : PlannedShop) (c : Cell) (r : Report) → IsSound p c → CanReport p c r → reports_left p (after_report c r) + 1 ≡ reports_left p c
-after_report-reports_left p c r sound can = end-reports_left p c r.ended r.at can.going.0 sound can.going.1
+after_report-reports_left p c r sound can = end-reports_left p c (ended r) (at r) can.going.0 sound can.going.1
 
 -- a possible, plan-keeping move leaves them as they are
 pub after_move-reports_left : (p : PlannedShop) (c : Cell) (j t : ℕ) → IsWellShaped p → IsSound p c → CanMove p c j t → KeepsPlan p c j
@@ -358,5 +358,5 @@ after_step-reports_left p c r js shaped sound step =
     omega (
       arith,
       after_report-reports_left p c r sound step.can,
-      after_moves-reports_left p (after_report c r) r.at js shaped (after_report-sound p c r shaped sound step.can) step.moves,
+      after_moves-reports_left p (after_report c r) (at r) js shaped (after_report-sound p c r shaped sound step.can) step.moves,
     )

@@ -7,7 +7,7 @@ use Rattle.shop_base.specs.Plan.{PlannedShop, jobs, steps, machine_of}
 use Rattle.shop_base.specs.Cell.{Cell, MachineState, absent, unused, job_in, made, ready, cleaning, IsGone}
 use Rattle.shop_base.specs.declared.job_state.JobState.{JobState}
 use Rattle.shop_base.specs.Activity.{Activity, Arrival, Operation, Cleaning, GoesOn, IsIdle}
-use Rattle.shop_base.specs.Report.{Report, after_report}
+use Rattle.shop_base.specs.Report.{Report, ended, at, after_report}
 use Rattle.shop_base.specs.Move.{CanMove, KeepsPlan, after_move}
 use Rattle.shop_base.specs.Run.{Event, Reported, Moved, after, IsAtRest, IsStuck}
 use Rattle.shop_base.specs.Controlled.{AreMoves, after_step, step_orders, IsStep, moved, Leads, done, accepted, refused}
@@ -87,33 +87,33 @@ pub idle_decides : (p : PlannedShop) (c : Cell) → Decides (idle_test p c) (IsI
 idle_decides p c = each_going_decides p c (λ a. false) (λ a. ⊥) (λ a. false_decides)
 
 abbrev pub punctual_test : PlannedShop → Cell → Report → Bool
-punctual_test p c r = each_going p c (λ a. leb r.at (due_of p c a))
+punctual_test p c r = each_going p c (λ a. leb (at r) (due_of p c a))
 
 pub punctual_decides : (p : PlannedShop) (c : Cell) (r : Report) → Decides (punctual_test p c r) (IsPunctual p c r)
 punctual_decides p c r = Decides-like (punctual_test p c r) is_punctual was_punctual
-    (each_going_decides p c (λ a. leb r.at (due_of p c a)) (λ a. r.at ≤ due_of p c a) (λ a. leb_decides r.at (due_of p c a)))
+    (each_going_decides p c (λ a. leb (at r) (due_of p c a)) (λ a. at r ≤ due_of p c a) (λ a. leb_decides (at r) (due_of p c a)))
   where
-    is_punctual : ((a : Activity) (due : ℕ) → GoesOn p c a due → r.at ≤ due_of p c a) → IsPunctual p c r
+    is_punctual : ((a : Activity) (due : ℕ) → GoesOn p c a due → at r ≤ due_of p c a) → IsPunctual p c r
     is_punctual all a due going = omega (arith, all a due going, due-is p c a due going)
 
-    was_punctual : IsPunctual p c r → (a : Activity) (due : ℕ) → GoesOn p c a due → r.at ≤ due_of p c a
+    was_punctual : IsPunctual p c r → (a : Activity) (due : ℕ) → GoesOn p c a due → at r ≤ due_of p c a
     was_punctual punctual a due going = omega (arith, punctual a due going, due-is p c a due going)
 
 abbrev pub exact_test : PlannedShop → Cell → Report → Bool
-exact_test p c r = punctual_test p c r && (going_test p c r.ended && eqb r.at (due_of p c r.ended))
+exact_test p c r = punctual_test p c r && (going_test p c (ended r) && eqb (at r) (due_of p c (ended r)))
 
 pub exact_decides : (p : PlannedShop) (c : Cell) (r : Report) → Decides (exact_test p c r) (IsExact p c r)
 exact_decides p c r = Decides-like (exact_test p c r) is_exact was_exact
     (Decides-and (punctual_test p c r) _ (punctual_decides p c r)
-    (Decides-and (going_test p c r.ended) (eqb r.at (due_of p c r.ended)) (going_decides p c r.ended) (Decides-eqb r.at (due_of p c r.ended))))
+    (Decides-and (going_test p c (ended r)) (eqb (at r) (due_of p c (ended r))) (going_decides p c (ended r)) (Decides-eqb (at r) (due_of p c (ended r)))))
   where
-    is_exact : IsPunctual p c r × (GoesOn p c r.ended (due_of p c r.ended) × (r.at ≡ due_of p c r.ended)) → IsExact p c r
-    is_exact (punctual, (going, is)) = record { punctual = punctual; due = subst (GoesOn p c r.ended) (sym is) going }
+    is_exact : IsPunctual p c r × (GoesOn p c (ended r) (due_of p c (ended r)) × (at r ≡ due_of p c (ended r))) → IsExact p c r
+    is_exact (punctual, (going, is)) = record { punctual = punctual; due = subst (GoesOn p c (ended r)) (sym is) going }
 
-    was_exact : IsExact p c r → IsPunctual p c r × (GoesOn p c r.ended (due_of p c r.ended) × (r.at ≡ due_of p c r.ended))
+    was_exact : IsExact p c r → IsPunctual p c r × (GoesOn p c (ended r) (due_of p c (ended r)) × (at r ≡ due_of p c (ended r)))
     was_exact exact =
-        let is : r.at ≡ due_of p c r.ended = due-is p c r.ended r.at exact.due in
-        (exact.punctual, (subst (GoesOn p c r.ended) is exact.due, is))
+        let is : at r ≡ due_of p c (ended r) = due-is p c (ended r) (at r) exact.due in
+        (exact.punctual, (subst (GoesOn p c (ended r)) is exact.due, is))
 
 abbrev pub all_punctual_test : PlannedShop → Cell → List Event → Bool
 all_punctual_test p c [] = true
@@ -182,11 +182,11 @@ moves_decides p c t (j ∷ js) = Decides-like (moves_test p c t (j ∷ js)) (λ 
     (Decides-and (move_test p c j t) _ (move_decides p c j t) (Decides-and (keeps_test p c j) _ (keeps_decides p c j) (moves_decides p (after_move p c j t) t js)))
 
 abbrev pub step_test : PlannedShop → Cell → Report → List ℕ → Bool
-step_test p c r js = report_test p c r && (moves_test p (after_report c r) r.at js && rest_test p (after_step p c r js))
+step_test p c r js = report_test p c r && (moves_test p (after_report c r) (at r) js && rest_test p (after_step p c r js))
 
 pub step_decides : (p : PlannedShop) (c : Cell) (r : Report) (js : List ℕ) → Decides (step_test p c r js) (IsStep p c r js)
 step_decides p c r js = Decides-like (step_test p c r js) (λ all. record { can = all.0; moves = all.1.0; rest = all.1.1 }) (λ step. (step.can, (step.moves, step.rest)))
-    (Decides-and (report_test p c r) _ (report_decides p c r) (Decides-and _ _ (moves_decides p (after_report c r) r.at js) (rest_decides p (after_step p c r js))))
+    (Decides-and (report_test p c r) _ (report_decides p c r) (Decides-and _ _ (moves_decides p (after_report c r) (at r) js) (rest_decides p (after_step p c r js))))
 
 -- the events to which reports lead, where for each report the jobs are given that then move, none where the report isn't possible
 abbrev pub turn_events : PlannedShop → Cell → List Report → List (Option (List ℕ)) → List Event

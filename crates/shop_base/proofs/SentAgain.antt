@@ -6,7 +6,7 @@ use Rattle.shop_base.specs.declared.move_order.MoveOrder.{MoveOrder}
 use Rattle.shop_base.specs.Plan.{PlannedShop, machine_of, IsWellShaped}
 use Rattle.shop_base.specs.Cell.{Cell, job_in, made, ready, cleaning, start, IsOn}
 use Rattle.shop_base.specs.Activity.{Activity, Arrival, Operation, Cleaning, GoesOn}
-use Rattle.shop_base.specs.Report.{Report, CanReport, after_report, with_ready, with_clean}
+use Rattle.shop_base.specs.Report.{Report, ended, at, CanReport, with_ready, with_clean, after_end, after_report}
 use Rattle.shop_base.specs.Move.{after_move}
 use Rattle.shop_base.specs.Run.{Event, Reported, Moved, CanHappen, AreEvents, after, after_all, ends_in}
 use Rattle.shop_base.specs.Sound.{IsSound}
@@ -59,11 +59,11 @@ module _ (p : PlannedShop) (shaped : IsWellShaped p) where
 
   past_event : (j n : ℕ) (c : Cell) (e : Event) → IsSound p c → CanHappen p c e → IsPast j n c → IsPast j n (after p c e)
   past_event j n c (Moved o) sound can past = past_moved j n o.job o.at c (after_move p c o.job o.at) (after_move-moved p c o.job o.at shaped sound can.0.can) past
-  past_event j n c (Reported r) sound can past = go r.ended can.going.0 can.going.1
+  past_event j n c (Reported r) sound can past = go (ended r) can.going.0 can.going.1
     where
-      go : (a : Activity) (due : ℕ) → GoesOn p c a due → IsPast j n (after p c (Reported (record { ended = a; at = r.at })))
-      go (Arrival i) due goes = past_readied j n i r.at c (with_ready c i r.at) (readied c i r.at due sound goes) past
-      go (Operation i m) due goes = past_readied j n i r.at c (with_ready c i r.at) (readied_on c i m r.at due sound goes) past
+      go : (a : Activity) (due : ℕ) → GoesOn p c a due → IsPast j n (after_end c a (at r))
+      go (Arrival i) due goes = past_readied j n i (at r) c (with_ready c i (at r)) (readied c i (at r) due sound goes) past
+      go (Operation i m) due goes = past_readied j n i (at r) c (with_ready c i (at r)) (readied_on c i m (at r) due sound goes) past
       go (Cleaning m) due goes = record { reached = past.reached; ended = past.ended }
 
   sound_after : (c : Cell) (e : Event) → IsSound p c → CanHappen p c e → IsSound p (after p c e)
@@ -174,47 +174,47 @@ module _ (p : PlannedShop) (shaped : IsWellShaped p) where
         ]
   ]
   waiting_events j m c (Reported r ∷ es) sound events waiting =
-      waiting_events j m (after_report c r) es (sound_after c (Reported r) sound events.0) events.1 (go r.ended refl events.0.going.0 events.0.going.1)
+      waiting_events j m (after_report c r) es (sound_after c (Reported r) sound events.0) events.1 (go (ended r) refl events.0.going.0 events.0.going.1)
     where
-      go : (a : Activity) → r.ended ≡ a → (due : ℕ) → GoesOn p c a due → IsWaiting j m (after_report c r)
+      go : (a : Activity) → ended r ≡ a → (due : ℕ) → GoesOn p c a due → IsWaiting j m (after_report c r)
       go (Arrival i) is due goes =
-          subst (λ a. IsWaiting j m (after_report c (record { ended = a; at = r.at }))) (sym is)
-          (waiting_readied j m i r.at c (with_ready c i r.at) (readied c i r.at due sound goes) goes.not_ready waiting)
+          subst (λ a. IsWaiting j m (after_end c a (at r))) (sym is)
+          (waiting_readied j m i (at r) c (with_ready c i (at r)) (readied c i (at r) due sound goes) goes.not_ready waiting)
       go (Operation i n) is due goes =
-          subst (λ a. IsWaiting j m (after_report c (record { ended = a; at = r.at }))) (sym is)
-          (waiting_readied j m i r.at c (with_ready c i r.at) (readied_on c i n r.at due sound goes) goes.1.not_ready waiting)
+          subst (λ a. IsWaiting j m (after_end c a (at r))) (sym is)
+          (waiting_readied j m i (at r) c (with_ready c i (at r)) (readied_on c i n (at r) due sound goes) goes.1.not_ready waiting)
       go (Cleaning n) is due goes =
-          subst (λ a. IsWaiting j m (after_report c (record { ended = a; at = r.at }))) (sym is)
-          (waiting_tidied j m n r.at c (with_clean c n r.at) (with_clean-tidied c n goes.0 r.at goes.1.is_cleaned) waiting)
+          subst (λ a. IsWaiting j m (after_end c a (at r))) (sym is)
+          (waiting_tidied j m n (at r) c (with_clean c n (at r)) (with_clean-tidied c n goes.0 (at r) goes.1.is_cleaned) waiting)
 
   -- ---- a machine stays quiet until an operation ends on it
 
   -- the end of an operation on it, or of anything else
   quiet_report : (m : ℕ) (c : Cell) (r : Report) → IsSound p c → CanReport p c r → IsQuiet m c
-      → IsQuiet m (after_report c r) ⊎ ((j : ℕ) × (r.ended ≡ Operation j m) × IsWaiting j m (after_report c r))
-  quiet_report m c r sound can quiet = go r.ended refl can.going.0 can.going.1
+      → IsQuiet m (after_report c r) ⊎ ((j : ℕ) × (ended r ≡ Operation j m) × IsWaiting j m (after_report c r))
+  quiet_report m c r sound can quiet = go (ended r) refl can.going.0 can.going.1
     where
-      go : (a : Activity) → r.ended ≡ a → (due : ℕ) → GoesOn p c a due → IsQuiet m (after_report c r) ⊎ ((j : ℕ) × (r.ended ≡ Operation j m) × IsWaiting j m (after_report c r))
+      go : (a : Activity) → ended r ≡ a → (due : ℕ) → GoesOn p c a due → IsQuiet m (after_report c r) ⊎ ((j : ℕ) × (ended r ≡ Operation j m) × IsWaiting j m (after_report c r))
       go (Arrival i) is due goes =
-          inl (subst (λ a. IsQuiet m (after_report c (record { ended = a; at = r.at }))) (sym is)
-          (quiet_readied m i r.at c (with_ready c i r.at) (readied c i r.at due sound goes) (λ k on. absurd (omega (arith, on.entered, goes.outside))) quiet))
+          inl (subst (λ a. IsQuiet m (after_end c a (at r))) (sym is)
+          (quiet_readied m i (at r) c (with_ready c i (at r)) (readied c i (at r) due sound goes) (λ k on. absurd (omega (arith, on.entered, goes.outside))) quiet))
       go (Operation i n) is due goes = elim (cases_eq n m) [
         | inl same ↦
-            let change = readied_on c i n r.at due sound goes in
-            let waiting : IsWaiting i m (with_ready c i r.at) = record {
+            let change = readied_on c i n (at r) due sound goes in
+            let waiting : IsWaiting i m (with_ready c i (at r)) = record {
               step = goes.0;
-              on = subst (λ x. IsOn p (with_ready c i r.at) i goes.0 x) same (record { entered = change.made_same i ∙ goes.1.on.entered; visits = goes.1.on.visits });
+              on = subst (λ x. IsOn p (with_ready c i (at r)) i goes.0 x) same (record { entered = change.made_same i ∙ goes.1.on.entered; visits = goes.1.on.visits });
               is_ready = change.ready_mine;
-              is_clean = cleaning_of m c (with_ready c i r.at) change.machines_same ∙ quiet.is_clean;
+              is_clean = cleaning_of m c (with_ready c i (at r)) change.machines_same ∙ quiet.is_clean;
             } in
-            inr (i, is ∙ ap (Operation i) same, subst (λ a. IsWaiting i m (after_report c (record { ended = a; at = r.at }))) (sym is) waiting)
+            inr (i, is ∙ ap (Operation i) same, subst (λ a. IsWaiting i m (after_end c a (at r))) (sym is) waiting)
         | inr other ↦
-            inl (subst (λ a. IsQuiet m (after_report c (record { ended = a; at = r.at }))) (sym is)
-            (quiet_readied m i r.at c (with_ready c i r.at) (readied_on c i n r.at due sound goes) (λ k on. other (one_step c i goes.0 k n m goes.1.on on)) quiet))
+            inl (subst (λ a. IsQuiet m (after_end c a (at r))) (sym is)
+            (quiet_readied m i (at r) c (with_ready c i (at r)) (readied_on c i n (at r) due sound goes) (λ k on. other (one_step c i goes.0 k n m goes.1.on on)) quiet))
       ]
       go (Cleaning n) is due goes =
-          inl (subst (λ a. IsQuiet m (after_report c (record { ended = a; at = r.at }))) (sym is)
-          (quiet_tidied m n r.at c (with_clean c n r.at) (with_clean-tidied c n goes.0 r.at goes.1.is_cleaned) quiet))
+          inl (subst (λ a. IsQuiet m (after_end c a (at r))) (sym is)
+          (quiet_tidied m n (at r) c (with_clean c n (at r)) (with_clean-tidied c n goes.0 (at r) goes.1.is_cleaned) quiet))
 
   quiet_events : (m : ℕ) (c : Cell) (es : List Event) → IsSound p c → AreEvents p c es → IsQuiet m c → (cleaning (after_all p c es) m ≡ None) ⊎ HasWorked m es
   quiet_events m c [] sound events quiet = inl quiet.is_clean
@@ -234,8 +234,8 @@ module _ (p : PlannedShop) (shaped : IsWellShaped p) where
 
   -- ---- after a report
 
-  again_where : (c : Cell) (r q : Report) (fs : List Event) (a : Activity) → r.ended ≡ a → q.ended ≡ a → IsSound p c → CanReport p c r → AreEvents p (after_report c r) fs
-      → CanReport p (after_all p (after_report c r) fs) q → (m : ℕ) × (r.ended ≡ Cleaning m) × HasWorked m fs
+  again_where : (c : Cell) (r q : Report) (fs : List Event) (a : Activity) → ended r ≡ a → ended q ≡ a → IsSound p c → CanReport p c r → AreEvents p (after_report c r) fs
+      → CanReport p (after_all p (after_report c r) fs) q → (m : ℕ) × (ended r ≡ Cleaning m) × HasWorked m fs
   again_where c r q fs (Arrival j) is same sound can events also = absurd (false≢true (sym also_awaited.not_ready ∙ past.ended also_awaited.outside))
     where
       goes : GoesOn p c (Arrival j) can.going.0
@@ -244,8 +244,8 @@ module _ (p : PlannedShop) (shaped : IsWellShaped p) where
       also_awaited : GoesOn p (after_all p (after_report c r) fs) (Arrival j) also.going.0
       also_awaited = subst (λ a. GoesOn p (after_all p (after_report c r) fs) a also.going.0) same also.going.1
 
-      change : IsReadied c j r.at (after_report c r)
-      change = subst (λ a. IsReadied c j r.at (after_report c (record { ended = a; at = r.at }))) (sym is) (readied c j r.at can.going.0 sound goes)
+      change : IsReadied c j (at r) (after_report c r)
+      change = subst (λ a. IsReadied c j (at r) (after_end c a (at r))) (sym is) (readied c j (at r) can.going.0 sound goes)
 
       past : IsPast j 0 (after_all p (after_report c r) fs)
       past = past_events j 0 (after_report c r) fs (after_report-sound p c r shaped sound can) events
@@ -259,8 +259,8 @@ module _ (p : PlannedShop) (shaped : IsWellShaped p) where
       also_worked : GoesOn p (after_all p (after_report c r) fs) (Operation j m) also.going.0
       also_worked = subst (λ a. GoesOn p (after_all p (after_report c r) fs) a also.going.0) same also.going.1
 
-      change : IsReadied c j r.at (after_report c r)
-      change = subst (λ a. IsReadied c j r.at (after_report c (record { ended = a; at = r.at }))) (sym is) (readied_on c j m r.at can.going.0 sound goes)
+      change : IsReadied c j (at r) (after_report c r)
+      change = subst (λ a. IsReadied c j (at r) (after_end c a (at r))) (sym is) (readied_on c j m (at r) can.going.0 sound goes)
 
       past : IsPast j (goes.0 + 1) (after_all p (after_report c r) fs)
       past = past_events j (goes.0 + 1) (after_report c r) fs (after_report-sound p c r shaped sound can) events
@@ -276,8 +276,8 @@ module _ (p : PlannedShop) (shaped : IsWellShaped p) where
       also_cleaned : GoesOn p (after_all p (after_report c r) fs) (Cleaning m) also.going.0
       also_cleaned = subst (λ a. GoesOn p (after_all p (after_report c r) fs) a also.going.0) same also.going.1
 
-      change : IsTidied c m r.at (after_report c r)
-      change = subst (λ a. IsTidied c m r.at (after_report c (record { ended = a; at = r.at }))) (sym is) (with_clean-tidied c m goes.0 r.at goes.1.is_cleaned)
+      change : IsTidied c m (at r) (after_report c r)
+      change = subst (λ a. IsTidied c m (at r) (after_end c a (at r))) (sym is) (with_clean-tidied c m goes.0 (at r) goes.1.is_cleaned)
 
       same_made : (j : ℕ) → made (after_report c r) j ≡ made c j
       same_made j = ap (λ js. made (record { jobs = js; machines = (after_report c r).machines; last = (after_report c r).last }) j) change.jobs_same
@@ -296,20 +296,20 @@ front p c (f ∷ es) e fs events = let (first, can, later) = front p (after p c 
 -- moments never fall
 later_event : (p : PlannedShop) (c : Cell) (e : Event) → CanHappen p c e → c.last ≤ (after p c e).last
 later_event p c (Moved o) can = can.0.can.moment.in_order
-later_event p c (Reported r) can = go r.ended refl
+later_event p c (Reported r) can = go (ended r) refl
   where
-    go : (a : Activity) → r.ended ≡ a → c.last ≤ (after_report c r).last
-    go (Arrival j) is = subst (λ x. c.last ≤ (after_report c (record { ended = x; at = r.at })).last) (sym is) can.moment.in_order
-    go (Operation j m) is = subst (λ x. c.last ≤ (after_report c (record { ended = x; at = r.at })).last) (sym is) can.moment.in_order
-    go (Cleaning m) is = subst (λ x. c.last ≤ (after_report c (record { ended = x; at = r.at })).last) (sym is) can.moment.in_order
+    go : (a : Activity) → ended r ≡ a → c.last ≤ (after_report c r).last
+    go (Arrival j) is = subst (λ x. c.last ≤ (after_end c x (at r)).last) (sym is) can.moment.in_order
+    go (Operation j m) is = subst (λ x. c.last ≤ (after_end c x (at r)).last) (sym is) can.moment.in_order
+    go (Cleaning m) is = subst (λ x. c.last ≤ (after_end c x (at r)).last) (sym is) can.moment.in_order
 
-reported_last : (c : Cell) (r : Report) → (after_report c r).last ≡ r.at
-reported_last c r = go r.ended refl
+reported_last : (c : Cell) (r : Report) → (after_report c r).last ≡ at r
+reported_last c r = go (ended r) refl
   where
-    go : (a : Activity) → r.ended ≡ a → (after_report c r).last ≡ r.at
-    go (Arrival j) is = subst (λ x. (after_report c (record { ended = x; at = r.at })).last ≡ r.at) (sym is) refl
-    go (Operation j m) is = subst (λ x. (after_report c (record { ended = x; at = r.at })).last ≡ r.at) (sym is) refl
-    go (Cleaning m) is = subst (λ x. (after_report c (record { ended = x; at = r.at })).last ≡ r.at) (sym is) refl
+    go : (a : Activity) → ended r ≡ a → (after_report c r).last ≡ at r
+    go (Arrival j) is = subst (λ x. (after_end c x (at r)).last ≡ at r) (sym is) refl
+    go (Operation j m) is = subst (λ x. (after_end c x (at r)).last ≡ at r) (sym is) refl
+    go (Cleaning m) is = subst (λ x. (after_end c x (at r)).last ≡ at r) (sym is) refl
 
 later_events : (p : PlannedShop) (c : Cell) (es : List Event) → AreEvents p c es → c.last ≤ (after_all p c es).last
 later_events p c [] events = omega arith
@@ -326,6 +326,6 @@ no_end_is_accepted_twice p es fs r again shaped run same also =
     let (first, can, later) = front p (start p) es (Reported r) fs run in
     let c = ends_in p es in
     let there : CanReport p (after_all p (after_report c r) fs) again = subst (λ (d : Cell). CanReport p d again) (after_all_join p (start p) es (Reported r ∷ fs)) also in (
-      again_where p shaped c r again fs r.ended refl same (run-sound p es shaped first) can later there,
-      none_later p (after_report c r) fs again.at later there.moment.in_order,
+      again_where p shaped c r again fs (ended r) refl same (run-sound p es shaped first) can later there,
+      none_later p (after_report c r) fs (at again) later there.moment.in_order,
     )

@@ -8,7 +8,7 @@ use Rattle.shop_base.specs.Cell.{Cell, MachineState, absent, unused, job_in, mac
 use Rattle.shop_base.proofs.MovesOnce.{moves_once}
 use Rattle.shop_base.proofs.ReadyCount.{after_moves-ready_count}
 use Rattle.shop_base.proofs.CellFacts.{ready_count-le}
-use Rattle.shop_base.specs.Report.{after_report, IsNextMoment}
+use Rattle.shop_base.specs.Report.{at, IsNextMoment, after_report}
 use Rattle.shop_base.specs.Move.{CanMove, KeepsPlan, after_move}
 use Rattle.shop_base.specs.Run.{ends_in, IsAtRest}
 use Rattle.shop_base.specs.Controlled.{AreMoves, after_moves, orders_for, moved}
@@ -331,6 +331,6 @@ after_moves_join p c t (j ∷ front) js = after_moves_join p (after_move p c j t
 pub a_cut_step_settles-holds : ACutStepSettlesAsItWas
 a_cut_step_settles-holds p c r front js can moves settles = record {
   can = can;
-  moves = moves_join p (after_report c r) r.at front js moves settles.moves;
-  rest = rw (after_moves_join p (after_report c r) r.at front js) settles.rest;
+  moves = moves_join p (after_report c r) (at r) front js moves settles.moves;
+  rest = rw (after_moves_join p (after_report c r) (at r) front js) settles.rest;
 }

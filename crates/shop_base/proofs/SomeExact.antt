@@ -1,5 +1,5 @@
 -- From each cell some controlled run goes on in which no report is early, and none late but for what was overdue: again and again the activity that is due first is reported, when it is due, or at the present moment where that is past.
-use Rattle.std.proofs.Common.{◌≡◌, ℕ, zero, suc, ◌+◌, ◌<◌, ◌≤◌, ◌⊎◌, inl, inr, List, [], ◌∷◌, ◌++◌, Option, None, Some, refl, sym, ap, ◌∙◌, arith, le_refl, max}
+use Rattle.std.proofs.Common.{◌≡◌, ℕ, zero, suc, ◌+◌, ◌<◌, ◌≤◌, ◌⊎◌, inl, inr, List, [], ◌∷◌, ◌++◌, Option, None, Some, refl, sym, ap, subst, ◌∙◌, arith, le_refl, max}
 use Rattle.std.proofs.lemmas.Bool.{cases_lt, cases_eq}
 use Rattle.shop_base.specs.declared.node.Node.{Node}
 use Rattle.shop_base.specs.declared.job_state.JobState.{JobState}
@@ -7,7 +7,7 @@ use Rattle.shop_base.specs.declared.limits.TheConstants.{MAX_MOMENT}
 use Rattle.shop_base.specs.Plan.{PlannedShop, jobs, machines, steps, clean, IsWellShaped}
 use Rattle.shop_base.specs.Cell.{Cell, job_in, made, since, cleaning, IsGone}
 use Rattle.shop_base.specs.Activity.{Activity, Arrival, Operation, Cleaning, GoesOn, IsIdle}
-use Rattle.shop_base.specs.Report.{Report, IsNextMoment, CanReport, after_report}
+use Rattle.shop_base.specs.Report.{Report, ended, at, report_of, IsNextMoment, CanReport, after_report}
 use Rattle.shop_base.specs.Move.{after_move}
 use Rattle.shop_base.specs.Run.{Event, Reported, IsAtRest, ends_in}
 use Rattle.shop_base.specs.Controlled.{AreMoves, after_moves, orders_for, step_orders, after_step, IsStep, moved, Leads, done, accepted}
@@ -20,6 +20,7 @@ use Rattle.shop_base.specs.KeptMoments.{KeepsMoments}
 use Rattle.shop_base.specs.Ahead.{next_node, IsScheduleAhead, Settles, GoesOnTo, settled, MoveFrom}
 use Rattle.shop_base.specs.AheadLaw.{SomeContinuationIsExact}
 use Rattle.shop_base.proofs.Visits.{visits_job, on_or_not}
+use Rattle.shop_base.proofs.Reports.{ended-report_of, at-report_of}
 use Rattle.shop_base.proofs.InShop.{outside_in_shop, cleaned_in_shop}
 use Rattle.shop_base.proofs.Changes.{IsMoved, after_move-moved}
 use Rattle.shop_base.proofs.Keeping.{after_report-like, after_report-sound, after_move-sound, run-sound}
@@ -205,24 +206,33 @@ module _ (p : PlannedShop) (rank kept : Node → ℕ) (t : ℕ) (shaped : IsWell
   -- else the first is reported
   go_on : (c : Cell) → IsOnTime c → (next : HasFirst p c) → max next.due t ≤ MAX_MOMENT
       → ((r : Report) (js : List ℕ) → IsStep p c r js → IsOnTime (after_step p c r js) → LeadsExactly (after_step p c r js)) → LeadsExactly c
-  go_on c on_time next range later = answered (cell_settles p (after_report c r) r.at shaped sound_then (record { in_order = omega (arith, report_last c r.ended r.at); in_range = range }))
+  go_on c on_time next range later = answered (cell_settles p (after_report c r) (at r) shaped sound_then (record { in_order = omega (arith, report_last c (ended r) (at r)); in_range = in_range_then }))
     where
       r : Report
-      r = record { ended = next.activity; at = max next.due t }
+      r = report_of next.activity (max next.due t)
+
+      when : at r ≡ max next.due t
+      when = at-report_of next.activity (max next.due t)
+
+      in_range_then : at r ≤ MAX_MOMENT
+      in_range_then = omega (arith, range, when)
+
+      going : GoesOn p c (ended r) next.due
+      going = subst (λ (a : Activity). GoesOn p c a next.due) (sym (ended-report_of next.activity (max next.due t))) next.going
 
       can : CanReport p c r
-      can = record { going = (next.due, next.going); moment = record { in_order = on_time.soon next.activity next.due next.going; in_range = range } }
+      can = record { going = (next.due, going); moment = record { in_order = omega (arith, when, on_time.soon next.activity next.due next.going); in_range = in_range_then } }
 
       sound_then : IsSound p (after_report c r)
       sound_then = after_report-sound p c r shaped on_time.sound can
 
       punctual : IsPunctualFrom p t c r
       punctual a due going = elim (cases_lt next.due t) [
-        | inl overdue ↦ inl (omega arith)
-        | inr ahead ↦ inr (omega (arith, next.first a due going))
+        | inl overdue ↦ inl (omega (arith, when))
+        | inr ahead ↦ inr (omega (arith, when, next.first a due going))
       ]
 
-      answered : (js : List ℕ) × Settles p (after_report c r) r.at js → LeadsExactly c
+      answered : (js : List ℕ) × Settles p (after_report c r) (at r) js → LeadsExactly c
       answered (js, settles) =
           let step : IsStep p c r js = record { can = can; moves = settles.moves; rest = settles.rest } in
           let found : LeadsExactly (after_step p c r js) = later r js step (record {
@@ -232,19 +242,19 @@ module _ (p : PlannedShop) (rank kept : Node → ℕ) (t : ℕ) (shaped : IsWell
                 (from-within p kept c t c.last r on_time.sound on_time.keeps on_time.none_late punctual);
             none_late = none_late-after p c (after_step p c r js) t kept (λ i. step_more p c r js i shaped on_time.sound step) on_time.none_late;
             soon = λ a due going.
-                let last : (after_step p c r js).last ≤ r.at = moves_last p (after_report c r) r.at js (omega (arith, report_last c r.ended r.at)) in
-                elim (moves-went_on p (after_report c r) r.at js shaped sound_then settles.moves a due going) [
-                  | inl still ↦ omega (arith, next.first a due (report-went_on p c (after_report c r) (after_report-like p c r on_time.sound can) a due still))
-                  | inr begun ↦ omega arith
+                let last : (after_step p c r js).last ≤ at r = moves_last p (after_report c r) (at r) js (omega (arith, report_last c (ended r) (at r))) in
+                elim (moves-went_on p (after_report c r) (at r) js shaped sound_then settles.moves a due going) [
+                  | inl still ↦ omega (arith, when, next.first a due (report-went_on p c (after_report c r) (after_report-like p c r on_time.sound can) a due still))
+                  | inr begun ↦ omega (arith, when)
                 ];
           }) in record {
             reports = r ∷ found.reports;
             events = Reported r ∷ (moved (step_orders p c r js) ++ found.events);
             end = found.end;
             leads = accepted c r js found.reports found.events found.end step found.leads;
-            punctual = (punctual, reports_sooner p (IsPunctualFrom p t) (after_report c r) r.at js found.events found.punctual);
-            not_early = (record { due = next.due; going = next.going; later = omega arith }, reports_sooner p (IsNotEarly p) (after_report c r) r.at js found.events found.not_early);
-            from = moves_from p (after_report c r) t r.at js found.events (omega arith) found.from;
+            punctual = (punctual, reports_sooner p (IsPunctualFrom p t) (after_report c r) (at r) js found.events found.punctual);
+            not_early = (record { due = next.due; going = going; later = omega (arith, when) }, reports_sooner p (IsNotEarly p) (after_report c r) (at r) js found.events found.not_early);
+            from = moves_from p (after_report c r) t (at r) js found.events (omega (arith, when)) found.from;
             gone = found.gone;
           }
 

@@ -5,7 +5,7 @@ use Rattle.shop_base.specs.declared.move_order.MoveOrder.{MoveOrder}
 use Rattle.shop_base.specs.Plan.{PlannedShop, jobs, steps, release, nominal, IsWellShaped}
 use Rattle.shop_base.specs.Cell.{Cell, MachineState, made, since, cleaning, start}
 use Rattle.shop_base.specs.Activity.{Activity, Arrival, Operation, Cleaning, IsAwaited, GoesOn}
-use Rattle.shop_base.specs.Report.{Report, IsNextMoment, after_report}
+use Rattle.shop_base.specs.Report.{Report, at, IsNextMoment, after_report}
 use Rattle.shop_base.specs.Move.{after_move}
 use Rattle.shop_base.specs.Run.{Event, Reported, Moved, AreEvents, after_all, ends_in}
 use Rattle.shop_base.specs.Controlled.{IsControlledRun}
@@ -102,7 +102,7 @@ the_start_is_a_case-holds p shaped = record {
 -- exact reports aren't early, and moves come from moment 0 on
 exact-not_early : (p : PlannedShop) (c : Cell) (es : List Event) → AreExact p c es → AreNotEarly p c es
 exact-not_early p c [] exact = tt
-exact-not_early p c (Reported r ∷ es) exact = (record { due = r.at; going = exact.0.due; later = le_refl r.at }, exact-not_early p (after_report c r) es exact.1)
+exact-not_early p c (Reported r ∷ es) exact = (record { due = at r; going = exact.0.due; later = le_refl (at r) }, exact-not_early p (after_report c r) es exact.1)
 exact-not_early p c (Moved o ∷ es) exact = exact-not_early p (after_move p c o.job o.at) es exact
 
 moves_from_zero : (es : List Event) → MoveFrom 0 es

@@ -4,7 +4,7 @@ use Rattle.std.proofs.lemmas.Bool.{cases_lt}
 use Rattle.shop_base.specs.declared.node.Node.{Node}
 use Rattle.shop_base.specs.Plan.{PlannedShop, jobs, steps, IsWellShaped}
 use Rattle.shop_base.specs.Cell.{Cell, made, IsGone, since}
-use Rattle.shop_base.specs.Report.{Report, after_report}
+use Rattle.shop_base.specs.Report.{Report, ended, at, after_report}
 use Rattle.shop_base.specs.Run.{Event, AreEvents, after_all, ends_in, IsAtRest, Reported, Moved}
 use Rattle.shop_base.specs.Controlled.{AreMoves, after_moves, orders_for, after_step, IsStep, Leads, moved}
 use Rattle.shop_base.specs.Ends.{IsGoneBy}
@@ -16,6 +16,7 @@ use Rattle.shop_base.specs.AheadLaw.{InTimeFromThere, JustInTimeFromThere}
 use Rattle.shop_base.specs.Within.{IsWithin, AreWithin, AreMadeBy, RiseAhead, CanBeKept}
 use Rattle.shop_base.specs.WithinLaw.{InTimeWithin, EachMoveIsInTime, AReportInTimeIsPossible, PunctualReportsAreWithin}
 use Rattle.shop_base.proofs.InShop.{ready_in_shop}
+use Rattle.shop_base.proofs.Reports.{at-report_of}
 use Rattle.shop_base.proofs.Changes.{moves_within}
 use Rattle.shop_base.proofs.Keeping.{after_report-like, after_report-sound, after_move-sound, run-sound}
 use Rattle.shop_base.proofs.ControlledRuns.{leads_induction, moves-events, after_all-moves, after_moves-sound}
@@ -59,7 +60,7 @@ moves_more p c t js j shaped sound moves = rw (after_all-moves p c t js) at (mad
 
 pub step_more : (p : PlannedShop) (c : Cell) (r : Report) (js : List ℕ) (j : ℕ) → IsWellShaped p → IsSound p c → IsStep p c r js → made c j ≤ made (after_step p c r js) j
 step_more p c r js j shaped sound step =
-    omega (arith, (after_report-like p c r sound step.can).made_same j, moves_more p (after_report c r) r.at js j shaped (after_report-sound p c r shaped sound step.can) step.moves)
+    omega (arith, (after_report-like p c r sound step.can).made_same j, moves_more p (after_report c r) (at r) js j shaped (after_report-sound p c r shaped sound step.can) step.moves)
 
 -- where moments rise ahead they do as long as no job makes fewer moves
 rise_later : (p : PlannedShop) (c new : Cell) (kept : Node → ℕ) → ((j : ℕ) → made c j ≤ made new j) → RiseAhead p c kept → RiseAhead p new kept
@@ -69,16 +70,16 @@ rise_later p c new kept more rise u v d ahead arc = rise u v d (omega (arith, mo
 step-soon : (p : PlannedShop) (rank kept : Node → ℕ) (c : Cell) (r : Report) (js : List ℕ) (j : ℕ) → IsWellShaped p → RanksRise p rank → IsSound p c → IsAtRest p c → RiseAhead p c kept → IsStep p c r js → IsWithin p kept c r → j < jobs p
     → KeepsLeaving p kept c j → KeepsLeaving p kept (after_step p c r js) j
 step-soon p rank kept c r js j shaped ranks sound rest rise step within inside keeps =
-    moves-soon p (after_report c r) r.at js j (kept (leaving p j)) shaped (after_report-sound p c r shaped sound step.can) (omega (arith, report_last c r.ended r.at)) step.moves inside (reported keeps)
+    moves-soon p (after_report c r) (at r) js j (kept (leaving p j)) shaped (after_report-sound p c r shaped sound step.can) (omega (arith, report_last c (ended r) (at r))) step.moves inside (reported keeps)
   where
     made_same : made (after_report c r) j ≡ made c j
     made_same = (after_report-like p c r sound step.can).made_same j
 
-    reported : KeepsLeaving p kept c j → IsSoonEnough p (after_report c r) j r.at (kept (leaving p j))
+    reported : KeepsLeaving p kept c j → IsSoonEnough p (after_report c r) j (at r) (kept (leaving p j))
     reported (inl gone) = inl (record { gone = omega (arith, made_same, gone.gone); by = omega (arith, gone.by, (after_report-like p c r sound step.can).since_same j) })
     reported (inr (left, soon)) = elim (cases_lt (steps p j) (made c j)) [
       | inl gone ↦ absurd (left gone)
-      | inr here ↦ (let next : r.at ≤ kept (next_node c j) = within-before p rank kept c r shaped ranks sound rest rise within j inside here in
+      | inr here ↦ (let next : at r ≤ kept (next_node c j) = within-before p rank kept c r shaped ranks sound rest rise within j inside here in
           let along : kept (next_node c j) ≤ kept (leaving p j) = ahead_rises p c kept j (made c j) (steps p j) rise (le_refl (made c j)) here (le_refl (steps p j)) in
           inr ((λ gone. omega (arith, made_same)), omega arith))
     ]
@@ -90,7 +91,7 @@ leads-soon p rank kept c rs es end j shaped ranks sound rest leads inside =
     (λ c sound rest rise keeps within. keeps)
     (λ c r js rs es end sound rest step later rise keeps within.
     later (rise_later p c (after_step p c r js) kept (λ i. step_more p c r js i shaped sound step) rise)
-    (step-soon p rank kept c r js j shaped ranks sound rest rise step within.0 inside keeps) (reports_later p (IsWithin p kept) (after_report c r) r.at js es within.1))
+    (step-soon p rank kept c r js j shaped ranks sound rest rise step within.0 inside keeps) (reports_later p (IsWithin p kept) (after_report c r) (at r) js es within.1))
     (λ c r rs es end sound rest cannot later rise keeps within. later rise keeps within) c rs es end sound rest leads
 
 -- a job that isn't late for its leaving at the present moment isn't in any controlled run that goes on within moments that rise ahead
@@ -139,10 +140,10 @@ leads-made_by p rank kept c rs es end shaped ranks sound rest leads =
     leads_induction p (λ c rs es end. RiseAhead p c kept → AreWithin p kept c es → AreMadeBy p kept c es) shaped
     (λ c sound rest rise within. tt)
     (λ c r js rs es end sound rest step later rise within.
-    moves-made_by p kept (after_report c r) r.at js es shaped (after_report-sound p c r shaped sound step.can) step.moves
-    (none_late-after p c (after_report c r) r.at kept (λ i. omega (arith, (after_report-like p c r sound step.can).made_same i))
-    (λ v left. rise_left p c r.at kept v rise (within-before p rank kept c r shaped ranks sound rest rise within.0) left))
-    (later (rise_later p c (after_step p c r js) kept (λ i. step_more p c r js i shaped sound step) rise) (reports_later p (IsWithin p kept) (after_report c r) r.at js es within.1)))
+    moves-made_by p kept (after_report c r) (at r) js es shaped (after_report-sound p c r shaped sound step.can) step.moves
+    (none_late-after p c (after_report c r) (at r) kept (λ i. omega (arith, (after_report-like p c r sound step.can).made_same i))
+    (λ v left. rise_left p c (at r) kept v rise (within-before p rank kept c r shaped ranks sound rest rise within.0) left))
+    (later (rise_later p c (after_step p c r js) kept (λ i. step_more p c r js i shaped sound step) rise) (reports_later p (IsWithin p kept) (after_report c r) (at r) js es within.1)))
     (λ c r rs es end sound rest cannot later rise within. later rise within) c rs es end sound rest leads
 
 -- where the present moment isn't past that of any node ahead, and the moments rise ahead, each move is made by the moment of its node
@@ -162,7 +163,7 @@ pub a_report_in_time_is_possible-holds : AReportInTimeIsPossible
 a_report_in_time_is_possible-holds p rank kept es t rs fs end run moment schedule goes within a due going =
     let (events, ends, sound, rest) = goes_on_to_run p (ends_in p es) t rs fs end schedule.shaped (run-sound p es schedule.shaped run) goes in
     let fit : KeepsMoments p kept end = moments_still_fit-holds p rank kept es t rs fs end run moment schedule goes within in
-    (sound-reportable p end sound a due going, λ other is_due v goes_on holds. present_left p end end.last kept v fit (held_left p end other is_due v sound goes_on holds))
+    (sound-reportable p end sound a due going, λ other is_due v goes_on holds. omega (arith, at-report_of a end.last, present_left p end end.last kept v fit (held_left p end other is_due v sound goes_on holds)))
 
 -- a report no later than that moment, or than what goes on is due, is within moments that fit
 pub from-within : (p : PlannedShop) (kept : Node → ℕ) (c : Cell) (t u : ℕ) (r : Report) → IsSound p c → MomentsFitAhead p c u kept → IsNoneLate p c t kept → IsPunctualFrom p t c r → IsWithin p kept c r
@@ -179,10 +180,10 @@ leads-within p rank kept c t rs es end shaped ranks sound rest leads =
     (λ c r js rs es end sound rest step later fit none punctual.
     let within : IsWithin p kept c r = from-within p kept c t c.last r sound fit none punctual.0 in (
       within,
-      reports_sooner p (IsWithin p kept) (after_report c r) r.at js es
+      reports_sooner p (IsWithin p kept) (after_report c r) (at r) js es
           (later (step-still_fits p rank kept c r js shaped ranks sound rest fit step within)
           (none_late-after p c (after_step p c r js) t kept (λ i. step_more p c r js i shaped sound step) none)
-          (reports_later p (IsPunctualFrom p t) (after_report c r) r.at js es punctual.1)),
+          (reports_later p (IsPunctualFrom p t) (after_report c r) (at r) js es punctual.1)),
     ))
     (λ c r rs es end sound rest cannot later fit none punctual. later fit none punctual) c rs es end sound rest leads
 

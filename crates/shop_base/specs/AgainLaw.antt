@@ -3,7 +3,7 @@ use Rattle.std.specs.Prelude.{◌≡◌, ℕ, ◌≤◌, List, [], ◌∷◌, �
 use Rattle.shop_base.specs.declared.move_order.Spot.TheVariants.{At}
 use Rattle.shop_base.specs.Plan.{PlannedShop, IsWellShaped}
 use Rattle.shop_base.specs.Activity.{Operation, Cleaning}
-use Rattle.shop_base.specs.Report.{Report, CanReport}
+use Rattle.shop_base.specs.Report.{Report, ended, at, CanReport}
 use Rattle.shop_base.specs.Run.{Event, Reported, Moved, IsRun, ends_in}
 
 -- among the events the job leaves the machine
@@ -15,16 +15,16 @@ HasLeft j m (Moved o ∷ es) = ((o.job ≡ j) × (o.source ≡ At m)) ⊎ HasLef
 -- among the events is the end of an operation on the machine, and behind it the job of that operation leaves it
 abbrev pub HasWorked : ℕ → List Event → Type 0
 HasWorked m [] = ⊥
-HasWorked m (Reported r ∷ es) = ((j : ℕ) × (r.ended ≡ Operation j m) × HasLeft j m es) ⊎ HasWorked m es
+HasWorked m (Reported r ∷ es) = ((j : ℕ) × (ended r ≡ Operation j m) × HasLeft j m es) ⊎ HasWorked m es
 HasWorked m (Moved o ∷ es) = HasWorked m es
 
 -- none of the reports among the events is at a later moment
 abbrev pub IsNoneLater : ℕ → List Event → Type 0
 IsNoneLater t [] = Unit {0}
-IsNoneLater t (Reported r ∷ es) = (r.at ≤ t) × IsNoneLater t es
+IsNoneLater t (Reported r ∷ es) = (at r ≤ t) × IsNoneLater t es
 IsNoneLater t (Moved o ∷ es) = IsNoneLater t es
 
 -- in any run, once an end was reported it can be reported again only of a cleaning, once the end of an operation on that machine was reported since and its job has left, and at no moment before that of a report since
 abbrev pub NoEndIsAcceptedTwice : Type 0
 NoEndIsAcceptedTwice = (p : PlannedShop) (es fs : List Event) (r again : Report) → IsWellShaped p → IsRun p (es ++ Reported r ∷ fs)
-    → again.ended ≡ r.ended → CanReport p (ends_in p (es ++ Reported r ∷ fs)) again → ((m : ℕ) × (r.ended ≡ Cleaning m) × HasWorked m fs) × IsNoneLater again.at fs
+    → ended again ≡ ended r → CanReport p (ends_in p (es ++ Reported r ∷ fs)) again → ((m : ℕ) × (ended r ≡ Cleaning m) × HasWorked m fs) × IsNoneLater (at again) fs

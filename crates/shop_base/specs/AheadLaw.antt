@@ -4,7 +4,7 @@ use Rattle.shop_base.specs.declared.node.Node.{Node}
 use Rattle.shop_base.specs.declared.limits.TheConstants.{MAX_MOMENT}
 use Rattle.shop_base.specs.Plan.{PlannedShop, jobs, IsWellShaped}
 use Rattle.shop_base.specs.Cell.{Cell, start, since, IsGone}
-use Rattle.shop_base.specs.Report.{Report, IsNextMoment, CanReport, after_report}
+use Rattle.shop_base.specs.Report.{Report, at, IsNextMoment, CanReport, after_report}
 use Rattle.shop_base.specs.Run.{Event, IsRun, ends_in, IsAtRest, IsStuck}
 use Rattle.shop_base.specs.Controlled.{AreMoves, after_moves, IsStep, IsControlledRun}
 use Rattle.shop_base.specs.Punctual.{ArePunctualFrom, AreNotEarly}
@@ -47,7 +47,7 @@ NoJobSettlesTwice = (p : PlannedShop) (es : List Event) (t : ℕ) (js : List ℕ
 -- a step of a controlled run that is cut after some of its moves settles, at the moment of its report, by its other moves
 abbrev pub ACutStepSettlesAsItWas : Type 0
 ACutStepSettlesAsItWas = (p : PlannedShop) (c : Cell) (r : Report) (front js : List ℕ)
-    → CanReport p c r → AreMoves p (after_report c r) r.at front → Settles p (after_moves p (after_report c r) r.at front) r.at js
+    → CanReport p c r → AreMoves p (after_report c r) (at r) front → Settles p (after_moves p (after_report c r) (at r) front) (at r) js
     → IsStep p c r (front ++ js)
 
 -- every list of reports leads on from there

@@ -2,7 +2,7 @@
 use Rattle.std.specs.Prelude.{ℕ, List, [], ◌∷◌, ◌++◌}
 use Rattle.shop_base.specs.Plan.{PlannedShop}
 use Rattle.shop_base.specs.Cell.{Cell, start}
-use Rattle.shop_base.specs.Report.{Report, CanReport, after_report}
+use Rattle.shop_base.specs.Report.{Report, at, CanReport, after_report}
 use Rattle.shop_base.specs.Move.{CanMove, KeepsPlan, after_move, order_for}
 use Rattle.shop_base.specs.declared.move_order.MoveOrder.{MoveOrder}
 use Rattle.shop_base.specs.Run.{Event, Reported, Moved, IsAtRest}
@@ -31,16 +31,16 @@ module _ (p : PlannedShop) where
 module _ (p : PlannedShop) (c : Cell) (r : Report) (js : List ℕ) where
   -- the cell after a report, and these jobs' moves at its moment
   abbrev pub after_step : Cell
-  after_step = after_moves p (after_report c r) r.at js
+  after_step = after_moves p (after_report c r) (at r) js
 
   -- the orders of that step
   abbrev pub step_orders : List MoveOrder
-  step_orders = orders_for p (after_report c r) r.at js
+  step_orders = orders_for p (after_report c r) (at r) js
 
   -- a step of the controlled run: the report is possible, the moves keep the plan, and they end at rest
   pub record IsStep : Type 0 where
     pub can : CanReport p c r
-    pub moves : AreMoves p (after_report c r) r.at js
+    pub moves : AreMoves p (after_report c r) (at r) js
     pub rest : IsAtRest p after_step
 
 -- from a cell, reports lead to events and another cell: a possible report makes a step, any other changes nothing

@@ -4,7 +4,7 @@ use Rattle.shop_base.specs.declared.node.Node.{Node}
 use Rattle.shop_base.specs.Plan.{PlannedShop, jobs, IsWellShaped}
 use Rattle.shop_base.specs.Cell.{Cell, start, IsGone}
 use Rattle.shop_base.specs.Activity.{Activity, GoesOn}
-use Rattle.shop_base.specs.Report.{Report, IsNextMoment, after_end}
+use Rattle.shop_base.specs.Report.{Report, report_of, IsNextMoment, after_end}
 use Rattle.shop_base.specs.Run.{Event, Reported, IsRun, ends_in}
 use Rattle.shop_base.specs.Controlled.{IsControlledRun}
 use Rattle.shop_base.specs.Punctual.{AreNotEarly}
@@ -106,5 +106,5 @@ abbrev pub ALateEndIsTooLate : Type 0
 ALateEndIsTooLate = (p : PlannedShop) (rank kept : Node → ℕ) (es : List Event) (a : Activity) (due : ℕ) (v : Node)
     → IsWellShaped p → RanksRise p rank → IsRun p es → AreDeadlines p (ends_in p es) kept → GoesOn p (ends_in p es) a due → HoldsUp p (ends_in p es) a v
     → (j : ℕ) × (j < jobs p) × (IsGone p (ends_in p es) j → ⊥)
-    × ((t : ℕ) (fs : List Event) → kept v < t → IsRun p (es ++ Reported (record { ended = a; at = t }) ∷ fs) → AreNotEarly p (after_end (ends_in p es) a t) fs
-    → IsOutByBudget p (ends_in p (es ++ Reported (record { ended = a; at = t }) ∷ fs)) j → ⊥)
+    × ((t : ℕ) (fs : List Event) → kept v < t → IsRun p (es ++ Reported (report_of a t) ∷ fs) → AreNotEarly p (after_end (ends_in p es) a t) fs
+    → IsOutByBudget p (ends_in p (es ++ Reported (report_of a t) ∷ fs)) j → ⊥)

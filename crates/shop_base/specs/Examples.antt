@@ -5,13 +5,13 @@ use Rattle.shop_base.specs.declared.node.Node.{Node}
 use Rattle.shop_base.specs.Shop.{JobShop}
 use Rattle.shop_base.specs.Plan.{PlannedShop}
 use Rattle.shop_base.specs.Cell.{Cell}
-use Rattle.shop_base.specs.Activity.{Arrival, Operation, Cleaning}
 use Rattle.shop_base.specs.Report.{Report}
 use Rattle.shop_base.specs.declared.move_order.MoveOrder.{MoveOrder}
 use Rattle.shop_base.specs.declared.move_order.Spot.{Spot}
 use Rattle.shop_base.specs.declared.move_order.Spot.TheVariants.{Out, At}
 use Rattle.shop_base.specs.Graph.{node}
 use Rattle.shop_base.specs.Run.{Event, Reported, Moved, ends_in}
+use Rattle.shop_base.specs.declared.report.Report.TheVariants.{Arrive, Finish, Clean}
 
 -- a step on a machine, with its nominal time
 abbrev pub on_for : ℕ → ℕ → Step
@@ -82,15 +82,15 @@ instant = planned (record { machines = 1; routes = (on_for 0 0 ∷ []) ∷ [] })
 
 -- at moment t job j has arrived
 abbrev pub arrive : ℕ → ℕ → Report
-arrive t j = record { ended = Arrival j; at = t }
+arrive t j = Arrive j t
 
 -- at moment t the operation of job j on machine m has ended
 abbrev pub finish : ℕ → ℕ → ℕ → Report
-finish t j m = record { ended = Operation j m; at = t }
+finish t j m = Finish j m t
 
 -- at moment t machine m is clean
 abbrev pub tidy : ℕ → ℕ → Report
-tidy t m = record { ended = Cleaning m; at = t }
+tidy t m = Clean m t
 
 -- the order that job j go from one place to another at moment t
 abbrev pub go : ℕ → ℕ → Spot → Spot → MoveOrder

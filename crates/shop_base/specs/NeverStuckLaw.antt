@@ -4,7 +4,7 @@ use Rattle.shop_base.specs.declared.node.Node.{Node}
 use Rattle.shop_base.specs.Plan.{PlannedShop, IsWellShaped}
 use Rattle.shop_base.specs.Cell.{Cell}
 use Rattle.shop_base.specs.Activity.{Activity, GoesOn}
-use Rattle.shop_base.specs.Report.{Report, CanReport}
+use Rattle.shop_base.specs.Report.{Report, report_of, CanReport}
 use Rattle.shop_base.specs.Run.{Event, IsAtRest, IsStuck}
 use Rattle.shop_base.specs.Controlled.{IsControlledRun}
 use Rattle.shop_base.specs.Ends.{HasEnded}
@@ -12,11 +12,11 @@ use Rattle.shop_base.specs.Graph.{RanksRise}
 
 -- an activity is going on, and a report of it at the last moment is possible
 abbrev pub CanGoOn : PlannedShop → Cell → Type 0
-CanGoOn p c = (a : Activity) × (due : ℕ) × GoesOn p c a due × CanReport p c (record { ended = a; at = c.last })
+CanGoOn p c = (a : Activity) × (due : ℕ) × GoesOn p c a due × CanReport p c (report_of a c.last)
 
 -- each activity that is going on can be reported at the last moment
 abbrev pub CanReportEach : PlannedShop → Cell → Type 0
-CanReportEach p c = (a : Activity) (due : ℕ) → GoesOn p c a due → CanReport p c (record { ended = a; at = c.last })
+CanReportEach p c = (a : Activity) (due : ℕ) → GoesOn p c a due → CanReport p c (report_of a c.last)
 
 -- never stuck: where ranks rise along every arc, each controlled run ends at rest and not stuck, it has ended or can go on, and each activity can be reported
 abbrev pub NeverStuck : Type 0

@@ -3,28 +3,28 @@ use Rattle.std.specs.Prelude.{ℕ, ◌≤◌, ◌⊎◌, List, [], ◌∷◌}
 use Rattle.shop_base.specs.Plan.{PlannedShop}
 use Rattle.shop_base.specs.Cell.{Cell}
 use Rattle.shop_base.specs.Activity.{Activity, GoesOn}
-use Rattle.shop_base.specs.Report.{Report}
+use Rattle.shop_base.specs.Report.{Report, ended, at}
 use Rattle.shop_base.specs.Run.{Event, Reported, Moved, after}
 
 module _ (p : PlannedShop) (c : Cell) where
   -- the report is no later than any activity going on is due, its own included
   abbrev pub IsPunctual : Report → Type 0
-  IsPunctual r = (a : Activity) (due : ℕ) → GoesOn p c a due → r.at ≤ due
+  IsPunctual r = (a : Activity) (due : ℕ) → GoesOn p c a due → at r ≤ due
 
   -- it is punctual, and its own activity goes on and is due at exactly its moment
   pub record IsExact (r : Report) : Type 0 where
     pub punctual : IsPunctual r
-    pub due : GoesOn p c r.ended r.at
+    pub due : GoesOn p c (ended r) (at r)
 
   -- it comes when its own activity is due, or later
   pub record IsNotEarly (r : Report) : Type 0 where
     pub due : ℕ
-    pub going : GoesOn p c r.ended due
-    pub later : due ≤ r.at
+    pub going : GoesOn p c (ended r) due
+    pub later : due ≤ at r
 
 -- the report is no later than moment t, or than any activity going on is due: what was overdue at t ends at t
 abbrev pub IsPunctualFrom : PlannedShop → ℕ → Cell → Report → Type 0
-IsPunctualFrom p t c r = (a : Activity) (due : ℕ) → GoesOn p c a due → (r.at ≤ t) ⊎ (r.at ≤ due)
+IsPunctualFrom p t c r = (a : Activity) (due : ℕ) → GoesOn p c a due → (at r ≤ t) ⊎ (at r ≤ due)
 
 module _ (p : PlannedShop) where
   -- each report among the events is so, in the cell before it

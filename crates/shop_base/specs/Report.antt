@@ -1,14 +1,29 @@
 -- The report of an activity's end: when it is possible, and the cell after it.
 use Rattle.std.specs.Prelude.{ℕ, ◌≤◌, None, true}
 use Rattle.shop_base.specs.declared.limits.TheConstants.{MAX_MOMENT}
+pub use Rattle.shop_base.specs.declared.report.Report.{Report}
+use Rattle.shop_base.specs.declared.report.Report.TheVariants.{Arrive, Finish, Clean}
 use Rattle.shop_base.specs.Plan.{PlannedShop}
 use Rattle.shop_base.specs.Cell.{Cell, job_in, machine_in, with_job, with_machine}
 use Rattle.shop_base.specs.Activity.{Activity, Arrival, Operation, Cleaning, GoesOn}
 
--- an activity is said to have ended at a moment
-pub record Report : Type 0 where
-  pub ended : Activity
-  pub at : ℕ
+-- the activity that is said to have ended
+abbrev pub ended : Report → Activity
+ended (Arrive job moment) = Arrival job
+ended (Finish job machine moment) = Operation job machine
+ended (Clean machine moment) = Cleaning machine
+
+-- the moment at which it is said to have ended
+abbrev pub at : Report → ℕ
+at (Arrive job moment) = moment
+at (Finish job machine moment) = moment
+at (Clean machine moment) = moment
+
+-- the report that an activity has ended at a moment
+abbrev pub report_of : Activity → ℕ → Report
+report_of (Arrival j) t = Arrive j t
+report_of (Operation j m) t = Finish j m t
+report_of (Cleaning m) t = Clean m t
 
 -- t can be the next moment: it isn't before the last one, nor past the latest
 pub record IsNextMoment (c : Cell) (t : ℕ) : Type 0 where
@@ -17,8 +32,8 @@ pub record IsNextMoment (c : Cell) (t : ℕ) : Type 0 where
 
 -- the report is possible: its activity is going on, and its moment can be the next
 pub record CanReport (p : PlannedShop) (c : Cell) (r : Report) : Type 0 where
-  pub going : (due : ℕ) × GoesOn p c r.ended due
-  pub moment : IsNextMoment c r.at
+  pub going : (due : ℕ) × GoesOn p c (ended r) due
+  pub moment : IsNextMoment c (at r)
 
 module _ (c : Cell) where
   -- the cell once job j has become ready, at moment t
@@ -37,4 +52,4 @@ module _ (c : Cell) where
 
   -- the cell after a report
   abbrev pub after_report : Report → Cell
-  after_report r = after_end r.ended r.at
+  after_report r = after_end (ended r) (at r)

@@ -4,7 +4,7 @@ use Rattle.shop_base.specs.declared.node.Node.{Node}
 use Rattle.shop_base.specs.Plan.{PlannedShop, jobs, steps}
 use Rattle.shop_base.specs.Cell.{Cell, made}
 use Rattle.shop_base.specs.Activity.{Activity, GoesOn}
-use Rattle.shop_base.specs.Report.{Report}
+use Rattle.shop_base.specs.Report.{Report, ended, at}
 use Rattle.shop_base.specs.Run.{Event, Reported, Moved, after}
 use Rattle.shop_base.specs.Punctual.{EachReport}
 use Rattle.shop_base.specs.Graph.{Arc, leaving}
@@ -13,7 +13,7 @@ use Rattle.shop_base.specs.Ahead.{next_node, IsAhead, HoldsUp}
 module _ (p : PlannedShop) (kept : Node → ℕ) where
   -- the report comes at or before the moment kept for each node that an activity going on holds up, its own included
   abbrev pub IsWithin : Cell → Report → Type 0
-  IsWithin c r = (a : Activity) (due : ℕ) (v : Node) → GoesOn p c a due → HoldsUp p c a v → r.at ≤ kept v
+  IsWithin c r = (a : Activity) (due : ℕ) (v : Node) → GoesOn p c a due → HoldsUp p c a v → at r ≤ kept v
 
   -- each report among the events does
   abbrev pub AreWithin : Cell → List Event → Type 0
@@ -21,7 +21,7 @@ module _ (p : PlannedShop) (kept : Node → ℕ) where
 
   -- the report comes at or before the moment kept for each node that its own activity holds up
   abbrev pub IsByItsOwn : Cell → Report → Type 0
-  IsByItsOwn c r = (v : Node) → HoldsUp p c r.ended v → r.at ≤ kept v
+  IsByItsOwn c r = (v : Node) → HoldsUp p c (ended r) v → at r ≤ kept v
 
   -- each report among the events does
   abbrev pub AreByTheirOwn : Cell → List Event → Type 0

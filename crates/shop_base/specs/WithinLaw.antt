@@ -4,7 +4,7 @@ use Rattle.shop_base.specs.declared.node.Node.{Node}
 use Rattle.shop_base.specs.Plan.{PlannedShop, jobs, IsWellShaped}
 use Rattle.shop_base.specs.Cell.{Cell, IsGone}
 use Rattle.shop_base.specs.Activity.{Activity, GoesOn, IsIdle}
-use Rattle.shop_base.specs.Report.{Report, IsNextMoment, CanReport}
+use Rattle.shop_base.specs.Report.{Report, report_of, IsNextMoment, CanReport}
 use Rattle.shop_base.specs.Run.{Event, IsRun, ends_in}
 use Rattle.shop_base.specs.Punctual.{ArePunctualFrom}
 use Rattle.shop_base.specs.Ends.{IsInTime, IsOutByBudget}
@@ -39,7 +39,7 @@ AReportInTimeIsPossible = (p : PlannedShop) (rank kept : Node → ℕ) (es : Lis
     → IsRun p es → IsNextMoment (ends_in p es) t → IsScheduleAhead p (ends_in p es) t rank kept
     → GoesOnTo p (ends_in p es) t rs fs end → AreWithin p kept (ends_in p es) fs
     → (a : Activity) (due : ℕ) → GoesOn p end a due
-    → CanReport p end (record { ended = a; at = end.last }) × IsWithin p kept end (record { ended = a; at = end.last })
+    → CanReport p end (report_of a end.last) × IsWithin p kept end (report_of a end.last)
 
 -- punctual reports are within moments that fit, and so they are where what was overdue at the present moment ends at it
 abbrev pub PunctualReportsAreWithin : Type 0

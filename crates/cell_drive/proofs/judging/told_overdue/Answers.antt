@@ -1,4 +1,4 @@
-use Rattle.cell_tables.specs.Reports.{said}
+use Rattle.shop_base.specs.Report.{at}
 use Rattle.cell_drive.specs.Refusals.{standing_of}
 use Rattle.cell_drive.specs.States.{overdue_in}
 use Rattle.cell_drive.proofs.OnTime.{nothing_overdue, untold}
@@ -14,4 +14,4 @@ pub returns-then-not-late : goal.returns-then-not-late
 returns-then-not-late g c =
     let v = c.args.cell.now in
     let own = standing_of v.plan v.cell c.args.report in
-    untold c.args.manner.tells (overdue_in v.plan v.cell own (said c.args.report).at) (nothing_overdue v.plan v.cell (said c.args.report).at (c.requires.on_time c.if-not-late.true) own)
+    untold c.args.manner.tells (overdue_in v.plan v.cell own (at c.args.report)) (nothing_overdue v.plan v.cell (at c.args.report) (c.requires.on_time c.if-not-late.true) own)

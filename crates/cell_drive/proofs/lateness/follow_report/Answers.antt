@@ -1,8 +1,6 @@
 use Rattle.std.proofs.Common.{ap, sym, subst, ◌∙◌, List, ℕ, Option}
-use Rattle.shop_base.specs.Activity.{Arrival, Operation}
 use Rattle.shop_base.specs.Report.{CanReport, after_report}
-use Rattle.cell_tables.specs.declared.report.Report.{Report}
-use Rattle.cell_tables.specs.Reports.{said}
+use Rattle.shop_base.specs.declared.report.Report.TheVariants.{Arrive, Finish}
 use Rattle.cell_control.specs.DueMoments.{AreDueMoments}
 use Rattle.cell_drive.proofs.FollowedEvents.{arrived_dues, late_exactly, worked_dues}
 use Rattle.cell_drive.proofs.lateness.follow_report.Goals as goal
@@ -10,32 +8,32 @@ use Rattle.cell_drive.proofs.lateness.follow_report.Goals as goal
 pub returns-in-Arrive-clause-late : goal.returns-in-Arrive-clause-late
 returns-in-Arrive-clause-late g c =
     let v = c.args.cell.now in
-    late_exactly v.plan v.cell (g.D.Dues.dues c.args.dues.now) c.shaped-plan.ensures.sound c.requires.due_moments (said c.args.report) c.at.result c.is_past_due-late.result c.at.ensures c.is_past_due-late.ensures
+    late_exactly v.plan v.cell (g.D.Dues.dues c.args.dues.now) c.shaped-plan.ensures.sound c.requires.due_moments c.args.report c.at.result c.is_past_due-late.result c.at.ensures c.is_past_due-late.ensures
 
 pub returns-in-Arrive-clause-due_moments : goal.returns-in-Arrive-clause-due_moments
 returns-in-Arrive-clause-due_moments g c =
     let v = c.args.cell.now in
     let new = c.end.new.self.cell in
-    let can : CanReport v.plan v.cell (record { ended = Arrival c.in-Arrive.job; at = c.in-Arrive.at }) = subst (λ (r : Report). CanReport v.plan v.cell (said r)) c.in-Arrive.is c.requires.possible in
+    let can : CanReport v.plan v.cell (Arrive c.in-Arrive.job c.in-Arrive.at) = subst (CanReport v.plan v.cell) c.in-Arrive.is c.requires.possible in
     subst (λ (ds : List (Option ℕ)). AreDueMoments v.plan new ds) (sym c.clear.ensures)
     (arrived_dues v.plan v.cell (g.D.Dues.dues c.args.dues.now) c.shaped-plan.ensures.sound c.requires.due_moments new c.in-Arrive.job c.in-Arrive.at can
-    (ap (λ x. x.cell) c.end.ensures ∙ ap (λ (r : Report). after_report v.cell (said r)) c.in-Arrive.is))
+    (ap (λ x. x.cell) c.end.ensures ∙ ap (after_report v.cell) c.in-Arrive.is))
 
 pub returns-in-Finish-clause-late : goal.returns-in-Finish-clause-late
 returns-in-Finish-clause-late g c =
     let v = c.args.cell.now in
-    late_exactly v.plan v.cell (g.D.Dues.dues c.args.dues.now) c.shaped-plan.ensures.sound c.requires.due_moments (said c.args.report) c.at.result c.is_past_due-late.result c.at.ensures c.is_past_due-late.ensures
+    late_exactly v.plan v.cell (g.D.Dues.dues c.args.dues.now) c.shaped-plan.ensures.sound c.requires.due_moments c.args.report c.at.result c.is_past_due-late.result c.at.ensures c.is_past_due-late.ensures
 
 pub returns-in-Finish-clause-due_moments : goal.returns-in-Finish-clause-due_moments
 returns-in-Finish-clause-due_moments g c =
     let v = c.args.cell.now in
     let new = c.end.new.self.cell in
-    let can : CanReport v.plan v.cell (record { ended = Operation c.in-Finish.job c.in-Finish.machine; at = c.in-Finish.at }) = subst (λ (r : Report). CanReport v.plan v.cell (said r)) c.in-Finish.is c.requires.possible in
+    let can : CanReport v.plan v.cell (Finish c.in-Finish.job c.in-Finish.machine c.in-Finish.at) = subst (CanReport v.plan v.cell) c.in-Finish.is c.requires.possible in
     subst (λ (ds : List (Option ℕ)). AreDueMoments v.plan new ds) (sym c.clear-in-Finish.ensures)
     (worked_dues v.plan v.cell (g.D.Dues.dues c.args.dues.now) c.shaped-plan.ensures.sound c.requires.due_moments new c.in-Finish.job c.in-Finish.machine c.in-Finish.at can
-    (ap (λ x. x.cell) c.end.ensures ∙ ap (λ (r : Report). after_report v.cell (said r)) c.in-Finish.is))
+    (ap (λ x. x.cell) c.end.ensures ∙ ap (after_report v.cell) c.in-Finish.is))
 
 pub returns-in-Clean-clause-late : goal.returns-in-Clean-clause-late
 returns-in-Clean-clause-late g c =
     let v = c.args.cell.now in
-    late_exactly v.plan v.cell (g.D.Dues.dues c.args.dues.now) c.shaped-plan.ensures.sound c.requires.due_moments (said c.args.report) c.at.result c.is_past_due-late.result c.at.ensures c.is_past_due-late.ensures
+    late_exactly v.plan v.cell (g.D.Dues.dues c.args.dues.now) c.shaped-plan.ensures.sound c.requires.due_moments c.args.report c.at.result c.is_past_due-late.result c.at.ensures c.is_past_due-late.ensures

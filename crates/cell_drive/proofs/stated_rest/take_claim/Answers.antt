@@ -1,8 +1,6 @@
 use Rattle.std.proofs.Common.{◌∙◌, sym, subst, ap}
 use Rattle.shop_base.specs.Report.{CanReport}
 use Rattle.byte_streams.specs.Lent.{taker_of}
-use Rattle.cell_tables.specs.declared.report.Report.{Report}
-use Rattle.cell_tables.specs.Reports.{said}
 use Rattle.cell_drive.specs.RestCell.{rest_by}
 use Rattle.cell_drive.specs.Stated.{told_overdue}
 use Rattle.cell_drive.proofs.LineAnswers.{was_answered}
@@ -13,7 +11,7 @@ use Rattle.cell_drive.proofs.stated_rest.take_claim.Goals as goal
 pub take_possible-ack-requires-clause-possible : goal.take_possible-ack-requires-clause-possible
 take_possible-ack-requires-clause-possible g c =
     let v = c.args.controller.now in
-    subst (λ (r : Report). CanReport v.planned v.cell (said r)) (sym c.report-report.ensures) (can_report v.planned v.cell c.args.claim c.requires.taken.0)
+    subst (CanReport v.planned v.cell) (sym c.report-report.ensures) (can_report v.planned v.cell c.args.claim c.requires.taken.0)
 
 pub returns-clause-answered : goal.returns-clause-answered
 returns-clause-answered g c number =

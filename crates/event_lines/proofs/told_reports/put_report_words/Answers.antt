@@ -1,5 +1,5 @@
 use Rattle.std.proofs.Common.{sym, ap, ◌∙◌}
-use Rattle.cell_tables.specs.declared.report.Report.{Report}
+use Rattle.shop_base.specs.declared.report.Report.{Report}
 use Rattle.event_lines.specs.Words.{words_before}
 use Rattle.event_lines.specs.EventLines.{told_words}
 use Rattle.event_lines.proofs.told_reports.put_report_words.Goals as goal

@@ -4,6 +4,7 @@ use Rattle.shop_base.specs.Cell.{start, Cell}
 use Rattle.shop_base.specs.Run.{Event, Reported, Moved}
 use Rattle.shop_base.specs.Controlled.{IsControlledRun, Leads}
 use Rattle.shop_base.specs.Examples.{in_series, arrive, waiting_reports, waiting_log, waiting_after, waiting_end}
+use Rattle.shop_base.specs.Report.{at}
 use Rattle.shop_base.proofs.OneControlledRun.{controlled_run_once}
 use Rattle.shop_base.proofs.CellTests.{events_decides}
 use Rattle.shop_base.proofs.RunTests.{turns_lead, rest_decides, ended_decides, turn_events, turn_end}
@@ -15,7 +16,7 @@ abbrev turns : List (Option (List ℕ))
 turns = Some (0 ∷ []) ∷ Some [] ∷ Some (0 ∷ []) ∷ Some (0 ∷ 1 ∷ []) ∷ Some (1 ∷ []) ∷ Some (1 ∷ []) ∷ []
 
 abbrev moment_of : Event → ℕ
-moment_of (Reported r) = r.at
+moment_of (Reported r) = at r
 moment_of (Moved o) = o.at
 
 eager : Leads in_series (start in_series) waiting_reports (turn_events in_series (start in_series) waiting_reports turns) (turn_end in_series (start in_series) waiting_reports turns)
