@@ -3,9 +3,9 @@ use Rattle.std.proofs.Common.{◌≡◌, ℕ, ◌+◌, ◌-◌, ◌^◌, ◌<◌
 use Rattle.std.specs.Prelude.{IsTrue}
 use Rattle.smallvec.specs.SmallVec.{SmallVec}
 use Rattle.shop_base.specs.declared.move_order.MoveOrder.{MoveOrder}
+use Rattle.shop_base.specs.declared.report.Report.{Report}
 use Rattle.shop_base.specs.Plan.{jobs}
 use Rattle.shop_base.specs.Cell.{start}
-use Rattle.shop_base.specs.Report.{Report}
 use Rattle.shop_base.specs.Run.{IsAtRest}
 use Rattle.shop_base.specs.Sound.{IsSound}
 use Rattle.shop_base.specs.Ends.{stated_number}

@@ -2,10 +2,11 @@
 use Rattle.std.proofs.Common.{◌≡◌, ℕ, ◌-◌, ◌<◌, None, Some, List, [], ◌∷◌, length, ◌⊎◌, inl, inr, sym, ap, ◌∙◌, refl, subst, arith, length-append}
 use Rattle.std.proofs.lemmas.Bool.{cases_eq}
 use Rattle.shop_base.specs.declared.job_state.JobState.{JobState}
+use Rattle.shop_base.specs.declared.report.Report.{Report}
 use Rattle.shop_base.specs.Plan.{PlannedShop, job_at, Visits, IsWellShaped}
 use Rattle.shop_base.specs.Cell.{Cell, made, entries, cleaning, start, IsFree}
 use Rattle.shop_base.specs.Activity.{Cleaning}
-use Rattle.shop_base.specs.Report.{Report, ended, at, CanReport, after_end, after_report}
+use Rattle.shop_base.specs.Report.{ended, at, CanReport, after_end, after_report}
 use Rattle.shop_base.specs.Move.{after_move}
 use Rattle.shop_base.specs.Run.{Event, Reported, Moved, CanHappen, AreEvents, after, after_all, ends_in}
 use Rattle.shop_base.specs.Sound.{IsSound}

@@ -2,10 +2,11 @@
 use Rattle.std.proofs.Common.{◌≡◌, ℕ, ◌-◌, ◌<◌, ◌≤◌, refl, sym, ap, ◌∙◌, arith, cond, eqb, ◌⊎◌, inl, inr}
 use Rattle.std.proofs.lemmas.Bool.{cases_lt}
 use Rattle.shop_base.specs.declared.limits.TheConstants.{MAX_MOMENT}
+use Rattle.shop_base.specs.declared.report.Report.{Report}
 use Rattle.shop_base.specs.Plan.{PlannedShop, machine_of}
 use Rattle.shop_base.specs.Cell.{Cell, made}
 use Rattle.shop_base.specs.Activity.{Activity, Arrival, Operation, Cleaning}
-use Rattle.shop_base.specs.Report.{Report, ended, at}
+use Rattle.shop_base.specs.Report.{ended, at}
 use Rattle.cell_control.specs.declared.report_fault.ReportFault.{ReportFault}
 use Rattle.cell_control.specs.declared.report_fault.ReportFault.TheVariants.{JobOutOfRange, MachineOutOfRange, MomentTooLarge, Backwards, NotExpected, WrongKind, WrongMachine}
 use Rattle.cell_control.specs.Reports.{IsOfShop, IsOfNoJob, IsOfNoMachine, IsUnexpected, IsOtherKind, IsElsewhere, IsFirstReason, IsOnlyReason}

@@ -5,9 +5,9 @@ ghost use Rattle.shop_base.specs.Report.{CanReport, IsNextMoment};
 ghost use Rattle.cell_control.specs.Reports.{IsFirstReason, IsFirstCleanReason, CanCleanAfter, IsMomentReason, IsJobReason, IsBusyInTurn};
 
 use crate::report_fault::ReportFault;
-use cell_tables::{Report, WorkCell};
+use cell_tables::WorkCell;
 use shop_base::limits::MAX_MOMENT;
-use shop_base::{JobNo, MachineNo, Moment, Planned};
+use shop_base::{JobNo, MachineNo, Moment, Planned, Report};
 
 /// Checks that the report is possible.
 pub fn check_report<P: Planned>(cell: &WorkCell<P>, report: Report) -> Result<(), ReportFault>

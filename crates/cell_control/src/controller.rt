@@ -21,9 +21,9 @@ use crate::report::{Ack, Phase};
 use crate::report_fault::ReportFault;
 use crate::reserved::reserve;
 use crate::step::{is_past_due, make_step, still_punctual};
-use cell_tables::{Report, WorkCell};
+use cell_tables::WorkCell;
 use plan_verifier::Verified;
-use shop_base::{JobNo, MachineNo, Moment, MoveOrder};
+use shop_base::{JobNo, MachineNo, Moment, MoveOrder, Report};
 use std::alloc::{AllocError, Global};
 use std::marker::Model;
 

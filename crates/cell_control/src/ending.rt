@@ -9,8 +9,8 @@ ghost use Rattle.cell_control.specs.Sequences.{OnlyMay};
 
 use crate::due_moments::cleaning_key;
 use crate::dues::Dues;
-use cell_tables::{Report, WorkCell};
-use shop_base::{JobNo, Planned};
+use cell_tables::WorkCell;
+use shop_base::{JobNo, Planned, Report};
 
 /// Ends the activity of a possible report, and returns the job that may be able to move then.
 pub(crate) fn end_activity<P: Planned, D: Dues>(

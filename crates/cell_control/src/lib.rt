@@ -27,7 +27,6 @@ mod scan_dues;
 mod step;
 mod tourney_dues;
 
-pub use cell_tables::Report;
 pub use checking::{check_cleaning_after, check_report};
 pub use controller::Controller;
 pub use due_moments::{renew_job, renew_machine};
@@ -38,6 +37,6 @@ pub use releasing::Orders;
 pub use report::{Ack, Phase};
 pub use report_fault::ReportFault;
 pub use scan_dues::ScanDues;
-pub use shop_base::{MoveOrder, Spot};
+pub use shop_base::{MoveOrder, Report, Spot};
 pub use step::{is_past_due, make_step};
 pub use tourney_dues::TourneyDues;

@@ -11,8 +11,8 @@ use crate::dues::Dues;
 use crate::ending::end_activity;
 use crate::releasing::{Orders, release_moves};
 use crate::report::Ack;
-use cell_tables::{Report, WorkCell};
-use shop_base::{Moment, Planned};
+use cell_tables::WorkCell;
+use shop_base::{Moment, Planned, Report};
 
 /// Makes the step of a possible report. The orders of the last one are dropped.
 pub fn make_step<P: Planned, D: Dues>(

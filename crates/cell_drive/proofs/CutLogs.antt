@@ -1,10 +1,10 @@
 -- A log that was cut is taken up.
 use Rattle.std.proofs.Common.{◌≡◌, ℕ, ◌+◌, List, [], ◌∷◌, ◌++◌, map, Option, Some, None, length, ◌⊎◌, inl, inr, refl, sym, ap, ◌∙◌, subst, arith, append_assoc, append-nil}
+use Rattle.shop_base.specs.declared.report.Report.{Report}
 use Rattle.shop_base.specs.Plan.{PlannedShop, IsWellShaped}
 use Rattle.shop_base.specs.Cell.{Cell, start}
 use Rattle.shop_base.specs.Run.{Event, Reported, IsRun}
 use Rattle.shop_base.specs.Controlled.{Leads, accepted, done, refused, moved, step_orders, after_step, IsControlledRun}
-use Rattle.shop_base.specs.declared.report.Report.{Report}
 use Rattle.shop_base.proofs.ControlledRuns.{controlled_to_run}
 use Rattle.text_lines.specs.Lines.{lines_of, ended_lines}
 use Rattle.cell_tables.specs.declared.entry.Entry.{Entry}
@@ -94,16 +94,15 @@ report_leads p before end number report text more entries (inl is) = record {
   leads = subst (Leads p before.cell [] []) (sym is.next_is) (done before.cell);
 }
 report_leads p before end number report text more entries (inr is) =
-    let r = report in
-    let orders = step_orders p before.cell r is.movers in
-    let next = after_step p before.cell r is.movers in
+    let orders = step_orders p before.cell report is.movers in
+    let next = after_step p before.cell report is.movers in
     let moves : moved orders ++ [] ≡ events_of (map OrderEntry orders) = append-nil (moved orders) ∙ sym (events-orders orders) in
     record {
       more = ReportEntry report ∷ map OrderEntry orders;
       entries = entries ∙ ap (λ (es : List Entry). before.entries ++ es) is.events_are;
-      reports = r ∷ [];
-      leads = subst (Leads p before.cell (r ∷ []) (events_of (ReportEntry report ∷ map OrderEntry orders))) (sym is.next_is)
-          (subst (λ es. Leads p before.cell (r ∷ []) (Reported r ∷ es) next) moves (accepted before.cell r is.movers [] [] next is.step (done next)));
+      reports = report ∷ [];
+      leads = subst (Leads p before.cell (report ∷ []) (events_of (ReportEntry report ∷ map OrderEntry orders))) (sym is.next_is)
+          (subst (λ es. Leads p before.cell (report ∷ []) (Reported report ∷ es) next) moves (accepted before.cell report is.movers [] [] next is.step (done next)));
     }
 
 line_leads : (p : PlannedShop) (before end : DrivenCell) (number : ℕ) (line : Option (List ℕ)) (text : List ℕ) → CellAnswers p before number line text end → AreLed p before end

@@ -2,9 +2,10 @@
 use Rattle.std.proofs.Common.{◌≡◌, ◌↔◌, ℕ, ◌+◌, ◌<◌, Bool, false, List, [], ◌∷◌, ◌++◌, length, set, take, drop, drop-cons, get_or, add-one, Option, None, sym, ap, ◌∙◌, subst, arith, cond}
 use Rattle.std.proofs.lemmas.List.{take_more}
 use Rattle.shop_base.specs.declared.job_state.JobState.{JobState}
+use Rattle.shop_base.specs.declared.report.Report.{Report}
 use Rattle.shop_base.specs.Plan.{PlannedShop, jobs, machines}
 use Rattle.shop_base.specs.Cell.{Cell, MachineState, job_in, cleaning}
-use Rattle.shop_base.specs.Report.{Report, at, CanReport, with_ready, with_clean}
+use Rattle.shop_base.specs.Report.{at, CanReport, with_ready, with_clean}
 use Rattle.shop_base.specs.Punctual.{IsPunctual}
 use Rattle.shop_base.specs.Run.{AreEvents, after, after_all}
 use Rattle.shop_base.specs.Movers.{due_of_job, due_of_cleaning, due_after}

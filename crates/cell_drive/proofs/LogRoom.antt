@@ -2,12 +2,12 @@
 use Rattle.std.proofs.Common.{◌≡◌, ◌+◌, ◌*◌, ◌≤◌, List, [], ◌∷◌, ◌++◌, length, map, refl, sym, ap, ◌∙◌, arith, subst, length-append}
 use Rattle.std.proofs.lemmas.List.{length-map}
 use Rattle.shop_base.specs.declared.move_order.MoveOrder.{MoveOrder}
+use Rattle.shop_base.specs.declared.report.Report.{Report}
 use Rattle.shop_base.specs.Plan.{PlannedShop}
 use Rattle.shop_base.specs.Cell.{start}
 use Rattle.shop_base.specs.Run.{Event, Reported, Moved}
 use Rattle.shop_base.specs.Controlled.{moved, step_orders, after_step, done, IsControlledRun}
 use Rattle.shop_base.specs.Ends.{reports_in, moves_in, stated_number}
-use Rattle.shop_base.specs.declared.report.Report as told
 use Rattle.shop_base.proofs.Appending.{leads_more}
 use Rattle.shop_base.proofs.StatedNumber.{ends_on_the_stated_number-holds, orders_never_outnumber_reports-holds}
 use Rattle.cell_control.specs.declared.report.Ack.{Ack}
@@ -63,7 +63,7 @@ driven-never_full s driven =
     let reserved = driven.reserved in
     record { reserved = reserved; fits = omega (arith, reports, moves, reserved, length-events s.log.entries, length-counts (events_of s.log.entries)) }
 
-module _ (s : DriveState) (report : told.Report) (ack : Ack) (after : Control) (driven : IsDriven s) (answered : IsAnswered s.control report ack after) where
+module _ (s : DriveState) (report : Report) (ack : Ack) (after : Control) (driven : IsDriven s) (answered : IsAnswered s.control report ack after) where
   abbrev p : PlannedShop
   p = s.control.plan.planned
 

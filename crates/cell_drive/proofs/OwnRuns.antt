@@ -1,9 +1,9 @@
 -- Controlled runs of their own reports, and of events with orders behind them.
 use Rattle.std.proofs.Common.{◌≡◌, List, [], ◌∷◌, ◌++◌, map, refl, sym, ap, ◌∙◌, subst}
 use Rattle.shop_base.specs.declared.move_order.MoveOrder.{MoveOrder}
+use Rattle.shop_base.specs.declared.report.Report.{Report}
 use Rattle.shop_base.specs.Plan.{PlannedShop}
 use Rattle.shop_base.specs.Cell.{Cell, start}
-use Rattle.shop_base.specs.Report.{Report}
 use Rattle.shop_base.specs.Run.{Event, Reported, AreEvents, after}
 use Rattle.shop_base.specs.Controlled.{moved, step_orders, Leads, done, accepted, refused}
 use Rattle.cell_tables.specs.declared.entry.Entry.{Entry}

@@ -1,9 +1,9 @@
 -- What an accepted plan promises at the start of a run, and after each of its reports.
 use Rattle.std.proofs.Common.{◌≡◌, List, [], ◌∷◌, ◌++◌, refl, sym, subst}
 use Rattle.shop_base.specs.declared.move_order.MoveOrder.{MoveOrder}
+use Rattle.shop_base.specs.declared.report.Report.{Report}
 use Rattle.shop_base.specs.Plan.{PlannedShop, IsWellShaped}
 use Rattle.shop_base.specs.Cell.{Cell, start}
-use Rattle.shop_base.specs.Report.{Report}
 use Rattle.shop_base.specs.Run.{Event, Reported, Moved, ends_in}
 use Rattle.shop_base.specs.Controlled.{moved, step_orders, after_step, Leads, done, accepted, refused, IsControlledRun}
 use Rattle.shop_base.proofs.ControlledRuns.{controlled_to_run}

@@ -1,5 +1,6 @@
 -- What a driven cell wrote, as a log is read.
 use Rattle.std.proofs.Common.{◌≡◌, ℕ, ◌+◌, Bool, true, false, cond, List, [], ◌∷◌, ◌++◌, Option, Some, None, codes, map, refl, sym, ap, ◌∙◌, subst, inl, inr, append_assoc, append-nil}
+use Rattle.shop_base.specs.declared.report.Report.{Report}
 use Rattle.shop_base.specs.Plan.{PlannedShop, IsWellShaped}
 use Rattle.shop_base.specs.Cell.{Cell}
 use Rattle.shop_base.specs.Report.{at, after_report}
@@ -7,7 +8,6 @@ use Rattle.shop_base.specs.Move.{order_for, after_move}
 use Rattle.shop_base.specs.Run.{AreEvents, after_all, IsRun, ends_in}
 use Rattle.shop_base.specs.Controlled.{moved, AreMoves, IsStep, after_step, orders_for, step_orders}
 use Rattle.shop_base.specs.Sound.{IsSound}
-use Rattle.shop_base.specs.declared.report.Report.{Report}
 use Rattle.shop_base.proofs.Keeping.{after_report-sound, after_move-sound}
 use Rattle.shop_base.proofs.ControlledRuns.{events_join, after_all_join, moves-events, after_all-moves}
 use Rattle.text_lines.specs.Lines.{lines_of}
@@ -83,15 +83,14 @@ module _ (p : PlannedShop) where
         → end.entries ≡ before.entries ++ ReportEntry report ∷ map OrderEntry (step_orders p before.cell report movers) → end.cell ≡ after_step p before.cell report movers → AreTold before text end
     step_told before report text end movers sound step tells entries next_is =
         let c = before.cell in
-        let r = report in
-        let next = after_report c r in
-        let moves : events_of (map OrderEntry (step_orders p c r movers)) ≡ moved (step_orders p c r movers) = events-orders (step_orders p c r movers) in
+        let next = after_report c report in
+        let moves : events_of (map OrderEntry (step_orders p c report movers)) ≡ moved (step_orders p c report movers) = events-orders (step_orders p c report movers) in
         record {
-          more = ReportEntry report ∷ map OrderEntry (step_orders p c r movers);
+          more = ReportEntry report ∷ map OrderEntry (step_orders p c report movers);
           tells = tells;
           entries = entries;
-          events = (step.can, subst (AreEvents p next) (sym moves) (moves-events p next (at r) movers step.moves));
-          cell = next_is ∙ sym (ap (after_all p next) moves ∙ after_all-moves p next (at r) movers);
+          events = (step.can, subst (AreEvents p next) (sym moves) (moves-events p next (at report) movers step.moves));
+          cell = next_is ∙ sym (ap (after_all p next) moves ∙ after_all-moves p next (at report) movers);
         }
 
     -- the lines of a step's moves

@@ -3,6 +3,7 @@ use Rattle.std.proofs.Common.{◌≡◌, ◌+◌, ◌*◌, ◌≤◌, ℕ, List,
 use Rattle.std.specs.Prelude.{IsTrue}
 use Rattle.std.proofs.lemmas.List.{length-map}
 use Rattle.shop_base.specs.declared.move_order.MoveOrder.{MoveOrder}
+use Rattle.shop_base.specs.declared.report.Report.{Report}
 use Rattle.shop_base.specs.Plan.{PlannedShop, IsWellShaped}
 use Rattle.shop_base.specs.Cell.{Cell, start}
 use Rattle.shop_base.specs.Report.{at, after_report}
@@ -10,7 +11,6 @@ use Rattle.shop_base.specs.Run.{IsRun, AreEvents, after_all}
 use Rattle.shop_base.specs.Controlled.{moved, orders_for, after_moves, step_orders}
 use Rattle.shop_base.specs.Ends.{stated_number, HasEnded}
 use Rattle.shop_base.specs.ReportsLeft.{reports_left}
-use Rattle.shop_base.specs.declared.report.Report as told
 use Rattle.shop_base.proofs.ControlledRuns.{events_join, after_all_join, moves-events, after_all-moves}
 use Rattle.shop_base.proofs.StatedNumber.{run-stated_number}
 use Rattle.shop_base.proofs.ReportsLeft.{ended_where_none, none_where_ended}
@@ -45,7 +45,7 @@ told_moves p c t js entries orders told events are =
     subst (λ (d : Cell). IsTold p d (entries ++ map OrderEntry orders)) (ap (after_all p c) same ∙ after_all-moves p c t js)
     (told_on p c entries (map OrderEntry orders) told (subst (AreEvents p c) (sym same) events))
 
-module _ (s : RestState) (report : told.Report) (ack : Ack) (after : RestControl) (driven : IsRestDriven s) (answered : IsRestAnswered s.control report ack after) where
+module _ (s : RestState) (report : Report) (ack : Ack) (after : RestControl) (driven : IsRestDriven s) (answered : IsRestAnswered s.control report ack after) where
   abbrev p : PlannedShop
   p = s.control.planned
 
@@ -55,12 +55,11 @@ module _ (s : RestState) (report : told.Report) (ack : Ack) (after : RestControl
   told_after : IsTold p after.cell (s.log.entries ++ new_entries)
   told_after =
       let c = s.control.cell in
-      let r = report in
-      let next = after_report c r in
-      let same : events_of (map OrderEntry after.orders) ≡ moved (step_orders p c r answered.movers) = events-orders after.orders ∙ ap moved answered.orders in
+      let next = after_report c report in
+      let same : events_of (map OrderEntry after.orders) ≡ moved (step_orders p c report answered.movers) = events-orders after.orders ∙ ap moved answered.orders in
       let events : AreEvents p c (events_of new_entries) =
-      (answered.step.can, subst (AreEvents p next) (sym same) (moves-events p next (at r) answered.movers answered.step.moves)) in
-      subst (λ (d : Cell). IsTold p d (s.log.entries ++ new_entries)) (ap (after_all p next) same ∙ after_all-moves p next (at r) answered.movers ∙ sym answered.cell)
+      (answered.step.can, subst (AreEvents p next) (sym same) (moves-events p next (at report) answered.movers answered.step.moves)) in
+      subst (λ (d : Cell). IsTold p d (s.log.entries ++ new_entries)) (ap (after_all p next) same ∙ after_all-moves p next (at report) answered.movers ∙ sym answered.cell)
       (told_on p c s.log.entries new_entries driven.told events)
 
   -- the log has room for it

@@ -1,8 +1,8 @@
 -- What a cell that is driven on from a log in a manner answers to a line.
 use Rattle.std.proofs.Common.{◌≡◌, ℕ, List, [], ◌∷◌, ◌++◌, map, Bool, Option, Some, refl, sym, ap, ◌∙◌, subst, append-nil, inl, inr}
 use Rattle.shop_base.specs.declared.move_order.MoveOrder.{MoveOrder}
+use Rattle.shop_base.specs.declared.report.Report.{Report}
 use Rattle.shop_base.specs.Plan.{PlannedShop}
-use Rattle.shop_base.specs.declared.report.Report as reports
 use Rattle.cell_tables.specs.declared.entry.Entry.TheVariants.{Report as ReportEntry, Order as OrderEntry}
 use Rattle.cell_control.specs.declared.report.Ack.{Ack}
 use Rattle.rest_control.specs.RestControl.{IsRestAnswered}
@@ -80,12 +80,12 @@ module _ (manner : Manner) (s : RestState) (number : ℕ) where
       }
 
   -- whose report this is
-  pub takes_as : (e : RestState) (claim : Claim) (ack : Ack) (orders : List MoveOrder) (overdue : Option Overdue) (ended : Bool) (report : reports.Report) → claimed claim ≡ report
+  pub takes_as : (e : RestState) (claim : Claim) (ack : Ack) (orders : List MoveOrder) (overdue : Option Overdue) (ended : Bool) (report : Report) → claimed claim ≡ report
       → IsTaken manner p s.control.cell claim → ended ≡ tells_end manner e.control.planned e.control.cell
       → orders ≡ e.control.orders → overdue ≡ told_overdue manner p s.control.cell report → IsRestAnswered s.control report ack e.control
       → Notes s.log e.log (ReportEntry report ∷ map OrderEntry e.control.orders) → RestAnswersRequest manner s number (ClaimRequest claim) e (taken_lines [] report ack.late overdue orders ended)
   takes_as e claim ack orders overdue ended report same taken ended_is =
-      subst (λ (r : reports.Report). orders ≡ e.control.orders → overdue ≡ told_overdue manner p s.control.cell r → IsRestAnswered s.control r ack e.control
+      subst (λ (r : Report). orders ≡ e.control.orders → overdue ≡ told_overdue manner p s.control.cell r → IsRestAnswered s.control r ack e.control
       → Notes s.log e.log (ReportEntry r ∷ map OrderEntry e.control.orders) → RestAnswersRequest manner s number (ClaimRequest claim) e (taken_lines [] r ack.late overdue orders ended)) same
       (λ are overdue_is answered notes. takes e claim ack orders overdue ended taken are overdue_is ended_is answered notes)
 

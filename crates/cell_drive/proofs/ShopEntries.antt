@@ -1,12 +1,12 @@
 -- What can happen in a cell is of its shop.
 use Rattle.std.proofs.Common.{ℕ, ◌≤◌, ◌⊎◌, inl, inr, sym, ◌∙◌}
 use Rattle.std.proofs.lemmas.Bool.{cases_lt, false≢true}
+use Rattle.shop_base.specs.declared.report.Report.{Report}
 use Rattle.shop_base.specs.Plan.{PlannedShop, steps, IsWellShaped}
 use Rattle.shop_base.specs.Cell.{Cell, made}
 use Rattle.shop_base.specs.Report.{CanReport}
 use Rattle.shop_base.specs.Move.{CanMove, CanLeave, CanEnter, target, order_for}
 use Rattle.shop_base.specs.Sound.{IsSound}
-use Rattle.shop_base.specs.declared.report.Report.{Report}
 use Rattle.shop_base.specs.declared.report.Report.TheVariants.{Arrive, Finish, Clean}
 use Rattle.shop_base.proofs.Visits.{visits_job, visits_machine, leaves_past}
 use Rattle.shop_base.proofs.InShop.{outside_in_shop, ready_in_shop, cleaned_in_shop}

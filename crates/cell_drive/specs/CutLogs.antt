@@ -2,7 +2,7 @@
 use Rattle.std.specs.Prelude.{◌≡◌, ℕ, ◌≤◌, List, [], ◌∷◌, ◌++◌, length, map, take}
 use Rattle.shop_base.specs.Plan.{PlannedShop}
 use Rattle.shop_base.specs.declared.move_order.MoveOrder.{MoveOrder}
-use Rattle.shop_base.specs.Report.{Report}
+use Rattle.shop_base.specs.declared.report.Report.{Report}
 use Rattle.shop_base.specs.Run.{Event, Reported, Moved}
 use Rattle.shop_base.specs.Controlled.{IsControlledRun}
 use Rattle.cell_tables.specs.declared.entry.Entry.{Entry}

@@ -1,8 +1,8 @@
 -- Several cells that are driven by lines, in the order of their numbers.
 use Rattle.std.specs.Prelude.{◌≡◌, ℕ, suc, List, [], ◌∷◌, ◌++◌, codes, map, Option, None, Some, slice_get, slice_set}
+use Rattle.shop_base.specs.declared.report.Report.{Report}
 use Rattle.shop_base.specs.Cell.{Cell, start}
 use Rattle.shop_base.specs.Ends.{HasEnded}
-use Rattle.shop_base.specs.declared.report.Report.{Report}
 use Rattle.plan_verifier.specs.Accepted.{VerifiedPlan}
 use Rattle.cell_tables.specs.declared.entry.Entry.{Entry}
 use Rattle.event_lines.specs.AnswerLines.{refused_line}

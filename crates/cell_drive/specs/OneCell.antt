@@ -1,6 +1,6 @@
 -- A cell that is driven.
 use Rattle.std.specs.Prelude.{◌≡◌, ℕ, ◌*◌, List, [], Option, Some}
-use Rattle.shop_base.specs.Report.{Report}
+use Rattle.shop_base.specs.declared.report.Report.{Report}
 use Rattle.shop_base.specs.Controlled.{IsControlledRun}
 use Rattle.shop_base.specs.Ends.{stated_number, reports_in}
 use Rattle.plan_verifier.specs.Accepted.{VerifiedPlan, IsVerified}

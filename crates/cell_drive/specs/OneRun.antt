@@ -1,8 +1,8 @@
 -- What driving a cell comes to.
 use Rattle.std.specs.Prelude.{◌≡◌, ℕ, ◌+◌, ◌*◌, ◌<◌, ◌≤◌, ◌↔◌, List, [], ◌∷◌, ◌++◌, length, Option, Bool, IsTrue, Result, Err, IfOk}
+use Rattle.shop_base.specs.declared.report.Report.{Report}
 use Rattle.shop_base.specs.Plan.{PlannedShop, jobs}
 use Rattle.shop_base.specs.Cell.{Cell, start}
-use Rattle.shop_base.specs.Report.{Report}
 use Rattle.shop_base.specs.Run.{Event, Reported, Moved, ends_in, IsRun}
 use Rattle.shop_base.specs.Controlled.{IsControlledRun}
 use Rattle.shop_base.specs.Punctual.{ArePunctual}

@@ -1,8 +1,8 @@
 -- What a run that is taken up goes on to write.
 use Rattle.std.specs.Prelude.{◌≡◌, ℕ, ◌≤◌, List, ◌∷◌, ◌++◌, length, take, drop, Option, Some, Bool, true, Result, Ok, Err, IfOk, IfErr, MatchResult, ◌⊎◌}
 use Rattle.std.specs.Io.KnownBytes.{Appends}
+use Rattle.shop_base.specs.declared.report.Report.{Report}
 use Rattle.shop_base.specs.Plan.{PlannedShop, IsWellShaped}
-use Rattle.shop_base.specs.Report.{Report}
 use Rattle.shop_base.specs.Run.{IsRun, IsAtRest}
 use Rattle.shop_base.specs.Ahead.{GoesOnTo}
 use Rattle.text_lines.specs.Lines.{lines_of}

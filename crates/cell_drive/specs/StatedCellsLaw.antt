@@ -1,8 +1,8 @@
 -- The laws of several cells that are driven in a manner.
 use Rattle.std.specs.Prelude.{◌≡◌, ◌↔◌, ℕ, ◌+◌, List, [], ◌∷◌, ◌++◌, Bool, Option, Some, slice_get}
+use Rattle.shop_base.specs.declared.report.Report.{Report}
 use Rattle.shop_base.specs.Plan.{PlannedShop}
 use Rattle.shop_base.specs.Cell.{Cell, start}
-use Rattle.shop_base.specs.Report.{Report}
 use Rattle.shop_base.specs.Controlled.{IsControlledRun}
 use Rattle.shop_base.specs.Ends.{stated_number, reports_in, HasEnded}
 use Rattle.plan_verifier.specs.Accepted.{VerifiedPlan}

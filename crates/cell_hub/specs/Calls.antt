@@ -1,9 +1,9 @@
 -- The calls on a hub.
 use Rattle.std.specs.Prelude.{◌≡◌, ℕ, ◌+◌, ◌-◌, ◌^◌, ◌<◌, List, [], ◌∷◌, Option, None, Some, Result}
 use Rattle.std.specs.declared.result.Result.TheVariants.{Ok, Err}
+use Rattle.shop_base.specs.declared.report.Report.{Report}
 use Rattle.shop_base.specs.Activity.{GoesOn}
 use Rattle.shop_base.specs.Report.{ended, at}
-use Rattle.shop_base.specs.declared.report.Report.{Report}
 use Rattle.shop_base.specs.declared.report.Report.TheVariants.{Clean}
 use Rattle.plan_verifier.specs.Accepted.{VerifiedPlan}
 use Rattle.cell_control.specs.declared.report.Ack.{Ack}

@@ -5,10 +5,11 @@ use Rattle.shop_base.specs.declared.job_state.JobState.{JobState}
 use Rattle.shop_base.specs.declared.move_order.Spot.{Spot}
 use Rattle.shop_base.specs.declared.move_order.Spot.TheVariants.{Out, At}
 use Rattle.shop_base.specs.declared.move_order.MoveOrder.{MoveOrder}
+use Rattle.shop_base.specs.declared.report.Report.{Report}
 use Rattle.shop_base.specs.Plan.{PlannedShop, jobs, machines}
 use Rattle.shop_base.specs.Cell.{Cell, absent, made, with_job, start}
 use Rattle.shop_base.specs.Activity.{Activity, Arrival, Operation, Cleaning}
-use Rattle.shop_base.specs.Report.{Report, ended, at, CanReport, after_report}
+use Rattle.shop_base.specs.Report.{ended, at, CanReport, after_report}
 use Rattle.shop_base.specs.declared.report.Report.TheVariants.{Arrive, Finish, Clean}
 use Rattle.shop_base.specs.Move.{CanMove, KeepsPlan, after_leaving, with_entry, with_moved, after_move, order_for}
 use Rattle.shop_base.specs.Sound.{IsSound}

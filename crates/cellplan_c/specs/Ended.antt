@@ -1,6 +1,7 @@
 -- What is reported from C: when it is possible, and why it isn't.
 use Rattle.std.specs.Prelude.{◌≡◌, ◌⊎◌, List}
-use Rattle.shop_base.specs.Report.{Report, CanReport}
+use Rattle.shop_base.specs.declared.report.Report.{Report}
+use Rattle.shop_base.specs.Report.{CanReport}
 use Rattle.shop_base.specs.Run.{Event}
 use Rattle.shop_base.specs.declared.report.Report.TheVariants.{Clean}
 use Rattle.cell_tables.specs.Readings.{IsCleanedAfter}

@@ -1,10 +1,11 @@
 -- In every run, each cleaning that goes on began by the last moment.
 use Rattle.std.proofs.Common.{◌≡◌, ℕ, ◌≤◌, List, [], ◌∷◌, Some, inl, inr, refl, sym, ap, ◌∙◌, arith}
 use Rattle.std.proofs.lemmas.Bool.{cases_lt}
+use Rattle.shop_base.specs.declared.report.Report.{Report}
 use Rattle.shop_base.specs.Plan.{PlannedShop, IsWellShaped, clean}
 use Rattle.shop_base.specs.Cell.{Cell, MachineState, cleaning, start}
 use Rattle.shop_base.specs.Activity.{Activity, Arrival, Operation, Cleaning}
-use Rattle.shop_base.specs.Report.{Report, ended, at, CanReport, after_end, after_report}
+use Rattle.shop_base.specs.Report.{ended, at, CanReport, after_end, after_report}
 use Rattle.shop_base.specs.Move.{CanMove, after_move}
 use Rattle.shop_base.specs.Run.{Event, Reported, Moved, AreEvents, IsRun, after_all, ends_in}
 use Rattle.shop_base.specs.Sound.{IsSound}

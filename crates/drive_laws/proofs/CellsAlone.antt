@@ -2,10 +2,10 @@
 use Rattle.std.proofs.Common.{◌≡◌, ◌==◌, ℕ, zero, suc, ◌+◌, List, [], ◌∷◌, ◌++◌, set, not, ◌&&◌, Option, Some, None, refl, sym, ap, ◌∙◌, subst, inl, inr, ◌⊎◌}
 use Rattle.std.proofs.lemmas.Bool.{eqb-true, eqb-false, cases_Bool}
 use Rattle.std.specs.Prelude.{slice_get}
+use Rattle.shop_base.specs.declared.report.Report.{Report}
 use Rattle.shop_base.specs.Cell.{Cell}
 use Rattle.shop_base.specs.Run.{Event, Reported}
 use Rattle.shop_base.specs.Controlled.{moved, step_orders}
-use Rattle.shop_base.specs.declared.report.Report.{Report}
 use Rattle.shop_base.proofs.StatedNumber.{ends_on_the_stated_number-holds}
 use Rattle.plan_verifier.specs.Accepted.{VerifiedPlan, IsVerified}
 use Rattle.cell_tables.specs.declared.entry.Entry.{Entry}

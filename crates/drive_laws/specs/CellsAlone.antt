@@ -1,9 +1,8 @@
 -- A cell among several that are driven, seen as by a controller alone.
 use Rattle.std.specs.Prelude.{◌≡◌, ◌↔◌, ℕ, List, [], ◌∷◌, Option, Some, slice_get}
-use Rattle.shop_base.specs.Report.{Report}
+use Rattle.shop_base.specs.declared.report.Report.{Report}
 use Rattle.shop_base.specs.Run.{Event}
 use Rattle.shop_base.specs.Ends.{stated_number, reports_in, HasEnded}
-use Rattle.shop_base.specs.declared.report.Report as told
 use Rattle.plan_verifier.specs.Accepted.{VerifiedPlan}
 use Rattle.cell_control.specs.Control.{Control}
 use Rattle.cell_control.specs.Promises.{IsControllerAfter}
@@ -14,12 +13,12 @@ use Rattle.cell_drive.specs.OneRun.{StaysAsPromised}
 
 -- the line is no report on the cell of this number
 abbrev pub IsNotOn : ℕ → Option (List ℕ) → Type 0
-IsNotOn cell line = (words : List ℕ) (report : told.Report) → line ≡ Some words → IsCellReport words cell report → ⊥
+IsNotOn cell line = (words : List ℕ) (report : Report) → line ≡ Some words → IsCellReport words cell report → ⊥
 
 -- these lines have exactly these reports on the cell of this number, in order
 pub data HaveReports (cell : ℕ) : List (Option (List ℕ)) → List Report → Type 0 where
   none_left : HaveReports cell [] []
-  on_it : (words : List ℕ) (report : told.Report) (lines : List (Option (List ℕ))) (reports : List Report) → IsCellReport words cell report
+  on_it : (words : List ℕ) (report : Report) (lines : List (Option (List ℕ))) (reports : List Report) → IsCellReport words cell report
       → HaveReports cell lines reports → HaveReports cell (Some words ∷ lines) (report ∷ reports)
   passed_over : (line : Option (List ℕ)) (lines : List (Option (List ℕ))) (reports : List Report) → IsNotOn cell line
       → HaveReports cell lines reports → HaveReports cell (line ∷ lines) reports

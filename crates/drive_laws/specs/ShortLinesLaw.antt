@@ -1,6 +1,7 @@
 -- The law that a line of version 2 has at most 128 bytes.
 use Rattle.std.specs.Prelude.{◌≡◌, ℕ, ◌<◌, ◌≤◌, List, ◌++◌, length, Some}
 use Rattle.shop_base.specs.declared.limits.TheConstants.{MAX_MOMENT}
+use Rattle.shop_base.specs.declared.report.Report.{Report}
 use Rattle.shop_base.specs.Plan.{PlannedShop, IsWellShaped, jobs, machines}
 use Rattle.shop_base.specs.Report.{at, CanReport}
 use Rattle.shop_base.specs.Run.{IsRun}
@@ -16,7 +17,6 @@ use Rattle.cell_drive.specs.OneRun.{cell_after}
 use Rattle.cell_drive.specs.States.{overdue_in}
 use Rattle.shop_base.specs.declared.move_order.Spot.{Spot}
 use Rattle.shop_base.specs.declared.move_order.Spot.TheVariants.{Out, At}
-use Rattle.shop_base.specs.declared.report.Report as reports
 use Rattle.cell_tables.specs.declared.standing.Standing.{Standing}
 use Rattle.cell_tables.specs.declared.standing.Standing.TheVariants.{Awaited, Outside, Worked, Done, Gone, Cleaned, Clean}
 use Rattle.event_lines.specs.declared.details.Detail.{Detail}
@@ -80,7 +80,7 @@ DetailsAreShort = (p : PlannedShop) (manner : Manner) (entries : List Entry) (cl
 
 -- and those that are told to be overdue as a report comes
 abbrev pub OverdueIsShort : Type 0
-OverdueIsShort = (p : PlannedShop) (entries : List Entry) (report : reports.Report) (overdue : Overdue) → IsWellShaped p → IsRun p (events_of entries) → CanReport p (cell_after p entries) report
+OverdueIsShort = (p : PlannedShop) (entries : List Entry) (report : Report) (overdue : Overdue) → IsWellShaped p → IsRun p (events_of entries) → CanReport p (cell_after p entries) report
     → overdue_in p (cell_after p entries) (standing_of p (cell_after p entries) report) (at report) ≡ Some overdue → IsMoment (at report) × IsShortStanding overdue.first × IsShort overdue.others
 
 -- an input has no line of a higher number

@@ -1,8 +1,8 @@
 -- The laws of runs that were taken up and are driven on in a manner.
 use Rattle.std.specs.Prelude.{◌≡◌, ◌⊎◌, ℕ, ◌≤◌, List, [], ◌∷◌, ◌++◌, length, take, drop, Bool, true, false, Option, None, Some, Result, Ok, IfOk, IfErr, MatchResult}
+use Rattle.shop_base.specs.declared.report.Report.{Report}
 use Rattle.shop_base.specs.Plan.{PlannedShop, IsWellShaped}
 use Rattle.shop_base.specs.Cell.{Cell, start}
-use Rattle.shop_base.specs.declared.report.Report as reports
 use Rattle.cell_tables.specs.declared.entry.Entry.{Entry}
 use Rattle.cell_tables.specs.declared.entry.Entry.TheVariants.{Report as ReportEntry}
 use Rattle.cell_control.specs.OnceLaw.{NamedEnd, Tells}
@@ -42,7 +42,7 @@ AStatedRestAnswersSo = (s end : StatedRest) (number : ℕ) (lines : List (Option
 
 -- so it is while lines are answered behind a run to rest in which it was reported
 abbrev pub NothingOfALogIsTakenAgain : Type 0
-NothingOfALogIsTakenAgain = (p : PlannedShop) (manner : Manner) (before after : List Entry) (report : reports.Report) (lines : List (Option (List ℕ))) (number : ℕ) (text : List ℕ) (end : DrivenCell) (again : Claim) (ended : NamedEnd)
+NothingOfALogIsTakenAgain = (p : PlannedShop) (manner : Manner) (before after : List Entry) (report : Report) (lines : List (Option (List ℕ))) (number : ℕ) (text : List ℕ) (end : DrivenCell) (again : Claim) (ended : NamedEnd)
     → IsWellShaped p → IsRunToRest p (before ++ ReportEntry report ∷ after) → Tells p (cell_after p before) report ended
     → AnswerAll (StatedAnswers p manner) (driven_so_far p (before ++ ReportEntry report ∷ after)) number lines text end → named again ≡ Some ended → CanClaim p end.cell again → ⊥
 

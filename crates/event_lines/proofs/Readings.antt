@@ -3,8 +3,8 @@ use Rattle.std.proofs.Common.{◌≡◌, ℕ, List, [], ◌∷◌, ◌++◌, cod
 use Rattle.shop_base.specs.declared.move_order.Spot.{Spot}
 use Rattle.shop_base.specs.declared.move_order.Spot.TheVariants.{Out, At}
 use Rattle.shop_base.specs.declared.move_order.MoveOrder.{MoveOrder}
-use Rattle.shop_base.specs.Plan.{PlannedShop}
 use Rattle.shop_base.specs.declared.report.Report.{Report}
+use Rattle.shop_base.specs.Plan.{PlannedShop}
 use Rattle.shop_base.specs.declared.report.Report.TheVariants.{Arrive, Finish, Clean}
 use Rattle.text_lines.specs.Numbers.{IsNumeral}
 use Rattle.cell_tables.specs.declared.entry.Entry.{Entry}

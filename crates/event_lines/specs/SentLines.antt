@@ -1,7 +1,7 @@
 -- The lines in which reports are sent.
 use Rattle.std.specs.Prelude.{ℕ, List, [], ◌∷◌, ◌++◌, decimal}
-use Rattle.shop_base.specs.Report.{at}
 use Rattle.shop_base.specs.declared.report.Report.{Report}
+use Rattle.shop_base.specs.Report.{at}
 use Rattle.event_lines.specs.Words.{Word, Text, short, moment, IsReadAs}
 use Rattle.event_lines.specs.EventLines.{end_name, end_numbers}
 

@@ -6,7 +6,7 @@ ghost use Rattle.event_lines.specs.SentLines.{IsCellReport, IsNoCellReport, cell
 use crate::line_text::LineText;
 use crate::sent_reports::report_of;
 use crate::words::number_first;
-use cell_tables::Report;
+use shop_base::Report;
 
 /// What comes before a line of an answer: the cell's number and a space.
 pub fn cell_prefix(cell: u64) -> LineText

@@ -9,9 +9,9 @@ ghost use Rattle.event_lines.specs.LogLines.{AreEndsOf, IsEntryOf, TellsNoEntry,
 
 use crate::orders::{move_order_of, put_order_words};
 use crate::told_reports::{put_report_words, told_report_of};
-use cell_tables::{Entry, Report};
+use cell_tables::Entry;
 use shop_base::limits::MAX_MOMENT;
-use shop_base::{MoveOrder, Shaped, Spot};
+use shop_base::{MoveOrder, Report, Shaped, Spot};
 use text_lines::after_prefix;
 
 /// Writes the words of the entry before what there is.

@@ -6,8 +6,7 @@ ghost use Rattle.event_lines.specs.Requests.{claimed, IsClaimLine, IsRequestLine
 
 use crate::sent_reports::report_of;
 use crate::words::{number_and_moment, number_first};
-use cell_tables::Report;
-use shop_base::{JobNo, MachineNo, Moment};
+use shop_base::{JobNo, MachineNo, Moment, Report};
 use text_lines::after_prefix;
 
 /// What is said to have ended, from version 2 of the lines on.

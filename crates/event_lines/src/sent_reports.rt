@@ -4,8 +4,7 @@ ghost use Rattle.text_lines.specs.Searches.{SomeIfAny};
 ghost use Rattle.event_lines.specs.SentLines.{IsReportLine};
 
 use crate::words::{number_and_moment, number_first};
-use cell_tables::Report;
-use shop_base::JobNo;
+use shop_base::{JobNo, Report};
 use text_lines::after_prefix;
 
 /// The report that the line is, if it is one.

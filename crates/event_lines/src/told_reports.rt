@@ -8,8 +8,7 @@ ghost use Rattle.event_lines.specs.EventLines.{end_words, told_words, report_lin
 
 use crate::line_text::LineText;
 use crate::words::{number_first, short_last};
-use cell_tables::Report;
-use shop_base::{JobNo, MachineNo, Moment};
+use shop_base::{JobNo, MachineNo, Moment, Report};
 use text_lines::after_prefix;
 
 /// Writes `report T`, the word of what has ended, with a space on each side, and the number of its job or machine.

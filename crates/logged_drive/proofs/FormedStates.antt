@@ -3,13 +3,13 @@ use Rattle.std.proofs.Common.{◌≡◌, ℕ, zero, suc, ◌+◌, ◌-◌, ◌^�
 use Rattle.std.proofs.lemmas.Bool.{cases_Bool, cases_lt, le-ltb, lt-ltb, ltb-true}
 use Rattle.std.proofs.lemmas.List.{get_or_past}
 use Rattle.shop_base.specs.declared.limits.TheConstants.{MAX_MOMENT}
+use Rattle.shop_base.specs.declared.report.Report.{Report}
 use Rattle.shop_base.specs.Plan.{PlannedShop, IsWellShaped, jobs, machines, steps, machine_of, order, job_at, release, nominal, clean}
 use Rattle.shop_base.specs.Cell.{Cell, made, ready, since, entries, cleaning}
 use Rattle.shop_base.specs.Controlled.{step_orders}
 use Rattle.shop_base.specs.ReportsLeft.{reports_left}
 use Rattle.shop_base.specs.Sound.{IsSound}
 use Rattle.shop_base.specs.Report.{at}
-use Rattle.shop_base.specs.declared.report.Report.{Report}
 use Rattle.shop_base.specs.declared.report.Report.TheVariants.{Arrive, Finish, Clean as CleanReport}
 use Rattle.shop_base.proofs.Visits.{visits_job, visits_machine}
 use Rattle.cell_tables.specs.declared.entry.Entry.{Entry}

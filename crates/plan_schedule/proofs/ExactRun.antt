@@ -3,10 +3,11 @@ use Rattle.std.proofs.Common.{◌≡◌, ℕ, ◌+◌, ◌<◌, ◌≤◌, inl, 
 use Rattle.std.proofs.lemmas.Bool.{cases_lt, cases_eq}
 use Rattle.shop_base.specs.declared.node.Node.{Node}
 use Rattle.shop_base.specs.declared.job_state.JobState.{JobState}
+use Rattle.shop_base.specs.declared.report.Report.{Report}
 use Rattle.shop_base.specs.Plan.{PlannedShop, jobs, nominal, release, clean, IsWellShaped}
 use Rattle.shop_base.specs.Cell.{Cell, MachineState, made, since, entries, cleaning, start, IsOn}
 use Rattle.shop_base.specs.Activity.{Activity, Arrival, Operation, Cleaning, GoesOn}
-use Rattle.shop_base.specs.Report.{Report, ended, at, IsNextMoment, after_report}
+use Rattle.shop_base.specs.Report.{ended, at, IsNextMoment, after_report}
 use Rattle.shop_base.specs.Move.{CanMove, after_move}
 use Rattle.shop_base.specs.Run.{Event, Reported, Moved, AreEvents, ends_in, IsRun}
 use Rattle.shop_base.specs.Controlled.{IsControlledRun}

@@ -1,9 +1,9 @@
 -- Which plans are to be accepted, the longest paths of one, and what its runs come to.
 use Rattle.std.specs.Prelude.{ℕ, ◌<◌, ◌≤◌, List, ◌≡◌}
 use Rattle.shop_base.specs.declared.node.Node.{Node}
+use Rattle.shop_base.specs.declared.report.Report.{Report}
 use Rattle.shop_base.specs.Plan.{PlannedShop, jobs, budget}
 use Rattle.shop_base.specs.Cell.{Cell, start, since, IsGone}
-use Rattle.shop_base.specs.Report.{Report}
 use Rattle.shop_base.specs.Run.{Event}
 use Rattle.shop_base.specs.Controlled.{IsControlledRun}
 use Rattle.shop_base.specs.Punctual.{ArePunctual, AreExact}

@@ -1,9 +1,9 @@
 -- Moments that respect the arcs and the budgets, and what runs come to whose reports come by them, however long anything takes.
 use Rattle.std.specs.Prelude.{ℕ, ◌+◌, ◌<◌, ◌≤◌, List}
 use Rattle.shop_base.specs.declared.node.Node.{Node}
+use Rattle.shop_base.specs.declared.report.Report.{Report}
 use Rattle.shop_base.specs.Plan.{PlannedShop, jobs}
 use Rattle.shop_base.specs.Cell.{Cell, start, IsGone}
-use Rattle.shop_base.specs.Report.{Report}
 use Rattle.shop_base.specs.Run.{Event}
 use Rattle.shop_base.specs.Controlled.{IsControlledRun}
 use Rattle.shop_base.specs.Ends.{HasEnded, IsInTime, IsOutByBudget}

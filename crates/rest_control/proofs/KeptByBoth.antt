@@ -5,9 +5,10 @@ use Rattle.std.proofs.lemmas.List.{get_or-replicate}
 use Rattle.shop_base.specs.declared.job_state.JobState.{JobState}
 use Rattle.shop_base.specs.declared.move_order.MoveOrder.{MoveOrder}
 use Rattle.shop_base.specs.declared.move_order.Spot.TheVariants.{Out, At}
+use Rattle.shop_base.specs.declared.report.Report.{Report}
 use Rattle.shop_base.specs.Plan.{PlannedShop, jobs, machines, steps, machine_of, clean, order, Visits, IsWellShaped}
 use Rattle.shop_base.specs.Cell.{Cell, MachineState, absent, unused, start, made, ready, entries, cleaning, IsOn}
-use Rattle.shop_base.specs.Report.{Report, CanReport, with_ready, with_clean, after_report}
+use Rattle.shop_base.specs.Report.{CanReport, with_ready, with_clean, after_report}
 use Rattle.shop_base.specs.Move.{IsPrefix, CanMove, KeepsPlan, target, after_move}
 use Rattle.shop_base.specs.Run.{Event, Reported, Moved, CanHappen, after, AreEvents, after_all}
 use Rattle.shop_base.specs.ReportsLeft.{departures, is_off}

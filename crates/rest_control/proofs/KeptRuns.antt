@@ -5,9 +5,10 @@ use Rattle.std.proofs.lemmas.List.{get_or-replicate, length-replicate}
 use Rattle.shop_base.specs.declared.job_state.JobState.{JobState}
 use Rattle.shop_base.specs.declared.move_order.MoveOrder.{MoveOrder}
 use Rattle.shop_base.specs.declared.move_order.Spot.{Spot}
+use Rattle.shop_base.specs.declared.report.Report.{Report}
 use Rattle.shop_base.specs.Plan.{PlannedShop, jobs, machines, steps, machine_of, nominal, release, clean, order, Visits, IsWellShaped}
 use Rattle.shop_base.specs.Cell.{Cell, MachineState, absent, unused, start, job_in, made, ready, since, cleaning, IsOn}
-use Rattle.shop_base.specs.Report.{Report, IsNextMoment, CanReport, with_ready, with_clean, after_report}
+use Rattle.shop_base.specs.Report.{IsNextMoment, CanReport, with_ready, with_clean, after_report}
 use Rattle.shop_base.specs.Move.{IsPrefix, CanMove, KeepsPlan, CanEnter, spot_after, source, target, after_move, order_for}
 use Rattle.shop_base.specs.Run.{Event, Reported, Moved, CanHappen, after, AreEvents, after_all}
 use Rattle.shop_base.specs.ReportsLeft.{departures}

@@ -2,9 +2,10 @@
 use Rattle.std.proofs.Common.{◌≡◌, ℕ, ◌↔◌, inl, inr, List, [], ◌∷◌, ◌++◌, refl, sym, ◌∙◌, subst, arith}
 use Rattle.std.specs.Prelude.{IsTrue}
 use Rattle.shop_base.specs.declared.move_order.MoveOrder.{MoveOrder}
+use Rattle.shop_base.specs.declared.report.Report.{Report}
 use Rattle.shop_base.specs.Plan.{PlannedShop}
 use Rattle.shop_base.specs.Cell.{Cell, start}
-use Rattle.shop_base.specs.Report.{Report, at, CanReport, after_report}
+use Rattle.shop_base.specs.Report.{at, CanReport, after_report}
 use Rattle.shop_base.specs.Run.{Event, Reported, Moved, after}
 use Rattle.shop_base.specs.Controlled.{IsStep, after_moves, orders_for, after_step, step_orders, moved, Leads, done, accepted, refused}
 use Rattle.shop_base.specs.Punctual.{ArePunctual, IsPunctualFrom, ArePunctualFrom}

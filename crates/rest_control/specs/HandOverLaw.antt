@@ -1,7 +1,7 @@
 -- The law that a run which is handed over is one run, of the plan that took over.
 use Rattle.std.specs.Prelude.{◌≡◌, ℕ, List, ◌++◌}
+use Rattle.shop_base.specs.declared.report.Report.{Report}
 use Rattle.shop_base.specs.Plan.{PlannedShop, IsWellShaped}
-use Rattle.shop_base.specs.Report.{Report}
 use Rattle.shop_base.specs.Run.{Event, IsRun, ends_in}
 use Rattle.shop_base.specs.Controlled.{moved}
 use Rattle.shop_base.specs.Ahead.{GoesOnTo}

@@ -2,10 +2,11 @@
 use Rattle.std.specs.Prelude.{◌≡◌, ℕ, ◌+◌, ◌≤◌, ◌↔◌, List, Bool, true, false, IsTrue}
 use Rattle.shop_base.specs.declared.move_order.MoveOrder.{MoveOrder}
 use Rattle.shop_base.specs.declared.node.Node.{Node}
+use Rattle.shop_base.specs.declared.report.Report.{Report}
 use Rattle.shop_base.specs.Plan.{PlannedShop}
 use Rattle.shop_base.specs.Cell.{Cell}
 use Rattle.shop_base.specs.Activity.{GoesOn}
-use Rattle.shop_base.specs.Report.{Report, ended, at, IsNextMoment}
+use Rattle.shop_base.specs.Report.{ended, at, IsNextMoment}
 use Rattle.shop_base.specs.Run.{IsAtRest}
 use Rattle.shop_base.specs.Controlled.{IsStep, after_step, step_orders}
 use Rattle.shop_base.specs.Punctual.{IsPunctual, IsPunctualFrom}

@@ -1,8 +1,9 @@
 -- What holds of every controller of the rest of a run, whatever was reported, and the controlled run that its calls go on with.
 use Rattle.std.specs.Prelude.{◌≡◌, ℕ, ◌<◌, ◌↔◌, List, [], ◌∷◌, ◌++◌, IsTrue}
+use Rattle.shop_base.specs.declared.report.Report.{Report}
 use Rattle.shop_base.specs.Plan.{PlannedShop, jobs}
 use Rattle.shop_base.specs.Cell.{Cell, start}
-use Rattle.shop_base.specs.Report.{Report, CanReport}
+use Rattle.shop_base.specs.Report.{CanReport}
 use Rattle.shop_base.specs.Run.{Event, Reported, IsRun, ends_in}
 use Rattle.shop_base.specs.Controlled.{moved, IsControlledRun}
 use Rattle.shop_base.specs.Punctual.{ArePunctual, ArePunctualFrom}

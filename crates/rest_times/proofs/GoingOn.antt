@@ -2,9 +2,10 @@
 use Rattle.std.proofs.Common.{◌≡◌, ◌↔◌, ℕ, ◌<◌, ◌≤◌, List, arith, sym, subst, inl, inr}
 use Rattle.std.proofs.lemmas.Bool.{cases_lt}
 use Rattle.shop_base.specs.declared.node.Node.{Node}
+use Rattle.shop_base.specs.declared.report.Report.{Report}
 use Rattle.shop_base.specs.Plan.{PlannedShop, jobs, steps, budget, IsWellShaped}
 use Rattle.shop_base.specs.Cell.{Cell, made, since, IsGone}
-use Rattle.shop_base.specs.Report.{Report, IsNextMoment}
+use Rattle.shop_base.specs.Report.{IsNextMoment}
 use Rattle.shop_base.specs.Run.{Event, IsRun, ends_in}
 use Rattle.shop_base.specs.Punctual.{ArePunctualFrom, AreNotEarly}
 use Rattle.shop_base.specs.Ends.{HasEnded, reports_in}

@@ -4,8 +4,8 @@ ghost use Rattle.std.specs.Prelude.{[], ◌∷◌, List, ℕ, IfOk};
 ghost use Rattle.cell_tables.specs.declared.entry.Entry.{Entry};
 ghost use Rattle.run_gantt.specs.CleaningEnds.{AreCleaningEnds};
 
-use cell_tables::{Entry, Report};
-use shop_base::Moment;
+use cell_tables::Entry;
+use shop_base::{Moment, Report};
 use std::alloc::{AllocError, Global};
 
 /// A table for this number of machines, with no end noted yet.

@@ -7,9 +7,9 @@ ghost use Rattle.std.specs.Option.{option_or};
 ghost use Rattle.run_gantt.specs.Visits.{finish_told, leave_told, visit_end};
 ghost use Rattle.run_gantt.specs.VisitEnds.{IsPlace, HasNoPlace, AreVisitEnds};
 
-use cell_tables::{Entry, Report};
+use cell_tables::Entry;
 use shop_base::limits::MAX_MACHINES;
-use shop_base::{JobNo, MachineNo, Moment, MoveOrder, Spot};
+use shop_base::{JobNo, MachineNo, Moment, MoveOrder, Report, Spot};
 use std::alloc::{AllocError, Global};
 
 /// When the operation of a job on a machine ends and when the job leaves it, if known.

@@ -12,8 +12,8 @@ ghost use Rattle.event_lines.specs.LogLines.{AreEndsOf, IsEntryOf};
 ghost use Rattle.run_log.specs.Audits.{IsGoingOn, IsOpen, IsItsWay, IsFaultOf, IsTargetFault, IsWayFault, fault_line};
 
 use crate::audit_fault::AuditFault;
-use cell_tables::{Entry, Report, WorkCell};
-use shop_base::{JobNo, MachineNo, MoveOrder, Planned, Spot};
+use cell_tables::{Entry, WorkCell};
+use shop_base::{JobNo, MachineNo, MoveOrder, Planned, Report, Spot};
 
 /// Checks that the entry in this line can happen.
 pub(crate) fn check_entry<P: Planned>(

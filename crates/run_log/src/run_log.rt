@@ -3,8 +3,8 @@ ghost use Rattle.shop_base.specs.Ends.{stated_number};
 
 use crate::entry_room::most_entries;
 use crate::log_fault::LogFault;
-use cell_tables::{Entry, Report};
-use shop_base::{MoveOrder, Planned};
+use cell_tables::Entry;
+use shop_base::{MoveOrder, Planned, Report};
 use std::alloc::{AllocError, Global};
 use std::marker::Model;
 

@@ -1,8 +1,8 @@
 -- Moves and steps that are appended: one more move after a list of moves, one more step after a controlled run.
 use Rattle.std.proofs.Common.{◌≡◌, ℕ, List, [], ◌∷◌, ◌++◌, refl, sym, ap, subst, append_assoc, append-nil}
+use Rattle.shop_base.specs.declared.report.Report.{Report}
 use Rattle.shop_base.specs.Plan.{PlannedShop}
 use Rattle.shop_base.specs.Cell.{Cell}
-use Rattle.shop_base.specs.Report.{Report}
 use Rattle.shop_base.specs.Move.{CanMove, KeepsPlan, after_move, order_for}
 use Rattle.shop_base.specs.Run.{Event, Reported}
 use Rattle.shop_base.specs.Controlled.{AreMoves, after_moves, orders_for, after_step, step_orders, IsStep, moved, Leads, done, accepted, refused}

@@ -2,10 +2,11 @@
 use Rattle.std.proofs.Common.{◌≡◌, ℕ, zero, suc, ◌+◌, ◌≤◌, [], length, Option, None, Some, Bool, true, false, cond, nat_lt, if◌then◌else◌, ◌⊎◌, inl, inr, refl, sym, ◌∙◌, ap, subst, arith, ltb-true, lt-ltb}
 use Rattle.std.proofs.lemmas.Bool.{cases_lt}
 use Rattle.shop_base.specs.declared.move_order.Spot.TheVariants.{Out, At}
+use Rattle.shop_base.specs.declared.report.Report.{Report}
 use Rattle.shop_base.specs.Plan.{PlannedShop, jobs, steps, machine_of, nominal, order, job_at, Visits, IsWellShaped}
 use Rattle.shop_base.specs.Cell.{Cell, job_in, made, ready, since, entries, cleaning, IsOutside, IsOn, IsFree}
 use Rattle.shop_base.specs.Activity.{Activity, Arrival, Operation, Cleaning, GoesOn}
-use Rattle.shop_base.specs.Report.{Report, ended, at, after_end, after_report}
+use Rattle.shop_base.specs.Report.{ended, at, after_end, after_report}
 use Rattle.shop_base.specs.Move.{KeepsPlan, source, target}
 use Rattle.shop_base.specs.Movers.{counted, ready_count, due_after, due_of_job, due_of_cleaning}
 use Rattle.shop_base.specs.Sound.{IsSound}

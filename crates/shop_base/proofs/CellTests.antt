@@ -3,10 +3,11 @@ use Rattle.std.proofs.Common.{◌≡◌, ℕ, zero, suc, ◌+◌, ◌-◌, ◌<�
 use Rattle.std.proofs.lemmas.Bool.{leb-true, le-leb, cases_lt}
 use Rattle.std.proofs.lemmas.Bool.Decides.{Decides-like, Decides-and, Decides-or, Decides-not, Decides-ltb, Decides-eqb, Decides-below_and, Decides-below_or}
 use Rattle.shop_base.specs.declared.limits.TheConstants.{MAX_MOMENT}
+use Rattle.shop_base.specs.declared.report.Report.{Report}
 use Rattle.shop_base.specs.Plan.{PlannedShop, jobs, steps, machine_of, release, nominal, clean, order, Visits}
 use Rattle.shop_base.specs.Cell.{Cell, made, ready, since, entries, cleaning, IsOn, IsFree}
 use Rattle.shop_base.specs.Activity.{Activity, Arrival, Operation, Cleaning, GoesOn}
-use Rattle.shop_base.specs.Report.{Report, ended, at, IsNextMoment, CanReport}
+use Rattle.shop_base.specs.Report.{ended, at, IsNextMoment, CanReport}
 use Rattle.shop_base.specs.Move.{CanLeave, CanEnter, CanMove, IsPrefix, KeepsPlan, order_for, CanObey}
 use Rattle.shop_base.specs.declared.move_order.MoveOrder.{MoveOrder}
 use Rattle.shop_base.specs.declared.move_order.Spot.{Spot}

@@ -5,7 +5,8 @@ use Rattle.std.proofs.lemmas.Bool.{cases_lt}
 use Rattle.shop_base.specs.Plan.{PlannedShop, jobs, IsWellShaped}
 use Rattle.shop_base.specs.Cell.{Cell, absent, ready, start}
 use Rattle.shop_base.specs.declared.job_state.JobState.{JobState}
-use Rattle.shop_base.specs.Report.{Report, at, CanReport, after_report}
+use Rattle.shop_base.specs.declared.report.Report.{Report}
+use Rattle.shop_base.specs.Report.{at, CanReport, after_report}
 use Rattle.shop_base.specs.Move.{after_move}
 use Rattle.shop_base.specs.Run.{Event, Reported, AreEvents, after, after_all, IsRun, ends_in, IsAtRest}
 use Rattle.shop_base.specs.Controlled.{AreMoves, after_moves, orders_for, after_step, step_orders, IsStep, moved, Leads, done, accepted, refused, IsControlledRun}

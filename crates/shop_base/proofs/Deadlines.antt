@@ -1,9 +1,10 @@
 -- Deadlines: arcs that press lead from each node ahead to a leaving kept to its budget; so these moments are the latest, and tight.
 use Rattle.std.proofs.Common.{◌≡◌, ℕ, zero, suc, ◌+◌, ◌<◌, ◌≤◌, inl, inr, List, ◌∷◌, ◌++◌, sym, subst, arith, le_refl, max, []}
 use Rattle.shop_base.specs.declared.node.Node.{Node}
+use Rattle.shop_base.specs.declared.report.Report.{Report}
 use Rattle.shop_base.specs.Plan.{PlannedShop, jobs, steps, budget, IsWellShaped}
 use Rattle.shop_base.specs.Cell.{Cell, made, since, start, IsGone}
-use Rattle.shop_base.specs.Report.{Report, ended, at, report_of, after_report}
+use Rattle.shop_base.specs.Report.{ended, at, report_of, after_report}
 use Rattle.shop_base.specs.Move.{after_move}
 use Rattle.shop_base.specs.Run.{Event, Reported, Moved, AreEvents, IsRun, after_all, ends_in}
 use Rattle.shop_base.specs.Punctual.{AreNotEarly}

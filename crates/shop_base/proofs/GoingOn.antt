@@ -1,8 +1,8 @@
 -- How a controlled run goes on from any run: it is a run, is never stuck, and ends on the reports that were left; and a cycle stops it.
 use Rattle.std.proofs.Common.{◌≡◌, ℕ, ◌+◌, ◌≤◌, List, ◌++◌, refl, sym, ap, ◌∙◌, arith}
+use Rattle.shop_base.specs.declared.report.Report.{Report}
 use Rattle.shop_base.specs.Plan.{PlannedShop, IsWellShaped}
 use Rattle.shop_base.specs.Cell.{Cell, made, start}
-use Rattle.shop_base.specs.Report.{Report}
 use Rattle.shop_base.specs.Run.{Event, AreEvents, after_all, ends_in, IsAtRest}
 use Rattle.shop_base.specs.Controlled.{after_moves, orders_for, moved}
 use Rattle.shop_base.specs.Ends.{reports_in}

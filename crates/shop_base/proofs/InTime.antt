@@ -3,10 +3,11 @@ use Rattle.std.proofs.Common.{◌≡◌, ◌≢◌, ℕ, zero, suc, ◌+◌, ◌
 use Rattle.std.proofs.lemmas.Bool.{cases_lt, cases_eq}
 use Rattle.shop_base.specs.declared.node.Node.{Node}
 use Rattle.shop_base.specs.declared.job_state.JobState.{JobState}
+use Rattle.shop_base.specs.declared.report.Report.{Report}
 use Rattle.shop_base.specs.Plan.{PlannedShop, jobs, steps, machine_of, release, nominal, clean, Stands, IsWellShaped, budget}
 use Rattle.shop_base.specs.Cell.{Cell, made, ready, since, entries, cleaning, IsOn, IsGone}
 use Rattle.shop_base.specs.Activity.{Activity, Arrival, Operation, Cleaning, IsWorked, GoesOn}
-use Rattle.shop_base.specs.Report.{Report, ended, at, after_end, after_report}
+use Rattle.shop_base.specs.Report.{ended, at, after_end, after_report}
 use Rattle.shop_base.specs.Move.{CanMove, after_move}
 use Rattle.shop_base.specs.Run.{Event, ends_in, IsAtRest, Reported, Moved}
 use Rattle.shop_base.specs.Controlled.{AreMoves, after_moves, after_step, IsStep, Leads, moved, orders_for}

@@ -8,8 +8,9 @@ use Rattle.shop_base.specs.declared.limits.TheConstants.{MAX_MOMENT}
 use Rattle.shop_base.specs.Plan.{PlannedShop, jobs, machines, steps, order, job_at, clean, Visits, Stands, IsWellShaped}
 use Rattle.shop_base.specs.Cell.{Cell, MachineState, absent, unused, job_in, machine_in, made, ready, since, entries, cleaning, start, IsOn, IsGone, IsFree}
 use Rattle.shop_base.specs.declared.job_state.JobState.{JobState}
+use Rattle.shop_base.specs.declared.report.Report.{Report}
 use Rattle.shop_base.specs.Activity.{Activity, Arrival, Operation, Cleaning, GoesOn}
-use Rattle.shop_base.specs.Report.{Report, ended, at, IsNextMoment, CanReport, with_ready, with_clean, after_end, after_report}
+use Rattle.shop_base.specs.Report.{ended, at, IsNextMoment, CanReport, with_ready, with_clean, after_end, after_report}
 use Rattle.shop_base.specs.Move.{CanLeave, CanEnter, CanMove, KeepsPlan, IsPrefix, after_move}
 use Rattle.shop_base.specs.Run.{Event, Reported, Moved, CanHappen, AreEvents, after, after_all, IsRun, ends_in}
 use Rattle.shop_base.specs.Graph.{Arc, job_arc, blocking_arc, node}

@@ -1,8 +1,9 @@
 -- Every list of reports has exactly one controlled run.
 use Rattle.std.proofs.Common.{◌≡◌, ℕ, List, [], ◌∷◌, ◌++◌, ◌⊎◌, inl, inr, refl, ◌∙◌, ap, subst}
+use Rattle.shop_base.specs.declared.report.Report.{Report}
 use Rattle.shop_base.specs.Plan.{PlannedShop, IsWellShaped}
 use Rattle.shop_base.specs.Cell.{Cell, start}
-use Rattle.shop_base.specs.Report.{Report, CanReport}
+use Rattle.shop_base.specs.Report.{CanReport}
 use Rattle.shop_base.specs.Run.{Event, Reported, IsAtRest}
 use Rattle.shop_base.specs.Controlled.{after_step, step_orders, IsStep, moved, Leads, done, accepted, refused}
 use Rattle.shop_base.specs.Sound.{IsSound}

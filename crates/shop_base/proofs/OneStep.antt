@@ -5,8 +5,9 @@ use Rattle.std.proofs.lemmas.List.{get_or_past}
 use Rattle.shop_base.specs.Plan.{PlannedShop, jobs, steps, machine_of, clean, order, job_at, Visits, Stands, IsWellShaped}
 use Rattle.shop_base.specs.Cell.{Cell, MachineState, absent, unused, job_in, machine_in, made, ready, entries, cleaning, IsOutside, IsOn, IsFree}
 use Rattle.shop_base.specs.declared.job_state.JobState.{JobState}
+use Rattle.shop_base.specs.declared.report.Report.{Report}
 use Rattle.shop_base.specs.Activity.{Activity, Arrival, Operation, Cleaning, GoesOn}
-use Rattle.shop_base.specs.Report.{Report, ended, at, IsNextMoment, CanReport, with_ready, with_clean, after_end, after_report}
+use Rattle.shop_base.specs.Report.{ended, at, IsNextMoment, CanReport, with_ready, with_clean, after_end, after_report}
 use Rattle.shop_base.specs.Move.{CanEnter, CanMove, IsPrefix, KeepsPlan, after_move}
 use Rattle.shop_base.specs.Run.{IsAtRest}
 use Rattle.shop_base.specs.Controlled.{AreMoves, after_moves, IsStep}

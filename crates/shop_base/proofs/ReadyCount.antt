@@ -3,8 +3,9 @@ use Rattle.std.proofs.Common.{◌≡◌, ℕ, ◌+◌, ◌<◌, ◌≤◌, List,
 use Rattle.shop_base.specs.Plan.{PlannedShop, jobs, IsWellShaped}
 use Rattle.shop_base.specs.Cell.{Cell, absent, ready, start}
 use Rattle.shop_base.specs.declared.job_state.JobState.{JobState}
+use Rattle.shop_base.specs.declared.report.Report.{Report}
 use Rattle.shop_base.specs.Activity.{Activity, Arrival, Operation, Cleaning, GoesOn}
-use Rattle.shop_base.specs.Report.{Report, ended, at, CanReport, with_ready, with_clean, after_end, after_report}
+use Rattle.shop_base.specs.Report.{ended, at, CanReport, with_ready, with_clean, after_end, after_report}
 use Rattle.shop_base.specs.Move.{CanMove, after_move}
 use Rattle.shop_base.specs.Run.{Event, Reported, Moved, AreEvents, after_all}
 use Rattle.shop_base.specs.Controlled.{AreMoves, after_moves}

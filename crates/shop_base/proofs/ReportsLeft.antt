@@ -5,8 +5,9 @@ use Rattle.std.proofs.lemmas.Bool.{cases_lt, cases_eq, cases_Bool}
 use Rattle.shop_base.specs.Plan.{PlannedShop, jobs, machines, steps, order, job_at, clean, Visits, IsWellShaped}
 use Rattle.shop_base.specs.Cell.{Cell, MachineState, absent, unused, job_in, made, ready, entries, cleaning, start, IsOn, IsFree, IsGone}
 use Rattle.shop_base.specs.declared.job_state.JobState.{JobState}
+use Rattle.shop_base.specs.declared.report.Report.{Report}
 use Rattle.shop_base.specs.Activity.{Activity, Arrival, Operation, Cleaning, GoesOn, IsIdle}
-use Rattle.shop_base.specs.Report.{Report, ended, at, CanReport, with_ready, with_clean, after_end, after_report}
+use Rattle.shop_base.specs.Report.{ended, at, CanReport, with_ready, with_clean, after_end, after_report}
 use Rattle.shop_base.specs.Move.{CanMove, KeepsPlan, after_move}
 use Rattle.shop_base.specs.Run.{Event, Reported, Moved, AreEvents, after_all, IsAtRest}
 use Rattle.shop_base.specs.Controlled.{AreMoves, after_moves, IsStep, after_step}

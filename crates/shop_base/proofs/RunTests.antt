@@ -6,8 +6,9 @@ use Rattle.std.proofs.lemmas.List.{get_or_past}
 use Rattle.shop_base.specs.Plan.{PlannedShop, jobs, steps, machine_of}
 use Rattle.shop_base.specs.Cell.{Cell, MachineState, absent, unused, job_in, made, ready, cleaning, IsGone}
 use Rattle.shop_base.specs.declared.job_state.JobState.{JobState}
+use Rattle.shop_base.specs.declared.report.Report.{Report}
 use Rattle.shop_base.specs.Activity.{Activity, Arrival, Operation, Cleaning, GoesOn, IsIdle}
-use Rattle.shop_base.specs.Report.{Report, ended, at, after_report}
+use Rattle.shop_base.specs.Report.{ended, at, after_report}
 use Rattle.shop_base.specs.Move.{CanMove, KeepsPlan, after_move}
 use Rattle.shop_base.specs.Run.{Event, Reported, Moved, after, IsAtRest, IsStuck}
 use Rattle.shop_base.specs.Controlled.{AreMoves, after_step, step_orders, IsStep, moved, Leads, done, accepted, refused}

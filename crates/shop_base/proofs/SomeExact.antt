@@ -4,10 +4,11 @@ use Rattle.std.proofs.lemmas.Bool.{cases_lt, cases_eq}
 use Rattle.shop_base.specs.declared.node.Node.{Node}
 use Rattle.shop_base.specs.declared.job_state.JobState.{JobState}
 use Rattle.shop_base.specs.declared.limits.TheConstants.{MAX_MOMENT}
+use Rattle.shop_base.specs.declared.report.Report.{Report}
 use Rattle.shop_base.specs.Plan.{PlannedShop, jobs, machines, steps, clean, IsWellShaped}
 use Rattle.shop_base.specs.Cell.{Cell, job_in, made, since, cleaning, IsGone}
 use Rattle.shop_base.specs.Activity.{Activity, Arrival, Operation, Cleaning, GoesOn, IsIdle}
-use Rattle.shop_base.specs.Report.{Report, ended, at, report_of, IsNextMoment, CanReport, after_report}
+use Rattle.shop_base.specs.Report.{ended, at, report_of, IsNextMoment, CanReport, after_report}
 use Rattle.shop_base.specs.Move.{after_move}
 use Rattle.shop_base.specs.Run.{Event, Reported, IsAtRest, ends_in}
 use Rattle.shop_base.specs.Controlled.{AreMoves, after_moves, orders_for, step_orders, after_step, IsStep, moved, Leads, done, accepted}

@@ -2,10 +2,11 @@
 use Rattle.std.proofs.Common.{◌≡◌, ℕ, zero, suc, ◌+◌, ◌<◌, ◌≤◌, ◌↔◌, List, [], ◌∷◌, ◌++◌, Some, None, refl, sym, ap, ◌∙◌, subst, arith, add-one, le_refl}
 use Rattle.shop_base.specs.declared.node.Node.{Node}
 use Rattle.shop_base.specs.declared.move_order.MoveOrder.{MoveOrder}
+use Rattle.shop_base.specs.declared.report.Report.{Report}
 use Rattle.shop_base.specs.Plan.{PlannedShop, jobs, steps, release, nominal, IsWellShaped}
 use Rattle.shop_base.specs.Cell.{Cell, MachineState, made, since, cleaning, start}
 use Rattle.shop_base.specs.Activity.{Activity, Arrival, Operation, Cleaning, IsAwaited, GoesOn}
-use Rattle.shop_base.specs.Report.{Report, at, IsNextMoment, after_report}
+use Rattle.shop_base.specs.Report.{at, IsNextMoment, after_report}
 use Rattle.shop_base.specs.Move.{after_move}
 use Rattle.shop_base.specs.Run.{Event, Reported, Moved, AreEvents, after_all, ends_in}
 use Rattle.shop_base.specs.Controlled.{IsControlledRun}

@@ -2,9 +2,10 @@
 use Rattle.std.proofs.Common.{◌≡◌, ℕ, ◌+◌, ◌<◌, ◌≤◌, ◌⊎◌, inl, inr, List, [], ◌∷◌, ◌++◌, arith, le_refl}
 use Rattle.std.proofs.lemmas.Bool.{cases_lt}
 use Rattle.shop_base.specs.declared.node.Node.{Node}
+use Rattle.shop_base.specs.declared.report.Report.{Report}
 use Rattle.shop_base.specs.Plan.{PlannedShop, jobs, steps, IsWellShaped}
 use Rattle.shop_base.specs.Cell.{Cell, made, IsGone, since}
-use Rattle.shop_base.specs.Report.{Report, ended, at, after_report}
+use Rattle.shop_base.specs.Report.{ended, at, after_report}
 use Rattle.shop_base.specs.Run.{Event, AreEvents, after_all, ends_in, IsAtRest, Reported, Moved}
 use Rattle.shop_base.specs.Controlled.{AreMoves, after_moves, orders_for, after_step, IsStep, Leads, moved}
 use Rattle.shop_base.specs.Ends.{IsGoneBy}

@@ -1,9 +1,10 @@
 -- The law that an accepted report isn't accepted again.
 use Rattle.std.specs.Prelude.{◌≡◌, ℕ, ◌≤◌, List, [], ◌∷◌, ◌++◌, ◌⊎◌}
 use Rattle.shop_base.specs.declared.move_order.Spot.TheVariants.{At}
+use Rattle.shop_base.specs.declared.report.Report.{Report}
 use Rattle.shop_base.specs.Plan.{PlannedShop, IsWellShaped}
 use Rattle.shop_base.specs.Activity.{Operation, Cleaning}
-use Rattle.shop_base.specs.Report.{Report, ended, at, CanReport}
+use Rattle.shop_base.specs.Report.{ended, at, CanReport}
 use Rattle.shop_base.specs.Run.{Event, Reported, Moved, IsRun, ends_in}
 
 -- among the events the job leaves the machine

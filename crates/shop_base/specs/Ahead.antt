@@ -1,10 +1,10 @@
 -- The rest of a run, from a cell and a present moment: the nodes ahead, moments that fit them, paths ahead, and the controlled run that goes on.
 use Rattle.std.specs.Prelude.{◌≡◌, ℕ, ◌+◌, ◌<◌, ◌≤◌, List, [], ◌∷◌, ◌++◌, length}
 use Rattle.shop_base.specs.declared.node.Node.{Node}
+use Rattle.shop_base.specs.declared.report.Report.{Report}
 use Rattle.shop_base.specs.Plan.{PlannedShop, jobs, steps, budget, Stands, IsWellShaped}
 use Rattle.shop_base.specs.Cell.{Cell, made, since, entries, IsGone}
 use Rattle.shop_base.specs.Activity.{Activity, Arrival, Operation, Cleaning, GoesOn}
-use Rattle.shop_base.specs.Report.{Report}
 use Rattle.shop_base.specs.Run.{Event, Reported, Moved, IsAtRest}
 use Rattle.shop_base.specs.Controlled.{AreMoves, after_moves, orders_for, moved, Leads}
 use Rattle.shop_base.specs.Graph.{Arc, IsNode, node, leaving, RanksRise}

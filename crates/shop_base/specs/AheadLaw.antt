@@ -2,9 +2,10 @@
 use Rattle.std.specs.Prelude.{◌≡◌, ℕ, ◌+◌, ◌<◌, ◌≤◌, ◌↔◌, ◌⊎◌, List, ◌++◌, length}
 use Rattle.shop_base.specs.declared.node.Node.{Node}
 use Rattle.shop_base.specs.declared.limits.TheConstants.{MAX_MOMENT}
+use Rattle.shop_base.specs.declared.report.Report.{Report}
 use Rattle.shop_base.specs.Plan.{PlannedShop, jobs, IsWellShaped}
 use Rattle.shop_base.specs.Cell.{Cell, start, since, IsGone}
-use Rattle.shop_base.specs.Report.{Report, at, IsNextMoment, CanReport, after_report}
+use Rattle.shop_base.specs.Report.{at, IsNextMoment, CanReport, after_report}
 use Rattle.shop_base.specs.Run.{Event, IsRun, ends_in, IsAtRest, IsStuck}
 use Rattle.shop_base.specs.Controlled.{AreMoves, after_moves, IsStep, IsControlledRun}
 use Rattle.shop_base.specs.Punctual.{ArePunctualFrom, AreNotEarly}

@@ -1,8 +1,9 @@
 -- The controlled run of a list of reports: each possible report, and the moves after it until the cell is at rest.
 use Rattle.std.specs.Prelude.{ℕ, List, [], ◌∷◌, ◌++◌}
+use Rattle.shop_base.specs.declared.report.Report.{Report}
 use Rattle.shop_base.specs.Plan.{PlannedShop}
 use Rattle.shop_base.specs.Cell.{Cell, start}
-use Rattle.shop_base.specs.Report.{Report, at, CanReport, after_report}
+use Rattle.shop_base.specs.Report.{at, CanReport, after_report}
 use Rattle.shop_base.specs.Move.{CanMove, KeepsPlan, after_move, order_for}
 use Rattle.shop_base.specs.declared.move_order.MoveOrder.{MoveOrder}
 use Rattle.shop_base.specs.Run.{Event, Reported, Moved, IsAtRest}

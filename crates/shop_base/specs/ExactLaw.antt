@@ -1,9 +1,9 @@
 -- The laws of exact runs: no job is out before a path allows it, nor after the moment that is kept for it.
 use Rattle.std.specs.Prelude.{◌≡◌, ℕ, ◌≤◌, List, ◌∷◌, ◌++◌}
 use Rattle.shop_base.specs.declared.node.Node.{Node}
+use Rattle.shop_base.specs.declared.report.Report.{Report}
 use Rattle.shop_base.specs.Plan.{PlannedShop, IsWellShaped}
 use Rattle.shop_base.specs.Cell.{Cell, start, made, since, IsGone}
-use Rattle.shop_base.specs.Report.{Report}
 use Rattle.shop_base.specs.declared.move_order.MoveOrder.{MoveOrder}
 use Rattle.shop_base.specs.Run.{Event, Moved, IsRun, ends_in}
 use Rattle.shop_base.specs.Controlled.{IsControlledRun}

@@ -1,10 +1,11 @@
 -- The law that no controlled run is stuck.
 use Rattle.std.specs.Prelude.{ℕ, ◌⊎◌, List}
 use Rattle.shop_base.specs.declared.node.Node.{Node}
+use Rattle.shop_base.specs.declared.report.Report.{Report}
 use Rattle.shop_base.specs.Plan.{PlannedShop, IsWellShaped}
 use Rattle.shop_base.specs.Cell.{Cell}
 use Rattle.shop_base.specs.Activity.{Activity, GoesOn}
-use Rattle.shop_base.specs.Report.{Report, report_of, CanReport}
+use Rattle.shop_base.specs.Report.{report_of, CanReport}
 use Rattle.shop_base.specs.Run.{Event, IsAtRest, IsStuck}
 use Rattle.shop_base.specs.Controlled.{IsControlledRun}
 use Rattle.shop_base.specs.Ends.{HasEnded}

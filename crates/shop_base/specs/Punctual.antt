@@ -1,9 +1,10 @@
 -- Punctual and exact reports: no later than any activity is due, and exactly when their own is; and reports that aren't early.
 use Rattle.std.specs.Prelude.{ℕ, ◌≤◌, ◌⊎◌, List, [], ◌∷◌}
+use Rattle.shop_base.specs.declared.report.Report.{Report}
 use Rattle.shop_base.specs.Plan.{PlannedShop}
 use Rattle.shop_base.specs.Cell.{Cell}
 use Rattle.shop_base.specs.Activity.{Activity, GoesOn}
-use Rattle.shop_base.specs.Report.{Report, ended, at}
+use Rattle.shop_base.specs.Report.{ended, at}
 use Rattle.shop_base.specs.Run.{Event, Reported, Moved, after}
 
 module _ (p : PlannedShop) (c : Cell) where

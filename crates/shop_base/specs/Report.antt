@@ -1,7 +1,7 @@
 -- The report of an activity's end: when it is possible, and the cell after it.
 use Rattle.std.specs.Prelude.{ℕ, ◌≤◌, None, true}
 use Rattle.shop_base.specs.declared.limits.TheConstants.{MAX_MOMENT}
-pub use Rattle.shop_base.specs.declared.report.Report.{Report}
+use Rattle.shop_base.specs.declared.report.Report.{Report}
 use Rattle.shop_base.specs.declared.report.Report.TheVariants.{Arrive, Finish, Clean}
 use Rattle.shop_base.specs.Plan.{PlannedShop}
 use Rattle.shop_base.specs.Cell.{Cell, job_in, machine_in, with_job, with_machine}

@@ -1,9 +1,10 @@
 -- A run: reports and moves that can happen one after another, from the start; and cells at rest or stuck.
 use Rattle.std.specs.Prelude.{ℕ, ◌<◌, List, [], ◌∷◌}
+use Rattle.shop_base.specs.declared.report.Report.{Report}
 use Rattle.shop_base.specs.Plan.{PlannedShop, jobs}
 use Rattle.shop_base.specs.Cell.{Cell, start, IsGone}
 use Rattle.shop_base.specs.Activity.{IsIdle}
-use Rattle.shop_base.specs.Report.{Report, CanReport, after_report}
+use Rattle.shop_base.specs.Report.{CanReport, after_report}
 use Rattle.shop_base.specs.Move.{CanMove, KeepsPlan, CanObey, after_move}
 use Rattle.shop_base.specs.declared.move_order.MoveOrder.{MoveOrder}
 

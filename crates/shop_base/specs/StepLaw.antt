@@ -1,9 +1,10 @@
 -- The laws of a step and of every run: one list of moves fits a report, and no two jobs are on one machine.
 use Rattle.std.specs.Prelude.{◌≡◌, ℕ, ◌<◌, ◌≤◌, List, [], ◌∷◌, ◌++◌, length, slice_index}
 use Rattle.shop_base.specs.declared.move_order.Spot.TheVariants.{At}
+use Rattle.shop_base.specs.declared.report.Report.{Report}
 use Rattle.shop_base.specs.Plan.{PlannedShop, jobs, IsWellShaped}
 use Rattle.shop_base.specs.Cell.{Cell, entries, IsOn}
-use Rattle.shop_base.specs.Report.{Report, CanReport}
+use Rattle.shop_base.specs.Report.{CanReport}
 use Rattle.shop_base.specs.Move.{CanMove, target, after_move}
 use Rattle.shop_base.specs.Run.{Event, IsRun, ends_in, IsAtRest}
 use Rattle.shop_base.specs.Controlled.{IsStep, IsControlledRun}

@@ -1,10 +1,11 @@
 -- Reports within the moments kept for what they hold up, and moves by the moments kept for them.
 use Rattle.std.specs.Prelude.{ℕ, ◌<◌, ◌≤◌, List, [], ◌∷◌}
 use Rattle.shop_base.specs.declared.node.Node.{Node}
+use Rattle.shop_base.specs.declared.report.Report.{Report}
 use Rattle.shop_base.specs.Plan.{PlannedShop, jobs, steps}
 use Rattle.shop_base.specs.Cell.{Cell, made}
 use Rattle.shop_base.specs.Activity.{Activity, GoesOn}
-use Rattle.shop_base.specs.Report.{Report, ended, at}
+use Rattle.shop_base.specs.Report.{ended, at}
 use Rattle.shop_base.specs.Run.{Event, Reported, Moved, after}
 use Rattle.shop_base.specs.Punctual.{EachReport}
 use Rattle.shop_base.specs.Graph.{Arc, leaving}

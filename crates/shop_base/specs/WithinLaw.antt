@@ -1,10 +1,11 @@
 -- The laws of runs whose reports come within kept moments, however long anything takes: es is any run that keeps the plan, by any controller, and t a present moment.
 use Rattle.std.specs.Prelude.{ℕ, ◌<◌, List, ◌++◌}
 use Rattle.shop_base.specs.declared.node.Node.{Node}
+use Rattle.shop_base.specs.declared.report.Report.{Report}
 use Rattle.shop_base.specs.Plan.{PlannedShop, jobs, IsWellShaped}
 use Rattle.shop_base.specs.Cell.{Cell, IsGone}
 use Rattle.shop_base.specs.Activity.{Activity, GoesOn, IsIdle}
-use Rattle.shop_base.specs.Report.{Report, report_of, IsNextMoment, CanReport}
+use Rattle.shop_base.specs.Report.{report_of, IsNextMoment, CanReport}
 use Rattle.shop_base.specs.Run.{Event, IsRun, ends_in}
 use Rattle.shop_base.specs.Punctual.{ArePunctualFrom}
 use Rattle.shop_base.specs.Ends.{IsInTime, IsOutByBudget}

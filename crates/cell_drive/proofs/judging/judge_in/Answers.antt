@@ -1,6 +1,6 @@
 use Rattle.std.proofs.Common.{◌≡◌, ◌∙◌, false, ap, sym, subst}
-use Rattle.shop_base.specs.Report.{at, CanReport}
 use Rattle.shop_base.specs.declared.report.Report.{Report}
+use Rattle.shop_base.specs.Report.{at, CanReport}
 use Rattle.cell_control.specs.Readings.{IsOnTime}
 use Rattle.cell_drive.specs.Stated.{told_overdue}
 use Rattle.cell_drive.proofs.Refusing.{can_report}

@@ -1,7 +1,7 @@
 use Rattle.std.proofs.Common.{◌↔◌, sym, subst}
 use Rattle.std.specs.Prelude.{IsTrue}
-use Rattle.shop_base.specs.Report.{ended}
 use Rattle.shop_base.specs.declared.report.Report.{Report}
+use Rattle.shop_base.specs.Report.{ended}
 use Rattle.run_log.specs.Audits.{IsGoingOn}
 use Rattle.run_log.proofs.PossibleEntries.{cleaning_there}
 use Rattle.run_log.proofs.entry_check.is_going_on.Goals as goal

@@ -1,6 +1,6 @@
 use Rattle.std.proofs.Common.{subst}
-use Rattle.shop_base.specs.Report.{CanReport}
 use Rattle.shop_base.specs.declared.report.Report.{Report}
+use Rattle.shop_base.specs.Report.{CanReport}
 use Rattle.shop_base.specs.declared.report.Report.TheVariants.{Arrive, Finish, Clean}
 use Rattle.cell_tables.proofs.Values.{ended_value}
 use Rattle.cell_tables.proofs.work_cell.WorkCell.end.Goals as goal
