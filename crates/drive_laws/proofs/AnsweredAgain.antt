@@ -5,15 +5,13 @@ use Rattle.std.proofs.lemmas.List.{append_cancel_left, take-append-drop}
 use Rattle.shop_base.specs.declared.move_order.MoveOrder.{MoveOrder}
 use Rattle.shop_base.specs.Plan.{PlannedShop}
 use Rattle.shop_base.specs.Cell.{Cell, start}
-use Rattle.shop_base.specs.Report as base
-use Rattle.shop_base.specs.Report.{CanReport, after_report}
+use Rattle.shop_base.specs.declared.report.Report as reports
+use Rattle.shop_base.specs.Report.{at, CanReport, after_report}
 use Rattle.shop_base.specs.Punctual.{IsPunctual}
 use Rattle.shop_base.specs.Run.{Event, Moved, after, after_all}
 use Rattle.shop_base.specs.Controlled.{moved, IsStep, after_step, step_orders, Leads, done, accepted, refused}
 use Rattle.shop_base.proofs.ControlledRuns.{after_all-moves}
 use Rattle.shop_base.proofs.CellFacts.{after_report-last}
-use Rattle.cell_tables.specs.declared.report.Report as reports
-use Rattle.cell_tables.specs.Reports.{said}
 use Rattle.cell_tables.specs.declared.entry.Entry.{Entry}
 use Rattle.cell_tables.specs.declared.entry.Entry.TheVariants.{Report as ReportEntry, Order as OrderEntry}
 use Rattle.cell_tables.specs.Events.{event_of, events_of}
@@ -110,11 +108,11 @@ module _ (p : PlannedShop) (manner : Manner) where
 
   -- the events of a report that is taken
   abbrev step_entries : Cell → reports.Report → List ℕ → List Entry
-  step_entries c report js = ReportEntry report ∷ map OrderEntry (step_orders p c (said report) js)
+  step_entries c report js = ReportEntry report ∷ map OrderEntry (step_orders p c report js)
 
   -- its answer, with whether it was late
   abbrev step_text : Cell → reports.Report → List ℕ → Bool → List ℕ
-  step_text c report js late = taken_lines [] report late (told_overdue manner p c report) (step_orders p c (said report) js) (tells_end manner p (after_step p c (said report) js))
+  step_text c report js late = taken_lines [] report late (told_overdue manner p c report) (step_orders p c report js) (tells_end manner p (after_step p c report js))
 
   some_words : (tells : Bool) (line : List ℕ) (claim : Claim) → AsksFor tells line (ClaimRequest claim) → line ≡ [] → ⊥
   some_words tells line claim asked none = go tells claim (subst (λ (l : List ℕ). AsksFor tells l (ClaimRequest claim)) none asked)
@@ -127,19 +125,19 @@ module _ (p : PlannedShop) (manner : Manner) where
 
   -- a line that claims it is answered so
   claim_answered : (c : Cell) (before : List Entry) (number : ℕ) (line : List ℕ) (claim : Claim) (report : reports.Report) (js : List ℕ) (late : Bool) → claimed claim ≡ report
-      → AsksFor manner.tells line (ClaimRequest claim) → IsTaken manner p c claim → IsStep p c (said report) js → ((late ≡ false) ↔ IsPunctual p c (said report))
-      → StatedAnswers p manner (driven_to c before) number (Some line) (step_text c report js late) (driven_to (after_step p c (said report) js) (before ++ step_entries c report js))
+      → AsksFor manner.tells line (ClaimRequest claim) → IsTaken manner p c claim → IsStep p c report js → ((late ≡ false) ↔ IsPunctual p c report)
+      → StatedAnswers p manner (driven_to c before) number (Some line) (step_text c report js late) (driven_to (after_step p c report js) (before ++ step_entries c report js))
   claim_answered c before number line claim report js late same asked taken step late_is =
-      subst (λ (q : reports.Report). StatedAnswers p manner (driven_to c before) number (Some line) (step_text c q js late) (driven_to (after_step p c (said q) js) (before ++ step_entries c q js))) same
-      (asked_line (AsksFor manner.tells) (CellRequests p manner) (driven_to c before) number line (step_text c own js late) (ClaimRequest claim) (driven_to (after_step p c (said own) js) (before ++ step_entries c own js))
+      subst (λ (q : reports.Report). StatedAnswers p manner (driven_to c before) number (Some line) (step_text c q js late) (driven_to (after_step p c q js) (before ++ step_entries c q js))) same
+      (asked_line (AsksFor manner.tells) (CellRequests p manner) (driven_to c before) number line (step_text c own js late) (ClaimRequest claim) (driven_to (after_step p c own js) (before ++ step_entries c own js))
       (some_words manner.tells line claim asked) asked (record {
         more = step_entries c own js;
         answer = inr (record {
           taken = taken;
           movers = js;
-          step = subst (λ (q : reports.Report). IsStep p c (said q) js) (sym same) step;
+          step = subst (λ (q : reports.Report). IsStep p c q js) (sym same) step;
           late = late;
-          late_is = subst (λ (q : reports.Report). (late ≡ false) ↔ IsPunctual p c (said q)) (sym same) late_is;
+          late_is = subst (λ (q : reports.Report). (late ≡ false) ↔ IsPunctual p c q) (sym same) late_is;
           text_is = refl;
           events_are = refl;
           next_is = refl;
@@ -157,16 +155,16 @@ module _ (p : PlannedShop) (manner : Manner) where
   end_behind [] end = []
   end_behind (e ∷ entries) end = end_part [] end.last (tells_end manner p end)
 
-  nothing_led : (c end : Cell) (rs : List base.Report) (es : List Event) → Leads p c rs es end → es ≡ [] → end ≡ c
+  nothing_led : (c end : Cell) (rs : List reports.Report) (es : List Event) → Leads p c rs es end → es ≡ [] → end ≡ c
   nothing_led _ _ _ _ (done c) none = refl
   nothing_led _ end _ _ (refused c r rs es last cannot leads) none = nothing_led c end rs es leads none
   nothing_led _ end _ _ (accepted c r js rs es last step leads) none = absurd (cc)
 
   -- while reports are possible the end isn't told
-  module _ (On : Cell → Type 0) (keeps : (c : Cell) (r : base.Report) (js : List ℕ) → On c → IsStep p c r js → On (after_step p c r js))
-      (goes : (c : Cell) (r : base.Report) → On c → CanReport p c r → tells_end manner p c ≡ false) where
+  module _ (On : Cell → Type 0) (keeps : (c : Cell) (r : reports.Report) (js : List ℕ) → On c → IsStep p c r js → On (after_step p c r js))
+      (goes : (c : Cell) (r : reports.Report) → On c → CanReport p c r → tells_end manner p c ≡ false) where
     -- so it is told behind the last step
-    end_in_turn : (c end : Cell) (rs : List base.Report) (later : List Entry) (rest : List Bool) (t : ℕ) → On c → Leads p c rs (events_of later) end → c.last ≡ t
+    end_in_turn : (c end : Cell) (rs : List reports.Report) (later : List Entry) (rest : List Bool) (t : ℕ) → On c → Leads p c rs (events_of later) end → c.last ≡ t
         → retold_lines p manner c later rest ++ end_part [] end.last (tells_end manner p end) ≡ end_part [] t (tells_end manner p c) ++ (retold_lines p manner c later rest ++ end_behind later end)
     end_in_turn c end rs [] rest t on leads now =
         ap (λ (x : Cell). end_part [] x.last (tells_end manner p x)) (nothing_led c end rs [] leads refl)
@@ -180,7 +178,7 @@ module _ (p : PlannedShop) (manner : Manner) where
         go (inl none) = absurd (cc)
         go (inr first) = ap (λ (b : Bool). end_part [] t b ++ (retold_lines p manner c (e ∷ later) rest ++ ending)) (sym (goes c first.report on first.step.can))
 
-    answered : (c end : Cell) (rs : List base.Report) (es : List Event) → Leads p c rs es end → On c
+    answered : (c end : Cell) (rs : List reports.Report) (es : List Event) → Leads p c rs es end → On c
         → (entries : List Entry) (late : List Bool) (lines : List (Option (List ℕ))) (number : ℕ) (before : List Entry)
         → events_of entries ≡ es → AreLate p c entries late → AreClaimLines p manner c lines entries
         → AnswerAll (StatedAnswers p manner) (driven_to c before) number lines (retold_lines p manner c entries late ++ end_behind entries end) (driven_to end (before ++ entries))
@@ -194,39 +192,39 @@ module _ (p : PlannedShop) (manner : Manner) where
     answered _ _ _ _ (accepted c r js rs es end step leads) on (ReportEntry report ∷ entries) [] lines number before same are say = absurd are
     answered _ _ _ _ (accepted c r js rs es end step leads) on (ReportEntry report ∷ entries) (f ∷ fs) lines number before same are (line, claim, rest, asked, is_claimed, taken, says, whole) =
         let os : List MoveOrder = step_orders p c r js in
-        let is_said : said report ≡ r = cc in
+        let same_report : report ≡ r = cc in
         let tails : events_of entries ≡ moved os ++ es = cc in
         let (later, split, events) = entries_moved entries os es tails in
         let next : Cell = after_step p c r js in
-        let led : after_all p (after_report c (said report)) (moved os) ≡ next = ap (λ (q : base.Report). after_all p (after_report c q) (moved os)) is_said ∙ after_all-moves p (after_report c r) r.at js in
-        let behind : AreLateBehind (after_report c (said report)) os later fs =
-        late_behind (after_report c (said report)) os later fs (subst (λ (xs : List Entry). AreLate p (after_report c (said report)) xs fs) split are.1) in
+        let led : after_all p (after_report c report) (moved os) ≡ next = ap (λ (q : reports.Report). after_all p (after_report c q) (moved os)) same_report ∙ after_all-moves p (after_report c r) (at r) js in
+        let behind : AreLateBehind (after_report c report) os later fs =
+        late_behind (after_report c report) os later fs (subst (λ (xs : List Entry). AreLate p (after_report c report) xs fs) split are.1) in
         let are_later : AreLate p next later behind.rest = subst (λ (d : Cell). AreLate p d later behind.rest) led behind.are in
         let says_later : AreClaimLines p manner next rest later =
         subst (λ (d : Cell). AreClaimLines p manner d rest later) led
-        (behind_orders (after_report c (said report)) os later rest (subst (AreClaimLines p manner (after_report c (said report)) rest) split says)) in
-        let now : next.last ≡ (said report).at = moves_last p (after_report c r) r.at js (after_report-last c r) ∙ ap (λ (q : base.Report). q.at) (sym is_said) in
+        (behind_orders (after_report c report) os later rest (subst (AreClaimLines p manner (after_report c report) rest) split says)) in
+        let now : next.last ≡ at report = moves_last p (after_report c r) (at r) js (after_report-last c r) ∙ ap at (sym same_report) in
         let entries_then : List Entry = before ++ ReportEntry report ∷ map OrderEntry os in
-        let lateness : List ℕ = lateness_part [] (said report).at f (told_overdue manner p c report) in
-        let ended : List ℕ = end_part [] (said report).at (tells_end manner p next) in
+        let lateness : List ℕ = lateness_part [] (at report) f (told_overdue manner p c report) in
+        let ended : List ℕ = end_part [] (at report) (tells_end manner p next) in
         let text : List ℕ = report_line report ++ (lateness ++ (order_lines os ++ ended)) in
         let answer : StatedAnswers p manner (driven_to c before) number (Some line) text (driven_to next entries_then) =
-        subst (λ (q : base.Report). StatedAnswers p manner (driven_to c before) number (Some line)
-        (report_line report ++ (lateness ++ (order_lines (step_orders p c q js) ++ end_part [] (said report).at (tells_end manner p (after_step p c q js)))))
-        (driven_to (after_step p c q js) (before ++ ReportEntry report ∷ map OrderEntry (step_orders p c q js)))) is_said
-        (claim_answered c before number line claim report js f is_claimed asked taken (subst (λ (q : base.Report). IsStep p c q js) (sym is_said) step) are.0) in
+        subst (λ (q : reports.Report). StatedAnswers p manner (driven_to c before) number (Some line)
+        (report_line report ++ (lateness ++ (order_lines (step_orders p c q js) ++ end_part [] (at report) (tells_end manner p (after_step p c q js)))))
+        (driven_to (after_step p c q js) (before ++ ReportEntry report ∷ map OrderEntry (step_orders p c q js)))) same_report
+        (claim_answered c before number line claim report js f is_claimed asked taken (subst (λ (q : reports.Report). IsStep p c q js) (sym same_report) step) are.0) in
         let text_then : List ℕ = retold_lines p manner next later behind.rest ++ end_behind later end in
         let others = answered next end rs es leads (keeps c r js on step) later behind.rest rest (number + 1) entries_then events are_later says_later in
         let joined : entries_then ++ later ≡ before ++ ReportEntry report ∷ entries =
         append_assoc before (ReportEntry report ∷ map OrderEntry os) later ∙ ap (λ (xs : List Entry). before ++ ReportEntry report ∷ xs) (sym split) in
         let told : retold_lines p manner c (ReportEntry report ∷ entries) (f ∷ fs) ≡ (report_line report ++ lateness) ++ (order_lines os ++ retold_lines p manner next later behind.rest) =
-        ap (λ (xs : List Entry). (report_line report ++ lateness) ++ retold_lines p manner (after_report c (said report)) xs fs) split
+        ap (λ (xs : List Entry). (report_line report ++ lateness) ++ retold_lines p manner (after_report c report) xs fs) split
         ∙ ap (λ (t : List ℕ). (report_line report ++ lateness) ++ t) (behind.text ∙ ap (λ (d : Cell). order_lines os ++ retold_lines p manner d later behind.rest) led) in
         let ending : List ℕ = end_part [] end.last (tells_end manner p end) in
         let whole_text : retold_lines p manner c (ReportEntry report ∷ entries) (f ∷ fs) ++ ending ≡ text ++ text_then =
         ap (λ (t : List ℕ). t ++ ending) told
         ∙ told_step (report_line report) lateness (order_lines os) ended (retold_lines p manner next later behind.rest) ending text_then
-        (end_in_turn next end rs later behind.rest (said report).at (keeps c r js on step) (subst (λ (xs : List Event). Leads p next rs xs end) (sym events) leads) now) in
+        (end_in_turn next end rs later behind.rest (at report) (keeps c r js on step) (subst (λ (xs : List Event). Leads p next rs xs end) (sym events) leads) now) in
         subst (λ (ls : List (Option (List ℕ))). AnswerAll (StatedAnswers p manner) (driven_to c before) number ls (retold_lines p manner c (ReportEntry report ∷ entries) (f ∷ fs) ++ ending) (driven_to end (before ++ ReportEntry report ∷ entries))) (sym whole) (
           text,
           text_then,

@@ -4,10 +4,11 @@ use Rattle.std.proofs.lemmas.Bool.{cases_eq, cases_Bool, false≢true}
 use Rattle.shop_base.specs.declared.job_state.JobState.{JobState}
 use Rattle.shop_base.specs.declared.move_order.MoveOrder.{MoveOrder}
 use Rattle.shop_base.specs.declared.move_order.Spot.TheVariants.{Out, At}
+use Rattle.shop_base.specs.declared.report.Report.{Report}
 use Rattle.shop_base.specs.Plan.{PlannedShop, job_at, clean, Visits, Stands, IsWellShaped}
 use Rattle.shop_base.specs.Cell.{Cell, made, ready, entries, start, IsOn}
 use Rattle.shop_base.specs.Activity.{Activity, Arrival, Operation, Cleaning, GoesOn}
-use Rattle.shop_base.specs.Report.{Report, CanReport, after_end, after_report}
+use Rattle.shop_base.specs.Report.{ended, at, CanReport, after_end, after_report}
 use Rattle.shop_base.specs.Move.{spot_after, source, CanObey, after_move}
 use Rattle.shop_base.specs.Run.{Event, Reported, Moved, CanHappen, AreEvents, after, after_all}
 use Rattle.shop_base.specs.Sound.{IsSound}
@@ -62,7 +63,7 @@ module _ (floor : Floor) (p : PlannedShop) (shaped : IsWellShaped p) where
   ended_own c (Cleaning m) due t j sound goes idle now = absurd (false≢true (sym idle ∙ now))
 
   -- which is what a report of it tells
-  own_told : (c : Cell) (r : Report) (ended : NamedEnd) (j : ℕ) → Tells p c r ended → IsOwn c j r.ended → ended ≡ end_at j (source p c j)
+  own_told : (c : Cell) (r : Report) (what : NamedEnd) (j : ℕ) → Tells p c r what → IsOwn c j (ended r) → what ≡ end_at j (source p c j)
   own_told c r (Arrived i) j tells (inl (is, out)) = let same : i ≡ j = cc in ap Arrived same ∙ ap (end_at j) (sym out)
   own_told c r (Arrived i) j tells (inr (m, is, at)) = absurd (cc)
   own_told c r (Finished i n) j tells (inl (is, out)) = absurd (cc)
@@ -75,16 +76,16 @@ module _ (floor : Floor) (p : PlannedShop) (shaped : IsWellShaped p) where
   IsKnown c = (j : ℕ) → ready c j ≡ true → HasEndedBy floor (end_at j (source p c j)) c.last
 
   known_report : (c : Cell) (r : Report) → IsSound p c → CanReport p c r → TellsTruth floor p c r → IsKnown c → IsKnown (after_report c r)
-  known_report c r sound can (ended, tells, by) known j now =
+  known_report c r sound can (what, tells, by) known j now =
       let new = after_report c r in
       let same : source p new j ≡ source p c j = same_source p c new j ((after_report-like p c r sound can).made_same j) in
-      let last : new.last ≡ r.at = after_report-last c r in
+      let last : new.last ≡ at r = after_report-last c r in
       subst (λ s. HasEndedBy floor (end_at j s) new.last) (sym same) (subst (λ t. HasEndedBy floor (end_at j (source p c j)) t) (sym last) (go (cases_Bool (ready c j))))
     where
-      go : (ready c j ≡ true) ⊎ (ready c j ≡ false) → HasEndedBy floor (end_at j (source p c j)) r.at
-      go (inl was) = later_by (end_at j (source p c j)) c.last r.at can.moment.in_order (known j was)
+      go : (ready c j ≡ true) ⊎ (ready c j ≡ false) → HasEndedBy floor (end_at j (source p c j)) (at r)
+      go (inl was) = later_by (end_at j (source p c j)) c.last (at r) can.moment.in_order (known j was)
       go (inr idle) =
-          subst (λ e. HasEndedBy floor e r.at) (own_told c r ended j tells (ended_own c r.ended can.going.0 r.at j sound can.going.1 idle now)) by
+          subst (λ e. HasEndedBy floor e (at r)) (own_told c r what j tells (ended_own c (ended r) can.going.0 (at r) j sound can.going.1 idle now)) by
 
   known_move : (c : Cell) (o : MoveOrder) → IsSound p c → CanObey p c o → IsKnown c → IsKnown (after_move p c o.job o.at)
   known_move c o sound can known j now = go (cases_eq j o.job)
@@ -119,12 +120,12 @@ module _ (floor : Floor) (p : PlannedShop) (shaped : IsWellShaped p) where
 
     cleaned_report : (c : Cell) (r : Report) → IsSound p c → CanReport p c r → TellsTruth floor p c r → IsCleanedSince c → IsCleanedSince (after_report c r)
     cleaned_report c r sound can truth (inr by) = inr (later_by (Cleaned m j) c.last (after_report c r).last (last_grows c (Reported r) can) by)
-    cleaned_report c r sound can (ended, tells, by) (inl was) = go ended tells by
+    cleaned_report c r sound can (what, tells, by) (inl was) = go what tells by
       where
         of : Activity → Type 0
-        of a = IsCleanedSince (after_report c (record { ended = a; at = r.at }))
+        of a = IsCleanedSince (after_end c a (at r))
 
-        go : (e : NamedEnd) → Tells p c r e → HasEndedBy floor e r.at → of r.ended
+        go : (e : NamedEnd) → Tells p c r e → HasEndedBy floor e (at r) → of (ended r)
         go (Arrived i) is by = subst of (sym is) (inl (record { from = was.from; is_cleaned = was.is_cleaned; last_in = was.last_in }))
         go (Finished i n) is by = subst of (sym is) (inl (record { from = was.from; is_cleaned = was.is_cleaned; last_in = was.last_in }))
         go (Cleaned n i) (is, other) by = subst of (sym is) (elim (cases_eq m n) [
@@ -132,9 +133,9 @@ module _ (floor : Floor) (p : PlannedShop) (shaped : IsWellShaped p) where
               let last : job_at p m (length (entries c m) - 1) ≡ i = subst (λ x. job_at p x (length (entries c x) - 1) ≡ i) (sym same) other.last_in in
               let mine : job_at p m (length (entries c m) - 1) ≡ j = was.last_in in
               let is_it : Cleaned n i ≡ Cleaned m j = cc in
-              inr (subst (λ e. HasEndedBy floor e r.at) is_it by)
+              inr (subst (λ e. HasEndedBy floor e (at r)) is_it by)
           | inr differ ↦
-              let change = with_clean-tidied c n other.from r.at other.is_cleaned in
+              let change = with_clean-tidied c n other.from (at r) other.is_cleaned in
               inl (record {
                 from = was.from;
                 is_cleaned = change.cleaning_elsewhere m differ ∙ was.is_cleaned;

@@ -3,11 +3,10 @@ use Rattle.std.proofs.Common.{◌≡◌, ℕ, ◌+◌, List, [], ◌∷◌, ◌+
 use Rattle.shop_base.specs.declared.move_order.MoveOrder.{MoveOrder}
 use Rattle.shop_base.specs.Plan.{PlannedShop, IsWellShaped}
 use Rattle.shop_base.specs.Cell.{Cell, start}
-use Rattle.shop_base.specs.Report.{after_report}
+use Rattle.shop_base.specs.Report.{at, after_report}
 use Rattle.shop_base.specs.Run.{Event, Reported, Moved, AreEvents, after, after_all}
 use Rattle.shop_base.specs.Controlled.{moved, step_orders}
 use Rattle.shop_base.proofs.ControlledRuns.{events_join, after_all_join, moves-events, after_all-moves}
-use Rattle.cell_tables.specs.Reports.{said}
 use Rattle.cell_tables.specs.declared.entry.Entry.{Entry}
 use Rattle.cell_tables.specs.Events.{events_of}
 use Rattle.run_log.proofs.Audits.{events-join}
@@ -64,13 +63,13 @@ module _ (floor : Floor) (p : PlannedShop) where
     claim_goes : (prefix : List ℕ) (c next : Cell) (claim : Claim) (text : List ℕ) (events : List Entry) → IsClaimTaken p manner prefix c claim text events next → IsTruthful floor claim
         → GoTruly c (events_of events) next
     claim_goes prefix c next claim text events is truthful =
-        let r = said (claimed claim) in
+        let r = claimed claim in
         let os = step_orders p c r is.movers in
         let whole : events_of events ≡ Reported r ∷ moved os = ap events_of is.events_are ∙ ap (λ (es : List Event). Reported r ∷ es) (events-orders os) in
         subst (λ (es : List Event). GoTruly c es next) (sym whole) (record {
-          happen = (is.step.can, moves-events p (after_report c r) r.at is.movers is.step.moves);
+          happen = (is.step.can, moves-events p (after_report c r) (at r) is.movers is.step.moves);
           tell = ((truthful.0, tells_named p c claim truthful.0 truthful.1 is.taken.0, truthful.2), moves_tell (after p c (Reported r)) os);
-          leads = is.next_is ∙ sym (after_all-moves p (after_report c r) r.at is.movers);
+          leads = is.next_is ∙ sym (after_all-moves p (after_report c r) (at r) is.movers);
         })
 
     request_goes : (prefix : List ℕ) (c next : Cell) (number : ℕ) (request : Request) (text : List ℕ) (events : List Entry) → RequestAnswer p manner prefix c number request text events next

@@ -1,10 +1,11 @@
 -- What is told again of a log is what was answered, in version 1 of the lines and in any manner.
 use Rattle.std.proofs.Common.{◌≡◌, ◌==◌, ◌&&◌, ◌⊎◌, ℕ, ◌+◌, ◌-◌, Bool, true, false, List, [], ◌∷◌, ◌++◌, Option, length, take, drop, inl, inr, refl, sym, ap, ◌∙◌, subst, arith, append-nil}
 use Rattle.std.proofs.lemmas.Bool.{cases_Bool, eqb-true}
+use Rattle.shop_base.specs.declared.report.Report.{Report}
 use Rattle.shop_base.specs.Plan.{PlannedShop, jobs, machines, IsWellShaped}
 use Rattle.shop_base.specs.Shop.{operations_of}
 use Rattle.shop_base.specs.Cell.{Cell, start}
-use Rattle.shop_base.specs.Report.{Report, CanReport, after_report}
+use Rattle.shop_base.specs.Report.{at, CanReport, after_report}
 use Rattle.shop_base.specs.Run.{Event, AreEvents, after}
 use Rattle.shop_base.specs.Controlled.{moved, IsStep, after_step, step_orders, Leads, done, accepted, refused}
 use Rattle.shop_base.specs.Ends.{cleanings_of, sum_below}
@@ -76,7 +77,7 @@ module _ (p : PlannedShop) where
   leads_happen _ end _ _ (accepted c r js rs es last step leads) =
       let next = after_report c r in
       let moves = moved (step_orders p c r js) in
-      (step.can, events_join p next moves es (moves-events p next r.at js step.moves) (subst (λ (d : Cell). AreEvents p d es) (sym (after_all-moves p next r.at js)) (leads_happen (after_step p c r js) end rs es leads)))
+      (step.can, events_join p next moves es (moves-events p next (at r) js step.moves) (subst (λ (d : Cell). AreEvents p d es) (sym (after_all-moves p next (at r) js)) (leads_happen (after_step p c r js) end rs es leads)))
 
   -- the lines of reports claim them
   claims_of : (c : Cell) (entries : List Entry) (lines : List (Option (List ℕ))) → AreEvents p c (events_of entries) → AreReportLines lines entries → AreClaimLines p plain c lines entries

@@ -3,12 +3,12 @@ use Rattle.std.specs.Prelude.{◌≡◌, ℕ, ◌<◌, ◌≤◌, List, [], ◌�
 use Rattle.shop_base.specs.declared.move_order.Spot.{Spot}
 use Rattle.shop_base.specs.declared.move_order.Spot.TheVariants.{Out, At}
 use Rattle.shop_base.specs.declared.move_order.MoveOrder.{MoveOrder}
+use Rattle.shop_base.specs.declared.report.Report.{Report}
 use Rattle.shop_base.specs.Plan.{PlannedShop, clean, IsWellShaped}
 use Rattle.shop_base.specs.Cell.{Cell, start}
-use Rattle.shop_base.specs.Report.{Report}
+use Rattle.shop_base.specs.Report.{at}
 use Rattle.shop_base.specs.Run.{Event, Reported, Moved, after, IsRun}
 use Rattle.shop_base.specs.AgainLaw.{HasLeft}
-use Rattle.cell_tables.specs.Reports.{said}
 use Rattle.cell_tables.specs.declared.entry.Entry.{Entry}
 use Rattle.cell_tables.specs.Events.{events_of}
 use Rattle.cell_control.specs.OnceLaw.{NamedEnd, Arrived, Finished, Cleaned, Tells}
@@ -55,7 +55,7 @@ AreRight floor p es = (before later : List Event) (o : MoveOrder) → es ≡ bef
 
 -- the report tells what has ended by its moment
 abbrev pub TellsTruth : Floor → PlannedShop → Cell → Report → Type 0
-TellsTruth floor p c r = (ended : NamedEnd) × Tells p c r ended × HasEndedBy floor ended r.at
+TellsTruth floor p c r = (ended : NamedEnd) × Tells p c r ended × HasEndedBy floor ended (at r)
 
 -- so does each report among these events, from this cell on
 abbrev pub TellTruth : Floor → PlannedShop → Cell → List Event → Type 0
@@ -71,7 +71,7 @@ NothingIsOrderedWrongly = (floor : Floor) (p : PlannedShop) (es : List Event) �
 
 -- what is claimed to have ended has a name, so it isn't said by `clean M T`, and has ended by the moment of the claim
 abbrev pub IsTruthful : Floor → Claim → Type 0
-IsTruthful floor claim = (ended : NamedEnd) × (named claim ≡ Some ended) × HasEndedBy floor ended (said (claimed claim)).at
+IsTruthful floor claim = (ended : NamedEnd) × (named claim ≡ Some ended) × HasEndedBy floor ended (at (claimed claim))
 
 -- whatever is claimed by the line, if it asks for anything, is so
 abbrev pub SaysTruth : Floor → (List ℕ → Request → Type 0) → Option (List ℕ) → Type 0
