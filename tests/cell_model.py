@@ -227,3 +227,8 @@ def serial(shop):
     """The orders by which each machine takes its jobs in ascending order."""
     visited = [{machine for machine, _ in route} for route in shop.routes]
     return [[job for job in range(shop.jobs) if machine in visited[job]] for machine in range(shop.machines)]
+
+
+def worth(plan, leaves):
+    """The total lateness of the plan with these leavings, and its makespan: the lesser pair is better."""
+    return sum(max(0, at - budget) for at, budget in zip(leaves, plan.budget)), max(leaves)
