@@ -15,7 +15,8 @@ use Rattle.shop_base.proofs.Keeping.{target_place}
 use Rattle.shop_base.proofs.CellFacts.{target_visited, target_out, source_on, source_outside}
 use Rattle.cell_tables.specs.declared.tables.Tables.{Tables}
 use Rattle.cell_tables.specs.Tables.{cell_of, row_at, entered_at, AreTables, IsJobPut, IsMachinePut}
-use Rattle.cell_tables.specs.Moving.{IsSpotOf, HasNext, IsEntered}
+use Rattle.cell_tables.specs.Moving.{IsSpotOf}
+use Rattle.cell_tables.specs.Entering.{HasNext, IsEntered}
 use Rattle.cell_tables.proofs.Cells.{job-read, entries-read, entries-count, cleaning-read, last-read}
 use Rattle.cell_tables.proofs.Writes.{job_written, tables-job_written, row_written, tables-row_written}
 

@@ -20,7 +20,8 @@ use Rattle.shop_base.proofs.Changes.{moves_within}
 use Rattle.shop_base.proofs.Keeping.{start-sound, after_move-sound, after_report-sound}
 use Rattle.cell_tables.specs.declared.tables.Tables.{Tables}
 use Rattle.cell_tables.specs.Tables.{cell_of, entered_at, AreTables, AreSound, IsJobPut, IsMachinePut}
-use Rattle.cell_tables.specs.Moving.{IsSpotOf, HasNext, HasRoom, IsEntered}
+use Rattle.cell_tables.specs.Moving.{IsSpotOf}
+use Rattle.cell_tables.specs.Entering.{HasNext, HasRoom, IsEntered}
 use Rattle.cell_tables.specs.PlannedCell.{PlannedCell}
 use Rattle.cell_tables.proofs.Cells.{entries-count, row-inside}
 use Rattle.cell_tables.proofs.Writes.{job_written, tables-job_written}

@@ -5,3 +5,5 @@ pub mod PlannedCell
 pub mod Readings
 pub mod Standings
 pub mod Tables
+-- Of proofs and private contracts alone.
+pub mod Entering

@@ -5,7 +5,8 @@ ghost use Rattle.shop_base.specs.declared.limits.TheConstants.{MAX_MOMENT};
 ghost use Rattle.shop_base.specs.Cell.{absent, start};
 ghost use Rattle.shop_base.specs.Move.{after_leaving};
 ghost use Rattle.cell_tables.specs.Tables.{cell_of, no_row, AreTables, IsJobPut, IsCleaningPut};
-ghost use Rattle.cell_tables.specs.Moving.{IsSpotOf, HasRoom, IsEntered};
+ghost use Rattle.cell_tables.specs.Moving.{IsSpotOf};
+ghost use Rattle.cell_tables.specs.Entering.{HasRoom, IsEntered};
 
 use shop_base::limits::MAX_JOBS;
 use shop_base::{JobNo, JobState, MachineNo, Moment, Shaped, Spot};
