@@ -17,7 +17,7 @@ use Rattle.shop_base.proofs.ReportsLeft.{start-reports_left, after_step-reports_
 use Rattle.shop_base.proofs.StartAhead.{start-keeps_moments}
 use Rattle.shop_base.proofs.InTime.{step-keeps_moments}
 use Rattle.plan_verifier.specs.Accepted.{VerifiedPlan, IsVerified, kept_at, rank_in}
-use Rattle.cell_control.specs.declared.report.Ack.{Ack}
+use Rattle.cell_control.specs.declared.ack.Ack.{Ack}
 use Rattle.cell_tables.specs.PlannedCell as planned
 use Rattle.cell_tables.specs.PlannedCell.{PlannedCell}
 use Rattle.cell_control.specs.DueMoments.{AreDueMoments}

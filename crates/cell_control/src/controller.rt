@@ -11,13 +11,14 @@ ghost use Rattle.cell_control.specs.DueMoments.{AreDueMoments};
 ghost use Rattle.cell_tables.specs.Readings.{IsCleanedFor};
 ghost use Rattle.cell_control.specs.Readings.{IsPhaseOf, IsJobOn, IsDueOf, IsDueOfCleaning, IsOnTime};
 
+use crate::ack::Ack;
 use crate::checking::{check_cleaning_after, check_report};
 use crate::due_moments::cleaning_key;
 use crate::dues::Dues;
 use crate::parts::Parts;
+use crate::phase::Phase;
 use crate::readings::phase_of;
 use crate::releasing::Orders;
-use crate::report::{Ack, Phase};
 use crate::report_fault::ReportFault;
 use crate::reserved::reserve;
 use crate::step::{is_past_due, make_step, still_punctual};

@@ -10,6 +10,7 @@
 //! Moments are whole time units, counted from moment 0. Only [`Controller::new`] and [`Dues::sized`] take memory.
 #![tactic(auto)]
 
+mod ack;
 mod checking;
 mod controller;
 mod due_moments;
@@ -18,23 +19,24 @@ mod dues;
 mod ending;
 pub mod laws;
 mod parts;
+mod phase;
 mod readings;
 mod releasing;
-mod report;
 mod report_fault;
 mod reserved;
 mod scan_dues;
 mod step;
 mod tourney_dues;
 
+pub use ack::Ack;
 pub use checking::{check_cleaning_after, check_report};
 pub use controller::Controller;
 pub use due_moments::{renew_job, renew_machine};
 pub use dues::Dues;
 pub use parts::Parts;
+pub use phase::Phase;
 pub use readings::phase_of;
 pub use releasing::Orders;
-pub use report::{Ack, Phase};
 pub use report_fault::ReportFault;
 pub use scan_dues::ScanDues;
 pub use shop_base::{MoveOrder, Report, Spot};

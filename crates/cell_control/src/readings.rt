@@ -4,7 +4,7 @@ ghost use Rattle.std.specs.Prelude.{◌<◌};
 ghost use Rattle.shop_base.specs.Plan.{jobs};
 ghost use Rattle.cell_control.specs.Readings.{IsPhase};
 
-use crate::report::Phase;
+use crate::phase::Phase;
 use cell_tables::WorkCell;
 use shop_base::{JobNo, Planned};
 

@@ -7,10 +7,10 @@ ghost use Rattle.shop_base.specs.Run.{IsAtRest};
 ghost use Rattle.cell_control.specs.DueMoments.{AreDueMoments};
 ghost use Rattle.cell_control.specs.Steps.{IsMade, AreDueFrom};
 
+use crate::ack::Ack;
 use crate::dues::Dues;
 use crate::ending::end_activity;
 use crate::releasing::{Orders, release_moves};
-use crate::report::Ack;
 use cell_tables::WorkCell;
 use shop_base::{Moment, Planned, Report};
 

@@ -10,7 +10,7 @@ use Rattle.shop_base.specs.Controlled.{moved, step_orders, after_step, done, IsC
 use Rattle.shop_base.specs.Ends.{reports_in, moves_in, stated_number}
 use Rattle.shop_base.proofs.Appending.{leads_more}
 use Rattle.shop_base.proofs.StatedNumber.{ends_on_the_stated_number-holds, orders_never_outnumber_reports-holds}
-use Rattle.cell_control.specs.declared.report.Ack.{Ack}
+use Rattle.cell_control.specs.declared.ack.Ack.{Ack}
 use Rattle.plan_verifier.specs.Accepted.{VerifiedPlan, IsVerified}
 use Rattle.cell_control.specs.Control.{Control, at_start, IsAnswered}
 use Rattle.cell_tables.specs.declared.entry.Entry.{Entry}

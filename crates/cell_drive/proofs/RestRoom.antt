@@ -14,7 +14,7 @@ use Rattle.shop_base.specs.ReportsLeft.{reports_left}
 use Rattle.shop_base.proofs.ControlledRuns.{events_join, after_all_join, moves-events, after_all-moves}
 use Rattle.shop_base.proofs.StatedNumber.{run-stated_number}
 use Rattle.shop_base.proofs.ReportsLeft.{ended_where_none, none_where_ended}
-use Rattle.cell_control.specs.declared.report.Ack.{Ack}
+use Rattle.cell_control.specs.declared.ack.Ack.{Ack}
 use Rattle.cell_tables.specs.declared.entry.Entry.{Entry}
 use Rattle.cell_tables.specs.declared.entry.Entry.TheVariants.{Report as ReportEntry, Order as OrderEntry}
 use Rattle.cell_tables.specs.Events.{events_of}

@@ -8,7 +8,7 @@ use Rattle.shop_base.specs.declared.report.Report as reports
 use Rattle.plan_verifier.specs.Accepted.{VerifiedPlan}
 use Rattle.cell_tables.specs.declared.entry.Entry.{Entry}
 use Rattle.cell_tables.specs.declared.entry.Entry.TheVariants.{Report as ReportEntry, Order as OrderEntry}
-use Rattle.cell_control.specs.declared.report.Ack.{Ack}
+use Rattle.cell_control.specs.declared.ack.Ack.{Ack}
 use Rattle.cell_control.specs.Control.{Control}
 use Rattle.cell_hub.specs.declared.ticket.Ticket.{Ticket}
 use Rattle.cell_hub.specs.declared.hub_fault.HubFault.{HubFault}

@@ -10,7 +10,7 @@ use Rattle.shop_base.proofs.ControlledRuns.{controlled_to_run}
 use Rattle.plan_verifier.specs.Accepted.{VerifiedPlan}
 use Rattle.cell_tables.specs.declared.entry.Entry.TheVariants.{Report as ReportEntry, Order as OrderEntry}
 use Rattle.cell_tables.specs.Events.{events_of}
-use Rattle.cell_control.specs.declared.report.Ack.{Ack}
+use Rattle.cell_control.specs.declared.ack.Ack.{Ack}
 use Rattle.cell_control.specs.declared.report_fault.ReportFault.{ReportFault}
 use Rattle.cell_control.specs.Control.{Control, IsAnswered}
 use Rattle.cell_control.specs.Reports.{IsFirstReason}

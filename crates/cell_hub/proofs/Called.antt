@@ -8,7 +8,7 @@ use Rattle.plan_verifier.specs.Accepted.{VerifiedPlan}
 use Rattle.cell_control.specs.Control.{Control, at_start}
 use Rattle.cell_control.specs.Reports.{IsFirstReason}
 use Rattle.cell_control.proofs.OneReason.{only_reason}
-use Rattle.cell_control.specs.declared.report.Ack.{Ack}
+use Rattle.cell_control.specs.declared.ack.Ack.{Ack}
 use Rattle.cell_hub.specs.declared.ticket.Ticket.{Ticket}
 use Rattle.cell_hub.specs.declared.slots.Placed.{Placed}
 use Rattle.cell_hub.specs.declared.hub_fault.HubFault.{HubFault}

@@ -5,7 +5,7 @@ use Rattle.std.specs.declared.result.Result.TheVariants.{Ok, Err}
 use Rattle.std.proofs.lemmas.Bool.{false≢true}
 use Rattle.shop_base.specs.Report.{CanReport}
 use Rattle.shop_base.specs.declared.report.Report.TheVariants.{Clean}
-use Rattle.cell_control.specs.declared.report.Ack.{Ack}
+use Rattle.cell_control.specs.declared.ack.Ack.{Ack}
 use Rattle.cell_control.specs.declared.report_fault.ReportFault.{ReportFault}
 use Rattle.cell_control.specs.Control.{Control, IsControl}
 use Rattle.cell_control.specs.Reports.{CanCleanAfter, IsFirstCleanReason}

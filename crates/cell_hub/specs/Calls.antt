@@ -6,7 +6,7 @@ use Rattle.shop_base.specs.Activity.{GoesOn}
 use Rattle.shop_base.specs.Report.{ended, at}
 use Rattle.shop_base.specs.declared.report.Report.TheVariants.{Clean}
 use Rattle.plan_verifier.specs.Accepted.{VerifiedPlan}
-use Rattle.cell_control.specs.declared.report.Ack.{Ack}
+use Rattle.cell_control.specs.declared.ack.Ack.{Ack}
 use Rattle.cell_control.specs.Control.{Control, at_start, IsAnswered}
 use Rattle.cell_control.specs.Reports.{IsFirstReason, IsFirstCleanReason}
 use Rattle.cell_hub.specs.declared.ticket.Ticket.{Ticket}

@@ -4,7 +4,7 @@ use Rattle.std.specs.declared.result.Result.TheVariants.{Ok, Err}
 use Rattle.shop_base.specs.declared.report.Report.{Report}
 use Rattle.shop_base.specs.Run.{Event}
 use Rattle.plan_verifier.specs.Accepted.{VerifiedPlan, IsVerified}
-use Rattle.cell_control.specs.declared.report.Ack.{Ack}
+use Rattle.cell_control.specs.declared.ack.Ack.{Ack}
 use Rattle.cell_control.specs.declared.report_fault.ReportFault.{ReportFault}
 use Rattle.cell_control.specs.Control.{Control, at_start, IsAnswered}
 use Rattle.cell_control.specs.Reports.{IsFirstReason}

@@ -4,7 +4,7 @@ use Rattle.shop_base.specs.Plan.{jobs}
 use Rattle.shop_base.specs.Ends.{HasEnded}
 use Rattle.shop_base.specs.ReportsLeft.{reports_left}
 use Rattle.cell_control.specs.Readings.{IsPhaseOf}
-use Rattle.cell_control.specs.declared.report.Phase.{Phase as Whereabouts}
+use Rattle.cell_control.specs.declared.phase.Phase.{Phase as Whereabouts}
 use Rattle.rest_control.specs.RestControl.{RestControl}
 use Rattle.cellplan_c.specs.declared.cell.Cell.{Cell}
 use Rattle.cellplan_c.specs.declared.told.Phase.{Phase}

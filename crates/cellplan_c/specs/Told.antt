@@ -4,8 +4,8 @@ use Rattle.shop_base.specs.declared.move_order.Spot.{Spot}
 use Rattle.shop_base.specs.declared.move_order.Spot.TheVariants.{Out, At}
 use Rattle.shop_base.specs.declared.move_order.MoveOrder.{MoveOrder}
 use Rattle.shop_base.specs.declared.report.Report.TheVariants.{Arrive, Finish, Clean}
-use Rattle.cell_control.specs.declared.report.Phase.{Phase as Whereabouts}
-use Rattle.cell_control.specs.declared.report.Phase.TheVariants.{Outside, OnMachine, Gone}
+use Rattle.cell_control.specs.declared.phase.Phase.{Phase as Whereabouts}
+use Rattle.cell_control.specs.declared.phase.Phase.TheVariants.{Outside, OnMachine, Gone}
 use Rattle.cell_control.specs.declared.report_fault.ReportFault.{ReportFault}
 use Rattle.cell_control.specs.declared.report_fault.ReportFault.TheVariants.{JobOutOfRange, MachineOutOfRange, MomentTooLarge, Backwards, NotExpected, WrongKind, WrongMachine}
 use Rattle.cellplan_c.specs.declared.told.Order.{Order}

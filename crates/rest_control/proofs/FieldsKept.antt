@@ -26,7 +26,7 @@ use Rattle.plan_verifier.specs.Accepted.{VerifiedPlan}
 use Rattle.cell_tables.specs.declared.tables.Tables.{Tables}
 use Rattle.cell_tables.specs.Tables.{cell_of}
 use Rattle.cell_tables.specs.PlannedCell.{PlannedCell}
-use Rattle.cell_control.specs.declared.report.Ack.{Ack}
+use Rattle.cell_control.specs.declared.ack.Ack.{Ack}
 use Rattle.cell_control.specs.Control.{Control, IsControl}
 use Rattle.cell_control.specs.DueMoments.{AreDueMoments}
 use Rattle.cell_control.specs.Steps.{IsMade}

@@ -18,7 +18,7 @@ use Rattle.shop_base.specs.Ahead.{IsAhead}
 use Rattle.alt_graph.specs.Times.{NodeTimes, earliest_of, AreRanks}
 use Rattle.rest_times.specs.Rest.{AreOrderedAhead}
 use Rattle.cell_control.specs.Control.{Control}
-use Rattle.cell_control.specs.declared.report.Ack.{Ack}
+use Rattle.cell_control.specs.declared.ack.Ack.{Ack}
 use Rattle.rest_control.specs.Settled.{HasSettled}
 
 -- what such a controller holds: the shop and plan, the ranks of the nodes and the moments kept for them, the moment at which it began, the cell, the moves ordered last, and whether all reports since were punctual

@@ -12,7 +12,7 @@ use Rattle.shop_base.specs.ReportsLeft.{reports_left}
 use Rattle.shop_base.specs.KeptMoments.{KeepsLeaving}
 use Rattle.shop_base.specs.Ahead.{GoesOnTo}
 use Rattle.alt_graph.specs.Times.{earliest_of}
-use Rattle.cell_control.specs.declared.report.Ack.{Ack}
+use Rattle.cell_control.specs.declared.ack.Ack.{Ack}
 use Rattle.plan_verifier.specs.Accepted.{VerifiedPlan, IsVerified}
 use Rattle.cell_control.specs.Control.{at_start}
 use Rattle.cell_control.specs.Promises.{RestsUnstuck}
