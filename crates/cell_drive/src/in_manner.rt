@@ -18,7 +18,7 @@ use plan_verifier::Verified;
 use std::alloc::Global;
 
 /// Whether the lines are of version 1, and no moment leaps.
-fn is_plain(manner: Manner) -> bool
+pub fn is_plain(manner: Manner) -> bool
     ensures { result ≡ is_plain manner }
 {
     !manner.tells && manner.longest.is_none()

@@ -1,7 +1,7 @@
 //! Cells driven by lines of text: reports in, move orders out, over any reader and any writer of bytes.
 //!
-//! A driven run is taken up again from its log, which may have been cut at any byte: [`take_up`] replays the log and gives what the
-//! run had come to, or the first bad line of the log. [`resume`] goes on from there: it writes the run once more, and drives it on
+//! A driven run is taken up again from its log, which may have been cut at any byte: [`take_up`] gives what the run had come to by
+//! the log, or why it can't be taken up. [`resume`] goes on from there: it writes the run once more, and drives it on
 //! as [`drive`] does. [`drive_in`] and [`resume_in`] do so in a [`Manner`].
 #![tactic(auto)]
 
@@ -37,7 +37,7 @@ pub use byte_streams::{
     reading_room, stream,
 };
 pub use event_lines::{done_line, late_line, refused_line, report_of, unfinished_line};
-pub use in_manner::{drive_in, go_on_in, resume_in, tell_again_in};
+pub use in_manner::{drive_in, go_on_in, is_plain, resume_in, tell_again_in};
 pub use manner::Manner;
 pub use many_runs::{HubEnd, drive_hub};
 pub use one_cell::{Driven, take_report};

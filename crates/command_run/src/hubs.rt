@@ -4,23 +4,17 @@ ghost use Rattle.std.specs.Prelude.{◌≡◌, map};
 ghost use Rattle.byte_streams.specs.Lent.{streams_of};
 ghost use Rattle.std.specs.Option.{option_copied};
 ghost use Rattle.std.specs.String.{string_bytes};
-ghost use Rattle.command_run.specs.Drives.{is_plain};
 ghost use Rattle.command_run.specs.Hubs.{AreDrivesIn, DrivesCells};
 ghost use Rattle.command_run.specs.Program.{RunsHub};
 
 use crate::devices::Streams;
 use crate::drives::{Told, ended};
-use cell_drive::{DriveFault, HubEnd, Manner, Outlet, Source, drive_hub, drive_hub_stated};
+use cell_drive::{
+    DriveFault, HubEnd, Manner, Outlet, Source, drive_hub, drive_hub_stated, is_plain,
+};
 use command_answers::{Answered, Cells, Texts, load_cells};
 use plan_verifier::Verified;
 use std::alloc::Global;
-
-/// Whether the lines are of version 1, and no moment leaps.
-fn is_plain(manner: Manner) -> bool
-    ensures { result ≡ is_plain manner }
-{
-    !manner.tells && manner.longest.is_none()
-}
 
 /// Drives the cells of accepted plans in this manner.
 fn drive_hub_in<R: Source, W: Outlet>(
