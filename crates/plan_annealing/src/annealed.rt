@@ -17,8 +17,8 @@ use std::alloc::{AllocError, Global};
 /// other machines where it had to. Better is a lesser total lateness or, with the same, a lesser makespan. Every fourth
 /// round (1, 5, ..) is hotter, and all late jobs count in it. The others are cooler from the third round on, if no job is
 /// late and there are more than 100 operations. A round looks at some 20 million nodes at most, and tries no more
-/// neighbours than 50 times the square of the number of operations. Another seed or round searches elsewhere, and the
-/// same ones do the same again. It is proved only that there are as many orders as machines, or none.
+/// neighbours than 50 times the square of the number of operations. Other seeds and rounds draw other neighbours, and
+/// the same ones draw the same again. It is proved only that there are as many orders as machines, or none.
 pub fn annealed_orders(
     alloc: Global,
     shaped: &Shaped,

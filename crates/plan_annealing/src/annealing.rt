@@ -165,7 +165,8 @@ fn run_phase(
     }
 }
 
-/// Makes a neighbour, and goes on from there if it is within the limit. Else returns what it weighs at least.
+/// Makes a neighbour, and goes on from there if it is within the limit. Else returns an estimate of what it weighs, which is past
+/// the limit.
 #[inline(never)]
 fn try_neighbour(
     net: &mut Net,

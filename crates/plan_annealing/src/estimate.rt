@@ -1,10 +1,10 @@
-//! What a plan weighs at least once two jobs have changed places, by the moments of the plan before.
+//! An estimate of what a plan weighs once two jobs have changed places, by the moments of the plan before.
 
 use crate::net::{Spot, spot_at};
 use crate::timing::{Row, head_in, tail_in};
 use shop_base::Moment;
 
-/// What the plan weighs at least once the job that enters here comes before the one now before it: the length of the
+/// An estimate of what the plan weighs once the job that enters here comes before the one now before it: the length of the
 /// path over both of them, which goes on in that other job, or to the next job on this machine. If the job moves on
 /// other machines too, the plan may weigh less.
 pub(crate) fn weight_after_swap(spots: &[Spot], rows: &[Row], entry: u32) -> Moment {

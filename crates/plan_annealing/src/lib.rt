@@ -1,4 +1,4 @@
-//! A local search for shorter plans, or for a shorter rest of a run: simulated annealing over the orders of the machines.
+//! A local search for better plans, or for a better rest of a run: simulated annealing over the orders of the machines.
 //! Whoever asks for its orders judges them.
 #![tactic(auto)]
 

@@ -26,7 +26,7 @@ pub(crate) struct Moves {
     /// The first and the last place, in the order of the nodes, between which arcs have changed.
     pub first: u32,
     pub last: u32,
-    /// What the plan may weigh, and what it weighs at least after the swaps, by their estimates.
+    /// What the plan may weigh, and the greatest estimate of what it weighs after the swaps.
     limit: Moment,
     pub least: Moment,
     marks: Vec<Mark>,

@@ -12,7 +12,7 @@ pub(crate) struct Neighbours {
     /// The arcs by their targets, and how many they are.
     arcs: Vec<u32>,
     arc_count: u32,
-    /// What each neighbour weighs at least, as far as that is known.
+    /// An estimate of what each neighbour weighs, 0 where there is none.
     leasts: Vec<Moment>,
     /// In which search each node was met last, and the number of this one.
     met: Vec<u32>,
@@ -51,7 +51,7 @@ impl Neighbours {
         }
     }
 
-    /// Notes what a neighbour weighs at least.
+    /// Notes an estimate of what a neighbour weighs.
     pub fn note(&mut self, number: u32, weight: Moment) {
         if let Some(least) = self.leasts.get_mut(number as usize) {
             *least = weight;

@@ -1,4 +1,4 @@
-//! Shorter plans, and never a worse one: untrusted improvers are asked for orders, and the best plan so far is kept.
+//! Better plans, and never a worse one: untrusted improvers are asked for orders, and the best plan so far is kept.
 #![tactic(auto)]
 
 mod annealing_improver;
