@@ -1,11 +1,11 @@
 -- Moments that fit what is ahead fit it after each report within them and after the moves behind it; and punctual reports are within them.
-use Rattle.std.proofs.Common.{◌≡◌, ◌≢◌, ℕ, zero, suc, ◌+◌, ◌<◌, ◌≤◌, inl, inr, List, [], ◌∷◌, length, Some, None, Bool, true, false, refl, sym, ap, ◌∙◌, arith, le_refl, ◌++◌}
+use Rattle.std.proofs.Common.{◌≡◌, ◌≢◌, ℕ, ◌+◌, ◌<◌, ◌≤◌, inl, inr, List, [], ◌∷◌, length, Some, None, refl, sym, ap, ◌∙◌, arith, le_refl, ◌++◌}
 use Rattle.std.proofs.lemmas.Bool.{cases_lt, cases_eq}
 use Rattle.shop_base.specs.declared.node.Node.{Node}
 use Rattle.shop_base.specs.declared.job_state.JobState.{JobState}
 use Rattle.shop_base.specs.declared.report.Report.{Report}
-use Rattle.shop_base.specs.Plan.{PlannedShop, jobs, steps, machine_of, release, nominal, clean, Stands, IsWellShaped, budget}
-use Rattle.shop_base.specs.Cell.{Cell, made, ready, since, entries, cleaning, IsOn, IsGone}
+use Rattle.shop_base.specs.Plan.{PlannedShop, jobs, steps, nominal, clean, Stands, IsWellShaped, budget}
+use Rattle.shop_base.specs.Cell.{Cell, made, since, entries, cleaning, IsOn, IsGone}
 use Rattle.shop_base.specs.Activity.{Activity, Arrival, Operation, Cleaning, IsWorked, GoesOn}
 use Rattle.shop_base.specs.Report.{ended, at, after_end, after_report}
 use Rattle.shop_base.specs.Move.{CanMove, after_move}
@@ -18,13 +18,13 @@ use Rattle.shop_base.specs.KeptMoments.{KeepsMoments, KeepsLeaving}
 use Rattle.shop_base.specs.Ahead.{next_node, HoldsUp, MomentsFitAhead, IsScheduleAhead, GoesOnTo, settled}
 use Rattle.shop_base.specs.Within.{IsWithin, AreWithin, RiseAhead}
 use Rattle.shop_base.specs.WithinLaw.{MomentsStillFit}
-use Rattle.shop_base.proofs.Visits.{visits_job, visits_once, visits-stands, on_or_not, visits_or_not}
+use Rattle.shop_base.proofs.Visits.{visits_once, visits-stands, on_or_not, visits_or_not}
 use Rattle.shop_base.proofs.Changes.{IsMoved, after_move-moved, moves_within}
 use Rattle.shop_base.proofs.Keeping.{IsLike, after_report-like, after_report-sound, after_move-sound, run-sound, target_free}
-use Rattle.shop_base.proofs.InShop.{outside_in_shop, ready_in_shop}
+use Rattle.shop_base.proofs.InShop.{ready_in_shop}
 use Rattle.shop_base.proofs.ControlledRuns.{leads_induction, after_moves-sound}
 use Rattle.shop_base.proofs.NeverStuck.{HasActivityBy, ahead_rises, rest-active}
-use Rattle.shop_base.proofs.Ahead.{IsLeftIn, held_left}
+use Rattle.shop_base.proofs.Ahead.{IsLeftIn}
 use Rattle.shop_base.specs.Ends.{IsInTime, IsOutByBudget}
 
 -- after a report the last moment is the report's

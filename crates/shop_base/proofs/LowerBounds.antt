@@ -1,5 +1,5 @@
 -- In a run that goes on with no report early, no node ahead is made before the length of any path ahead to it: after each event a path at least as long leads to each node that is still ahead.
-use Rattle.std.proofs.Common.{◌≡◌, ◌≢◌, ℕ, ◌+◌, ◌<◌, ◌≤◌, ◌⊎◌, inl, inr, List, [], ◌∷◌, ◌++◌, length, Some, None, true, false, refl, sym, ap, ap₂, ◌∙◌, subst, arith, le_refl, max}
+use Rattle.std.proofs.Common.{◌≡◌, ◌≢◌, ℕ, ◌+◌, ◌<◌, ◌≤◌, ◌⊎◌, inl, inr, List, [], ◌∷◌, ◌++◌, length, Some, None, true, false, refl, sym, ap, ap₂, ◌∙◌, arith, le_refl, max}
 use Rattle.std.proofs.lemmas.Bool.{cases_lt, cases_eq}
 use Rattle.shop_base.specs.declared.node.Node.{Node}
 use Rattle.shop_base.specs.declared.job_state.JobState.{JobState}

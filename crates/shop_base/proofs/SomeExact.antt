@@ -8,7 +8,7 @@ use Rattle.shop_base.specs.declared.report.Report.{Report}
 use Rattle.shop_base.specs.Plan.{PlannedShop, jobs, machines, steps, clean, IsWellShaped}
 use Rattle.shop_base.specs.Cell.{Cell, job_in, made, since, cleaning, IsGone}
 use Rattle.shop_base.specs.Activity.{Activity, Arrival, Operation, Cleaning, GoesOn, IsIdle}
-use Rattle.shop_base.specs.Report.{ended, at, report_of, IsNextMoment, CanReport, after_report}
+use Rattle.shop_base.specs.Report.{ended, at, report_of, CanReport, after_report}
 use Rattle.shop_base.specs.Move.{after_move}
 use Rattle.shop_base.specs.Run.{Event, Reported, IsAtRest, ends_in}
 use Rattle.shop_base.specs.Controlled.{AreMoves, after_moves, orders_for, step_orders, after_step, IsStep, moved, Leads, done, accepted}
@@ -18,7 +18,7 @@ use Rattle.shop_base.specs.Sound.{IsSound}
 use Rattle.shop_base.specs.Movers.{due_of_job, due_of_cleaning}
 use Rattle.shop_base.specs.ReportsLeft.{reports_left}
 use Rattle.shop_base.specs.KeptMoments.{KeepsMoments}
-use Rattle.shop_base.specs.Ahead.{next_node, IsScheduleAhead, Settles, GoesOnTo, settled, MoveFrom}
+use Rattle.shop_base.specs.Ahead.{next_node, Settles, GoesOnTo, settled, MoveFrom}
 use Rattle.shop_base.specs.AheadLaw.{SomeContinuationIsExact}
 use Rattle.shop_base.proofs.Visits.{visits_job, on_or_not}
 use Rattle.shop_base.proofs.Reports.{ended-report_of, at-report_of}
@@ -30,7 +30,6 @@ use Rattle.shop_base.proofs.CellFacts.{arrival_due, operation_due, job_due, clea
 use Rattle.shop_base.proofs.ReportsLeft.{after_step-reports_left}
 use Rattle.shop_base.proofs.NeverStuck.{HasActivityBy, ahead_rises, rest-active}
 use Rattle.shop_base.proofs.Settling.{cell_settles}
-use Rattle.shop_base.proofs.Ahead.{IsLeftIn}
 use Rattle.shop_base.proofs.InTime.{report_last, moves_last, fit_rise, present_left, report-went_on, step-still_fits, settled-fits, reports_sooner}
 use Rattle.shop_base.proofs.Within.{IsNoneLate, none_late-after, moves_more, step_more, from-within}
 

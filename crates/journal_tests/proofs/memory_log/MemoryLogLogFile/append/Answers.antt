@@ -1,4 +1,4 @@
-use Rattle.std.proofs.Common.{◌≡◌, ℕ, ◌≤◌, List, ◌++◌, length, take, refl, sym, subst, arith, rules}
+use Rattle.std.proofs.Common.{◌≡◌, ◌≤◌, ◌++◌, length, take, refl, sym, subst, rules}
 use Rattle.run_journal.specs.LogFiles.{IsLeft}
 use Rattle.journal_tests.proofs.Parts.{part_left}
 use Rattle.journal_tests.proofs.memory_log.MemoryLogLogFile.append.Goals as goal
