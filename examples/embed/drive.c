@@ -4,10 +4,10 @@
 
    Without a seed, or with 0, each activity ends when it is due; with another one each ends early, in time or late, as
    the seed has it. With a log, which may have been cut anywhere, the run is taken up: the reports that stand whole in it
-   are reported again, and it goes on from there. Ends with status 0 where the run has ended in time, with 10 where it
-   was late, with 2 where the words are wrong, with the status of cellplan_cell_new where there is no cell, with 5 where a
-   file can't be read, a line of the log is damaged or the log can't be written, and with the number of the reason where a
-   report of the log isn't possible. */
+   are reported again, and it goes on from there. Ends with status 0 where the run has ended in time, with 11, which is no
+   status of a call, where it was late, with 2 where the words are wrong, with the status of cellplan_cell_new where there
+   is no cell, with 5 where a file can't be read, a line of the log is damaged or the log can't be written, and with the
+   number of the reason where a report of the log isn't possible. */
 #include "cellplan.h"
 
 #include <inttypes.h>
@@ -17,7 +17,7 @@
 #include <string.h>
 
 #define NEVER UINT64_MAX
-#define LATE 10
+#define LATE 11
 
 struct text {
   uint8_t *bytes;
