@@ -1,13 +1,15 @@
 //! The status at which each fault of a command ends the program, and what faults say.
 
+use super::texts::{LATE, TWO};
 use cell_drive::ResumeFault;
-use command_answers::CommandFault;
+use command_answers::{CommandFault, Loaded, load};
 use command_words::WordsFault;
 use orlib_read::OrFault;
 use plan_seek::SeekFault;
 use plan_text::PlanFault;
+use plan_verifier::{Verdict, Why};
 use run_log::AuditFault;
-use shop_base::ShopFault;
+use shop_base::{Shaped, ShopFault};
 use std::alloc::{AllocError, Global};
 use std::fmt::Display;
 use std::test::Fail;
@@ -62,4 +64,20 @@ fn faults_have_a_text_and_a_status(rt: HostRuntime) -> Result<(), Fail> {
     assert!(rt; says(rt.alloc(), &WordsFault::Memory, "Memory")?);
     assert!(rt; says(rt.alloc(), &SeekFault::Memory, "Memory")?);
     Ok(())
+}
+
+/// Whether the text of the fault leaves out the refused plan and the reason against it.
+fn leaves_out(alloc: Global, shaped: Shaped, why: Why) -> Result<bool, AllocError> {
+    says(alloc, &ResumeFault::Refused(shaped, why), "Refused")
+}
+
+#[test]
+fn a_fault_leaves_a_refused_plan_out_of_its_text(rt: HostRuntime) -> Result<(), Fail> {
+    match load(rt.alloc(), TWO, None, LATE)? {
+        Loaded::Judged(Verdict::Refused(shaped, why)) => {
+            assert!(rt; leaves_out(rt.alloc(), shaped, why)?);
+            Ok(())
+        }
+        _ => Err("the plan isn't refused".into()),
+    }
 }
