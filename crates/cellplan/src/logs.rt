@@ -191,10 +191,12 @@ impl Logs for SystemLogs<'_> {
     }
 
     fn sync_name(&mut self, path: &str) -> Result<(), FileFault> {
+        sync_folder(self.rt, path)?;
         let file = fs::symlink_metadata(self.rt, path).map_err(LogFailure::from)?;
         if !file.is_symlink() {
-            return sync_folder(self.rt, path);
+            return Ok(());
         }
+        // The link's own name is on the disk; that of the file to which it leads may be in another folder.
         let place = fs::canonicalize(self.rt, path).map_err(LogFailure::from)?;
         sync_folder(self.rt, place.as_str())
     }
