@@ -24,3 +24,5 @@ pub mod CellsVersions
 pub mod BegunByLast
 pub mod NoLeap
 pub mod ShortNumbers
+pub mod SameReports
+pub mod GoneOnAsOne

@@ -9,3 +9,5 @@ pub mod VersionsLaw
 pub mod StatedRestLaw
 pub mod ShortLinesLaw
 pub mod CellsVersionsLaw
+pub mod SameReportsLaw
+pub mod AsOneLaw

@@ -17,6 +17,8 @@ ghost use Rattle.cell_drive.specs.StatedCellsLaw.{OneStatedCellsText, OneStatedC
 ghost use Rattle.drive_laws.specs.FloorLaw.{NothingIsOrderedWrongly, ADrivenCellOrdersRightly, ARunThatGoesOnOrdersRightly, EachCellOrdersRightly};
 ghost use Rattle.drive_laws.specs.LeapLaw.{NoPunctualReportLeaps};
 ghost use Rattle.drive_laws.specs.VersionsLaw.{Version2OnlyAdds};
+ghost use Rattle.drive_laws.specs.SameReportsLaw.{TheSameReportsAreAnsweredSo, TheSameReportsOfACell};
+ghost use Rattle.drive_laws.specs.AsOneLaw.{ItIsTakenUpAsOne, ItIsOneSoFar, ADrivenRunGoesOnAsOne, ItStaysAsPromised, TheFirstEventsHaveTheirOrders, WhatWasResumedHasItsOrders, WhatWasStatedOnHasItsOrders};
 ghost use Rattle.drive_laws.specs.CellsVersionsLaw.{Version2OnlyAddsForCells};
 ghost use Rattle.drive_laws.specs.StatedRestLaw.{AStatedRestAnswersSo, NothingOfALogIsTakenAgain, RetoldAsEver, ResumingOnlyAdds, AStatedResumedTextIsALog, OneStatedResumedText, WhatWasStatedIsTakenUp, WhatWasStatedHasItsOrders, WhatWasStatedOnIsTakenUp, WhatWasStatedOnCanBeTakenUp, WhatWasStatedOnIsSuchAText, AnAuditKeepsWhatWasStatedOn, WhatWasStatedOnGoesOn};
 ghost use Rattle.cell_drive.specs.StatedLaw.{OneStatedText, AStatedCellAnswersSo, AStatedTextIsALog, AnAuditKeepsWhatWasStated, PlainlyAsEver, NothingIsTakenTwice, NothingOfARunIsClaimedAgain, ALateReportFindsSomethingOverdue};
@@ -137,6 +139,21 @@ pub fn what_was_resumed_goes_on()
     ensures stated { WhatWasStatedOnGoesOn }
 {}
 
+/// Let a run be taken up by its own plan, with no moment given, from the log of a controlled run, which may be cut after any
+/// number of bytes. All its events are then one controlled run: those of the log, the orders that were due and what comes behind
+/// them, after each line and at the end. So by an accepted plan all stays as that promises, with its own budgets, as if the run
+/// had never been cut. Cut what is written after any number of bytes, and it has the orders that are due again, as the log had. So
+/// have any lines that tell the first events of the run, as those of a log file do.
+pub fn a_driven_run_goes_on_as_one()
+    ensures run { ADrivenRunGoesOnAsOne }
+    ensures promised { ItStaysAsPromised }
+    ensures taken { ItIsTakenUpAsOne }
+    ensures so_far { ItIsOneSoFar }
+    ensures resumed { WhatWasResumedHasItsOrders }
+    ensures stated { WhatWasStatedOnHasItsOrders }
+    ensures first { TheFirstEventsHaveTheirOrders }
+{}
+
 /// In each manner in which a cell of a well-shaped plan can be driven, an input has one answer text at most, which
 /// leads to one cell with one list of events, and is a log of these. What a cell that is driven so has answered is such
 /// a text.
@@ -182,10 +199,15 @@ pub fn plainly_as_ever()
 /// events. The answers of version 1 are those of version 2 without what stands after a refusal's name or a late report's
 /// moment, and without the `done` that comes at once. So it is with what `resume` writes, from the first event that it tells again,
 /// and with what several cells answer, of whose refusals version 1 doesn't tell their numbers either.
+/// Whatever the lines are, in any manner, from the start or after a log: what version 1 answers to just the reports that were
+/// accepted leads to the same cell, with the same events. It is what was answered to the lines, without refusals and states, what
+/// stands after a late report's moment, and the `done` that comes at once. Each of several cells has the same events, too.
 pub fn version_2_only_adds()
     ensures answered { Version2OnlyAdds }
     ensures resumed { ResumingOnlyAdds }
     ensures cells { Version2OnlyAddsForCells }
+    ensures reports { TheSameReportsAreAnsweredSo }
+    ensures cell { TheSameReportsOfACell }
 {}
 
 /// However often the lines of an arrival, of a finish or of a cleaning after a job are sent to a driven cell, and with
