@@ -25,4 +25,5 @@ pub mod BegunByLast
 pub mod NoLeap
 pub mod ShortNumbers
 pub mod SameReports
+pub mod ReportLines
 pub mod GoneOnAsOne

@@ -2,9 +2,11 @@
 use Rattle.std.specs.Prelude.{◌≡◌, ℕ, List, [], ◌++◌, Bool, Option}
 use Rattle.shop_base.specs.declared.move_order.MoveOrder.{MoveOrder}
 use Rattle.shop_base.specs.declared.report.Report.{Report}
-use Rattle.shop_base.specs.Plan.{PlannedShop}
+use Rattle.shop_base.specs.Plan.{PlannedShop, IsWellShaped}
 use Rattle.shop_base.specs.Cell.{Cell, start}
+use Rattle.shop_base.specs.Run.{IsRun}
 use Rattle.cell_tables.specs.declared.entry.Entry.{Entry}
+use Rattle.cell_tables.specs.Events.{events_of}
 use Rattle.byte_streams.specs.Answering.{AnswerAll}
 use Rattle.event_lines.specs.ReadBack.{IsSpaceless}
 use Rattle.event_lines.specs.StandingLines.{refused_detail_line}
@@ -37,3 +39,7 @@ abbrev pub TheSameReportsOfACell : Type 0
 TheSameReportsOfACell = (p : PlannedShop) (manner : Manner) (cell number : ℕ) (lines reports : List (Option (List ℕ))) (events : List Entry) (end : Cell)
     → SeesLines p manner cell number (start p) lines events end → AreReportLines reports events
     → (other : List ℕ) × AreAnswersTo p reports other (record { cell = end; entries = events })
+
+-- and such lines are there for the reports of any run, behind any of its events
+abbrev pub EachReportHasALine : Type 0
+EachReportHasALine = (p : PlannedShop) (before more : List Entry) → IsWellShaped p → IsRun p (events_of (before ++ more)) → (reports : List (Option (List ℕ))) × AreReportLines reports more

@@ -17,7 +17,7 @@ ghost use Rattle.cell_drive.specs.StatedCellsLaw.{OneStatedCellsText, OneStatedC
 ghost use Rattle.drive_laws.specs.FloorLaw.{NothingIsOrderedWrongly, ADrivenCellOrdersRightly, ARunThatGoesOnOrdersRightly, EachCellOrdersRightly};
 ghost use Rattle.drive_laws.specs.LeapLaw.{NoPunctualReportLeaps};
 ghost use Rattle.drive_laws.specs.VersionsLaw.{Version2OnlyAdds};
-ghost use Rattle.drive_laws.specs.SameReportsLaw.{TheSameReportsAreAnsweredSo, TheSameReportsOfACell};
+ghost use Rattle.drive_laws.specs.SameReportsLaw.{TheSameReportsAreAnsweredSo, TheSameReportsOfACell, EachReportHasALine};
 ghost use Rattle.drive_laws.specs.AsOneLaw.{ItIsTakenUpAsOne, ItIsOneSoFar, ADrivenRunGoesOnAsOne, ItStaysAsPromised, TheFirstEventsHaveTheirOrders, WhatWasResumedHasItsOrders, WhatWasStatedOnHasItsOrders};
 ghost use Rattle.drive_laws.specs.CellsVersionsLaw.{Version2OnlyAddsForCells};
 ghost use Rattle.drive_laws.specs.StatedRestLaw.{AStatedRestAnswersSo, NothingOfALogIsTakenAgain, RetoldAsEver, ResumingOnlyAdds, AStatedResumedTextIsALog, OneStatedResumedText, WhatWasStatedIsTakenUp, WhatWasStatedHasItsOrders, WhatWasStatedOnIsTakenUp, WhatWasStatedOnCanBeTakenUp, WhatWasStatedOnIsSuchAText, AnAuditKeepsWhatWasStatedOn, WhatWasStatedOnGoesOn};
@@ -208,6 +208,7 @@ pub fn version_2_only_adds()
     ensures cells { Version2OnlyAddsForCells }
     ensures reports { TheSameReportsAreAnsweredSo }
     ensures cell { TheSameReportsOfACell }
+    ensures lines { EachReportHasALine }
 {}
 
 /// However often the lines of an arrival, of a finish or of a cleaning after a job are sent to a driven cell, and with
