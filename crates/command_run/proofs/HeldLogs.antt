@@ -18,14 +18,14 @@ use Rattle.command_run.specs.Resumes.{end_of_rest}
 use Rattle.command_run.specs.Logs.{IsLoggedAnswer, KeepsInLog, LogEnd, WithLog}
 
 -- where none is
-pub none_held : {D : Type 0} (seen : D → Option (List ℕ)) (may_leave : D → List ℕ → Type 0) (told : Option (List ℕ × List ℕ)) (taken : Option (List ℕ)) (good : Type 0) (done : Option LogEnd → Type 0)
-    → done None → WithLog seen may_leave told taken good None done
-none_held seen may_leave told taken good done is = record { end = None; is = is; held = tt }
+pub none_held : {D : Type 0} (seen : D → Option (List ℕ)) (may_leave : D → List ℕ → Type 0) (failed : D → Bool) (told : Option (List ℕ × List ℕ)) (taken : Option (List ℕ)) (good : Type 0) (done : Option LogEnd → Type 0)
+    → done None → WithLog seen may_leave failed told taken good None done
+none_held seen may_leave failed told taken good done is = record { end = None; is = is; held = tt }
 
 -- what was done is something else, too
-pub held_as : {D : Type 0} (seen : D → Option (List ℕ)) (may_leave : D → List ℕ → Type 0) (told : Option (List ℕ × List ℕ)) (taken : Option (List ℕ)) (good : Type 0) (log : Option D)
-    (one other : Option LogEnd → Type 0) → ((end : Option LogEnd) → one end → other end) → WithLog seen may_leave told taken good log one → WithLog seen may_leave told taken good log other
-held_as seen may_leave told taken good log one other becomes done = record { end = done.end; is = becomes done.end done.is; held = done.held }
+pub held_as : {D : Type 0} (seen : D → Option (List ℕ)) (may_leave : D → List ℕ → Type 0) (failed : D → Bool) (told : Option (List ℕ × List ℕ)) (taken : Option (List ℕ)) (good : Type 0) (log : Option D)
+    (one other : Option LogEnd → Type 0) → ((end : Option LogEnd) → one end → other end) → WithLog seen may_leave failed told taken good log one → WithLog seen may_leave failed told taken good log other
+held_as seen may_leave failed told taken good log one other becomes done = record { end = done.end; is = becomes done.end done.is; held = done.held }
 
 -- all that is said of a log with which a cell was driven
 module _ (seen : Option (List ℕ)) (may_leave : List ℕ → Type 0) (taken : Option (List ℕ)) (good : Type 0) (p : PlannedShop) (events : List Entry) (held : Held) where

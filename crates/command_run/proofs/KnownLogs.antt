@@ -16,8 +16,8 @@ use Rattle.run_journal.specs.Folders.{NamedLog, held}
 use Rattle.run_journal.specs.WholeLines.{before_any, whole_lines}
 use Rattle.logged_drive.specs.declared.taken_log.TakeUpFault.{TakeUpFault}
 use Rattle.logged_drive.specs.declared.taken_log.TakeUpFault.TheVariants.{Resume, NoTornEnd, File}
-use Rattle.logged_drive.specs.TakenLogs.{IsTakeUpFault}
-use Rattle.command_run.specs.Logs.{Begins, DrivesOpened, HasFewLines, IsTakenFromLog, IsToldOfOld, Step, TakesUp}
+use Rattle.logged_drive.specs.TakenLogs.{IsOfText, IsTakeUpFault}
+use Rattle.command_run.specs.Logs.{Begins, DrivesOpened, HasFewLines, IsTakenFromLog, IsToldOfOld, Step, TakesUp, is_of_file}
 
 -- ---- what is told again
 
@@ -65,6 +65,12 @@ pub few_lines : (p : PlannedShop) (at : Option ℕ) (text : List ℕ) (fault : T
 few_lines p at text (Resume fault) few is = tt
 few_lines p at text (NoTornEnd lines) few is = (let count = lines_of-le (whole_lines text) in let whole = whole_length text in omega (arith, is.2, count, whole, few))
 few_lines p at text (File fault) few is = tt
+
+-- a log that isn't taken up has failed just where the fault is its own
+pub untaken_failed : (fault : TakeUpFault) (failed before : Bool) → before ≡ false → (IsOfText fault → failed ≡ before) → ((IsOfText fault → ⊥) → failed ≡ true) → failed ≡ is_of_file fault
+untaken_failed (Resume fault) failed before was same own = same tt ∙ was
+untaken_failed (NoTornEnd lines) failed before was same own = same tt ∙ was
+untaken_failed (File fault) failed before was same own = own (λ bad. bad)
 
 -- ---- what follows the opening of the log
 

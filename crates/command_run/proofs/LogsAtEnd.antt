@@ -1,5 +1,5 @@
 -- What the log of a driven cell has at the end of the program.
-use Rattle.std.proofs.Common.{◌≡◌, ◌≤◌, ◌++◌, ℕ, List, [], ◌∷◌, true, Option, None, Some, IfSome, Result, Ok, Err, IfOk, ap, sym, ◌∙◌, subst, arith, refl}
+use Rattle.std.proofs.Common.{◌≡◌, ◌≤◌, ◌++◌, ℕ, List, [], ◌∷◌, Bool, true, Option, None, Some, IfSome, Result, Ok, Err, IfOk, ap, sym, ◌∙◌, subst, arith, refl}
 use Rattle.std.specs.Prelude.{IsOk}
 use Rattle.std.specs.Io.KnownBytes.{Appends}
 use Rattle.std.proofs.lemmas.List.{append-nil}
@@ -65,11 +65,11 @@ kept_at_end (Some t) seen may_leave outcome before after told_before told_after 
 kept_at_end (Some t) seen may_leave outcome before after told_before told_after status (Untaken text fault) silent ends is = is
 
 -- of the log that is held
-pub held_at_end : {D : Type 0} (seen : D → Option (List ℕ)) (may_leave : D → List ℕ → Type 0) (told : Option (List ℕ × List ℕ)) (outcome : Result Answer CommandFault)
+pub held_at_end : {D : Type 0} (seen : D → Option (List ℕ)) (may_leave : D → List ℕ → Type 0) (failed : D → Bool) (told : Option (List ℕ × List ℕ)) (outcome : Result Answer CommandFault)
     (before after : Output) (told_before told_after : Errors) (status : ℕ) (log : Option D) (end : Option LogEnd) → (IsDriven end → IfOk outcome (λ answer. answer.text.items ≡ []))
-    → Ends outcome before after told_before told_after status → IsHeldAfter seen may_leave told before.taken (IsOk outcome) log end → IsHeldAfter seen may_leave told after.taken (status ≤ 1) log end
-held_at_end seen may_leave told outcome before after told_before told_after status None None silent ends is = tt
-held_at_end seen may_leave told outcome before after told_before told_after status None (Some end) silent ends is = is
-held_at_end seen may_leave told outcome before after told_before told_after status (Some l) None silent ends is = is
-held_at_end seen may_leave told outcome before after told_before told_after status (Some l) (Some end) silent ends is =
-    kept_at_end told (seen l) (may_leave l) outcome before after told_before told_after status end silent ends is
+    → Ends outcome before after told_before told_after status → IsHeldAfter seen may_leave failed told before.taken (IsOk outcome) log end → IsHeldAfter seen may_leave failed told after.taken (status ≤ 1) log end
+held_at_end seen may_leave failed told outcome before after told_before told_after status None None silent ends is = tt
+held_at_end seen may_leave failed told outcome before after told_before told_after status None (Some end) silent ends is = is
+held_at_end seen may_leave failed told outcome before after told_before told_after status (Some l) None silent ends is = is
+held_at_end seen may_leave failed told outcome before after told_before told_after status (Some l) (Some end) silent ends is =
+    (is.0, kept_at_end told (seen l) (may_leave l) outcome before after told_before told_after status end silent ends is.1)

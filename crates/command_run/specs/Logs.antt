@@ -233,23 +233,34 @@ abbrev pub IsLogAfter : Option (List ℕ) → (List ℕ → Type 0) → Option (
 IsLogAfter seen may_leave taken good (Driven p before held) told = KeepsInLog seen may_leave taken good p before held told
 IsLogAfter seen may_leave taken good (Untaken text fault) told = IsAsItWas seen may_leave text fault
 
--- so it is with the log that is held, if one is, where it is told what there was before
-abbrev pub IsHeldAfter : {D : Type 0} → (D → Option (List ℕ)) → (D → List ℕ → Type 0) → Option (List ℕ × List ℕ) → Option (List ℕ) → Type 0 → Option D → Option LogEnd → Type 0
-IsHeldAfter seen may_leave told taken good None None = Unit {0}
-IsHeldAfter seen may_leave told taken good None (Some end) = ⊥
-IsHeldAfter seen may_leave told taken good (Some log) None = ⊥
-IsHeldAfter seen may_leave told taken good (Some log) (Some end) = IfSome told (IsLogAfter (seen log) (may_leave log) taken good end)
+-- whether the fault is the log's own, and not that of its text
+abbrev pub is_of_file : TakeUpFault → Bool
+is_of_file (Resume fault) = false
+is_of_file (NoTornEnd lines) = false
+is_of_file (File fault) = true
+
+-- whether the log has failed, by what became of it
+abbrev pub has_failed : LogEnd → Bool
+has_failed (Driven p before held) = held.log_failed
+has_failed (Untaken text fault) = is_of_file fault
+
+-- so it is with the log that is held, if one is: it has failed just where that is told, and where it is told what there was before, it has this
+abbrev pub IsHeldAfter : {D : Type 0} → (D → Option (List ℕ)) → (D → List ℕ → Type 0) → (D → Bool) → Option (List ℕ × List ℕ) → Option (List ℕ) → Type 0 → Option D → Option LogEnd → Type 0
+IsHeldAfter seen may_leave failed told taken good None None = Unit {0}
+IsHeldAfter seen may_leave failed told taken good None (Some end) = ⊥
+IsHeldAfter seen may_leave failed told taken good (Some log) None = ⊥
+IsHeldAfter seen may_leave failed told taken good (Some log) (Some end) = (failed log ≡ has_failed end) × IfSome told (IsLogAfter (seen log) (may_leave log) taken good end)
 
 -- something was done with a log, and the log that is held after it, if one is, is as is said of it
-pub record WithLog {D : Type 0} (seen : D → Option (List ℕ)) (may_leave : D → List ℕ → Type 0) (told : Option (List ℕ × List ℕ)) (taken : Option (List ℕ)) (good : Type 0) (log : Option D)
+pub record WithLog {D : Type 0} (seen : D → Option (List ℕ)) (may_leave : D → List ℕ → Type 0) (failed : D → Bool) (told : Option (List ℕ × List ℕ)) (taken : Option (List ℕ)) (good : Type 0) (log : Option D)
     (done : Option LogEnd → Type 0) : Type 0 where
   pub end : Option LogEnd
   pub is : done end
-  pub held : IsHeldAfter seen may_leave told taken good log end
+  pub held : IsHeldAfter seen may_leave failed told taken good log end
 
 -- a step was made with a log
-abbrev pub StepsWith : {D : Type 0} → (D → Option (List ℕ)) → (D → List ℕ → Type 0) → Option (List ℕ × List ℕ) → Streams → Result Answer CommandFault → Streams → Option D → (Step → Type 0) → Type 0
-StepsWith seen may_leave told before outcome after log makes = WithLog seen may_leave told after.output.taken (IsOk outcome) log (λ end. makes (step_of before outcome after end))
+abbrev pub StepsWith : {D : Type 0} → (D → Option (List ℕ)) → (D → List ℕ → Type 0) → (D → Bool) → Option (List ℕ × List ℕ) → Streams → Result Answer CommandFault → Streams → Option D → (Step → Type 0) → Type 0
+StepsWith seen may_leave failed told before outcome after log makes = WithLog seen may_leave failed told after.output.taken (IsOk outcome) log (λ end. makes (step_of before outcome after end))
 
 -- ---- what a log is before a run
 

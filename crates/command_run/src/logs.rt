@@ -143,7 +143,7 @@ fn drive_with<R: Source, W: Outlet + Drop, D: LogFile + Drop, B: Before>(
     requires before { AreBefore B.before (D.seen log) streams.output.taken }
     requires empty { IfSome B.before (λ told. told.0 ≡ []) }
     requires shown { streams.output.pending ≡ [] }
-    ensures drove { StepsWith D.seen D.may_leave B.before streams result.outcome result.streams result.log (DrivesWithLog verified.planned [] (IsDriveIn manner verified) end_of_drive) }
+    ensures drove { StepsWith D.seen D.may_leave D.failed B.before streams result.outcome result.streams result.log (DrivesWithLog verified.planned [] (IsDriveIn manner verified) end_of_drive) }
 {
     let Streams { mut input, output } = streams;
     let LoggedEnd {
@@ -173,7 +173,7 @@ fn go_on_with<R: Source, W: Outlet + Drop, D: LogFile + Drop, B: Before>(
     requires before { AreBefore B.before (D.seen log) streams.output.taken }
     requires taken_up { IfSome B.before (λ told. IsTakenFromLog taken told.0) }
     requires shown { streams.output.pending ≡ [] }
-    ensures went_on { StepsWith D.seen D.may_leave B.before streams result.outcome result.streams result.log
+    ensures went_on { StepsWith D.seen D.may_leave D.failed B.before streams result.outcome result.streams result.log
         (λ step. DrivesWithLog (plan_of taken) (told_in taken) (IsGoneOnIn manner taken) end_of_rest step ⊎ LacksWriter (plan_of taken) (told_in taken) step) }
 {
     let Streams { mut input, output } = streams;
@@ -222,7 +222,7 @@ fn tell_and_go_on<R: Source, W: Outlet + Drop, D: LogFile + Drop, B: Before>(
     requires seen { IfSome B.before (λ told. D.seen log ≡ Some told.0) }
     requires taken_up { IfSome B.before (λ told. IsTakenFromLog taken told.0) }
     requires output { IfSome B.before (λ told. IsToldBehind streams.output.taken (told_in_manner manner taken) told.1) }
-    ensures went_on { StepsWith D.seen D.may_leave B.before streams result.outcome result.streams result.log (GoesOnWithLog manner taken) }
+    ensures went_on { StepsWith D.seen D.may_leave D.failed B.before streams result.outcome result.streams result.log (GoesOnWithLog manner taken) }
 {
     let Streams { input, mut output } = streams;
     match show_again(alloc, &taken, manner, &mut output) {
@@ -251,7 +251,7 @@ fn take_up_with<R: Source, W: Outlet + Drop, D: LogFile + Drop, B: Before>(
     requires read { IfSome (D.seen log) (λ file. text.now ≡ file) }
     requires within { length text.now ≤ MAX_INPUT }
     requires told { IfSome B.before (λ told. (D.seen log ≡ Some text.now) × IsToldOfOld shaped manner at text.now streams.output.taken told) }
-    ensures took_up { StepsWith D.seen D.may_leave B.before streams result.outcome result.streams result.log (TakesUp shaped manner at text.now) }
+    ensures took_up { StepsWith D.seen D.may_leave D.failed B.before streams result.outcome result.streams result.log (TakesUp shaped manner at text.now) }
 {
     let mut log = log;
     match take_up_log(alloc, shaped, &mut log, text, at) {
@@ -279,7 +279,7 @@ fn drive_new<R: Source, W: Outlet + Drop, L: Logs, B: Before>(
     requires empty { IfSome opened (λ log. IsEmptyLog (L.Log.seen log) (L.Log.may_leave log) (L.Log.failed log) (L.folder logs.old)) }
     requires shown { streams.output.pending ≡ [] }
     requires told { IfSome B.before (IsToldOfNew (L.folder logs.old) streams.output.taken) }
-    ensures drove { StepsWith L.Log.seen L.Log.may_leave B.before streams result.outcome result.streams result.log
+    ensures drove { StepsWith L.Log.seen L.Log.may_leave L.Log.failed B.before streams result.outcome result.streams result.log
         (λ step. LacksLog (L.folder logs.old) (L.folder logs.new) path.now (is_some opened) step
         ⊎ BeginsRun (L.folder logs.old) (L.folder logs.new) path.now manner (is_some opened) verified step) }
 {
@@ -308,7 +308,7 @@ fn begin_by<R: Source, W: Outlet + Drop, L: Logs, B: Before>(
     requires empty { IfSome opened (λ log. IsEmptyLog (L.Log.seen log) (L.Log.may_leave log) (L.Log.failed log) (L.folder logs.old)) }
     requires shown { streams.output.pending ≡ [] }
     requires told { IfSome B.before (IsToldOfNew (L.folder logs.old) streams.output.taken) }
-    ensures began { StepsWith L.Log.seen L.Log.may_leave B.before streams result.outcome result.streams result.log
+    ensures began { StepsWith L.Log.seen L.Log.may_leave L.Log.failed B.before streams result.outcome result.streams result.log
         (BeginsBy (L.folder logs.old) (L.folder logs.new) path.now manner (is_some opened) verdict) }
 {
     match verdict {
@@ -340,7 +340,7 @@ fn begin<R: Source, W: Outlet + Drop, L: Logs, B: Before>(
     requires empty { IfSome opened (λ log. IsEmptyLog (L.Log.seen log) (L.Log.may_leave log) (L.Log.failed log) (L.folder logs.old)) }
     requires shown { streams.output.pending ≡ [] }
     requires told { IfSome B.before (IsToldOfNew (L.folder logs.old) streams.output.taken) }
-    ensures began { StepsWith L.Log.seen L.Log.may_leave B.before streams result.outcome result.streams result.log
+    ensures began { StepsWith L.Log.seen L.Log.may_leave L.Log.failed B.before streams result.outcome result.streams result.log
         (Begins (L.folder logs.old) (L.folder logs.new) path.now manner shaped (is_some opened)) }
 {
     match verify(alloc, shaped) {
@@ -368,7 +368,7 @@ fn drive_by_log<R: Source, W: Outlet + Drop, L: Logs, B: Before>(
     requires at_most { IfSome at (λ present. present ≤ MAX_MOMENT) }
     requires shown { streams.output.pending ≡ [] }
     requires told { IfSome B.before (IsToldOfPath (L.folder logs.old) path.now shaped manner at streams.output.taken) }
-    ensures drove { StepsWith L.Log.seen L.Log.may_leave B.before streams result.outcome result.streams result.log
+    ensures drove { StepsWith L.Log.seen L.Log.may_leave L.Log.failed B.before streams result.outcome result.streams result.log
         (DrivesByLog (L.folder logs.old) (L.folder logs.new) path.now manner at shaped) }
 {
     match open_log(alloc, logs, path) {
@@ -413,7 +413,7 @@ pub(crate) fn logged_answer<T: Texts, R: Source, W: Outlet + Drop, L: Logs, B: B
     requires at_most { IfSome at (λ present. present ≤ MAX_MOMENT) }
     requires shown { streams.output.pending ≡ [] }
     requires told { IfSome B.before (IsToldOfLog T.gives (L.folder logs.old) pair.now path.now manner at texts.old streams.output.taken) }
-    ensures runs { StepsWith L.Log.seen L.Log.may_leave B.before streams result.outcome result.streams result.log
+    ensures runs { StepsWith L.Log.seen L.Log.may_leave L.Log.failed B.before streams result.outcome result.streams result.log
         (λ step. RunsLoggedDrive T.gives (L.folder logs.old) (L.folder logs.new) path.now manner at pair.now texts.old step texts.new) }
 {
     match shape_files(alloc, texts, pair) {

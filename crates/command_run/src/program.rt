@@ -29,7 +29,7 @@ pub fn run<T: Texts, R: Source, W: Outlet + Drop, E: Sink, S: Screen, L: Logs, B
     requires told { IfSome B.before (IsToldOfWords T.gives (map (λ word. word.now) words.now) devices) }
 
     // What a crash leaves of the log has all that was shown. Where the status is 0 or 1, the log has it on the disk.
-    ensures runs { WithLog L.Log.seen L.Log.may_leave B.before result.1.streams.output.taken (result.0 ≤ 1) result.2
+    ensures runs { WithLog L.Log.seen L.Log.may_leave L.Log.failed B.before result.1.streams.output.taken (result.0 ≤ 1) result.2
         (RunsProgram T.gives (map (λ word. word.now) words.now) devices result.0 result.1) }
 {
     let mut devices = devices;
@@ -52,7 +52,7 @@ fn follow<T: Texts, R: Source, W: Outlet + Drop, E: Sink, S: Screen, L: Logs, B:
     requires within { IsWithin chosen.now }
     requires shown { devices.streams.output.pending ≡ [] }
     requires told { IfSome B.before (IsToldOfChosen T.gives chosen.now devices) }
-    ensures runs { WithLog L.Log.seen L.Log.may_leave B.before result.1.streams.output.taken (result.0 ≤ 1) result.2
+    ensures runs { WithLog L.Log.seen L.Log.may_leave L.Log.failed B.before result.1.streams.output.taken (result.0 ≤ 1) result.2
         (Commands T.gives chosen.now devices result.0 result.1) }
 {
     match kept_log(chosen) {
@@ -77,7 +77,7 @@ fn drive_logged<T: Texts, R: Source, W: Outlet + Drop, E: Sink, S, L: Logs, B: B
     requires kept { kept_log_in chosen.now ≡ Some path.now }
     requires shown { devices.streams.output.pending ≡ [] }
     requires told { IfSome B.before (IsToldOfChosen T.gives chosen.now devices) }
-    ensures runs { WithLog L.Log.seen L.Log.may_leave B.before result.1.streams.output.taken (result.0 ≤ 1) result.2
+    ensures runs { WithLog L.Log.seen L.Log.may_leave L.Log.failed B.before result.1.streams.output.taken (result.0 ≤ 1) result.2
         (Commands T.gives chosen.now devices result.0 result.1) }
 {
     let Devices {

@@ -55,7 +55,7 @@ returns-in-Ok-Some g c =
 
 pub returns : goal.returns
 returns g c = record {
-  drove = none_held _ _ _ _ _ _ (record {
+  drove = none_held _ _ _ _ _ _ _ (record {
     opened = Err c.in-Err.fault;
     found = tt;
     drives = (ap Err c.from.ensures, record { same = refl; log = refl }, c.open_log.ensures.same);

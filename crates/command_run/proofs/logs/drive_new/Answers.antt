@@ -18,11 +18,11 @@ pub drive_with-requires-clause-empty : goal.drive_with-requires-clause-empty
 drive_with-requires-clause-empty g c = told_as g.B.Before.before (λ t is. is.log) c.requires.told
 
 pub returns-in-Ok : goal.returns-in-Ok
-returns-in-Ok g c = record { drove = held_as _ _ _ _ _ _ _ _ (λ end is. inr (record { drove = is; made = c.in-Ok.ensures.made })) c.drive_with.ensures.drove }
+returns-in-Ok g c = record { drove = held_as _ _ _ _ _ _ _ _ _ (λ end is. inr (record { drove = is; made = c.in-Ok.ensures.made })) c.drive_with.ensures.drove }
 
 pub returns-in-Err : goal.returns-in-Err
 returns-in-Err g c = record {
-  drove = none_held _ _ _ _ _ _ (inl (record {
+  drove = none_held _ _ _ _ _ _ _ (inl (record {
     fault = c.in-Err.fault;
     is = ap Err c.from.ensures;
     nothing = record { same = refl; log = refl };

@@ -1,4 +1,4 @@
-use Rattle.std.proofs.Common.{[], Bool, Some, Result, subst, refl}
+use Rattle.std.proofs.Common.{[], Bool, Some, Result, sym, ◌∙◌, subst, refl}
 use Rattle.byte_streams.specs.declared.drive_fault.DriveFault.{DriveFault}
 use Rattle.command_run.specs.Logs.{Driven, IsLoggedAnswer}
 use Rattle.command_run.proofs.HeldLogs.{driven_to_end, keeps_in_log, none_whole, told_both}
@@ -19,6 +19,6 @@ returns g c =
       drove = record {
         end = Some (Driven c.args.verified.planned [] run.held);
         is = record { end = end; log_failed = log_failed; held = run.held; shows = run.shows; output_failed = had.output_failed; answer = answer; log = refl };
-        held = keeps_in_log _ _ _ _ c.args.verified.planned [] run.held g.B.Before.before run.in_step had.crash up (driven_to_end log_failed end c.logged_end-outcome.result answer had.in_log);
+        held = (sym had.log_failed ∙ run.shows.log, keeps_in_log _ _ _ _ c.args.verified.planned [] run.held g.B.Before.before run.in_step had.crash up (driven_to_end log_failed end c.logged_end-outcome.result answer had.in_log));
       };
     })

@@ -1,4 +1,4 @@
-use Rattle.std.proofs.Common.{Bool, List, ℕ, Option, Some, Result, inl, inr, sym, subst, refl}
+use Rattle.std.proofs.Common.{Bool, List, ℕ, Option, Some, Result, inl, inr, sym, ◌∙◌, subst, refl}
 use Rattle.byte_streams.specs.declared.drive_fault.DriveFault.{DriveFault}
 use Rattle.cell_drive.specs.TakenUp.{plan_of, told_in}
 use Rattle.run_journal.specs.Logged.{StayInStep}
@@ -26,7 +26,7 @@ returns g c =
         | inl run ↦ record {
           end = Some (Driven p events run.held);
           is = inl (record { end = end; log_failed = log_failed; held = run.held; shows = run.shows; output_failed = had.output_failed; answer = answer; log = refl });
-          held = keeps_in_log _ _ _ _ p events run.held g.B.Before.before run.in_step had.crash up all;
+          held = (sym had.log_failed ∙ run.shows.log, keeps_in_log _ _ _ _ p events run.held g.B.Before.before run.in_step had.crash up all);
         }
         | inr lacks ↦
             let same = had.untouched lacks.is in
@@ -35,7 +35,7 @@ returns g c =
             record {
               end = Some (Driven p events (nothing_held _));
               is = inr (record { end = end; log_failed = log_failed; unbegun = lacks; answer = answer; log = refl });
-              held = keeps_in_log _ _ _ _ p events (nothing_held _) g.B.Before.before steps had.crash up all;
+              held = (sym had.log_failed ∙ lacks.log, keeps_in_log _ _ _ _ p events (nothing_held _) g.B.Before.before steps had.crash up all);
             }
       ];
     })

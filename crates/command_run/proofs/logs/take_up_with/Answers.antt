@@ -3,7 +3,7 @@ use Rattle.run_journal.specs.LogFiles.{IsSettled}
 use Rattle.run_journal.specs.WholeLines.{whole_lines}
 use Rattle.command_run.specs.Logs.{Untaken}
 use Rattle.command_run.proofs.HeldLogs.{at_told, told_as}
-use Rattle.command_run.proofs.KnownLogs.{few_lines, old_taken}
+use Rattle.command_run.proofs.KnownLogs.{few_lines, old_taken, untaken_failed}
 use Rattle.command_run.proofs.logs.take_up_with.Goals as goal
 
 pub tell_and_go_on-requires-clause-taken_up : goal.tell_and_go_on-requires-clause-taken_up
@@ -29,16 +29,17 @@ returns-in-Err g c =
     let log_now = c.take_up_log.new.log in
     let had = c.in-Err.ensures in
     let text = c.args.text.now in
+    let failed = untaken_failed c.in-Err.fault (g.D.LogFile.failed log_now) (g.D.LogFile.failed log) c.requires.ready.unfailed (λ of_text. ap g.D.LogFile.failed (had.untouched of_text)) had.device in
     record {
       took_up = record {
         end = Some (Untaken text c.in-Err.fault);
         is = record { taken = Err c.in-Err.fault; takes = record { is = tt; torn = tt; fault = had.fault; only = had.only }; goes_on = (c.untaken_log_answer.ensures, refl, refl) };
-        held = told_as g.B.Before.before (λ t is. record {
+        held = (failed, told_as g.B.Before.before (λ t is. record {
           untouched = λ of_text. (
             ap g.D.LogFile.seen (had.untouched of_text) ∙ is.0,
             subst (λ l. IsSettled (g.D.LogFile.seen l) (g.D.LogFile.may_leave l)) (sym (had.untouched of_text)) c.requires.ready.settled,
           );
           crash = at_told (g.D.LogFile.seen log) text (λ file. (left : List ℕ) → g.D.LogFile.may_leave log_now left → whole_lines left ≡ whole_lines file) is.0 had.crash;
-        }) c.requires.told;
+        }) c.requires.told);
       };
     }

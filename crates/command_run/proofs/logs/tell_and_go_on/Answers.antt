@@ -16,7 +16,7 @@ returns-in-Ok g c =
 
 pub returns-in-Err : goal.returns-in-Err
 returns-in-Err g c = rw (← c.streams.view_is) (record {
-  went_on = none_held _ _ _ _ _ _ (record {
+  went_on = none_held _ _ _ _ _ _ _ (record {
     told = Err c.in-Err.fault;
     mid = output_of g.W.Sink g.W.Outlet.pending c.show_again.new.output;
     tells = c.in-Err.ensures;

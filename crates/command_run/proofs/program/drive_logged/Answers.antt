@@ -28,7 +28,7 @@ returns g c =
           input = c.end-status.ensures.input;
           ends = c.end-status.ensures.ends;
         };
-        held = held_at_end g.L.Log.LogFile.seen g.L.Log.LogFile.may_leave g.B.Before.before c.logged_answer-outcome.result.outcome _ _ _ _ c.end-status.result c.logged_answer-outcome.result.log run.end
+        held = held_at_end g.L.Log.LogFile.seen g.L.Log.LogFile.may_leave g.L.Log.LogFile.failed g.B.Before.before c.logged_answer-outcome.result.outcome _ _ _ _ c.end-status.result c.logged_answer-outcome.result.log run.end
             (λ driven. silent_logged _ _ _ _ _ run.is.shaped _ run.is.drives driven) c.end-status.ensures.ends run.held;
       };
     })
