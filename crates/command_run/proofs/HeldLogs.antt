@@ -1,12 +1,12 @@
 -- What is held after a run with a log.
-use Rattle.std.proofs.Common.{◌≡◌, ℕ, List, [], Bool, Option, None, Some, IfSome, Result, Ok, Err, IfOk, sym, subst, refl}
-use Rattle.std.specs.Prelude.{IsOk}
+use Rattle.std.proofs.Common.{◌≡◌, ℕ, List, [], Bool, Option, None, Some, IfSome, Result, Ok, Err, IfOk, ap, sym, ◌∙◌, subst, refl}
+use Rattle.std.specs.Prelude.{IsOk, is_some}
 use Rattle.shop_base.specs.Plan.{PlannedShop}
 use Rattle.byte_streams.specs.declared.drive_fault.DriveFault.{DriveFault}
 use Rattle.cell_drive.specs.declared.one_run.DriveEnd.{DriveEnd}
 use Rattle.cell_drive.specs.declared.rest_run.RestEnd.{RestEnd}
 use Rattle.cell_tables.specs.declared.entry.Entry.{Entry}
-use Rattle.run_journal.specs.LogFiles.{IsSettled}
+use Rattle.run_journal.specs.Folders.{NamedLog}
 use Rattle.run_journal.specs.Logged.{Held, StayInStep}
 use Rattle.run_journal.specs.WholeLines.{whole_lines}
 use Rattle.logged_drive.specs.CrashLaw.{IsTakenUpAfter}
@@ -15,7 +15,7 @@ use Rattle.command_answers.specs.declared.answer.Answer.{Answer}
 use Rattle.command_answers.specs.declared.command_fault.CommandFault.{CommandFault}
 use Rattle.command_run.specs.Drives.{end_of_drive}
 use Rattle.command_run.specs.Resumes.{end_of_rest}
-use Rattle.command_run.specs.Logs.{IsLoggedAnswer, KeepsInLog, LogEnd, WithLog}
+use Rattle.command_run.specs.Logs.{IsEmptyLog, IsHeldAfter, IsLoggedAnswer, IsToldOfNew, KeepsInLog, LogEnd, WithLog, left_if}
 
 -- where none is
 pub none_held : {D : Type 0} (seen : D → Option (List ℕ)) (may_leave : D → List ℕ → Type 0) (failed : D → Bool) (told : Option (List ℕ × List ℕ)) (taken : Option (List ℕ)) (good : Type 0) (done : Option LogEnd → Type 0)
@@ -63,6 +63,17 @@ told_both (Some t) becomes one other = becomes t one other
 
 pub at_told : {X : Type 0} (o : Option X) (x : X) (P : X → Type 0) → o ≡ Some x → IfSome o P → P x
 at_told o x P is holds = subst (λ o. IfSome o P) is holds
+
+-- a log without bytes has what is told of it
+has_told : (folder : Option (List NamedLog)) (seen taken : Option (List ℕ)) (t : List ℕ × List ℕ) → IfSome folder (λ _. seen ≡ Some []) → IsToldOfNew folder taken t → seen ≡ Some t.0
+has_told folder seen taken t none is = at_told folder is.logs (λ _. seen ≡ Some []) is.there none ∙ ap Some (sym is.log)
+
+-- so it is with one that was opened, and is left
+pub left_held : {D : Type 0} (seen : D → Option (List ℕ)) (may_leave : D → List ℕ → Type 0) (failed : D → Bool) (folder : Option (List NamedLog)) (told : Option (List ℕ × List ℕ)) (start taken : Option (List ℕ)) (good : Type 0) (opened : Option D)
+    → IfSome opened (λ log. IsEmptyLog (seen log) (may_leave log) (failed log) folder) → IfSome told (IsToldOfNew folder start) → IsHeldAfter seen may_leave failed told taken good opened (left_if (is_some opened))
+left_held seen may_leave failed folder told start taken good None empty is_new = tt
+left_held seen may_leave failed folder told start taken good (Some log) empty is_new =
+    (empty.ready.unfailed, told_as told (λ t is. (has_told folder (seen log) start t empty.told is, empty.ready.settled)) is_new)
 
 -- from what holds of a log that was opened to something else
 pub opened_as : {X : Type 0} {P Q : X → Type 0} (opened : Option X) → ((x : X) → P x → Q x) → IfSome opened P → IfSome opened Q

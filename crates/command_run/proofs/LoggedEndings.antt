@@ -1,5 +1,5 @@
 -- How a driven cell with a log of its own ends.
-use Rattle.std.proofs.Common.{◌≡◌, ℕ, suc, List, [], ◌∷◌, Bool, true, false, Option, None, Some, Result, Ok, Err, IfOk, inl, inr, ◌⊎◌, ap, sym, ◌∙◌, subst, refl}
+use Rattle.std.proofs.Common.{◌≡◌, ℕ, suc, List, [], ◌∷◌, Bool, true, false, Option, None, Some, Result, Ok, Err, IfOk, inl, inr, ◌⊎◌, ap, sym, subst, refl}
 use Rattle.shop_base.specs.declared.shape_fault.ShapeFault.{ShapeFault}
 use Rattle.shop_base.specs.Plan.{PlannedShop}
 use Rattle.plan_verifier.specs.declared.verdict.Verdict.{Verdict}
@@ -23,7 +23,7 @@ use Rattle.command_answers.specs.Commands.{PairOfFiles, Shapes}
 use Rattle.command_run.specs.Streams.{Streams, Output}
 use Rattle.command_run.specs.Drives.{end_of_drive}
 use Rattle.command_run.specs.Resumes.{end_of_rest}
-use Rattle.command_run.specs.Logs.{Begins, BeginsBy, DrivesNothing, DrivesOpened, DrivesShaped, GoesOnAfter, GoesOnTaken, IsLoggedAnswer, IsLogUntakenTold, IsVerdict, LogEnd, Driven, Untaken, Step, TakesLog, TellsAgain, step_of}
+use Rattle.command_run.specs.Logs.{Begins, BeginsBy, DrivesNothing, DrivesOpened, DrivesShaped, GoesOnAfter, GoesOnTaken, IsLoggedAnswer, IsLogUntakenTold, IsVerdict, LogEnd, Driven, Untaken, Left, Step, TakesLog, TellsAgain, left_if, step_of}
 use Rattle.command_run.specs.Laws.{DroveWithLog, HoldsNothing}
 use Rattle.command_run.proofs.LowStatuses.{IsLow, low_end, low_line_of, low_log_fault, low_or, low_untaken}
 
@@ -79,20 +79,20 @@ module _ {W : Type 0} (gives : W → List ℕ → Result (List ℕ) CommandFault
   unwritten : after ≡ before → Written
   unwritten same = inl (ap (λ (s : Streams). s.output) same)
 
-  nothing : DrivesNothing (step_of before outcome after end) → Written
-  nothing none = unwritten none.same
+  nothing : (there : Bool) → DrivesNothing there (step_of before outcome after end) → Written
+  nothing there none = unwritten none.same
 
   module _ (p : PlannedShop) (shapes : Shapes gives pair texts (Ok (Ok p)) later) where
     begun : (folder folder_after : Option (List NamedLog)) (path : List ℕ) (there : Bool) (verdict : Verdict) → IsVerdict p verdict
         → BeginsBy folder folder_after path manner there verdict (step_of before outcome after end) → Written
-    begun folder folder_after path there (Refused back why) is by = nothing by.1
-    begun folder folder_after path there (Accepted v) is (inl lacks) = nothing lacks.nothing
+    begun folder folder_after path there (Refused back why) is by = nothing there by.1
+    begun folder folder_after path there (Accepted v) is (inl lacks) = nothing false lacks.nothing
     begun folder folder_after path there (Accepted v) is (inr run) =
         inr (record { plan = p; later = later; shapes = shapes; outcome = outcome; log = end; is = inl (v, is.accepted.0, run.drove) })
 
     begins : (folder folder_after : Option (List NamedLog)) (path : List ℕ) (there : Bool) → Begins folder folder_after path manner p there (step_of before outcome after end) → Written
     begins folder folder_after path there (inl (verdict, is, by)) = begun folder folder_after path there verdict is by
-    begins folder folder_after path there (inr wanting) = nothing wanting.1
+    begins folder folder_after path there (inr wanting) = nothing there wanting.1
 
     taken_up : (at : Option ℕ) (text : List ℕ) (taken : Result TakenUp TakeUpFault) → TakesLog p at text taken → GoesOnTaken manner text taken (step_of before outcome after end) → Written
     taken_up at text (Ok t) takes on =
@@ -101,15 +101,15 @@ module _ {W : Type 0} (gives : W → List ℕ → Result (List ℕ) CommandFault
 
     opened_written : (folder folder_after : Option (List NamedLog)) (path : List ℕ) (at : Option ℕ) (opened : Result (Option (List ℕ)) FileFault)
         → DrivesOpened folder folder_after path manner at p opened (step_of before outcome after end) → Written
-    opened_written folder folder_after path at (Err fault) is = nothing is.1
+    opened_written folder folder_after path at (Err fault) is = nothing false is.1
     opened_written folder folder_after path at (Ok None) is = begins folder folder_after path false is
     opened_written folder folder_after path at (Ok (Some [])) is = begins folder folder_after path true is
     opened_written folder folder_after path at (Ok (Some (byte ∷ bytes))) is = taken_up at (byte ∷ bytes) is.0.taken is.0.takes is.0.goes_on
 
   pub logged_written : (folder folder_after : Option (List NamedLog)) (path : List ℕ) (at : Option ℕ) (shaped : Result (Result PlannedShop ShapeFault) CommandFault) → Shapes gives pair texts shaped later
       → DrivesShaped folder folder_after path manner at shaped (step_of before outcome after end) → Written
-  logged_written folder folder_after path at (Err fault) shapes is = nothing is.1
-  logged_written folder folder_after path at (Ok (Err fault)) shapes is = nothing is.1
+  logged_written folder folder_after path at (Err fault) shapes is = nothing false is.1
+  logged_written folder folder_after path at (Ok (Err fault)) shapes is = nothing false is.1
   logged_written folder folder_after path at (Ok (Ok p)) shapes is = opened_written p shapes folder folder_after path at is.opened is.drives
 
 -- ---- what is shown
@@ -158,6 +158,7 @@ abbrev pub IsDriven : Option LogEnd → Type 0
 IsDriven None = ⊥
 IsDriven (Some (Driven p told held)) = Unit {0}
 IsDriven (Some (Untaken text fault)) = ⊥
+IsDriven (Some Left) = ⊥
 
 never_driven : (end other : Option LogEnd) (outcome : Result Answer CommandFault) → end ≡ other → (IsDriven other → ⊥) → IsDriven end → IsSilent outcome
 never_driven end other outcome is other_isnt driven = absurd (other_isnt (subst IsDriven is driven))
@@ -170,15 +171,19 @@ silent_end log_failed (Ok done) (Ok answer) is = is.0
 silent_end log_failed (Ok done) (Err fault) is = tt
 silent_end log_failed (Err fault) outcome is = silent_fault _ outcome is
 
-nothing_driven : (step : Step) → DrivesNothing step → IsDriven step.log → IsSilent step.outcome
-nothing_driven step none = never_driven step.log None step.outcome none.log (λ bad. bad)
+left_undriven : (there : Bool) → IsDriven (left_if there) → ⊥
+left_undriven true driven = driven
+left_undriven false driven = driven
+
+nothing_driven : (there : Bool) (step : Step) → DrivesNothing there step → IsDriven step.log → IsSilent step.outcome
+nothing_driven there step none = never_driven step.log (left_if there) step.outcome none.log (left_undriven there)
 
 module _ (folder folder_after : Option (List NamedLog)) (path : List ℕ) (manner : Manner) (at : Option ℕ) where
   silent_begins : (p : PlannedShop) (there : Bool) (step : Step) → Begins folder folder_after path manner p there step → IsDriven step.log → IsSilent step.outcome
-  silent_begins p there step (inl (Refused back why, is, by)) = nothing_driven step by.1
-  silent_begins p there step (inl (Accepted v, is, inl lacks)) = nothing_driven step lacks.nothing
+  silent_begins p there step (inl (Refused back why, is, by)) = nothing_driven there step by.1
+  silent_begins p there step (inl (Accepted v, is, inl lacks)) = nothing_driven false step lacks.nothing
   silent_begins p there step (inl (Accepted v, is, inr run)) = λ driven. silent_end run.drove.log_failed (end_of_drive run.drove.end) step.outcome run.drove.answer
-  silent_begins p there step (inr wanting) = nothing_driven step wanting.1
+  silent_begins p there step (inr wanting) = nothing_driven there step wanting.1
 
   silent_after : (t : TakenUp) (mid : Output) (told : Result (Unit {0}) DriveFault) (step : Step) → GoesOnAfter manner t mid told step → IsSilent step.outcome
   silent_after t mid (Ok done) step (inl run) = silent_end run.log_failed (end_of_rest run.end) step.outcome run.answer
@@ -190,12 +195,12 @@ module _ (folder folder_after : Option (List NamedLog)) (path : List ℕ) (manne
   silent_taken_up text (Err fault) step is = never_driven step.log (Some (Untaken text fault)) step.outcome is.2 (λ bad. bad)
 
   silent_opened : (p : PlannedShop) (opened : Result (Option (List ℕ)) FileFault) (step : Step) → DrivesOpened folder folder_after path manner at p opened step → IsDriven step.log → IsSilent step.outcome
-  silent_opened p (Err fault) step is = nothing_driven step is.1
+  silent_opened p (Err fault) step is = nothing_driven false step is.1
   silent_opened p (Ok None) step is = silent_begins p false step is
   silent_opened p (Ok (Some [])) step is = silent_begins p true step is
   silent_opened p (Ok (Some (byte ∷ bytes))) step is = silent_taken_up (byte ∷ bytes) is.0.taken step is.0.goes_on
 
   pub silent_logged : (shaped : Result (Result PlannedShop ShapeFault) CommandFault) (step : Step) → DrivesShaped folder folder_after path manner at shaped step → IsDriven step.log → IsSilent step.outcome
-  silent_logged (Err fault) step is = nothing_driven step is.1
-  silent_logged (Ok (Err fault)) step is = nothing_driven step is.1
+  silent_logged (Err fault) step is = nothing_driven false step is.1
+  silent_logged (Ok (Err fault)) step is = nothing_driven false step is.1
   silent_logged (Ok (Ok p)) step is = silent_opened p is.opened step is.drives

@@ -1,5 +1,5 @@
 -- What the log of a driven cell has at the end of the program.
-use Rattle.std.proofs.Common.{◌≡◌, ◌≤◌, ◌++◌, ℕ, List, [], ◌∷◌, Bool, true, Option, None, Some, IfSome, Result, Ok, Err, IfOk, ap, sym, ◌∙◌, subst, arith, refl}
+use Rattle.std.proofs.Common.{◌≡◌, ◌≤◌, ◌++◌, ℕ, List, [], ◌∷◌, Bool, Option, None, Some, IfSome, Result, Ok, Err, IfOk, ap, sym, ◌∙◌, subst, arith, refl}
 use Rattle.std.specs.Prelude.{IsOk}
 use Rattle.std.specs.Io.KnownBytes.{Appends}
 use Rattle.std.proofs.lemmas.List.{append-nil}
@@ -12,7 +12,7 @@ use Rattle.command_answers.specs.declared.answer.Answer.{Answer}
 use Rattle.command_answers.specs.declared.command_fault.CommandFault.{CommandFault}
 use Rattle.command_run.specs.Streams.{Errors, Output}
 use Rattle.command_run.specs.Ending.{Ends, IsPrinted}
-use Rattle.command_run.specs.Logs.{Driven, Untaken, IsHeldAfter, IsLogAfter, KeepsInLog, LogEnd}
+use Rattle.command_run.specs.Logs.{Driven, Untaken, Left, IsHeldAfter, IsLogAfter, KeepsInLog, LogEnd}
 use Rattle.command_run.proofs.Endings.{fault_ends}
 use Rattle.command_run.proofs.LoggedEndings.{IsDriven}
 
@@ -63,6 +63,7 @@ kept_at_end None seen may_leave outcome before after told_before told_after stat
 kept_at_end (Some t) seen may_leave outcome before after told_before told_after status (Driven p events held) silent ends keeps =
     kept_one seen may_leave outcome before after told_before told_after status p events held t (silent tt) ends keeps
 kept_at_end (Some t) seen may_leave outcome before after told_before told_after status (Untaken text fault) silent ends is = is
+kept_at_end (Some t) seen may_leave outcome before after told_before told_after status Left silent ends is = is
 
 -- of the log that is held
 pub held_at_end : {D : Type 0} (seen : D → Option (List ℕ)) (may_leave : D → List ℕ → Type 0) (failed : D → Bool) (told : Option (List ℕ × List ℕ)) (outcome : Result Answer CommandFault)

@@ -77,10 +77,12 @@ HasFewLines (File fault) = Unit {0}
 
 -- ---- a cell that is driven with a log
 
--- what became of a log that is held: a run of the plan went on with it, behind the events that it told, up to what its writer held; or it wasn't taken up for this reason, and its bytes were these
+-- what became of a log that is held: a run of the plan went on with it, behind the events that it told, up to what its writer held; or it wasn't taken up for this reason, and its bytes were these;
+-- or it was left with what is told of it
 pub data LogEnd : Type 0 where
   Driven : PlannedShop → List Entry → Held → LogEnd
   Untaken : List ℕ → TakeUpFault → LogEnd
+  Left : LogEnd
 
 -- the streams before a step and after it, what the step has come to, and what became of the log, if it is held behind it
 pub record Step : Type 0 where
@@ -92,10 +94,15 @@ pub record Step : Type 0 where
 abbrev pub step_of : Streams → Result Answer CommandFault → Streams → Option LogEnd → Step
 step_of before outcome after log = record { before = before; outcome = outcome; after = after; log = log }
 
--- nothing was driven: no byte was read or written, and no log is held
-pub record DrivesNothing (step : Step) : Type 0 where
+-- one that was opened is left so
+abbrev pub left_if : Bool → Option LogEnd
+left_if true = Some Left
+left_if false = None
+
+-- nothing was driven: no byte was read or written, and a log is held only if it was opened
+pub record DrivesNothing (there : Bool) (step : Step) : Type 0 where
   pub same : step.after ≡ step.before
-  pub log : step.log ≡ None
+  pub log : step.log ≡ left_if there
 
 -- a cell was driven so by the plan, behind these events, by a writer that keeps a log, and shows only what the log has got; where a write failed, and not the log's, the output has. The status says whether the run has ended, and the log is held
 pub record DrivesWithLog {T : Type 0} (p : PlannedShop) (told : List Entry) (drives : Streams → Streams → Result T DriveFault → Type 0) (ends : Result T DriveFault → Result Bool DriveFault) (step : Step) : Type 0 where
@@ -123,11 +130,11 @@ pub record IsVerdict (p : PlannedShop) (verdict : Verdict) : Type 0 where
 -- ---- a new log: of the logs that there were, and those that are there in the end
 
 module _ (folder folder_after : Option (List NamedLog)) (path : List ℕ) where
-  -- the log can't be had, for this reason; at most one without bytes was made, where there was none
+  -- the log can't be had, for this reason, and isn't held; at most one without bytes was made, where there was none
   pub record LacksLog (there : Bool) (step : Step) : Type 0 where
     pub fault : FileFault
     pub is : step.outcome ≡ Err (log_command_fault fault)
-    pub nothing : DrivesNothing step
+    pub nothing : DrivesNothing false step
     pub at_most : IfSome folder (λ logs. (folder_after ≡ Some logs) ⊎ (folder_after ≡ Some (with_log there path logs)))
 
   -- the log is there with its name on the disk, made if there was none, and the cell was driven with it
@@ -137,13 +144,13 @@ module _ (folder folder_after : Option (List NamedLog)) (path : List ℕ) where
 
   -- an accepted plan has its cell driven; any other is answered by its line, and no log is made
   abbrev pub BeginsBy : Manner → Bool → Verdict → Step → Type 0
-  BeginsBy manner there (Refused back why) step = IsLineTold (Judged (Refused back why)) step.outcome × DrivesNothing step × (folder_after ≡ folder)
+  BeginsBy manner there (Refused back why) step = IsLineTold (Judged (Refused back why)) step.outcome × DrivesNothing there step × (folder_after ≡ folder)
   BeginsBy manner there (Accepted v) step = LacksLog there step ⊎ BeginsRun manner there v step
 
   -- the plan is judged, and then a new run begins by it, unless memory runs out before
   abbrev pub Begins : Manner → PlannedShop → Bool → Step → Type 0
   Begins manner p there step =
-      ((verdict : Verdict) × IsVerdict p verdict × BeginsBy manner there verdict step) ⊎ ((step.outcome ≡ Err Memory) × DrivesNothing step × (folder_after ≡ folder))
+      ((verdict : Verdict) × IsVerdict p verdict × BeginsBy manner there verdict step) ⊎ ((step.outcome ≡ Err Memory) × DrivesNothing there step × (folder_after ≡ folder))
 
 -- ---- a log with bytes
 
@@ -168,10 +175,10 @@ with_output before mid = record { input = before.input; output = mid }
 abbrev pub from_output : Output → Step → Step
 from_output mid step = record step { before = with_output step.before mid }
 
--- then the run goes on with the log; or the telling has failed, with no byte read
+-- then the run goes on with the log; or the telling has failed, with no byte read, and the log is left
 abbrev pub GoesOnAfter : Manner → TakenUp → Output → Result (Unit {0}) DriveFault → Step → Type 0
 GoesOnAfter manner t mid (Ok done) step = DrivesWithLog (plan_of t) (told_in t) (IsGoneOnIn manner t) end_of_rest (from_output mid step) ⊎ LacksWriter (plan_of t) (told_in t) (from_output mid step)
-GoesOnAfter manner t mid (Err fault) step = (step.outcome ≡ Err (drive_command_fault fault)) × (step.after ≡ with_output step.before mid) × (step.log ≡ None)
+GoesOnAfter manner t mid (Err fault) step = (step.outcome ≡ Err (drive_command_fault fault)) × (step.after ≡ with_output step.before mid) × (step.log ≡ Some Left)
 
 -- so a run that was taken up goes on
 pub record GoesOnWithLog (manner : Manner) (t : TakenUp) (step : Step) : Type 0 where
@@ -196,7 +203,7 @@ pub record TakesUp (p : PlannedShop) (manner : Manner) (at : Option ℕ) (text :
 module _ (folder folder_after : Option (List NamedLog)) (path : List ℕ) (manner : Manner) (at : Option ℕ) (p : PlannedShop) where
   -- a log that isn't there, or has no bytes, begins a run; any other is taken up; one that can't be opened, locked or read ends all
   abbrev pub DrivesOpened : Result (Option (List ℕ)) FileFault → Step → Type 0
-  DrivesOpened (Err fault) step = (step.outcome ≡ Err (log_command_fault fault)) × DrivesNothing step × (folder_after ≡ folder)
+  DrivesOpened (Err fault) step = (step.outcome ≡ Err (log_command_fault fault)) × DrivesNothing false step × (folder_after ≡ folder)
   DrivesOpened (Ok None) step = Begins folder folder_after path manner p false step
   DrivesOpened (Ok (Some [])) step = Begins folder folder_after path manner p true step
   DrivesOpened (Ok (Some (byte ∷ bytes))) step = TakesUp p manner at (byte ∷ bytes) step × (folder_after ≡ folder)
@@ -209,8 +216,8 @@ module _ (folder folder_after : Option (List NamedLog)) (path : List ℕ) (manne
 
 -- what follows the plan: a well-shaped one has its log opened; any other is answered by its first fault, and no log is opened
 abbrev pub DrivesShaped : Option (List NamedLog) → Option (List NamedLog) → List ℕ → Manner → Option ℕ → Result (Result PlannedShop ShapeFault) CommandFault → Step → Type 0
-DrivesShaped folder folder_after path manner at (Err fault) step = (step.outcome ≡ Err fault) × DrivesNothing step × (folder_after ≡ folder)
-DrivesShaped folder folder_after path manner at (Ok (Err fault)) step = IsLineTold (NotShaped fault) step.outcome × DrivesNothing step × (folder_after ≡ folder)
+DrivesShaped folder folder_after path manner at (Err fault) step = (step.outcome ≡ Err fault) × DrivesNothing false step × (folder_after ≡ folder)
+DrivesShaped folder folder_after path manner at (Ok (Err fault)) step = IsLineTold (NotShaped fault) step.outcome × DrivesNothing false step × (folder_after ≡ folder)
 DrivesShaped folder folder_after path manner at (Ok (Ok p)) step = DrivesByLog folder folder_after path manner at p step
 
 -- ---- what the log has
@@ -232,6 +239,7 @@ pub record IsAsItWas (seen : Option (List ℕ)) (may_leave : List ℕ → Type 0
 abbrev pub IsLogAfter : Option (List ℕ) → (List ℕ → Type 0) → Option (List ℕ) → Type 0 → LogEnd → List ℕ × List ℕ → Type 0
 IsLogAfter seen may_leave taken good (Driven p before held) told = KeepsInLog seen may_leave taken good p before held told
 IsLogAfter seen may_leave taken good (Untaken text fault) told = IsAsItWas seen may_leave text fault
+IsLogAfter seen may_leave taken good Left told = (seen ≡ Some told.0) × IsSettled seen may_leave
 
 -- whether the fault is the log's own, and not that of its text
 abbrev pub is_of_file : TakeUpFault → Bool
@@ -243,6 +251,7 @@ is_of_file (File fault) = true
 abbrev pub has_failed : LogEnd → Bool
 has_failed (Driven p before held) = held.log_failed
 has_failed (Untaken text fault) = is_of_file fault
+has_failed Left = false
 
 -- so it is with the log that is held, if one is: it has failed just where that is told, and where it is told what there was before, it has this
 abbrev pub IsHeldAfter : {D : Type 0} → (D → Option (List ℕ)) → (D → List ℕ → Type 0) → (D → Bool) → Option (List ℕ × List ℕ) → Option (List ℕ) → Type 0 → Option D → Option LogEnd → Type 0

@@ -75,7 +75,7 @@ impl From<LoggedFault> for LogTold {
 pub(crate) struct LoggedRun<R: Source, W: Outlet, D: Drop> {
     pub outcome: Answered,
     pub streams: Streams<R, W>,
-    /// The log, once the cell is driven with it, or if it isn't taken up.
+    /// The log that was opened or made, unless a call for that has failed.
     pub log: Option<D>,
 }
 
@@ -230,7 +230,7 @@ fn tell_and_go_on<R: Source, W: Outlet + Drop, D: LogFile + Drop, B: Before>(
         Err(fault) => LoggedRun {
             outcome: Err(Told::from(fault).0),
             streams: Streams { input, output },
-            log: None,
+            log: Some(log),
         },
     }
 }
@@ -320,7 +320,7 @@ fn begin_by<R: Source, W: Outlet + Drop, L: Logs, B: Before>(
             LoggedRun {
                 outcome: line_answer(alloc, &refused),
                 streams,
-                log: None,
+                log: opened,
             }
         }
     }
@@ -348,7 +348,7 @@ fn begin<R: Source, W: Outlet + Drop, L: Logs, B: Before>(
         Err((error, _)) => LoggedRun {
             outcome: Err(CommandFault::from(error)),
             streams,
-            log: None,
+            log: opened,
         },
     }
 }

@@ -18,7 +18,8 @@ use run_log::Sink;
 use std::alloc::Global;
 
 /// Runs the program on the words of a command line, the program's name first. It gives the status that it ends with, the
-/// devices, and the log of the cell that was driven with one. What is known of that log stands for a type.
+/// devices, and the log that it opened or made, unless a call for that has failed. What is known of that log stands for a
+/// type.
 pub fn run<T: Texts, R: Source, W: Outlet + Drop, E: Sink, S: Screen, L: Logs, B: Before>(
     alloc: Global,
     words: &[&str],

@@ -1,6 +1,7 @@
-use Rattle.std.proofs.Common.{Ok, Err, ap, refl}
+use Rattle.std.proofs.Common.{Ok, Err, Some, ap, refl}
 use Rattle.byte_streams.specs.Lent.{output_of}
-use Rattle.command_run.proofs.HeldLogs.{none_held}
+use Rattle.command_run.specs.Logs.{Left}
+use Rattle.command_run.proofs.HeldLogs.{told_as}
 use Rattle.command_run.proofs.logs.tell_and_go_on.Goals as goal
 
 pub returns-in-Ok : goal.returns-in-Ok
@@ -15,11 +16,12 @@ returns-in-Ok g c =
     })
 
 pub returns-in-Err : goal.returns-in-Err
-returns-in-Err g c = rw (← c.streams.view_is) (record {
-  went_on = none_held _ _ _ _ _ _ _ (record {
-    told = Err c.in-Err.fault;
-    mid = output_of g.W.Sink g.W.Outlet.pending c.show_again.new.output;
-    tells = c.in-Err.ensures;
-    goes_on = (ap Err c.from.ensures, refl, refl);
-  });
-})
+returns-in-Err g c =
+    let ready = c.requires.ready in
+    rw (← c.streams.view_is) (record {
+      went_on = record {
+        end = Some Left;
+        is = record { told = Err c.in-Err.fault; mid = output_of g.W.Sink g.W.Outlet.pending c.show_again.new.output; tells = c.in-Err.ensures; goes_on = (ap Err c.from.ensures, refl, refl) };
+        held = (ready.unfailed, told_as g.B.Before.before (λ t seen. (seen, ready.settled)) c.requires.seen);
+      };
+    })
