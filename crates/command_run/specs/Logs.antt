@@ -30,7 +30,7 @@ use Rattle.logged_drive.specs.declared.taken_log.TakeUpFault.{TakeUpFault}
 use Rattle.logged_drive.specs.declared.taken_log.TakeUpFault.TheVariants.{Resume, NoTornEnd, File}
 use Rattle.logged_drive.specs.CrashLaw.{IsTakenUpAfter}
 use Rattle.logged_drive.specs.LoggedRuns.{IsAllInLog, IsUnbegun, KeepsShown, ShowsRun, nothing_held}
-use Rattle.logged_drive.specs.TakenLogs.{IsOfDevice, IsOfText, IsTakeUpFault}
+use Rattle.logged_drive.specs.TakenLogs.{IsOfDevice, IsOfText, IsOnlyTakeUpFault, IsTakeUpFault}
 use Rattle.command_answers.specs.declared.answer.Answer.{Answer}
 use Rattle.command_answers.specs.declared.command_fault.CommandFault.{CommandFault}
 use Rattle.command_answers.specs.declared.command_fault.CommandFault.TheVariants.{Read, Write, InputTooLong, Log, LogInUse, Memory}
@@ -159,6 +159,7 @@ pub record TakesLog (p : PlannedShop) (at : Option ℕ) (text : List ℕ) (taken
   pub is : IfOk taken (IsTakenUp p (ended_lines (whole_lines text)) at)
   pub torn : OnOk taken (is_torn (torn_end text) ≡ true)
   pub fault : IfErr taken (IsTakeUpFault p text at)
+  pub only_fault : IfErr taken (IsOnlyTakeUpFault p (ended_lines (whole_lines text)))
   pub only : CanBeTakenUp p (ended_lines (whole_lines text)) at → is_torn (torn_end text) ≡ true → IfErr taken IsOfDevice
 
 -- the events in the log were told again, and shown; or that failed

@@ -8,7 +8,7 @@ use Rattle.cell_tables.specs.Events.{events_of}
 use Rattle.event_lines.specs.LogLines.{LinesTell}
 use Rattle.cell_drive.specs.declared.resume_fault.ResumeFault.{ResumeFault}
 use Rattle.cell_drive.specs.declared.resume_fault.ResumeFault.TheVariants.{Log, Past, Refused, Memory}
-use Rattle.cell_drive.specs.ResumeFaults.{IsResumeFault}
+use Rattle.cell_drive.specs.ResumeFaults.{IsResumeFault, IsOnlyLogFault}
 use Rattle.run_journal.specs.WholeLines.{torn_end, whole_lines}
 use Rattle.run_journal.specs.TornEnds.{is_torn}
 use Rattle.logged_drive.specs.declared.taken_log.TakeUpFault.{TakeUpFault}
@@ -32,6 +32,12 @@ abbrev pub IsTakeUpFault : PlannedShop → List ℕ → Option ℕ → TakeUpFau
 IsTakeUpFault p text at (Resume fault) = IsResumeFault p (ended_lines (whole_lines text)) at fault × IsAfterEnd fault (is_torn (torn_end text))
 IsTakeUpFault p text at (NoTornEnd lines) = TellARun p (ended_lines (whole_lines text)) × (is_torn (torn_end text) ≡ false) × (lines ≡ length (lines_of (whole_lines text)))
 IsTakeUpFault p text at (File fault) = Unit {0}
+
+-- where this is the fault of the lines, no other is the first of them
+abbrev pub IsOnlyTakeUpFault : PlannedShop → List (List ℕ) → TakeUpFault → Type 0
+IsOnlyTakeUpFault p lines (Resume fault) = IsOnlyLogFault p lines fault
+IsOnlyTakeUpFault p lines (NoTornEnd count) = Unit {0}
+IsOnlyTakeUpFault p lines (File fault) = Unit {0}
 
 -- the text itself is at fault, so the log wasn't touched
 abbrev pub IsOfText : TakeUpFault → Type 0

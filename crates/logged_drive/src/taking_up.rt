@@ -7,7 +7,7 @@ ghost use Rattle.cell_drive.specs.TakenUp.{CanBeTakenUp, IsTakenUp};
 ghost use Rattle.run_journal.specs.LogFiles.{IsSettled};
 ghost use Rattle.run_journal.specs.TornEnds.{is_torn};
 ghost use Rattle.run_journal.specs.WholeLines.{torn_end, whole_lines};
-ghost use Rattle.logged_drive.specs.TakenLogs.{IsOfDevice, IsOfText, IsTakeUpFault};
+ghost use Rattle.logged_drive.specs.TakenLogs.{IsOfDevice, IsOfText, IsOnlyTakeUpFault, IsTakeUpFault};
 
 use crate::taken_log::TakeUpFault;
 use cell_drive::{ResumeFault, Taken, take_up};
@@ -36,6 +36,7 @@ fn take_up_text(
     ensures taken { IfOk result (IsTakenUp shaped (ended_lines (whole_lines text.now)) at) }
     ensures torn { OnOk result (is_torn (torn_end text.now) ≡ true) }
     ensures fault { IfErr result (IsTakeUpFault shaped text.now at) }
+    ensures only_fault { IfErr result (IsOnlyTakeUpFault shaped (ended_lines (whole_lines text.now))) }
     ensures of_text { IfErr result IsOfText }
     ensures only { CanBeTakenUp shaped (ended_lines (whole_lines text.now)) at → is_torn (torn_end text.now) ≡ true → IfErr result IsOfDevice }
 {
@@ -82,6 +83,7 @@ pub fn take_up_log<D: LogFile>(
     ensures taken { IfOk result (IsTakenUp shaped (ended_lines (whole_lines text.now)) at) }
     ensures torn { OnOk result (is_torn (torn_end text.now) ≡ true) }
     ensures fault { IfErr result (IsTakeUpFault shaped text.now at) }
+    ensures only_fault { IfErr result (IsOnlyTakeUpFault shaped (ended_lines (whole_lines text.now))) }
     ensures only { CanBeTakenUp shaped (ended_lines (whole_lines text.now)) at → is_torn (torn_end text.now) ≡ true → IfErr result IsOfDevice }
     ensures untouched { IfErr result (λ fault. IsOfText fault → log.new ≡ log.old) }
     ensures cut { OnOk result (IfSome (D.seen log.old) (λ file. D.seen log.new ≡ Some (whole_lines file))) }

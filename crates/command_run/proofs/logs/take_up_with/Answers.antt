@@ -18,7 +18,7 @@ returns-in-Ok g c =
     record {
       took_up = record {
         end = run.end;
-        is = record { taken = Ok c.in-Ok.taken; takes = record { is = c.in-Ok.ensures.taken; torn = c.in-Ok.ensures.torn; fault = tt; only = λ can torn. tt }; goes_on = run.is };
+        is = record { taken = Ok c.in-Ok.taken; takes = record { is = c.in-Ok.ensures.taken; torn = c.in-Ok.ensures.torn; fault = tt; only_fault = tt; only = λ can torn. tt }; goes_on = run.is };
         held = run.held;
       };
     }
@@ -33,7 +33,7 @@ returns-in-Err g c =
     record {
       took_up = record {
         end = Some (Untaken text c.in-Err.fault);
-        is = record { taken = Err c.in-Err.fault; takes = record { is = tt; torn = tt; fault = had.fault; only = had.only }; goes_on = (c.untaken_log_answer.ensures, refl, refl) };
+        is = record { taken = Err c.in-Err.fault; takes = record { is = tt; torn = tt; fault = had.fault; only_fault = had.only_fault; only = had.only }; goes_on = (c.untaken_log_answer.ensures, refl, refl) };
         held = (failed, told_as g.B.Before.before (λ t is. record {
           untouched = λ of_text. (
             ap g.D.LogFile.seen (had.untouched of_text) ∙ is.0,
