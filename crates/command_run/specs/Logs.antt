@@ -231,10 +231,11 @@ pub record KeepsInLog (seen : Option (List ℕ)) (may_leave : List ℕ → Type 
   pub taken_up : IsTakenUpAfter p before told.1 may_leave taken
   pub in_log : good → IsAllInLog told.0 told.1 seen may_leave taken
 
--- a log with these bytes that wasn't taken up has them still, unless cutting off its torn end has failed; what a crash leaves of it has the same whole lines
+-- a log with these bytes that wasn't taken up has them still, unless cutting off its torn end has failed; what a crash leaves of it has the same whole lines, and of a torn end a torn end again
 pub record IsAsItWas (seen : Option (List ℕ)) (may_leave : List ℕ → Type 0) (text : List ℕ) (fault : TakeUpFault) : Type 0 where
   pub untouched : IsOfText fault → (seen ≡ Some text) × IsSettled seen may_leave
   pub crash : (left : List ℕ) → may_leave left → whole_lines left ≡ whole_lines text
+  pub torn_again : is_torn (torn_end text) ≡ true → (left : List ℕ) → may_leave left → is_torn (torn_end left) ≡ true
 
 -- so by what became of it
 abbrev pub IsLogAfter : Option (List ℕ) → (List ℕ → Type 0) → Option (List ℕ) → Type 0 → LogEnd → List ℕ × List ℕ → Type 0

@@ -91,8 +91,9 @@ pub fn take_up_log<D: LogFile>(
     ensures unfailed { OnOk result (D.failed log.new ≡ D.failed log.old) }
     ensures device { IfErr result (λ fault. (IsOfText fault → ⊥) → D.failed log.new ≡ true) }
 
-    // A crash at any moment leaves the same whole lines.
+    // A crash at any moment leaves the same whole lines, and behind them of a torn end a torn end again.
     ensures crash { IfSome (D.seen log.old) (λ file. (left : List ℕ) → D.may_leave log.new left → whole_lines left ≡ whole_lines file) }
+    ensures torn_again { IfSome (D.seen log.old) (λ file. is_torn (torn_end file) ≡ true → (left : List ℕ) → D.may_leave log.new left → is_torn (torn_end left) ≡ true) }
 {
     let taken = take_up_text(alloc, shaped, text, at)?;
     match cut_end(log, text) {

@@ -101,7 +101,7 @@ none_taken zero bytes none = tt
 none_taken (suc n) [] none = tt
 none_taken (suc n) (b ∷ bytes) none = (none.0, none_taken n bytes none.1)
 
-drop-front : (front rest : List ℕ) → drop (length front) (front ++ rest) ≡ rest
+pub drop-front : (front rest : List ℕ) → drop (length front) (front ++ rest) ≡ rest
 drop-front [] rest = refl
 drop-front (b ∷ front) rest = drop-front front rest
 
@@ -118,10 +118,10 @@ torn-behind base more whole =
 torn-piece : (body : List ℕ) (n unwritten : ℕ) → HasNone 10 body → torn_end (take n body ++ zeros unwritten) ≡ take n body ++ zeros unwritten
 torn-piece body n unwritten none = ap (λ (l : List ℕ). drop (length l) (take n body ++ zeros unwritten)) (whole-zeros (take n body) unwritten ∙ none_whole (take n body) (none_taken n body none))
 
-abbrev no_bytes : List ℕ
+abbrev pub no_bytes : List ℕ
 no_bytes = []
 
-none_of : (n : ℕ) → take n no_bytes ≡ no_bytes
+pub none_of : (n : ℕ) → take n no_bytes ≡ no_bytes
 none_of zero = refl
 none_of (suc n) = refl
 

@@ -6,5 +6,6 @@ mod Steps
 mod CrashLines
 pub mod LeftEvents
 mod TornEnds
+mod TornAgain
 pub mod Formed
 pub mod FormedLines

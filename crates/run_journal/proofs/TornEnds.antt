@@ -86,7 +86,7 @@ shorter more (c ∷ form) (byte ∷ front) rest is = elim (cases_Bool (nat_lt 0 
 
 -- ---- a number
 
-both : (a b : Bool) → a && b ≡ true → (a ≡ true) × (b ≡ true)
+pub both : (a b : Bool) → a && b ≡ true → (a ≡ true) × (b ≡ true)
 both true b is = (refl, is)
 both false b is = absurd (cc is)
 

@@ -4,6 +4,7 @@ ghost use Rattle.std.specs.Prelude.{◌≡◌, ◌<◌, ◌≤◌, ◌↔◌, �
 ghost use Rattle.text_lines.specs.declared.limits.TheConstants.{MAX_INPUT};
 ghost use Rattle.run_journal.specs.LogFiles.{IsSettled, LeavesNoMore};
 ghost use Rattle.run_journal.specs.Folders.{held, is_named, made, with_log, with_name};
+ghost use Rattle.run_journal.specs.TornEnds.{is_torn};
 ghost use Rattle.run_journal.specs.WholeLines.{whole_lines, torn_end};
 
 use crate::file_fault::FileFault;
@@ -139,8 +140,9 @@ pub fn cut_end<D: LogFile>(log: &mut D, text: &LogText) -> Result<(), FileFault>
     ensures unfailed { OnOk result (D.failed log.new ≡ D.failed log.old) }
     ensures failed { OnErr result (D.failed log.new ≡ true) }
 
-    // A crash at any moment leaves the same whole lines.
+    // A crash at any moment leaves the same whole lines, and behind them of a torn end a torn end again.
     ensures crash { IfSome (D.seen log.old) (λ file. (left : List ℕ) → D.may_leave log.new left → whole_lines left ≡ whole_lines file) }
+    ensures torn_again { IfSome (D.seen log.old) (λ file. is_torn (torn_end file) ≡ true → (left : List ℕ) → D.may_leave log.new left → is_torn (torn_end left) ≡ true) }
 {
     // A file that may be appended to but not cut serves as long as nothing is to be cut off.
     if text.end().is_empty() {

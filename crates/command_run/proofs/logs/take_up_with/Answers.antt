@@ -1,6 +1,7 @@
-use Rattle.std.proofs.Common.{◌≡◌, ℕ, List, Ok, Err, Some, ap, sym, ◌∙◌, subst, refl}
+use Rattle.std.proofs.Common.{◌≡◌, ℕ, List, true, Ok, Err, Some, ap, sym, ◌∙◌, subst, refl}
 use Rattle.run_journal.specs.LogFiles.{IsSettled}
-use Rattle.run_journal.specs.WholeLines.{whole_lines}
+use Rattle.run_journal.specs.TornEnds.{is_torn}
+use Rattle.run_journal.specs.WholeLines.{torn_end, whole_lines}
 use Rattle.command_run.specs.Logs.{Untaken}
 use Rattle.command_run.proofs.HeldLogs.{at_told, told_as}
 use Rattle.command_run.proofs.KnownLogs.{few_lines, old_taken, untaken_failed}
@@ -34,12 +35,16 @@ returns-in-Err g c =
       took_up = record {
         end = Some (Untaken text c.in-Err.fault);
         is = record { taken = Err c.in-Err.fault; takes = record { is = tt; torn = tt; fault = had.fault; only_fault = had.only_fault; only = had.only }; goes_on = (c.untaken_log_answer.ensures, refl, refl) };
-        held = (failed, told_as g.B.Before.before (λ t is. record {
-          untouched = λ of_text. (
-            ap g.D.LogFile.seen (had.untouched of_text) ∙ is.0,
-            subst (λ l. IsSettled (g.D.LogFile.seen l) (g.D.LogFile.may_leave l)) (sym (had.untouched of_text)) c.requires.ready.settled,
-          );
-          crash = at_told (g.D.LogFile.seen log) text (λ file. (left : List ℕ) → g.D.LogFile.may_leave log_now left → whole_lines left ≡ whole_lines file) is.0 had.crash;
-        }) c.requires.told);
+        held = (
+          failed,
+          told_as g.B.Before.before (λ t is. record {
+            untouched = λ of_text. (
+              ap g.D.LogFile.seen (had.untouched of_text) ∙ is.0,
+              subst (λ l. IsSettled (g.D.LogFile.seen l) (g.D.LogFile.may_leave l)) (sym (had.untouched of_text)) c.requires.ready.settled,
+            );
+            crash = at_told (g.D.LogFile.seen log) text (λ file. (left : List ℕ) → g.D.LogFile.may_leave log_now left → whole_lines left ≡ whole_lines file) is.0 had.crash;
+            torn_again = at_told (g.D.LogFile.seen log) text (λ file. is_torn (torn_end file) ≡ true → (left : List ℕ) → g.D.LogFile.may_leave log_now left → is_torn (torn_end left) ≡ true) is.0 had.torn_again;
+          }) c.requires.told,
+        );
       };
     }
