@@ -4,3 +4,4 @@ pub mod GoodHubs
 pub mod GoodInputs
 pub mod SameWriting
 pub mod SameResuming
+pub mod ToldLogs

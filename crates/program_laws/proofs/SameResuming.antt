@@ -45,8 +45,9 @@ use Rattle.command_run.specs.Ending.{Ends}
 use Rattle.command_run.specs.Program.{AreWordsRead, RunsResume, RunsCommand, RunsChosen, Follows, file_at, is_second, keeps_log, kept_log_in, log_kept_by, manner_in, pair_in}
 use Rattle.command_run.specs.Laws.{Shelf, TellPlan, RunsWell}
 use Rattle.program_laws.specs.ResumeLaw.{AskForResume, AskForOneManner, moment_given, ResumeWritesTheSame, ResumeWritesAsDrive}
+use Rattle.program_laws.specs.ToldLaw.{manner_of}
 use Rattle.program_laws.proofs.GoodFiles.{good_resume}
-use Rattle.program_laws.proofs.SameWriting.{Wrote, IsTextBy, manner_of, same_manner, first, all_read, fewer, written_is, memory_status, memory_ends, write_ends, ended_as, same_done, one_text_by, follows_wrote}
+use Rattle.program_laws.proofs.SameWriting.{Wrote, IsTextBy, same_manner, first, all_read, fewer, written_is, memory_status, memory_ends, write_ends, ended_as, same_done, one_text_by, follows_wrote}
 
 -- ---- the words
 

@@ -31,7 +31,7 @@ use Rattle.command_words.specs.declared.words.CommandName.TheVariants.{Input, Fa
 use Rattle.command_words.specs.declared.words.Lines.{Lines}
 use Rattle.command_words.specs.declared.words.WordsFault.{WordsFault}
 use Rattle.command_words.specs.declared.words.WordsFault.TheVariants.{Usage, Memory as NoWordsMemory}
-use Rattle.command_words.specs.Choice.{word_of, IsChoiceOf, TellsOneOf, found_in, rows_found, at_in, lines_in, leap_in}
+use Rattle.command_words.specs.Choice.{word_of, IsChoiceOf, TellsOneOf, found_in, rows_found, lines_in, leap_in}
 use Rattle.command_answers.specs.declared.answer.Answer.{Answer}
 use Rattle.command_answers.specs.declared.command_fault.CommandFault.{CommandFault}
 use Rattle.command_answers.specs.declared.command_fault.CommandFault.TheVariants.{Write, Memory}
@@ -41,6 +41,7 @@ use Rattle.command_run.specs.Drives.{IsEnded, IsEndAnswer, DrivesBy, DrivesCell,
 use Rattle.command_run.specs.Ending.{IsTold, IsPrinted, IsToldAfter, Ends}
 use Rattle.command_run.specs.Program.{AreWordsRead, RunsDrive, RunsCommand, RunsChosen, Follows, is_second, keeps_log, kept_log_in, log_kept_by, manner_in, pair_in}
 use Rattle.command_run.specs.Laws.{Shelf, TellPlan, AskForDrive, RunsWell}
+use Rattle.program_laws.specs.ToldLaw.{manner_of}
 use Rattle.program_laws.proofs.GoodFiles.{good_drive}
 
 driven_or_not : {P Q R S : Type 0} → (P × Q) ⊎ (R × S) → Q ⊎ R
@@ -77,10 +78,6 @@ same_pair words pair chosen ask is =
     let of : List ℕ → Option (List ℕ) → List ℕ → PairOfFiles = λ a b c. record { path = a; name = b; plan = c } in
     ap (λ a. of a (option_map string_bytes chosen.instance) (get_or (map string_bytes chosen.files.items) 1 [])) path
     ∙ ap (λ b. of pair.path b (get_or (map string_bytes chosen.files.items) 1 [])) name ∙ ap (λ c. of pair.path pair.name c) plan
-
--- the manner that words ask for
-abbrev pub manner_of : List (List ℕ) → Manner
-manner_of words = record { tells = is_second (lines_in (rows_found (found_in words))); longest = leap_in (rows_found (found_in words)); from = unwrap_or (at_in (rows_found (found_in words))) 0 }
 
 pub same_manner : (words : List (List ℕ)) (chosen : Chosen) → IsChoiceOf (found_in words) chosen → manner_in chosen ≡ manner_of words
 same_manner words chosen is =

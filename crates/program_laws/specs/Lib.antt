@@ -1,2 +1,3 @@
 -- Reached by public clauses: to be read and believed.
 pub mod ResumeLaw
+pub mod ToldLaw

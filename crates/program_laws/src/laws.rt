@@ -1,7 +1,7 @@
 //! The laws of the program. The first four speak of files that don't change (`Shelf`), and the first three also of
 //! which paths are asked for. The others speak of every run of the whole program, over any files, input, output and
-//! error output. For `audit`, `gantt` and `--after` `good_files_are_answered` takes a well shaped plan. The clause of
-//! `run` says what else they do.
+//! error output, and the last one of what `run` asks. For `audit`, `gantt` and `--after` `good_files_are_answered` takes a
+//! well shaped plan. The clause of `run` says what else they do.
 
 // Nothing is done here: a function's contract is the law, so a check of this crate proves it.
 
@@ -15,12 +15,13 @@ ghost use Rattle.command_run.specs.Laws.{HubDrivesPlans, InputAnswersShop};
 ghost use Rattle.command_run.specs.Laws.{DriveAnswersByCheck, ResumeAnswersUnshaped, ResumeAnswersByCheck, HubAnswersByCheck, DriveWritesTheSame};
 ghost use Rattle.command_run.specs.Laws.{WhatFailsIsTold, NothingIsHeldBack, WhatFailsIsNoAnswer};
 ghost use Rattle.program_laws.specs.ResumeLaw.{ResumeWritesTheSame, ResumeWritesAsDrive};
+ghost use Rattle.program_laws.specs.ToldLaw.{NewLogCanBeTold, OldLogCanBeTold};
 
 use command_answers::Texts;
 
-/// In each command over files: if the text of the instance is refused, its first fault is reported, unless memory
-/// runs out, and no other file is asked for. `drive`, `resume`, `hub` and a command with `--svg` then read and write no
-/// byte. (For `plan` and `improve` memory may also run out before any file is asked for.)
+/// In each command over files, `drive` without `--log`: if the text of the instance is refused, its first fault is
+/// reported, unless memory runs out, and no other file is asked for. `drive`, `resume`, `hub` and a command with `--svg`
+/// then read and write no byte. (For `plan` and `improve` memory may also run out before any file is asked for.)
 pub fn instance_first()
     ensures facts { FactsTellInstanceFirst }
     ensures shape { ShapeTellsInstanceFirst }
@@ -112,4 +113,12 @@ pub fn nothing_is_held_back<T: Texts>()
 /// was taken up by it. After that come at most the first bytes of the command's answer, if a write of it failed.
 pub fn what_fails_is_no_answer<T: Texts>()
     ensures { WhatFailsIsNoAnswer T.gives }
+{}
+
+/// Where the logs and the output are told, what `run` asks of the history of a log can be told: of a log that isn't
+/// there or is empty, that it has no bytes; of any other, by files that don't change, its whole lines and the text that
+/// tells its events again, if a run is taken up from it.
+pub fn what_run_asks_can_be_told<T: Texts>()
+    ensures new_log { NewLogCanBeTold T.gives }
+    ensures old_log { OldLogCanBeTold }
 {}

@@ -1,0 +1,98 @@
+-- What `run` asks of the telling of a log can be met.
+use Rattle.std.proofs.Common.{◌≡◌, ℕ, List, [], ◌∷◌, ◌++◌, length, take, get_or, map, Bool, true, false, Option, None, Some, IfSome, Result, Ok, option_map, ap, ap₂, sym, ◌∙◌, subst, refl}
+use Rattle.std.specs.String.{string_bytes}
+use Rattle.shop_base.specs.Plan.{PlannedShop}
+use Rattle.shop_base.specs.Cell.{start}
+use Rattle.text_lines.specs.Lines.{ended_lines}
+use Rattle.cell_tables.specs.declared.entry.Entry.{Entry}
+use Rattle.cell_drive.specs.declared.manner.Manner.{Manner}
+use Rattle.cell_drive.specs.AnswerText.{DrivenCell}
+use Rattle.cell_drive.specs.InManner.{is_plain}
+use Rattle.cell_drive.specs.Retold.{retold_lines}
+use Rattle.cell_drive.specs.TakenUp.{TakenUp, IsTakenUp, plan_of}
+use Rattle.cell_drive.specs.ToldLines.{told_lines}
+use Rattle.drive_laws.proofs.OneTaking.{one_taking_up}
+use Rattle.run_journal.specs.Folders.{NamedLog, held}
+use Rattle.run_journal.specs.WholeLines.{whole_lines}
+use Rattle.command_words.specs.Choice.{IsChoiceOf, found_in, rows_found, kept_in}
+use Rattle.command_words.specs.declared.words.Chosen.{Chosen}
+use Rattle.command_answers.specs.declared.command_fault.CommandFault.{CommandFault}
+use Rattle.command_answers.specs.Commands.{PairOfFiles, Shapes}
+use Rattle.command_answers.specs.Shapes.{IsShapedOrNot}
+use Rattle.command_run.specs.Logs.{IsToldOf, IsToldOfOld, told_by, told_in_manner}
+use Rattle.command_run.specs.Program.{keeps_log, kept_log_in, log_kept_by, manner_in, pair_in}
+use Rattle.command_run.specs.Laws.{Shelf}
+use Rattle.program_laws.specs.ResumeLaw.{moment_given}
+use Rattle.program_laws.specs.ToldLaw.{AskForLog, NewLogCanBeTold, OldLogCanBeTold, manner_of}
+use Rattle.program_laws.proofs.GoodFiles.{good_plan}
+use Rattle.program_laws.proofs.SameWriting.{same_manner}
+
+-- ---- the words
+
+kept_some : (keeps : Bool) (log : Option (List ℕ)) (path : List ℕ) → log_kept_by keeps log ≡ Some path → log ≡ Some path
+kept_some true log path is = is
+kept_some false log path is = absurd (cc is)
+
+asked_path : (words : List (List ℕ)) (chosen : Chosen) (path : List ℕ) → IsChoiceOf (found_in words) chosen → kept_log_in chosen ≡ Some path → kept_in (rows_found (found_in words)) ≡ Some path
+asked_path words chosen path choice kept = sym choice.log ∙ kept_some (keeps_log chosen.name) (option_map string_bytes chosen.log) path kept
+
+asked_pair : (words : List (List ℕ)) (pair : PairOfFiles) (log : List ℕ) (chosen : Chosen) → AskForLog words pair log → IsChoiceOf (found_in words) chosen → pair_in chosen ≡ pair
+asked_pair words pair log chosen ask is =
+    let of : List ℕ → Option (List ℕ) → List ℕ → PairOfFiles = λ a b c. record { path = a; name = b; plan = c } in
+    let files : List (List ℕ) = map string_bytes chosen.files.items in
+    ap (λ a. of a (option_map string_bytes chosen.instance) (get_or files 1 [])) (ap (λ (fs : List (List ℕ)). get_or fs 0 []) is.files ∙ sym ask.path)
+    ∙ ap (λ b. of pair.path b (get_or files 1 [])) (is.instance ∙ sym ask.name) ∙ ap (λ c. of pair.path pair.name c) (ap (λ (fs : List (List ℕ)). get_or fs 1 []) is.files ∙ sym ask.plan)
+
+-- ---- a new log
+
+new_told : (folder : Option (List NamedLog)) (logs : List NamedLog) (taken : Option (List ℕ)) (start : List ℕ) (p : PlannedShop) (manner : Manner) (at : Option ℕ) (bytes : Option (List ℕ))
+    → folder ≡ Some logs → taken ≡ Some start → IfSome bytes (λ l. l ≡ []) → IsToldOf folder p manner at bytes taken ([], start)
+new_told folder logs taken start p manner at None there output none = record { logs = logs; there = there; log = refl; output = output }
+new_told folder logs taken start p manner at (Some []) there output none = record { logs = logs; there = there; log = refl; output = output }
+new_told folder logs taken start p manner at (Some (byte ∷ bytes)) there output none = absurd (cc none)
+
+pub new_log_can_be_told : {W : Type 0} (gives : W → List ℕ → Result (List ℕ) CommandFault → W → Type 0) → NewLogCanBeTold gives
+new_log_can_be_told gives words before logs start there output none chosen choice path kept p mid shapes = record {
+  logs = logs;
+  there = there;
+  is = new_told before.folder logs before.streams.output.taken start p (manner_in chosen) chosen.at (held logs path) there output (none path (asked_path words chosen path choice kept));
+}
+
+-- ---- a log with bytes
+
+-- what is told again of a log that was taken up is one text
+same_told : (plain : Bool) (manner : Manner) (p : PlannedShop) (lines : List (List ℕ)) (at : Option ℕ) (taken other : TakenUp) → IsTakenUp p lines at taken → IsTakenUp p lines at other
+    → told_by plain manner other ≡ told_by plain manner taken
+same_told true manner p lines at taken other up also =
+    let one = one_taking_up p lines at taken other up also in
+    ap₂ (λ (es : List Entry) (fs : List Bool). told_lines (take (length fs) es) fs) (ap (λ (d : DrivenCell). d.entries) one.0) one.1
+same_told false manner p lines at taken other up also =
+    let one = one_taking_up p lines at taken other up also in
+    let of : PlannedShop → List Entry → List Bool → List ℕ = λ q es fs. retold_lines q manner (start q) (take (length fs) es) fs in
+    ap₂ (λ (es : List Entry) (fs : List Bool). of (plan_of other) es fs) (ap (λ (d : DrivenCell). d.entries) one.0) one.1
+    ∙ ap (λ (q : PlannedShop). of q taken.driven.log.entries taken.late) (also.taken_from.planned ∙ sym up.taken_from.planned)
+
+pub old_log_can_be_told : OldLogCanBeTold
+old_log_can_be_told content words pair log byte bytes p taken before logs start ask tell unasked there output has up chosen choice path kept q mid shapes =
+    let base : List ℕ = byte ∷ bytes in
+    let manner : Manner = manner_of words in
+    let at : Option ℕ = moment_given words in
+    let told : List ℕ × List ℕ = (whole_lines base, start ++ told_in_manner manner taken) in
+    let here : path ≡ log = (let both : Some path ≡ Some log = sym (asked_path words chosen path choice kept) ∙ ask.kept in cc both) in
+    let shapes_pair : Shapes (Shelf content) pair [] (Ok (Ok q)) mid =
+    subst (λ (r : PairOfFiles). Shapes (Shelf content) r [] (Ok (Ok q)) mid) (asked_pair words pair log chosen ask choice)
+    (subst (λ (asked : List (List ℕ)). Shapes (Shelf content) (pair_in chosen) asked (Ok (Ok q)) mid) unasked shapes) in
+    let same : q ≡ p = (good_plan content pair p tell IsShapedOrNot (Ok (Ok q)) mid shapes_pair).0.0 in
+    let old : IsToldOfOld p manner at base before.streams.output.taken told = record {
+      log = refl;
+      output = λ other also. record { start = start; was = output; is = ap (λ (text : List ℕ). start ++ text) (sym (same_told (is_plain manner) manner p (ended_lines (whole_lines base)) at taken other up also)) };
+    } in
+    let chosen_so : IsToldOfOld q (manner_in chosen) chosen.at base before.streams.output.taken told =
+    subst (λ (r : PlannedShop). IsToldOfOld r (manner_in chosen) chosen.at base before.streams.output.taken told) (sym same)
+    (subst (λ (m : Manner). IsToldOfOld p m chosen.at base before.streams.output.taken told) (sym (same_manner words chosen choice))
+    (subst (λ (a : Option ℕ). IsToldOfOld p manner a base before.streams.output.taken told) (sym choice.at) old)) in
+    record {
+      logs = logs;
+      there = there;
+      is = subst (λ (b : Option (List ℕ)). IsToldOf before.folder q (manner_in chosen) chosen.at b before.streams.output.taken told) (sym (ap (λ (l : List ℕ). held logs l) here ∙ has)) chosen_so;
+    }
