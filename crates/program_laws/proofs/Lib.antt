@@ -5,3 +5,4 @@ pub mod GoodInputs
 pub mod SameWriting
 pub mod SameResuming
 pub mod ToldLogs
+pub mod OneLogs

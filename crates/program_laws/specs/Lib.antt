@@ -1,3 +1,4 @@
 -- Reached by public clauses: to be read and believed.
 pub mod ResumeLaw
 pub mod ToldLaw
+pub mod OneLogLaw

@@ -1,9 +1,11 @@
 //! The laws of the program. The first four speak of files that don't change (`Shelf`), and the first three also of
 //! which paths are asked for. The others speak of every run of the whole program, over any files, input, output and
-//! error output, and the last one of what `run` asks. For `audit`, `gantt` and `--after` `good_files_are_answered` takes a
-//! well shaped plan. The clause of `run` says what else they do.
+//! error output, but for `what_run_asks_can_be_told`, which is of what `run` asks, and `a_log_is_of_one_run`, of the log of
+//! a driven run. For `audit`, `gantt` and `--after` `good_files_are_answered` takes a well shaped plan. The clause of
+//! `run` says what else they do.
 
-// Nothing is done here: a function's contract is the law, so a check of this crate proves it.
+// Nothing is done here, but that a law of another crate is called: a function's contract is the law, so a check of this crate
+// proves it.
 
 ghost use Rattle.command_run.specs.Laws.{FactsTellInstanceFirst, ShapeTellsInstanceFirst, CheckTellsInstanceFirst, ExplainTellsInstanceFirst, ScheduleTellsInstanceFirst, BoundsTellInstanceFirst};
 ghost use Rattle.command_run.specs.Laws.{LogTellsInstanceFirst, RestTellsInstanceFirst, PlanTellsInstanceFirst, ImproveTellsInstanceFirst, ImproveRestTellsInstanceFirst};
@@ -15,9 +17,11 @@ ghost use Rattle.command_run.specs.Laws.{HubDrivesPlans, InputAnswersShop};
 ghost use Rattle.command_run.specs.Laws.{DriveAnswersByCheck, ResumeAnswersUnshaped, ResumeAnswersByCheck, HubAnswersByCheck, DriveWritesTheSame};
 ghost use Rattle.command_run.specs.Laws.{WhatFailsIsTold, NothingIsHeldBack, WhatFailsIsNoAnswer};
 ghost use Rattle.program_laws.specs.ResumeLaw.{ResumeWritesTheSame, ResumeWritesAsDrive};
+ghost use Rattle.program_laws.specs.OneLogLaw.{ANewLogIsOfOneRun, ATakenUpLogIsOfOneRun};
 ghost use Rattle.program_laws.specs.ToldLaw.{NewLogCanBeTold, OldLogCanBeTold};
 
 use command_answers::Texts;
+use logged_drive::laws::{a_driven_run_is_taken_up, a_taken_up_run_is_taken_up};
 
 /// In each command over files, `drive` without `--log`: if the text of the instance is refused, its first fault is
 /// reported, unless memory runs out, and no other file is asked for. `drive`, `resume`, `hub` and a command with `--svg`
@@ -122,3 +126,15 @@ pub fn what_run_asks_can_be_told<T: Texts>()
     ensures new_log { NewLogCanBeTold T.gives }
     ensures old_log { OldLogCanBeTold }
 {}
+
+/// However often a crash cuts its log and the run is taken up from there, by its own plan and with no moment given, all its
+/// events are one controlled run: what a crash leaves of the log tells the first of them, and the orders that are due are the
+/// next. So by [`drive_laws::laws::a_driven_run_goes_on_as_one`] an accepted plan's budgets are kept as if there had been no
+/// crash.
+pub fn a_log_is_of_one_run()
+    ensures new_log { ANewLogIsOfOneRun }
+    ensures taken_up { ATakenUpLogIsOfOneRun }
+{
+    a_driven_run_is_taken_up();
+    a_taken_up_run_is_taken_up();
+}

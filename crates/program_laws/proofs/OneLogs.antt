@@ -1,0 +1,41 @@
+-- What a crash leaves of a log is of one controlled run.
+use Rattle.std.proofs.Common.{◌≡◌, ℕ, List, [], ◌++◌, ap, sym, ◌∙◌, subst, refl, append_assoc, None}
+use Rattle.shop_base.specs.Plan.{PlannedShop}
+use Rattle.shop_base.specs.Cell.{start}
+use Rattle.shop_base.specs.Run.{IsRun}
+use Rattle.shop_base.specs.Controlled.{done}
+use Rattle.cell_tables.specs.declared.entry.Entry.{Entry}
+use Rattle.cell_tables.specs.Events.{events_of}
+use Rattle.text_lines.specs.Lines.{ended_lines}
+use Rattle.event_lines.proofs.Readings.{one_reading}
+use Rattle.cell_drive.specs.CutLaw.{IsTakenUpFrom}
+use Rattle.cell_drive.specs.TakenUp.{told_in}
+use Rattle.run_journal.specs.WholeLines.{whole_lines}
+use Rattle.logged_drive.specs.CrashLaw.{IsTakenUpAgain, ADrivenRunIsTakenUp, ATakenUpRunIsTakenUp}
+use Rattle.drive_laws.proofs.GoneOnAsOne.{it_is_one_so_far, it_is_taken_up_as_one, the_first_events_have_their_orders}
+use Rattle.drive_laws.proofs.ResumedTexts.{taken_to_rest}
+use Rattle.program_laws.specs.OneLogLaw.{ANewLogIsOfOneRun, ATakenUpLogIsOfOneRun}
+
+-- what was left tells the first events of a run
+from_left : (p : PlannedShop) (told came entries : List Entry) (shown left : List ℕ) → IsTakenUpAgain p told came shown left → entries ≡ told ++ came → IsTakenUpFrom p (whole_lines left) entries
+from_left p told came entries shown left again whole = record {
+  told = told ++ again.kept;
+  tells = again.tells;
+  run = subst (λ (es : List Entry). IsRun p (events_of es)) (one_reading p (ended_lines (whole_lines left)) again.can.told (told ++ again.kept) again.can.tells again.tells) again.can.is_run;
+  later = again.lost;
+  whole = whole ∙ ap (λ (es : List Entry). told ++ es) again.came_so ∙ sym (append_assoc told again.kept again.lost);
+}
+
+pub a_new_log : ADrivenRunIsTakenUp → ANewLogIsOfOneRun
+a_new_log driven_run p manner lines answers closing shown pending left end shaped acceptable are given is_left =
+    the_first_events_have_their_orders p (whole_lines left) end.entries shaped
+    (it_is_one_so_far p manner [] 1 lines answers end shaped ([], done (start p)) are)
+    (from_left p [] end.entries end.entries shown left (driven_run p manner lines answers closing shown pending left end shaped acceptable are given is_left) refl)
+
+pub a_taken_up_log : ATakenUpRunIsTakenUp → ATakenUpLogIsOfOneRun
+a_taken_up_log taken_up_run p manner base taken lines answers closing shown pending left end whole own up are given is_left =
+    let shaped = (taken_to_rest p own.lines None taken own.up).0 in
+    let more = taken_up_run p manner base None taken lines answers closing shown pending left end whole up are given is_left in
+    the_first_events_have_their_orders p (whole_lines left) end.entries shaped
+    (it_is_one_so_far p manner taken.driven.log.entries 1 lines answers end shaped (it_is_taken_up_as_one p taken own) are)
+    (from_left p (told_in taken) more.came end.entries shown left more.again more.whole)
