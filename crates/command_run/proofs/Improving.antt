@@ -3,7 +3,7 @@ use Rattle.std.proofs.Common.{◌≡◌, ℕ, zero, suc, ◌<◌, List, [], ◌�
 use Rattle.std.proofs.lemmas.Option.{slice_get_within}
 use Rattle.shop_base.specs.Plan.{PlannedShop}
 use Rattle.plan_seek.specs.Orders.{Proposal}
-use Rattle.plan_improve.specs.Runs.{Asked, AfterSome, nobody, one_more, AfterRounds, no_round, round_more, RoundsTold, Rounds}
+use Rattle.plan_improve.specs.Runs.{Asked, EndsAfter, AfterSome, nobody, one_more, AfterRound, AfterRounds, no_round, round_more, RoundsTold, Rounds}
 use Rattle.plan_improve.specs.Watching.{Told as Telling}
 use Rattle.command_answers.specs.declared.answer.Answer.{Answer}
 use Rattle.command_answers.specs.declared.command_fault.CommandFault.{CommandFault}
@@ -56,13 +56,16 @@ module _ {B : Type 0} (may : B → PlannedShop → ℕ → Proposal → Type 0) 
   -- what one improver makes of a plan is what one that may answer anything makes of it
   some_more : (round : ℕ) (p : PlannedShop) (n : ℕ) (r : PlannedShop) → AfterSome may improvers round p n r → AfterSome MayImprove (tt ∷ []) round p n r
   some_more round p n r nobody = nobody
-  some_more round p n r (one_more m who q s answer run stands given becomes) =
-      one_more m tt q s answer (some_more round p m q run) (stands_alone tt m (omega (arith, alone, slice_get_within improvers m who stands))) tt becomes
+  some_more round p n r (one_more m who q s answer run above stands given becomes) =
+      one_more m tt q s answer (some_more round p m q run) above (stands_alone tt m (omega (arith, alone, slice_get_within improvers m who stands))) tt becomes
+
+  round_all_more : (round : ℕ) (p q : PlannedShop) → AfterRound may improvers round p q → AfterRound MayImprove (tt ∷ []) round p q
+  round_all_more round p q is = record { asked = is.asked; after = some_more round p is.asked q is.after; ends = subst (λ k. EndsAfter k is.asked q) alone is.ends }
 
   rounds_more : (p : PlannedShop) (n : ℕ) (told : List Telling) (r : PlannedShop) → AfterRounds may improvers p n told r → AfterRounds MayImprove (tt ∷ []) p n told r
   rounds_more p n told r no_round = no_round
   rounds_more p n told r (round_more m before q s cost at_least run is bound unmet last) =
-      round_more m before q s cost at_least (rounds_more p m before q run) is bound unmet (subst (λ k. AfterSome MayImprove (tt ∷ []) m q k s) alone (some_more m q (length improvers) s last))
+      round_more m before q s cost at_least (rounds_more p m before q run) is bound unmet (round_all_more m q s last)
 
   told_more : (rounds : ℕ) (told : List Telling) (p q : PlannedShop) → RoundsTold may improvers rounds told p q → RoundsTold MayImprove (tt ∷ []) rounds told p q
   told_more rounds told p q is = record { asked = is.asked; after = rounds_more p is.asked told q is.after; ends = is.ends }

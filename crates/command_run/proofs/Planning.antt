@@ -1,5 +1,6 @@
 -- A search by planners that may propose more.
-use Rattle.std.proofs.Common.{◌≡◌, ◌↔◌, ℕ, zero, suc, ◌<◌, List, [], ◌∷◌, Some, Result, Ok, Err, inl, inr, slice_index_or, subst, sym, arith}
+use Rattle.std.proofs.Common.{◌≡◌, ◌↔◌, ℕ, zero, suc, ◌<◌, List, [], ◌∷◌, Some, Result, Ok, Err, inl, inr, slice_get, IfSome, subst, sym, arith}
+use Rattle.std.proofs.lemmas.Option.{slice_get_within}
 use Rattle.shop_base.specs.Shop.{JobShop}
 use Rattle.shop_base.specs.Plan.{ShopPlan}
 use Rattle.plan_seek.specs.declared.seek_fault.SeekFault.{SeekFault}
@@ -86,15 +87,15 @@ runs_more gives may wide within proposers rounds pair before outcome after =
 
 module _ {B : Type 0} (may : B → JobShop → ℕ → Proposal → Type 0) (one two : B)
     (shifts : (shop : JobShop) (round : ℕ) (proposal : Proposal) → may two shop round proposal → proposal ≡ Some (shifted_order shop round)) where
-  at_place : (shop : JobShop) (round : ℕ) (proposal : Proposal) (place : ℕ) (who : B) → place < 2 → slice_index_or (one ∷ two ∷ []) place who ≡ who → may who shop round proposal
+  at_place : (shop : JobShop) (round : ℕ) (proposal : Proposal) (place : ℕ) (who : B) → slice_get (one ∷ two ∷ []) place ≡ Some who → may who shop round proposal
       → MayPlanAt place shop round proposal
-  at_place shop round proposal zero who inside stands given = tt
-  at_place shop round proposal (suc zero) who inside stands given = shifts shop round proposal (subst (λ b. may b shop round proposal) (sym stands) given)
-  at_place shop round proposal (suc (suc place)) who inside stands given = absurd (omega arith)
+  at_place shop round proposal zero who stands given = tt
+  at_place shop round proposal (suc zero) who stands given = shifts shop round proposal (subst (λ found. IfSome found (λ b. may b shop round proposal)) (sym stands) given)
+  at_place shop round proposal (suc (suc place)) who stands given = absurd (let inside : suc (suc place) < 2 = slice_get_within (one ∷ two ∷ []) (suc (suc place)) who stands in omega arith)
 
   -- what the two planners may propose is what is said of them
   both_may : (shop : JobShop) (turn : Turn) (proposal : Proposal) → MayPropose (λ b. may b shop) (one ∷ two ∷ []) turn proposal → MayPlanAt turn.proposer shop turn.round proposal
-  both_may shop turn proposal m = at_place shop turn.round proposal turn.proposer m.who m.within m.stands m.given
+  both_may shop turn proposal m = at_place shop turn.round proposal turn.proposer m.who m.stands m.given
 
 -- these two planners: the first one may propose anything, as the greedy one does, and the second one the shifted rows alone
 abbrev pub AreTheTwo : {B : Type 0} → (B → JobShop → ℕ → Proposal → Type 0) → List B → Type 0

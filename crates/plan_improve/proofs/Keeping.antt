@@ -18,7 +18,7 @@ use Rattle.plan_improve.specs.AtBound.{IsBound, Meets, IsAtBound}
 use Rattle.plan_improve.specs.Costs.{IsLateness, IsCost, IsLess, IsAtMost, IsBetter}
 use Rattle.plan_improve.specs.Reordered.{reordered, IsReordered}
 use Rattle.plan_improve.specs.Watching.{Told, IsToldMore}
-use Rattle.plan_improve.specs.Runs.{Becomes, no_answer, no_better, better, AfterSome, nobody, one_more, AfterRounds, no_round, round_more, RoundsTold}
+use Rattle.plan_improve.specs.Runs.{Asked, Becomes, no_answer, no_better, better, EndsAfter, AfterSome, nobody, one_more, AfterRound, AfterRounds, no_round, round_more, RoundsTold}
 use Rattle.plan_improve.specs.Keeping.{IsNext, IsLast, IsLastTold}
 
 -- the numbers stay the same from one plan to the next
@@ -129,22 +129,34 @@ told_on None between after one more first next = tt
 told_on (Some before) between after one more first next =
     (rw first at next) ∙ ap (λ told. Some told) (append_assoc before one more)
 
+-- the best plan so far meets the bound of the first
+pub at_bound : (made : Asked) (p : PlannedShop) (first : Cost) (best : Best) (at_least : ℕ) → IsLast made p first best → IsBound p at_least → Meets best.cost at_least → IsAtBound best.shaped
+at_bound made p first best at_least known bound meets =
+    record { cost = best.cost; at_least = at_least; is = known.is; bound = same_bound p best.shaped at_least known.same bound; meets = meets }
+
 module _ {B : Type 0} (may : B → PlannedShop → ℕ → Proposal → Type 0) (improvers : List B) where
-  -- one more improver was asked
-  pub one_more_asked : (round n : ℕ) (p : PlannedShop) (first : Cost) (best kept : Best) (who : B) → n < length improvers → who ≡ get_or improvers n who
+  -- one more improver was asked, as the best plan was above its bound
+  pub one_more_asked : (round n at_least : ℕ) (p : PlannedShop) (first : Cost) (best kept : Best) (who : B) → IsBound p at_least → (Meets best.cost at_least → ⊥)
+      → n < length improvers → who ≡ get_or improvers n who
       → IsLast (λ x. AfterSome may improvers round x n) p first best → (answer : Proposal) × may who best.shaped round answer × IsNext best.shaped best.cost answer kept
       → IsLast (λ x. AfterSome may improvers round x (n + 1)) p first kept
-  one_more_asked round n p first best kept who inside stands known (answer, given, next) = record {
-    run = one_more n who best.shaped kept.shaped answer known.run (slice_get_read improvers (length improvers) n who refl inside stands) given next.becomes;
+  one_more_asked round n at_least p first best kept who bound above inside stands known (answer, given, next) = record {
+    run = one_more n who best.shaped kept.shaped answer known.run
+        (record { cost = best.cost; at_least = at_least; is = known.is; bound = same_bound p best.shaped at_least known.same bound; above = above }) (slice_get_read improvers (length improvers) n who refl inside stands) given next.becomes;
     same = reordered_on p best.shaped kept.shaped known.same (becomes_same best.shaped answer kept.shaped next.becomes);
     is = next.is;
     most = most_of_most kept.cost best.cost first next.most known.most;
   }
 
+  -- no improver more is asked
+  pub round_ends : (round n : ℕ) (p : PlannedShop) (first : Cost) (best : Best) → IsLast (λ x. AfterSome may improvers round x n) p first best → EndsAfter (length improvers) n best.shaped
+      → IsLast (AfterRound may improvers round) p first best
+  round_ends round n p first best known ends = record { run = record { asked = n; after = known.run; ends = ends }; same = known.same; is = known.is; most = known.most }
+
   -- one more round, before which the best plan doesn't meet its bound
   pub one_more_round : (before between after : Option (List Told)) (n at_least : ℕ) (p : PlannedShop) (first : Cost) (best kept : Best) → IsBound p at_least → (Meets best.cost at_least → ⊥)
       → IsLastTold before between (λ told x. AfterRounds may improvers x n told) p first best → IsToldMore between (record { round = n; cost = best.cost; at_least = at_least } ∷ []) after
-      → IsLast (λ x. AfterSome may improvers n x (length improvers)) best.shaped best.cost kept
+      → IsLast (AfterRound may improvers n) best.shaped best.cost kept
       → IsLastTold before after (λ told x. AfterRounds may improvers x (n + 1) told) p first kept
   one_more_round before between after n at_least p first best kept bound unmet known more next = record {
     told = known.told ++ record { round = n; cost = best.cost; at_least = at_least } ∷ [];
@@ -157,9 +169,9 @@ module _ {B : Type 0} (may : B → PlannedShop → ℕ → Proposal → Type 0) 
     };
   }
 
-  -- no round more: all are asked, or the best plan meets its bound
+  -- no round more
   pub rounds_end : (before after : Option (List Told)) (n rounds : ℕ) (p : PlannedShop) (first : Cost) (best : Best) → IsLastTold before after (λ told x. AfterRounds may improvers x n told) p first best
-      → (n ≡ rounds) ⊎ ((n < rounds) × IsAtBound best.shaped) → IsLastTold before after (RoundsTold may improvers rounds) p first best
+      → EndsAfter rounds n best.shaped → IsLastTold before after (RoundsTold may improvers rounds) p first best
   rounds_end before after n rounds p first best known ends = record {
     told = known.told;
     more = known.more;
@@ -170,7 +182,7 @@ module _ {B : Type 0} (may : B → PlannedShop → ℕ → Proposal → Type 0) 
       → n < rounds → IsBound p at_least → Meets best.cost at_least → IsLastTold before after (RoundsTold may improvers rounds) p first best
   bound_met before after n rounds at_least p first best known few bound meets =
       rounds_end before after n rounds p first best known
-      (inr (few, record { cost = best.cost; at_least = at_least; is = known.last.is; bound = same_bound p best.shaped at_least known.last.same bound; meets = meets }))
+      (inr (few, at_bound (λ x. AfterRounds may improvers x n known.told) p first best at_least known.last bound meets))
 
   pub nobody_asked : (round : ℕ) (best : Best) → IsCost best.shaped best.cost → IsLast (λ x. AfterSome may improvers round x 0) best.shaped best.cost best
   nobody_asked round best is = record { run = nobody; same = refl; is = is; most = most_same best.cost }

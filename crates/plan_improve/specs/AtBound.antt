@@ -15,6 +15,14 @@ IsBound p n = (by : By) × IsBy (times_of p) n by
 abbrev pub Meets : Cost → ℕ → Type 0
 Meets c n = (c.late ≡ 0) × (c.makespan ≡ n)
 
+-- the plan is above its bound yet
+pub record IsAboveBound (p : PlannedShop) : Type 0 where
+  pub cost : Cost
+  pub at_least : ℕ
+  pub is : IsCost p cost
+  pub bound : IsBound p at_least
+  pub above : Meets cost at_least → ⊥
+
 -- the plan meets its bound
 pub record IsAtBound (p : PlannedShop) : Type 0 where
   pub cost : Cost

@@ -24,8 +24,8 @@ use std::alloc::{AllocError, Global};
 /// Improves a plan. The search begins at the plan itself or, if that has a cycle, at the serial plan. In each
 /// round from 0 on each improver is asked in order with the best plan so far, and its answer is kept exactly if
 /// the plan with these orders fits the shop, has no cycle and is less late, or as late with a shorter makespan. Once
-/// no job of the best plan is late and its makespan is the greatest of its bounds, nobody can better it, and no
-/// further round begins. The best plan is judged at the end. Too many rounds are answered first, and no
+/// no job of the best plan is late and its makespan is the greatest of its bounds, nobody can better it, and nobody is
+/// asked any more. The best plan is judged at the end. Too many rounds are answered first, and no
 /// improver is asked then, which no clause says. On a fault the plan comes back as it was. The plan is exactly the
 /// best of the beginning and of answers that the improvers may give, the first among equals, each allowed for the
 /// best plan up to there.

@@ -1,10 +1,11 @@
 //! The improvers asked in turn, round by round.
 
-ghost use Rattle.std.specs.Prelude.{length, IfOk, IfErr};
+ghost use Rattle.std.specs.Prelude.{IfOk, IfErr};
 ghost use Rattle.plan_seek.specs.Orders.{proposal_of};
 ghost use Rattle.plan_improve.specs.Costs.{IsCost};
+ghost use Rattle.plan_improve.specs.AtBound.{IsBound};
 ghost use Rattle.plan_improve.specs.Reordered.{IsReordered};
-ghost use Rattle.plan_improve.specs.Runs.{AfterSome, RoundsTold};
+ghost use Rattle.plan_improve.specs.Runs.{AfterRound, RoundsTold};
 ghost use Rattle.plan_improve.specs.Keeping.{IsNextOf, IsLast, IsLastTold};
 
 use crate::best::Best;
@@ -12,7 +13,7 @@ use crate::improver::Improver;
 use crate::judging::judge_orders;
 use crate::watch::Watch;
 use plan_bounds::least_makespan;
-use shop_base::{JobNo, Shaped};
+use shop_base::{JobNo, Moment, Shaped};
 use std::alloc::{AllocError, Global};
 
 /// Asks in each round from 0 on, until the best plan meets its bound, and calls the watch before each.
@@ -34,24 +35,28 @@ pub(crate) fn ask_in_rounds<W: Watch>(
             return Ok(best);
         }
         watch.round(round, best.cost.late, best.cost.makespan, at_least);
-        best = ask_each(alloc, best, improvers, round)?;
+        best = ask_each(alloc, best, improvers, round, at_least)?;
     }
     Ok(best)
 }
 
-/// Asks each improver in order.
+/// Asks each improver in order, until the best plan meets this bound.
 fn ask_each(
     alloc: Global,
     mut best: Best,
     improvers: &[Box<dyn Improver>],
     round: u32,
+    at_least: Moment,
 ) -> Result<Best, (AllocError, Shaped)>
     requires { IsCost best.shaped best.cost }
-    ensures last { IfOk result (IsLast (λ p.
-        AfterSome (λ b. may b) improvers.now round p (length improvers.now)) best.shaped best.cost) }
+    requires { IsBound best.shaped at_least }
+    ensures last { IfOk result (IsLast (AfterRound (λ b. may b) improvers.now round) best.shaped best.cost) }
     ensures handed_back { IfErr result (λ refused. IsReordered best.shaped refused.1) }
 {
     for improver in improvers {
+        if best.cost.meets(at_least) {
+            return Ok(best);
+        }
         best = ask_one(alloc, best, improver, round)?;
     }
     Ok(best)

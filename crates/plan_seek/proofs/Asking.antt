@@ -1,5 +1,6 @@
 -- What comes of one proposal, of one round and of all rounds.
-use Rattle.std.proofs.Common.{◌≡◌, ℕ, ◌+◌, ◌<◌, List, length, get_or, Some, inl, inr, sym, ap, ◌∙◌, subst}
+use Rattle.std.proofs.Common.{◌≡◌, ℕ, ◌+◌, ◌<◌, List, length, get_or, Some, inl, inr, refl, sym, ap, ◌∙◌, subst}
+use Rattle.std.proofs.lemmas.Option.{slice_get_read}
 use borrow.Author.Count.{below_more}
 use Rattle.shop_base.specs.Shop.{JobShop}
 use Rattle.shop_base.specs.Plan.{ShopPlan, PlannedShop, IsWellShaped}
@@ -51,7 +52,7 @@ module _ {B : Type 0} (proposers : List B) (may : B → JobShop → ℕ → Prop
       let moved : MayFail t (may b t.shop round) = subst (λ x. MayFail x (may b x.shop round)) same failed in
       below_more (λ k. MayFail t ((asked t).may (turn_of round k))) place before (record {
         proposal = moved.proposal;
-        given = record { who = b; within = within; stands = sym stands; given = moved.given };
+        given = record { who = b; stands = slice_get_read proposers (length proposers) place b refl within stands; given = moved.given };
         in_vain = moved.in_vain;
       })
 
@@ -66,7 +67,7 @@ module _ {B : Type 0} (proposers : List B) (may : B → JobShop → ℕ → Prop
         record {
           place = place;
           inside = within;
-          given = record { who = b; within = within; stands = sym stands; given = moved.1 };
+          given = record { who = b; stands = slice_get_read proposers (length proposers) place b refl within stands; given = moved.1 };
           before = before;
         },
       )

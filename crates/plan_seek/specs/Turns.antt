@@ -1,5 +1,5 @@
 -- The turns of the planners, round by round and in each round in order, and the first of them whose proposal is accepted.
-use Rattle.std.specs.Prelude.{◌≡◌, ℕ, ◌<◌, List, None, Some, ◌⊎◌, length, slice_index_or}
+use Rattle.std.specs.Prelude.{◌≡◌, ℕ, ◌<◌, List, None, Some, ◌⊎◌, length, slice_get}
 use Rattle.shop_base.specs.Shop.{JobShop}
 use Rattle.plan_seek.specs.Orders.{Proposal}
 use Rattle.plan_seek.specs.Tasks.{PlanTask, with_order, IsAccepted}
@@ -29,8 +29,7 @@ Proposals = Turn → Proposal → Type 0
 -- the proposer whose turn it is may make the proposal in that round
 pub record MayPropose {B : Type 0} (may : B → ℕ → Proposal → Type 0) (proposers : List B) (turn : Turn) (proposal : Proposal) : Type 0 where
   pub who : B
-  pub within : turn.proposer < length proposers
-  pub stands : slice_index_or proposers turn.proposer who ≡ who
+  pub stands : slice_get proposers turn.proposer ≡ Some who
   pub given : may who turn.round proposal
 
 -- a search for a plan: its task, how many proposers are asked in each round, and what may be proposed at each turn

@@ -199,7 +199,7 @@ const SEARCHES: &[Search] = &[
         1000,
         3000,
     ),
-    // Once the best plan meets its bound, no round is told, and nobody is asked.
+    // Once the best plan meets its bound, no round is told, and nobody is asked, in a round that has begun either.
     (
         AT_ITS_BOUND,
         [Answer::Hungry, SILENT, SILENT],
@@ -216,7 +216,7 @@ const SEARCHES: &[Search] = &[
         DOWN_TO_IT,
         Ok(true),
         1,
-        3,
+        1,
     ),
     // On a fault the plan comes back as it was.
     (

@@ -1,16 +1,20 @@
-use Rattle.std.proofs.Common.{arith, subst}
+use Rattle.std.proofs.Common.{arith, inl, inr}
 use Rattle.plan_improve.specs.Runs.{AfterSome}
-use Rattle.plan_improve.specs.Keeping.{IsLast}
-use Rattle.plan_improve.proofs.Keeping.{one_more_asked, nobody_asked}
+use Rattle.plan_improve.proofs.Keeping.{at_bound, one_more_asked, nobody_asked, round_ends}
 use Rattle.plan_improve.proofs.rounds.ask_each.Goals as goal
 
 pub loop-improver-init : goal.loop-improver-init
-loop-improver-init g c = nobody_asked (λ b. (goal.Improver-dyn g (b.vtable, b.value)).may b.value) c.args.improvers.now c.args.round c.args.best c.requires
+loop-improver-init g c = nobody_asked (λ b. (goal.Improver-dyn g (b.vtable, b.value)).may b.value) c.args.improvers.now c.args.round c.args.best c.requires.0
 
 pub loop-improver-preserved : goal.loop-improver-preserved
-loop-improver-preserved g c = one_more_asked (λ b. (goal.Improver-dyn g (b.vtable, b.value)).may b.value) c.args.improvers.now c.args.round c.loop-improver.improver-index c.args.best.shaped c.args.best.cost c.loop-improver.best c.in_ok-best.best
-    c.improver-item.result (omega arith) c.improver-item.is c.loop-improver.invariant c.in_ok-best.ensures.asked
+loop-improver-preserved g c = one_more_asked (λ b. (goal.Improver-dyn g (b.vtable, b.value)).may b.value) c.args.improvers.now c.args.round c.loop-improver.improver-index c.args.at_least c.args.best.shaped c.args.best.cost c.loop-improver.best c.in_ok-best.best
+    c.improver-item.result c.requires.1 c.if-meets.ensures (omega arith) c.improver-item.is c.loop-improver.invariant c.in_ok-best.ensures.asked
+
+pub returns-then-meets-clause-last : goal.returns-then-meets-clause-last
+returns-then-meets-clause-last g c = round_ends (λ b. (goal.Improver-dyn g (b.vtable, b.value)).may b.value) c.args.improvers.now c.args.round c.loop-improver.improver-index c.args.best.shaped c.args.best.cost c.loop-improver.best
+    c.loop-improver.invariant (inr (omega (arith, c.loop-improver-test.true), at_bound (λ p. AfterSome (λ b. (goal.Improver-dyn g (b.vtable, b.value)).may b.value) c.args.improvers.now c.args.round p c.loop-improver.improver-index)
+    c.args.best.shaped c.args.best.cost c.loop-improver.best c.args.at_least c.loop-improver.invariant c.requires.1 c.if-meets.ensures))
 
 pub returns-clause-last : goal.returns-clause-last
-returns-clause-last g c = subst (λ n. IsLast (λ p. AfterSome (λ b. (goal.Improver-dyn g (b.vtable, b.value)).may b.value) c.args.improvers.now c.args.round p n) c.args.best.shaped c.args.best.cost c.loop-improver.best)
-    (omega (arith, c.loop-improver-test.false, c.loop-improver.auto.improver-index-end)) c.loop-improver.invariant
+returns-clause-last g c = round_ends (λ b. (goal.Improver-dyn g (b.vtable, b.value)).may b.value) c.args.improvers.now c.args.round c.loop-improver.improver-index c.args.best.shaped c.args.best.cost c.loop-improver.best
+    c.loop-improver.invariant (inl (omega (arith, c.loop-improver-test.false, c.loop-improver.auto.improver-index-end)))
