@@ -46,15 +46,15 @@ fn ask_each(
     mut best: Best,
     improvers: &[Box<dyn Improver>],
     round: u32,
-    at_least: Moment,
+    bound: Moment,
 ) -> Result<Best, (AllocError, Shaped)>
-    requires { IsCost best.shaped best.cost }
-    requires { IsBound best.shaped at_least }
+    requires cost { IsCost best.shaped best.cost }
+    requires bound { IsBound best.shaped bound }
     ensures last { IfOk result (IsLast (AfterRound (λ b. may b) improvers.now round) best.shaped best.cost) }
     ensures handed_back { IfErr result (λ refused. IsReordered best.shaped refused.1) }
 {
     for improver in improvers {
-        if best.cost.meets(at_least) {
+        if best.cost.meets(bound) {
             return Ok(best);
         }
         best = ask_one(alloc, best, improver, round)?;

@@ -1,9 +1,13 @@
 use Rattle.std.proofs.Common.{arith, inl}
-use Rattle.plan_improve.proofs.Keeping.{one_more_round, no_rounds, bound_met, rounds_end}
+use Rattle.plan_improve.proofs.Keeping.{same_bound, one_more_round, no_rounds, bound_met, rounds_end}
 use Rattle.plan_improve.proofs.rounds.ask_in_rounds.Goals as goal
 
 pub loop-round-init : goal.loop-round-init
 loop-round-init g c = no_rounds (λ b. (goal.Improver-dyn g (b.vtable, b.value)).may b.value) c.args.improvers.now (g.W.Watch.told c.args.watch.now) c.args.best c.requires
+
+pub ask_each-requires-clause-bound : goal.ask_each-requires-clause-bound
+ask_each-requires-clause-bound g c = same_bound c.args.best.shaped c.loop-round.best.shaped c.least_makespan-at_least.result.at_least c.loop-round.invariant.last.same
+    (c.least_makespan-at_least.result.by, c.least_makespan-at_least.ensures)
 
 pub loop-round-preserved : goal.loop-round-preserved
 loop-round-preserved g c = one_more_round (λ b. (goal.Improver-dyn g (b.vtable, b.value)).may b.value) c.args.improvers.now (g.W.Watch.told c.args.watch.now)
