@@ -33,6 +33,6 @@ path_fits p kept _ _ _ fit (follows nodes u v n d path arc) = omega (arith, path
 pub never_in_time-holds : NeverInTime
 never_in_time-holds p j shaped inside past =
     let found = job_path p j inside in (
-      λ kept fit meet. absurd (omega (arith, past, found.long, path_fits p kept found.nodes (leaving p j) found.size fit found.path, meet j inside)),
+      λ kept fit. omega (arith, past, found.long, path_fits p kept found.nodes (leaving p j) found.size fit found.path),
       λ es run exact out. absurd (omega (arith, past, found.long, no_exact_run_is_faster-holds p j found.nodes found.size shaped found.path es run exact out.gone, out.by)),
     )

@@ -6,7 +6,7 @@ use Rattle.shop_base.specs.Cell.{start}
 use Rattle.shop_base.specs.Run.{Event, IsRun, ends_in}
 use Rattle.shop_base.specs.Punctual.{AreExact}
 use Rattle.shop_base.specs.Ends.{IsOutByBudget}
-use Rattle.shop_base.specs.Graph.{leaving, Path, MomentsFit, MeetBudgets}
+use Rattle.shop_base.specs.Graph.{leaving, Path, MomentsFit}
 use Rattle.plan_bounds.specs.Bounds.{times_of, job_bound}
 use Rattle.plan_bounds.specs.Makespan.{IsLeastMakespan}
 use Rattle.plan_bounds.specs.declared.makespan.LeastMakespan.{LeastMakespan}
@@ -24,8 +24,8 @@ NoPlanIsSooner = (p : PlannedShop) → IsWellShaped p
     → ((j : ℕ) → j < jobs p → HasPathOf p (leaving p j) (job_bound (times_of p) j))
     × ((least : LeastMakespan) → IsLeastMakespan (times_of p) least → (j : ℕ) × (j < jobs p) × HasPathOf p (leaving p j) least.at_least)
 
--- so a job whose bound is past its budget is late in every plan: no moments that fit meet the budgets, and in no run whose reports are exact is it out by its budget
+-- so a job whose bound is past its budget is late in every plan: by moments that fit it leaves past its budget, and in no run whose reports are exact is it out by its budget
 abbrev pub NeverInTime : Type 0
 NeverInTime = (p : PlannedShop) (j : ℕ) → IsWellShaped p → j < jobs p → budget p j < job_bound (times_of p) j
-    → ((kept : Node → ℕ) → MomentsFit p kept → MeetBudgets p kept → ⊥)
+    → ((kept : Node → ℕ) → MomentsFit p kept → budget p j < kept (leaving p j))
     × ((es : List Event) → IsRun p es → AreExact p (start p) es → IsOutByBudget p (ends_in p es) j → ⊥)

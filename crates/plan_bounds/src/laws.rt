@@ -16,8 +16,8 @@ pub fn no_plan_is_sooner()
     ensures { NoPlanIsSooner }
 {}
 
-/// A job whose bound is past its budget is late in every plan: no moments that fit meet the budgets. In no run whose
-/// reports are exact is it out by its budget.
+/// A job whose bound is past its budget is late in every plan: by moments that fit it leaves past its budget. In no run
+/// whose reports are exact is it out by its budget.
 pub fn never_in_time()
     ensures { NeverInTime }
 {}

@@ -9,9 +9,9 @@ use std::alloc::{AllocError, Global};
 const MAX_CHOICES: u32 = 100_000;
 
 /// A planner that simulates the cell at nominal times, as if all releases were 0 and no machine had to be cleaned. At
-/// each choice the least job that can move does so, and if none can, it waits for the next operation to end. A
-/// move after which it finds no way out for all jobs in the cell is taken back. In round `r` the choice begins at job
-/// `r`, with job 0 after the last, and in odd rounds no more jobs are let in once more than half of the machines hold one.
+/// each choice the first job that can move does so, and if none can, it waits for the next operation to end. No move is
+/// made after which it finds no way out for all jobs in the cell. In round `r` the choice begins at job `r`, with job 0
+/// after the last, and in odd rounds no more jobs are let in once more than half of the machines hold one.
 /// Looking ahead makes 100,000 choices at most; once they are spent, only moves on the way out that is known are
 /// made: no more jobs are let in, and nothing is proposed unless all are in. By its clause it may propose anything:
 /// it is only proved that it is safe and ends.
