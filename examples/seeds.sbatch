@@ -4,9 +4,10 @@
 #     sbatch examples/seeds.sbatch FILE PLAN FOLDER [OPTION ..]
 #     sbatch --array=0-199 examples/seeds.sbatch FILE PLAN FOLDER [OPTION ..]
 #
-# Each task writes FOLDER/seed-N.toml, whole or not at all, and examples/best-plan picks the best of them. The options are those of `cellplan
-# improve`, as --instance NAME. CELLPLAN names the program, else it is the cellplan of the path. A task ends with status 0 also where its plan
-# is late, since that plan is its answer; it ends as cellplan does where there is none. The same on one machine, without Slurm:
+# Each task writes FOLDER/seed-N.toml, whole or not at all, and examples/best-plan picks the best of them. An earlier one is removed first,
+# unless it is PLAN itself. The options are those of `cellplan improve`, as --instance NAME. CELLPLAN names the program, else it is the
+# cellplan of the path. A task ends with status 0 also where its plan is late, since that plan is its answer; it ends as cellplan does where
+# there is none. The same on one machine, without Slurm:
 #
 #     seq 0 39 | xargs -P "$(nproc)" -I{} env SLURM_ARRAY_TASK_ID={} examples/seeds.sbatch FILE PLAN FOLDER [OPTION ..]
 #
@@ -21,9 +22,11 @@ set -u
 file=$1
 plan=$2
 folder=$3
+case $folder in -*) folder=./$folder ;; esac
 seed=$SLURM_ARRAY_TASK_ID
 shift 3
 mkdir -p "$folder" || exit 5
+[ "$plan" -ef "$folder/seed-$seed.toml" ] || rm -f "$folder/seed-$seed.toml"
 "${CELLPLAN:-cellplan}" improve "$file" "$plan" --rounds 2 --seed "$seed" "$@" >"$folder/seed-$seed.part"
 status=$?
 # status 1 is that of a late plan, and of a line that begins with the fault of a PLAN that isn't well shaped
