@@ -12,8 +12,11 @@ loop-improver-preserved g c = one_more_asked (λ b. (goal.Improver-dyn g (b.vtab
 
 pub returns-then-meets-clause-last : goal.returns-then-meets-clause-last
 returns-then-meets-clause-last g c = round_ends (λ b. (goal.Improver-dyn g (b.vtable, b.value)).may b.value) c.args.improvers.now c.args.round c.loop-improver.improver-index c.args.best.shaped c.args.best.cost c.loop-improver.best
-    c.loop-improver.invariant (inr (omega (arith, c.loop-improver-test.true), at_bound (λ p. AfterSome (λ b. (goal.Improver-dyn g (b.vtable, b.value)).may b.value) c.args.improvers.now c.args.round p c.loop-improver.improver-index)
-    c.args.best.shaped c.args.best.cost c.loop-improver.best c.args.bound c.loop-improver.invariant c.requires.bound c.if-meets.ensures))
+    c.loop-improver.invariant (inr (
+      omega (arith, c.loop-improver-test.true),
+      at_bound (λ p. AfterSome (λ b. (goal.Improver-dyn g (b.vtable, b.value)).may b.value) c.args.improvers.now c.args.round p c.loop-improver.improver-index)
+          c.args.best.shaped c.args.best.cost c.loop-improver.best c.args.bound c.loop-improver.invariant c.requires.bound c.if-meets.ensures,
+    ))
 
 pub returns-clause-last : goal.returns-clause-last
 returns-clause-last g c = round_ends (λ b. (goal.Improver-dyn g (b.vtable, b.value)).may b.value) c.args.improvers.now c.args.round c.loop-improver.improver-index c.args.best.shaped c.args.best.cost c.loop-improver.best
