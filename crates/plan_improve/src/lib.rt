@@ -23,5 +23,5 @@ pub use improver::Improver;
 pub use improving::improve;
 pub use not_improved::NotImproved;
 pub use plan_seek::MAX_ROUNDS;
-pub use reordering::{Replaced, put_back, replace};
+pub use reordering::{Replaced, copy_orders, put_back, replace};
 pub use watch::Watch;

@@ -73,10 +73,7 @@ fn exchange(plan: Plan, order: Vec<Vec<JobNo>>) -> (Plan, Vec<Vec<JobNo>>)
 }
 
 /// A copy of the orders.
-pub(crate) fn copy_orders(
-    alloc: Global,
-    orders: &[Vec<JobNo>],
-) -> Result<Vec<Vec<JobNo>>, AllocError>
+pub fn copy_orders(alloc: Global, orders: &[Vec<JobNo>]) -> Result<Vec<Vec<JobNo>>, AllocError>
     ensures { IfOk result (λ copy. lists_of copy.items ≡ lists_of orders.now) }
 {
     let mut copy = Vec::new(alloc);
