@@ -84,7 +84,7 @@ fn found_answer<W: Watch>(
 {
     match improve_after(alloc, start, log, at, improvers, rounds, watch) {
         Ok(found) => judged_answer(alloc, &found),
-        Err(fault) => unfound_answer(alloc, fault),
+        Err(refused) => unfound_answer(alloc, refused.fault),
     }
 }
 

@@ -17,7 +17,7 @@ use Rattle.plan_improve.proofs.Serially.{serial_acyclic}
 use Rattle.rest_improve.specs.Costs.{IsCellOf}
 use Rattle.rest_improve.specs.Improved.{present_of}
 use Rattle.rest_improve.specs.Faults.{log_fault, IsBeginFault, IsImproveRestFault}
-use Rattle.rest_improve.specs.declared.improve_rest_fault.ImproveRestFault.{ImproveRestFault}
+use Rattle.rest_improve.specs.declared.not_improved_rest.NotImprovedRest.{NotImprovedRest}
 use Rattle.rest_improve.specs.declared.improve_rest_fault.ImproveRestFault.TheVariants.{Memory as WantOfMemory}
 use Rattle.rest_improve.specs.Keeping.{HasNoCost, IsSet, IsSetAt}
 use Rattle.rest_improve.proofs.OneCell.{tell_same, cell_once}
@@ -47,10 +47,10 @@ event_told lines p (e ∷ es) n tells is = (
 )
 
 -- out of memory is why no plan is given
-pub memory_rest : {A : Type 0} (lines : List (List ℕ)) (at : Option ℕ) (rounds : ℕ) (p : PlannedShop) (r : Result A ImproveRestFault) → rounds ≤ MAX_ROUNDS
-    → IfErr r (λ fault. fault ≡ WantOfMemory) → IfErr r (IsImproveRestFault lines at rounds p)
+pub memory_rest : {A : Type 0} (lines : List (List ℕ)) (at : Option ℕ) (rounds : ℕ) (p : PlannedShop) (r : Result A NotImprovedRest) → rounds ≤ MAX_ROUNDS
+    → IfErr r (λ refused. refused.fault ≡ WantOfMemory) → IfErr r (λ refused. IsImproveRestFault lines at rounds p refused.fault)
 memory_rest lines at rounds p (Ok found) few is = tt
-memory_rest lines at rounds p (Err fault) few is = subst (IsImproveRestFault lines at rounds p) (sym is) (few, tt)
+memory_rest lines at rounds p (Err refused) few is = subst (IsImproveRestFault lines at rounds p) (sym is) (few, tt)
 
 -- the present moment can be the next after the run that the lines tell by the plan
 pub set_next : (lines : List (List ℕ)) (t : ℕ) (p : PlannedShop) (c : Cell) (told : List Entry) → IsSet lines t p → LinesTell p lines told → IsTold p c told → IsNextMoment c t

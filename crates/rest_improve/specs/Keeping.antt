@@ -18,6 +18,7 @@ use Rattle.plan_improve.specs.Costs.{IsLess, IsAtMost}
 use Rattle.plan_improve.specs.Reordered.{IsReordered}
 use Rattle.plan_improve.specs.Watching.{Told, IsToldMore}
 use Rattle.plan_improve.specs.Runs.{Asked}
+use Rattle.rest_times.specs.declared.rest_verdict.RestVerdict.{RestVerdict}
 use Rattle.rest_improve.specs.declared.best.Best.{Best}
 use Rattle.rest_improve.specs.declared.beginning.First.{First}
 use Rattle.rest_improve.specs.declared.beginning.First.TheVariants.{Begins, Stays}
@@ -99,6 +100,10 @@ module _ (lines : List (List ℕ)) (t : ℕ) where
     pub told : List Told
     pub more : IsToldMore before told after
     pub last : IsLast (made told) p c kept
+
+  -- the verdict on the rest of the run that they tell by the plan
+  abbrev pub IsVerdictThere : PlannedShop → RestVerdict → Type 0
+  IsVerdictThere p verdict = (c : Cell) × IsCellOf lines p c × IsVerdictOn p c t verdict
 
   -- a plan with the verdict on its rest
   pub record IsJudgedOn (p : PlannedShop) (found : Improved) : Type 0 where

@@ -7,12 +7,14 @@ ghost use Rattle.event_lines.specs.LogLines.{LinesTell};
 ghost use Rattle.run_log.specs.Audits.{TellRun};
 ghost use Rattle.alt_graph.specs.Solved.{HasCycle};
 ghost use Rattle.rest_improve.specs.declared.improve_rest_fault.ImproveRestFault.TheVariants.{Memory};
+ghost use Rattle.plan_improve.specs.Reordered.{IsReordered};
 ghost use Rattle.rest_improve.specs.Keeping.{IsFirst};
 
 use crate::begun::Begun;
 use crate::best::Best;
 use crate::costing::cost_after;
 use crate::improve_rest_fault::ImproveRestFault;
+use crate::not_improved_rest::NotImprovedRest;
 use plan_improve::put_back;
 use plan_seek::serial_orders;
 use shop_base::Shaped;
@@ -27,25 +29,27 @@ pub(crate) enum First {
     Stays(Shaped),
 }
 
-/// The plan itself or, if it has a cycle and the log records no event, the serial plan.
+/// The plan itself or, if it has a cycle and the log records no event, the serial plan; on a fault either.
 pub(crate) fn first_plan(
     alloc: Global,
     start: Shaped,
     log: &[u8],
     begun: &Begun,
-) -> Result<First, ImproveRestFault>
+) -> Result<First, NotImprovedRest>
     requires tells { TellRun start (ended_lines log.now) }
     requires event { (begun.now.has_event ≡ false) ↔ LinesTell start (ended_lines log.now) [] }
     requires early { begun.now.present ≤ MAX_MOMENT }
     ensures first { IfOk result (IsFirst (ended_lines log.now) begun.now.present start) }
-    ensures memory { IfErr result (λ fault. fault ≡ Memory) }
+    ensures memory { IfErr result (λ refused. refused.fault ≡ Memory) }
+    ensures handed_back { IfErr result (λ refused. IsReordered start refused.start) }
 {
-    match cost_after(alloc, &start, log, begun.present)? {
-        Some(cost) => Ok(First::Begins(Best {
+    match cost_after(alloc, &start, log, begun.present) {
+        Ok(Some(cost)) => Ok(First::Begins(Best {
             shaped: start,
             cost,
         })),
-        None => first_serially(alloc, start, log, begun),
+        Ok(None) => first_serially(alloc, start, log, begun),
+        Err(fault) => Err(NotImprovedRest { fault, start }),
     }
 }
 
@@ -55,23 +59,35 @@ fn first_serially(
     start: Shaped,
     log: &[u8],
     begun: &Begun,
-) -> Result<First, ImproveRestFault>
+) -> Result<First, NotImprovedRest>
     requires cycle { HasCycle start }
     requires event { (begun.now.has_event ≡ false) ↔ LinesTell start (ended_lines log.now) [] }
     requires early { begun.now.present ≤ MAX_MOMENT }
     ensures first { IfOk result (IsFirst (ended_lines log.now) begun.now.present start) }
-    ensures memory { IfErr result (λ fault. fault ≡ Memory) }
+    ensures memory { IfErr result (λ refused. refused.fault ≡ Memory) }
+    ensures handed_back { IfErr result (λ refused. IsReordered start refused.start) }
 {
     if begun.has_event {
         return Ok(First::Stays(start));
     }
-    let order = serial_orders(alloc, start.shop())?;
-    let serial = put_back(start, order);
-    match cost_after(alloc, &serial, log, begun.present)? {
-        Some(cost) => Ok(First::Begins(Best {
-            shaped: serial,
-            cost,
-        })),
-        None => unreachable!(),
+    match serial_orders(alloc, start.shop()) {
+        Ok(order) => {
+            let serial = put_back(start, order);
+            match cost_after(alloc, &serial, log, begun.present) {
+                Ok(Some(cost)) => Ok(First::Begins(Best {
+                    shaped: serial,
+                    cost,
+                })),
+                Ok(None) => unreachable!(),
+                Err(fault) => Err(NotImprovedRest {
+                    fault,
+                    start: serial,
+                }),
+            }
+        }
+        Err(error) => Err(NotImprovedRest {
+            fault: ImproveRestFault::from(error),
+            start,
+        }),
     }
 }

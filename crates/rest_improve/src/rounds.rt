@@ -5,6 +5,7 @@ ghost use Rattle.shop_base.specs.declared.limits.TheConstants.{MAX_MOMENT};
 ghost use Rattle.text_lines.specs.Lines.{ended_lines};
 ghost use Rattle.plan_seek.specs.Orders.{proposal_of};
 ghost use Rattle.rest_improve.specs.declared.improve_rest_fault.ImproveRestFault.TheVariants.{Memory};
+ghost use Rattle.plan_improve.specs.Reordered.{IsReordered};
 ghost use Rattle.rest_improve.specs.Costs.{IsRestCost};
 ghost use Rattle.rest_improve.specs.Runs.{AfterSome, AfterRounds};
 ghost use Rattle.rest_improve.specs.Keeping.{IsNextOf, IsLast, IsLastTold};
@@ -13,6 +14,7 @@ use crate::begun::Begun;
 use crate::best::Best;
 use crate::improve_rest_fault::ImproveRestFault;
 use crate::judging::judge_orders;
+use crate::not_improved_rest::NotImprovedRest;
 use crate::rest_improver::RestImprover;
 use plan_annealing::Rest;
 use plan_improve::Watch;
@@ -28,12 +30,13 @@ pub(crate) fn ask_in_rounds<W: Watch>(
     improvers: &[Box<dyn RestImprover>],
     rounds: u32,
     watch: &mut W,
-) -> Result<Best, ImproveRestFault>
+) -> Result<Best, NotImprovedRest>
     requires cost { IsRestCost (ended_lines log.now) begun.now.present best.shaped best.cost }
     requires early { begun.now.present ≤ MAX_MOMENT }
     ensures last { IfOk result (IsLastTold (ended_lines log.now) begun.now.present (W.told watch.old) (W.told watch.new)
         (λ told p. AfterRounds (ended_lines log.now) begun.now.present (λ b. may b) improvers.now p rounds told) best.shaped best.cost) }
-    ensures memory { IfErr result (λ fault. fault ≡ Memory) }
+    ensures memory { IfErr result (λ refused. refused.fault ≡ Memory) }
+    ensures handed_back { IfErr result (λ refused. IsReordered best.shaped refused.start) }
 {
     for round in 0..rounds {
         watch.round(round, best.cost.late, best.cost.makespan, 0);
@@ -50,12 +53,13 @@ fn ask_each(
     begun: &Begun,
     improvers: &[Box<dyn RestImprover>],
     round: u32,
-) -> Result<Best, ImproveRestFault>
+) -> Result<Best, NotImprovedRest>
     requires cost { IsRestCost (ended_lines log.now) begun.now.present best.shaped best.cost }
     requires early { begun.now.present ≤ MAX_MOMENT }
     ensures last { IfOk result (IsLast (ended_lines log.now) begun.now.present
         (λ p. AfterSome (ended_lines log.now) begun.now.present (λ b. may b) improvers.now round p (length improvers.now)) best.shaped best.cost) }
-    ensures memory { IfErr result (λ fault. fault ≡ Memory) }
+    ensures memory { IfErr result (λ refused. refused.fault ≡ Memory) }
+    ensures handed_back { IfErr result (λ refused. IsReordered best.shaped refused.start) }
 {
     for improver in improvers {
         best = ask_one(alloc, best, log, begun, improver, round)?;
@@ -71,16 +75,23 @@ fn ask_one(
     begun: &Begun,
     improver: &Box<dyn RestImprover>,
     round: u32,
-) -> Result<Best, ImproveRestFault>
+) -> Result<Best, NotImprovedRest>
     requires cost { IsRestCost (ended_lines log.now) begun.now.present best.shaped best.cost }
     requires early { begun.now.present ≤ MAX_MOMENT }
     ensures asked { IfOk result (IsNextOf (ended_lines log.now) begun.now.present (may improver.now best.shaped round) best) }
-    ensures memory { IfErr result (λ fault. fault ≡ Memory) }
+    ensures memory { IfErr result (λ refused. refused.fault ≡ Memory) }
+    ensures handed_back { IfErr result (λ refused. IsReordered best.shaped refused.start) }
 {
     match ask(alloc, improver, &best.shaped, &begun.rest, round) {
         Ok(Some(order)) => judge_orders(alloc, best, order, log, begun.present),
         Ok(None) => Ok(best),
-        Err(error) => Err(ImproveRestFault::from(error)),
+        Err(error) => {
+            let Best { shaped, cost: _ } = best;
+            Err(NotImprovedRest {
+                fault: ImproveRestFault::from(error),
+                start: shaped,
+            })
+        }
     }
 }
 

@@ -1,10 +1,14 @@
-//! A better plan for the rest of a run, found by the annealing where there is memory enough.
+//! A better plan for the rest of a run, found by the annealing where there is memory enough; and the plan given back on a fault.
 
 use crate::rests::shaped_as;
 use crate::told::Told;
+use plan_improve::MAX_ROUNDS;
 use plan_text::{PlanFault, plan_document};
-use rest_improve::{AnnealingRestImprover, Improved, RestImprover, improve_after};
+use rest_improve::{
+    AnnealingRestImprover, ImproveRestFault, Improved, RestImprover, improve_after,
+};
 use rest_times::RestVerdict;
+use run_log::AuditFault;
 use shop_base::Shaped;
 use std::alloc::{AllocError, Global};
 use std::test::Fail;
@@ -54,8 +58,35 @@ fn improved(
     watch: &mut Told,
 ) -> Result<(bool, bool), Fail> {
     let improvers = annealing(alloc)?;
-    let improved = improve_after(alloc, start, LOG, Some(4), &improvers, 2, watch)?;
-    Ok(found(alloc, &improved, plan)?)
+    match improve_after(alloc, start, LOG, Some(4), &improvers, 2, watch) {
+        Ok(improved) => Ok(found(alloc, &improved, plan)?),
+        Err(refused) => Err(refused.fault.into()),
+    }
+}
+
+/// Whether the plan comes back from a search by this log and in so many rounds, and the fault; none where one is found.
+fn given_back(
+    alloc: Global,
+    log: &[u8],
+    rounds: u32,
+) -> Result<Option<(bool, ImproveRestFault)>, Fail> {
+    let start = shaped_as(alloc, RUSH, AT_THE_END)?;
+    let improvers = annealing(alloc)?;
+    match improve_after(
+        alloc,
+        start,
+        log,
+        None,
+        &improvers,
+        rounds,
+        &mut Told::nothing(),
+    ) {
+        Ok(_) => Ok(None),
+        Err(refused) => {
+            let text = plan_document(alloc, refused.start.plan())?;
+            Ok(Some((text.as_bytes() == AT_THE_END, refused.fault)))
+        }
+    }
 }
 
 #[test]
@@ -75,5 +106,15 @@ fn a_rest_is_shortened(rt: HostRuntime) -> Result<(), Fail> {
     let end = improved(rt.alloc(), start, URGENT_BETWEEN, &mut watch)?;
     assert!(rt; end == (true, false));
     assert!(rt; watch.costs() == [(5, 12), (5, 10)]);
+    Ok(())
+}
+
+#[test]
+fn a_plan_comes_back_with_the_fault(rt: HostRuntime) -> Result<(), Fail> {
+    let rounds = given_back(rt.alloc(), LOG, MAX_ROUNDS + 1)?;
+    assert!(rt; rounds == Some((true, ImproveRestFault::TooManyRounds)));
+    let log = given_back(rt.alloc(), b"report 0 finish 0 0\n", 0)?;
+    let why = AuditFault::NotExpected { line: 1 };
+    assert!(rt; log == Some((true, ImproveRestFault::Log(why))));
     Ok(())
 }

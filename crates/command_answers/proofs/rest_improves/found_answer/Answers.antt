@@ -6,7 +6,7 @@ use Rattle.command_answers.proofs.rest_improves.found_answer.Goals as goal
 pub unfound_answer-requires : goal.unfound_answer-requires
 unfound_answer-requires g c =
     not_large (RestRoundsOf c.args.rounds (λ b. (goal.RestImprover-dyn g (b.vtable, b.value)).may b.value) c.args.improvers.now) c.args.at c.args.rounds (ended_lines c.args.log.now) c.args.start
-    c.in-Err.fault c.requires c.in-Err.ensures.refused
+    c.in-Err.refused.fault c.requires c.in-Err.ensures.refused
 
 pub returns-in-Ok : goal.returns-in-Ok
 returns-in-Ok g c =
@@ -17,4 +17,4 @@ returns-in-Ok g c =
 pub returns-in-Err : goal.returns-in-Err
 returns-in-Err g c =
     unfound_is (RestRoundsOf c.args.rounds (λ b. (goal.RestImprover-dyn g (b.vtable, b.value)).may b.value) c.args.improvers.now) c.args.at c.args.rounds (ended_lines c.args.log.now) c.args.start
-    c.in-Err.fault c.unfound_answer.result c.requires c.in-Err.ensures.refused c.unfound_answer.ensures
+    c.in-Err.refused.fault c.unfound_answer.result c.requires c.in-Err.ensures.refused c.unfound_answer.ensures

@@ -7,9 +7,9 @@ use Rattle.rest_improve.proofs.Beginnings.{serial_costs}
 use Rattle.rest_improve.proofs.beginning.first_serially.Goals as goal
 
 pub put_back-serial-requires : goal.put_back-serial-requires
-put_back-serial-requires c = serial_fits c.args.start _ _ c.shop.ensures.well_shaped c.shop.ensures.same c.in_ok-order.ensures
+put_back-serial-requires c = serial_fits c.args.start _ _ c.shop.ensures.well_shaped c.shop.ensures.same c.in-Ok.ensures
 
 pub unreachable-requires : goal.unreachable-requires
 unreachable-requires c =
     serial_costs (ended_lines c.args.log.now) c.args.start c.put_back-serial.result c.shop.ensures.well_shaped (c.requires.event.0 c.if-begun.false)
-    (c.put_back-serial.ensures ∙ ap (reordered c.args.start) (c.in_ok-order.ensures ∙ ap serial_order c.shop.ensures.same)) (rw c.in-None.is at c.in_ok-cost.ensures.cost)
+    (c.put_back-serial.ensures ∙ ap (reordered c.args.start) (c.in-Ok.ensures ∙ ap serial_order c.shop.ensures.same)) (rw c.in-Ok-None.field-0-is at c.in-Ok-None.ensures.cost)

@@ -8,13 +8,13 @@ pub returns-in-Stays-clause-judged : goal.returns-in-Stays-clause-judged
 returns-in-Stays-clause-judged c =
     next_unfit (ended_lines c.args.log.now) c.args.present c.args.best.shaped c.in-Stays.shaped c.args.best.cost (lists_of c.args.order.items) c.requires.cost c.in-Stays.ensures
 
-pub returns-in-Some-clause-judged : goal.returns-in-Some-clause-judged
-returns-in-Some-clause-judged c =
-    let below = rw c.in-Some.is at c.in_ok-cost-in-Fits.ensures.below in
-    next_better (ended_lines c.args.log.now) c.args.present c.args.best.shaped c.in-Fits.shaped c.args.best.cost c.in-Some.cost (lists_of c.args.order.items) c.requires.cost
+pub returns-in-Ok-Some-clause-judged : goal.returns-in-Ok-Some-clause-judged
+returns-in-Ok-Some-clause-judged c =
+    let below = rw c.in-Ok-Some.field-0-is at c.in-Ok-Some.ensures.below in
+    next_better (ended_lines c.args.log.now) c.args.present c.args.best.shaped c.in-Fits.shaped c.args.best.cost c.in-Ok-Some.cost (lists_of c.args.order.items) c.requires.cost
     c.in-Fits.ensures.0 c.in-Fits.ensures.3 below.0 below.1
 
-pub returns-in-None-clause-judged : goal.returns-in-None-clause-judged
-returns-in-None-clause-judged c =
+pub returns-in-Ok-None-clause-judged : goal.returns-in-Ok-None-clause-judged
+returns-in-Ok-None-clause-judged c =
     next_worse (ended_lines c.args.log.now) c.args.present c.args.best.shaped c.in-Fits.shaped c.put_back.result c.args.best.cost (lists_of c.args.order.items) c.requires.cost
-    c.in-Fits.ensures.0 (rw c.in-None.is at c.in_ok-cost-in-Fits.ensures.below) (c.put_back.ensures ∙ sym c.in-Fits.ensures.1)
+    c.in-Fits.ensures.0 (rw c.in-Ok-None.field-0-is at c.in-Ok-None.ensures.below) (c.put_back.ensures ∙ sym c.in-Fits.ensures.1)
