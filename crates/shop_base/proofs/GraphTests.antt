@@ -110,10 +110,10 @@ has_arc_decides p u v = Decides-like (has_arc_test p u v) has had (Decides-or (n
     had : HasArc p u v → IsNext p u v ⊎ Follows p u v
     had (d, arc) = some_kind d (kind_of_arc p u v d arc)
 
-abbrev node_test : Node → Node → Bool
+abbrev pub node_test : Node → Node → Bool
 node_test u v = eqb u.job v.job && eqb u.place v.place
 
-node_decides : (u v : Node) → Decides (node_test u v) (u ≡ v)
+pub node_decides : (u v : Node) → Decides (node_test u v) (u ≡ v)
 node_decides u v = Decides-like (node_test u v) same (λ is. (ap (λ (w : Node). w.job) is, ap (λ (w : Node). w.place) is))
     (Decides-and (eqb u.job v.job) _ (Decides-eqb u.job v.job) (Decides-eqb u.place v.place))
   where
@@ -189,7 +189,7 @@ each_node p test = all_below (λ j. all_below (λ k. test (node j k)) (steps p j
 abbrev pub each_arc : PlannedShop → (Node → Node → ℕ → Bool) → Bool
 each_arc p test = each_node p (λ u. each_node p (λ v. arc_passes p test u v))
 
-each_node_at : (p : PlannedShop) (test : Node → Bool) (v : Node) → each_node p test ≡ true → v.job < jobs p → v.place ≤ steps p v.job → test v ≡ true
+pub each_node_at : (p : PlannedShop) (test : Node → Bool) (v : Node) → each_node p test ≡ true → v.job < jobs p → v.place ≤ steps p v.job → test v ≡ true
 each_node_at p test v pass job place = (of_job.0 ((all_below_decides _ (λ j. all_below (λ k. test (node j k)) (steps p j + 1) ≡ true) (λ j. same _) (jobs p)).0 pass v.job job)) v.place (omega arith)
   where
     same : (b : Bool) → Decides b (b ≡ true)
@@ -198,7 +198,7 @@ each_node_at p test v pass job place = (of_job.0 ((all_below_decides _ (λ j. al
     of_job : Decides (all_below (λ k. test (node v.job k)) (steps p v.job + 1)) ((k : ℕ) → k < steps p v.job + 1 → test (node v.job k) ≡ true)
     of_job = all_below_decides _ (λ k. test (node v.job k) ≡ true) (λ k. same _) (steps p v.job + 1)
 
-passes_at : (x y : Bool) → (not x || y) ≡ true → x ≡ true → y ≡ true
+pub passes_at : (x y : Bool) → (not x || y) ≡ true → x ≡ true → y ≡ true
 passes_at true y pass is = pass
 passes_at false y pass is = absurd (differ is)
   where

@@ -15,7 +15,7 @@ use Rattle.shop_base.specs.Punctual.{EachReport, IsPunctual, ArePunctual, AreExa
 use Rattle.shop_base.specs.Graph.{RanksRise, node, leaving, job_arc, blocking_arc}
 use Rattle.shop_base.specs.Sound.{IsSound}
 use Rattle.shop_base.specs.KeptMoments.{KeepsMoments, KeepsLeaving}
-use Rattle.shop_base.specs.Ahead.{next_node, HoldsUp, MomentsFitAhead, IsScheduleAhead, GoesOnTo, settled}
+use Rattle.shop_base.specs.Ahead.{next_node, HoldsUp, MomentsFitAhead, PathAhead, now, held, onward, IsScheduleAhead, GoesOnTo, settled}
 use Rattle.shop_base.specs.Within.{IsWithin, AreWithin, RiseAhead}
 use Rattle.shop_base.specs.WithinLaw.{MomentsStillFit}
 use Rattle.shop_base.proofs.Visits.{visits_once, visits-stands, on_or_not, visits_or_not}
@@ -24,7 +24,7 @@ use Rattle.shop_base.proofs.Keeping.{IsLike, after_report-like, after_report-sou
 use Rattle.shop_base.proofs.InShop.{ready_in_shop}
 use Rattle.shop_base.proofs.ControlledRuns.{leads_induction, after_moves-sound}
 use Rattle.shop_base.proofs.NeverStuck.{HasActivityBy, ahead_rises, rest-active}
-use Rattle.shop_base.proofs.Ahead.{IsLeftIn}
+use Rattle.shop_base.proofs.Ahead.{IsLeftIn, path_left}
 use Rattle.shop_base.specs.Ends.{IsInTime, IsOutByBudget}
 
 -- after a report the last moment is the report's
@@ -57,6 +57,13 @@ rise_left p c t kept v rise none left =
 -- the present moment isn't past that of a node ahead
 pub present_left : (p : PlannedShop) (c : Cell) (t : ℕ) (kept : Node → ℕ) (v : Node) → MomentsFitAhead p c t kept → IsLeftIn p c v → t ≤ kept v
 present_left p c t kept v fit left = rise_left p c t kept v (fit_rise p c t kept fit) fit.present left
+
+-- no path ahead is longer than moments that fit
+pub path_kept : (p : PlannedShop) (c : Cell) (t : ℕ) (kept : Node → ℕ) (nodes : List Node) (v : Node) (n : ℕ) → IsSound p c → MomentsFitAhead p c t kept → PathAhead p c t nodes v n → n ≤ kept v
+path_kept p c t kept _ _ _ sound fit (now v is ahead) = present_left p c t kept v fit (record { ahead = ahead; job = is.job; place = is.place })
+path_kept p c t kept _ _ _ sound fit (held a due v going holds) = fit.activities a due v going holds
+path_kept p c t kept _ _ _ sound fit (onward nodes u v n d path arc) =
+    omega (arith, path_kept p c t kept nodes u n sound fit path, fit.arcs u v d (path_left p c t nodes u n sound path).ahead arc)
 
 -- what goes on behind a report went on before it
 pub report-went_on : (p : PlannedShop) (c new : Cell) → IsLike p c new → (a : Activity) (due : ℕ) → GoesOn p new a due → GoesOn p c a due

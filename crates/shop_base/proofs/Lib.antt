@@ -45,3 +45,4 @@ pub mod CellTests
 pub mod RunTests
 pub mod GraphTests
 pub mod ShapeTests
+pub mod AheadTests

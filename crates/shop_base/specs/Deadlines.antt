@@ -1,4 +1,4 @@
--- The deadlines of the nodes ahead: how late each can be made so that every job is still out by its budget.
+-- The deadlines of the nodes ahead: the latest moments that leave each arc its length and each job its budget.
 use Rattle.std.specs.Prelude.{◌≡◌, ℕ, ◌+◌, ◌⊎◌}
 use Rattle.shop_base.specs.declared.node.Node.{Node}
 use Rattle.shop_base.specs.Plan.{PlannedShop, steps, budget}

@@ -41,7 +41,11 @@ in_series = planned two_jobs (5 ∷ 10 ∷ []) ((0 ∷ 1 ∷ []) ∷ (0 ∷ 1 �
 abbrev pub with_cleaning : PlannedShop
 with_cleaning = planned two_jobs (5 ∷ 12 ∷ []) ((0 ∷ 1 ∷ []) ∷ (0 ∷ 1 ∷ []) ∷ []) (Some (0 ∷ 2 ∷ []))
 
--- the same without cleaning, where job 0 arrives at 3 at the latest, and job 1 at 1
+-- the same, with more room in the budgets
+abbrev pub with_room : PlannedShop
+with_room = planned two_jobs (9 ∷ 20 ∷ []) ((0 ∷ 1 ∷ []) ∷ (0 ∷ 1 ∷ []) ∷ []) (Some (0 ∷ 2 ∷ []))
+
+-- the plan in series without cleaning, where job 0 arrives at 3 at the latest, and job 1 at 1
 abbrev pub with_releases : PlannedShop
 with_releases = record {
   shop = two_jobs;
@@ -108,7 +112,11 @@ series_moments = number_in ((0 ∷ 3 ∷ 5 ∷ []) ∷ (5 ∷ 9 ∷ 10 ∷ []) �
 abbrev pub cleaned_moments : Node → ℕ
 cleaned_moments = number_in ((0 ∷ 3 ∷ 5 ∷ []) ∷ (7 ∷ 11 ∷ 12 ∷ []) ∷ [])
 
--- the same, with the releases
+-- the deadlines of that plan with more room in the budgets
+abbrev pub room_moments : Node → ℕ
+room_moments = number_in ((4 ∷ 7 ∷ 9 ∷ []) ∷ (15 ∷ 19 ∷ 20 ∷ []) ∷ [])
+
+-- the greatest lengths without cleaning, with the releases
 abbrev pub released_moments : Node → ℕ
 released_moments = number_in ((3 ∷ 6 ∷ 8 ∷ []) ∷ (8 ∷ 12 ∷ 13 ∷ []) ∷ [])
 
@@ -262,6 +270,50 @@ cleaned_after n = ends_in with_cleaning (take n cleaned_log)
 -- the cell at the end of that run
 abbrev pub cleaned_end : Cell
 cleaned_end = ends_in with_cleaning cleaned_log
+
+-- most activities end past their due moments, each by its deadline, and the last cleaning, for which no job waits, at 100
+abbrev pub slow_reports : List Report
+slow_reports = arrive 0 0 ∷ arrive 0 1 ∷ finish 7 0 0 ∷ finish 9 0 1 ∷ tidy 15 1 ∷ finish 19 1 1 ∷ finish 20 1 0 ∷ tidy 100 1 ∷ []
+
+-- the controlled run of these reports, with the plan with more room
+abbrev pub slow_log : List Event
+slow_log = Reported (arrive 0 0) ∷ Moved (go 0 0 Out (At 0))
+    ∷ Reported (arrive 0 1)
+    ∷ Reported (finish 7 0 0) ∷ Moved (go 7 0 (At 0) (At 1))
+    ∷ Reported (finish 9 0 1) ∷ Moved (go 9 0 (At 1) Out)
+    ∷ Reported (tidy 15 1) ∷ Moved (go 15 1 Out (At 1))
+    ∷ Reported (finish 19 1 1) ∷ Moved (go 19 1 (At 1) (At 0))
+    ∷ Reported (finish 20 1 0) ∷ Moved (go 20 1 (At 0) Out)
+    ∷ Reported (tidy 100 1)
+    ∷ []
+
+-- the cell after the first n events of that run
+abbrev pub slow_after : ℕ → Cell
+slow_after n = ends_in with_room (take n slow_log)
+
+-- the cell at the end of that run
+abbrev pub slow_end : Cell
+slow_end = ends_in with_room slow_log
+
+-- moments that fit what is ahead after its first five events, at moment 8
+abbrev pub slow_moments : Node → ℕ
+slow_moments = number_in ((0 ∷ 7 ∷ 9 ∷ []) ∷ (11 ∷ 15 ∷ 16 ∷ []) ∷ [])
+
+-- the first operation ends at 8, past its deadline, and the second at 9, before it is due
+abbrev pub hasty_reports : List Report
+hasty_reports = arrive 0 0 ∷ arrive 0 1 ∷ finish 8 0 0 ∷ finish 9 0 1 ∷ []
+
+-- the controlled run of these reports, with the same plan
+abbrev pub hasty_log : List Event
+hasty_log = Reported (arrive 0 0) ∷ Moved (go 0 0 Out (At 0))
+    ∷ Reported (arrive 0 1)
+    ∷ Reported (finish 8 0 0) ∷ Moved (go 8 0 (At 0) (At 1))
+    ∷ Reported (finish 9 0 1) ∷ Moved (go 9 0 (At 1) Out)
+    ∷ []
+
+-- the cell at the end of that run
+abbrev pub hasty_end : Cell
+hasty_end = ends_in with_room hasty_log
 
 -- each activity ends when it is due, the arrivals too
 abbrev pub released_reports : List Report

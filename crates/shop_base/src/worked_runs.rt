@@ -14,14 +14,17 @@ ghost use Rattle.shop_base.specs.Activity.{Arrival, Operation, Cleaning, GoesOn}
 ghost use Rattle.shop_base.specs.Report.{CanReport};
 ghost use Rattle.shop_base.specs.Move.{source, CanMove, CanObey, KeepsPlan};
 ghost use Rattle.shop_base.specs.declared.move_order.Spot.TheVariants.{Out, At};
-ghost use Rattle.shop_base.specs.Run.{IsRun, IsAtRest, IsStuck};
+ghost use Rattle.shop_base.specs.Run.{Moved, IsRun, ends_in, IsAtRest, IsStuck};
 ghost use Rattle.shop_base.specs.Controlled.{IsStep, IsControlledRun};
 ghost use Rattle.shop_base.specs.Punctual.{IsPunctual, ArePunctual, AreExact};
 ghost use Rattle.shop_base.specs.Ends.{HasEnded, IsOutByBudget, IsInTime};
 ghost use Rattle.shop_base.specs.Ends.{stated_number, reports_in, moves_in};
 ghost use Rattle.shop_base.specs.Graph.{node, leaving, Arc, HasArc, Path, IsSimpleCycle};
 ghost use Rattle.shop_base.specs.Graph.{RanksRise, MomentsFit, MeetBudgets, IsSchedule, IsSerial};
-ghost use Rattle.shop_base.specs.Examples.{in_series, with_cleaning, with_releases, crossed, in_flow, in_ring, instant};
+ghost use Rattle.shop_base.specs.Ahead.{HoldsUp, PathAhead, GoesOnTo};
+ghost use Rattle.shop_base.specs.Within.{AreByTheirOwn};
+ghost use Rattle.shop_base.specs.Deadlines.{AreDeadlines};
+ghost use Rattle.shop_base.specs.Examples.{in_series, with_cleaning, with_room, with_releases, crossed, in_flow, in_ring, instant};
 ghost use Rattle.shop_base.specs.Examples.{arrive, finish, tidy, go, exchange};
 ghost use Rattle.shop_base.specs.Examples.{series_moments, series_ranks, cleaned_moments, released_moments, crossed_moments};
 ghost use Rattle.shop_base.specs.Examples.{series_reports, series_log, series_after, series_end};
@@ -30,6 +33,8 @@ ghost use Rattle.shop_base.specs.Examples.{waiting_reports, waiting_log, waiting
 ghost use Rattle.shop_base.specs.Examples.{crossed_reports, crossed_log, crossed_end};
 ghost use Rattle.shop_base.specs.Examples.{flow_reports, flow_log, flow_after, flow_end, flow_path};
 ghost use Rattle.shop_base.specs.Examples.{cleaned_reports, cleaned_log, cleaned_after, cleaned_end};
+ghost use Rattle.shop_base.specs.Examples.{room_moments, slow_reports, slow_log, slow_after, slow_end};
+ghost use Rattle.shop_base.specs.Examples.{hasty_reports, hasty_log, hasty_end};
 ghost use Rattle.shop_base.specs.Examples.{released_reports, released_log, released_end};
 ghost use Rattle.shop_base.specs.Examples.{refused_reports, refused_log, refused_after, refused_end};
 ghost use Rattle.shop_base.specs.Examples.{instant_reports, instant_log, instant_after, instant_end};
@@ -217,6 +222,47 @@ pub fn cleaning_delays_the_entry()
     ensures first_out { since cleaned_end 0 ≡ 5 }
     ensures second_out { since cleaned_end 1 ≡ 12 }
     ensures last { cleaned_end.last ≡ 13 }
+{}
+
+/// The deadlines of a plan with room in its budgets. In a run in which each activity ends by its deadline, some past their
+/// due moments, both jobs are out by their budgets, and no sooner. Where one ends past its deadline, and one after it
+/// early, the job may still be out.
+pub fn each_activity_ends_by_its_deadline()
+    ensures shaped { IsWellShaped with_room }
+    ensures schedule { IsSchedule with_room series_ranks cleaned_moments }
+    ensures budgets { MeetBudgets with_room cleaned_moments }
+    ensures deadlines { AreDeadlines with_room (start with_room) room_moments }
+    ensures not_the_earliest { AreDeadlines with_room (start with_room) cleaned_moments → ⊥ }
+    ensures none_later { (kept : Node → ℕ) → AreDeadlines with_room (start with_room) kept → kept (node 0 1) ≤ 7 }
+    ensures controlled { IsControlledRun with_room slow_reports slow_log slow_end }
+    ensures late { ArePunctual with_room (start with_room) slow_log → ⊥ }
+    ensures own { AreByTheirOwn with_room room_moments (start with_room) slow_log }
+    ensures ended { HasEnded with_room slow_end }
+    ensures first_out { since slow_end 0 ≡ 9 }
+    ensures second_out { since slow_end 1 ≡ 20 }
+    ensures last { slow_end.last ≡ 100 }
+    ensures hasty { IsControlledRun with_room hasty_reports hasty_log hasty_end }
+    ensures past { AreByTheirOwn with_room room_moments (start with_room) hasty_log → ⊥ }
+    ensures still_out { IsOutByBudget with_room hasty_end 0 }
+{}
+
+/// From cells in mid-run: what holds up which node, paths ahead, and runs that go on, from a cell in which an order is due.
+pub fn a_run_goes_on_from_there()
+    ensures arrival { HoldsUp with_room (start with_room) (Arrival 1) (node 1 0) }
+    ensures operation { HoldsUp with_room (slow_after 5) (Operation 0 1) (node 0 2) }
+    ensures no_other { HoldsUp with_room (slow_after 5) (Operation 0 1) (node 1 0) → ⊥ }
+    ensures cleaning { HoldsUp with_room (slow_after 7) (Cleaning 1) (node 1 0) }
+    ensures none_waits { (v : Node) → HoldsUp with_room (slow_after 11) (Cleaning 1) v → ⊥ }
+    ensures path { PathAhead with_room (slow_after 5) 8 (node 0 2 ∷ node 1 0 ∷ node 1 1 ∷ node 1 2 ∷ [])
+        (leaving with_room 1) 16 }
+    ensures longest { (nodes : List Node) (n : ℕ) → PathAhead with_room (slow_after 5) 8 nodes (leaving with_room 1) n → n ≤ 16 }
+    ensures overdue { PathAhead with_room (slow_after 5) 10 (node 0 2 ∷ node 1 0 ∷ node 1 1 ∷ node 1 2 ∷ [])
+        (leaving with_room 1) 17 }
+    ensures passed { (nodes : List Node) (n : ℕ) → PathAhead with_room (slow_after 5) 8 nodes (node 0 1) n → ⊥ }
+    ensures goes_on { GoesOnTo with_room (slow_after 4) 7 (drop 3 slow_reports) (drop 4 slow_log) slow_end }
+    ensures later { GoesOnTo with_room (slow_after 4) 8 [] (Moved (go 8 0 (At 0) (At 1)) ∷ [])
+        (ends_in with_room (take 4 slow_log ++ Moved (go 8 0 (At 0) (At 1)) ∷ [])) }
+    ensures not_left { (end : Cell) → GoesOnTo with_room (slow_after 4) 7 [] [] end → ⊥ }
 {}
 
 /// Releases above 0: an early arrival is possible, one after the release is late. The run meets every premise of
