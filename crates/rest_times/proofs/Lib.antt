@@ -1,6 +1,7 @@
 pub mod Tables
 pub mod Rests
 pub mod PathsAhead
+pub mod Acceptable
 pub mod GoingOn
 pub mod Verdicts
 pub mod LastLeavings

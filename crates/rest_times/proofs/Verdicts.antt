@@ -2,21 +2,20 @@
 use Rattle.std.proofs.Common.{◌≡◌, ◌↔◌, ℕ, ◌+◌, ◌≤◌, List, length, Result, Ok, Err, IfOk, arith, sym, subst, ◌∙◌}
 use Rattle.std.proofs.lemmas.List.{length_push}
 use Rattle.shop_base.specs.declared.node.Node.{Node}
-use Rattle.shop_base.specs.Plan.{PlannedShop, budget, IsWellShaped}
+use Rattle.shop_base.specs.Plan.{PlannedShop, IsWellShaped}
 use Rattle.shop_base.specs.Cell.{Cell}
 use Rattle.shop_base.specs.Graph.{leaving, IsNode, RanksRise}
 use Rattle.shop_base.specs.CycleLaw.{AreNeverMade}
-use Rattle.shop_base.specs.Ahead.{MeetBudgetsAhead, PathAhead, now, held, onward}
-use Rattle.shop_base.proofs.Cycles.{ranks_exclude_cycle}
-use Rattle.alt_graph.specs.Solved.{HasCycle}
+use Rattle.shop_base.specs.Ahead.{PathAhead, now, held, onward}
 use Rattle.alt_graph.specs.Times.{NodeTimes, rank_of, earliest_of, IsPathFromBy}
 use Rattle.alt_graph.proofs.CycleParts.{cycle_simple, cycle_stops}
 use Rattle.alt_graph.proofs.WholePlans.{cycle_has}
 use Rattle.rest_times.specs.FromThere.{IsNeverInBudgetFrom, IsNeverDoneFrom}
 use Rattle.rest_times.specs.Rest.{AreOrderedAhead, IsChainAhead}
-use Rattle.rest_times.specs.RestVerdicts.{IsWithinBudgetAhead, IsAcceptableAhead, IsAcceptedAhead, IsFirstLateAhead, IsReasonAhead, IsFirstPastAhead, IsRestAccepted, OnRestRefused, OnRestCycle, OnRestTimes}
+use Rattle.rest_times.specs.RestVerdicts.{IsAcceptableAhead, IsAcceptedAhead, IsFirstLateAhead, IsReasonAhead, IsFirstPastAhead, IsRestAccepted, OnRestRefused, OnRestCycle, OnRestTimes}
 use Rattle.rest_times.specs.declared.rest_verdict.RestVerdict.{RestVerdict}
 use Rattle.rest_times.specs.declared.rest_verdict.RestVerdict.TheVariants.{Accepted, Cycle, Late}
+use Rattle.rest_times.proofs.Acceptable.{acyclic, within_budget}
 use Rattle.rest_times.proofs.GoingOn.{leaving_ahead, never_gone_before, never_done_just, late_just, cycle_never_done}
 use Rattle.rest_times.proofs.PathsAhead.{ahead_ends, ahead_some}
 
@@ -29,15 +28,6 @@ path_few p c t rank _ _ _ rise (onward nodes u v n d path arc) = omega (arith, p
 module _ (p : PlannedShop) (c : Cell) (t : ℕ) (times : NodeTimes) (ordered : AreOrderedAhead p c t times) where
   abbrev kept : Node → ℕ
   kept = earliest_of times
-
-  acyclic : HasCycle p → ⊥
-  acyclic (nodes, cycle) = ranks_exclude_cycle p (rank_of times) nodes ordered.schedule.ranks cycle
-
-  within_budget : (j : ℕ) → kept (leaving p j) ≤ budget p j → IsWithinBudgetAhead p c t j
-  within_budget j le nodes n path = omega (arith, ordered.greatest nodes (leaving p j) n path)
-
-  pub acceptable : MeetBudgetsAhead p c kept → IsAcceptableAhead p c t
-  acceptable meets = record { acyclic = acyclic; budgets = λ j inside here. within_budget j (meets j inside here) }
 
   -- a path ahead as long as the moment of its end is evidence of it
   path_chain : (nodes : List Node) (v : Node) → IsNode p v → PathAhead p c t nodes v (kept v) → IsChainAhead p c t nodes (kept v)
@@ -55,10 +45,10 @@ module _ (p : PlannedShop) (c : Cell) (t : ℕ) (times : NodeTimes) (ordered : A
       let is : IsNode p (leaving p j) = record { job = first.inside; place = omega arith } in
       let (path, begins) = ordered.chains nodes (leaving p j) is (leaving_ahead p c t times ordered j first.here) chain in
       record {
-        acyclic = acyclic;
+        acyclic = acyclic p c t (rank_of times) kept ordered.schedule.ranks ordered.greatest;
         job = first.inside;
         here = first.here;
-        before = λ i lt here. within_budget i (first.before i lt here);
+        before = λ i lt here. within_budget p c t (rank_of times) kept ordered.schedule.ranks ordered.greatest i (first.before i lt here);
         greatest = record { reached = (nodes, path); longest = λ others k other. ordered.greatest others (leaving p j) k other };
         past = first.past;
         path = path;
