@@ -38,8 +38,8 @@ impl Model for Deadlines {
 }
 
 impl Deadlines {
-    /// The moment, in time units from moment 0, by which the node's move has to be made so that each job can still be out by
-    /// its budget. None for a node that isn't of the shop.
+    /// The latest moment of the node, in time units from moment 0. Of an accepted plan: if its move is made later, and
+    /// nothing after it ends early, some job isn't out by its budget. None for a node that isn't of the shop.
     pub fn deadline(&self, node: Node) -> Option<Moment>
         ensures { MatchOption result (HasMoment self.now node → ⊥)
             (λ moment. HasMoment self.now node × (moment ≡ moment_of self.now node)) }

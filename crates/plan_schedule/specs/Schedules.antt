@@ -22,7 +22,7 @@ abbrev pub IsCleaningDue : PlannedShop → (Node → Option ℕ) → Node → Op
 IsCleaningDue p due u deadline = (next : Option Node) × IsTarget (IsBlockingArc p) u next × (deadline ≡ due_if due next)
 
 module _ (p : PlannedShop) (at : Node → ℕ) (due : Node → Option ℕ) where
-  -- the visit of job j by its step k: it begins as the job enters, takes its nominal time, and has to end by the deadline of the job's next move
+  -- the visit of job j by its step k: it begins as the job enters, takes its nominal time, and has the deadline of the job's next move
   abbrev pub visit_of : ℕ → ℕ → Visit
   visit_of j k = record {
     job = j;

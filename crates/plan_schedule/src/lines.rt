@@ -13,7 +13,7 @@ const LINE_ROOM: usize = 200;
 /// A line of a schedule. All are shorter than its room.
 type Line = text_lines::LineText<LINE_ROOM>;
 
-/// A visit of a job to a machine: when its operation begins and ends, by when it has to end, and when the job leaves.
+/// A visit of a job to a machine: when its operation begins and ends, its deadline, and when the job leaves.
 #[derive(Clone, Copy)]
 pub(crate) struct Visit {
     pub job: JobNo,
@@ -24,7 +24,7 @@ pub(crate) struct Visit {
     pub leaves: Moment,
 }
 
-/// A cleaning of a machine: when it begins and ends, and by when it has to end.
+/// A cleaning of a machine: when it begins and ends, and its deadline.
 #[derive(Clone, Copy)]
 pub(crate) struct Cleaning {
     pub machine: MachineNo,
