@@ -5,12 +5,14 @@ use crate::told::Told;
 use plan_improve::MAX_ROUNDS;
 use plan_text::{PlanFault, plan_document};
 use rest_improve::{
-    AnnealingRestImprover, ImproveRestFault, Improved, RestImprover, improve_after,
+    AnnealingRestImprover, ImproveRestFault, Improved, Rest, RestImprover, improve_after,
 };
 use rest_times::RestVerdict;
 use run_log::AuditFault;
-use shop_base::Shaped;
+use shop_base::{JobNo, Shaped};
 use std::alloc::{AllocError, Global};
+use std::cell::Cell;
+use std::rc::Rc;
 use std::test::Fail;
 
 /// Job 0 goes over both machines, job 1 the other way round, and job 2 over machine 0 alone.
@@ -33,10 +35,36 @@ const URGENT_AT_THE_END: &[u8] =
 const URGENT_BETWEEN: &[u8] =
     b"release = [0, 0, 0]\nbudget = [99, 5, 99]\norder = [[0, 2, 1], [0, 1]]\n";
 
-/// The annealing alone.
-fn annealing(alloc: Global) -> Result<Vec<Box<dyn RestImprover>>, AllocError> {
+/// An improver that has no answer, and counts how often it is asked.
+#[derive(Drop)]
+struct Silent {
+    questions: Rc<Cell<u32>>,
+}
+
+impl RestImprover for Silent {
+    ghost may = { λ improver shaped round answer. Unit {0} };
+
+    fn improve_rest(
+        &self,
+        _alloc: Global,
+        _shaped: &Shaped,
+        _rest: &Rest,
+        _round: u32,
+    ) -> Result<Option<Vec<Vec<JobNo>>>, AllocError> {
+        self.questions.set(self.questions.get().saturating_add(1));
+        Ok(None)
+    }
+}
+
+/// The annealing, and one that counts how often it is asked.
+fn improvers(
+    alloc: Global,
+    questions: &Rc<Cell<u32>>,
+) -> Result<Vec<Box<dyn RestImprover>>, AllocError> {
     let mut improvers: Vec<Box<dyn RestImprover>> = Vec::new(alloc);
     improvers.push(Box::new(alloc, AnnealingRestImprover::new(0))?)?;
+    let questions = questions.clone()?;
+    improvers.push(Box::new(alloc, Silent { questions })?)?;
     Ok(improvers)
 }
 
@@ -50,28 +78,30 @@ fn found(alloc: Global, improved: &Improved, plan: &[u8]) -> Result<(bool, bool)
     Ok((text.as_bytes() == plan, accepted))
 }
 
-/// The same of a search from this plan on in two rounds, from moment 4 on.
+/// The same of a search from this plan on in two rounds, from moment 4 on, by these improvers.
 fn improved(
     alloc: Global,
     start: Shaped,
     plan: &[u8],
+    improvers: &[Box<dyn RestImprover>],
     watch: &mut Told,
 ) -> Result<(bool, bool), Fail> {
-    let improvers = annealing(alloc)?;
-    match improve_after(alloc, start, LOG, Some(4), &improvers, 2, watch) {
+    match improve_after(alloc, start, LOG, Some(4), improvers, 2, watch) {
         Ok(improved) => Ok(found(alloc, &improved, plan)?),
         Err(refused) => Err(refused.fault.into()),
     }
 }
 
-/// Whether the plan comes back from a search by this log and in so many rounds, and the fault; none where one is found.
+/// Whether the plan comes back from a search by this log and in so many rounds, in which no improver was asked, and the
+/// fault; none where one is found.
 fn given_back(
     alloc: Global,
     log: &[u8],
     rounds: u32,
 ) -> Result<Option<(bool, ImproveRestFault)>, Fail> {
     let start = shaped_as(alloc, RUSH, AT_THE_END)?;
-    let improvers = annealing(alloc)?;
+    let questions = Rc::new(alloc, Cell::new(0))?;
+    let improvers = improvers(alloc, &questions)?;
     match improve_after(
         alloc,
         start,
@@ -84,7 +114,8 @@ fn given_back(
         Ok(_) => Ok(None),
         Err(refused) => {
             let text = plan_document(alloc, refused.start.plan())?;
-            Ok(Some((text.as_bytes() == AT_THE_END, refused.fault)))
+            let same = text.as_bytes() == AT_THE_END;
+            Ok(Some((same && questions.get() == 0, refused.fault)))
         }
     }
 }
@@ -92,18 +123,23 @@ fn given_back(
 #[test]
 fn a_late_rest_is_mended(rt: HostRuntime) -> Result<(), Fail> {
     let mut watch = Told::nothing();
+    let questions = Rc::new(rt.alloc(), Cell::new(0))?;
+    let improvers = improvers(rt.alloc(), &questions)?;
     let start = shaped_as(rt.alloc(), RUSH, AT_THE_END)?;
-    let end = improved(rt.alloc(), start, BETWEEN, &mut watch)?;
+    let end = improved(rt.alloc(), start, BETWEEN, &improvers, &mut watch)?;
     assert!(rt; end == (true, true));
     assert!(rt; watch.costs() == [(4, 12), (0, 10)]);
+    assert!(rt; questions.get() == 2);
     Ok(())
 }
 
 #[test]
 fn a_rest_is_shortened(rt: HostRuntime) -> Result<(), Fail> {
     let mut watch = Told::nothing();
+    let questions = Rc::new(rt.alloc(), Cell::new(0))?;
+    let improvers = improvers(rt.alloc(), &questions)?;
     let start = shaped_as(rt.alloc(), RUSH, URGENT_AT_THE_END)?;
-    let end = improved(rt.alloc(), start, URGENT_BETWEEN, &mut watch)?;
+    let end = improved(rt.alloc(), start, URGENT_BETWEEN, &improvers, &mut watch)?;
     assert!(rt; end == (true, false));
     assert!(rt; watch.costs() == [(5, 12), (5, 10)]);
     Ok(())
