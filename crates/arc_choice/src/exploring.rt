@@ -1,26 +1,30 @@
-//! The search: depth first, with the sides that are still to be tried on a stack.
+//! The search: depth first, with the branches that are still to be looked at on a stack.
 
-ghost use Rattle.std.specs.Prelude.{IfOk};
+ghost use Rattle.std.specs.Prelude.{ℕ, ◌<◌, length, IfOk, MatchOption};
 ghost use Rattle.arc_choice.specs.Choices.{IsSound, IsImpossible};
 ghost use Rattle.arc_choice.specs.Outcomes.{OnNever};
+ghost use Rattle.arc_choice.specs.Branches.{IsBranch};
+ghost use Rattle.arc_choice.specs.Waits.{AreWaiting, HasNoneIn, Goes, Splits};
 
-use crate::choosing::Choose;
+use crate::branch::Branch;
+use crate::choosing::{Choose, Side};
+use crate::links::Links;
+use crate::outcome::Outcome;
 use crate::question::Question;
+use crate::work::Work;
 use std::alloc::{AllocError, Global};
 
-/// What a search comes to.
-#[derive(Debug, Drop)]
-pub enum Outcome {
-    /// No moments answer the question.
-    Never,
-    /// A side of each pair is decided; these, the earliest of each node, may be moments that keep them all.
-    Chosen(Vec<u64>),
-    /// It isn't decided: the choices or the room for states were used up, or none was made.
-    Open,
+/// A branch that is still to be looked at, with a side of a pair that is to be decided in it.
+#[derive(Drop)]
+pub(crate) struct Waiting {
+    branch: Branch,
+    side: Side,
 }
 
-/// Looks for moments that answer the question, in at most so many choices; a pair that is decided one way and, where that
-/// fails, the other, is one.
+/// Looks for moments that answer the question, in at most so many choices; a pair that is decided one way and, where
+/// that fails, the other, is one. The search is depth first and complete: it ends open only where the choices are used
+/// up, where the chooser names no open pair, or where the states that are open at one time would take more than
+/// 64,000,000 bytes: 16 for each node, 8 for each 64 nodes of each node, and 9 for each pair.
 pub fn explore<C: Choose>(
     alloc: Global,
     question: &Question,
@@ -31,5 +35,79 @@ pub fn explore<C: Choose>(
     ensures { IfOk result (OnNever (IsImpossible question.now)) }
 {
     chooser.begin(alloc, question)?;
-    Ok(Outcome::Open)
+    let links = Links::of(alloc, question)?;
+    let mut work = Work::full(alloc, question.first.len())?;
+    let mut branch = Branch::start(alloc, question)?;
+    if let Err(_) = branch.tighten(question, &links, &mut work) {
+        return Ok(Outcome::Never);
+    }
+    let most = branch.most();
+    let mut waiting = Vec::new(alloc);
+    for _ in 0..choices {
+        if waiting.len() >= most {
+            return Ok(branch.into_outcome());
+        }
+        let Some(side) = branch.choose(question, chooser) else {
+            return Ok(branch.into_outcome());
+        };
+        split(alloc, question, branch, side, &mut waiting)?;
+        branch = match next(question, &links, &mut work, chooser, &mut waiting) {
+            Some(branch) => branch,
+            None => return Ok(Outcome::Never),
+        };
+    }
+    Ok(branch.into_outcome())
+}
+
+/// Lets the branch wait with each side of a pair, the given one last.
+fn split(
+    alloc: Global,
+    question: &Question,
+    branch: Branch,
+    side: Side,
+    waiting: &mut Vec<Waiting>,
+) -> Result<(), AllocError>
+    requires branch { IsBranch question.now branch }
+    requires pair { side.pair < length question.now.pairs.items }
+    requires waiting { AreWaiting question.now waiting.old.items }
+    ensures { IfOk result (λ _. Splits question.now branch waiting.old.items waiting.new.items) }
+{
+    let other = Side {
+        pair: side.pair,
+        one: !side.one,
+    };
+    let second = branch.copy(alloc)?;
+    waiting.push(Waiting {
+        branch: second,
+        side: other,
+    })?;
+    waiting.push(Waiting { branch, side })?;
+    Ok(())
+}
+
+/// The last of the branches that wait in which its side can be decided, if there is one; the chooser is told of those
+/// where it can't.
+fn next<C: Choose>(
+    question: &Question,
+    links: &Links,
+    work: &mut Work,
+    chooser: &mut C,
+    waiting: &mut Vec<Waiting>,
+) -> Option<Branch>
+    requires sound { IsSound question.now }
+    requires waiting { AreWaiting question.now waiting.old.items }
+    ensures { MatchOption result (HasNoneIn question.now waiting.old.items) (λ branch. Goes question.now branch waiting.old.items waiting.new.items) }
+{
+    while let Some(last) = waiting.pop() {
+        let Waiting { branch, side } = last;
+        let mut branch = branch;
+        match branch.take(question, links, work, side) {
+            Ok(()) => return Some(branch),
+            Err(clash) => {
+                work.clear();
+                chooser.clashed(side.pair, clash.at);
+            }
+        }
+    }
+    None
 }

@@ -5,20 +5,37 @@ use std::alloc::{AllocError, Global};
 /// What a pair weighs, and gains at a clash, at first.
 const FIRST_WEIGHT: u64 = 1 << 10;
 
-/// Past this gain, weights and gain are divided by `SCALE`.
+/// The gain grows by one of so many parts at each clash.
+const PARTS: u64 = 2_000;
+
+/// Where the gain is past this, it and all weights are divided by `SCALE`.
 const MOST_GAIN: u64 = 1 << 40;
 
 const SCALE: u64 = 1 << 20;
 
-/// The part of the gain that it grows by at each clash.
-const GROWTH: u64 = 2_000;
-
-/// Decides the pair with the least slack for its weight, and first its side that has less. Pairs at which the search
-/// fails gain weight, the more the later they do.
+/// Decides the pair with the least slack for its weight, and first its side that has less: the slack of a side is how
+/// much later than its earliest moment its source may be at most. Pairs at which the search fails gain weight, the more
+/// the later they do.
 #[derive(Debug, Drop)]
 pub struct LeastSlack {
     weights: Vec<u64>,
     gain: u64,
+}
+
+/// A pair that may be decided.
+#[derive(Clone, Copy, Debug)]
+struct Candidate {
+    side: Side,
+    slack: u64,
+    weight: u64,
+}
+
+impl Candidate {
+    /// Whether it has less slack for its weight.
+    fn is_before(&self, other: &Candidate) -> bool {
+        let this = u128::from(self.slack).saturating_mul(u128::from(other.weight));
+        this < u128::from(other.slack).saturating_mul(u128::from(self.weight))
+    }
 }
 
 impl LeastSlack {
@@ -30,10 +47,41 @@ impl LeastSlack {
         }
     }
 
+    /// What the pair weighs.
+    fn weight(&self, pair: usize) -> u64 {
+        match self.weights.get(pair) {
+            Some(weight) => *weight,
+            None => FIRST_WEIGHT,
+        }
+    }
+
+    /// The pair and its side with less slack.
+    fn candidate(&self, question: &Question, state: &State, pair: usize) -> Option<Candidate> {
+        let sides = question.pairs.get(pair)?;
+        let one = slack(state, sides.one);
+        let other = slack(state, sides.other);
+        Some(Candidate {
+            side: Side {
+                pair,
+                one: one < other,
+            },
+            slack: one.saturating_add(other).saturating_add(2),
+            weight: self.weight(pair),
+        })
+    }
+
     /// The pair gains weight.
     fn add_weight(&mut self, pair: usize) {
         if let Some(weight) = self.weights.get_mut(pair) {
             *weight = weight.saturating_add(self.gain);
+        }
+    }
+
+    /// The gain and all weights are divided.
+    fn scale(&mut self) {
+        self.gain /= SCALE;
+        for weight in self.weights.iter_mut() {
+            *weight = *weight / SCALE + 1;
         }
     }
 }
@@ -48,6 +96,14 @@ fn slack(state: &State, arc: Arc) -> u64 {
     }
 }
 
+/// The one with less slack for its weight, the first if both have the same.
+fn lesser(first: Option<Candidate>, second: Candidate) -> Candidate {
+    match first {
+        Some(first) if !second.is_before(&first) => first,
+        _ => second,
+    }
+}
+
 impl Choose for LeastSlack {
     fn begin(&mut self, alloc: Global, question: &Question) -> Result<(), AllocError> {
         self.weights = vec![in alloc; FIRST_WEIGHT; question.pairs.len()]?;
@@ -56,14 +112,22 @@ impl Choose for LeastSlack {
     }
 
     fn choose(&mut self, question: &Question, state: &State) -> Option<Side> {
-        let pair = *state.open.get(0)?;
-        Some(Side { pair, one: true })
+        let mut best = None;
+        for pair in &state.open {
+            let candidate = self.candidate(question, state, *pair)?;
+            best = Some(lesser(best, candidate));
+        }
+        Some(best?.side)
     }
 
     fn clashed(&mut self, pair: usize, at: Option<usize>) {
+        self.gain = self.gain.saturating_add(self.gain / PARTS + 1);
         self.add_weight(pair);
         if let Some(at) = at {
             self.add_weight(at);
+        }
+        if self.gain > MOST_GAIN {
+            self.scale();
         }
     }
 }

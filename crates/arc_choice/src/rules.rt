@@ -1,0 +1,136 @@
+//! The rules by which more becomes known, one step each.
+
+ghost use Rattle.std.specs.Prelude.{◌≡◌, ℕ, ◌<◌, ◌≤◌, length, true, if◌then◌else◌};
+ghost use Rattle.arc_choice.specs.Choices.{Keeps, IsArc, IsSound, nodes, side_of};
+ghost use Rattle.arc_choice.specs.Branches.{IsBranch, Narrows, HasNone, Told, Always, AreHeads, AreLatest, decision_for};
+
+use crate::branch::{Branch, Decision};
+use crate::choosing::Side;
+use crate::question::{Arc, Question};
+use crate::work::Work;
+
+/// There are no such moments.
+#[derive(Clone, Copy, Debug)]
+pub(crate) struct Clash {
+    /// A pair of which neither side can be, if it was found there.
+    pub(crate) at: Option<usize>,
+}
+
+/// No head is lower than this one.
+fn raise(heads: &mut Vec<u64>, work: &mut Work, node: usize, head: u64)
+    requires { node < length heads.old.items }
+    ensures heads { (w : ℕ → ℕ) → head ≤ w node → AreHeads heads.old.items w → AreHeads heads.new.items w }
+    ensures length { length heads.new.items ≡ length heads.old.items }
+{
+    if head <= heads[node] {
+        return;
+    }
+    heads[node] = head;
+    work.raised.mark(node);
+}
+
+/// No latest moment is higher than this one.
+fn lower(latest: &mut Vec<u64>, work: &mut Work, node: usize, moment: u64)
+    requires { node < length latest.old.items }
+    ensures latest { (w : ℕ → ℕ) → w node ≤ moment → AreLatest latest.old.items w → AreLatest latest.new.items w }
+    ensures length { length latest.new.items ≡ length latest.old.items }
+{
+    if latest[node] <= moment {
+        return;
+    }
+    latest[node] = moment;
+    work.lowered.mark(node);
+}
+
+/// The decision for a side.
+fn decision_of(one: bool) -> Decision
+    ensures { result ≡ decision_for one }
+{
+    if one { Decision::One } else { Decision::Other }
+}
+
+impl Branch {
+    /// An arc that holds moves the moments of its ends.
+    fn keep(&mut self, question: &Question, work: &mut Work, arc: Arc) -> Result<(), Clash>
+        requires branch { IsBranch question.now self.old }
+        requires arc { IsArc (nodes question.now) arc }
+        ensures { Told (λ w. Keeps w arc) question.now self.old self.new result }
+    {
+        let (from, to) = (arc.from as usize, arc.to as usize);
+        let head = self.state.heads[from].saturating_add(arc.length);
+        let last = self.state.latest[to];
+        if last < head {
+            return Err(Clash { at: None });
+        }
+        let latest = last.saturating_sub(arc.length);
+        raise(&mut self.state.heads, work, to, head);
+        lower(&mut self.state.latest, work, from, latest);
+        Ok(())
+    }
+
+    /// An arc that can't be: its source comes after its target, or its target would come too late.
+    pub(crate) fn excludes(&self, question: &Question, arc: Arc) -> bool
+        requires branch { IsBranch question.now self.now }
+        requires arc { IsArc (nodes question.now) arc }
+        ensures { result ≡ true → HasNone (λ w. Keeps w arc) question.now self.now }
+    {
+        let (from, to) = (arc.from as usize, arc.to as usize);
+        if self.reach.has(to, from) {
+            return true;
+        }
+        self.state.latest[to] < self.state.heads[from].saturating_add(arc.length)
+    }
+
+    /// A side is decided: what comes after its target comes after its source and all before that.
+    pub(crate) fn decide(&mut self, question: &Question, work: &mut Work, side: Side)
+        requires sound { IsSound question.now }
+        requires branch { IsBranch question.now self.old }
+        requires pair { side.pair < length question.now.pairs.items }
+        ensures { Narrows (λ w. Keeps w (side_of question.now side.pair side.one)) question.now self.old self.new }
+    {
+        let arc = question.side(side);
+        let (from, to) = (arc.from as usize, arc.to as usize);
+        self.decisions[side.pair] = decision_of(side.one);
+        self.reach.connect(from, to);
+        work.raised.mark(from);
+        work.lowered.mark(to);
+    }
+
+    /// Keeps an arc of the question, if there is one of this number.
+    pub(crate) fn keep_arc(
+        &mut self,
+        question: &Question,
+        work: &mut Work,
+        number: usize,
+    ) -> Result<(), Clash>
+        requires sound { IsSound question.now }
+        requires branch { IsBranch question.now self.old }
+        ensures { Told Always question.now self.old self.new result }
+    {
+        if number >= question.arcs.len() {
+            return Ok(());
+        }
+        self.keep(question, work, question.arcs[number])
+    }
+
+    /// Keeps a side of a pair, if it is decided.
+    pub(crate) fn keep_side(
+        &mut self,
+        question: &Question,
+        work: &mut Work,
+        side: Side,
+    ) -> Result<(), Clash>
+        requires sound { IsSound question.now }
+        requires branch { IsBranch question.now self.old }
+        ensures { Told Always question.now self.old self.new result }
+    {
+        if side.pair >= question.pairs.len() {
+            return Ok(());
+        }
+        match (self.decision(side.pair), side.one) {
+            (Decision::One, true) => self.keep(question, work, question.side(side)),
+            (Decision::Other, false) => self.keep(question, work, question.side(side)),
+            _ => Ok(()),
+        }
+    }
+}
