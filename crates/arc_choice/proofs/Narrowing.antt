@@ -4,14 +4,16 @@ use Rattle.std.proofs.lemmas.Bool.{cases_eq}
 use Rattle.std.proofs.lemmas.List.{get_or_default}
 use Rattle.arc_choice.specs.declared.question.Arc.{Arc}
 use Rattle.arc_choice.specs.declared.question.Question.{Question}
+use Rattle.arc_choice.specs.declared.choosing.Side.{Side}
 use Rattle.arc_choice.specs.declared.choosing.State.{State}
 use Rattle.arc_choice.specs.declared.branch.Branch.{Branch}
 use Rattle.arc_choice.specs.declared.rules.Clash.{Clash}
 use Rattle.arc_choice.specs.declared.branch.Decision.{Decision}
 use Rattle.arc_choice.specs.declared.branch.Decision.TheVariants.{Open, One, Other}
 use Rattle.arc_choice.specs.Choices.{Keeps, KeepsOne, Answers, IsArc, IsSound, nodes, pair_at, arc_at, no_arc, side_of}
-use Rattle.arc_choice.specs.Reach.{Rises, HasBit}
-use Rattle.arc_choice.specs.Branches.{IsBranch, IsWithin, IsCopy, Narrows, HasNone, Told, Always, AreHeads, AreLatest, KeepsDecision, decision_at, decision_for}
+use Rattle.arc_choice.specs.Reach.{Rises, HasBit, Connects}
+use Rattle.arc_choice.proofs.Reaching.{rises_connected}
+use Rattle.arc_choice.specs.Branches.{IsForced, IsBranch, IsWithin, IsCopy, Narrows, HasNone, Told, Always, AreHeads, AreLatest, KeepsDecision, decision_at, decision_for}
 
 -- ---- one step after another
 
@@ -149,28 +151,23 @@ deciding q s t p one arc is_side state inside same decisions reach_nodes reach =
         subst (λ (x : Decision). KeepsDecision w (pair_at q r) x) (sym (get_or-set_other s.decisions.items p r (decision_for one) Open other)) (within.decisions r in_r)
 
 -- of a pair whose one side can't be kept the other is
-pub other_kept : (q : Question) (s : Branch) (p : ℕ) → p < length q.pairs.items → HasNone (λ w. Keeps w (side_of q p true)) q s
-    → (w : ℕ → ℕ) → Answers q w → IsWithin q s w → Keeps w (side_of q p false)
-other_kept q s p inside none w answers within = go (answers.pairs p inside)
+pub other_forced : (q : Question) (s : Branch) (p : ℕ) → p < length q.pairs.items → HasNone (λ w. Keeps w (side_of q p true)) q s → IsForced q s (record { pair = p; one = false })
+other_forced q s p inside none = record { pair = inside; keeps = λ w answers within. go w answers within (answers.pairs p inside) }
   where
-    go : KeepsOne w (pair_at q p) → Keeps w (side_of q p false)
-    go (inl one) = absurd (none w answers one within)
-    go (inr other) = other
+    go : (w : ℕ → ℕ) → Answers q w → IsWithin q s w → KeepsOne w (pair_at q p) → Keeps w (side_of q p false)
+    go w answers within (inl one) = absurd (none w answers one within)
+    go w answers within (inr other) = other
 
-pub one_kept : (q : Question) (s : Branch) (p : ℕ) → p < length q.pairs.items → HasNone (λ w. Keeps w (side_of q p false)) q s
-    → (w : ℕ → ℕ) → Answers q w → IsWithin q s w → Keeps w (side_of q p true)
-one_kept q s p inside none w answers within = go (answers.pairs p inside)
+pub one_forced : (q : Question) (s : Branch) (p : ℕ) → p < length q.pairs.items → HasNone (λ w. Keeps w (side_of q p false)) q s → IsForced q s (record { pair = p; one = true })
+one_forced q s p inside none = record { pair = inside; keeps = λ w answers within. go w answers within (answers.pairs p inside) }
   where
-    go : KeepsOne w (pair_at q p) → Keeps w (side_of q p true)
-    go (inl one) = one
-    go (inr other) = absurd (none w answers other within)
+    go : (w : ℕ → ℕ) → Answers q w → IsWithin q s w → KeepsOne w (pair_at q p) → Keeps w (side_of q p true)
+    go w answers within (inl one) = one
+    go w answers within (inr other) = absurd (none w answers other within)
 
--- what is chosen is kept
-pub one_chosen : (q : Question) (s : Branch) (p : ℕ) (x : Decision) → p < length q.pairs.items → x ≡ decision_at s p → x ≡ One → (w : ℕ → ℕ) → Answers q w → IsWithin q s w → Keeps w (side_of q p true)
-one_chosen q s p x inside at is w answers within = subst (λ (y : Decision). KeepsDecision w (pair_at q p) y) (sym at ∙ is) (within.decisions p inside)
-
-pub other_chosen : (q : Question) (s : Branch) (p : ℕ) (x : Decision) → p < length q.pairs.items → x ≡ decision_at s p → x ≡ Other → (w : ℕ → ℕ) → Answers q w → IsWithin q s w → Keeps w (side_of q p false)
-other_chosen q s p x inside at is w answers within = subst (λ (y : Decision). KeepsDecision w (pair_at q p) y) (sym at ∙ is) (within.decisions p inside)
+-- and of one of which neither can be, nothing is
+pub none_forced : (q : Question) (s : Branch) (p : ℕ) → p < length q.pairs.items → HasNone (λ w. Keeps w (side_of q p true)) q s → HasNone (λ w. Keeps w (side_of q p false)) q s → HasNone Always q s
+none_forced q s p inside one other = λ w answers always within. other w answers ((other_forced q s p inside one).keeps w answers within) within
 
 -- a side is an arc
 pub side_arc : (q : Question) (p : ℕ) (one : Bool) → IsSound q → p < length q.pairs.items → IsArc (nodes q) (side_of q p one)
@@ -193,6 +190,12 @@ copied q s t state copy = record {
     decisions = λ p inside. subst (λ (list : List Decision). KeepsDecision w (pair_at q p) (get_or list p Open)) (sym copy.decisions) (within.decisions p inside);
   };
 }
+
+-- an arc of the question is one
+pub arc_is : (q : Question) (arcs : List Arc) (a : ℕ) (d : Arc) → arcs ≡ q.arcs.items → a < length arcs → IsSound q → IsArc (nodes q) (get_or arcs a d)
+arc_is q arcs a d are inside sound =
+    let same : get_or arcs a d ≡ arc_at q a = get_or_default arcs a d no_arc inside ∙ ap (λ (list : List Arc). get_or list a no_arc) are in
+    subst (IsArc (nodes q)) (sym same) (sound.arcs a (omega (arith, ap length are)))
 
 -- each arc of the question rises
 pub arc_rises : (q : Question) (arcs : List Arc) (a : ℕ) (d : Arc) (w : ℕ → ℕ) → arcs ≡ q.arcs.items → a < length arcs → Answers q w → w (get_or arcs a d).from ≤ w (get_or arcs a d).to

@@ -2,11 +2,12 @@
 use Rattle.std.specs.Prelude.{ℕ, ◌≡◌, ◌<◌, ◌≤◌, Bool, if◌then◌else◌, List, length, slice_index, slice_index_or, Result, MatchResult}
 use Rattle.arc_choice.specs.declared.question.Pair.{Pair}
 use Rattle.arc_choice.specs.declared.question.Question.{Question}
+use Rattle.arc_choice.specs.declared.choosing.Side.{Side}
 use Rattle.arc_choice.specs.declared.branch.Branch.{Branch}
 use Rattle.arc_choice.specs.declared.branch.Decision.{Decision}
 use Rattle.arc_choice.specs.declared.branch.Decision.TheVariants.{Open, One, Other}
 use Rattle.arc_choice.specs.declared.rules.Clash.{Clash}
-use Rattle.arc_choice.specs.Choices.{Keeps, Answers, nodes, pair_at}
+use Rattle.arc_choice.specs.Choices.{Keeps, Answers, nodes, pair_at, side_of}
 use Rattle.arc_choice.specs.Reach.{Rises}
 
 -- no node comes before its head
@@ -52,6 +53,11 @@ pub record IsCopy (b c : Branch) : Type 0 where
   pub latest : c.state.latest.items ≡ b.state.latest.items
   pub reach : c.reach ≡ b.reach
   pub decisions : c.decisions.items ≡ b.decisions.items
+
+-- each answer of the branch keeps the side
+pub record IsForced (q : Question) (b : Branch) (side : Side) : Type 0 where
+  pub pair : side.pair < length q.pairs.items
+  pub keeps : (w : ℕ → ℕ) → Answers q w → IsWithin q b w → Keeps w (side_of q side.pair side.one)
 
 -- nothing is asked of the moments
 abbrev pub Always : (ℕ → ℕ) → Type 0

@@ -160,9 +160,6 @@ fn reach_of(alloc: Global, question: &Question) -> Result<Reach, AllocError>
     ensures nodes { IfOk result (λ reach. reach.nodes ≡ nodes question.now) }
 {
     let mut reach = Reach::new(alloc, question.first.len())?;
-    for node in 0..question.first.len() {
-        reach.own(node);
-    }
     for arc in &question.arcs {
         reach.connect(arc.from as usize, arc.to as usize);
     }

@@ -1,7 +1,7 @@
 //! Which nodes come after which, as far as it is known.
 
-ghost use Rattle.std.specs.Prelude.{◌≡◌, ℕ, ◌+◌, ◌*◌, ◌/◌, ◌^◌, ◌<◌, ◌≤◌, IfOk, length, true};
-ghost use Rattle.arc_choice.specs.Reach.{Rises, HasBit};
+ghost use Rattle.std.specs.Prelude.{◌≡◌, ℕ, ◌+◌, ◌*◌, ◌/◌, ◌^◌, ◌<◌, ◌≤◌, ◌⊎◌, ◌↔◌, IfOk, length, true};
+ghost use Rattle.arc_choice.specs.Reach.{HasBit, Connects};
 
 use std::alloc::{AllocError, Global};
 use std::marker::Model;
@@ -25,10 +25,23 @@ impl Model for Reach {
 }
 
 impl Reach {
-    /// Nothing is known yet.
+    /// Each node comes with itself, and nothing else is known.
     pub(crate) fn new(alloc: Global, nodes: usize) -> Result<Reach, AllocError>
         requires { nodes < 2 ^ 32 }
-        ensures rises { IfOk result (λ reach. (w : ℕ → ℕ) → Rises reach w) }
+        ensures bits { IfOk result (λ reach. (a b : ℕ) → a < nodes → b < nodes → HasBit reach a b ↔ (a ≡ b)) }
+        ensures nodes { IfOk result (λ reach. reach.nodes ≡ nodes) }
+    {
+        let mut reach = Reach::empty(alloc, nodes)?;
+        for node in 0..nodes {
+            reach.own(node);
+        }
+        Ok(reach)
+    }
+
+    /// Nothing is known.
+    fn empty(alloc: Global, nodes: usize) -> Result<Reach, AllocError>
+        requires { nodes < 2 ^ 32 }
+        ensures bits { IfOk result (λ reach. (a b : ℕ) → HasBit reach a b → ⊥) }
         ensures nodes { IfOk result (λ reach. reach.nodes ≡ nodes) }
     {
         let words = nodes / 64 + 1;
@@ -57,7 +70,8 @@ impl Reach {
 
     /// How many words a node's row has.
     pub(crate) fn word_count(&self) -> usize
-        ensures { result ≡ self.now.words }
+        ensures words { result ≡ self.now.words }
+        ensures wide { self.now.nodes ≤ result * 64 }
     {
         self.words
     }
@@ -86,16 +100,16 @@ impl Reach {
     pub(crate) fn has(&self, from: usize, to: usize) -> bool
         requires from { from < self.now.nodes }
         requires to { to < self.now.nodes }
-        ensures { result ≡ true → HasBit self.now from to }
+        ensures { (result ≡ true) ↔ HasBit self.now from to }
     {
         let place = self.place_of(from, to);
         (self.bits[place] >> (to % 64)) & 1 == 1
     }
 
     /// A node comes with itself.
-    pub(crate) fn own(&mut self, node: usize)
+    fn own(&mut self, node: usize)
         requires { node < self.old.nodes }
-        ensures rises { (w : ℕ → ℕ) → Rises self.old w → Rises self.new w }
+        ensures bits { (a b : ℕ) → a < self.old.nodes → b < self.old.nodes → HasBit self.new a b ↔ (HasBit self.old a b ⊎ ((a ≡ node) × (b ≡ node))) }
         ensures nodes { self.new.nodes ≡ self.old.nodes }
     {
         let place = self.place_of(node, node);
@@ -106,7 +120,7 @@ impl Reach {
     fn join(&mut self, from: usize, to: usize)
         requires from { from < self.old.nodes }
         requires to { to < self.old.nodes }
-        ensures rises { (w : ℕ → ℕ) → w from ≤ w to → Rises self.old w → Rises self.new w }
+        ensures bits { (a b : ℕ) → a < self.old.nodes → b < self.old.nodes → HasBit self.new a b ↔ (HasBit self.old a b ⊎ ((a ≡ from) × HasBit self.old to b)) }
         ensures nodes { self.new.nodes ≡ self.old.nodes }
     {
         for word in 0..self.word_count() {
@@ -114,11 +128,12 @@ impl Reach {
         }
     }
 
+    /// The same of the nodes of one word.
     fn join_word(&mut self, from: usize, to: usize, word: usize)
         requires from { from < self.old.nodes }
         requires to { to < self.old.nodes }
         requires word { word < self.old.words }
-        ensures rises { (w : ℕ → ℕ) → w from ≤ w to → Rises self.old w → Rises self.new w }
+        ensures bits { (a b : ℕ) → a < self.old.nodes → b < self.old.nodes → HasBit self.new a b ↔ (HasBit self.old a b ⊎ ((a ≡ from) × (b / 64 ≡ word) × HasBit self.old to b)) }
         ensures nodes { self.new.nodes ≡ self.old.nodes }
         ensures words { self.new.words ≡ self.old.words }
     {
@@ -128,11 +143,11 @@ impl Reach {
         self.bits[here] |= more;
     }
 
-    /// Node `to` comes after node `from`, and after all that come before it.
+    /// Node `to`, and what comes after it, comes after node `from` and all that come before that.
     pub(crate) fn connect(&mut self, from: usize, to: usize)
         requires from { from < self.old.nodes }
         requires to { to < self.old.nodes }
-        ensures rises { (w : ℕ → ℕ) → w from ≤ w to → Rises self.old w → Rises self.new w }
+        ensures bits { (a b : ℕ) → a < self.old.nodes → b < self.old.nodes → HasBit self.new a b ↔ Connects self.old from to a b }
         ensures nodes { self.new.nodes ≡ self.old.nodes }
     {
         for node in 0..self.node_count() {
@@ -140,18 +155,15 @@ impl Reach {
         }
     }
 
-    /// What comes after node `to` comes after this one, if node `from` does.
+    /// The same for one node that may come before `from`.
     fn connect_one(&mut self, node: usize, from: usize, to: usize)
         requires node { node < self.old.nodes }
         requires from { from < self.old.nodes }
         requires to { to < self.old.nodes }
-        ensures rises { (w : ℕ → ℕ) → w from ≤ w to → Rises self.old w → Rises self.new w }
+        ensures bits { (a b : ℕ) → a < self.old.nodes → b < self.old.nodes → HasBit self.new a b ↔ (HasBit self.old a b ⊎ ((a ≡ node) × HasBit self.old node from × HasBit self.old to b)) }
         ensures nodes { self.new.nodes ≡ self.old.nodes }
     {
         if !self.has(node, from) {
-            return;
-        }
-        if self.has(node, to) {
             return;
         }
         self.join(node, to);

@@ -1,8 +1,8 @@
 //! The rules by which more becomes known, one step each.
 
-ghost use Rattle.std.specs.Prelude.{◌≡◌, ℕ, ◌<◌, ◌≤◌, length, true, if◌then◌else◌};
+ghost use Rattle.std.specs.Prelude.{◌≡◌, ℕ, ◌<◌, ◌≤◌, length, true, if◌then◌else◌, IfSome, MatchResult};
 ghost use Rattle.arc_choice.specs.Choices.{Keeps, IsArc, IsSound, nodes, side_of};
-ghost use Rattle.arc_choice.specs.Branches.{IsBranch, Narrows, HasNone, Told, Always, AreHeads, AreLatest, decision_for};
+ghost use Rattle.arc_choice.specs.Branches.{IsBranch, Narrows, HasNone, Told, IsForced, Always, AreHeads, AreLatest, decision_for};
 
 use crate::branch::{Branch, Decision};
 use crate::choosing::Side;
@@ -69,7 +69,7 @@ impl Branch {
     }
 
     /// An arc that can't be: its source comes after its target, or its target would come too late.
-    pub(crate) fn excludes(&self, question: &Question, arc: Arc) -> bool
+    fn excludes(&self, question: &Question, arc: Arc) -> bool
         requires branch { IsBranch question.now self.now }
         requires arc { IsArc (nodes question.now) arc }
         ensures { result ≡ true → HasNone (λ w. Keeps w arc) question.now self.now }
@@ -81,8 +81,8 @@ impl Branch {
         self.state.latest[to] < self.state.heads[from].saturating_add(arc.length)
     }
 
-    /// A side is decided: what comes after its target comes after its source and all before that.
-    pub(crate) fn decide(&mut self, question: &Question, work: &mut Work, side: Side)
+    /// A side is decided: its target, and what comes after that, comes after its source and all before that.
+    fn note(&mut self, question: &Question, side: Side)
         requires sound { IsSound question.now }
         requires branch { IsBranch question.now self.old }
         requires pair { side.pair < length question.now.pairs.items }
@@ -91,9 +91,46 @@ impl Branch {
         let arc = question.side(side);
         let (from, to) = (arc.from as usize, arc.to as usize);
         self.decisions[side.pair] = decision_of(side.one);
+        if self.reach.has(from, to) {
+            return;
+        }
         self.reach.connect(from, to);
-        work.raised.mark(from);
-        work.lowered.mark(to);
+    }
+
+    /// Decides a side, and keeps it.
+    pub(crate) fn decide(
+        &mut self,
+        question: &Question,
+        work: &mut Work,
+        side: Side,
+    ) -> Result<(), Clash>
+        requires sound { IsSound question.now }
+        requires branch { IsBranch question.now self.old }
+        requires pair { side.pair < length question.now.pairs.items }
+        ensures { Told (λ w. Keeps w (side_of question.now side.pair side.one)) question.now self.old self.new result }
+    {
+        self.note(question, side);
+        self.keep(question, work, question.side(side))
+    }
+
+    /// The side of a pair that is kept since the other can't be, if there is one.
+    pub(crate) fn forced(&self, question: &Question, pair: usize) -> Result<Option<Side>, Clash>
+        requires sound { IsSound question.now }
+        requires branch { IsBranch question.now self.now }
+        requires pair { pair < length question.now.pairs.items }
+        ensures { MatchResult result (λ forced. IfSome forced (λ side. IsForced question.now self.now side)) (λ _. HasNone Always question.now self.now) }
+    {
+        let (one, other) = (Side { pair, one: true }, Side { pair, one: false });
+        if self.excludes(question, question.side(one)) {
+            if self.excludes(question, question.side(other)) {
+                return Err(Clash { at: Some(pair) });
+            }
+            return Ok(Some(other));
+        }
+        if self.excludes(question, question.side(other)) {
+            return Ok(Some(one));
+        }
+        Ok(None)
     }
 
     /// Keeps an arc of the question, if there is one of this number.

@@ -120,21 +120,14 @@ impl Branch {
         if pair >= question.pairs.len() {
             return Ok(at + 1);
         }
-        let (one, other) = (Side { pair, one: true }, Side { pair, one: false });
-        if self.excludes(question, question.side(one)) {
-            if self.excludes(question, question.side(other)) {
-                return Err(Clash { at: Some(pair) });
+        match self.forced(question, pair)? {
+            Some(side) => {
+                self.close(at);
+                self.decide(question, work, side)?;
+                Ok(at)
             }
-            self.close(at);
-            self.decide(question, work, other);
-            return Ok(at);
+            None => Ok(at + 1),
         }
-        if self.excludes(question, question.side(other)) {
-            self.close(at);
-            self.decide(question, work, one);
-            return Ok(at);
-        }
-        Ok(at + 1)
     }
 
     /// Looks at each open pair once.
@@ -186,7 +179,7 @@ impl Branch {
         requires pair { side.pair < length question.now.pairs.items }
         ensures { Told (λ w. Keeps w (side_of question.now side.pair side.one)) question.now self.old self.new result }
     {
-        self.decide(question, work, side);
+        self.decide(question, work, side)?;
         self.tighten(question, links, work)
     }
 }

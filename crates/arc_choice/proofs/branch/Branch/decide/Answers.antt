@@ -1,10 +1,12 @@
-use Rattle.std.proofs.Common.{refl, ap, set}
-use Rattle.arc_choice.specs.declared.branch.Decision.{Decision}
-use Rattle.arc_choice.proofs.Narrowing.{deciding}
+use Rattle.std.proofs.Common.{subst}
+use Rattle.arc_choice.specs.declared.question.Arc.{Arc}
+use Rattle.arc_choice.specs.Choices.{Keeps, side_of}
+use Rattle.arc_choice.specs.Branches.{Told}
+use Rattle.arc_choice.proofs.Narrowing.{told_on}
 use Rattle.arc_choice.proofs.branch.Branch.decide.Goals as goal
 
 pub returns : goal.returns
 returns c =
-    let s = c.args.self.now in
-    deciding c.args.question.now s (record { state = s.state; reach = c.connect.new.self; decisions = _ }) c.args.side.pair c.args.side.one c.side-arc.result c.side-arc.ensures c.requires.branch c.requires.pair refl
-    (ap (λ (x : Decision). set s.decisions.items c.args.side.pair x) c.decision_of.ensures) c.connect.ensures.nodes c.connect.ensures.rises
+    let q = c.args.question.now in
+    told_on (λ w. Keeps w (side_of q c.args.side.pair c.args.side.one)) q c.args.self.now c.note.new.self c.keep.new.self c.keep.result c.note.ensures
+    (subst (λ (a : Arc). Told (λ w. Keeps w a) q c.note.new.self c.keep.new.self c.keep.result) c.side.ensures c.keep.ensures)

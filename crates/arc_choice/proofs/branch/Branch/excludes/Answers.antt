@@ -14,4 +14,4 @@ returns c =
     (omega (arith, c.saturating_add.ensures, head)) (sym last) (ltb-true _ _ late)
 
 pub returns-then-has : goal.returns-then-has
-returns-then-has c = λ yes_. turned c.args.question.now c.args.arc c.requires.arc c.args.self.now c.requires.branch (c.has.ensures c.if-has.true)
+returns-then-has c = λ yes_. turned c.args.question.now c.args.arc c.requires.arc c.args.self.now c.requires.branch (c.has.ensures.0 c.if-has.true)
