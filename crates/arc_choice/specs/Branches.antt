@@ -1,5 +1,6 @@
 -- What a branch of the search says of the moments that answer a question.
-use Rattle.std.specs.Prelude.{ℕ, ◌≡◌, ◌<◌, ◌≤◌, Bool, if◌then◌else◌, List, length, slice_index, slice_index_or, Result, MatchResult}
+use Rattle.std.specs.Prelude.{ℕ, ◌≡◌, ◌<◌, ◌≤◌, Bool, if◌then◌else◌, List, length, slice_index, slice_index_or}
+use Rattle.std.specs.Prelude.{Option, IfSome, Result, MatchResult}
 use Rattle.arc_choice.specs.declared.question.Pair.{Pair}
 use Rattle.arc_choice.specs.declared.question.Question.{Question}
 use Rattle.arc_choice.specs.declared.choosing.Side.{Side}
@@ -54,11 +55,6 @@ pub record IsCopy (b c : Branch) : Type 0 where
   pub reach : c.reach ≡ b.reach
   pub decisions : c.decisions.items ≡ b.decisions.items
 
--- each answer of the branch keeps the side
-pub record IsForced (q : Question) (b : Branch) (side : Side) : Type 0 where
-  pub pair : side.pair < length q.pairs.items
-  pub keeps : (w : ℕ → ℕ) → Answers q w → IsWithin q b w → Keeps w (side_of q side.pair side.one)
-
 -- nothing is asked of the moments
 abbrev pub Always : (ℕ → ℕ) → Type 0
 Always w = Unit {0}
@@ -76,3 +72,12 @@ module _ (P : (ℕ → ℕ) → Type 0) (q : Question) where
   -- the one or, at a clash, the other
   abbrev pub Told : {A : Type 0} → Branch → Branch → Result A Clash → Type 0
   Told old new result = MatchResult result (λ _. Narrows old new) (λ _. HasNone old)
+
+-- each answer of the branch keeps the side
+pub record IsForced (q : Question) (b : Branch) (side : Side) : Type 0 where
+  pub pair : side.pair < length q.pairs.items
+  pub keeps : (w : ℕ → ℕ) → Answers q w → IsWithin q b w → Keeps w (side_of q side.pair side.one)
+
+-- it is so of the side that is told, if one is; at a clash the branch has no answers
+abbrev pub Forces : Question → Branch → Result (Option Side) Clash → Type 0
+Forces q b result = MatchResult result (λ told. IfSome told (IsForced q b)) (λ _. HasNone Always q b)

@@ -1,5 +1,5 @@
 -- What branches that wait say of the moments that answer a question.
-use Rattle.std.specs.Prelude.{ℕ, ◌<◌, ◌⊎◌, List, [], ◌∷◌, length}
+use Rattle.std.specs.Prelude.{ℕ, ◌<◌, ◌⊎◌, List, [], ◌∷◌, length, Option, MatchOption}
 use Rattle.arc_choice.specs.declared.question.Question.{Question}
 use Rattle.arc_choice.specs.declared.branch.Branch.{Branch}
 use Rattle.arc_choice.specs.declared.exploring.Waiting.{Waiting}
@@ -40,3 +40,7 @@ module _ (q : Question) where
   pub record Splits (branch : Branch) (old new : List Waiting) : Type 0 where
     pub waiting : AreWaiting new
     pub keeps : (w : ℕ → ℕ) → Answers q w → IsWithin q branch w ⊎ IsWithinSome old w → IsWithinSome new w
+
+-- where there is no such branch, nothing that waited has answers
+abbrev pub GoesOn : Question → List Waiting → List Waiting → Option Branch → Type 0
+GoesOn q old new result = MatchOption result (HasNoneIn q old) (λ branch. Goes q branch old new)

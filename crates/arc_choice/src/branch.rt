@@ -75,8 +75,8 @@ impl Branch {
         })
     }
 
-    /// How many branches fit into the room for them, of which each has 16 bytes for a node, 8 for each word of its row of
-    /// bits, and 9 for a pair.
+    /// How many branches fit into the room for them: of each, 16 bytes a node, 8 for each word of its row of bits, and
+    /// 9 a pair.
     pub(crate) fn most(&self) -> usize {
         let nodes = self.state.heads.len();
         let row = self.reach.word_count().saturating_mul(8).saturating_add(16);

@@ -1,10 +1,10 @@
 //! The search: depth first, with the branches that are still to be looked at on a stack.
 
-ghost use Rattle.std.specs.Prelude.{ℕ, ◌<◌, length, IfOk, MatchOption};
+ghost use Rattle.std.specs.Prelude.{◌<◌, length, IfOk};
 ghost use Rattle.arc_choice.specs.Choices.{IsSound, IsImpossible};
 ghost use Rattle.arc_choice.specs.Outcomes.{OnNever};
 ghost use Rattle.arc_choice.specs.Branches.{IsBranch};
-ghost use Rattle.arc_choice.specs.Waits.{AreWaiting, HasNoneIn, Goes, Splits};
+ghost use Rattle.arc_choice.specs.Waits.{AreWaiting, GoesOn, Splits};
 
 use crate::branch::Branch;
 use crate::choosing::{Choose, Side};
@@ -96,7 +96,7 @@ fn next<C: Choose>(
 ) -> Option<Branch>
     requires sound { IsSound question.now }
     requires waiting { AreWaiting question.now waiting.old.items }
-    ensures { MatchOption result (HasNoneIn question.now waiting.old.items) (λ branch. Goes question.now branch waiting.old.items waiting.new.items) }
+    ensures { GoesOn question.now waiting.old.items waiting.new.items result }
 {
     while let Some(last) = waiting.pop() {
         let Waiting { branch, side } = last;

@@ -1,7 +1,7 @@
 //! Which nodes come after which, as far as it is known.
 
-ghost use Rattle.std.specs.Prelude.{◌≡◌, ℕ, ◌+◌, ◌*◌, ◌/◌, ◌^◌, ◌<◌, ◌≤◌, ◌⊎◌, ◌↔◌, IfOk, length, true};
-ghost use Rattle.arc_choice.specs.Reach.{HasBit, Connects};
+ghost use Rattle.std.specs.Prelude.{◌≡◌, ℕ, ◌+◌, ◌*◌, ◌/◌, ◌^◌, ◌<◌, ◌≤◌, ◌↔◌, IfOk, length, true};
+ghost use Rattle.arc_choice.specs.Reach.{HasBit, Says, Owns, JoinsWord, Joins, ConnectsOne, Connects};
 
 use std::alloc::{AllocError, Global};
 use std::marker::Model;
@@ -28,7 +28,7 @@ impl Reach {
     /// Each node comes with itself, and nothing else is known.
     pub(crate) fn new(alloc: Global, nodes: usize) -> Result<Reach, AllocError>
         requires { nodes < 2 ^ 32 }
-        ensures bits { IfOk result (λ reach. (a b : ℕ) → a < nodes → b < nodes → HasBit reach a b ↔ (a ≡ b)) }
+        ensures bits { IfOk result (λ reach. Says nodes reach (λ a b. a ≡ b)) }
         ensures nodes { IfOk result (λ reach. reach.nodes ≡ nodes) }
     {
         let mut reach = Reach::empty(alloc, nodes)?;
@@ -109,7 +109,7 @@ impl Reach {
     /// A node comes with itself.
     fn own(&mut self, node: usize)
         requires { node < self.old.nodes }
-        ensures bits { (a b : ℕ) → a < self.old.nodes → b < self.old.nodes → HasBit self.new a b ↔ (HasBit self.old a b ⊎ ((a ≡ node) × (b ≡ node))) }
+        ensures bits { Says self.old.nodes self.new (Owns self.old node) }
         ensures nodes { self.new.nodes ≡ self.old.nodes }
     {
         let place = self.place_of(node, node);
@@ -120,7 +120,7 @@ impl Reach {
     fn join(&mut self, from: usize, to: usize)
         requires from { from < self.old.nodes }
         requires to { to < self.old.nodes }
-        ensures bits { (a b : ℕ) → a < self.old.nodes → b < self.old.nodes → HasBit self.new a b ↔ (HasBit self.old a b ⊎ ((a ≡ from) × HasBit self.old to b)) }
+        ensures bits { Says self.old.nodes self.new (Joins self.old from to) }
         ensures nodes { self.new.nodes ≡ self.old.nodes }
     {
         for word in 0..self.word_count() {
@@ -133,7 +133,7 @@ impl Reach {
         requires from { from < self.old.nodes }
         requires to { to < self.old.nodes }
         requires word { word < self.old.words }
-        ensures bits { (a b : ℕ) → a < self.old.nodes → b < self.old.nodes → HasBit self.new a b ↔ (HasBit self.old a b ⊎ ((a ≡ from) × (b / 64 ≡ word) × HasBit self.old to b)) }
+        ensures bits { Says self.old.nodes self.new (JoinsWord self.old from to word) }
         ensures nodes { self.new.nodes ≡ self.old.nodes }
         ensures words { self.new.words ≡ self.old.words }
     {
@@ -147,7 +147,7 @@ impl Reach {
     pub(crate) fn connect(&mut self, from: usize, to: usize)
         requires from { from < self.old.nodes }
         requires to { to < self.old.nodes }
-        ensures bits { (a b : ℕ) → a < self.old.nodes → b < self.old.nodes → HasBit self.new a b ↔ Connects self.old from to a b }
+        ensures bits { Says self.old.nodes self.new (Connects self.old from to) }
         ensures nodes { self.new.nodes ≡ self.old.nodes }
     {
         for node in 0..self.node_count() {
@@ -160,7 +160,7 @@ impl Reach {
         requires node { node < self.old.nodes }
         requires from { from < self.old.nodes }
         requires to { to < self.old.nodes }
-        ensures bits { (a b : ℕ) → a < self.old.nodes → b < self.old.nodes → HasBit self.new a b ↔ (HasBit self.old a b ⊎ ((a ≡ node) × HasBit self.old node from × HasBit self.old to b)) }
+        ensures bits { Says self.old.nodes self.new (ConnectsOne self.old node from to) }
         ensures nodes { self.new.nodes ≡ self.old.nodes }
     {
         if !self.has(node, from) {

@@ -1,8 +1,9 @@
 //! The rules by which more becomes known, one step each.
 
-ghost use Rattle.std.specs.Prelude.{◌≡◌, ℕ, ◌<◌, ◌≤◌, length, true, if◌then◌else◌, IfSome, MatchResult};
+ghost use Rattle.std.specs.Prelude.{◌≡◌, ℕ, ◌<◌, ◌≤◌, length, true};
 ghost use Rattle.arc_choice.specs.Choices.{Keeps, IsArc, IsSound, nodes, side_of};
-ghost use Rattle.arc_choice.specs.Branches.{IsBranch, Narrows, HasNone, Told, IsForced, Always, AreHeads, AreLatest, decision_for};
+ghost use Rattle.arc_choice.specs.Branches.{IsBranch, Narrows, HasNone, Told, Forces, Always};
+ghost use Rattle.arc_choice.specs.Branches.{AreHeads, AreLatest, decision_for};
 
 use crate::branch::{Branch, Decision};
 use crate::choosing::Side;
@@ -118,7 +119,7 @@ impl Branch {
         requires sound { IsSound question.now }
         requires branch { IsBranch question.now self.now }
         requires pair { pair < length question.now.pairs.items }
-        ensures { MatchResult result (λ forced. IfSome forced (λ side. IsForced question.now self.now side)) (λ _. HasNone Always question.now self.now) }
+        ensures { Forces question.now self.now result }
     {
         let (one, other) = (Side { pair, one: true }, Side { pair, one: false });
         if self.excludes(question, question.side(one)) {
