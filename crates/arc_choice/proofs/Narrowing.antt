@@ -4,15 +4,13 @@ use Rattle.std.proofs.lemmas.Bool.{cases_eq}
 use Rattle.std.proofs.lemmas.List.{get_or_default}
 use Rattle.arc_choice.specs.declared.question.Arc.{Arc}
 use Rattle.arc_choice.specs.declared.question.Question.{Question}
-use Rattle.arc_choice.specs.declared.choosing.Side.{Side}
 use Rattle.arc_choice.specs.declared.choosing.State.{State}
 use Rattle.arc_choice.specs.declared.branch.Branch.{Branch}
 use Rattle.arc_choice.specs.declared.rules.Clash.{Clash}
 use Rattle.arc_choice.specs.declared.branch.Decision.{Decision}
-use Rattle.arc_choice.specs.declared.branch.Decision.TheVariants.{Open, One, Other}
+use Rattle.arc_choice.specs.declared.branch.Decision.TheVariants.{Open, One}
 use Rattle.arc_choice.specs.Choices.{Keeps, KeepsOne, Answers, IsArc, IsSound, nodes, pair_at, arc_at, no_arc, side_of}
-use Rattle.arc_choice.specs.Reach.{Rises, HasBit, Connects}
-use Rattle.arc_choice.proofs.Reaching.{rises_connected}
+use Rattle.arc_choice.specs.Reach.{Rises, HasBit}
 use Rattle.arc_choice.specs.Branches.{IsForced, IsBranch, IsWithin, IsCopy, Narrows, HasNone, Told, Always, AreHeads, AreLatest, KeepsDecision, decision_at, decision_for}
 
 -- ---- one step after another
@@ -168,6 +166,10 @@ one_forced q s p inside none = record { pair = inside; keeps = λ w answers with
 -- and of one of which neither can be, nothing is
 pub none_forced : (q : Question) (s : Branch) (p : ℕ) → p < length q.pairs.items → HasNone (λ w. Keeps w (side_of q p true)) q s → HasNone (λ w. Keeps w (side_of q p false)) q s → HasNone Always q s
 none_forced q s p inside one other = λ w answers always within. other w answers ((other_forced q s p inside one).keeps w answers within) within
+
+-- what is decided is kept
+pub one_decided : (q : Question) (s : Branch) (p : ℕ) (x : Decision) → p < length q.pairs.items → x ≡ decision_at s p → x ≡ One → (w : ℕ → ℕ) → IsWithin q s w → Keeps w (side_of q p true)
+one_decided q s p x inside at is w within = subst (λ (y : Decision). KeepsDecision w (pair_at q p) y) (sym at ∙ is) (within.decisions p inside)
 
 -- a side is an arc
 pub side_arc : (q : Question) (p : ℕ) (one : Bool) → IsSound q → p < length q.pairs.items → IsArc (nodes q) (side_of q p one)

@@ -1,11 +1,11 @@
 -- Rows of bits, and what a write to a word of them says.
-use Rattle.std.proofs.Common.{◌≡◌, ◌≢◌, ℕ, ◌+◌, ◌*◌, ◌/◌, ◌%◌, ◌<◌, ◌≤◌, ◌↔◌, ◌⊎◌, inl, inr, max, List, length, get_or, set, arith, refl, sym, ap, ◌∙◌, subst, get_or-set_same, get_or-set_other}
+use Rattle.std.proofs.Common.{◌≡◌, ◌≢◌, ℕ, ◌+◌, ◌*◌, ◌/◌, ◌%◌, ◌<◌, ◌≤◌, ◌↔◌, ◌⊎◌, inl, inr, max, length, get_or, set, arith, sym, ap, ◌∙◌, subst, get_or-set_same, get_or-set_other}
 use Rattle.std.specs.Int.{bit_at}
 use Rattle.std.specs.Int.RustNames.{bit_or}
 use Rattle.std.proofs.lemmas.Bool.{cases_eq}
 use Rattle.std.proofs.lemmas.Nat.{mul-add-lt, div-mul-add, mod-mul-add, div_below, div-add-mod'}
 use Rattle.std.proofs.lemmas.Nat.Bits.{bit_at_or, bit_at-lt}
-use Rattle.arc_choice.specs.Reach.{Order, IsSized, HasBit, Connects, Rises}
+use Rattle.arc_choice.specs.Reach.{Order, IsSized, HasBit, Says, Joins, ConnectsOne, Connects, Rises}
 
 place_inside : (o : Order) (a x : ℕ) → IsSized o → a < o.nodes → x < o.words → a * o.words + x < length o.bits
 place_inside o a x sized inside within = omega (arith, sized.rows, mul-add-lt a o.words x o.nodes inside within)
@@ -276,3 +276,15 @@ all_nodes o n from to v past bits a b in_a in_b = (λ has. there ((bits a b in_a
     back : Connects o from to a b → HasBit o a b ⊎ ((a < v) × HasBit o a from × HasBit o to b)
     back (inl has) = inl has
     back (inr (f, has)) = inr (omega (arith, past, in_a), f, has)
+
+-- what is joined to a node that comes before
+pub connects_one : (o n : Order) (node from to : ℕ) → HasBit o node from → Says o.nodes n (Joins o node to) → Says o.nodes n (ConnectsOne o node from to)
+connects_one o n node from to before bits a b in_a in_b = (λ has. there ((bits a b in_a in_b).0 has), λ some. (bits a b in_a in_b).1 (back some))
+  where
+    there : Joins o node to a b → ConnectsOne o node from to a b
+    there (inl has) = inl has
+    there (inr (same, has)) = inr (same, before, has)
+
+    back : ConnectsOne o node from to a b → Joins o node to a b
+    back (inl has) = inl has
+    back (inr (same, f, has)) = inr (same, has)

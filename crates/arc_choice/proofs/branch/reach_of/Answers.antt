@@ -1,5 +1,5 @@
-use Rattle.std.proofs.Common.{◌≡◌, ◌<◌, ◌∙◌, arith}
-use Rattle.arc_choice.specs.Choices.{nodes, no_arc}
+use Rattle.std.proofs.Common.{◌∙◌, arith}
+use Rattle.arc_choice.specs.Choices.{no_arc}
 use Rattle.arc_choice.proofs.Narrowing.{arc_is, arc_rises}
 use Rattle.arc_choice.proofs.Reaching.{rises_connected, rises_alone}
 use Rattle.arc_choice.proofs.branch.reach_of.Goals as goal

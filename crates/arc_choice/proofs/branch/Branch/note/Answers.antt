@@ -1,5 +1,4 @@
-use Rattle.std.proofs.Common.{◌≡◌, ◌<◌, refl, ap, set, subst, sym, arith}
-use Rattle.arc_choice.specs.declared.question.Arc.{Arc}
+use Rattle.std.proofs.Common.{refl, ap, set, subst, sym, arith}
 use Rattle.arc_choice.specs.declared.branch.Decision.{Decision}
 use Rattle.arc_choice.specs.Choices.{IsArc, nodes}
 use Rattle.arc_choice.proofs.Narrowing.{deciding, side_arc}

@@ -1,4 +1,4 @@
-use Rattle.std.proofs.Common.{◌≡◌, ◌<◌, ◌≤◌, ◌∙◌, refl, arith}
+use Rattle.std.proofs.Common.{◌∙◌, arith}
 use Rattle.arc_choice.specs.Reach.{HasBit}
 use Rattle.arc_choice.proofs.Reaching.{node_more, all_nodes}
 use Rattle.arc_choice.proofs.reach.Reach.connect.Goals as goal

@@ -1,5 +1,4 @@
-use Rattle.std.proofs.Common.{◌≡◌, ◌↔◌, ◌⊎◌, inl, inr, ℕ, ◌<◌, ◌≤◌, ◌/◌, ◌*◌, arith, ◌∙◌}
-use Rattle.std.proofs.lemmas.Nat.{div_below}
+use Rattle.std.proofs.Common.{arith, ◌∙◌}
 use Rattle.arc_choice.specs.Reach.{HasBit}
 use Rattle.arc_choice.proofs.Reaching.{word_more, whole_row}
 use Rattle.arc_choice.proofs.reach.Reach.join.Goals as goal

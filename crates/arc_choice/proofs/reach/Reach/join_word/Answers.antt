@@ -1,4 +1,4 @@
-use Rattle.std.proofs.Common.{arith, ◌≡◌, ◌<◌, length, ap}
+use Rattle.std.proofs.Common.{arith, length, ap}
 use Rattle.std.proofs.lemmas.List.{get_or_read}
 use Rattle.arc_choice.specs.Reach.{Order}
 use Rattle.arc_choice.proofs.Reaching.{joined_at}

@@ -1,4 +1,4 @@
-use Rattle.std.proofs.Common.{◌≡◌, ◌<◌, ◌≤◌, ◌∙◌, arith}
+use Rattle.std.proofs.Common.{◌∙◌, arith}
 use Rattle.arc_choice.specs.Reach.{HasBit}
 use Rattle.arc_choice.proofs.Reaching.{own_more}
 use Rattle.arc_choice.proofs.reach.Reach.new.Goals as goal

@@ -1,0 +1,4 @@
+use Rattle.arc_choice.proofs.branch.Branch.into_outcome.Goals as goal
+
+pub returns : goal.returns
+returns c = tt
