@@ -38,6 +38,9 @@ pub fn explore<C: Choose>(
     let links = Links::of(alloc, question)?;
     let mut work = Work::full(alloc, question.first.len())?;
     let mut branch = Branch::start(alloc, question)?;
+    if !branch.fits(question) {
+        return Ok(Outcome::Never);
+    }
     if let Err(_) = branch.tighten(question, &links, &mut work) {
         return Ok(Outcome::Never);
     }

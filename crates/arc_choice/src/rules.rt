@@ -1,6 +1,6 @@
 //! The rules by which more becomes known, one step each.
 
-ghost use Rattle.std.specs.Prelude.{◌≡◌, ℕ, ◌<◌, ◌≤◌, length, true};
+ghost use Rattle.std.specs.Prelude.{◌≡◌, ℕ, ◌<◌, ◌≤◌, length, true, false};
 ghost use Rattle.arc_choice.specs.Choices.{Keeps, IsArc, IsSound, nodes, side_of};
 ghost use Rattle.arc_choice.specs.Branches.{IsBranch, Narrows, HasNone, Told, Forces, Always};
 ghost use Rattle.arc_choice.specs.Branches.{AreHeads, AreLatest, decision_for};
@@ -132,6 +132,19 @@ impl Branch {
             return Ok(Some(one));
         }
         Ok(None)
+    }
+
+    /// Whether no node's latest moment is before its earliest.
+    pub(crate) fn fits(&self, question: &Question) -> bool
+        requires { IsBranch question.now self.now }
+        ensures { result ≡ false → HasNone Always question.now self.now }
+    {
+        for node in 0..question.first.len() {
+            if self.state.latest[node] < self.state.heads[node] {
+                return false;
+            }
+        }
+        true
     }
 
     /// Keeps an arc of the question, if there is one of this number.
