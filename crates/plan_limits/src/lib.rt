@@ -1,0 +1,9 @@
+//! Whether a shop has any plan that has given jobs out by given limits, whatever its orders: the question is put to a
+//! complete search over alternative graphs, which knows no shop.
+#![tactic(auto)]
+
+mod answer;
+mod asking;
+
+pub use answer::Answer;
+pub use asking::ask;
