@@ -1,0 +1,10 @@
+mod Between
+mod Counts
+mod Closed
+mod Farthest
+mod Acceptance
+mod Numbered
+mod Spans
+mod Entries
+mod KeptArcs
+mod Asks

@@ -1,3 +1,6 @@
 -- Reached by public clauses: to be read and believed.
 pub mod Limits
 pub mod Answered
+pub mod LimitsLaw
+-- Of proofs and private contracts alone.
+pub mod Asked

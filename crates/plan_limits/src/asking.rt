@@ -7,7 +7,11 @@ ghost use Rattle.plan_limits.specs.Limits.{NoPlanKeeps};
 ghost use Rattle.plan_limits.specs.Answered.{OnNever};
 
 use crate::answer::Answer;
-use arc_choice::Choose;
+use crate::numbering::asked_nodes;
+use crate::orders::orders_by;
+use crate::questions::question_of;
+use crate::sizes::{MAX_NODES, MAX_PAIRS};
+use arc_choice::{Choose, Outcome, explore};
 use shop_base::{Moment, Shaped};
 use std::alloc::{AllocError, Global};
 
@@ -27,5 +31,20 @@ pub fn ask<C: Choose>(
     requires { length limits.now ≡ jobs shaped.now }
     ensures { IfOk result (OnNever (NoPlanKeeps (times_of shaped.now) limits.now)) }
 {
-    Ok(Answer::Open)
+    let nodes = asked_nodes(alloc, shaped, limits)?;
+    if nodes.len() > MAX_NODES {
+        return Ok(Answer::Open);
+    }
+    let question = question_of(alloc, shaped, limits, &nodes)?;
+    if question.pairs.len() > MAX_PAIRS {
+        return Ok(Answer::Open);
+    }
+    match explore(alloc, &question, chooser, choices)? {
+        Outcome::Never => Ok(Answer::Never),
+        Outcome::Chosen(heads) => {
+            let orders = orders_by(alloc, shaped, limits, &nodes, &heads)?;
+            Ok(Answer::Orders(orders))
+        }
+        Outcome::Open => Ok(Answer::Open),
+    }
 }

@@ -3,7 +3,17 @@
 #![tactic(auto)]
 
 mod answer;
+mod arcs;
 mod asking;
+mod fine;
+pub mod laws;
+mod moments;
+mod numbering;
+mod orders;
+mod pairs;
+mod questions;
+mod rows;
+mod sizes;
 
 pub use answer::Answer;
 pub use asking::ask;

@@ -1,0 +1,54 @@
+use Rattle.std.proofs.Common.{◌≡◌, ◌+◌, ◌*◌, ◌∙◌, ◌<◌, ℕ, List, [], ◌∷◌, ◌++◌, length, get_or, arith, sym, ap, subst}
+use Rattle.shop_base.proofs.Visits.{visits_machine}
+use Rattle.alt_graph.specs.Places.{node_at}
+use Rattle.arc_choice.specs.Choices.{no_pair}
+use Rattle.plan_bounds.specs.Bounds.{times_of}
+use Rattle.plan_limits.specs.declared.fine.TheConstants.{FINE}
+use Rattle.plan_limits.specs.Asked.{IsEntry, IsMachinePair, AreMachinePairs, pair_between}
+use Rattle.plan_limits.proofs.Numbered.{pushed}
+use Rattle.plan_limits.proofs.Entries.{row_of, row_at, entry_at, entries_push}
+use Rattle.plan_limits.proofs.pairs.add_pairs.Goals as goal
+
+pub pair_of-requires-clause-one : goal.pair_of-requires-clause-one
+pair_of-requires-clause-one c =
+    let p = c.args.shaped.now in
+    let rows = c.args.entries.now.items in
+    let m = c.in-Some.machine in
+    let node = node_at c.args.nodes.now c.args.number in
+    let within : m < length rows = omega (arith, visits_machine p node.job node.place m c.in-Some.ensures.well_shaped c.in-Some.ensures.machine, c.requires.entries.count) in
+    let row : c.deref-earlier-items.result.now ≡ row_of rows m = c.deref-earlier-items.ensures.value ∙ row_at rows m c.index.result.now within c.index.ensures in
+    let entry = entry_at (times_of p) c.args.nodes.now m c.args.number c.loop-earlier.earlier-index rows c.deref-earlier-items.result.now c.requires.entries row c.loop-earlier-test.true in
+    omega (arith, entry.inside, c.requires.few)
+
+pub loop-earlier-preserved : goal.loop-earlier-preserved
+loop-earlier-preserved c =
+    let p = c.args.shaped.now in
+    let t = times_of p in
+    let nodes = c.args.nodes.now in
+    let rows = c.args.entries.now.items in
+    let m = c.in-Some.machine in
+    let n = c.args.number in
+    let node = node_at nodes n in
+    let visit = c.in-Some.ensures.machine in
+    let within : m < length rows = omega (arith, visits_machine p node.job node.place m c.in-Some.ensures.well_shaped visit, c.requires.entries.count) in
+    let row : c.deref-earlier-items.result.now ≡ row_of rows m = c.deref-earlier-items.ensures.value ∙ row_at rows m c.index.result.now within c.index.ensures in
+    let e : ℕ = get_or c.deref-earlier-items.result.now c.loop-earlier.earlier-index 0 in
+    let one = entry_at t nodes m n c.loop-earlier.earlier-index rows c.deref-earlier-items.result.now c.requires.entries row c.loop-earlier-test.true in
+    let other : IsEntry t nodes m (n + 1) n = record { inside = c.requires.number; earlier = omega arith; visit = record { within = visit.within; here = visit.here } } in
+    let long = ap (λ (d : ℕ). pair_between e n (d * FINE + 1)) c.clean_of.ensures in
+    let here : IsMachinePair t nodes c.pair_of.result = record { machine = m; one = e; other = n; earlier = one; later = other; is = c.pair_of.ensures ∙ long } in
+    subst (AreMachinePairs t nodes) (sym c.in_ok-push.ensures.items) (pushed (λ a x. IsMachinePair t nodes x) c.loop-earlier.pairs.items c.pair_of.result no_pair c.loop-earlier.invariant here)
+
+pub returns-clause-entries : goal.returns-clause-entries
+returns-clause-entries c =
+    let p = c.args.shaped.now in
+    let nodes = c.args.nodes.now in
+    let rows = c.args.entries.now.items in
+    let m = c.in-Some.machine in
+    let n = c.args.number in
+    let node = node_at nodes n in
+    let visit = c.in-Some.ensures.machine in
+    let within : m < length rows = omega (arith, visits_machine p node.job node.place m c.in-Some.ensures.well_shaped visit, c.requires.entries.count) in
+    let row = row_at rows m c.index_mut.result.now within c.index_mut.ensures.value in
+    let other : IsEntry (times_of p) nodes m (n + 1) n = record { inside = c.requires.number; earlier = omega arith; visit = record { within = visit.within; here = visit.here } } in
+    entries_push (times_of p) nodes n m rows c.push-2.new.self c.requires.entries within (subst (λ (r : List ℕ). c.push-2.new.self.items ≡ r ++ n ∷ []) row c.in_ok-push-2.ensures.items) other
