@@ -1,0 +1,28 @@
+use crate::excluded::Excluded;
+use plan_verifier::Verified;
+use shop_base::{Moment, Shaped};
+
+/// What is decided.
+#[derive(Drop)]
+pub enum Decided {
+    /// All promises can be kept: an accepted plan.
+    Kept(Verified),
+    /// They can, and this is the best plan that was found, with what is known of the objective. Where the least leaving
+    /// of a job was asked for, the plan has the job's leaving as its budget.
+    Best(Verified, Within),
+    /// They can't: the jobs that exclude each other, and the plan that was given.
+    Never(Vec<Excluded>, Shaped),
+    /// Whether they can isn't decided, within the choices that were allowed or since the question is too large. The
+    /// plan that was given comes back.
+    Open(Shaped),
+}
+
+/// Between which moments the least value of an objective lies, in whole time units. Where they are the same, it is
+/// known.
+#[derive(Clone, Copy, Debug, PartialEq, Eq, Drop)]
+pub struct Within {
+    /// No plan that keeps the promises has less.
+    pub at_least: Moment,
+    /// The best plan that was found has this.
+    pub at_most: Moment,
+}
