@@ -1,5 +1,5 @@
 -- No exact run keeps promises that exclude each other.
-use Rattle.std.proofs.Common.{◌≤◌, arith}
+use Rattle.std.proofs.Common.{arith}
 use Rattle.shop_base.proofs.StartAhead.{no_exact_run_is_faster-holds}
 use Rattle.shop_base.proofs.CycleLaw.{cycle_never_done}
 use Rattle.plan_decide.specs.Laws.{NoExactRunKeepsThem}

@@ -1,1 +1,7 @@
 mod Lawful
+mod Budgets
+mod Limits
+mod Telling
+mod Leaving
+mod Values
+mod Deciders

@@ -1,5 +1,5 @@
 -- What a decision says.
-use Rattle.std.specs.Prelude.{◌≡◌, ℕ, ◌≤◌, List}
+use Rattle.std.specs.Prelude.{◌≡◌, ℕ, ◌≤◌, List, false}
 use Rattle.shop_base.specs.Plan.{PlannedShop}
 use Rattle.plan_verifier.specs.Accepted.{VerifiedPlan}
 use Rattle.plan_seek.specs.Tasks.{PlanTask, with_order, IsAccepted}
@@ -59,7 +59,7 @@ abbrev pub given_with : PlanTask → Objective → ℕ → PlanTask
 given_with t Makespan n = t
 given_with t (Leaving j) n = with_budget t j n
 
--- the objective was asked for; the plan keeps all promises that are asked for, and has at_most, and no such plan has less than at_least
+-- the objective was asked for; the plan keeps all promises that are asked for and has at_most, and no such plan has less than at_least; the two are the same, where no search ended open
 pub record IsBest (t : PlanTask) (aim : Aim) (verified : VerifiedPlan) (within : Within) : Type 0 where
   pub objective : Objective
   pub asked : aim ≡ Least objective
@@ -67,6 +67,7 @@ pub record IsBest (t : PlanTask) (aim : Aim) (verified : VerifiedPlan) (within :
   pub value : IsValue objective verified.planned within.at_most
   pub least : IsLeast (asked_for t aim) objective within.at_least
   pub apart : within.at_least ≤ within.at_most
+  pub exact : within.open ≡ false → within.at_least ≡ within.at_most
 
 -- why nothing is decided: the job isn't of the shop, or else out of memory
 abbrev pub IsDecideFault : PlanTask → Aim → DecideFault → Type 0

@@ -1,5 +1,5 @@
 -- Promises that exclude each other: no plan keeps all of them, whatever its orders.
-use Rattle.std.specs.Prelude.{◌≡◌, ◌≢◌, ℕ, ◌<◌, List, [], ◌∷◌, All, AllPairs, Contains, true, false}
+use Rattle.std.specs.Prelude.{◌≡◌, ◌≢◌, ℕ, ◌<◌, List, [], ◌∷◌, length, All, AllPairs, Contains, true, false}
 use Rattle.shop_base.specs.declared.limits.TheConstants.{MAX_MOMENT}
 use Rattle.shop_base.specs.Plan.{PlannedShop, jobs, budget, IsWellShaped}
 use Rattle.plan_verifier.specs.Accepted.{HasNoCycle}
@@ -64,7 +64,7 @@ pub record IsExclusion (t : PlanTask) (e : Excluded) : Type 0 where
 
 -- what is told where no plan keeps all promises: some such jobs, and each job that is never in time by its bound
 pub record AreExclusions (t : PlanTask) (es : List Excluded) : Type 0 where
-  pub some : es ≢ []
+  pub some : 0 < length es
   pub each : All (IsExclusion t) es
   pub alone : (j : ℕ) → IsNeverInTime t j → Contains es (Alone j)
 

@@ -4,3 +4,9 @@ pub mod Excluding
 pub mod Objectives
 pub mod Decisions
 pub mod Laws
+-- Of proofs and private contracts alone.
+pub mod Asking
+pub mod Told
+pub mod LeftOut
+pub mod Halves
+pub mod Found

@@ -1,5 +1,5 @@
 -- Which jobs of a plan's numbers have a promise, and whose promises are asked for.
-use Rattle.std.specs.Prelude.{ℕ, ◌<◌, length, slice_index, slice_set}
+use Rattle.std.specs.Prelude.{ℕ, ◌<◌, List, length, slice_index, slice_set}
 use Rattle.shop_base.specs.declared.limits.TheConstants.{MAX_MOMENT}
 use Rattle.plan_bounds.specs.Bounds.{ShopTimes}
 use Rattle.plan_seek.specs.Tasks.{PlanTask}
@@ -26,9 +26,13 @@ module _ (t : PlanTask) where
     pub inside : j < job_count
     pub below : budget_in j < MAX_MOMENT
 
+  -- the same numbers, with these budgets
+  abbrev pub with_budgets : List ℕ → PlanTask
+  with_budgets budget = record { shop = t.shop; release = t.release; budget = budget; clean = t.clean }
+
   -- the same numbers, with budget n for job j
   abbrev pub with_budget : ℕ → ℕ → PlanTask
-  with_budget j n = record { shop = t.shop; release = t.release; budget = slice_set t.budget j n; clean = t.clean }
+  with_budget j n = with_budgets (slice_set t.budget j n)
 
   -- the numbers whose promises are asked for: where the leaving of job j is to be as early as it can be, job j has none
   abbrev pub asked_for : Aim → PlanTask
@@ -37,7 +41,10 @@ module _ (t : PlanTask) where
   asked_for (Least (Leaving j)) = with_budget j MAX_MOMENT
 
   -- the job whose leaving is asked for is of the shop
+  abbrev pub IsOfShop : Objective → Type 0
+  IsOfShop Makespan = Unit {0}
+  IsOfShop (Leaving j) = j < job_count
+
   abbrev pub IsInRange : Aim → Type 0
   IsInRange Promises = Unit {0}
-  IsInRange (Least Makespan) = Unit {0}
-  IsInRange (Least (Leaving j)) = j < job_count
+  IsInRange (Least objective) = IsOfShop objective

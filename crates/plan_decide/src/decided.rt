@@ -25,4 +25,6 @@ pub struct Within {
     pub at_least: Moment,
     /// The best plan that was found has this.
     pub at_most: Moment,
+    /// Whether a search for something better ended open. Where none did, both moments are the same.
+    pub open: bool,
 }

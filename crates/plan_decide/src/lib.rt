@@ -3,18 +3,30 @@
 #![tactic(auto)]
 
 mod aim;
+mod alone;
+mod asked;
+mod asker;
+mod copying;
 mod decide_fault;
 mod decided;
 mod deciding;
 mod excluded;
+mod halving;
+mod judging;
 pub mod laws;
+mod leaving_out;
+mod pairs;
+mod promises;
+mod rebudgeting;
 mod undecided;
 mod watch;
 
 pub use aim::{Aim, Objective};
+pub use asker::PAIR_CHOICES;
 pub use decide_fault::DecideFault;
 pub use decided::{Decided, Within};
-pub use deciding::{PAIR_CHOICES, PAIRED_JOBS, decide};
+pub use deciding::decide;
 pub use excluded::Excluded;
+pub use pairs::PAIRED_JOBS;
 pub use undecided::Undecided;
 pub use watch::Watch;

@@ -1,0 +1,250 @@
+-- Jobs left out in turn.
+use Rattle.std.proofs.Common.{◌≡◌, ◌≢◌, ℕ, ◌+◌, ◌<◌, ◌≤◌, Bool, true, false, List, [], ◌∷◌, ◌++◌, map, length, set, slice_index, All, AllPairs, Contains, Option, None, Some, IsSome, is_some, Vec, Global, arith, refl, sym, ap, ◌∙◌, subst, inl, inr, true≢false, le_refl}
+use Rattle.std.proofs.lemmas.Bool.{cases_eq, cases_lt}
+use Rattle.std.proofs.lemmas.List.{get_or_past, get_or-set_same, get_or-set_other, get_or-map, get_or_append_left, get_or_push, length-set, length-map, length_push}
+use Rattle.std.proofs.lemmas.List.Elements.{All-nil, All-push, All-weaker, All-contains, Contains-append_left, Contains-push}
+use Rattle.shop_base.specs.declared.limits.TheConstants.{MAX_MOMENT}
+use Rattle.shop_base.specs.Plan.{jobs}
+use Rattle.plan_bounds.specs.Bounds.{times_of}
+use Rattle.plan_limits.specs.Limits.{limit_of, NoPlanKeeps}
+use Rattle.plan_verifier.specs.Accepted.{VerifiedPlan}
+use Rattle.plan_seek.specs.Tasks.{PlanTask}
+use Rattle.plan_decide.specs.declared.asked.Asked.TheVariants.{All as AllAsked}
+use Rattle.plan_decide.specs.declared.excluded.Excluded.TheVariants.{Several}
+use Rattle.plan_decide.specs.declared.leaving_out.Left.{Left}
+use Rattle.plan_decide.specs.Promises.{job_count, budget_in, times_in, with_budgets, IsPromised}
+use Rattle.plan_decide.specs.Excluding.{AreExcluded, HasPlanWithout, AreNeeded, IsSaidOf, IsExclusion}
+use Rattle.plan_decide.specs.Decisions.{IsAcceptedWith}
+use Rattle.plan_decide.specs.Asking.{AreLimits}
+use Rattle.plan_decide.specs.LeftOut.{cap, AreLimited, ArePromised, CanKeep, IsLeft}
+use Rattle.plan_decide.proofs.Limits.{promise_is}
+use Rattle.plan_decide.proofs.Budgets.{rebudgeted, accepted_again}
+
+-- a job with a limit has a place in the list
+limit_inside : (limits : List (Option ℕ)) (j n : ℕ) → limit_of limits j ≡ Some n → j < length limits
+limit_inside limits j n is = elim (cases_lt j (length limits)) [
+  | inl inside ↦ inside
+  | inr past ↦ absurd (true≢false (sym (ap is_some (sym (get_or_past limits j None past) ∙ is))))
+]
+
+-- the limits without one of them
+limit_gone : (limits : List (Option ℕ)) (k : ℕ) → k < length limits → limit_of (set limits k None) k ≡ None
+limit_gone limits k inside = get_or-set_same limits k None None inside
+
+limit_stays : (limits : List (Option ℕ)) (k i : ℕ) → i ≢ k → limit_of (set limits k None) i ≡ limit_of limits i
+limit_stays limits k i apart = get_or-set_other limits k i None None apart
+
+-- a limit that is left was there
+limit_was : (limits : List (Option ℕ)) (k i n : ℕ) → k < length limits → limit_of (set limits k None) i ≡ Some n → (i ≢ k) × (limit_of limits i ≡ Some n)
+limit_was limits k i n inside is =
+    let apart : i ≢ k = λ same. true≢false (sym (ap is_some (sym (ap (limit_of (set limits k None)) same ∙ limit_gone limits k inside) ∙ is))) in
+    (apart, sym (limit_stays limits k i apart) ∙ is)
+
+module _ (t : PlanTask) where
+  -- all promises are limits of promised jobs
+  pub all_promised : (n : ℕ) (limits : List (Option ℕ)) → n ≡ job_count t → AreLimits t AllAsked n limits → ArePromised t limits
+  all_promised n limits all are = record {
+    count = are.count ∙ all;
+    each = λ j k is. (
+        let inside : j < n = omega (arith, are.count, limit_inside limits j k is) in
+        let promise = promise_is t j k (sym (are.each j inside) ∙ is) in
+        (record { inside = omega (arith, inside, all); below = promise.0 }, promise.1));
+  }
+
+  fewer_promised : (limits : List (Option ℕ)) (k : ℕ) → k < job_count t → ArePromised t limits → ArePromised t (set limits k None)
+  fewer_promised limits k inside are = record {
+    count = length-set limits k None ∙ are.count;
+    each = λ j n is. are.each j n (limit_was limits k j n (omega (arith, inside, are.count)) is).1;
+  }
+
+  -- no cap is past the greatest budget
+  cap-le : (limits : List (Option ℕ)) → ArePromised t limits → (i : ℕ) → cap (limit_of limits i) ≤ MAX_MOMENT
+  cap-le limits are i = go (limit_of limits i) refl
+    where
+      go : (o : Option ℕ) → limit_of limits i ≡ o → cap o ≤ MAX_MOMENT
+      go None is = le_refl MAX_MOMENT
+      go (Some n) is = (let each = are.each i n is in omega (arith, each.0.below, each.1))
+
+  -- a plan that keeps limits keeps later ones
+  can_keep_later : (xs ys : List (Option ℕ)) → ((i : ℕ) → cap (limit_of xs i) ≤ cap (limit_of ys i)) → CanKeep t xs → CanKeep t ys
+  can_keep_later xs ys later can = record {
+    plan = can.plan;
+    is = can.is;
+    acyclic = can.acyclic;
+    out = λ j inside nodes k path. omega (arith, later j, can.out j inside nodes k path);
+  }
+
+  -- so one that keeps all but one limit keeps them when another is left out too
+  can_keep_fewer : (limits : List (Option ℕ)) (j k : ℕ) → j < job_count t → k < job_count t → ArePromised t limits → CanKeep t (set limits j None) → CanKeep t (set (set limits k None) j None)
+  can_keep_fewer limits j k here there are can = can_keep_later _ _ later can
+    where
+      long : length (set limits k None) ≡ length limits
+      long = length-set limits k None
+
+      later : (i : ℕ) → cap (limit_of (set limits j None) i) ≤ cap (limit_of (set (set limits k None) j None) i)
+      later i = elim (cases_eq i j) [
+        | inl same ↦ rw (same, limit_gone limits j (omega (arith, here, are.count)), limit_gone (set limits k None) j (omega (arith, here, are.count, long))) (le_refl MAX_MOMENT)
+        | inr apart ↦ rw (limit_stays limits j i apart, limit_stays (set limits k None) j i apart) (elim (cases_eq i k) [
+          | inl same ↦ rw (same, limit_gone limits k (omega (arith, there, are.count))) (cap-le limits are k)
+          | inr other ↦ rw (limit_stays limits k i other) (le_refl (cap (limit_of limits i)))
+        ])
+      ]
+
+  -- a plan that is accepted with the budgets of limits keeps them
+  pub accepted_keeps : (limits : List (Option ℕ)) (v : VerifiedPlan) → length limits ≡ job_count t → IsAcceptedWith (with_budgets t (map cap limits)) v.planned → CanKeep t limits
+  accepted_keeps limits v count is = record {
+    plan = v.planned;
+    is = record { shaped = is.accepted.shaped; same = ap times_of is.same };
+    acyclic = is.accepted.acceptable.acyclic;
+    out = λ j inside nodes k path. (
+        let same : jobs v.planned ≡ job_count t = ap jobs is.same in
+        let budget : slice_index v.planned.plan.budget j ≡ cap (limit_of limits j) = ap (λ p. slice_index p.plan.budget j) is.same ∙ get_or-map cap limits j None 0 (omega (arith, inside, same, count)) in
+        omega (arith, budget, is.accepted.acceptable.budgets j inside nodes k path));
+  }
+
+  pub left_all : (left : Left) (n : ℕ) → n ≡ job_count t → ArePromised t left.limits.items → NoPlanKeeps (times_in t) left.limits.items → IsLeft t left n
+  left_all left n all are none = record {
+    promised = are;
+    none = none;
+    needed = λ _ j k past is. absurd (omega (arith, past, all, are.count, limit_inside left.limits.items j k is));
+  }
+
+  pub left_out : (left more : Left) (k : ℕ) → k < job_count t → more.or_fewer ≡ left.or_fewer → more.limits.items ≡ set left.limits.items k None → NoPlanKeeps (times_in t) more.limits.items
+      → IsLeft t left (k + 1) → IsLeft t more k
+  left_out left more k inside fewer is none known = record {
+    promised = subst (ArePromised t) (sym is) (fewer_promised left.limits.items k inside known.promised);
+    none = none;
+    needed = λ closed j n from named. (
+        let limits = left.limits.items in
+        let was = limit_was limits k j n (omega (arith, inside, known.promised.count)) (sym (ap (λ l. limit_of l j) is) ∙ named) in
+        let here : j < job_count t = omega (arith, limit_inside limits j n was.1, known.promised.count) in
+        subst (λ l. CanKeep t (set l j None)) (sym is) (can_keep_fewer limits j k here inside known.promised
+        (known.needed (sym fewer ∙ closed) j n (omega (arith, from, was.0)) was.1)));
+  }
+
+  pub left_needed : (left : Left) (k : ℕ) → CanKeep t (set left.limits.items k None) → IsLeft t left (k + 1) → IsLeft t left k
+  left_needed left k can known = record {
+    promised = known.promised;
+    none = known.none;
+    needed = λ closed j n from named. elim (cases_eq j k) [
+      | inl same ↦ subst (λ i. CanKeep t (set left.limits.items i None)) (sym same) can
+      | inr other ↦ known.needed closed j n (omega (arith, from, other)) named
+    ];
+  }
+
+  pub left_open : (left more : Left) (k : ℕ) → more.or_fewer ≡ true → more.limits.items ≡ left.limits.items → IsLeft t left (k + 1) → IsLeft t more k
+  left_open left more k fewer is known = record {
+    promised = subst (ArePromised t) (sym is) known.promised;
+    none = subst (NoPlanKeeps (times_in t)) (sym is) known.none;
+    needed = λ closed. absurd (true≢false (sym fewer ∙ closed));
+  }
+
+  module _ (limits : List (Option ℕ)) (n : ℕ) (js : List ℕ) (all : n ≡ job_count t) (are : ArePromised t limits) (named : AreLimited limits n js) where
+    some_promised : (j : ℕ) → IsSome (limit_of limits j) → IsPromised t j
+    some_promised j some = go (limit_of limits j) refl some
+      where
+        go : (o : Option ℕ) → limit_of limits j ≡ o → is_some o ≡ true → IsPromised t j
+        go None is none = absurd (true≢false (sym none))
+        go (Some k) is there = (are.each j k is).0
+
+    -- the limit of a job that is named
+    named_limit : (j : ℕ) → Contains js j → limit_of limits j ≡ Some (budget_in t j)
+    named_limit j has = go (limit_of limits j) refl (All-contains (λ i. IsSome (limit_of limits i)) js j named.limited has)
+      where
+        go : (o : Option ℕ) → limit_of limits j ≡ o → is_some o ≡ true → o ≡ Some (budget_in t j)
+        go None is none = absurd (true≢false (sym none))
+        go (Some k) is there = ap Some (are.each j k is).1
+
+    -- of one that isn't
+    unnamed_limit : (j : ℕ) → (Contains js j → ⊥) → limit_of limits j ≡ None
+    unnamed_limit j not_named = go (limit_of limits j) refl
+      where
+        go : (o : Option ℕ) → limit_of limits j ≡ o → o ≡ None
+        go None is = refl
+        go (Some k) is = absurd (not_named (named.complete j k (omega (arith, all, are.count, limit_inside limits j k is)) is))
+
+    -- the promises to all of them exclude each other
+    all_excluded : NoPlanKeeps (times_in t) limits → AreExcluded t js
+    all_excluded none p plan keeps = none p plan.shaped plan.same (record {
+      acyclic = keeps.acyclic;
+      jobs = λ j k inside is nodes m path. (
+          let same : jobs p ≡ job_count t = ap (λ s. length s.shop.routes) plan.same in
+          omega (arith, (are.each j k is).1, keeps.out j (named.complete j k (omega (arith, inside, same, all)) is) nodes m path));
+    })
+
+    -- a job without which the others can be kept
+    plan_without : (j : ℕ) → Contains js j → CanKeep t (set limits j None) → HasPlanWithout t js j
+    plan_without j has can =
+        let p = can.plan in
+        let fewer = set limits j None in
+        let budgets = map cap fewer in
+        let same : jobs p ≡ job_count t = ap (λ s. length s.shop.routes) can.is.same in
+        let here : j < job_count t = omega (arith, limit_inside limits j _ (named_limit j has), are.count) in
+        let count : length fewer ≡ job_count t = length-set limits j None ∙ are.count in
+        let budget : (i : ℕ) → i < job_count t → slice_index budgets i ≡ cap (limit_of fewer i) = λ i inside. get_or-map cap fewer i None 0 (omega (arith, inside, count)) in
+        let few = cap-le fewer (fewer_promised limits j here are) in
+        record {
+          plan = rebudgeted p budgets;
+          same = can.is.same;
+          accepted = accepted_again p budgets can.is.shaped (length-map fewer cap ∙ count ∙ sym same)
+              (λ i inside. omega (arith, budget i (omega (arith, inside, same)), few i))
+              can.acyclic
+              (λ i inside nodes k path. omega (arith, budget i (omega (arith, inside, same)), can.out i inside nodes k path));
+          others = λ i has_too apart. budget i (omega (arith, limit_inside limits i _ (named_limit i has_too), are.count)) ∙ ap cap (limit_stays limits j i apart ∙ named_limit i has_too);
+          itself = budget j here ∙ ap cap (limit_gone limits j (omega (arith, here, are.count)));
+          rest = λ i inside not_named. budget i (omega (arith, inside, same)) ∙ ap cap (limit_stays limits j i (λ is. not_named (subst (Contains js) (sym is) has)) ∙ unnamed_limit i not_named);
+        }
+
+    -- what is left
+    pub several : (jobs : Vec ℕ Global) (or_fewer : Bool) → jobs.items ≡ js → NoPlanKeeps (times_in t) limits
+        → (or_fewer ≡ false → (j k : ℕ) → 0 ≤ j → limit_of limits j ≡ Some k → CanKeep t (set limits j None)) → IsExclusion t (Several jobs or_fewer)
+    several jobs or_fewer is none needed = record {
+      promised = subst (All (IsPromised t)) (sym is) (All-weaker (λ j. IsSome (limit_of limits j)) (IsPromised t) some_promised js named.limited);
+      ascending = subst (AllPairs (λ i j. i < j)) (sym is) named.ascending;
+      excluded = subst (AreExcluded t) (sym is) (all_excluded none);
+      said = said or_fewer needed;
+    }
+      where
+        said : (fewer : Bool) → (fewer ≡ false → (j k : ℕ) → 0 ≤ j → limit_of limits j ≡ Some k → CanKeep t (set limits j None)) → IsSaidOf t (Several jobs fewer)
+        said true needed = tt
+        said false needed = subst (AreNeeded t) (sym is) (λ j has. plan_without j has (needed refl j _ (omega arith) (named_limit j has)))
+
+-- the jobs that have limits, one after another
+pub limited_none : (limits : List (Option ℕ)) → AreLimited limits 0 []
+limited_none limits = record {
+  below = All-nil (λ j. j < 0);
+  ascending = λ i j d one two. absurd (omega (arith, two));
+  limited = All-nil (λ j. IsSome (limit_of limits j));
+  complete = λ j k lt. absurd (omega (arith, lt));
+}
+
+pub limited_passed : (limits : List (Option ℕ)) (n : ℕ) (js : List ℕ) → limit_of limits n ≡ None → AreLimited limits n js → AreLimited limits (n + 1) js
+limited_passed limits n js is known = record {
+  below = All-weaker (λ j. j < n) (λ j. j < n + 1) (λ j lt. omega (arith, lt)) js known.below;
+  ascending = known.ascending;
+  limited = known.limited;
+  complete = λ j k lt named. elim (cases_eq j n) [
+    | inl same ↦ absurd (true≢false (sym (ap is_some (sym (ap (limit_of limits) same ∙ is) ∙ named))))
+    | inr other ↦ known.complete j k (omega (arith, lt, other)) named
+  ];
+}
+
+pub limited_more : (limits : List (Option ℕ)) (n : ℕ) (js more : List ℕ) → more ≡ js ++ n ∷ [] → IsSome (limit_of limits n) → AreLimited limits n js → AreLimited limits (n + 1) more
+limited_more limits n js more is some known = subst (AreLimited limits (n + 1)) (sym is) (record {
+  below = All-push (λ j. j < n + 1) js n (All-weaker (λ j. j < n) (λ j. j < n + 1) (λ j lt. omega (arith, lt)) js known.below) (omega arith);
+  ascending = ascends;
+  limited = All-push (λ j. IsSome (limit_of limits j)) js n known.limited some;
+  complete = λ j k lt named. elim (cases_eq j n) [
+    | inl same ↦ subst (Contains (js ++ n ∷ [])) (sym same) (Contains-push js n)
+    | inr other ↦ Contains-append_left js (n ∷ []) j (known.complete j k (omega (arith, lt, other)) named)
+  ];
+})
+  where
+    ascends : AllPairs (λ i j. i < j) (js ++ n ∷ [])
+    ascends a b d before inside =
+        let long = length_push js n in
+        elim (cases_eq b (length js)) [
+          | inl last ↦ rw (get_or_append_left js (n ∷ []) d a (omega (arith, before, last)), get_or_push js n d b (sym last)) (known.below a d (omega (arith, before, last)))
+          | inr other ↦ rw (get_or_append_left js (n ∷ []) d a (omega (arith, before, inside, long, other)), get_or_append_left js (n ∷ []) d b (omega (arith, inside, long, other)))
+              (known.ascending a b d before (omega (arith, inside, long, other)))
+        ]

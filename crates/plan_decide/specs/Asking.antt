@@ -1,0 +1,38 @@
+-- What a question asks for: a limit for some of the jobs.
+use Rattle.std.specs.Prelude.{◌≡◌, ℕ, ◌<◌, min, nat_lt, ◌==◌, ◌||◌, if◌then◌else◌, List, length, Option, None, Some}
+use Rattle.shop_base.specs.declared.limits.TheConstants.{MAX_MOMENT}
+use Rattle.shop_base.specs.Plan.{PlannedShop, jobs}
+use Rattle.plan_verifier.specs.Accepted.{HasNoCycle}
+use Rattle.plan_limits.specs.Limits.{limit_of, IsOutBy}
+use Rattle.plan_seek.specs.Tasks.{PlanTask}
+use Rattle.plan_decide.specs.declared.aim.Objective.TheVariants.{Makespan, Leaving}
+use Rattle.plan_decide.specs.declared.asked.Asked.{Asked}
+use Rattle.plan_decide.specs.declared.asked.Asked.TheVariants.{All, Both, AtMost}
+use Rattle.plan_decide.specs.Promises.{budget_in}
+use Rattle.plan_decide.specs.Excluding.{IsPlanOf}
+
+module _ (t : PlanTask) where
+  -- the budget of job j, where it has a promise
+  abbrev pub promise_in : ℕ → Option ℕ
+  promise_in j = if nat_lt (budget_in t j) MAX_MOMENT then Some (budget_in t j) else None
+
+  -- the limit of job j, where it is asked for
+  abbrev pub limit_asked : Asked → ℕ → Option ℕ
+  limit_asked All j = promise_in j
+  limit_asked (Both one other) j = if (j == one) || (j == other) then promise_in j else None
+  limit_asked (AtMost Makespan n) j = Some (min (budget_in t j) n)
+  limit_asked (AtMost (Leaving i) n) j = if j == i then Some n else promise_in j
+
+  -- the limits of the first n jobs
+  pub record AreLimits (asked : Asked) (n : ℕ) (limits : List (Option ℕ)) : Type 0 where
+    pub count : length limits ≡ n
+    pub each : (j : ℕ) → j < n → limit_of limits j ≡ limit_asked asked j
+
+  -- the plan has no cycle, and each job that is asked for is out by its limit
+  pub record KeepsAsked (asked : Asked) (p : PlannedShop) : Type 0 where
+    pub acyclic : HasNoCycle p
+    pub out : (j n : ℕ) → j < jobs p → limit_asked asked j ≡ Some n → IsOutBy p j n
+
+  -- no plan of the shop with these releases and cleaning times does
+  abbrev pub IsImpossible : Asked → Type 0
+  IsImpossible asked = (p : PlannedShop) → IsPlanOf t p → KeepsAsked asked p → ⊥

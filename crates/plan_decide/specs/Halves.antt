@@ -1,0 +1,46 @@
+-- What is known of an objective while what lies between a bound and a plan is halved.
+use Rattle.std.specs.Prelude.{◌≡◌, ℕ, ◌+◌, ◌<◌, ◌≤◌, false}
+use Rattle.shop_base.specs.declared.limits.TheConstants.{MAX_MOMENT}
+use Rattle.plan_verifier.specs.Accepted.{VerifiedPlan}
+use Rattle.plan_seek.specs.Tasks.{PlanTask}
+use Rattle.plan_decide.specs.declared.aim.Objective.{Objective}
+use Rattle.plan_decide.specs.declared.aim.Objective.TheVariants.{Makespan, Leaving}
+use Rattle.plan_decide.specs.declared.decided.Within.{Within}
+use Rattle.plan_decide.specs.declared.halving.Best.{Best}
+use Rattle.plan_decide.specs.declared.halving.Halfway.{Halfway}
+use Rattle.plan_decide.specs.declared.halving.Looked.{Looked}
+use Rattle.plan_decide.specs.declared.halving.Looked.TheVariants.{Better, Never, Open}
+use Rattle.plan_decide.specs.Promises.{job_count, budget_in}
+use Rattle.plan_decide.specs.Objectives.{IsValue, IsLeast}
+use Rattle.plan_decide.specs.Decisions.{IsAcceptedWith, given_with}
+
+-- the job whose leaving is to be as early as it can be is of the shop, and has no promise
+abbrev pub IsFree : PlanTask → Objective → Type 0
+IsFree t Makespan = Unit {0}
+IsFree t (Leaving j) = (j < job_count t) × (budget_in t j ≡ MAX_MOMENT)
+
+module _ (t : PlanTask) (objective : Objective) where
+  -- an accepted plan with its value
+  pub record IsFoundWith (best : Best) : Type 0 where
+    pub plan : IsAcceptedWith (given_with t objective best.value) best.plan.planned
+    pub value : IsValue objective best.plan.planned best.value
+
+  -- what comes of looking for a plan with a value of at most the limit, below this value
+  abbrev pub IsLooked : ℕ → ℕ → Looked → Type 0
+  IsLooked limit value (Better found) = IsFoundWith found × (found.value < value)
+  IsLooked limit value Never = IsLeast t objective (limit + 1)
+  IsLooked limit value Open = Unit {0}
+
+  -- so far no plan is below at_least, and the best one is found; what is still to be asked for begins at low, which is at_least where no search ended open
+  pub record IsHalfway (halfway : Halfway) : Type 0 where
+    pub found : IsFoundWith halfway.best
+    pub least : IsLeast t objective halfway.at_least
+    pub same : halfway.open ≡ false → halfway.low ≡ halfway.at_least
+
+  -- what is found in the end
+  pub record IsHalved (found : VerifiedPlan × Within) : Type 0 where
+    pub plan : IsAcceptedWith (given_with t objective found.1.at_most) found.0.planned
+    pub value : IsValue objective found.0.planned found.1.at_most
+    pub least : IsLeast t objective found.1.at_least
+    pub apart : found.1.at_least ≤ found.1.at_most
+    pub exact : found.1.open ≡ false → found.1.at_least ≡ found.1.at_most

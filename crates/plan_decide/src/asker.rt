@@ -1,0 +1,120 @@
+//! Questions that are put to a search, with its choices counted.
+
+ghost use Rattle.std.specs.Prelude.{◌≡◌, IfOk, length};
+ghost use Rattle.shop_base.specs.Plan.{jobs};
+ghost use Rattle.plan_bounds.specs.Bounds.{times_of};
+ghost use Rattle.plan_limits.specs.Limits.{NoPlanKeeps};
+ghost use Rattle.plan_limits.specs.Answered.{OnNever};
+ghost use Rattle.plan_seek.specs.Tasks.{task_in};
+ghost use Rattle.plan_decide.specs.Asking.{IsImpossible};
+
+use crate::asked::{Asked, limits_for};
+use crate::decided::Within;
+use crate::watch::Watch;
+use arc_choice::{Choose, Question, Side, State};
+use plan_limits::{Answer, ask};
+use shop_base::{Moment, Shaped};
+use std::alloc::{AllocError, Global};
+
+/// The most choices of a search for a plan that keeps the promises to two jobs, even where more are allowed.
+pub const PAIR_CHOICES: u64 = 1_000;
+
+/// A chooser whose choices are counted in each search, and told to a watch.
+#[derive(Drop)]
+pub(crate) struct Asker<'a, C, W> {
+    chooser: &'a mut C,
+    watch: &'a mut W,
+    /// The most choices of a search.
+    choices: u64,
+    /// The most choices of the present search.
+    limit: u64,
+    /// How many choices it has made.
+    made: u64,
+    /// What is known of the objective.
+    found: Option<Within>,
+}
+
+impl<C: Choose, W: Watch> Asker<'_, C, W> {
+    /// An asker whose searches make at most so many choices.
+    pub(crate) fn new<'a>(chooser: &'a mut C, watch: &'a mut W, choices: u64) -> Asker<'a, C, W> {
+        Asker {
+            chooser,
+            watch,
+            choices,
+            limit: choices,
+            made: 0,
+            found: None,
+        }
+    }
+
+    /// From now on this is known of the objective.
+    pub(crate) fn tell(&mut self, found: Within) {
+        self.found = Some(found);
+    }
+
+    /// Whether any plan keeps what is asked for.
+    pub(crate) fn ask(
+        &mut self,
+        alloc: Global,
+        shaped: &Shaped,
+        asked: Asked,
+    ) -> Result<Answer, AllocError>
+        ensures { IfOk result (OnNever (IsImpossible (task_in shaped.now) asked)) }
+    {
+        let limits = limits_for(alloc, shaped, asked)?;
+        match asked {
+            Asked::Both(_, _) => self.search(
+                alloc,
+                shaped,
+                &limits,
+                self.choices.min(PAIR_CHOICES),
+            ),
+            _ => self.search(alloc, shaped, &limits, self.choices),
+        }
+    }
+
+    /// Whether any plan keeps these limits.
+    pub(crate) fn ask_limits(
+        &mut self,
+        alloc: Global,
+        shaped: &Shaped,
+        limits: &[Option<Moment>],
+    ) -> Result<Answer, AllocError>
+        requires { length limits.now ≡ jobs shaped.now }
+        ensures { IfOk result (OnNever (NoPlanKeeps (times_of shaped.now) limits.now)) }
+    {
+        self.search(alloc, shaped, limits, self.choices)
+    }
+
+    /// The same by at most so many choices.
+    fn search(
+        &mut self,
+        alloc: Global,
+        shaped: &Shaped,
+        limits: &[Option<Moment>],
+        choices: u64,
+    ) -> Result<Answer, AllocError>
+        requires { length limits.now ≡ jobs shaped.now }
+        ensures { IfOk result (OnNever (NoPlanKeeps (times_of shaped.now) limits.now)) }
+    {
+        self.limit = choices;
+        ask(alloc, shaped, limits, self, choices)
+    }
+}
+
+impl<C: Choose, W: Watch> Choose for Asker<'_, C, W> {
+    fn begin(&mut self, alloc: Global, question: &Question) -> Result<(), AllocError> {
+        self.made = 0;
+        self.chooser.begin(alloc, question)
+    }
+
+    fn choose(&mut self, question: &Question, state: &State) -> Option<Side> {
+        self.watch.choice(self.made, self.limit, self.found);
+        self.made = self.made.saturating_add(1);
+        self.chooser.choose(question, state)
+    }
+
+    fn clashed(&mut self, pair: usize, at: Option<usize>) {
+        self.chooser.clashed(pair, at);
+    }
+}

@@ -1,0 +1,184 @@
+//! Promised jobs left out in turn, where the others still exclude each other.
+
+ghost use Rattle.std.specs.Prelude.{◌≡◌, ◌+◌, ◌<◌, IfOk, OnOk, length, map, slice_set, None};
+ghost use Rattle.shop_base.specs.Plan.{jobs};
+ghost use Rattle.plan_limits.specs.Limits.{NoPlanKeeps};
+ghost use Rattle.plan_seek.specs.Tasks.{task_in};
+ghost use Rattle.plan_decide.specs.Promises.{times_in};
+ghost use Rattle.plan_decide.specs.Excluding.{IsExclusion};
+ghost use Rattle.plan_decide.specs.LeftOut.{ArePromised, IsSpared, IsLeft, AreLimited, cap};
+
+use crate::asker::Asker;
+use crate::excluded::Excluded;
+use crate::judging::accepted_with;
+use crate::watch::Watch;
+use arc_choice::Choose;
+use plan_limits::Answer;
+use shop_base::limits::MAX_MOMENT;
+use shop_base::{JobNo, Moment, Shaped};
+use std::alloc::{AllocError, Global};
+
+/// What comes of the question whether a job can be left out.
+#[derive(Drop)]
+pub(crate) enum Spared {
+    /// The promises to the others exclude each other too: their limits.
+    LeftOut(Vec<Option<Moment>>),
+    /// They can be kept.
+    Needed,
+    /// That isn't decided.
+    Open,
+}
+
+/// The limits that are left.
+#[derive(Drop)]
+pub(crate) struct Left {
+    pub limits: Vec<Option<Moment>>,
+    /// Whether a search ended open.
+    pub or_fewer: bool,
+}
+
+/// The jobs that are left of those with limits, where all together exclude each other: from the greatest number down
+/// each is left out without which the others still do.
+pub(crate) fn leave_out<C: Choose, W: Watch>(
+    alloc: Global,
+    shaped: &Shaped,
+    asker: &mut Asker<'_, C, W>,
+    limits: Vec<Option<Moment>>,
+) -> Result<Excluded, AllocError>
+    requires promised { ArePromised (task_in shaped.now) limits.items }
+    requires none { NoPlanKeeps (times_in (task_in shaped.now)) limits.items }
+    ensures { IfOk result (IsExclusion (task_in shaped.now)) }
+{
+    let mut left = Left {
+        limits,
+        or_fewer: false,
+    };
+    for job in (0..shaped.job_count()).rev() {
+        left = leave_one(alloc, shaped, asker, left, job)?;
+    }
+    let Left { limits, or_fewer } = left;
+    let jobs = limited_jobs(alloc, shaped, &limits)?;
+    Ok(Excluded::Several { jobs, or_fewer })
+}
+
+/// What is left once this job was asked about too.
+fn leave_one<C: Choose, W: Watch>(
+    alloc: Global,
+    shaped: &Shaped,
+    asker: &mut Asker<'_, C, W>,
+    left: Left,
+    job: JobNo,
+) -> Result<Left, AllocError>
+    requires job { job < jobs shaped.now }
+    requires left { IsLeft (task_in shaped.now) left (job + 1) }
+    ensures { IfOk result (λ left. IsLeft (task_in shaped.now) left job) }
+{
+    match spare(alloc, shaped, asker, &left.limits, job)? {
+        Spared::LeftOut(limits) => Ok(Left {
+            limits,
+            or_fewer: left.or_fewer,
+        }),
+        Spared::Needed => Ok(left),
+        Spared::Open => Ok(Left {
+            limits: left.limits,
+            or_fewer: true,
+        }),
+    }
+}
+
+/// Whether the job can be left out. One without a limit already is.
+fn spare<C: Choose, W: Watch>(
+    alloc: Global,
+    shaped: &Shaped,
+    asker: &mut Asker<'_, C, W>,
+    limits: &[Option<Moment>],
+    job: JobNo,
+) -> Result<Spared, AllocError>
+    requires job { job < jobs shaped.now }
+    requires promised { ArePromised (task_in shaped.now) limits.now }
+    requires none { NoPlanKeeps (times_in (task_in shaped.now)) limits.now }
+    ensures { IfOk result (IsSpared (task_in shaped.now) limits.now job) }
+{
+    let fewer = without(alloc, limits, job)?;
+    if limits[job as usize].is_none() {
+        return Ok(Spared::LeftOut(fewer));
+    }
+    match asker.ask_limits(alloc, shaped, &fewer)? {
+        Answer::Never => Ok(Spared::LeftOut(fewer)),
+        Answer::Open => Ok(Spared::Open),
+        Answer::Orders(order) => {
+            let budget = caps(alloc, &fewer)?;
+            match accepted_with(alloc, shaped, budget, order)? {
+                Some(_) => Ok(Spared::Needed),
+                None => Ok(Spared::Open),
+            }
+        }
+    }
+}
+
+/// The limits of the other jobs.
+fn without(
+    alloc: Global,
+    limits: &[Option<Moment>],
+    job: JobNo,
+) -> Result<Vec<Option<Moment>>, AllocError>
+    requires { job < length limits.now }
+    ensures { IfOk result (λ fewer. fewer.items ≡ slice_set limits.now job None) }
+{
+    let mut fewer = limits.to_vec(alloc)?;
+    fewer[job as usize] = None;
+    Ok(fewer)
+}
+
+/// The budgets that these limits make: no promise where there is no limit.
+fn caps(alloc: Global, limits: &[Option<Moment>]) -> Result<Vec<Moment>, AllocError>
+    ensures { IfOk result (λ budget. budget.items ≡ map cap limits.now) }
+{
+    let mut budget = Vec::new(alloc);
+    for limit in limits {
+        budget.push(cap_of(*limit))?;
+    }
+    Ok(budget)
+}
+
+fn cap_of(limit: Option<Moment>) -> Moment
+    ensures { result ≡ cap limit }
+{
+    match limit {
+        Some(limit) => limit,
+        None => MAX_MOMENT,
+    }
+}
+
+/// The jobs that have limits, in ascending order.
+fn limited_jobs(
+    alloc: Global,
+    shaped: &Shaped,
+    limits: &[Option<Moment>],
+) -> Result<Vec<JobNo>, AllocError>
+    requires { length limits.now ≡ jobs shaped.now }
+    ensures { IfOk result (λ found. AreLimited limits.now (jobs shaped.now) found.items) }
+{
+    let mut found = Vec::new(alloc);
+    for job in 0..shaped.job_count() {
+        add_limited(limits, job, &mut found)?;
+    }
+    Ok(found)
+}
+
+/// Adds the job, if it has a limit.
+fn add_limited(
+    limits: &[Option<Moment>],
+    job: JobNo,
+    found: &mut Vec<JobNo>,
+) -> Result<(), AllocError>
+    requires job { job < length limits.now }
+    requires known { AreLimited limits.now job found.old.items }
+    ensures { OnOk result (AreLimited limits.now (job + 1) found.new.items) }
+{
+    if limits[job as usize].is_none() {
+        return Ok(());
+    }
+    found.push(job)?;
+    Ok(())
+}

@@ -1,0 +1,94 @@
+//! Pairs of jobs whose promises exclude each other.
+
+ghost use Rattle.std.specs.Prelude.{◌≡◌, ◌<◌, OnOk};
+ghost use Rattle.shop_base.specs.Plan.{jobs};
+ghost use Rattle.plan_seek.specs.Tasks.{task_in};
+ghost use Rattle.plan_decide.specs.Promises.{IsPromised};
+ghost use Rattle.plan_decide.specs.Told.{AddsExclusions};
+
+use crate::alone::is_in_doubt;
+use crate::asked::Asked;
+use crate::asker::Asker;
+use crate::excluded::Excluded;
+use crate::watch::Watch;
+use arc_choice::Choose;
+use plan_limits::Answer;
+use shop_base::{JobNo, Shaped};
+use std::alloc::{AllocError, Global};
+
+/// The most promised jobs of which each two are asked for together.
+pub const PAIRED_JOBS: u32 = 64;
+
+/// Adds each pair of jobs that exclude each other, though neither is never in time by its bound.
+pub(crate) fn add_pairs<C: Choose, W: Watch>(
+    alloc: Global,
+    shaped: &Shaped,
+    asker: &mut Asker<'_, C, W>,
+    told: &mut Vec<Excluded>,
+) -> Result<(), AllocError>
+    ensures { OnOk result (AddsExclusions (task_in shaped.now) told.old.items told.new.items) }
+{
+    if doubtful_jobs(shaped) > PAIRED_JOBS {
+        return Ok(());
+    }
+    for one in 0..shaped.job_count() {
+        add_pairs_of(alloc, shaped, asker, one, told)?;
+    }
+    Ok(())
+}
+
+/// How many jobs have promises that their bounds leave possible.
+fn doubtful_jobs(shaped: &Shaped) -> u32 {
+    let mut count = 0;
+    for job in 0..shaped.job_count() {
+        if is_in_doubt(shaped, job) {
+            count += 1;
+        }
+    }
+    count
+}
+
+/// Adds each pair of the job with one of a greater number.
+fn add_pairs_of<C: Choose, W: Watch>(
+    alloc: Global,
+    shaped: &Shaped,
+    asker: &mut Asker<'_, C, W>,
+    one: JobNo,
+    told: &mut Vec<Excluded>,
+) -> Result<(), AllocError>
+    requires { one < jobs shaped.now }
+    ensures { OnOk result (AddsExclusions (task_in shaped.now) told.old.items told.new.items) }
+{
+    if !is_in_doubt(shaped, one) {
+        return Ok(());
+    }
+    let jobs = shaped.job_count();
+    for other in one + 1..jobs {
+        add_pair(alloc, shaped, asker, one, other, told)?;
+    }
+    Ok(())
+}
+
+/// Adds the pair, if the other is in doubt too and the two exclude each other.
+fn add_pair<C: Choose, W: Watch>(
+    alloc: Global,
+    shaped: &Shaped,
+    asker: &mut Asker<'_, C, W>,
+    one: JobNo,
+    other: JobNo,
+    told: &mut Vec<Excluded>,
+) -> Result<(), AllocError>
+    requires other { other < jobs shaped.now }
+    requires ascending { one < other }
+    requires promised { IsPromised (task_in shaped.now) one }
+    ensures { OnOk result (AddsExclusions (task_in shaped.now) told.old.items told.new.items) }
+{
+    if !is_in_doubt(shaped, other) {
+        return Ok(());
+    }
+    let Answer::Never = asker.ask(alloc, shaped, Asked::Both(one, other))? else {
+        return Ok(());
+    };
+    told.push(Excluded::Pair(one, other))?;
+    Ok(())
+}

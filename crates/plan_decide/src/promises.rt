@@ -1,0 +1,74 @@
+//! Whether all promises can be kept, and where they can't, which exclude each other.
+
+ghost use Rattle.std.specs.Prelude.{IfOk};
+ghost use Rattle.plan_limits.specs.Limits.{NoPlanKeeps};
+ghost use Rattle.plan_seek.specs.Tasks.{task_in};
+ghost use Rattle.plan_decide.specs.Promises.{times_in};
+ghost use Rattle.plan_decide.specs.Excluding.{AreExclusions, NoneIsAlone};
+ghost use Rattle.plan_decide.specs.LeftOut.{ArePromised};
+ghost use Rattle.plan_decide.specs.Told.{IsReply};
+
+use crate::alone::all_alone;
+use crate::asked::{Asked, limits_for};
+use crate::asker::Asker;
+use crate::excluded::Excluded;
+use crate::leaving_out::leave_out;
+use crate::pairs::add_pairs;
+use crate::watch::Watch;
+use arc_choice::Choose;
+use plan_limits::Answer;
+use shop_base::{JobNo, Moment, Shaped};
+use std::alloc::{AllocError, Global};
+
+/// What is found of all promises together.
+#[derive(Drop)]
+pub(crate) enum Reply {
+    /// Orders of a plan that may keep them.
+    Orders(Vec<Vec<JobNo>>),
+    /// The jobs that exclude each other.
+    Never(Vec<Excluded>),
+    /// Not decided.
+    Open,
+}
+
+/// Asks for all promises, if none is excluded by its job's bound; else for each pair of the others.
+pub(crate) fn ask_all<C: Choose, W: Watch>(
+    alloc: Global,
+    shaped: &Shaped,
+    asker: &mut Asker<'_, C, W>,
+) -> Result<Reply, AllocError>
+    ensures { IfOk result (IsReply (task_in shaped.now)) }
+{
+    let mut told = all_alone(alloc, shaped)?;
+    if !told.is_empty() {
+        add_pairs(alloc, shaped, asker, &mut told)?;
+        return Ok(Reply::Never(told));
+    }
+    let limits = limits_for(alloc, shaped, Asked::All)?;
+    match asker.ask_limits(alloc, shaped, &limits)? {
+        Answer::Orders(order) => Ok(Reply::Orders(order)),
+        Answer::Open => Ok(Reply::Open),
+        Answer::Never => Ok(Reply::Never(exclusions(alloc, shaped, asker, limits)?)),
+    }
+}
+
+/// The pairs that exclude each other where all promises do, or if there is none, those that are left of all.
+fn exclusions<C: Choose, W: Watch>(
+    alloc: Global,
+    shaped: &Shaped,
+    asker: &mut Asker<'_, C, W>,
+    limits: Vec<Option<Moment>>,
+) -> Result<Vec<Excluded>, AllocError>
+    requires promised { ArePromised (task_in shaped.now) limits.items }
+    requires none { NoPlanKeeps (times_in (task_in shaped.now)) limits.items }
+    requires none_alone { NoneIsAlone (task_in shaped.now) }
+    ensures { IfOk result (λ told. AreExclusions (task_in shaped.now) told.items) }
+{
+    let mut told = Vec::new(alloc);
+    add_pairs(alloc, shaped, asker, &mut told)?;
+    if !told.is_empty() {
+        return Ok(told);
+    }
+    told.push(leave_out(alloc, shaped, asker, limits)?)?;
+    Ok(told)
+}
