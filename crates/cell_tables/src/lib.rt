@@ -10,6 +10,7 @@
 mod due_moments;
 mod entry;
 mod moves;
+mod planned;
 mod places;
 mod plan_readers;
 mod standing;

@@ -13,8 +13,9 @@ use Rattle.command_answers.specs.Plans.{IsRightOfBoth}
 use Rattle.command_answers.specs.Statuses.{status_of}
 use Rattle.command_answers.specs.declared.rests.PlanTelling.{PlanTelling}
 use Rattle.command_answers.specs.Rests.{rest_status, IsRestTold}
-use Rattle.rest_times.specs.declared.rest_verdict.RestVerdict.{RestVerdict}
-use Rattle.rest_times.specs.declared.rest_verdict.RestVerdict.TheVariants.{Accepted as AcceptedRest, Cycle, Late}
+use Rattle.plan_verifier.specs.declared.verdict.Judged.{Judged}
+use Rattle.plan_verifier.specs.declared.verdict.Judged.TheVariants.{Accepted as AcceptedRest, Refused}
+use Rattle.plan_verifier.specs.declared.verdict.Why.TheVariants.{Cycle, Late}
 
 pub verdict_bound : (verdict : Verdict) → verdict_status verdict ≤ 1
 verdict_bound (Accepted verified) = omega arith
@@ -30,10 +31,10 @@ pub explanation_bound : (p : PlannedShop) (answer : Answer) → IsExplanation p 
 explanation_bound p answer (inl line) = omega (arith, line.line.refused)
 explanation_bound p answer (inr explained) = omega (arith, explained.explained.status, verdict_bound explained.verdict)
 
-rest_bound : (verdict : RestVerdict) → rest_status verdict ≤ 1
+rest_bound : (verdict : Judged) → rest_status verdict ≤ 1
 rest_bound (AcceptedRest times) = omega arith
-rest_bound (Cycle nodes) = omega arith
-rest_bound (Late job leaves chain times) = omega arith
+rest_bound (Refused (Cycle nodes)) = omega arith
+rest_bound (Refused (Late job leaves chain times)) = omega arith
 
 pub told_bound : (telling : PlanTelling) (p : PlannedShop) (c : Cell) (t : ℕ) (answer : Answer) → IsRestTold telling p c t answer → answer.status ≤ 1
 told_bound telling p c t answer told = omega (arith, told.status, rest_bound told.verdict)

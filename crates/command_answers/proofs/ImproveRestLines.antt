@@ -15,9 +15,10 @@ use Rattle.run_log.specs.declared.audit_fault.AuditFault.{AuditFault}
 use Rattle.run_log.specs.declared.audit_fault.AuditFault.TheVariants.{BadLine, NotExpected, Backwards, NotReady, Occupied, NotClean, OutOfOrder, WrongPlace, Memory as LogMemory}
 use Rattle.plan_seek.specs.declared.search.TheConstants.{MAX_ROUNDS}
 use Rattle.plan_improve.specs.Reordered.{IsReordered}
-use Rattle.rest_times.specs.declared.rest_verdict.RestVerdict.{RestVerdict}
-use Rattle.rest_times.specs.declared.rest_verdict.RestVerdict.TheVariants.{Accepted, Cycle, Late}
-use Rattle.rest_times.specs.RestVerdicts.{IsAcceptableAhead, IsRestAccepted}
+use Rattle.plan_verifier.specs.declared.verdict.Judged.{Judged}
+use Rattle.plan_verifier.specs.declared.verdict.Judged.TheVariants.{Accepted, Refused}
+use Rattle.plan_verifier.specs.declared.verdict.Why.TheVariants.{Cycle, Late}
+use Rattle.plan_verifier.specs.RestVerdicts.{IsAcceptableAhead, IsRestAccepted}
 use Rattle.rest_improve.specs.declared.improve_rest_fault.ImproveRestFault.{ImproveRestFault}
 use Rattle.rest_improve.specs.declared.improve_rest_fault.ImproveRestFault.TheVariants.{TooManyRounds, Log, Past, MomentTooLarge, Memory as WantOfMemory}
 use Rattle.rest_improve.specs.Costs.{IsCellOf}
@@ -105,18 +106,18 @@ module _ (made : RestAsked) (at : Option ℕ) (rounds : ℕ) (lines : List (List
       stays_accepted = accepted;
     }
 
-    pub judged_is : (verdict : RestVerdict) (outcome : Result Answer CommandFault) → ((c : Cell) → IsCellOf lines start c → IsVerdictOn best c (present_of at c.last) verdict)
+    pub judged_is : (verdict : Judged) (outcome : Result Answer CommandFault) → ((c : Cell) → IsCellOf lines start c → IsVerdictOn best c (present_of at c.last) verdict)
         → ((c : Cell) → IsCellOf lines start c → IsAcceptableAhead start c (present_of at c.last) → IsRestAccepted verdict)
         → IsJudgedAnswer best verdict outcome → IsRestAnswer made at rounds lines start outcome
     judged_is (Accepted times) outcome judged accepted text =
         let (c, here) = cell_there lines start begun in
         let v = judged c here in
         text_is c best 0 outcome few here (present c here) (best_is c here v.accepted.1.acyclic (λ _. v.accepted.1)) (inl (v.accepted.1, refl)) text
-    judged_is (Late job leaves chain times) outcome judged accepted text =
+    judged_is (Refused (Late job leaves chain times)) outcome judged accepted text =
         let (c, here) = cell_there lines start begun in
         let v = judged c here in
         text_is c best 1 outcome few here (present c here) (best_is c here v.refused.0.acyclic (λ is. v.exact.0 (accepted c here is))) (inr ((λ is. v.exact.1 is), refl)) text
-    judged_is (Cycle nodes) (Ok answer) judged accepted line =
+    judged_is (Refused (Cycle nodes)) (Ok answer) judged accepted line =
         let (c, here) = cell_there lines start begun in
         let cycle : IsCycle best nodes.items = (judged c here).refused in
         let none : HasNoBegin lines start = elim acyclic [ inl free ↦ absurd (free (cycle_has best nodes.items cycle)) | inr is ↦ is ] in
@@ -132,7 +133,7 @@ module _ (made : RestAsked) (at : Option ℕ) (rounds : ℕ) (lines : List (List
             line = line;
           })),
         )
-    judged_is (Cycle nodes) (Err fault) judged accepted line = subst (λ (x : CommandFault). IsRestAnswer made at rounds lines start (Err x)) (sym line) tt
+    judged_is (Refused (Cycle nodes)) (Err fault) judged accepted line = subst (λ (x : CommandFault). IsRestAnswer made at rounds lines start (Err x)) (sym line) tt
 
   -- a line, or that memory ran out
   line_is : (IsLine : Answer → Type 0) (outcome : Result Answer CommandFault) → ((answer : Answer) → IsLine answer → IsRestAnswer made at rounds lines start (Ok answer))

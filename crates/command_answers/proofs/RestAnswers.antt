@@ -6,8 +6,9 @@ use Rattle.shop_base.specs.Run.{ends_in}
 use Rattle.text_lines.specs.Lines.{ended_lines}
 use Rattle.cell_tables.specs.Events.{events_of}
 use Rattle.run_log.specs.Audits.{TellRun}
-use Rattle.rest_times.specs.declared.rest_verdict.RestVerdict.{RestVerdict}
-use Rattle.rest_times.specs.declared.rest_verdict.RestVerdict.TheVariants.{Accepted, Cycle, Late}
+use Rattle.plan_verifier.specs.declared.verdict.Judged.{Judged}
+use Rattle.plan_verifier.specs.declared.verdict.Judged.TheVariants.{Accepted, Refused}
+use Rattle.plan_verifier.specs.declared.verdict.Why.TheVariants.{Cycle, Late}
 use Rattle.rest_texts.specs.RestVerdicts.{HasRanks, IsRestJudged}
 use Rattle.command_answers.specs.declared.answer.Answer.{Answer}
 use Rattle.command_answers.specs.declared.rests.PlanTelling.{PlanTelling}
@@ -19,10 +20,10 @@ present_within most None last given low = low
 present_within most (Some n) last given low = given
 
 -- an accepted rest has its ranks
-pub has_ranks : (p : PlannedShop) (c : Cell) (t : ℕ) (verdict : RestVerdict) → IsRestJudged p c t verdict → HasRanks p verdict
+pub has_ranks : (p : PlannedShop) (c : Cell) (t : ℕ) (verdict : Judged) → IsRestJudged p c t verdict → HasRanks p verdict
 has_ranks p c t (Accepted times) judged = judged.accepted.0.ranks
-has_ranks p c t (Cycle nodes) judged = tt
-has_ranks p c t (Late job leaves chain times) judged = tt
+has_ranks p c t (Refused (Cycle nodes)) judged = tt
+has_ranks p c t (Refused (Late job leaves chain times)) judged = tt
 
 module _ {E : Type 0} (telling : PlanTelling) (at : Option ℕ) (p : PlannedShop) (c : Cell) (answered : Result Answer E) where
   -- a moment that is past
@@ -50,10 +51,10 @@ of_run telling at p log run q c answer plan cell told =
 
 -- ---- statuses
 
-low_verdict : (verdict : RestVerdict) (status : ℕ) → status ≡ rest_status verdict → status ≤ 1
+low_verdict : (verdict : Judged) (status : ℕ) → status ≡ rest_status verdict → status ≤ 1
 low_verdict (Accepted times) status is = omega (arith, is)
-low_verdict (Cycle nodes) status is = omega (arith, is)
-low_verdict (Late job leaves chain times) status is = omega (arith, is)
+low_verdict (Refused (Cycle nodes)) status is = omega (arith, is)
+low_verdict (Refused (Late job leaves chain times)) status is = omega (arith, is)
 
 low_cell : (telling : PlanTelling) (at : Option ℕ) (p : PlannedShop) (c : Cell) (answer : Answer) → IsCellTold telling at p c answer → answer.status ≤ 1
 low_cell telling at p c answer (inl past) = (let one = past.1.1 in omega (arith, one))

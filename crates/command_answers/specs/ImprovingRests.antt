@@ -15,9 +15,10 @@ use Rattle.plan_seek.specs.Orders.{Proposal}
 use Rattle.plan_seek.specs.declared.search.TheConstants.{MAX_ROUNDS}
 use Rattle.plan_improve.specs.Reordered.{IsReordered}
 use Rattle.plan_improve.specs.Runs.{Asked}
-use Rattle.rest_times.specs.declared.rest_verdict.RestVerdict.{RestVerdict}
-use Rattle.rest_times.specs.declared.rest_verdict.RestVerdict.TheVariants.{Accepted, Cycle, Late}
-use Rattle.rest_times.specs.RestVerdicts.{IsAcceptableAhead}
+use Rattle.plan_verifier.specs.declared.verdict.Judged.{Judged}
+use Rattle.plan_verifier.specs.declared.verdict.Judged.TheVariants.{Accepted, Refused}
+use Rattle.plan_verifier.specs.declared.verdict.Why.TheVariants.{Cycle, Late}
+use Rattle.plan_verifier.specs.RestVerdicts.{IsAcceptableAhead}
 use Rattle.rest_improve.specs.declared.improve_rest_fault.ImproveRestFault.{ImproveRestFault}
 use Rattle.rest_improve.specs.declared.improve_rest_fault.ImproveRestFault.TheVariants.{TooManyRounds, Log, Past, MomentTooLarge, Memory as WantOfMemory}
 use Rattle.rest_improve.specs.Costs.{IsCellOf}
@@ -107,10 +108,10 @@ IsRestAnswer made at rounds lines start (Err (Plan fault)) = (fault ≡ NotReadB
 IsRestAnswer made at rounds lines start (Err other) = ⊥
 
 -- what is answered of a plan with the verdict on its rest: its text, or the line of a cycle
-abbrev pub IsJudgedAnswer : PlannedShop → RestVerdict → Result Answer CommandFault → Type 0
+abbrev pub IsJudgedAnswer : PlannedShop → Judged → Result Answer CommandFault → Type 0
 IsJudgedAnswer best (Accepted times) outcome = IsDocumentAnswer best.plan 0 outcome
-IsJudgedAnswer best (Cycle nodes) outcome = IsOrMemory (IsCycleLine nodes.items) outcome
-IsJudgedAnswer best (Late job leaves chain times) outcome = IsDocumentAnswer best.plan 1 outcome
+IsJudgedAnswer best (Refused (Cycle nodes)) outcome = IsOrMemory (IsCycleLine nodes.items) outcome
+IsJudgedAnswer best (Refused (Late job leaves chain times)) outcome = IsDocumentAnswer best.plan 1 outcome
 
 -- the fault of a command that the search's is, if memory ran out
 abbrev pub rest_command_fault : ImproveRestFault → Option CommandFault

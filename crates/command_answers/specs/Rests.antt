@@ -6,8 +6,9 @@ use Rattle.shop_base.specs.Run.{ends_in}
 use Rattle.text_lines.specs.Lines.{ended_lines}
 use Rattle.cell_tables.specs.Events.{events_of}
 use Rattle.run_log.specs.Audits.{TellRun}
-use Rattle.rest_times.specs.declared.rest_verdict.RestVerdict.{RestVerdict}
-use Rattle.rest_times.specs.declared.rest_verdict.RestVerdict.TheVariants.{Accepted, Cycle, Late}
+use Rattle.plan_verifier.specs.declared.verdict.Judged.{Judged}
+use Rattle.plan_verifier.specs.declared.verdict.Judged.TheVariants.{Accepted, Refused}
+use Rattle.plan_verifier.specs.declared.verdict.Why.TheVariants.{Cycle, Late}
 use Rattle.rest_texts.specs.RestVerdicts.{IsRestJudged}
 use Rattle.rest_texts.specs.RestFirstLines.{IsRestFirstLine}
 use Rattle.rest_texts.specs.RestExplained.{IsRestExplained}
@@ -18,20 +19,20 @@ use Rattle.command_answers.specs.declared.rests.PlanTelling.TheVariants.{Verdict
 use Rattle.command_answers.specs.LogLines.{IsLogRefused}
 
 -- the status of a verdict on the rest
-abbrev pub rest_status : RestVerdict → ℕ
+abbrev pub rest_status : Judged → ℕ
 rest_status (Accepted times) = 0
-rest_status (Cycle nodes) = 1
-rest_status (Late job leaves chain times) = 1
+rest_status (Refused (Cycle nodes)) = 1
+rest_status (Refused (Late job leaves chain times)) = 1
 
 -- the text of a verdict on the rest: its first line, its explanation or its schedule
-abbrev pub IsTextOf : PlanTelling → PlannedShop → Cell → ℕ → RestVerdict → List ℕ → Type 0
+abbrev pub IsTextOf : PlanTelling → PlannedShop → Cell → ℕ → Judged → List ℕ → Type 0
 IsTextOf Verdict p c t verdict text = IsRestFirstLine p c t verdict text
 IsTextOf Reasons p c t verdict text = IsRestExplained p c t verdict text
 IsTextOf Moments p c t verdict text = IsRestScheduled p c t verdict text
 
 -- what is told of the rest from a cell c and a present moment t on: the text of the verdict on it, with its status
 pub record IsRestTold (telling : PlanTelling) (p : PlannedShop) (c : Cell) (t : ℕ) (answer : Answer) : Type 0 where
-  pub verdict : RestVerdict
+  pub verdict : Judged
   pub judged : IsRestJudged p c t verdict
   pub text : IsTextOf telling p c t verdict answer.text.items
   pub status : answer.status ≡ rest_status verdict

@@ -19,7 +19,7 @@ use crate::texts::Texts;
 use plan_explain::push_cycle_line;
 use plan_improve::Watch;
 use rest_improve::{ImproveRestFault, Improved, RestImprover, improve_after};
-use rest_times::RestVerdict;
+use plan_verifier::{Judged, Why};
 use shop_base::{Moment, Node, Shaped};
 use std::alloc::{AllocError, Global};
 
@@ -93,14 +93,14 @@ fn judged_answer(alloc: Global, found: &Improved) -> Answered
     ensures { IsJudgedAnswer found.now.shaped found.now.verdict result }
 {
     match &found.verdict {
-        RestVerdict::Accepted(_) => document_answer(alloc, found.shaped.plan(), GOOD),
-        RestVerdict::Cycle(nodes) => Ok(cycle_answer(alloc, nodes)?),
-        RestVerdict::Late {
+        Judged::Accepted(_) => document_answer(alloc, found.shaped.plan(), GOOD),
+        Judged::Refused(Why::Cycle(nodes)) => Ok(cycle_answer(alloc, nodes)?),
+        Judged::Refused(Why::Late {
             job: _,
             leaves: _,
             chain: _,
             times: _,
-        } => document_answer(alloc, found.shaped.plan(), REFUSED),
+        }) => document_answer(alloc, found.shaped.plan(), REFUSED),
     }
 }
 

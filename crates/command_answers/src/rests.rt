@@ -16,7 +16,7 @@ use crate::shapes::not_shaped_answer;
 use crate::texts::Texts;
 use cell_tables::WorkCell;
 use rest_texts::{explain_after, first_line_after, schedule_after};
-use rest_times::{RestVerdict, verify_after};
+use plan_verifier::{Judged, Why, verify_after};
 use run_log::run_of_log;
 use shop_base::{Moment, Shaped};
 use std::alloc::{AllocError, Global};
@@ -133,7 +133,7 @@ fn verdict_text(
     alloc: Global,
     cell: &WorkCell<Shaped>,
     present: Moment,
-    verdict: &RestVerdict,
+    verdict: &Judged,
     telling: PlanTelling,
 ) -> Result<Vec<u8>, AllocError>
     requires present { IsNextMoment cell.now.cell present }
@@ -148,17 +148,17 @@ fn verdict_text(
 }
 
 /// The status of a verdict on the rest.
-fn rest_status(verdict: &RestVerdict) -> u8
+fn rest_status(verdict: &Judged) -> u8
     ensures { result ≡ rest_status verdict.now }
 {
     match verdict {
-        RestVerdict::Accepted(_) => GOOD,
-        RestVerdict::Cycle(_) => REFUSED,
-        RestVerdict::Late {
+        Judged::Accepted(_) => GOOD,
+        Judged::Refused(Why::Cycle(_)) => REFUSED,
+        Judged::Refused(Why::Late {
             job: _,
             leaves: _,
             chain: _,
             times: _,
-        } => REFUSED,
+        }) => REFUSED,
     }
 }

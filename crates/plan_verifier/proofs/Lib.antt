@@ -1,2 +1,13 @@
 pub mod Reasons
 pub mod Latest
+pub mod Answers
+pub mod ByBounds
+pub mod Tables
+pub mod Rests
+pub mod PathsAhead
+pub mod Acceptable
+pub mod GoingOn
+pub mod Verdicts
+pub mod LastLeavings
+pub mod Holding
+pub mod StartLaw

@@ -1,7 +1,5 @@
 -- The leavings of an ordered graph: their greatest lengths, and what these say of every exact run.
-use Rattle.std.proofs.Common.{◌≡◌, ◌↔◌, ℕ, ◌+◌, ◌<◌, ◌≤◌, List, length, max, Result, Ok, Err, IfOk, inl, inr, arith, refl, sym, subst, ◌∙◌}
-use Rattle.std.proofs.Math.Nat.{le-max_left, le-max_right, max-eq_left, max-eq_right}
-use Rattle.std.proofs.lemmas.Bool.{cases_lt, cases_order}
+use Rattle.std.proofs.Common.{ℕ, ◌+◌, ◌<◌, ◌≤◌, List, length, inl, inr, arith, subst}
 use Rattle.std.proofs.lemmas.List.{length_push}
 use Rattle.shop_base.specs.declared.node.Node.{Node}
 use Rattle.shop_base.specs.Plan.{PlannedShop, jobs, budget, IsWellShaped}
@@ -14,13 +12,16 @@ use Rattle.alt_graph.specs.Evidence.{IsChain}
 use Rattle.shop_base.specs.ExactLaw.{IsNeverGoneBefore}
 use Rattle.shop_base.specs.CycleLaw.{IsNeverDone, AreNeverMade}
 use Rattle.alt_graph.specs.Times.{NodeTimes, rank_of, earliest_of, AreOrdered}
-use Rattle.plan_verifier.specs.Accepted.{VerifiedPlan, kept_at, HasNoCycle, IsWithinBudget, IsGreatest, IsAcceptable, IsFirstPast, IsVerified, IsMakespan, IsNeverGoneAfter, IsGoneJustAt, rank_in}
+use Rattle.plan_verifier.specs.Accepted.{VerifiedPlan, kept_at, HasNoCycle, IsWithinBudget, IsGreatest, IsAcceptable, IsVerified, IsMakespan, IsNeverGoneAfter, IsGoneJustAt, rank_in}
+use Rattle.alt_graph.specs.Bounds.{whole}
 use Rattle.alt_graph.proofs.CycleParts.{cycle_simple, cycle_stops}
-use Rattle.plan_verifier.specs.declared.verdict.Verdict.{Verdict}
-use Rattle.plan_verifier.specs.declared.verdict.Verdict.TheVariants.{Accepted, Refused}
+use Rattle.alt_graph.proofs.WholePlans.{whole_ahead}
+use Rattle.plan_verifier.specs.FromBounds.{IsFirstPastFrom}
+use Rattle.plan_verifier.specs.Leavings.{IsMakespanAfter}
+use Rattle.plan_verifier.specs.declared.verdict.Verdict.TheVariants.{Refused}
 use Rattle.plan_verifier.specs.declared.verdict.Why.{Why}
 use Rattle.plan_verifier.specs.declared.verdict.Why.TheVariants.{Cycle, Late}
-use Rattle.plan_verifier.specs.Verdicts.{IsFirstLate, IsReason, SaysAccepted, OnAccepted, OnRefused, OnCycle, OnLate, IsNeverInBudget}
+use Rattle.plan_verifier.specs.Verdicts.{IsFirstLate, IsReason, OnCycle, OnLate, IsNeverInBudget}
 
 -- a path has no more nodes than its last one's rank and one
 pub path_few : (p : PlannedShop) (rank : Node → ℕ) (nodes : List Node) (v : Node) (n : ℕ) → RanksRise p rank → Path p nodes v n → length nodes ≤ rank v + 1
@@ -58,12 +59,12 @@ module _ (p : PlannedShop) (t : NodeTimes) (ordered : AreOrdered p t) where
   }
 
   -- the first job whose kept leaving is past its budget is late
-  pub first_late : (j : ℕ) (nodes : List Node) → IsFirstPast p (earliest_of t) j → Path p nodes (leaving p j) (earliest_of t (leaving p j))
+  pub first_late : (j : ℕ) (nodes : List Node) → IsFirstPastFrom p (whole p) (earliest_of t) j → Path p nodes (leaving p j) (earliest_of t (leaving p j))
       → IsFirstLate p j (earliest_of t (leaving p j)) nodes
   first_late j nodes first path = record {
     acyclic = acyclic;
     job = first.inside;
-    before = λ i lt. within_budget i (first.before i lt);
+    before = λ i lt. within_budget i (first.before i lt (whole_ahead p ordered.times.schedule.shaped (leaving p i)));
     greatest = leaving_greatest j first.inside;
     past = first.past;
     path = path;
@@ -82,71 +83,26 @@ never_done_just p never es run exact = let found = never es run in (found.0, fou
 pub late_just : (p : PlannedShop) (j n : ℕ) → j < jobs p → budget p j < n → IsNeverGoneBefore p j n → IsNeverInBudget p
 late_just p j n inside past never es run exact = (j, inside, λ out. omega (arith, never es run exact out.gone, out.by))
 
--- what a verdict says of the plan that it is on
-abbrev pub IsReasoned : PlannedShop → Verdict → Type 0
-IsReasoned p = OnRefused (λ back why. (back ≡ p) × IsReason p why)
+pub refused_stops : (p : PlannedShop) (why : Why) → IsWellShaped p → IsReason p why → OnCycle (λ nodes. AreNeverMade p nodes × IsNeverDone p) (Refused p why)
+refused_stops p (Cycle nodes) shaped cycle = cycle_stops p nodes.items shaped cycle
+refused_stops p (Late job leaves chain times) shaped late = tt
 
-pub verdict_stops : (p : PlannedShop) (verdict : Verdict) → IsWellShaped p → IsReasoned p verdict → OnCycle (λ nodes. AreNeverMade p nodes × IsNeverDone p) verdict
-verdict_stops p (Accepted verified) shaped reasoned = tt
-verdict_stops p (Refused back (Cycle nodes)) shaped (same, cycle) = cycle_stops p nodes.items shaped cycle
-verdict_stops p (Refused back (Late job leaves chain times)) shaped (same, late) = tt
+pub refused_no_faster : (p : PlannedShop) (why : Why) → IsWellShaped p → IsReason p why → OnLate (λ job leaves. IsNeverGoneBefore p job leaves) (Refused p why)
+refused_no_faster p (Cycle nodes) shaped cycle = tt
+refused_no_faster p (Late job leaves chain times) shaped late = path_never_before p job leaves chain.items shaped late.0.path
 
-pub verdict_no_faster : (p : PlannedShop) (verdict : Verdict) → IsWellShaped p → IsReasoned p verdict → OnLate (λ job leaves. IsNeverGoneBefore p job leaves) verdict
-verdict_no_faster p (Accepted verified) shaped reasoned = tt
-verdict_no_faster p (Refused back (Cycle nodes)) shaped (same, cycle) = tt
-verdict_no_faster p (Refused back (Late job leaves chain times)) shaped (same, late) = path_never_before p job leaves chain.items shaped late.0.path
-
-pub verdict_just : (p : PlannedShop) (verdict : Verdict) → IsWellShaped p → IsReasoned p verdict → OnRefused (λ back why. IsNeverInBudget p) verdict
-verdict_just p (Accepted verified) shaped reasoned = tt
-verdict_just p (Refused back (Cycle nodes)) shaped (same, cycle) = never_done_just p (cycle_stops p nodes.items shaped cycle).1
-verdict_just p (Refused back (Late job leaves chain times)) shaped (same, late) = late_just p job leaves late.0.job late.0.past (path_never_before p job leaves chain.items shaped late.0.path)
+pub refused_just : (p : PlannedShop) (why : Why) → IsWellShaped p → IsReason p why → IsNeverInBudget p
+refused_just p (Cycle nodes) shaped cycle = never_done_just p (cycle_stops p nodes.items shaped cycle).1
+refused_just p (Late job leaves chain times) shaped late = late_just p job leaves late.0.job late.0.past (path_never_before p job leaves chain.items shaped late.0.path)
 
 -- a reason for a refusal leaves no plan to be accepted
 pub reason_refutes : (p : PlannedShop) (why : Why) → IsReason p why → IsAcceptable p → ⊥
 reason_refutes p (Cycle nodes) is acceptable = acceptable.acyclic nodes.items (cycle_simple p nodes.items is)
 reason_refutes p (Late job leaves chain times) is acceptable = (let within = acceptable.budgets job is.0.job _ leaves is.0.path in omega (arith, within, is.0.past))
 
--- a verdict accepts just the plans that are to be accepted
-pub verdict_exact : (p : PlannedShop) (verdict : Verdict) → OnAccepted (λ verified. (verified.planned ≡ p) × IsAcceptable p) verdict → IsReasoned p verdict → SaysAccepted verdict ↔ IsAcceptable p
-verdict_exact p (Accepted verified) accepted reasoned = (λ says. accepted.1, λ is. tt)
-verdict_exact p (Refused back why) accepted reasoned = (λ says. absurd says, λ is. absurd (reason_refutes p why reasoned.1 is))
-
--- the latest of the first n jobs' leavings, 0 where there is none
-pub record IsLatestBelow (v : VerifiedPlan) (n latest : ℕ) : Type 0 where
-  pub none_later : (j : ℕ) → j < n → kept_at v (leaving v.planned j) ≤ latest
-  pub reached : 0 < n → (j : ℕ) × (j < n) × (kept_at v (leaving v.planned j) ≡ latest)
-  pub none : n ≡ 0 → latest ≡ 0
-
-pub latest_none : (v : VerifiedPlan) → IsLatestBelow v 0 0
-latest_none v = record { none_later = λ j lt. absurd (omega arith); reached = λ some. absurd (omega arith); none = λ _. refl }
-
-pub latest_more : (v : VerifiedPlan) (n m k : ℕ) → IsLatestBelow v n m → k ≡ kept_at v (leaving v.planned n) → IsLatestBelow v (n + 1) (max m k)
-latest_more v n m k below is = record {
-  none_later = λ j lt. elim (cases_order j n) [
-    | inl same ↦ rw same (omega (arith, is, le-max_right m k))
-    | inr other ↦ (let lower : j < n = elim other [ inl less ↦ omega arith | inr more ↦ omega arith ] in omega (arith, below.none_later j lower, le-max_left m k))
-  ];
-  reached = λ _. elim (cases_lt m k) [
-    | inl less ↦ (n, omega arith, sym is ∙ sym (let le : m ≤ k = omega arith in max-eq_right le))
-    | inr more ↦ earlier more
-  ];
-  none = λ empty. absurd (omega arith);
-}
-  where
-    earlier : k ≤ m → (j : ℕ) × (j < n + 1) × (kept_at v (leaving v.planned j) ≡ max m k)
-    earlier more = elim (cases_lt 0 n) [
-      | inl some ↦ (let found = below.reached some in (found.0, omega (arith, found.1), found.2 ∙ sym (max-eq_left more)))
-      | inr empty ↦ (n, omega arith, omega (arith, is, below.none (omega arith), max-eq_left more))
-    ]
-
 -- a plan has one makespan
 pub makespan_le : (p : PlannedShop) (m n : ℕ) → IsMakespan p m → IsMakespan p n → m ≤ n
 makespan_le p m n one other = other.bound one.reached.0 one.reached.2 m one.reached.1 one.reached.3
-
--- what holds of each value of an answer
-pub ok_each : {A E : Type 0} {P Q : A → Type 0} → (r : Result A E) → ((x : A) → P x → Q x) → IfOk r P → IfOk r Q
-ok_each (Ok x) step holds = step x holds
-ok_each (Err e) step holds = tt
 
 -- the earliest leaving of a job of an accepted plan
 pub verified_greatest : (v : VerifiedPlan) → IsVerified v → (j : ℕ) → j < jobs v.planned → IsGreatest v.planned (leaving v.planned j) (kept_at v (leaving v.planned j))
@@ -173,15 +129,10 @@ verified_just_in_time v sound j inside rs es end run exact gone =
     just_in_time-holds v.planned (rank_in v) (kept_at v) rs es end sound.schedule run exact j path.0 path.1 gone
 
 -- the latest of all leavings is the makespan
-pub latest_makespan : (v : VerifiedPlan) (n : ℕ) → IsVerified v → 0 < jobs v.planned → IsLatestBelow v (jobs v.planned) n → IsMakespan v.planned n
-latest_makespan v n sound some below = record {
-  bound = λ j nodes k inside path. omega (arith, (verified_greatest v sound j inside).longest nodes k path, below.none_later j inside);
-  reached = (let (j, inside, is) = below.reached some in
+pub latest_makespan : (v : VerifiedPlan) (n : ℕ) → IsVerified v → IsMakespanAfter v.planned (kept_at v) n → IsMakespan v.planned n
+latest_makespan v n sound last = record {
+  bound = λ j nodes k inside path. omega (arith, (verified_greatest v sound j inside).longest nodes k path, last.bound j inside);
+  reached = (let (j, inside, is) = last.reached in
       let path = (verified_greatest v sound j inside).reached in
       (j, inside, path.0, subst (Path v.planned path.0 (leaving v.planned j)) is path.1));
 }
-
--- where a property holds of an answer, so does what follows from both
-pub ok_both : {A E : Type 0} {P Q R : A → Type 0} → (r : Result A E) → ((x : A) → P x → Q x → R x) → IfOk r P → IfOk r Q → IfOk r R
-ok_both (Ok x) step one other = step x one other
-ok_both (Err e) step one other = tt

@@ -69,9 +69,3 @@ pub record IsVerified (v : VerifiedPlan) : Type 0 where
   pub schedule : IsSchedule v.planned (rank_in v) (kept_at v)
   pub budgets : MeetBudgets v.planned (kept_at v)
   pub ordered : AreOrdered v.planned v.times
-
--- the first job whose kept leaving is past its budget
-pub record IsFirstPast (p : PlannedShop) (kept : Node → ℕ) (job : ℕ) : Type 0 where
-  pub inside : job < jobs p
-  pub past : budget p job < kept (leaving p job)
-  pub before : (i : ℕ) → i < job → kept (leaving p i) ≤ budget p i

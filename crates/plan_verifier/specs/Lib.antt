@@ -2,3 +2,13 @@
 pub mod Accepted
 pub mod Verdicts
 pub mod ByDeadlines
+pub mod Held
+pub mod Rest
+pub mod RestVerdicts
+pub mod FromThere
+pub mod Leavings
+pub mod StartLaw
+-- Of proofs and private contracts alone.
+pub mod FromBounds
+pub mod CellBounds
+pub mod PathBounds

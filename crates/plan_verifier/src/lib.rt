@@ -1,14 +1,28 @@
-//! Verdicts on plans: a plan is accepted where its graph has no cycle and each job's earliest leaving is within
-//! its budget, and else it is refused, with a cycle or a chain as evidence.
+//! Verdicts on plans, and on the rest of a run: a plan is accepted where its graph has no cycle and each job's earliest
+//! leaving is within its budget, and else it is refused, with a cycle or a chain as evidence.
+//!
+//! The rest of a run is what is ahead of a cell from a present moment on: each job's next node isn't before the present
+//! moment, and what is held up not before what holds it up is due. A whole plan is that of a run that hasn't begun.
 #![tactic(auto)]
 
+mod cell_bounds;
+mod chain_check;
+mod deadlines;
+mod judging;
+pub mod laws;
 mod leavings;
+mod node_bound;
 mod planned;
+mod solving;
 mod verdict;
 mod verified;
 mod verifying;
 
-pub use leavings::{leave_time, leaving_of};
-pub use verdict::{Verdict, Why};
-pub use verified::{Verified, later};
-pub use verifying::verify;
+pub use chain_check::check_chain_after;
+pub use deadlines::deadlines_after;
+pub use leavings::{last_to_leave, later, leave_time, leaving_of, makespan};
+pub use node_bound::{Hold, NodeBound, bound_after};
+pub use solving::solve_after;
+pub use verdict::{Judged, Verdict, Why};
+pub use verified::Verified;
+pub use verifying::{verify, verify_after};

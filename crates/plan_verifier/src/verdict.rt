@@ -13,16 +13,27 @@ pub enum Verdict {
     Refused(Shaped, Why),
 }
 
+/// What is to be said of what is ahead of a cell, by a plan that stays where it is: of the rest of a run, from a present
+/// moment on, or of a whole plan.
+#[derive(Debug, Drop)]
+pub enum Judged {
+    /// No arcs lead in a circle, and no path ahead to the leaving of a job that isn't gone is longer than its budget: the
+    /// ranks of all nodes, and the earliest moments of those ahead.
+    Accepted(Times),
+    /// There is such a circle, which lies ahead, or such a path.
+    Refused(Why),
+}
+
 /// The evidence for a refusal.
 #[derive(Debug, Drop)]
 pub enum Why {
     /// A cycle of the graph, from its least node on, an arc from each node to the next and from the last to
     /// the first: each of these moves waits for the one before it, so none of them is ever made.
     Cycle(Vec<Node>),
-    /// The first job that can't be out by its budget where each activity takes its nominal time, the earliest
+    /// The first job that can't be out by its budget where each activity takes its full time, the earliest
     /// moment at which it can then leave, and a path of that length to its leaving: each move of it waits for
-    /// the one before it. Beside them the ranks and the earliest moments of all nodes, from which the leaving
-    /// of every job can be read.
+    /// the one before it. Of the rest of a run the job isn't gone, and the path lies ahead. Beside them the ranks
+    /// and the earliest moments of all nodes, from which the leaving of every job can be read.
     Late {
         job: JobNo,
         leaves: Moment,

@@ -1,16 +1,14 @@
-ghost use Rattle.std.specs.Prelude.{◌≡◌, ◌<◌, ◌≤◌, ◌↔◌, max, Ok, None, IfOk, IsSome, MatchOption, IfSome};
+ghost use Rattle.std.specs.Prelude.{◌≡◌, ◌<◌, ◌≤◌, ◌↔◌, Ok, None, IfOk, IsSome, MatchOption, IfSome};
 ghost use Rattle.shop_base.specs.Plan.{jobs};
 ghost use Rattle.shop_base.specs.declared.node.Node.{Node};
-ghost use Rattle.shop_base.specs.Cell.{start};
 ghost use Rattle.shop_base.specs.Graph.{leaving, IsNode};
-ghost use Rattle.shop_base.specs.Deadlines.{AreDeadlines};
 ghost use Rattle.shop_base.specs.ExactLaw.{IsNeverGoneBefore};
 ghost use Rattle.alt_graph.specs.Times.{AreOrdered};
 ghost use Rattle.plan_verifier.specs.Accepted.{IsVerified, IsGreatest, IsLongestTo, IsMakespan, IsNeverGoneAfter, IsGoneJustAt, IsPathToLeaving, kept_at};
 ghost use Rattle.alt_graph.specs.Latest.{HasMoment, moment_of};
 ghost use Rattle.plan_verifier.specs.ByDeadlines.{FitBudgets, AreEnough, AreEnoughAtTheEnd, AreTheLatest};
 
-use crate::leavings::{leave_time, leaving_of};
+use crate::leavings::{leave_time, leaving_of, makespan};
 use alt_graph::{Deadlines, Times, latest_moments};
 use shop_base::{JobNo, Moment, Node, Shaped};
 use std::alloc::{AllocError, Global};
@@ -69,13 +67,12 @@ impl Verified {
         self.times.earliest(node)
     }
 
-    /// The deadlines of all nodes: the latest moments for their moves that leave each move after them its nominal and
-    /// cleaning times, and each job its budget. As long as every activity ends by the deadline of the move that it holds
-    /// up, every job is out by its budget, however long it took. Each call finds them anew, in time and memory linear in
-    /// the nodes and machines; it fails only when out of memory.
+    /// The deadlines of all nodes: the latest moments at which their moves can be made so that each job is out by its
+    /// budget. As long as every activity ends by the deadline of the move that it holds up, every job is, however long
+    /// it took. Each call finds them anew, in time and memory linear in the nodes and machines; it fails only when out
+    /// of memory.
     pub fn deadlines(&self, alloc: Global) -> Result<Deadlines, AllocError>
         ensures nodes { IfOk result (λ found. (v : Node) → IsNode self.now.planned v ↔ HasMoment found v) }
-        ensures deadlines { let p = self.now.planned in IfOk result (λ found. AreDeadlines p (start p) (moment_of found)) }
         ensures fit { IfOk result (λ found. FitBudgets self.now.planned (moment_of found)) }
         ensures latest { IfOk result (λ found. AreTheLatest self.now.planned (moment_of found)) }
         ensures not_before { IfOk result (λ found. (v : Node) → IsNode self.now.planned v → kept_at self.now v ≤ moment_of found v) }
@@ -89,11 +86,7 @@ impl Verified {
     pub fn makespan(&self) -> Moment
         ensures { IsMakespan self.now.planned result }
     {
-        let mut makespan = 0;
-        for job in 0..self.shaped.shop().jobs() {
-            makespan = later(makespan, leave_time(&self.shaped, &self.times, job));
-        }
-        makespan
+        makespan(&self.shaped, &self.times)
     }
 
     /// A path of the greatest length to the job's leaving, from some job's first place on: each move of it
@@ -145,11 +138,4 @@ impl Verified {
         let Verified { shaped, times: _ } = self;
         shaped
     }
-}
-
-/// The later of two moments.
-pub fn later(one: Moment, other: Moment) -> Moment
-    ensures { result ≡ max one other }
-{
-    if one < other { other } else { one }
 }

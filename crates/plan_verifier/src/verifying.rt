@@ -1,18 +1,28 @@
-//! The verdict on a plan: by its cycle first, and by its first late job second.
+//! The verdict on a plan, and on the rest of a run: by its cycle first, and by its first late job second.
 
-ghost use Rattle.std.specs.Prelude.{◌≡◌, ◌↔◌, IfOk, IfErr};
-ghost use Rattle.alt_graph.specs.Times.{AreOrdered, earliest_of};
-ghost use Rattle.alt_graph.specs.Solved.{OnOrdered, OnCyclic};
+ghost use Rattle.std.specs.Prelude.{◌≡◌, ℕ, ◌<◌, ◌≤◌, ◌↔◌, IfOk, IfErr};
+ghost use Rattle.shop_base.specs.declared.limits.TheConstants.{MAX_MOMENT};
+ghost use Rattle.shop_base.specs.Plan.{jobs, IsWellShaped};
+ghost use Rattle.shop_base.specs.Cell.{IsGone};
+ghost use Rattle.shop_base.specs.Report.{IsNextMoment};
+ghost use Rattle.shop_base.specs.Graph.{leaving};
 ghost use Rattle.shop_base.specs.ExactLaw.{IsNeverGoneBefore};
 ghost use Rattle.shop_base.specs.CycleLaw.{IsNeverDone, AreNeverMade};
-ghost use Rattle.plan_verifier.specs.Accepted.{IsAcceptable, IsFirstPast};
+ghost use Rattle.alt_graph.specs.Times.{earliest_of};
+ghost use Rattle.plan_verifier.specs.Accepted.{IsAcceptable};
 ghost use Rattle.plan_verifier.specs.Verdicts.{SaysAccepted, OnAccepted, OnRefused, OnCycle, OnLate, IsReason, IsNeverInBudget};
+ghost use Rattle.plan_verifier.specs.FromBounds.{IsJudgedWhole};
+ghost use Rattle.plan_verifier.specs.FromThere.{IsNeverStuckFrom, IsInTimeFrom, IsNeverGoneAfterFrom, IsNeverGoneBeforeFrom, IsJustInTimeFrom};
+ghost use Rattle.plan_verifier.specs.FromThere.{IsNeverInBudgetFrom, IsNeverDoneFrom};
+ghost use Rattle.plan_verifier.specs.RestVerdicts.{IsAcceptableAhead, IsAcceptedAhead, IsReasonAhead, IsRestAccepted, OnRestRefused, OnRestCycle, OnRestTimes};
 
-use crate::leavings::{first_late, leave_time, leaving_of};
-use crate::verdict::{Verdict, Why};
+use crate::cell_bounds::CellBounds;
+use crate::judging::judge;
+use crate::verdict::{Judged, Verdict};
 use crate::verified::Verified;
-use alt_graph::{Solved, Times, solve};
-use shop_base::{JobNo, Shaped};
+use alt_graph::{Whole, solve_from};
+use cell_tables::WorkCell;
+use shop_base::{Moment, Planned, Shaped};
 use std::alloc::{AllocError, Global};
 
 /// Judges a plan: looks first for a cycle, then for the first late job. When out of memory, it gives the plan back. A
@@ -27,60 +37,62 @@ pub fn verify(alloc: Global, shaped: Shaped) -> Result<Verdict, (AllocError, Sha
     ensures just { IfOk result (OnRefused (λ back why. IsNeverInBudget shaped)) }
     ensures handed_back { IfErr result (λ refused. refused.1 ≡ shaped) }
 {
-    match solve(alloc, &shaped) {
-        Ok(solved) => judge(alloc, shaped, solved),
+    match judge_whole(alloc, &shaped) {
+        Ok(Judged::Accepted(times)) => Ok(Verdict::Accepted(Verified::of(shaped, times))),
+        Ok(Judged::Refused(why)) => Ok(Verdict::Refused(shaped, why)),
         Err(error) => Err((error, shaped)),
     }
 }
 
-/// Judges a plan whose graph is solved.
-fn judge(alloc: Global, shaped: Shaped, solved: Solved) -> Result<Verdict, (AllocError, Shaped)>
-    requires ordered { OnOrdered shaped solved }
-    requires cyclic { OnCyclic shaped solved }
-    ensures accepted { IfOk result (OnAccepted (λ verified. (verified.planned ≡ shaped) × IsAcceptable shaped)) }
-    ensures refused { IfOk result (OnRefused (λ back why. (back ≡ shaped) × IsReason shaped why)) }
-    ensures handed_back { IfErr result (λ refused. refused.1 ≡ shaped) }
+/// Judges a whole plan, from its releases.
+fn judge_whole(alloc: Global, shaped: &Shaped) -> Result<Judged, AllocError>
+    ensures judged { IfOk result (IsJudgedWhole shaped.now) }
+    ensures well_shaped { IsWellShaped shaped.now }
 {
-    match solved {
-        Solved::Ordered(times) => judge_ordered(alloc, shaped, times),
-        Solved::Cyclic(nodes) => Ok(Verdict::Refused(shaped, Why::Cycle(nodes))),
-    }
+    // Called for its clause alone: the plan is well shaped.
+    let _shop = shaped.shop();
+    let solved = solve_from(alloc, shaped, Whole { shaped })?;
+    judge(alloc, shaped, &Whole { shaped }, solved)
 }
 
-/// Judges a plan without a cycle.
-fn judge_ordered(
+/// Judges the rest of a run, from a cell at the end of any run that keeps its plan, and a present moment that isn't
+/// before the last one of that run. Looks first for a cycle, then for the first late job; jobs that are gone aren't
+/// judged. What goes on ends when it is due, and what is overdue at the present moment. Linear in the nodes, the arcs
+/// and the machines; fails only when out of memory.
+pub fn verify_after<P: Planned>(
     alloc: Global,
-    shaped: Shaped,
-    times: Times,
-) -> Result<Verdict, (AllocError, Shaped)>
-    requires { AreOrdered shaped times }
-    ensures accepted { IfOk result (OnAccepted (λ verified. (verified.planned ≡ shaped) × IsAcceptable shaped)) }
-    ensures refused { IfOk result (OnRefused (λ back why. (back ≡ shaped) × IsReason shaped why)) }
-    ensures handed_back { IfErr result (λ refused. refused.1 ≡ shaped) }
+    cell: &WorkCell<P>,
+    present: Moment,
+) -> Result<Judged, AllocError>
+    requires { IsNextMoment cell.now.cell present }
+    ensures accepted { IfOk result (IsAcceptedAhead cell.now.plan cell.now.cell present) }
+    ensures refused { IfOk result (IsReasonAhead cell.now.plan cell.now.cell present) }
+    ensures exact { IfOk result (λ verdict. IsRestAccepted verdict ↔ IsAcceptableAhead cell.now.plan cell.now.cell present) }
+    ensures never_stuck { IfOk result (OnRestTimes (λ times. IsNeverStuckFrom cell.now.plan cell.now.cell present)) }
+    ensures in_time { IfOk result (OnRestTimes (λ times. IsInTimeFrom cell.now.plan cell.now.cell present)) }
+    ensures no_later { let p = cell.now.plan in
+        IfOk result (OnRestTimes (λ times. (j : ℕ) → j < jobs p → IsNeverGoneAfterFrom p cell.now.cell present j (earliest_of times (leaving p j)))) }
+    ensures no_faster { let p = cell.now.plan in let c = cell.now.cell in
+        IfOk result (OnRestTimes (λ times. (j : ℕ) → j < jobs p → (IsGone p c j → ⊥) → IsNeverGoneBeforeFrom p c present j (earliest_of times (leaving p j)))) }
+    ensures just_in_time { IfOk result (OnRestTimes (λ times. IsJustInTimeFrom cell.now.plan cell.now.cell present (earliest_of times))) }
+    ensures stops { IfOk result (OnRestCycle (λ nodes. AreNeverMade cell.now.plan nodes × IsNeverDoneFrom cell.now.plan cell.now.cell)) }
+    ensures just { IfOk result (OnRestRefused (IsNeverInBudgetFrom cell.now.plan cell.now.cell present)) }
 {
-    let Some(job) = first_late(&shaped, &times) else {
-        return Ok(Verdict::Accepted(Verified::of(shaped, times)));
-    };
-    match late(alloc, &shaped, times, job) {
-        Ok(why) => Ok(Verdict::Refused(shaped, why)),
-        Err(error) => Err((error, shaped)),
-    }
+    judge_rest(alloc, cell, present)
 }
 
-/// The evidence against the first late job.
-fn late(alloc: Global, shaped: &Shaped, times: Times, job: JobNo) -> Result<Why, AllocError>
-    requires ordered { AreOrdered shaped.now times }
-    requires past { IsFirstPast shaped.now (earliest_of times) job }
-    ensures { IfOk result (IsReason shaped.now) }
+/// Judges the rest of a run, from the bounds of its cell.
+fn judge_rest<P: Planned>(
+    alloc: Global,
+    cell: &WorkCell<P>,
+    present: Moment,
+) -> Result<Judged, AllocError>
+    requires { present ≤ MAX_MOMENT }
+    ensures accepted { IfOk result (IsAcceptedAhead cell.now.plan cell.now.cell present) }
+    ensures refused { IfOk result (IsReasonAhead cell.now.plan cell.now.cell present) }
+    ensures well_shaped { IsWellShaped cell.now.plan }
 {
-    let leaves = leave_time(shaped, &times, job);
-    match times.chain(alloc, leaving_of(shaped, job))? {
-        Some(chain) => Ok(Why::Late {
-            job,
-            leaves,
-            chain,
-            times,
-        }),
-        None => unreachable!(),
-    }
+    let shaped = cell.shaped();
+    let solved = solve_from(alloc, shaped, CellBounds { cell, present })?;
+    judge(alloc, shaped, &CellBounds { cell, present }, solved)
 }

@@ -21,7 +21,7 @@ use Rattle.shop_base.proofs.ReportsLeft.{after_step-reports_left}
 use Rattle.shop_base.proofs.InTime.{settled-fits, step-still_fits, present_left}
 use Rattle.shop_base.proofs.Within.{IsNoneLate, none_late-after, moves_more, step_more, from-within}
 use Rattle.alt_graph.specs.Times.{NodeTimes, rank_of, earliest_of, AreRanks, AreOrdered}
-use Rattle.rest_times.specs.Rest.{AreOrderedAhead}
+use Rattle.plan_verifier.specs.Rest.{AreOrderedAhead}
 use Rattle.plan_verifier.specs.Accepted.{VerifiedPlan}
 use Rattle.cell_tables.specs.declared.tables.Tables.{Tables}
 use Rattle.cell_tables.specs.Tables.{cell_of}

@@ -16,7 +16,7 @@ use Rattle.shop_base.specs.Graph.{IsNode}
 use Rattle.shop_base.specs.KeptMoments.{KeepsMoments}
 use Rattle.shop_base.specs.Ahead.{IsAhead}
 use Rattle.alt_graph.specs.Times.{NodeTimes, earliest_of, AreRanks}
-use Rattle.rest_times.specs.Rest.{AreOrderedAhead}
+use Rattle.plan_verifier.specs.Rest.{AreOrderedAhead}
 use Rattle.cell_control.specs.Control.{Control}
 use Rattle.cell_control.specs.declared.ack.Ack.{Ack}
 use Rattle.rest_control.specs.Settled.{HasSettled}

@@ -3,7 +3,7 @@
 ghost use Rattle.std.specs.Prelude.{◌≡◌, ◌+◌, [], max, length, OnOk, IfOk, IfErr};
 ghost use Rattle.shop_base.specs.Plan.{jobs, machines};
 ghost use Rattle.shop_base.specs.Report.{IsNextMoment};
-ghost use Rattle.rest_times.specs.Rest.{AreOrderedAhead};
+ghost use Rattle.plan_verifier.specs.Rest.{AreOrderedAhead};
 ghost use Rattle.rest_control.specs.RestFaults.{IsRestFault};
 ghost use Rattle.rest_control.specs.Kept.{KeepsSoFar};
 ghost use Rattle.rest_control.specs.Carried.{IsCarried};

@@ -3,7 +3,7 @@
 //! reports of what has ended, and orders the moves that keep the plan, as a `Controller` does.
 //!
 //! It asks for no budgets: a cell that has begun has to go on, however late. What holds of moments is what
-//! `verify_after` of `rest_times` says of the same cell and moment.
+//! `verify_after` of `plan_verifier` says of the same cell and moment.
 //!
 //! It can be handed over, at a moment, to another plan that the run so far keeps, of the same shop or of another one.
 //!

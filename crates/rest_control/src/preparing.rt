@@ -3,14 +3,14 @@
 ghost use Rattle.std.specs.Prelude.{◌≡◌, ◌+◌, [], max, length, OnOk, IfOk, IfErr};
 ghost use Rattle.shop_base.specs.Plan.{jobs, machines};
 ghost use Rattle.shop_base.specs.Report.{IsNextMoment};
-ghost use Rattle.rest_times.specs.Rest.{AreOrderedAhead};
+ghost use Rattle.plan_verifier.specs.Rest.{AreOrderedAhead};
 ghost use Rattle.rest_control.specs.RestFaults.{IsRestFault};
 
 use crate::rest_fault::RestFault;
 use alt_graph::{Solved, Times};
 use cell_control::{Dues, Orders};
 use cell_tables::WorkCell;
-use rest_times::solve_after;
+use plan_verifier::solve_after;
 use shop_base::limits::MAX_MOMENT;
 use shop_base::{Moment, Planned};
 use smallvec::SmallVec;

@@ -6,7 +6,7 @@ ghost use Rattle.shop_base.specs.Ends.{HasEnded};
 ghost use Rattle.shop_base.specs.ReportsLeft.{reports_left};
 ghost use Rattle.shop_base.specs.Graph.{leaving};
 ghost use Rattle.alt_graph.specs.Times.{earliest_of};
-ghost use Rattle.rest_times.specs.Rest.{AreOrderedAhead};
+ghost use Rattle.plan_verifier.specs.Rest.{AreOrderedAhead};
 ghost use Rattle.cell_tables.specs.Readings.{IsCleanedFor};
 ghost use Rattle.cell_control.specs.Reports.{IsFirstReason, IsOnlyReason, CanCleanAfter, IsFirstCleanReason, IsOnlyCleanReason};
 ghost use Rattle.cell_control.specs.Readings.{IsPhaseOf, IsJobOn, IsDueOf, IsDueOfCleaning, IsOnTime};
@@ -28,7 +28,7 @@ use cell_control::{
     check_report, is_past_due, make_step, phase_of,
 };
 use cell_tables::WorkCell;
-use rest_times::leave_time_after;
+use plan_verifier::leave_time;
 use shop_base::{JobNo, MachineNo, Moment, MoveOrder, Shaped};
 use std::alloc::Global;
 use std::marker::Model;
@@ -313,7 +313,7 @@ impl<D: Dues> RestController<D> {
             MatchOption result (jobs p ≤ job) (λ n. (job < jobs p) × (n ≡ earliest_of self.now.times (leaving p job))) }
     {
         if job < self.cell.job_count() {
-            Some(leave_time_after(&self.cell, &self.times, job))
+            Some(leave_time(&self.cell, &self.times, job))
         } else {
             None
         }

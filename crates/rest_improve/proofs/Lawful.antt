@@ -5,7 +5,7 @@ use Rattle.shop_base.specs.Plan.{PlannedShop, jobs, steps, budget}
 use Rattle.shop_base.specs.Cell.{Cell, made, IsGone}
 use Rattle.shop_base.specs.Ends.{sum_below}
 use Rattle.shop_base.proofs.Sums.{sum_below_zero, sum_below-le}
-use Rattle.rest_times.specs.RestVerdicts.{IsAcceptableAhead}
+use Rattle.plan_verifier.specs.RestVerdicts.{IsAcceptableAhead}
 use Rattle.plan_improve.specs.declared.cost.Cost.{Cost}
 use Rattle.plan_improve.specs.Costs.{IsAtMost}
 use Rattle.rest_improve.specs.Costs.{IsCostFrom, late_by}

@@ -9,9 +9,9 @@ use Rattle.shop_base.specs.Ends.{sum_below}
 use Rattle.shop_base.proofs.Sums.{sum_below_same}
 use Rattle.shop_base.proofs.Cycles.{ranks_exclude_cycle}
 use Rattle.alt_graph.specs.Times.{NodeTimes, rank_of, earliest_of}
-use Rattle.rest_times.specs.Rest.{AreOrderedAhead, IsGreatestAhead}
-use Rattle.rest_times.specs.Leavings.{IsMakespanAfter}
-use Rattle.rest_times.proofs.GoingOn.{leaving_ahead}
+use Rattle.plan_verifier.specs.Rest.{AreOrderedAhead, IsGreatestAhead}
+use Rattle.plan_verifier.specs.Leavings.{IsMakespanAfter}
+use Rattle.plan_verifier.proofs.GoingOn.{leaving_ahead}
 use Rattle.plan_improve.specs.declared.cost.Cost.{Cost}
 use Rattle.rest_improve.specs.Costs.{AreLeavingsAhead, late_by, IsLatest, IsCostFrom, IsRestCost}
 use Rattle.rest_improve.specs.Keeping.{leaves_in, LeaveSoon, the_last_leaving}
@@ -55,7 +55,7 @@ module _ (p : PlannedShop) (c : Cell) (t : ℕ) where
     are = record {
       left = λ j inside gone. ordered.left j inside gone;
       ahead = λ j inside here. (record {
-        reached = ordered.reached (leaving p j) (record { job = inside; place = omega arith }) (leaving_ahead p c t times ordered j here);
+        reached = ordered.reached (leaving p j) (record { job = inside; place = omega arith }) (leaving_ahead p c j here);
         longest = λ nodes k path. ordered.greatest nodes (leaving p j) k path;
       });
     };

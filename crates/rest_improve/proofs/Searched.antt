@@ -4,7 +4,7 @@ use Rattle.shop_base.specs.Plan.{PlannedShop}
 use Rattle.shop_base.specs.Cell.{Cell}
 use Rattle.shop_base.specs.Report.{IsNextMoment}
 use Rattle.alt_graph.specs.Solved.{HasCycle}
-use Rattle.rest_times.specs.RestVerdicts.{IsAcceptableAhead, IsRestAccepted}
+use Rattle.plan_verifier.specs.RestVerdicts.{IsAcceptableAhead, IsRestAccepted}
 use Rattle.plan_improve.specs.declared.cost.Cost.{Cost}
 use Rattle.plan_improve.specs.Reordered.{IsReordered}
 use Rattle.plan_improve.specs.Watching.{Told}

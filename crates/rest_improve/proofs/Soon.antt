@@ -14,8 +14,8 @@ use Rattle.shop_base.proofs.InShop.{outside_in_shop, cleaned_in_shop}
 use Rattle.alt_graph.specs.Bounds.{MAX_BOUND}
 use Rattle.alt_graph.specs.Times.{NodeTimes, rank_of, earliest_of}
 use Rattle.alt_graph.proofs.ArcKinds.{arc_short}
-use Rattle.rest_times.specs.Rest.{AreOrderedAhead}
-use Rattle.rest_times.proofs.GoingOn.{leaving_ahead}
+use Rattle.plan_verifier.specs.Rest.{AreOrderedAhead}
+use Rattle.plan_verifier.proofs.GoingOn.{leaving_ahead}
 use Rattle.rest_improve.specs.Keeping.{LeaveSoon}
 
 module _ (p : PlannedShop) (c : Cell) (t : ℕ) (sound : IsSound p c) (shaped : IsWellShaped p) (begun : (m s : ℕ) → cleaning c m ≡ Some s → s ≤ MAX_MOMENT) (early : t ≤ MAX_MOMENT) where
@@ -40,7 +40,7 @@ module _ (p : PlannedShop) (c : Cell) (t : ℕ) (sound : IsSound p c) (shaped : 
   pub leave_soon : (times : NodeTimes) → AreOrderedAhead p c t times → LeaveSoon p c (earliest_of times)
   leave_soon times ordered j inside here =
       let node : IsNode p (leaving p j) = record { job = inside; place = omega arith } in
-      let (nodes, path) = ordered.reached (leaving p j) node (leaving_ahead p c t times ordered j here) in
+      let (nodes, path) = ordered.reached (leaving p j) node (leaving_ahead p c j here) in
       omega (
         arith,
         path_soon (rank_of times) ordered.ranks.rise nodes (leaving p j) (earliest_of times (leaving p j)) path,

@@ -8,7 +8,7 @@ use Rattle.alt_graph.specs.Solved.{HasCycle}
 use Rattle.cell_tables.specs.declared.entry.Entry.{Entry}
 use Rattle.event_lines.specs.LogLines.{LinesTell}
 use Rattle.run_log.specs.Audits.{IsTold}
-use Rattle.rest_times.specs.Rest.{IsGreatestAhead}
+use Rattle.plan_verifier.specs.Rest.{IsGreatestAhead}
 use Rattle.plan_improve.specs.declared.cost.Cost.{Cost}
 use Rattle.plan_improve.specs.Costs.{IsLess, IsAtMost}
 

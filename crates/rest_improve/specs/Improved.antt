@@ -8,8 +8,8 @@ use Rattle.plan_seek.specs.Orders.{serial_order}
 use Rattle.plan_improve.specs.Reordered.{reordered}
 use Rattle.plan_improve.specs.Watching.{Told, IsToldMore}
 use Rattle.plan_improve.specs.Runs.{Asked}
-use Rattle.rest_times.specs.declared.rest_verdict.RestVerdict.{RestVerdict}
-use Rattle.rest_times.specs.RestVerdicts.{IsAcceptedAhead, IsReasonAhead, IsAcceptableAhead, IsRestAccepted}
+use Rattle.plan_verifier.specs.declared.verdict.Judged.{Judged}
+use Rattle.plan_verifier.specs.RestVerdicts.{IsAcceptedAhead, IsReasonAhead, IsAcceptableAhead, IsRestAccepted}
 use Rattle.rest_improve.specs.Costs.{IsNoWorse}
 
 -- the present moment: the one that is given, else the last one
@@ -18,7 +18,7 @@ present_of None last = last
 present_of (Some at) last = at
 
 -- what is said of the rest from a cell and the present moment t on
-pub record IsVerdictOn (p : PlannedShop) (c : Cell) (t : ℕ) (verdict : RestVerdict) : Type 0 where
+pub record IsVerdictOn (p : PlannedShop) (c : Cell) (t : ℕ) (verdict : Judged) : Type 0 where
   pub accepted : IsAcceptedAhead p c t verdict
   pub refused : IsReasonAhead p c t verdict
   pub exact : IsRestAccepted verdict ↔ IsAcceptableAhead p c t

@@ -18,7 +18,7 @@ use Rattle.plan_improve.specs.Costs.{IsLess, IsAtMost}
 use Rattle.plan_improve.specs.Reordered.{IsReordered}
 use Rattle.plan_improve.specs.Watching.{Told, IsToldMore}
 use Rattle.plan_improve.specs.Runs.{Asked}
-use Rattle.rest_times.specs.declared.rest_verdict.RestVerdict.{RestVerdict}
+use Rattle.plan_verifier.specs.declared.verdict.Judged.{Judged}
 use Rattle.rest_improve.specs.declared.best.Best.{Best}
 use Rattle.rest_improve.specs.declared.beginning.First.{First}
 use Rattle.rest_improve.specs.declared.beginning.First.TheVariants.{Begins, Stays}
@@ -102,7 +102,7 @@ module _ (lines : List (List ℕ)) (t : ℕ) where
     pub last : IsLast (made told) p c kept
 
   -- the verdict on the rest of the run that they tell by the plan
-  abbrev pub IsVerdictThere : PlannedShop → RestVerdict → Type 0
+  abbrev pub IsVerdictThere : PlannedShop → Judged → Type 0
   IsVerdictThere p verdict = (c : Cell) × IsCellOf lines p c × IsVerdictOn p c t verdict
 
   -- a plan with the verdict on its rest

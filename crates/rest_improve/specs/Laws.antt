@@ -2,7 +2,7 @@
 use Rattle.std.specs.Prelude.{◌≡◌, ℕ, List}
 use Rattle.shop_base.specs.Plan.{PlannedShop}
 use Rattle.shop_base.specs.Cell.{Cell}
-use Rattle.rest_times.specs.RestVerdicts.{IsAcceptableAhead}
+use Rattle.plan_verifier.specs.RestVerdicts.{IsAcceptableAhead}
 use Rattle.plan_improve.specs.Reordered.{IsReordered}
 use Rattle.rest_improve.specs.Costs.{IsCellOf, IsNoWorse}
 

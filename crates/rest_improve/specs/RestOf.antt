@@ -6,7 +6,7 @@ use Rattle.shop_base.specs.Cell.{Cell, job_in, made, since, cleaning}
 use Rattle.shop_base.specs.Movers.{due_of_job}
 use Rattle.plan_annealing.specs.declared.rest.JobRest.{JobRest}
 use Rattle.plan_annealing.specs.declared.rest.Rest.{Rest}
-use Rattle.rest_times.specs.Held.{later_than}
+use Rattle.plan_verifier.specs.Held.{later_than}
 
 module _ (p : PlannedShop) (c : Cell) (t : ℕ) where
   -- before this job j doesn't make its next move: the present moment t or, if that is later, when what goes on with it is due; of a job that is gone the moment at which it left

@@ -8,7 +8,7 @@ ghost use Rattle.shop_base.specs.Ends.{sum_below};
 ghost use Rattle.text_lines.specs.Lines.{ended_lines};
 ghost use Rattle.alt_graph.specs.Solved.{HasCycle};
 ghost use Rattle.alt_graph.specs.Times.{AreRanks, earliest_of};
-ghost use Rattle.rest_times.specs.Leavings.{IsMakespanAfter};
+ghost use Rattle.plan_verifier.specs.Leavings.{IsMakespanAfter};
 ghost use Rattle.rest_improve.specs.declared.improve_rest_fault.ImproveRestFault.TheVariants.{Memory};
 ghost use Rattle.rest_improve.specs.Costs.{IsCostFrom, IsRestCost, late_by};
 ghost use Rattle.rest_improve.specs.Keeping.{HasNoCost, IsNoRun, IsCostBelow, LeaveSoon, leaves_in, the_last_leaving};
@@ -17,7 +17,7 @@ use crate::improve_rest_fault::ImproveRestFault;
 use alt_graph::{Solved, Times};
 use cell_tables::WorkCell;
 use plan_improve::Cost;
-use rest_times::{leave_time_after, makespan_after, solve_after};
+use plan_verifier::{leave_time, makespan, solve_after};
 use run_log::{AuditFault, run_of_log};
 use shop_base::{JobNo, Moment, Planned, Shaped};
 use std::alloc::{AllocError, Global};
@@ -118,7 +118,7 @@ fn cost_in<P: Planned>(cell: &WorkCell<P>, times: &Times) -> Cost
     }
     Cost {
         late,
-        makespan: makespan_after(cell, times),
+        makespan: makespan(cell, times),
     }
 }
 
@@ -128,7 +128,7 @@ fn late_of<P: Planned>(cell: &WorkCell<P>, times: &Times, job: JobNo) -> Moment
     requires job { job < jobs cell.now.plan }
     ensures { let p = cell.now.plan in result ≡ late_by p cell.now.cell (leaves_in p times.now) job }
 {
-    let leaves = leave_time_after(cell, times, job);
+    let leaves = leave_time(cell, times, job);
     let late = leaves.saturating_sub(cell.shaped().budget_of(job));
     if cell.step_count(job) < cell.job_state(job).made {
         return 0;

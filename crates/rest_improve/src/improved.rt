@@ -1,9 +1,9 @@
-use rest_times::RestVerdict;
+use plan_verifier::Judged;
 use shop_base::Shaped;
 
 /// A plan for the rest of a run, and the verdict on that rest.
 #[derive(Drop)]
 pub struct Improved {
     pub shaped: Shaped,
-    pub verdict: RestVerdict,
+    pub verdict: Judged,
 }

@@ -7,7 +7,7 @@ ghost use Rattle.text_lines.specs.Lines.{ended_lines};
 ghost use Rattle.event_lines.specs.LogLines.{LinesTell};
 ghost use Rattle.run_log.specs.Audits.{TellRun};
 ghost use Rattle.alt_graph.specs.Solved.{HasCycle};
-ghost use Rattle.rest_times.specs.RestVerdicts.{IsAcceptableAhead, IsRestAccepted};
+ghost use Rattle.plan_verifier.specs.RestVerdicts.{IsAcceptableAhead, IsRestAccepted};
 ghost use Rattle.plan_improve.specs.Reordered.{IsReordered};
 ghost use Rattle.rest_improve.specs.declared.improve_rest_fault.ImproveRestFault.TheVariants.{Memory};
 ghost use Rattle.rest_improve.specs.Faults.{IsImproveRestFault};
@@ -25,7 +25,7 @@ use crate::not_improved_rest::NotImprovedRest;
 use crate::rest_improver::RestImprover;
 use crate::rounds::ask_in_rounds;
 use plan_improve::{MAX_ROUNDS, Watch, copy_orders, put_back};
-use rest_times::{RestVerdict, verify_after};
+use plan_verifier::{Judged, verify_after};
 use run_log::run_of_log;
 use shop_base::{Moment, Shaped};
 use std::alloc::Global;
@@ -167,7 +167,7 @@ fn verdict_on(
     shaped: &Shaped,
     log: &[u8],
     present: Moment,
-) -> Result<RestVerdict, ImproveRestFault>
+) -> Result<Judged, ImproveRestFault>
     requires { IsSet (ended_lines log.now) present shaped.now }
     ensures verdict { IfOk result (IsVerdictThere (ended_lines log.now) present shaped.now) }
     ensures memory { IfErr result (λ fault. fault ≡ Memory) }

@@ -7,7 +7,7 @@ use plan_text::{PlanFault, plan_document};
 use rest_improve::{
     AnnealingRestImprover, ImproveRestFault, Improved, Rest, RestImprover, improve_after,
 };
-use rest_times::RestVerdict;
+use plan_verifier::Judged;
 use run_log::AuditFault;
 use shop_base::{JobNo, Shaped};
 use std::alloc::{AllocError, Global};
@@ -72,7 +72,7 @@ fn improvers(
 fn found(alloc: Global, improved: &Improved, plan: &[u8]) -> Result<(bool, bool), PlanFault> {
     let text = plan_document(alloc, improved.shaped.plan())?;
     let accepted = match improved.verdict {
-        RestVerdict::Accepted(_) => true,
+        Judged::Accepted(_) => true,
         _ => false,
     };
     Ok((text.as_bytes() == plan, accepted))

@@ -3,7 +3,7 @@
 use super::rests::planned;
 use cell_tables::WorkCell;
 use rest_texts::{explain_after, schedule_after};
-use rest_times::verify_after;
+use plan_verifier::verify_after;
 use run_gantt::drawn_visits;
 use run_log::run_of_log;
 use shop_base::limits::MAX_MOMENT;

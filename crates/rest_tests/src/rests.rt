@@ -1,14 +1,14 @@
 //! The rest of a run that hasn't begun, where there is memory enough: from moment 0 on it is the whole plan, and later it is late.
 
 ghost use Rattle.std.specs.Prelude.{IfOk, IfSome};
-ghost use Rattle.rest_times.specs.RestVerdicts.{IsAcceptedAhead};
+ghost use Rattle.plan_verifier.specs.RestVerdicts.{IsAcceptedAhead};
 
 use alt_graph::Solved;
 use cell_tables::WorkCell;
 use orlib_read::read_instance;
 use plan_text::read_plan;
-use rest_times::{
-    RestVerdict, check_chain_after, deadlines_after, makespan_after, solve_after, verify_after,
+use plan_verifier::{
+    Judged, Why, check_chain_after, deadlines_after, makespan, solve_after, verify_after,
 };
 use shop_base::limits::MAX_MOMENT;
 use shop_base::{Moment, Node, Shaped, shape};
@@ -48,7 +48,7 @@ fn judged(
     alloc: Global,
     cell: &WorkCell<Shaped>,
     present: Moment,
-) -> Result<Option<RestVerdict>, AllocError>
+) -> Result<Option<Judged>, AllocError>
     ensures { IfOk result (λ found. IfSome found (IsAcceptedAhead cell.now.plan cell.now.cell present)) }
 {
     if present < cell.last() {
@@ -63,10 +63,10 @@ fn judged(
 /// Whether the rest from moment 0 on has the moments and the deadlines of the plan.
 fn is_in_time(alloc: Global, cell: &WorkCell<Shaped>) -> Result<bool, AllocError> {
     match judged(alloc, cell, 0)? {
-        Some(RestVerdict::Accepted(times)) => {
+        Some(Judged::Accepted(times)) => {
             let deadlines = deadlines_after(alloc, cell, &times)?;
             let due = deadlines.deadline(Node { job: 1, place: 0 });
-            Ok(makespan_after(cell, &times) == 12 && due == Some(7))
+            Ok(makespan(cell, &times) == 12 && due == Some(7))
         }
         _ => Ok(false),
     }
@@ -76,12 +76,12 @@ fn is_in_time(alloc: Global, cell: &WorkCell<Shaped>) -> Result<bool, AllocError
 fn is_late(alloc: Global, cell: &WorkCell<Shaped>) -> Result<bool, AllocError> {
     match judged(alloc, cell, 1)? {
         Some(
-            RestVerdict::Late {
+            Judged::Refused(Why::Late {
                 job,
                 leaves,
                 chain,
                 times: _,
-            },
+            }),
         ) => Ok(job == 0 && leaves == 6 && check_chain_after(cell, 1, &chain) == Some(6)),
         _ => Ok(false),
     }

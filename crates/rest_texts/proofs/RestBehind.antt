@@ -5,7 +5,7 @@ use Rattle.shop_base.specs.Cell.{Cell}
 use Rattle.shop_base.specs.Deadlines.{AreDeadlines}
 use Rattle.alt_graph.specs.Times.{NodeTimes, earliest_of}
 use Rattle.alt_graph.specs.Latest.{NodeMoments, moment_of}
-use Rattle.rest_times.specs.Rest.{AreOrderedAhead}
+use Rattle.plan_verifier.specs.Rest.{AreOrderedAhead}
 use Rattle.plan_explain.specs.Added.{Adds}
 use Rattle.plan_schedule.specs.Calendars.{PlanCalendar, IsCalendarOf, due_at, due_in}
 use Rattle.plan_schedule.proofs.Texts.{added_twice}

@@ -9,12 +9,12 @@ use Rattle.shop_base.specs.Activity.{Arrival, Operation, Cleaning}
 use Rattle.shop_base.specs.Graph.{Arc, HasArc, IsNode, leaving}
 use Rattle.shop_base.specs.Ahead.{next_node, IsAhead, PathAhead, now, held, onward}
 use Rattle.alt_graph.specs.Times.{NodeTimes, earliest_of, IsPathFromBy}
-use Rattle.rest_times.specs.Rest.{AreOrderedAhead}
-use Rattle.rest_times.specs.declared.node_bound.Hold.{Hold}
-use Rattle.rest_times.specs.declared.node_bound.NodeBound.{NodeBound}
-use Rattle.rest_times.specs.Held.{IsHeldBy, awaited, arrived, worked, done, cleaned, BeginHeldUp, IsToldOf, IsBoundOf}
-use Rattle.rest_times.proofs.Tables.{later_is}
-use Rattle.rest_times.proofs.Holding.{hold_up, free_passed}
+use Rattle.plan_verifier.specs.Rest.{AreOrderedAhead}
+use Rattle.plan_verifier.specs.declared.node_bound.Hold.{Hold}
+use Rattle.plan_verifier.specs.declared.node_bound.NodeBound.{NodeBound}
+use Rattle.plan_verifier.specs.Held.{IsHeldBy, awaited, arrived, worked, done, cleaned, BeginHeldUp, IsToldOf, IsBoundOf}
+use Rattle.plan_verifier.proofs.Tables.{later_is}
+use Rattle.plan_verifier.proofs.Holding.{hold_up, free_passed}
 use Rattle.plan_explain.specs.Arcs.{time_of, told_arc}
 use Rattle.plan_explain.specs.Chains.{AreAlong, length_from}
 use Rattle.plan_explain.proofs.ArcFacts.{arc_time, last_from, last_more, along_more, length_more}

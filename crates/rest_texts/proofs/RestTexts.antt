@@ -9,17 +9,18 @@ use Rattle.shop_base.specs.Cell.{Cell, made, IsGone}
 use Rattle.shop_base.specs.Graph.{leaving}
 use Rattle.shop_base.specs.Ahead.{PathAhead}
 use Rattle.alt_graph.specs.Times.{NodeTimes, earliest_of}
-use Rattle.rest_times.specs.Leavings.{LeavesLast}
-use Rattle.rest_times.specs.Rest.{AreOrderedAhead}
-use Rattle.rest_times.specs.declared.node_bound.NodeBound.{NodeBound}
-use Rattle.rest_times.specs.Held.{IsBoundOf}
+use Rattle.plan_verifier.specs.Leavings.{LeavesLast}
+use Rattle.plan_verifier.specs.Rest.{AreOrderedAhead}
+use Rattle.plan_verifier.specs.declared.node_bound.NodeBound.{NodeBound}
+use Rattle.plan_verifier.specs.Held.{IsBoundOf}
 use Rattle.plan_explain.specs.Added.{Adds}
 use Rattle.plan_explain.specs.Chains.{reached_lines}
 use Rattle.rest_texts.specs.Holds.{bound_line}
 use Rattle.rest_texts.specs.RestChains.{AreRestChainLines}
 use Rattle.rest_texts.specs.RestLeavings.{rest_leaving_line, rest_leaving_lines_below, rest_leaving_lines, AreRestLeavings}
-use Rattle.rest_times.specs.declared.rest_verdict.RestVerdict.{RestVerdict}
-use Rattle.rest_times.specs.declared.rest_verdict.RestVerdict.TheVariants.{Accepted, Cycle, Late}
+use Rattle.plan_verifier.specs.declared.verdict.Judged.{Judged}
+use Rattle.plan_verifier.specs.declared.verdict.Judged.TheVariants.{Accepted, Refused}
+use Rattle.plan_verifier.specs.declared.verdict.Why.TheVariants.{Cycle, Late}
 use Rattle.rest_texts.specs.RestVerdicts.{IsRestJudged}
 use Rattle.rest_texts.specs.RestFirstLines.{IsLineByTimes, IsRestFirstLine}
 use Rattle.rest_texts.specs.RestExplained.{IsPathTextTo, IsLastChainText, AreRestMomentLines}
@@ -90,7 +91,7 @@ path_lines p c t j n chain (Ok x) old new path (text, are, added) = (text, (chai
 path_lines p c t j n chain (Err e) old new path adds = tt
 
 -- the line of a verdict tells of the rest
-pub told_first : (p : PlannedShop) (c : Cell) (t : ℕ) (verdict : RestVerdict) (line : List ℕ) → IsRestJudged p c t verdict → IsLineByTimes p verdict line → IsRestFirstLine p c t verdict line
+pub told_first : (p : PlannedShop) (c : Cell) (t : ℕ) (verdict : Judged) (line : List ℕ) → IsRestJudged p c t verdict → IsLineByTimes p verdict line → IsRestFirstLine p c t verdict line
 told_first p c t (Accepted times) line judged is = record { kept = earliest_of times; leavings = are_leavings p c t times judged.accepted.0; tells = is }
-told_first p c t (Cycle nodes) line judged is = is
-told_first p c t (Late job leaves chain times) line judged is = is
+told_first p c t (Refused (Cycle nodes)) line judged is = is
+told_first p c t (Refused (Late job leaves chain times)) line judged is = is

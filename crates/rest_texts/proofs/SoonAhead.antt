@@ -16,7 +16,7 @@ use Rattle.alt_graph.specs.Bounds.{MAX_BOUND}
 use Rattle.alt_graph.specs.Times.{NodeTimes, rank_of, earliest_of}
 use Rattle.alt_graph.specs.Latest.{NodeMoments}
 use Rattle.alt_graph.proofs.ArcKinds.{arc_short}
-use Rattle.rest_times.specs.Rest.{AreOrderedAhead}
+use Rattle.plan_verifier.specs.Rest.{AreOrderedAhead}
 use Rattle.plan_schedule.specs.Calendars.{PlanCalendar, IsCalendarOf, the_last_moment}
 use Rattle.rest_texts.specs.SoonAhead.{AreSoonAhead, AreBegun}
 

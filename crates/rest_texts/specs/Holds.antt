@@ -3,9 +3,9 @@ use Rattle.std.specs.Prelude.{ℕ, Option, None, Some, List, [], ◌∷◌, ◌+
 use Rattle.shop_base.specs.declared.node.Node.{Node}
 use Rattle.shop_base.specs.NodeText.{node_text}
 use Rattle.plan_explain.specs.Arcs.{before}
-use Rattle.rest_times.specs.declared.node_bound.Hold.{Hold}
-use Rattle.rest_times.specs.declared.node_bound.Hold.TheVariants.{Awaited, Arrived, Worked, Done, Cleaned}
-use Rattle.rest_times.specs.declared.node_bound.NodeBound.{NodeBound}
+use Rattle.plan_verifier.specs.declared.node_bound.Hold.{Hold}
+use Rattle.plan_verifier.specs.declared.node_bound.Hold.TheVariants.{Awaited, Arrived, Worked, Done, Cleaned}
+use Rattle.plan_verifier.specs.declared.node_bound.NodeBound.{NodeBound}
 
 -- `release of job J`, `job J has arrived`, `job J on machine M since S for P`, `job J done on machine M` or `machine M cleaned since S for C`
 abbrev pub hold_words : Hold → List (List ℕ)

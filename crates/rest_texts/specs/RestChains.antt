@@ -4,8 +4,8 @@ use Rattle.shop_base.specs.declared.node.Node.{Node}
 use Rattle.shop_base.specs.Plan.{PlannedShop}
 use Rattle.shop_base.specs.Cell.{Cell}
 use Rattle.shop_base.specs.Ahead.{PathAhead}
-use Rattle.rest_times.specs.Held.{BeginHeldUp, IsBoundOf}
-use Rattle.rest_times.specs.declared.node_bound.NodeBound.{NodeBound}
+use Rattle.plan_verifier.specs.Held.{BeginHeldUp, IsBoundOf}
+use Rattle.plan_verifier.specs.declared.node_bound.NodeBound.{NodeBound}
 use Rattle.plan_explain.specs.Chains.{reached_lines}
 use Rattle.rest_texts.specs.Holds.{bound_line}
 

@@ -5,9 +5,10 @@ use Rattle.shop_base.specs.Plan.{PlannedShop, jobs}
 use Rattle.shop_base.specs.Cell.{Cell, IsGone}
 use Rattle.shop_base.specs.Graph.{leaving}
 use Rattle.shop_base.specs.Ahead.{PathAhead}
-use Rattle.rest_times.specs.Leavings.{LeavesLast}
-use Rattle.rest_times.specs.declared.rest_verdict.RestVerdict.{RestVerdict}
-use Rattle.rest_times.specs.declared.rest_verdict.RestVerdict.TheVariants.{Accepted, Cycle, Late}
+use Rattle.plan_verifier.specs.Leavings.{LeavesLast}
+use Rattle.plan_verifier.specs.declared.verdict.Judged.{Judged}
+use Rattle.plan_verifier.specs.declared.verdict.Judged.TheVariants.{Accepted, Refused}
+use Rattle.plan_verifier.specs.declared.verdict.Why.TheVariants.{Cycle, Late}
 use Rattle.plan_explain.specs.Cycles.{cycle_lines}
 use Rattle.rest_texts.specs.RestChains.{AreRestChainLines}
 use Rattle.rest_texts.specs.RestLeavings.{rest_leaving_lines, AreRestLeavings}
@@ -31,13 +32,13 @@ module _ (p : PlannedShop) (c : Cell) (t : ℕ) where
     pub are : lines ≡ rest_leaving_lines p c kept ++ behind
 
   -- the lines behind the first one of a verdict: of an accepted rest those of jobs, and of the chain to the job that leaves last; the arcs of the cycle; or those of jobs, and of the chain that the first line tells
-  abbrev pub AreRestBehind : RestVerdict → List ℕ → Type 0
+  abbrev pub AreRestBehind : Judged → List ℕ → Type 0
   AreRestBehind (Accepted times) lines = AreRestMomentLines IsLastChainText lines
-  AreRestBehind (Cycle nodes) lines = lines ≡ cycle_lines p nodes.items
-  AreRestBehind (Late job leaves chain times) lines = AreRestMomentLines (λ kept. AreRestChainLines p c t chain.items) lines
+  AreRestBehind (Refused (Cycle nodes)) lines = lines ≡ cycle_lines p nodes.items
+  AreRestBehind (Refused (Late job leaves chain times)) lines = AreRestMomentLines (λ kept. AreRestChainLines p c t chain.items) lines
 
   -- the explanation of a verdict on the rest: its first line, and then those behind it
-  pub record IsRestExplained (verdict : RestVerdict) (text : List ℕ) : Type 0 where
+  pub record IsRestExplained (verdict : Judged) (text : List ℕ) : Type 0 where
     pub first : List ℕ
     pub is : IsRestFirstLine p c t verdict first
     pub behind : List ℕ

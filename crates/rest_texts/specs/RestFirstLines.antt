@@ -5,9 +5,10 @@ use Rattle.shop_base.specs.Plan.{PlannedShop}
 use Rattle.shop_base.specs.Cell.{Cell}
 use Rattle.alt_graph.specs.Times.{earliest_of}
 use Rattle.plan_explain.specs.FirstLines.{accepted_line, cycle_line, refused_late_line}
-use Rattle.rest_times.specs.Leavings.{IsMakespanAfter}
-use Rattle.rest_times.specs.declared.rest_verdict.RestVerdict.{RestVerdict}
-use Rattle.rest_times.specs.declared.rest_verdict.RestVerdict.TheVariants.{Accepted, Cycle, Late}
+use Rattle.plan_verifier.specs.Leavings.{IsMakespanAfter}
+use Rattle.plan_verifier.specs.declared.verdict.Judged.{Judged}
+use Rattle.plan_verifier.specs.declared.verdict.Judged.TheVariants.{Accepted, Refused}
+use Rattle.plan_verifier.specs.declared.verdict.Why.TheVariants.{Cycle, Late}
 use Rattle.rest_texts.specs.RestLeavings.{leavings_by, AreRestLeavings}
 
 -- the line tells these moments of leavings, and the latest of them
@@ -15,10 +16,10 @@ abbrev pub IsAcceptedText : PlannedShop → (Node → ℕ) → List ℕ → Type
 IsAcceptedText p kept line = (n : ℕ) × IsMakespanAfter p kept n × (line ≡ accepted_line n (leavings_by p kept))
 
 -- the line of a verdict, by its earliest moments or its evidence
-abbrev pub IsLineByTimes : PlannedShop → RestVerdict → List ℕ → Type 0
+abbrev pub IsLineByTimes : PlannedShop → Judged → List ℕ → Type 0
 IsLineByTimes p (Accepted times) line = IsAcceptedText p (earliest_of times) line
-IsLineByTimes p (Cycle nodes) line = line ≡ cycle_line nodes.items
-IsLineByTimes p (Late job leaves chain times) line = line ≡ refused_late_line job leaves chain.items
+IsLineByTimes p (Refused (Cycle nodes)) line = line ≡ cycle_line nodes.items
+IsLineByTimes p (Refused (Late job leaves chain times)) line = line ≡ refused_late_line job leaves chain.items
 
 -- the line tells the makespan and the leavings of the rest
 pub record TellsRestAccepted (p : PlannedShop) (c : Cell) (t : ℕ) (line : List ℕ) : Type 0 where
@@ -27,7 +28,7 @@ pub record TellsRestAccepted (p : PlannedShop) (c : Cell) (t : ℕ) (line : List
   pub tells : IsAcceptedText p kept line
 
 -- the first line of a verdict on the rest
-abbrev pub IsRestFirstLine : PlannedShop → Cell → ℕ → RestVerdict → List ℕ → Type 0
+abbrev pub IsRestFirstLine : PlannedShop → Cell → ℕ → Judged → List ℕ → Type 0
 IsRestFirstLine p c t (Accepted times) line = TellsRestAccepted p c t line
-IsRestFirstLine p c t (Cycle nodes) line = line ≡ cycle_line nodes.items
-IsRestFirstLine p c t (Late job leaves chain times) line = line ≡ refused_late_line job leaves chain.items
+IsRestFirstLine p c t (Refused (Cycle nodes)) line = line ≡ cycle_line nodes.items
+IsRestFirstLine p c t (Refused (Late job leaves chain times)) line = line ≡ refused_late_line job leaves chain.items

@@ -4,7 +4,7 @@ use Rattle.shop_base.specs.declared.node.Node.{Node}
 use Rattle.shop_base.specs.Plan.{PlannedShop, jobs, steps, budget}
 use Rattle.shop_base.specs.Cell.{Cell, made, since, IsGone}
 use Rattle.shop_base.specs.Graph.{leaving}
-use Rattle.rest_times.specs.Rest.{IsGreatestAhead}
+use Rattle.plan_verifier.specs.Rest.{IsGreatestAhead}
 use Rattle.plan_explain.specs.Arcs.{before}
 use Rattle.plan_explain.specs.Moments.{moments_below}
 use Rattle.plan_explain.specs.Leavings.{leaving_line}

@@ -6,9 +6,10 @@ use Rattle.shop_base.specs.Cell.{Cell}
 use Rattle.shop_base.specs.Graph.{IsNode}
 use Rattle.shop_base.specs.Ahead.{IsAhead}
 use Rattle.shop_base.specs.Deadlines.{AreDeadlines}
-use Rattle.rest_times.specs.Rest.{IsGreatestAhead}
-use Rattle.rest_times.specs.declared.rest_verdict.RestVerdict.{RestVerdict}
-use Rattle.rest_times.specs.declared.rest_verdict.RestVerdict.TheVariants.{Accepted, Cycle, Late}
+use Rattle.plan_verifier.specs.Rest.{IsGreatestAhead}
+use Rattle.plan_verifier.specs.declared.verdict.Judged.{Judged}
+use Rattle.plan_verifier.specs.declared.verdict.Judged.TheVariants.{Accepted, Refused}
+use Rattle.plan_verifier.specs.declared.verdict.Why.TheVariants.{Cycle, Late}
 use Rattle.rest_texts.specs.RestFirstLines.{IsRestFirstLine}
 use Rattle.rest_texts.specs.RestSchedules.{AreRestLines}
 
@@ -32,13 +33,13 @@ module _ (p : PlannedShop) (c : Cell) (t : ℕ) where
     pub are : AreRestLines p c t moments (λ v. None) lines
 
   -- the lines behind the first one of a verdict: none where the plan has a cycle
-  abbrev pub AreRestScheduledBehind : RestVerdict → List ℕ → Type 0
+  abbrev pub AreRestScheduledBehind : Judged → List ℕ → Type 0
   AreRestScheduledBehind (Accepted times) lines = AreRestLinesInTime lines
-  AreRestScheduledBehind (Cycle nodes) lines = lines ≡ []
-  AreRestScheduledBehind (Late job leaves chain times) lines = AreLateRestLines lines
+  AreRestScheduledBehind (Refused (Cycle nodes)) lines = lines ≡ []
+  AreRestScheduledBehind (Refused (Late job leaves chain times)) lines = AreLateRestLines lines
 
   -- the schedule of a verdict on the rest: its first line, and then those behind it
-  pub record IsRestScheduled (verdict : RestVerdict) (text : List ℕ) : Type 0 where
+  pub record IsRestScheduled (verdict : Judged) (text : List ℕ) : Type 0 where
     pub first : List ℕ
     pub is : IsRestFirstLine p c t verdict first
     pub behind : List ℕ

@@ -10,7 +10,7 @@ ghost use Rattle.rest_texts.specs.RestChains.{IsRestChain, AreRestChainLines};
 use crate::words::{Line, push_line, put_node};
 use cell_tables::WorkCell;
 use plan_explain::push_reached_lines;
-use rest_times::{Hold, NodeBound, bound_after};
+use plan_verifier::{Hold, NodeBound, bound_after};
 use shop_base::{JobNo, MachineNo, Moment, Node, Planned};
 use std::alloc::AllocError;
 

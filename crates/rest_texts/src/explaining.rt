@@ -7,8 +7,9 @@ ghost use Rattle.shop_base.specs.Cell.{IsGone};
 ghost use Rattle.shop_base.specs.Graph.{leaving};
 ghost use Rattle.alt_graph.specs.Times.{earliest_of};
 ghost use Rattle.plan_explain.specs.Added.{Adds};
-ghost use Rattle.rest_times.specs.Rest.{AreOrderedAhead};
-ghost use Rattle.rest_times.specs.RestVerdicts.{IsFirstLateAhead};
+ghost use Rattle.plan_verifier.specs.Rest.{AreOrderedAhead};
+ghost use Rattle.plan_verifier.specs.declared.verdict.Judged.TheVariants.{Refused};
+ghost use Rattle.plan_verifier.specs.RestVerdicts.{IsFirstLateAhead, IsReasonAhead};
 ghost use Rattle.rest_texts.specs.RestChains.{AreRestChainLines};
 ghost use Rattle.rest_texts.specs.RestVerdicts.{IsRestJudged};
 ghost use Rattle.rest_texts.specs.RestExplained.{IsPathTextTo, IsLastChainText, AreRestMomentLines, AreRestBehind, IsRestExplained};
@@ -19,7 +20,7 @@ use crate::leaving_lines::push_leaving_lines;
 use alt_graph::Times;
 use cell_tables::WorkCell;
 use plan_explain::push_cycle_lines;
-use rest_times::{RestVerdict, last_to_leave, leave_time_after};
+use plan_verifier::{Judged, Why, last_to_leave, leave_time};
 use shop_base::{JobNo, Moment, Node, Planned};
 use std::alloc::{AllocError, Global};
 
@@ -32,7 +33,7 @@ pub fn explain_after<P: Planned>(
     alloc: Global,
     cell: &WorkCell<P>,
     present: Moment,
-    verdict: &RestVerdict,
+    verdict: &Judged,
 ) -> Result<Vec<u8>, AllocError>
     requires present { present ≤ MAX_MOMENT }
     requires judged { IsRestJudged cell.now.plan cell.now.cell present verdict.now }
@@ -49,16 +50,31 @@ fn push_lines_behind<P: Planned>(
     text: &mut Vec<u8>,
     cell: &WorkCell<P>,
     present: Moment,
-    verdict: &RestVerdict,
+    verdict: &Judged,
 ) -> Result<(), AllocError>
     requires present { present ≤ MAX_MOMENT }
     requires judged { IsRestJudged cell.now.plan cell.now.cell present verdict.now }
     ensures { OnOk result (Adds (AreRestBehind cell.now.plan cell.now.cell present verdict.now) text.old.items text.new.items) }
 {
     match verdict {
-        RestVerdict::Accepted(times) => push_accepted_lines(alloc, text, cell, present, times),
-        RestVerdict::Cycle(nodes) => push_cycle_lines(text, cell.shaped(), nodes),
-        RestVerdict::Late {
+        Judged::Accepted(times) => push_accepted_lines(alloc, text, cell, present, times),
+        Judged::Refused(why) => push_refused_lines(text, cell, present, why),
+    }
+}
+
+fn push_refused_lines<P: Planned>(
+    text: &mut Vec<u8>,
+    cell: &WorkCell<P>,
+    present: Moment,
+    why: &Why,
+) -> Result<(), AllocError>
+    requires present { present ≤ MAX_MOMENT }
+    requires reason { IsReasonAhead cell.now.plan cell.now.cell present (Refused why.now) }
+    ensures { OnOk result (Adds (AreRestBehind cell.now.plan cell.now.cell present (Refused why.now)) text.old.items text.new.items) }
+{
+    match why {
+        Why::Cycle(nodes) => push_cycle_lines(text, cell.shaped(), nodes),
+        Why::Late {
             job,
             leaves,
             chain,
@@ -115,7 +131,7 @@ fn push_last_chain<P: Planned>(
 {
     match last_to_leave(cell, times) {
         Some(job) => {
-            let leaves = leave_time_after(cell, times, job);
+            let leaves = leave_time(cell, times, job);
             push_chain_to(alloc, text, cell, present, times, job, leaves)
         }
         None => Ok(()),

@@ -12,7 +12,7 @@ use crate::words::{Line, push_line};
 use alt_graph::Times;
 use cell_tables::WorkCell;
 use plan_explain::{push_cycle_line, push_late_line, push_moment};
-use rest_times::{RestVerdict, leave_time_after, makespan_after};
+use plan_verifier::{Judged, Why, leave_time, makespan};
 use shop_base::Planned;
 use std::alloc::{AllocError, Global};
 
@@ -21,7 +21,7 @@ use std::alloc::{AllocError, Global};
 pub fn first_line_after<P: Planned>(
     alloc: Global,
     cell: &WorkCell<P>,
-    verdict: &RestVerdict,
+    verdict: &Judged,
 ) -> Result<Vec<u8>, AllocError>
     requires { HasRanks cell.now.plan verdict.now }
     ensures { (t : ℕ) → IsRestJudged cell.now.plan cell.now.cell t verdict.now
@@ -36,20 +36,22 @@ pub fn first_line_after<P: Planned>(
 fn push_first_line<P: Planned>(
     text: &mut Vec<u8>,
     cell: &WorkCell<P>,
-    verdict: &RestVerdict,
+    verdict: &Judged,
 ) -> Result<(), AllocError>
     requires { HasRanks cell.now.plan verdict.now }
     ensures { OnOk result (Adds (IsLineByTimes cell.now.plan verdict.now) text.old.items text.new.items) }
 {
     match verdict {
-        RestVerdict::Accepted(times) => push_accepted_line(text, cell, times),
-        RestVerdict::Cycle(nodes) => push_cycle_line(text, nodes),
-        RestVerdict::Late {
-            job,
-            leaves,
-            chain,
-            times: _,
-        } => push_late_line(text, *job, *leaves, chain),
+        Judged::Accepted(times) => push_accepted_line(text, cell, times),
+        Judged::Refused(Why::Cycle(nodes)) => push_cycle_line(text, nodes),
+        Judged::Refused(
+            Why::Late {
+                job,
+                leaves,
+                chain,
+                times: _,
+            },
+        ) => push_late_line(text, *job, *leaves, chain),
     }
 }
 
@@ -64,7 +66,7 @@ fn push_accepted_line<P: Planned>(
 {
     let mut line = Line::empty();
     line.put_text(b" leaves");
-    line.put_number(makespan_after(cell, times));
+    line.put_number(makespan(cell, times));
     line.put_text(b"accepted makespan ");
     push_line(text, &line)?;
     push_leavings(text, cell, times)?;
@@ -81,7 +83,7 @@ fn push_leavings<P: Planned>(
     ensures { OnOk result (text.new.items ≡ text.old.items ++ moment_words (leavings_by cell.now.plan (earliest_of times.now))) }
 {
     for job in 0..cell.job_count() {
-        push_moment(text, leave_time_after(cell, times, job))?;
+        push_moment(text, leave_time(cell, times, job))?;
     }
     Ok(())
 }

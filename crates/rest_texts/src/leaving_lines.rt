@@ -9,7 +9,7 @@ use crate::words::{Line, push_line};
 use alt_graph::Times;
 use cell_tables::WorkCell;
 use plan_explain::push_leaving_line;
-use rest_times::leave_time_after;
+use plan_verifier::leave_time;
 use shop_base::{JobNo, Moment, Planned};
 use std::alloc::AllocError;
 
@@ -24,7 +24,7 @@ pub(crate) fn push_leaving_lines<P: Planned>(
         ++ rest_leaving_lines cell.now.plan cell.now.cell (earliest_of times.now)) }
 {
     for job in 0..cell.job_count() {
-        let leaves = leave_time_after(cell, times, job);
+        let leaves = leave_time(cell, times, job);
         push_job_line(text, cell, job, leaves)?;
     }
     Ok(())

@@ -6,7 +6,9 @@ ghost use Rattle.shop_base.specs.Ahead.{MeetBudgetsAhead};
 ghost use Rattle.alt_graph.specs.Times.{earliest_of};
 ghost use Rattle.plan_explain.specs.Added.{Adds};
 ghost use Rattle.plan_schedule.specs.Calendars.{HasDeadlines, seen, due_in};
-ghost use Rattle.rest_times.specs.Rest.{AreOrderedAhead};
+ghost use Rattle.plan_verifier.specs.declared.verdict.Judged.TheVariants.{Refused};
+ghost use Rattle.plan_verifier.specs.Rest.{AreOrderedAhead};
+ghost use Rattle.plan_verifier.specs.RestVerdicts.{IsReasonAhead};
 ghost use Rattle.rest_texts.specs.RestVerdicts.{IsRestJudged};
 ghost use Rattle.rest_texts.specs.SoonAhead.{AreBegun};
 ghost use Rattle.rest_texts.specs.RestSchedules.{AreRestLines};
@@ -17,7 +19,7 @@ use crate::scheduling::{push_cleanings, push_jobs};
 use alt_graph::{Deadlines, Times};
 use cell_tables::WorkCell;
 use plan_schedule::Calendar;
-use rest_times::{RestVerdict, deadlines_after};
+use plan_verifier::{Judged, Why, deadlines_after};
 use shop_base::{Moment, Planned};
 use std::alloc::{AllocError, Global};
 
@@ -29,7 +31,7 @@ pub fn schedule_after<P: Planned>(
     alloc: Global,
     cell: &WorkCell<P>,
     present: Moment,
-    verdict: &RestVerdict,
+    verdict: &Judged,
 ) -> Result<Vec<u8>, AllocError>
     requires present { IsNextMoment cell.now.cell present }
     requires judged { IsRestJudged cell.now.plan cell.now.cell present verdict.now }
@@ -46,16 +48,32 @@ fn push_lines_behind<P: Planned>(
     text: &mut Vec<u8>,
     cell: &WorkCell<P>,
     present: Moment,
-    verdict: &RestVerdict,
+    verdict: &Judged,
 ) -> Result<(), AllocError>
     requires present { IsNextMoment cell.now.cell present }
     requires judged { IsRestJudged cell.now.plan cell.now.cell present verdict.now }
     ensures { OnOk result (Adds (AreRestScheduledBehind cell.now.plan cell.now.cell present verdict.now) text.old.items text.new.items) }
 {
     match verdict {
-        RestVerdict::Accepted(times) => push_lines_in_time(alloc, text, cell, present, times),
-        RestVerdict::Cycle(_) => Ok(()),
-        RestVerdict::Late {
+        Judged::Accepted(times) => push_lines_in_time(alloc, text, cell, present, times),
+        Judged::Refused(why) => push_refused_lines(alloc, text, cell, present, why),
+    }
+}
+
+fn push_refused_lines<P: Planned>(
+    alloc: Global,
+    text: &mut Vec<u8>,
+    cell: &WorkCell<P>,
+    present: Moment,
+    why: &Why,
+) -> Result<(), AllocError>
+    requires present { IsNextMoment cell.now.cell present }
+    requires reason { IsReasonAhead cell.now.plan cell.now.cell present (Refused why.now) }
+    ensures { OnOk result (Adds (AreRestScheduledBehind cell.now.plan cell.now.cell present (Refused why.now)) text.old.items text.new.items) }
+{
+    match why {
+        Why::Cycle(_) => Ok(()),
+        Why::Late {
             job: _,
             leaves: _,
             chain: _,

@@ -1,5 +1,5 @@
 use Rattle.text_lines.specs.Lines.{ended_lines}
-use Rattle.rest_times.proofs.Verdicts.{ok_each}
+use Rattle.plan_verifier.proofs.Answers.{ok_each}
 use Rattle.rest_improve.specs.Runs.{AfterRounds}
 use Rattle.rest_improve.proofs.OneCell.{tells_run}
 use Rattle.rest_improve.proofs.Beginnings.{memory_rest, present_next}

@@ -1,7 +1,7 @@
 use Rattle.std.proofs.Common.{subst}
 use Rattle.shop_base.specs.Plan.{PlannedShop}
 use Rattle.text_lines.specs.Lines.{ended_lines}
-use Rattle.rest_times.proofs.Verdicts.{ok_each}
+use Rattle.plan_verifier.proofs.Answers.{ok_each}
 use Rattle.rest_improve.specs.Runs.{AfterRounds}
 use Rattle.rest_improve.specs.Keeping.{IsJudgedOn}
 use Rattle.rest_improve.proofs.Searched.{kept_set, searched, stayed}

@@ -6,7 +6,7 @@ use Rattle.rest_texts.proofs.first_lines.push_leavings.Goals as goal
 
 pub loop-job-preserved : goal.loop-job-preserved
 loop-job-preserved g c =
-    words_more _ _ _ (λ j. earliest_of c.args.times.now (leaving c.args.cell.now.plan j)) c.loop-job.job _ c.loop-job.invariant c.leave_time_after.ensures c.in_ok-push_moment.ensures
+    words_more _ _ _ (λ j. earliest_of c.args.times.now (leaving c.args.cell.now.plan j)) c.loop-job.job _ c.loop-job.invariant c.leave_time.ensures c.in_ok-push_moment.ensures
 
 pub loop-job-init : goal.loop-job-init
 loop-job-init g c = search rules depth 2

@@ -1,13 +1,10 @@
 use Rattle.alt_graph.proofs.WholePlans.{times_ranks}
-use Rattle.plan_verifier.proofs.Reasons.{ok_each}
+use Rattle.plan_verifier.proofs.Answers.{ok_each}
 use Rattle.plan_verifier.proofs.Latest.{of_verified}
 use Rattle.plan_verifier.proofs.verified.Verified.deadlines.Goals as goal
 
 pub latest_moments-requires : goal.latest_moments-requires
 latest_moments-requires c = times_ranks _ _ c.self.invariant.ordered.times
-
-pub returns-clause-deadlines : goal.returns-clause-deadlines
-returns-clause-deadlines c = rw (← c.self.view_is) (c.latest_moments.ensures.deadlines c.self.invariant.ordered c.self.invariant.budgets)
 
 pub returns-clause-fit : goal.returns-clause-fit
 returns-clause-fit c =

@@ -1,0 +1,179 @@
+-- Paths ahead, measured from where they can begin.
+use Rattle.std.proofs.Common.{◌≡◌, ◌↔◌, ℕ, ◌+◌, ◌<◌, ◌≤◌, List, [], ◌∷◌, ◌++◌, map, get_or, length, length-append, Option, None, Some, arith, refl, sym, ap, subst, ◌∙◌, inl, inr, lt-ltb, le-ltb}
+use Rattle.std.specs.Prelude.{IfSome}
+use Rattle.std.specs.List.{range_with_len}
+use Rattle.std.proofs.Math.Seq.{get_or-append_seam}
+use Rattle.std.proofs.lemmas.Bool.{cases_lt, cases_order}
+use Rattle.std.proofs.lemmas.List.FromFn.{get_or-map-range_with_len}
+use Rattle.shop_base.specs.declared.node.Node.{Node}
+use Rattle.shop_base.specs.Plan.{PlannedShop, jobs, steps, IsWellShaped}
+use Rattle.shop_base.specs.Cell.{Cell, job_in, made}
+use Rattle.shop_base.specs.Activity.{Activity, Arrival, Operation, Cleaning, GoesOn}
+use Rattle.shop_base.specs.Movers.{due_of_job}
+use Rattle.shop_base.specs.Sound.{IsSound}
+use Rattle.shop_base.specs.Punctual.{AreNotEarly}
+use Rattle.shop_base.specs.Graph.{node, IsNode, leaving}
+use Rattle.shop_base.specs.Ahead.{next_node, IsAhead, HoldsUp, PathAhead, now, held, onward}
+use Rattle.shop_base.proofs.CellFacts.{arrival_due, operation_due}
+use Rattle.shop_base.proofs.Cycles.{source_node}
+use Rattle.shop_base.proofs.Ahead.{IsLeftIn, held_left, path_left}
+use Rattle.shop_base.proofs.LowerBounds.{no_continuation_is_faster-holds}
+use Rattle.alt_graph.specs.Bounds.{NodeBounds, bound_of, PathFrom, begins_at, goes_along, IsChainFrom}
+use Rattle.alt_graph.specs.Evidence.{EndsIn}
+use Rattle.alt_graph.specs.Places.{node_at}
+use Rattle.plan_verifier.specs.CellBounds.{cleaned_at}
+use Rattle.plan_verifier.specs.FromThere.{IsNeverGoneBeforeFrom}
+use Rattle.plan_verifier.specs.Held.{later_than}
+use Rattle.plan_verifier.specs.PathBounds.{path_bounds, begun_at, beginning_in}
+use Rattle.plan_verifier.specs.Rest.{IsChainAhead}
+use Rattle.plan_verifier.proofs.Rests.{some_same, later_path, next_path}
+use Rattle.plan_verifier.proofs.Tables.{ahead_of, later_is, later_above, later_other, holds_cleaned}
+
+-- a path ahead ends with its last node
+pub ahead_ends : (p : PlannedShop) (c : Cell) (t : ℕ) (nodes : List Node) (v : Node) (n i : ℕ) → PathAhead p c t nodes v n → i + 1 ≡ length nodes → node_at nodes i ≡ v
+ahead_ends p c t _ _ _ i (now v is ahead) end = let first : i ≡ 0 = omega arith in ap (node_at (v ∷ [])) first
+ahead_ends p c t _ _ _ i (held a due v going holds) end = let first : i ≡ 0 = omega arith in ap (node_at (v ∷ [])) first
+ahead_ends p c t _ _ _ i (onward nodes u v n d path arc) end =
+    let is : i ≡ length nodes = omega (arith, length-append nodes (v ∷ [])) in
+    ap (node_at (nodes ++ v ∷ [])) is ∙ get_or-append_seam nodes v [] (node 0 0)
+
+-- it has a node
+pub ahead_some : (p : PlannedShop) (c : Cell) (t : ℕ) (nodes : List Node) (v : Node) (n : ℕ) → PathAhead p c t nodes v n → (i : ℕ) × (i + 1 ≡ length nodes)
+ahead_some p c t _ _ _ (now v is ahead) = (0, refl)
+ahead_some p c t _ _ _ (held a due v going holds) = (0, refl)
+ahead_some p c t _ _ _ (onward nodes u v n d path arc) = (length nodes, omega (arith, length-append nodes (v ∷ [])))
+
+-- no run that goes on is faster than a path ahead to a leaving
+pub path_no_faster : (p : PlannedShop) (c : Cell) (t j : ℕ) (nodes : List Node) (n : ℕ) → IsWellShaped p → PathAhead p c t nodes (leaving p j) n → IsNeverGoneBeforeFrom p c t j n
+path_no_faster p c t j nodes n shaped path es fs run end more from late gone =
+    no_continuation_is_faster-holds p es t j nodes n fs shaped run (subst (λ (d : Cell). PathAhead p d t nodes (leaving p j) n) (sym end) path) more from
+    (subst (λ (d : Cell). AreNotEarly p d fs) (sym end) late) gone
+
+module _ (p : PlannedShop) (c : Cell) (t : ℕ) (v : Node) where
+  begun_next : made c v.job ≡ v.place → begun_at p c t v ≡ later_than t (due_of_job p v.job (job_in c v.job))
+  begun_next next = rw (le-ltb (made c v.job) v.place (omega arith)) refl
+
+  begun_later : made c v.job < v.place → begun_at p c t v ≡ t
+  begun_later later = rw (lt-ltb (made c v.job) v.place later) refl
+
+  begun_above : IsAhead c v → t ≤ begun_at p c t v
+  begun_above ahead = elim (cases_lt (made c v.job) v.place) [
+    | inl later ↦ omega (arith, begun_later later)
+    | inr other ↦ (let here : made c v.job ≤ v.place = ahead in omega (arith, begun_next (omega arith), later_above t (due_of_job p v.job (job_in c v.job))))
+  ]
+
+  pub beginning_passed : v.place < made c v.job → beginning_in p c t v ≡ None
+  beginning_passed passed = rw (lt-ltb v.place (made c v.job) passed) refl
+
+  beginning_ahead : IsAhead c v → beginning_in p c t v ≡ Some (later_than (begun_at p c t v) (cleaned_at p c v))
+  beginning_ahead ahead = let here : made c v.job ≤ v.place = ahead in rw (le-ltb v.place (made c v.job) here) refl
+
+  pub beginning_next : made c v.job ≡ v.place → beginning_in p c t v ≡ Some (later_than (later_than t (due_of_job p v.job (job_in c v.job))) (cleaned_at p c v))
+  beginning_next next = beginning_ahead (omega arith) ∙ ap (λ n. Some (later_than n (cleaned_at p c v))) (begun_next next)
+
+  pub beginning_later : made c v.job < v.place → beginning_in p c t v ≡ Some (later_than t (cleaned_at p c v))
+  beginning_later later = beginning_ahead (omega arith) ∙ ap (λ n. Some (later_than n (cleaned_at p c v))) (begun_later later)
+
+module _ (p : PlannedShop) (c : Cell) (t : ℕ) (sound : IsSound p c) where
+  abbrev b : NodeBounds
+  b = path_bounds p c t
+
+  pub beginning_told : (v : Node) → IsNode p v → bound_of b v ≡ beginning_in p c t v
+  beginning_told v is =
+      ap (λ (row : List (Option ℕ)). get_or row v.place None)
+      (get_or-map-range_with_len (λ j. map (λ k. beginning_in p c t (node j k)) (range_with_len 0 (steps p j + 1))) 0 (jobs p) v.job v.job [] is.job (omega arith))
+      ∙ get_or-map-range_with_len (λ k. beginning_in p c t (node v.job k)) 0 (steps p v.job + 1) v.place v.place None (omega (arith, is.place)) (omega arith)
+
+  -- where a path can begin one begins
+  beginning_path : (v : Node) (n : ℕ) → IsNode p v → bound_of b v ≡ Some n → PathAhead p c t (v ∷ []) v n
+  beginning_path v n is told = elim (cases_order v.place (made c v.job)) [
+    | inl same ↦ from_next (sym same)
+    | inr other ↦ elim other [
+      | inl passed ↦ absurd (differ n (sym (beginning_told v is ∙ beginning_passed p c t v passed) ∙ told))
+      | inr later ↦ from_later later
+    ]
+  ]
+    where
+      differ : (m : ℕ) → None ≡ Some m → ⊥
+      differ m bad = cc
+
+      from_next : made c v.job ≡ v.place → PathAhead p c t (v ∷ []) v n
+      from_next next =
+          let first = later_than t (due_of_job p v.job (job_in c v.job)) in
+          let left : IsLeftIn p c v = record { ahead = omega arith; job = is.job; place = is.place } in
+          let same : later_than first (cleaned_at p c v) ≡ n = some_same p c t sound _ _ (sym (beginning_told v is ∙ beginning_next p c t v next) ∙ told) in
+          subst (λ k. PathAhead p c t (v ∷ []) v k) same
+          (later_path p c t sound v first (later_than first (cleaned_at p c v)) left (next_path p c t sound v first is next (later_is t (due_of_job p v.job (job_in c v.job)))) (later_is first (cleaned_at p c v)))
+
+      from_later : made c v.job < v.place → PathAhead p c t (v ∷ []) v n
+      from_later later =
+          let left : IsLeftIn p c v = record { ahead = omega arith; job = is.job; place = is.place } in
+          let same : later_than t (cleaned_at p c v) ≡ n = some_same p c t sound _ _ (sym (beginning_told v is ∙ beginning_later p c t v later) ∙ told) in
+          subst (λ k. PathAhead p c t (v ∷ []) v k) same
+          (later_path p c t sound v t (later_than t (cleaned_at p c v)) left (now v is left.ahead) (later_is t (cleaned_at p c v)))
+
+  -- so each path from there is one ahead
+  path_ahead : (nodes : List Node) (v : Node) (n : ℕ) → PathFrom p b nodes v n → PathAhead p c t nodes v n
+  path_ahead _ _ _ (begins_at v n is told) = beginning_path v n is told
+  path_ahead _ _ _ (goes_along nodes u v n d path from arc) = onward nodes u v n d (path_ahead nodes u n path) arc
+
+  -- and along the nodes of a path ahead there is one from there that is at least as long
+  begin_long : (v : Node) (k : ℕ) → IsLeftIn p c v → k ≤ later_than (begun_at p c t v) (cleaned_at p c v) → (n : ℕ) × (k ≤ n) × PathFrom p b (v ∷ []) v n
+  begin_long v k left le =
+      let is : IsNode p v = record { job = left.job; place = left.place } in
+      (later_than (begun_at p c t v) (cleaned_at p c v), le, begins_at v _ is (beginning_told v is ∙ beginning_ahead p c t v left.ahead))
+
+  busy_long : (j due : ℕ) (v : Node) → due_of_job p j (job_in c j) ≡ Some due → v ≡ next_node c j → due ≤ later_than (begun_at p c t v) (cleaned_at p c v)
+  busy_long j due v told is =
+      let same : v.job ≡ j = ap (λ (w : Node). w.job) is in
+      let next : made c v.job ≡ v.place = ap (made c) same ∙ sym (ap (λ (w : Node). w.place) is) in
+      let at : due_of_job p v.job (job_in c v.job) ≡ Some due = ap (λ i. due_of_job p i (job_in c i)) same ∙ told in
+      omega (arith, later_other t due (due_of_job p v.job (job_in c v.job)) at, begun_next p c t v next, later_above (begun_at p c t v) (cleaned_at p c v))
+
+  held_long : (a : Activity) (due : ℕ) (v : Node) → GoesOn p c a due → HoldsUp p c a v → due ≤ later_than (begun_at p c t v) (cleaned_at p c v)
+  held_long (Arrival j) due v going holds = busy_long j due v (arrival_due p c j due going) holds
+  held_long (Operation j m) due v going holds = busy_long j due v (operation_due p c j m due going) holds
+  held_long (Cleaning m) due v going holds = later_other (begun_at p c t v) due (cleaned_at p c v) (holds_cleaned p c v due m going holds)
+
+  path_long : (nodes : List Node) (v : Node) (k : ℕ) → PathAhead p c t nodes v k → (n : ℕ) × (k ≤ n) × PathFrom p b nodes v n
+  path_long _ _ _ (now v is ahead) =
+      begin_long v t (record { ahead = ahead; job = is.job; place = is.place }) (omega (arith, begun_above p c t v ahead, later_above (begun_at p c t v) (cleaned_at p c v)))
+  path_long _ _ _ (held a due v going holds) = begin_long v due (held_left p c a due v sound going holds) (held_long a due v going holds)
+  path_long _ _ _ (onward nodes u v n d path arc) =
+      let (m, le, from) = path_long nodes u n path in
+      (m + d, omega (arith, le), goes_along nodes u v m d from (ahead_of p c t sound u (source_node p u v d arc).job (path_left p c t nodes u n sound path).ahead) arc)
+
+  module _ (nodes : List Node) (told : Option ℕ) (exact : (n : ℕ) → (told ≡ Some n) ↔ IsChainFrom p b nodes n) where
+    pub told_ahead : (n : ℕ) → (told ≡ Some n) ↔ IsChainAhead p c t nodes n
+    told_ahead n = (there, back)
+      where
+        there : told ≡ Some n → IsChainAhead p c t nodes n
+        there is =
+            let chain = (exact n).0 is in
+            record {
+              few = chain.few;
+              path = (chain.path.0, path_ahead nodes chain.path.0 n chain.path.1);
+              greatest = λ w k other. (let (m, le, from) = path_long nodes w k other in
+                  let again : told ≡ Some m = (exact m).1 (record { few = chain.few; path = (w, from) }) in
+                  omega (arith, le, some_same p c t sound m n (sym again ∙ is)));
+            }
+
+        back : IsChainAhead p c t nodes n → told ≡ Some n
+        back chain =
+            let (m, le, from) = path_long nodes chain.path.0 n chain.path.1 in
+            let same : m ≡ n = omega (arith, le, chain.greatest chain.path.0 m (path_ahead nodes chain.path.0 m from)) in
+            subst (λ k. told ≡ Some k) same ((exact m).1 (record { few = chain.few; path = (chain.path.0, from) }))
+
+    pub told_no_faster : IsWellShaped p → IfSome told (λ n. (j : ℕ) → EndsIn nodes (leaving p j) → IsNeverGoneBeforeFrom p c t j n)
+    told_no_faster shaped = go told refl
+      where
+        go : (o : Option ℕ) → told ≡ o → IfSome o (λ n. (j : ℕ) → EndsIn nodes (leaving p j) → IsNeverGoneBeforeFrom p c t j n)
+        go None is = tt
+        go (Some n) is = (let chain = (told_ahead n).0 is in λ j ends. path_no_faster p c t j nodes n shaped
+            (subst (λ (w : Node). PathAhead p c t nodes w n) (ends_at chain.path.0 n chain.path.1 j ends) chain.path.1))
+          where
+            ends_at : (v : Node) (m : ℕ) → PathAhead p c t nodes v m → (j : ℕ) → EndsIn nodes (leaving p j) → v ≡ leaving p j
+            ends_at v m path j (front, same) =
+                sym (ahead_ends p c t nodes v m (length front) path (omega (arith, ap length same, length-append front (leaving p j ∷ []))))
+                ∙ ap (λ all. node_at all (length front)) same
+                ∙ get_or-append_seam front (leaving p j) [] (node 0 0)

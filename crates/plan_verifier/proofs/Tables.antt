@@ -1,0 +1,110 @@
+-- What the table of a cell's bounds tells.
+use Rattle.std.proofs.Common.{◌≡◌, ℕ, ◌+◌, ◌-◌, ◌<◌, ◌≤◌, List, [], map, length, get_or, Bool, true, false, nat_lt, nat_eq, if◌then◌else◌, Option, None, Some, arith, refl, sym, ap, ◌∙◌, ◌⊎◌, inl, inr, lt-ltb, le-ltb, ltb-true, eq-eqb, eqb-true}
+use Rattle.std.specs.List.{range_with_len}
+use Rattle.std.proofs.lemmas.Bool.{cases_lt, cases_order, and_parts, and_from}
+use Rattle.std.proofs.lemmas.List.{get_or-map}
+use Rattle.std.proofs.lemmas.List.FromFn.{get_or-map-range_with_len}
+use Rattle.shop_base.specs.declared.node.Node.{Node}
+use Rattle.shop_base.specs.declared.job_state.JobState.{JobState}
+use Rattle.shop_base.specs.Plan.{PlannedShop, jobs, steps, order, machine_of, job_at}
+use Rattle.shop_base.specs.Cell.{Cell, job_in, made, since, entries, cleaning, absent}
+use Rattle.shop_base.specs.Activity.{Cleaning, GoesOn}
+use Rattle.shop_base.specs.Movers.{due_of_job, due_of_cleaning}
+use Rattle.shop_base.specs.Sound.{IsSound}
+use Rattle.shop_base.specs.Graph.{node, IsNode}
+use Rattle.shop_base.specs.Ahead.{IsAhead, HoldsUp}
+use Rattle.shop_base.proofs.CellFacts.{cleaning_due, due_cleaning}
+use Rattle.alt_graph.specs.Bounds.{bound_of, IsAheadOf, AreRooted}
+use Rattle.plan_verifier.specs.CellBounds.{rest_bounds, bound_in, held_to, is_next_in, cleaned_at}
+use Rattle.plan_verifier.specs.Held.{later_than}
+
+module _ (p : PlannedShop) (c : Cell) (t : ℕ) where
+  -- a passed node has the moment of its job's last move
+  pub bound_passed : (v : Node) → v.place < made c v.job → bound_in p c t v ≡ Some (since c v.job)
+  bound_passed v passed = rw (lt-ltb v.place (made c v.job) passed) refl
+
+  -- its job's next node the present moment or what goes on with the job, and a cleaning
+  pub bound_next : (v : Node) → made c v.job ≡ v.place → bound_in p c t v ≡ Some (later_than (later_than t (due_of_job p v.job (job_in c v.job))) (cleaned_at p c v))
+  bound_next v next = rw (le-ltb v.place (made c v.job) (omega arith), le-ltb (made c v.job) v.place (omega arith)) refl
+
+  -- another node ahead what a cleaning does
+  pub bound_later : (v : Node) → made c v.job < v.place → bound_in p c t v ≡ held_to t (cleaned_at p c v)
+  bound_later v later = rw (le-ltb v.place (made c v.job) (omega arith), lt-ltb (made c v.job) v.place later) refl
+
+  module _ (sound : IsSound p c) where
+    pub made_told : (j : ℕ) → j < jobs p → get_or (rest_bounds p c t).made j 0 ≡ made c j
+    made_told j inside = get_or-map (λ (s : JobState). s.made) c.jobs j absent 0 (omega (arith, sound.job_count))
+
+    pub bound_told : (v : Node) → IsNode p v → bound_of (rest_bounds p c t) v ≡ bound_in p c t v
+    bound_told v is =
+        ap (λ (row : List (Option ℕ)). get_or row v.place None)
+        (get_or-map-range_with_len (λ j. map (λ k. bound_in p c t (node j k)) (range_with_len 0 (steps p j + 1))) 0 (jobs p) v.job v.job [] is.job (omega arith))
+        ∙ get_or-map-range_with_len (λ k. bound_in p c t (node v.job k)) 0 (steps p v.job + 1) v.place v.place None (omega (arith, is.place)) (omega arith)
+
+    -- a node is ahead by the table where it is in the cell
+    pub ahead_of : (v : Node) → v.job < jobs p → IsAhead c v → IsAheadOf (rest_bounds p c t) v
+    ahead_of v inside ahead = let here : made c v.job ≤ v.place = ahead in omega (arith, made_told v.job inside)
+
+    pub of_ahead : (v : Node) → v.job < jobs p → IsAheadOf (rest_bounds p c t) v → IsAhead c v
+    of_ahead v inside ahead = omega (arith, made_told v.job inside, ahead)
+
+    -- a node without a bound is behind its job's next one
+    pub rest_rooted : AreRooted p (rest_bounds p c t)
+    rest_rooted v is free = elim (cases_order v.place (made c v.job)) [
+      | inl same ↦ absurd (differ _ (sym (bound_told v is ∙ bound_next v (sym same)) ∙ free))
+      | inr other ↦ elim other [
+        | inl passed ↦ absurd (differ _ (sym (bound_told v is ∙ bound_passed v passed) ∙ free))
+        | inr later ↦ (v.place - 1, omega arith, omega (arith, made_told v.job is.job))
+      ]
+    ]
+      where
+        differ : (n : ℕ) → Some n ≡ None → ⊥
+        differ n bad = cc
+
+-- the later of two moments is one of them
+pub later_is : (n : ℕ) (o : Option ℕ) → (later_than n o ≡ n) ⊎ ((m : ℕ) × (o ≡ Some m) × (later_than n o ≡ m))
+later_is n None = inl refl
+later_is n (Some m) = elim (cases_lt n m) [
+  | inl less ↦ inr (m, refl, omega arith)
+  | inr more ↦ inl (omega arith)
+]
+
+pub later_above : (n : ℕ) (o : Option ℕ) → n ≤ later_than n o
+later_above n None = omega arith
+later_above n (Some m) = omega arith
+
+pub later_other : (n m : ℕ) (o : Option ℕ) → o ≡ Some m → m ≤ later_than n o
+later_other n m o is = rw is (omega arith)
+
+module _ (p : PlannedShop) (c : Cell) (v : Node) (due : ℕ) where
+  abbrev there : ℕ
+  there = machine_of p v.job v.place
+
+  -- what the table tells of a cleaning goes on, and holds the node up
+  pub cleaned_holds : cleaned_at p c v ≡ Some due → (m : ℕ) × GoesOn p c (Cleaning m) due × HoldsUp p c (Cleaning m) v
+  cleaned_holds told = go (nat_lt v.place (steps p v.job)) refl (is_next_in p c there v.job) refl told
+    where
+      go : (b : Bool) → nat_lt v.place (steps p v.job) ≡ b → (d : Bool) → is_next_in p c there v.job ≡ d
+          → (if b then (if d then due_of_cleaning p there (cleaning c there) else None) else None) ≡ Some due
+          → (m : ℕ) × GoesOn p c (Cleaning m) due × HoldsUp p c (Cleaning m) v
+      go true within true next at =
+          let both = and_parts (nat_lt (length (entries c there)) (length (order p there))) (nat_eq (job_at p there (length (entries c there))) v.job) next in (
+            there,
+            due_cleaning p c there due at,
+            record {
+              within = ltb-true (length (entries c there)) (length (order p there)) both.0;
+              job = eqb-true (job_at p there (length (entries c there))) v.job both.1;
+              visits = record { within = ltb-true v.place (steps p v.job) within; here = refl };
+            },
+          )
+      go true within false next at = absurd cc
+      go false past d next at = absurd cc
+
+  -- and the other way round
+  pub holds_cleaned : (m : ℕ) → GoesOn p c (Cleaning m) due → HoldsUp p c (Cleaning m) v → cleaned_at p c v ≡ Some due
+  holds_cleaned m goes stands = rw (
+    lt-ltb v.place (steps p v.job) stands.visits.within,
+    stands.visits.here,
+    and_from (nat_lt (length (entries c m)) (length (order p m))) (nat_eq (job_at p m (length (entries c m))) v.job)
+        (lt-ltb (length (entries c m)) (length (order p m)) stands.within) (eq-eqb (job_at p m (length (entries c m))) v.job stands.job),
+  ) (cleaning_due p c m due goes)

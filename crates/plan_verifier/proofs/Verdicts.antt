@@ -1,0 +1,99 @@
+-- The verdict on a rest: what is late, what is accepted, and what that says of the runs that go on.
+use Rattle.std.proofs.Common.{◌≡◌, ◌↔◌, ℕ, ◌+◌, ◌<◌, ◌≤◌, List, length, arith, sym, subst, ◌∙◌}
+use Rattle.std.proofs.lemmas.List.{length_push}
+use Rattle.shop_base.specs.declared.node.Node.{Node}
+use Rattle.shop_base.specs.Plan.{PlannedShop, jobs, budget, IsWellShaped}
+use Rattle.shop_base.specs.Cell.{Cell, IsGone}
+use Rattle.shop_base.specs.Graph.{leaving, IsNode, RanksRise}
+use Rattle.shop_base.specs.CycleLaw.{AreNeverMade}
+use Rattle.shop_base.specs.Ahead.{MeetBudgetsAhead, PathAhead, now, held, onward}
+use Rattle.shop_base.proofs.Cycles.{ranks_exclude_cycle}
+use Rattle.alt_graph.specs.Solved.{HasCycle}
+use Rattle.alt_graph.specs.Times.{NodeTimes, rank_of, earliest_of, IsPathFromBy}
+use Rattle.alt_graph.proofs.CycleParts.{cycle_simple, cycle_stops}
+use Rattle.alt_graph.proofs.WholePlans.{cycle_has}
+use Rattle.plan_verifier.specs.FromThere.{IsNeverInBudgetFrom, IsNeverDoneFrom}
+use Rattle.plan_verifier.specs.Rest.{AreOrderedAhead, IsChainAhead}
+use Rattle.plan_verifier.specs.RestVerdicts.{IsWithinBudgetAhead, IsAcceptableAhead, IsAcceptedAhead, IsFirstLateAhead, IsReasonAhead, IsRestAccepted, OnRestRefused, OnRestCycle, OnRestTimes}
+use Rattle.plan_verifier.specs.declared.verdict.Judged.{Judged}
+use Rattle.plan_verifier.specs.declared.verdict.Judged.TheVariants.{Accepted, Refused}
+use Rattle.plan_verifier.specs.declared.verdict.Why.TheVariants.{Cycle, Late}
+use Rattle.plan_verifier.proofs.GoingOn.{leaving_ahead, never_gone_before, never_done_just, late_just, cycle_never_done}
+use Rattle.plan_verifier.proofs.PathsAhead.{ahead_ends, ahead_some}
+
+-- a path ahead has no more nodes than its last one's rank and one
+path_few : (p : PlannedShop) (c : Cell) (t : ℕ) (rank : Node → ℕ) (nodes : List Node) (v : Node) (n : ℕ) → RanksRise p rank → PathAhead p c t nodes v n → length nodes ≤ rank v + 1
+path_few p c t rank _ _ _ rise (now v is ahead) = omega arith
+path_few p c t rank _ _ _ rise (held a due v going holds) = omega arith
+path_few p c t rank _ _ _ rise (onward nodes u v n d path arc) = omega (arith, path_few p c t rank nodes u n rise path, rise u v d arc, length_push nodes v)
+
+module _ (p : PlannedShop) (c : Cell) (t : ℕ) (times : NodeTimes) (ordered : AreOrderedAhead p c t times) where
+  abbrev kept : Node → ℕ
+  kept = earliest_of times
+
+  acyclic : HasCycle p → ⊥
+  acyclic (nodes, cycle) = ranks_exclude_cycle p (rank_of times) nodes ordered.schedule.ranks cycle
+
+  within_budget : (j : ℕ) → kept (leaving p j) ≤ budget p j → IsWithinBudgetAhead p c t j
+  within_budget j le nodes n path = omega (arith, ordered.greatest nodes (leaving p j) n path)
+
+  pub acceptable : MeetBudgetsAhead p c kept → IsAcceptableAhead p c t
+  acceptable meets = record { acyclic = acyclic; budgets = λ j inside here. within_budget j (meets j inside here) }
+
+  -- a path ahead as long as the moment of its end is evidence of it
+  path_chain : (nodes : List Node) (v : Node) → IsNode p v → PathAhead p c t nodes v (kept v) → IsChainAhead p c t nodes (kept v)
+  path_chain nodes v is path = record {
+    few = omega (arith, path_few p c t (rank_of times) nodes v (kept v) ordered.schedule.ranks path, ordered.ranks.few v is);
+    path = (v, path);
+    greatest = λ w k other. (
+        let (i, end) = ahead_some p c t nodes v (kept v) path in
+        let same : w ≡ v = sym (ahead_ends p c t nodes w k i other end) ∙ ahead_ends p c t nodes v (kept v) i path end in
+        ordered.greatest nodes v k (subst (λ (u : Node). PathAhead p c t nodes u k) same other));
+  }
+
+  pub first_late : (j : ℕ) (nodes : List Node) → j < jobs p → (IsGone p c j → ⊥) → budget p j < kept (leaving p j)
+      → ((i : ℕ) → i < j → (IsGone p c i → ⊥) → kept (leaving p i) ≤ budget p i) → IsPathFromBy times (leaving p j) nodes → IsFirstLateAhead p c t j (kept (leaving p j)) nodes
+  first_late j nodes inside here past before chain =
+      let is : IsNode p (leaving p j) = record { job = inside; place = omega arith } in
+      let (path, begins) = ordered.chains nodes (leaving p j) is (leaving_ahead p c j here) chain in
+      record {
+        acyclic = acyclic;
+        job = inside;
+        here = here;
+        before = λ i lt still. within_budget i (before i lt still);
+        greatest = record { reached = (nodes, path); longest = λ others k other. ordered.greatest others (leaving p j) k other };
+        past = past;
+        path = path;
+        begins = begins;
+        evidence = path_chain nodes (leaving p j) is path;
+      }
+
+-- a reason for a refusal leaves no rest to be accepted
+pub reason_refutes : (p : PlannedShop) (c : Cell) (t : ℕ) (verdict : Judged) → IsReasonAhead p c t verdict → IsAcceptableAhead p c t → IsRestAccepted verdict
+reason_refutes p c t (Accepted times) reason acceptable = tt
+reason_refutes p c t (Refused (Cycle nodes)) reason acceptable = absurd (acceptable.acyclic (cycle_has p nodes.items reason))
+reason_refutes p c t (Refused (Late job leaves chain times)) reason acceptable =
+    absurd (let le = acceptable.budgets job reason.0.job reason.0.here chain.items leaves reason.0.path in omega (arith, le, reason.0.past))
+
+-- a verdict accepts just the rests that are to be accepted
+pub verdict_exact : (p : PlannedShop) (c : Cell) (t : ℕ) (verdict : Judged) → IsAcceptedAhead p c t verdict → IsReasonAhead p c t verdict → IsRestAccepted verdict ↔ IsAcceptableAhead p c t
+verdict_exact p c t (Accepted times) accepted reason = (λ _. accepted.1, λ _. tt)
+verdict_exact p c t (Refused why) accepted reason = (λ says. absurd says, λ is. reason_refutes p c t (Refused why) reason is)
+
+-- it has earliest moments or a cycle
+pub verdict_times : (p : PlannedShop) (c : Cell) (t : ℕ) (P : NodeTimes → Type 0) (verdict : Judged) → ((times : NodeTimes) → AreOrderedAhead p c t times → P times)
+    → IsAcceptedAhead p c t verdict → IsReasonAhead p c t verdict → OnRestTimes P verdict
+verdict_times p c t P (Accepted times) holds accepted reason = holds times accepted.0
+verdict_times p c t P (Refused (Cycle nodes)) holds accepted reason = tt
+verdict_times p c t P (Refused (Late job leaves chain times)) holds accepted reason = holds times reason.1
+
+pub verdict_stops : (p : PlannedShop) (c : Cell) (t : ℕ) (verdict : Judged) → IsWellShaped p → IsReasonAhead p c t verdict → OnRestCycle (λ nodes. AreNeverMade p nodes × IsNeverDoneFrom p c) verdict
+verdict_stops p c t (Accepted times) shaped reason = tt
+verdict_stops p c t (Refused (Cycle nodes)) shaped reason = ((cycle_stops p nodes.items shaped reason).0, cycle_never_done p c nodes.items shaped (cycle_simple p nodes.items reason))
+verdict_stops p c t (Refused (Late job leaves chain times)) shaped reason = tt
+
+pub verdict_just : (p : PlannedShop) (c : Cell) (t : ℕ) (verdict : Judged) → IsWellShaped p → IsReasonAhead p c t verdict → OnRestRefused (IsNeverInBudgetFrom p c t) verdict
+verdict_just p c t (Accepted times) shaped reason = tt
+verdict_just p c t (Refused (Cycle nodes)) shaped reason = never_done_just p c t (cycle_never_done p c nodes.items shaped (cycle_simple p nodes.items reason))
+verdict_just p c t (Refused (Late job leaves chain times)) shaped reason =
+    late_just p c t job (earliest_of times (leaving p job)) reason.0.job reason.0.here (omega (arith, reason.0.past, reason.2)) (never_gone_before p c t times reason.1 job reason.0.job reason.0.here)

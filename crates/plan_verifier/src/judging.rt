@@ -1,0 +1,68 @@
+//! The verdict on what is ahead of a plan, from any bounds: by its cycle first, and by its first late job second.
+
+ghost use Rattle.std.specs.Prelude.{◌≡◌, ◌<◌, IfOk};
+ghost use Rattle.shop_base.specs.Plan.{jobs};
+ghost use Rattle.alt_graph.specs.Bounds.{NodeBounds};
+ghost use Rattle.alt_graph.specs.Times.{AreRanks, AreOrderedFrom, earliest_of};
+ghost use Rattle.alt_graph.specs.Solved.{OnOrderedFrom, OnCyclic};
+ghost use Rattle.plan_verifier.specs.FromBounds.{IsFirstPastFrom, IsJudgedFrom};
+
+use crate::leavings::{first_late, leave_time, leaving_of};
+use crate::verdict::{Judged, Why};
+use alt_graph::{Bounds, Solved, Times};
+use shop_base::{JobNo, Shaped};
+use std::alloc::{AllocError, Global};
+
+/// Judges a plan whose graph is solved from these bounds. Jobs whose leavings aren't ahead aren't judged.
+pub(crate) fn judge<B: Bounds>(
+    alloc: Global,
+    shaped: &Shaped,
+    bounds: &B,
+    solved: Solved,
+) -> Result<Judged, AllocError>
+    requires planned { B.planned bounds.now ≡ shaped.now }
+    requires ordered { OnOrderedFrom shaped.now (B.bounds bounds.now) solved }
+    requires cyclic { OnCyclic shaped.now solved }
+    ensures { IfOk result (IsJudgedFrom shaped.now (B.bounds bounds.now)) }
+{
+    match solved {
+        Solved::Ordered(times) => judge_ordered(alloc, shaped, bounds, times),
+        Solved::Cyclic(nodes) => Ok(Judged::Refused(Why::Cycle(nodes))),
+    }
+}
+
+/// Judges a plan without a cycle.
+fn judge_ordered<B: Bounds>(
+    alloc: Global,
+    shaped: &Shaped,
+    bounds: &B,
+    times: Times,
+) -> Result<Judged, AllocError>
+    requires planned { B.planned bounds.now ≡ shaped.now }
+    requires ordered { AreOrderedFrom shaped.now (B.bounds bounds.now) times }
+    ensures { IfOk result (IsJudgedFrom shaped.now (B.bounds bounds.now)) }
+{
+    match first_late(shaped, bounds, &times) {
+        Some(job) => late(alloc, shaped, times, job),
+        None => Ok(Judged::Accepted(times)),
+    }
+}
+
+/// The evidence against the first late job, from whatever bounds it is that.
+fn late(alloc: Global, shaped: &Shaped, times: Times, job: JobNo) -> Result<Judged, AllocError>
+    requires ranks { AreRanks shaped.now times }
+    requires job { job < jobs shaped.now }
+    ensures { let p = shaped.now in
+        (b : NodeBounds) → AreOrderedFrom p b times → IsFirstPastFrom p b (earliest_of times) job → IfOk result (IsJudgedFrom p b) }
+{
+    let leaves = leave_time(shaped, &times, job);
+    match times.chain(alloc, leaving_of(shaped, job))? {
+        Some(chain) => Ok(Judged::Refused(Why::Late {
+            job,
+            leaves,
+            chain,
+            times,
+        })),
+        None => unreachable!(),
+    }
+}

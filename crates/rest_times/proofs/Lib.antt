@@ -1,9 +1,0 @@
-pub mod Tables
-pub mod Rests
-pub mod PathsAhead
-pub mod Acceptable
-pub mod GoingOn
-pub mod Verdicts
-pub mod LastLeavings
-pub mod Holding
-pub mod StartLaw

@@ -1,5 +1,0 @@
-use Rattle.rest_times.proofs.StartLaw.{the_rest_of_the_start_is_the_plan-holds}
-use Rattle.rest_times.proofs.laws.the_rest_of_the_start_is_the_plan.Goals as goal
-
-pub returns : goal.returns
-returns c = the_rest_of_the_start_is_the_plan-holds
