@@ -1,3 +1,4 @@
+pub mod Apart
 pub mod Described
 pub mod Fits
 pub mod Getters

@@ -10,10 +10,10 @@ use Rattle.clap.specs.Kinds.{or_else}
 use Rattle.clap.specs.Words.{IsAmong, IsSignedIn, Kinds, Row, Text, all_of, fault_of, first_of, one_of, subcommand_of, without_minus}
 use Rattle.clap.specs.declared.error.kind.ErrorKind.{ErrorKind}
 use Rattle.clap.specs.declared.error.kind.ErrorKind.TheVariants.{ArgumentConflict, DisplayHelp, DisplayVersion, MissingRequiredArgument, OutOfMemory, ValueValidation}
-use Rattle.command_words.specs.CommandLine.{command_line, most_rounds, greatest_seed, latest_moment}
+use Rattle.command_words.specs.CommandLine.{command_line, most_rounds, greatest_seed, most_choices, latest_moment}
 use Rattle.command_words.specs.declared.words.Chosen.{Chosen}
 use Rattle.command_words.specs.declared.words.CommandName.{CommandName}
-use Rattle.command_words.specs.declared.words.CommandName.TheVariants.{Input, Facts, Shape, Check, Explain, Schedule, Bounds, Plan, Improve, Drive, Resume, Hub, Audit, Gantt}
+use Rattle.command_words.specs.declared.words.CommandName.TheVariants.{Input, Facts, Shape, Check, Explain, Schedule, Bounds, Plan, Improve, Decide, Drive, Resume, Hub, Audit, Gantt}
 use Rattle.command_words.specs.declared.words.Lines.{Lines}
 use Rattle.command_words.specs.declared.words.Lines.TheVariants.{One, Two}
 use Rattle.command_words.specs.declared.words.WordsFault.{WordsFault}
@@ -30,6 +30,7 @@ word_of Schedule = Some (codes "schedule")
 word_of Bounds = Some (codes "bounds")
 word_of Plan = Some (codes "plan")
 word_of Improve = Some (codes "improve")
+word_of Decide = Some (codes "decide")
 word_of Drive = Some (codes "drive")
 word_of Resume = Some (codes "resume")
 word_of Hub = Some (codes "hub")
@@ -47,6 +48,7 @@ TakesFiles Schedule n = n ≡ 2
 TakesFiles Bounds n = n ≡ 2
 TakesFiles Plan n = n ≡ 2
 TakesFiles Improve n = n ≡ 2
+TakesFiles Decide n = n ≡ 2
 TakesFiles Drive n = n ≡ 2
 TakesFiles Resume n = n ≡ 3
 TakesFiles Hub n = 2 ≤ n
@@ -100,6 +102,10 @@ rounds_in = number_in (codes "rounds") 20
 abbrev pub seed_in : List Row → ℕ
 seed_in = number_in (codes "seed") 0
 
+-- the number of choices, 200000 where it is not said
+abbrev pub choices_in : List Row → ℕ
+choices_in = number_in (codes "choices") 200000
+
 -- the log of a run, of whose rest is asked
 abbrev pub after_in : List Row → Option Text
 after_in rows = first_of (codes "after") rows
@@ -124,17 +130,32 @@ lines_in rows = option_map version_of (option_map value_of (first_of (codes "lin
 abbrev pub leap_in : List Row → Option ℕ
 leap_in rows = option_map value_of (first_of (codes "leap") rows)
 
--- whether a picture is asked for: the switch is `true`
-abbrev pub svg_in : List Row → Bool
-svg_in rows = option_map_or (λ text. bytes_eq text (codes "true")) (first_of (codes "svg") rows) false
+-- the job of whose leaving is asked
+abbrev pub job_in : List Row → Option ℕ
+job_in rows = option_map value_of (first_of (codes "job") rows)
 
--- the choice holds the command, the files, the instance's name, the rounds, the seed, the log of whose rest is asked, the log that is kept, the moment, the version of the lines, the longest time and the switch that were found
+-- whether a switch is set: it is `true`
+abbrev pub is_set : Text → List Row → Bool
+is_set name rows = option_map_or (λ text. bytes_eq text (codes "true")) (first_of name rows) false
+
+-- whether a picture is asked for
+abbrev pub svg_in : List Row → Bool
+svg_in = is_set (codes "svg")
+
+-- whether the least makespan is asked for
+abbrev pub least_in : List Row → Bool
+least_in = is_set (codes "least")
+
+-- the choice holds the command, the files, the instance's name, the rounds, the seed, the choices, the job, the log of whose rest is asked, the log that is kept, the moment, the version of the lines, the longest time and the switches that were found
 pub record IsChoiceOf (found : Found) (chosen : Chosen) : Type 0 where
   pub name : word_of chosen.name ≡ word_found found
   pub files : texts_of chosen.files.items ≡ files_in (rows_found found)
   pub instance : option_map string_bytes chosen.instance ≡ instance_in (rows_found found)
   pub rounds : chosen.rounds ≡ rounds_in (rows_found found)
   pub seed : chosen.seed ≡ seed_in (rows_found found)
+  pub choices : chosen.choices ≡ choices_in (rows_found found)
+  pub job : chosen.job ≡ job_in (rows_found found)
+  pub least : chosen.least ≡ least_in (rows_found found)
   pub after : option_map string_bytes chosen.after ≡ after_in (rows_found found)
   pub log : option_map string_bytes chosen.log ≡ kept_in (rows_found found)
   pub at : chosen.at ≡ at_in (rows_found found)
@@ -142,11 +163,13 @@ pub record IsChoiceOf (found : Found) (chosen : Chosen) : Type 0 where
   pub leap : chosen.leap ≡ leap_in (rows_found found)
   pub svg : chosen.svg ≡ svg_in (rows_found found)
 
--- the choice has as many files as its command takes, no more rounds than a search may have, no greater seed than it takes, no moment past the latest, and no longer time than that
+-- the choice has as many files as its command takes, no more rounds than a search may have, no greater seed than it takes, a choice at least and no more than a search may have, no moment past the latest, and no longer time than that
 pub record IsWithin (chosen : Chosen) : Type 0 where
   pub files : TakesFiles chosen.name (length chosen.files.items)
   pub rounds : chosen.rounds ≤ most_rounds
   pub seed : chosen.seed ≤ greatest_seed
+  pub some : 1 ≤ chosen.choices
+  pub choices : chosen.choices ≤ most_choices
   pub at : IfSome chosen.at (λ n. n ≤ latest_moment)
   pub leap : IfSome chosen.leap (λ n. n ≤ latest_moment)
 
@@ -182,26 +205,44 @@ abbrev pub number_misfit : ℕ → ℕ → ℕ → Option Text → Kinds
 number_misfit digits least most None = []
 number_misfit digits least most (Some word) = if is_number digits least most word then [] else ValueValidation ∷ []
 
--- so of the words of a driven cell: version 1 or 2, and a time from 1 to the latest moment
-abbrev pub driven_misfit : List Row → Kinds
-driven_misfit rows = or_else (number_misfit 1 1 2 (first_of (codes "lines") rows)) (number_misfit 13 1 latest_moment (first_of (codes "leap") rows))
+-- so of the version of the lines: 1 or 2
+abbrev pub lines_misfit : List Row → Kinds
+lines_misfit rows = number_misfit 1 1 2 (first_of (codes "lines") rows)
 
--- a picture of the rest of a run is asked for, and there is none
-abbrev pub has_conflict : Option Text → Bool → Bool
-has_conflict None svg = false
-has_conflict (Some log) svg = svg
+-- so of the longest time from one report to the next: from 1 to the latest moment
+abbrev pub leap_misfit : List Row → Kinds
+leap_misfit rows = number_misfit 13 1 latest_moment (first_of (codes "leap") rows)
 
--- so of the matches of a command
-abbrev pub is_conflict : List Row → Bool
-is_conflict rows = has_conflict (after_in rows) (svg_in rows)
+-- a text is given, and a switch is set
+abbrev pub has_both : Option Text → Bool → Bool
+has_both None set = false
+has_both (Some text) set = set
 
--- why its matches aren't taken: for that picture, or for the moment
+-- so of an option and a switch of a command
+abbrev pub are_both : Text → Text → List Row → Bool
+are_both option switch rows = has_both (first_of option rows) (is_set switch rows)
+
+-- these don't go together; where they aren't both there, its matches aren't taken for these reasons
+abbrev pub unless_both : Text → Text → List Row → Kinds → Kinds
+unless_both option switch rows reasons = if are_both option switch rows then ArgumentConflict ∷ [] else reasons
+
+-- why its matches aren't taken: there is no picture of the rest of a run; or for the moment
 abbrev pub misfits_of : List Row → Kinds
-misfits_of rows = if is_conflict rows then ArgumentConflict ∷ [] else misfit_of (log_given rows) (first_of (codes "at") rows)
+misfits_of rows = unless_both (codes "after") (codes "svg") rows (misfit_of (log_given rows) (first_of (codes "at") rows))
+
+-- so of a job: a number of 1 to 9 digits
+abbrev pub job_misfit : List Row → Kinds
+job_misfit rows = number_misfit 9 0 999999999 (first_of (codes "job") rows)
+
+-- so of a decision: the least makespan and a job don't go together
+abbrev pub decision_misfit : List Row → Kinds
+decision_misfit rows = unless_both (codes "job") (codes "least") rows (job_misfit rows)
 
 -- so of what was found
 abbrev pub misfit_in : Found → Kinds
-misfit_in found = or_else (misfits_of (rows_found found)) (driven_misfit (rows_found found))
+misfit_in found = or_else (misfits_of (rows_found found))
+    (or_else (lines_misfit (rows_found found))
+    (or_else (leap_misfit (rows_found found)) (decision_misfit (rows_found found))))
 
 -- why the words are refused, or nothing where they are taken: `clap`'s reasons, or else that what they ask for doesn't fit together
 abbrev pub reasons_in : List Text → Kinds
@@ -229,11 +270,11 @@ TellsOneOf kinds Memory = Unit {0}
 TellsOneOf kinds (Usage help text) =
     (kind : ErrorKind) × IsAmong kind kinds × (help ≡ asks_for_help kind)
 
--- a text for a number: none, or a number from 0 to the most, as it is read
-abbrev pub FitsUpTo : ℕ → Option Text → Type 0
-FitsUpTo most None = Unit {0}
-FitsUpTo most (Some text) =
-    (written : Text) × (text ≡ without_minus written) × IsSignedIn (pos 0) (pos most) written
+-- a text for a number: none, or a number from the least to the most, as it is read
+abbrev pub FitsBetween : ℕ → ℕ → Option Text → Type 0
+FitsBetween least most None = Unit {0}
+FitsBetween least most (Some text) =
+    (written : Text) × (text ≡ without_minus written) × IsSignedIn (pos least) (pos most) written
 
 -- what is found where `clap` takes the words: a command of the program with as many files as it
 -- takes and numbers within their limits, or no command
@@ -241,4 +282,5 @@ abbrev pub IsFit : Found → Type 0
 IsFit None = Unit {0}
 IsFit (Some p) = ((name : CommandName) × (word_of name ≡ Some p.0)
     × TakesFiles name (length (files_in p.1)))
-    × FitsUpTo most_rounds (one_of (codes "rounds") p.1) × FitsUpTo greatest_seed (one_of (codes "seed") p.1)
+    × FitsBetween 0 most_rounds (one_of (codes "rounds") p.1) × FitsBetween 0 greatest_seed (one_of (codes "seed") p.1)
+    × FitsBetween 1 most_choices (one_of (codes "choices") p.1)

@@ -6,7 +6,7 @@ use Rattle.clap.specs.Simple.{new_shape, with_subcommand}
 use Rattle.clap.specs.declared.builder.command.Command.{Command}
 use Rattle.clap.specs.declared.builder.command.Command.TheViews.{out-Command}
 use Rattle.command_words.specs.declared.words.CommandName.{CommandName}
-use Rattle.command_words.specs.declared.words.CommandName.TheVariants.{Input, Facts, Shape as ShapeName, Check, Explain, Schedule, Bounds, Plan, Improve, Drive, Resume, Hub, Audit, Gantt}
+use Rattle.command_words.specs.declared.words.CommandName.TheVariants.{Input, Facts, Shape as ShapeName, Check, Explain, Schedule, Bounds, Plan, Improve, Decide, Drive, Resume, Hub, Audit, Gantt}
 use Rattle.clap.specs.declared.builder.value_parser.ValueParser.TheVariants.{Signed}
 use Rattle.clap.specs.declared.builder.action.ArgAction.TheVariants.{SetTrue}
 
@@ -46,9 +46,24 @@ seed_rule = record (option_rule (codes "seed")) {
   defaults = codes "0" ∷ [];
 }
 
--- `--svg`, a switch
-abbrev pub svg_rule : Rule
-svg_rule = record (new_rule (codes "svg")) { long = Some (codes "svg"); action = Some SetTrue }
+-- the most choices of a complete search
+abbrev pub most_choices : ℕ
+most_choices = 1000000000
+
+-- `--choices K`, a whole number from 1 to the most choices, and 200000 where it is left out
+abbrev pub choices_rule : Rule
+choices_rule = record (option_rule (codes "choices")) {
+  parser = Some (Signed (pos 1) (pos most_choices));
+  defaults = codes "200000" ∷ [];
+}
+
+-- a switch, as `--svg`
+abbrev pub switch_rule : Text → Rule
+switch_rule name = record (new_rule name) { long = Some name; action = Some SetTrue }
+
+-- `--least` or `--job J`, and `--choices K`: what is asked besides the budgets, and how long is searched
+abbrev pub decision_rules : List Rule
+decision_rules = switch_rule (codes "least") ∷ option_rule (codes "job") ∷ choices_rule ∷ []
 
 -- a command with `--instance NAME` and the instance's file, and what it takes besides
 abbrev pub command : Text → List Rule → Shape
@@ -95,15 +110,16 @@ described Facts = command (codes "facts") []
 described ShapeName = plan_command (codes "shape") []
 described Check = rest_command (codes "check") []
 described Explain = rest_command (codes "explain") []
-described Schedule = rest_command (codes "schedule") (svg_rule ∷ [])
+described Schedule = rest_command (codes "schedule") (switch_rule (codes "svg") ∷ [])
 described Bounds = plan_command (codes "bounds") []
 described Plan = plan_command (codes "plan") (rounds_rule ∷ [])
 described Improve = plan_command (codes "improve") (option_rule (codes "after") ∷ option_rule (codes "at") ∷ rounds_rule ∷ seed_rule ∷ [])
+described Decide = plan_command (codes "decide") decision_rules
 described Drive = plan_command (codes "drive") kept_rules
 described Resume = log_command (codes "resume") (option_rule (codes "at") ∷ driven_rules)
 described Hub = command (codes "hub") hub_rules
 described Audit = log_command (codes "audit") []
-described Gantt = log_command (codes "gantt") (svg_rule ∷ [])
+described Gantt = log_command (codes "gantt") (switch_rule (codes "svg") ∷ [])
 
 -- a command line of one command alone
 abbrev pub leaf : Shape → App
@@ -117,7 +133,7 @@ program_with names = fold with_subcommand (leaf bare_program) (map described nam
 abbrev pub command_line : App
 command_line = program_with
     (Facts ∷ ShapeName ∷ Check ∷ Explain ∷ Schedule ∷ Bounds ∷ Plan ∷ Improve
-    ∷ Drive ∷ Resume ∷ Hub ∷ Audit ∷ Gantt ∷ [])
+    ∷ Decide ∷ Drive ∷ Resume ∷ Hub ∷ Audit ∷ Gantt ∷ [])
 
 -- the command that the code builds is the described one
 pub record Describes (a : App) (c : Command) : Type 0 where

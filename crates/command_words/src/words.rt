@@ -5,8 +5,8 @@ ghost use Rattle.std.specs.String.{string_bytes};
 ghost use Rattle.text_lines.specs.Numbers.{value_of};
 ghost use Rattle.clap.specs.Words.{first_of, found_of, kind_of, one_of, rows_of, subcommand_rows_of};
 ghost use Rattle.command_words.specs.declared.words.CommandName.{CommandName};
-ghost use Rattle.command_words.specs.CommandLine.{most_rounds, greatest_seed, latest_moment};
-ghost use Rattle.command_words.specs.Choice.{FitsUpTo, IsChoiceOf, IsFit, IsWithin, TellsOneOf, TellsReason, at_in, files_in, first_given, found_in, is_conflict, is_moment, is_number, kept_in, leap_in, lines_in, log_given, misfit_in, misfit_of, misfits_of, number_misfit, reasons_in, rounds_in, seed_in, svg_in, texts_of, values_of, version_of, word_of};
+ghost use Rattle.command_words.specs.CommandLine.{most_rounds, greatest_seed, most_choices, latest_moment};
+ghost use Rattle.command_words.specs.Choice.{FitsBetween, IsChoiceOf, IsFit, IsWithin, TellsOneOf, TellsReason, are_both, at_in, choices_in, decision_misfit, files_in, first_given, found_in, is_moment, is_number, is_set, job_in, job_misfit, kept_in, leap_in, leap_misfit, lines_in, lines_misfit, log_given, misfit_in, misfit_of, misfits_of, number_misfit, reasons_in, rounds_in, seed_in, texts_of, values_of, version_of, word_of};
 
 mod command_line;
 
@@ -51,6 +51,8 @@ pub enum CommandName {
     Plan,
     /// The search of a better plan.
     Improve,
+    /// Whether any plan keeps the budgets.
+    Decide,
     /// One cell, driven by reports on the standard input.
     Drive,
     /// One cell, driven on from the log of a run that was cut off.
@@ -85,6 +87,12 @@ pub struct Chosen {
     pub rounds: u32,
     /// The seed of a search's random numbers, 0 if none is given.
     pub seed: u32,
+    /// The choices of a complete search, 200,000 if none are given.
+    pub choices: u32,
+    /// The job of whose leaving is asked, if one is given.
+    pub job: Option<u32>,
+    /// Whether the least makespan is asked for.
+    pub least: bool,
     /// The log of a run, of whose rest is asked.
     pub after: Option<String>,
     /// The log that a driven cell keeps, if it is to keep one.
@@ -152,9 +160,10 @@ impl From<Refusal> for WordsFault {
 
 /// Reads the command line, whose first word is the program's name. `WordsFault::Memory` may come in place of any other
 /// answer. The number of files is one that the command takes, the rounds are at most 1000, the seed at most 1,000,000,
-/// and the moment, a number of 1 to 13 digits, at most 1,000,000,000,000. Exactly these are refused: what `clap`
-/// refuses, a moment that isn't one, or that comes without a log, a picture of the rest of a run, and a version of the
-/// lines or a longest time that isn't one.
+/// the choices from 1 to 1,000,000,000, and the moment, a number of 1 to 13 digits, at most 1,000,000,000,000. Exactly
+/// these are refused: what `clap` refuses, a moment that isn't one, or that comes without a log, a picture of the rest
+/// of a run, a version of the lines or a longest time that isn't one, and a job that isn't a number of 1 to 9 digits, or
+/// that comes with the least makespan.
 pub fn read_words(alloc: Global, words: &[&str]) -> Result<Chosen, WordsFault>
     ensures chosen { IfOk result (IsChoiceOf (found_in (map (λ word. word.now) words.now))) }
     ensures within { IfOk result IsWithin }
@@ -195,6 +204,9 @@ fn chosen_by(alloc: Global, matches: &ArgMatches<'_>) -> Result<Chosen, WordsFau
             instance: None,
             rounds: 20,
             seed: 0,
+            choices: 200_000,
+            job: None,
+            least: false,
             after: None,
             log: None,
             at: None,
@@ -224,7 +236,10 @@ fn chosen_of(alloc: Global, word: &str, matches: &ArgMatches<'_>) -> Result<Chos
         at: rest_at(alloc, word, matches)?,
         lines: lines_of(alloc, matches)?,
         leap: leap_of(alloc, matches)?,
-        svg: svg_of(matches),
+        choices: choices_of(matches),
+        job: job_of(alloc, matches)?,
+        least: is_set(matches, "least"),
+        svg: is_set(matches, "svg"),
     })
 }
 
@@ -242,6 +257,7 @@ fn name_of(word: &str) -> CommandName
         "bounds" => CommandName::Bounds,
         "plan" => CommandName::Plan,
         "improve" => CommandName::Improve,
+        "decide" => CommandName::Decide,
         "drive" => CommandName::Drive,
         "resume" => CommandName::Resume,
         "hub" => CommandName::Hub,
@@ -296,7 +312,7 @@ fn text_of(
 
 /// The number of rounds.
 fn rounds_of(matches: &ArgMatches<'_>) -> u32
-    requires { FitsUpTo most_rounds (one_of (codes "rounds") (rows_of (found_of matches.now))) }
+    requires { FitsBetween 0 most_rounds (one_of (codes "rounds") (rows_of (found_of matches.now))) }
     ensures exact { result ≡ rounds_in (rows_of (found_of matches.now)) }
     ensures few { result ≤ most_rounds }
 {
@@ -305,29 +321,39 @@ fn rounds_of(matches: &ArgMatches<'_>) -> u32
 
 /// The seed of a search's random numbers.
 fn seed_of(matches: &ArgMatches<'_>) -> u32
-    requires { FitsUpTo greatest_seed (one_of (codes "seed") (rows_of (found_of matches.now))) }
+    requires { FitsBetween 0 greatest_seed (one_of (codes "seed") (rows_of (found_of matches.now))) }
     ensures exact { result ≡ seed_in (rows_of (found_of matches.now)) }
     ensures small { result ≤ greatest_seed }
 {
     matches.get_one::<u32>("seed").unwrap_or(0)
 }
 
-/// Whether a picture is asked for.
-fn svg_of(matches: &ArgMatches<'_>) -> bool
-    ensures { result ≡ svg_in (rows_of (found_of matches.now)) }
+/// The choices of a complete search.
+fn choices_of(matches: &ArgMatches<'_>) -> u32
+    requires { FitsBetween 1 most_choices (one_of (codes "choices") (rows_of (found_of matches.now))) }
+    ensures exact { result ≡ choices_in (rows_of (found_of matches.now)) }
+    ensures some { 1 ≤ result }
+    ensures few { result ≤ most_choices }
 {
-    match matches.get_str("svg") {
+    matches.get_one::<u32>("choices").unwrap_or(200_000)
+}
+
+/// Whether a switch is set.
+fn is_set(matches: &ArgMatches<'_>, name: &str) -> bool
+    ensures { result ≡ is_set name.now (rows_of (found_of matches.now)) }
+{
+    match matches.get_str(name) {
         Some(value) => value == "true",
         None => false,
     }
 }
 
-/// Whether a picture of the rest of a run is asked for.
-fn is_conflict(matches: &ArgMatches<'_>) -> bool
-    ensures { result ≡ is_conflict (rows_of (found_of matches.now)) }
+/// Whether an option is given, and a switch set.
+fn are_both(matches: &ArgMatches<'_>, option: &str, switch: &str) -> bool
+    ensures { result ≡ are_both option.now switch.now (rows_of (found_of matches.now)) }
 {
-    match matches.get_str("after") {
-        Some(_) => svg_of(matches),
+    match matches.get_str(option) {
+        Some(_) => is_set(matches, switch),
         None => false,
     }
 }
@@ -343,7 +369,7 @@ fn rest_at(
     ensures fits { IfOk result (λ _. misfits_of (rows_of (found_of matches.now)) ≡ []) }
     ensures refused { IfErr result (TellsOneOf (misfits_of (rows_of (found_of matches.now)))) }
 {
-    if is_conflict(matches) {
+    if are_both(matches, "after", "svg") {
         return Err(no_picture(alloc));
     }
     at_of(alloc, command, matches)
@@ -452,8 +478,8 @@ fn version_of(number: u64) -> Lines
 /// The version of the lines, if it is given.
 fn lines_of(alloc: Global, matches: &ArgMatches<'_>) -> Result<Option<Lines>, WordsFault>
     ensures exact { IfOk result (λ version. version ≡ lines_in (rows_of (found_of matches.now))) }
-    ensures fits { IfOk result (λ _. number_misfit 1 1 2 (first_of (codes "lines") (rows_of (found_of matches.now))) ≡ []) }
-    ensures refused { IfErr result (TellsOneOf (number_misfit 1 1 2 (first_of (codes "lines") (rows_of (found_of matches.now))))) }
+    ensures fits { IfOk result (λ _. lines_misfit (rows_of (found_of matches.now)) ≡ []) }
+    ensures refused { IfErr result (TellsOneOf (lines_misfit (rows_of (found_of matches.now)))) }
 {
     let form = NumberForm {
         digits: 1,
@@ -472,8 +498,8 @@ fn lines_of(alloc: Global, matches: &ArgMatches<'_>) -> Result<Option<Lines>, Wo
 fn leap_of(alloc: Global, matches: &ArgMatches<'_>) -> Result<Option<u64>, WordsFault>
     ensures exact { IfOk result (λ longest. longest ≡ leap_in (rows_of (found_of matches.now))) }
     ensures early { IfOk result (λ longest. IfSome longest (λ n. n ≤ latest_moment)) }
-    ensures fits { IfOk result (λ _. number_misfit 13 1 latest_moment (first_of (codes "leap") (rows_of (found_of matches.now))) ≡ []) }
-    ensures refused { IfErr result (TellsOneOf (number_misfit 13 1 latest_moment (first_of (codes "leap") (rows_of (found_of matches.now))))) }
+    ensures fits { IfOk result (λ _. leap_misfit (rows_of (found_of matches.now)) ≡ []) }
+    ensures refused { IfErr result (TellsOneOf (leap_misfit (rows_of (found_of matches.now)))) }
 {
     let form = NumberForm {
         digits: MOST_DIGITS,
@@ -482,6 +508,45 @@ fn leap_of(alloc: Global, matches: &ArgMatches<'_>) -> Result<Option<u64>, Words
     };
     let wanted = "' for '--leap <S>': it has 1 to 13 digits, and is from 1 to 1000000000000";
     number_given(alloc, matches, "leap", form, wanted)
+}
+
+/// The job of whose leaving is asked, if one is given. It doesn't go with the least makespan.
+fn job_of(alloc: Global, matches: &ArgMatches<'_>) -> Result<Option<u32>, WordsFault>
+    ensures exact { IfOk result (λ job. job ≡ job_in (rows_of (found_of matches.now))) }
+    ensures fits { IfOk result (λ _. decision_misfit (rows_of (found_of matches.now)) ≡ []) }
+    ensures refused { IfErr result (TellsOneOf (decision_misfit (rows_of (found_of matches.now)))) }
+{
+    if are_both(matches, "job", "least") {
+        return Err(no_two_aims(alloc));
+    }
+    job_given(alloc, matches)
+}
+
+/// The job that is given, if it is.
+fn job_given(alloc: Global, matches: &ArgMatches<'_>) -> Result<Option<u32>, WordsFault>
+    ensures exact { IfOk result (λ job. job ≡ job_in (rows_of (found_of matches.now))) }
+    ensures fits { IfOk result (λ _. job_misfit (rows_of (found_of matches.now)) ≡ []) }
+    ensures refused { IfErr result (TellsOneOf (job_misfit (rows_of (found_of matches.now)))) }
+{
+    let form = NumberForm {
+        digits: 9,
+        least: 0,
+        most: 999_999_999,
+    };
+    let wanted = "' for '--job <J>': a job has 1 to 9 digits";
+    match number_given(alloc, matches, "job", form, wanted) {
+        Ok(Some(number)) => Ok(Some(number as u32)),
+        Ok(None) => Ok(None),
+        Err(fault) => Err(fault),
+    }
+}
+
+/// The fault of two aims of one decision.
+fn no_two_aims(alloc: Global) -> WordsFault
+    ensures { TellsReason ErrorKind.ArgumentConflict result }
+{
+    let parts = ["the argument '--least' cannot be used with '--job <J>'"];
+    misfit(alloc, ErrorKind::ArgumentConflict, parts.as_slice())
 }
 
 /// The number that is given with an option, if it is. It has to be one of this form.

@@ -11,7 +11,7 @@ use Rattle.clap.proofs.WalkLemmas.{first_value-rows, raw_values-rows}
 use Rattle.clap.proofs.CallerReads.{signed_reads}
 use Rattle.clap.specs.Words.{ReadsOne, one_of, one_text, without_minus}
 use Rattle.clap.proofs.WalkLemmas.{one_text-rows}
-use Rattle.command_words.specs.Choice.{FitsUpTo, number_in, values_of}
+use Rattle.command_words.specs.Choice.{FitsBetween, number_in, values_of}
 
 pub text_given : (f : Found) (id bytes : Text) (o : Option (Bor Text)) (s : Bor Text) → option_map (λ t. t.now) o ≡ first_value f id → o ≡ Some s → bytes ≡ s.now
     → Some bytes ≡ first_of id (rows_of f)
@@ -47,19 +47,20 @@ one_more text old new s first vals i d lt before is at =
     ∙ append_assoc first (map (λ v. v.now) (take i vals)) ((get_or vals i d).now ∷ []) ∙ ap (λ xs. first ++ xs) (sym more)
 
 -- the number that is read for an option, or the other one where it was left out
-pub number_read : (E : Type 0) (G : List ℕ → Result ℕ E → Type 0) (id : Text) (most other : ℕ) (f : Found) (o : Option ℕ)
-    → ((u : List ℕ) (x : Result ℕ E) → G u x → ParsesUnsigned 32 10 u x) → most < 2 ^ 32 → other ≤ most
+pub number_read : (E : Type 0) (G : List ℕ → Result ℕ E → Type 0) (id : Text) (least most other : ℕ) (f : Found) (o : Option ℕ)
+    → ((u : List ℕ) (x : Result ℕ E) → G u x → ParsesUnsigned 32 10 u x) → most < 2 ^ 32 → least ≤ other → other ≤ most
     → (one_text f id ≡ None → o ≡ None) → ((t : List ℕ) → one_text f id ≡ Some t → ReadsOne G t o)
-    → FitsUpTo most (one_of id (rows_of f)) → (unwrap_or o other ≡ number_in id other (rows_of f)) × (unwrap_or o other ≤ most)
-number_read E G id most other f o only narrow low left_out read fits = go (one_of id (rows_of f)) (one_text-rows f id) fits
+    → FitsBetween least most (one_of id (rows_of f))
+    → (unwrap_or o other ≡ number_in id other (rows_of f)) × (least ≤ unwrap_or o other) × (unwrap_or o other ≤ most)
+number_read E G id least most other f o only narrow low high left_out read fits = go (one_of id (rows_of f)) (one_text-rows f id) fits
   where
-    go : (t : Option Text) → one_text f id ≡ t → FitsUpTo most t
-        → (unwrap_or o other ≡ option_map_or (λ text. digits_value 10 (without_leading_plus text)) t other) × (unwrap_or o other ≤ most)
+    go : (t : Option Text) → one_text f id ≡ t → FitsBetween least most t
+        → (unwrap_or o other ≡ option_map_or (λ text. digits_value 10 (without_leading_plus text)) t other) × (least ≤ unwrap_or o other) × (unwrap_or o other ≤ most)
     go None is fits =
         let e = left_out is in
-        rw e (refl, low)
+        rw e (refl, low, high)
     go (Some text) is fits =
         let as_written : ReadsOne G (without_minus fits.0) o = subst (λ (t : List ℕ). ReadsOne G t o) fits.1 (read text is) in
-        let n = signed_reads E G 32 0 most fits.0 o as_written only narrow fits.2 in
+        let n = signed_reads E G 32 least most fits.0 o as_written only narrow fits.2 in
         let value = only text (Ok n.0) (subst (λ (x : Option ℕ). ReadsOne G text x) n.1 (read text is)) in
-        rw n.1 (value.1, n.3)
+        rw n.1 (value.1, n.2, n.3)

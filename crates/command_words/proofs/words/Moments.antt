@@ -1,14 +1,13 @@
 -- Words that are moments, and what is said of those that aren't.
-use Rattle.std.proofs.Common.{◌≡◌, ◌≤◌, ◌<◌, ◌∙◌, ◌&&◌, ℕ, true, false, nat_le, nat_lt, List, [], ◌∷◌, length, Option, Some, None, Result, IfOk, IfErr, ap, subst, sym, arith, refl, codes}
+use Rattle.std.proofs.Common.{◌≡◌, ◌≤◌, ◌<◌, ◌∙◌, ◌&&◌, ℕ, true, false, nat_le, nat_lt, [], ◌∷◌, length, Option, Some, None, ap, subst, sym, arith, refl}
 use Rattle.std.specs.List.{list_all}
 use Rattle.std.specs.Prelude.{is_some}
 use Rattle.std.proofs.lemmas.Bool.{and_from, and_parts, false_from_ne_true, lt-ltb, le-leb, leb-true, ltb-true, cond-true, cond-false}
 use Rattle.text_lines.specs.Numbers.{IsNumeral, is_digit, value_of}
-use Rattle.clap.specs.Words.{Kinds, Row, Text, first_of}
-use Rattle.clap.specs.declared.error.kind.ErrorKind.TheVariants.{ArgumentConflict, MissingRequiredArgument, ValueValidation}
+use Rattle.clap.specs.Words.{Text}
+use Rattle.clap.specs.declared.error.kind.ErrorKind.TheVariants.{MissingRequiredArgument, ValueValidation}
 use Rattle.command_words.specs.CommandLine.{latest_moment}
-use Rattle.command_words.specs.Choice.{TellsOneOf, is_conflict, log_given, is_moment, misfit_of, misfits_of}
-use Rattle.command_words.specs.declared.words.WordsFault.{WordsFault}
+use Rattle.command_words.specs.Choice.{is_moment, misfit_of}
 
 -- a number of 1 to 13 digits that isn't past the latest moment is one
 pub moment_from : (word : Text) (n : ℕ) → IsNumeral 13 word n → n ≤ latest_moment → is_moment word ≡ true
@@ -61,19 +60,3 @@ lacks_given (Some text) word moment none said = absurd (cc)
 pub lacks_moment_given : (log word : Option Text) (moment : Text) → is_some log ≡ true → word ≡ Some moment → is_moment moment ≡ false → misfit_of log word ≡ ValueValidation ∷ []
 lacks_moment_given None word moment given said isnt = absurd (cc)
 lacks_moment_given (Some text) word moment given said isnt = lacks_moment (Some text) word text moment refl said isnt
-
--- ---- a picture of the rest of a run
-
-pub conflicting : (rows : List Row) → is_conflict rows ≡ true → misfits_of rows ≡ ArgumentConflict ∷ []
-conflicting rows is = cond-true (is_conflict rows) (ArgumentConflict ∷ []) (misfit_of (log_given rows) (first_of (codes "at") rows)) is
-
-apart : (rows : List Row) → is_conflict rows ≡ false → misfits_of rows ≡ misfit_of (log_given rows) (first_of (codes "at") rows)
-apart rows isnt = cond-false (is_conflict rows) (ArgumentConflict ∷ []) (misfit_of (log_given rows) (first_of (codes "at") rows)) isnt
-
-pub fits_apart : (rows : List Row) (read : Result (Option ℕ) WordsFault) → is_conflict rows ≡ false → IfOk read (λ _. misfit_of (log_given rows) (first_of (codes "at") rows) ≡ [])
-    → IfOk read (λ _. misfits_of rows ≡ [])
-fits_apart rows read isnt fits = subst (λ (kinds : Kinds). IfOk read (λ _. kinds ≡ [])) (sym (apart rows isnt)) fits
-
-pub refused_apart : (rows : List Row) (read : Result (Option ℕ) WordsFault) → is_conflict rows ≡ false → IfErr read (TellsOneOf (misfit_of (log_given rows) (first_of (codes "at") rows)))
-    → IfErr read (TellsOneOf (misfits_of rows))
-refused_apart rows read isnt refused = subst (λ (kinds : Kinds). IfErr read (TellsOneOf kinds)) (sym (apart rows isnt)) refused

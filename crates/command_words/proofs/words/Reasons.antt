@@ -42,14 +42,11 @@ pub no_reasons : (first next other : Kinds) (read : Result Chosen WordsFault) �
 no_reasons first next other (Ok chosen) none same is = ap (λ (ks : Kinds). or_else ks next) none ∙ sym same ∙ is
 no_reasons first next other (Err fault) none same is = tt
 
--- a fault of the first, or of the second where the first finds none, is passed on
-pub passed_first : (first next : Kinds) (read : Result Chosen WordsFault) (fault : WordsFault) → IsErrAnd read (λ passed. passed ≡ fault) → TellsOneOf first fault → IfErr read (TellsOneOf (or_else first next))
-passed_first first next (Ok chosen) fault passed is = tt
-passed_first first next (Err told) fault passed is = tells_first first next told (subst (λ (f : WordsFault). TellsOneOf first f) (sym passed) is)
+-- a fault of those that follow where the first finds none
+pub tells_later : (first next : Kinds) (fault : WordsFault) → first ≡ [] → TellsOneOf next fault → TellsOneOf (or_else first next) fault
+tells_later first next fault none is = subst (λ (ks : Kinds). TellsOneOf (or_else ks next) fault) (sym none) is
 
-pub passed_second : (first second third : Kinds) (read : Result Chosen WordsFault) (fault : WordsFault) → first ≡ [] → IsErrAnd read (λ passed. passed ≡ fault) → TellsOneOf second fault
-    → IfErr read (TellsOneOf (or_else first (or_else second third)))
-passed_second first second third (Ok chosen) fault none passed is = tt
-passed_second first second third (Err told) fault none passed is =
-    subst (λ (ks : Kinds). TellsOneOf (or_else ks (or_else second third)) told) (sym none)
-    (tells_first second third told (subst (λ (f : WordsFault). TellsOneOf second f) (sym passed) is))
+-- the fault is passed on
+pub passed_on : (kinds : Kinds) (read : Result Chosen WordsFault) (fault : WordsFault) → IsErrAnd read (λ passed. passed ≡ fault) → TellsOneOf kinds fault → IfErr read (TellsOneOf kinds)
+passed_on kinds (Ok chosen) fault passed is = tt
+passed_on kinds (Err told) fault passed is = subst (λ (f : WordsFault). TellsOneOf kinds f) (sym passed) is

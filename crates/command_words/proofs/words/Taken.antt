@@ -16,10 +16,10 @@ use Rattle.clap.specs.declared.builder.action.ArgAction.TheVariants.{Set, SetTru
 use Rattle.clap.specs.declared.builder.value_parser.ValueParser.{ValueParser}
 use Rattle.clap.specs.declared.builder.value_parser.ValueParser.TheVariants.{Signed}
 use Rattle.clap.proofs.ValueTestLemmas.{accepts-Accepts}
-use Rattle.command_words.specs.CommandLine.{option_rule, command, command_line, driven_rules, hub_rules, kept_rules, log_command, plan_command, rest_command, described, most_rounds, greatest_seed, rounds_rule, svg_rule}
-use Rattle.command_words.specs.Choice.{FitsUpTo, Found, IsFit, TakesFiles, TellsOneOf, TellsReason, files_in, found_in, parse_reasons_in, values_of, word_of}
+use Rattle.command_words.specs.CommandLine.{option_rule, command, command_line, driven_rules, hub_rules, kept_rules, log_command, plan_command, rest_command, decision_rules, described, most_rounds, greatest_seed, most_choices, rounds_rule, switch_rule}
+use Rattle.command_words.specs.Choice.{FitsBetween, Found, IsFit, TakesFiles, TellsOneOf, TellsReason, files_in, found_in, parse_reasons_in, values_of, word_of}
 use Rattle.command_words.specs.declared.words.CommandName.{CommandName}
-use Rattle.command_words.specs.declared.words.CommandName.TheVariants.{Facts, Shape as ShapeName, Check, Explain, Schedule, Bounds, Plan, Improve, Drive, Resume, Hub, Audit, Gantt}
+use Rattle.command_words.specs.declared.words.CommandName.TheVariants.{Facts, Shape as ShapeName, Check, Explain, Schedule, Bounds, Plan, Improve, Decide, Drive, Resume, Hub, Audit, Gantt}
 use Rattle.command_words.specs.declared.words.WordsFault.{WordsFault}
 use Rattle.command_words.specs.declared.words.WordsFault.TheVariants.{Usage, Memory}
 use Rattle.command_words.proofs.words.Fits.{FitFound, PlainRule, PlainRules, both_none, found_fits, least_of}
@@ -76,19 +76,19 @@ accepted : (a : Bool) (p : ValueParser) → cond a [] (refused_kind p ∷ []) �
 accepted true p e = refl
 accepted false p e = cc
 
--- where the command has the argument, its numbers go from 0 to the most
-abbrev GoesTo : ℕ → Option Rule → Type 0
-GoesTo most None = Unit {0}
-GoesTo most (Some a) = a.parser ≡ Some (Signed (pos 0) (pos most))
+-- where the command has the argument, its numbers go from the least to the most
+abbrev Goes : ℕ → ℕ → Option Rule → Type 0
+Goes least most None = Unit {0}
+Goes least most (Some a) = a.parser ≡ Some (Signed (pos least) (pos most))
 
-fit_number : (most : ℕ) (o : Option Rule) (r : Option Row) → GoesTo most o → FitFound o r → FitsUpTo most (option_and_then row_text r)
-fit_number most o None counts fit = tt
-fit_number most None (Some r) counts fit = absurd fit
-fit_number most (Some a) (Some r) counts fit =
+fit_number : (least most : ℕ) (o : Option Rule) (r : Option Row) → Goes least most o → FitFound o r → FitsBetween least most (option_and_then row_text r)
+fit_number least most o None counts fit = tt
+fit_number least most None (Some r) counts fit = absurd fit
+fit_number least most (Some a) (Some r) counts fit =
     read r.values r.reading fit.passes (fit.reading ∙ ap (λ p. reading_of (parser_of_value p)) counts)
   where
-    read : (vs : List Text) (how : _) → values_fault a vs ≡ [] → how ≡ reading_of (Signed (pos 0) (pos most))
-        → FitsUpTo most (option_map (read_as how) (slice_get vs 0))
+    read : (vs : List Text) (how : _) → values_fault a vs ≡ [] → how ≡ reading_of (Signed (pos least) (pos most))
+        → FitsBetween least most (option_map (read_as how) (slice_get vs 0))
     read [] how e is = tt
     read (v ∷ vs) how e is =
         let parts = both_none (value_kinds a.ignore_case (parser_of_value a.parser) v) (values_fault a vs) e in
@@ -102,9 +102,10 @@ FitsLeaf s = (words : List Text) → level_fault s [] nothing_held words false [
 
 fits_leaf : (s : Shape) (name : CommandName) (file plan log : Share) → word_of name ≡ Some s.name → s.args_override_self ≡ false → s.subcommand_negates_reqs ≡ false
     → PlainRules s.rules s.rules → SharedBy file (arg_by_id s.rules (codes "FILE")) → SharedBy plan (arg_by_id s.rules (codes "PLAN"))
-    → SharedBy log (arg_by_id s.rules (codes "LOG")) → GoesTo most_rounds (arg_by_id s.rules (codes "rounds")) → GoesTo greatest_seed (arg_by_id s.rules (codes "seed"))
+    → SharedBy log (arg_by_id s.rules (codes "LOG")) → Goes 0 most_rounds (arg_by_id s.rules (codes "rounds"))
+    → Goes 0 greatest_seed (arg_by_id s.rules (codes "seed")) → Goes 1 most_choices (arg_by_id s.rules (codes "choices"))
     → ((x y z : ℕ) → Shares file x → Shares plan y → Shares log z → TakesFiles name ((x + y) + z)) → FitsLeaf s
-fits_leaf s name file plan log is once needs plains by_file by_plan by_log by_rounds by_seed counts words e =
+fits_leaf s name file plan log is once needs plains by_file by_plan by_log by_rounds by_seed by_choices counts words e =
     let at = found_fits s once needs plains words e in
     let rows = rows_after s.rules [] words in
     let long : length (files_in rows) ≡ (length (values_of (codes "FILE") rows) + length (values_of (codes "PLAN") rows)) + length (values_of (codes "LOG") rows) =
@@ -116,8 +117,9 @@ fits_leaf s name file plan log is once needs plains by_file by_plan by_log by_ro
         subst (TakesFiles name) (sym long) (counts _ _ _ (shared file _ _ by_file (at (codes "FILE"))) (shared plan _ _ by_plan (at (codes "PLAN")))
             (shared log _ _ by_log (at (codes "LOG")))),
       ),
-      fit_number most_rounds _ _ by_rounds (at (codes "rounds")),
-      fit_number greatest_seed _ _ by_seed (at (codes "seed")),
+      fit_number 0 most_rounds _ _ by_rounds (at (codes "rounds")),
+      fit_number 0 greatest_seed _ _ by_seed (at (codes "seed")),
+      fit_number 1 most_choices _ _ by_choices (at (codes "choices")),
     )
 
 -- ---- each command of the program
@@ -141,13 +143,13 @@ help_plain c a own missing helps defaults = record { own = own; kind = inl (reco
 facts_fits : FitsLeaf (as_built (command (codes "facts") []))
 facts_fits = fits_leaf (as_built (command (codes "facts") [])) Facts one none none refl refl refl
     (set_plain _ _ refl refl refl refl, (set_plain _ _ refl refl refl refl, (help_plain _ _ refl refl refl refl, tt)))
-    (_, refl, refl, refl, refl, refl) refl refl tt tt (λ x y z p q r. omega arith)
+    (_, refl, refl, refl, refl, refl) refl refl tt tt tt (λ x y z p q r. omega arith)
 
 plan_fits : (name : Text) (named : CommandName) → word_of named ≡ Some name → ((x y z : ℕ) → x ≡ 1 → y ≡ 1 → z ≡ 0 → TakesFiles named ((x + y) + z))
     → FitsLeaf (as_built (plan_command name []))
 plan_fits name named is counts = fits_leaf (as_built (plan_command name [])) named one one none is refl refl
     (set_plain _ _ refl refl refl refl, (set_plain _ _ refl refl refl refl, (set_plain _ _ refl refl refl refl, (help_plain _ _ refl refl refl refl, tt))))
-    (_, refl, refl, refl, refl, refl) (_, refl, refl, refl, refl, refl) refl tt tt counts
+    (_, refl, refl, refl, refl, refl) (_, refl, refl, refl, refl, refl) refl tt tt tt counts
 
 rest_fits : (name : Text) (named : CommandName) → word_of named ≡ Some name → ((x y z : ℕ) → x ≡ 1 → y ≡ 1 → z ≡ 0 → TakesFiles named ((x + y) + z))
     → FitsLeaf (as_built (rest_command name []))
@@ -167,7 +169,7 @@ rest_fits name named is counts = fits_leaf (as_built (rest_command name [])) nam
     ),
   ),
 )
-    (_, refl, refl, refl, refl, refl) (_, refl, refl, refl, refl, refl) refl tt tt counts
+    (_, refl, refl, refl, refl, refl) (_, refl, refl, refl, refl, refl) refl tt tt tt counts
 
 drive_fits : FitsLeaf (as_built (plan_command (codes "drive") kept_rules))
 drive_fits = fits_leaf (as_built (plan_command (codes "drive") kept_rules)) Drive one one none refl refl refl (
@@ -192,7 +194,7 @@ drive_fits = fits_leaf (as_built (plan_command (codes "drive") kept_rules)) Driv
     ),
   ),
 )
-    (_, refl, refl, refl, refl, refl) (_, refl, refl, refl, refl, refl) refl tt tt (λ x y z p q r. omega arith)
+    (_, refl, refl, refl, refl, refl) (_, refl, refl, refl, refl, refl) refl tt tt tt (λ x y z p q r. omega arith)
 
 log_fits : (name : Text) (named : CommandName) → word_of named ≡ Some name → ((x y z : ℕ) → x ≡ 1 → y ≡ 1 → z ≡ 1 → TakesFiles named ((x + y) + z))
     → FitsLeaf (as_built (log_command name []))
@@ -209,10 +211,10 @@ log_fits name named is counts = fits_leaf (as_built (log_command name [])) named
     ),
   ),
 )
-    (_, refl, refl, refl, refl, refl) (_, refl, refl, refl, refl, refl) (_, refl, refl, refl, refl, refl) tt tt counts
+    (_, refl, refl, refl, refl, refl) (_, refl, refl, refl, refl, refl) (_, refl, refl, refl, refl, refl) tt tt tt counts
 
-timetable_fits : FitsLeaf (as_built (rest_command (codes "schedule") (svg_rule ∷ [])))
-timetable_fits = fits_leaf (as_built (rest_command (codes "schedule") (svg_rule ∷ []))) Schedule one one none refl refl refl (
+timetable_fits : FitsLeaf (as_built (rest_command (codes "schedule") (switch_rule (codes "svg") ∷ [])))
+timetable_fits = fits_leaf (as_built (rest_command (codes "schedule") (switch_rule (codes "svg") ∷ []))) Schedule one one none refl refl refl (
   set_plain _ _ refl refl refl refl,
   (
     set_plain _ _ refl refl refl refl,
@@ -228,10 +230,10 @@ timetable_fits = fits_leaf (as_built (rest_command (codes "schedule") (svg_rule 
     ),
   ),
 )
-    (_, refl, refl, refl, refl, refl) (_, refl, refl, refl, refl, refl) refl tt tt (λ x y z p q r. omega arith)
+    (_, refl, refl, refl, refl, refl) (_, refl, refl, refl, refl, refl) refl tt tt tt (λ x y z p q r. omega arith)
 
-drawing_fits : FitsLeaf (as_built (log_command (codes "gantt") (svg_rule ∷ [])))
-drawing_fits = fits_leaf (as_built (log_command (codes "gantt") (svg_rule ∷ []))) Gantt one one one refl refl refl (
+drawing_fits : FitsLeaf (as_built (log_command (codes "gantt") (switch_rule (codes "svg") ∷ [])))
+drawing_fits = fits_leaf (as_built (log_command (codes "gantt") (switch_rule (codes "svg") ∷ []))) Gantt one one one refl refl refl (
   set_plain _ _ refl refl refl refl,
   (
     set_plain _ _ refl refl refl refl,
@@ -244,7 +246,7 @@ drawing_fits = fits_leaf (as_built (log_command (codes "gantt") (svg_rule ∷ []
     ),
   ),
 )
-    (_, refl, refl, refl, refl, refl) (_, refl, refl, refl, refl, refl) (_, refl, refl, refl, refl, refl) tt tt (λ x y z p q r. omega arith)
+    (_, refl, refl, refl, refl, refl) (_, refl, refl, refl, refl, refl) (_, refl, refl, refl, refl, refl) tt tt tt (λ x y z p q r. omega arith)
 
 resumed_fits : FitsLeaf (as_built (log_command (codes "resume") (option_rule (codes "at") ∷ driven_rules)))
 resumed_fits = fits_leaf (as_built (log_command (codes "resume") (option_rule (codes "at") ∷ driven_rules))) Resume one one one refl refl refl (
@@ -269,7 +271,7 @@ resumed_fits = fits_leaf (as_built (log_command (codes "resume") (option_rule (c
     ),
   ),
 )
-    (_, refl, refl, refl, refl, refl) (_, refl, refl, refl, refl, refl) (_, refl, refl, refl, refl, refl) tt tt (λ x y z p q r. omega arith)
+    (_, refl, refl, refl, refl, refl) (_, refl, refl, refl, refl, refl) (_, refl, refl, refl, refl, refl) tt tt tt (λ x y z p q r. omega arith)
 
 search_fits : FitsLeaf (as_built (plan_command (codes "plan") (rounds_rule ∷ [])))
 search_fits = fits_leaf (as_built (plan_command (codes "plan") (rounds_rule ∷ []))) Plan one one none refl refl refl (
@@ -282,7 +284,7 @@ search_fits = fits_leaf (as_built (plan_command (codes "plan") (rounds_rule ∷ 
     ),
   ),
 )
-    (_, refl, refl, refl, refl, refl) (_, refl, refl, refl, refl, refl) refl refl tt (λ x y z p q r. omega arith)
+    (_, refl, refl, refl, refl, refl) (_, refl, refl, refl, refl, refl) refl refl tt tt (λ x y z p q r. omega arith)
 
 improvement_fits : FitsLeaf (as_built (described Improve))
 improvement_fits = fits_leaf (as_built (described Improve)) Improve one one none refl refl refl (
@@ -307,7 +309,26 @@ improvement_fits = fits_leaf (as_built (described Improve)) Improve one one none
     ),
   ),
 )
-    (_, refl, refl, refl, refl, refl) (_, refl, refl, refl, refl, refl) refl refl refl (λ x y z p q r. omega arith)
+    (_, refl, refl, refl, refl, refl) (_, refl, refl, refl, refl, refl) refl refl refl tt (λ x y z p q r. omega arith)
+
+decision_fits : FitsLeaf (as_built (plan_command (codes "decide") decision_rules))
+decision_fits = fits_leaf (as_built (plan_command (codes "decide") decision_rules)) Decide one one none refl refl refl (
+  set_plain _ _ refl refl refl refl,
+  (
+    set_plain _ _ refl refl refl refl,
+    (
+      set_plain _ _ refl refl refl refl,
+      (
+        switch_plain _ _ refl refl refl,
+        (
+          set_plain _ _ refl refl refl refl,
+          (number_plain _ _ refl refl refl (omega arith) (omega arith), (help_plain _ _ refl refl refl refl, tt)),
+        ),
+      ),
+    ),
+  ),
+)
+    (_, refl, refl, refl, refl, refl) (_, refl, refl, refl, refl, refl) refl tt tt refl (λ x y z p q r. omega arith)
 
 hub_fits : FitsLeaf (as_built (command (codes "hub") hub_rules))
 hub_fits = fits_leaf (as_built (command (codes "hub") hub_rules)) Hub one several none refl refl refl (
@@ -326,7 +347,7 @@ hub_fits = fits_leaf (as_built (command (codes "hub") hub_rules)) Hub one severa
     ),
   ),
 )
-    (_, refl, refl, refl, refl, refl) (_, refl, refl, refl) refl tt tt (λ x y z p q r. omega arith)
+    (_, refl, refl, refl, refl, refl) (_, refl, refl, refl) refl tt tt tt (λ x y z p q r. omega arith)
 
 -- ---- the whole command line
 
@@ -375,14 +396,17 @@ leaves = (
               (
                 improvement_fits,
                 (
-                  drive_fits,
+                  decision_fits,
                   (
-                    resumed_fits,
+                    drive_fits,
                     (
-                      hub_fits,
+                      resumed_fits,
                       (
-                        log_fits (codes "audit") Audit refl (λ x y z p q r. omega arith),
-                        (drawing_fits, tt),
+                        hub_fits,
+                        (
+                          log_fits (codes "audit") Audit refl (λ x y z p q r. omega arith),
+                          (drawing_fits, tt),
+                        ),
                       ),
                     ),
                   ),

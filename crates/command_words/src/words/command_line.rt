@@ -2,7 +2,7 @@
 
 ghost use Rattle.std.specs.Prelude.{◌≡◌, IfOk, [], ◌∷◌, false, codes};
 ghost use Rattle.clap.specs.Words.{rule_of};
-ghost use Rattle.command_words.specs.CommandLine.{Describes, bare_program, command, command_line, described, file_rule, leaf, log_command, option_rule, plan_command, plans_rule, program_with, rest_command, rounds_rule, seed_rule, svg_rule};
+ghost use Rattle.command_words.specs.CommandLine.{Describes, bare_program, choices_rule, command, command_line, described, file_rule, leaf, log_command, option_rule, plan_command, plans_rule, program_with, rest_command, rounds_rule, seed_rule, switch_rule};
 
 use crate::words::CommandName;
 use clap::builder::ValueParser;
@@ -61,15 +61,53 @@ fn seed<'a>(alloc: Global) -> Arg<'a>
         .default_value("0")
 }
 
-/// Whether a picture is drawn.
-fn svg<'a>(alloc: Global) -> Arg<'a>
-    ensures rule { rule_of result ≡ svg_rule }
+/// The choices of a complete search.
+fn choices<'a>(alloc: Global) -> Arg<'a>
+    ensures rule { rule_of result ≡ choices_rule }
     ensures local { result.global ≡ false }
 {
-    Arg::new(alloc, "svg")
-        .long("svg")
+    let help = "The choices of each search, 1 to 1000000000";
+    option(alloc, "choices", "K", help)
+        .value_parser(ValueParser::Signed(1, 1_000_000_000))
+        .default_value("200000")
+}
+
+/// An option without a value.
+fn switch<'a>(alloc: Global, name: &'a str, help: &'a str) -> Arg<'a>
+    ensures rule { rule_of result ≡ switch_rule name.entry.now }
+    ensures local { result.global ≡ false }
+{
+    Arg::new(alloc, name)
+        .long(name)
         .action(ArgAction::SetTrue)
-        .help("Draw a picture, an SVG document, in place of the text")
+        .help(help)
+}
+
+/// Whether a picture is drawn.
+fn svg<'a>(alloc: Global) -> Arg<'a>
+    ensures rule { rule_of result ≡ switch_rule (codes "svg") }
+    ensures local { result.global ≡ false }
+{
+    let help = "Draw a picture, an SVG document, in place of the text";
+    switch(alloc, "svg", help)
+}
+
+/// Whether the least makespan is asked for.
+fn least<'a>(alloc: Global) -> Arg<'a>
+    ensures rule { rule_of result ≡ switch_rule (codes "least") }
+    ensures local { result.global ≡ false }
+{
+    let help = "Find the least makespan with which the budgets can be kept";
+    switch(alloc, "least", help)
+}
+
+/// The job of whose leaving is asked.
+fn job<'a>(alloc: Global) -> Arg<'a>
+    ensures rule { rule_of result ≡ option_rule (codes "job") }
+    ensures local { result.global ≡ false }
+{
+    let help = "Find how soon job J can be out, if all others keep theirs";
+    option(alloc, "job", "J", help)
 }
 
 /// The name of an instance in a collection.
@@ -205,6 +243,16 @@ fn improvement<'a>(alloc: Global) -> Result<Command<'a>, AllocError>
     search.arg(seed(alloc))
 }
 
+/// The question whether any plan keeps the budgets.
+fn decision<'a>(alloc: Global) -> Result<Command<'a>, AllocError>
+    ensures { IfOk result (Describes (leaf (described CommandName.Decide))) }
+{
+    let about = "Says whether any plan can keep the budgets of PLAN";
+    let asked = on_plan(alloc, "decide", about)?.arg(least(alloc))?;
+    let aimed = asked.arg(job(alloc))?;
+    aimed.arg(choices(alloc))
+}
+
 /// A command on an instance and several plans.
 fn on_plans<'a>(alloc: Global, name: &'a str, about: &'a str) -> Result<Command<'a>, AllocError>
     ensures { IfOk result (Describes (leaf (command name.entry.now (plans_rule ∷ [])))) }
@@ -273,6 +321,7 @@ fn command_of<'a>(alloc: Global, name: CommandName) -> Result<Command<'a>, Alloc
         ),
         CommandName::Plan => search(alloc),
         CommandName::Improve => improvement(alloc),
+        CommandName::Decide => decision(alloc),
         CommandName::Drive => driven(alloc),
         CommandName::Resume => resumed(alloc),
         CommandName::Hub => hub(alloc),
@@ -305,6 +354,7 @@ pub fn whole<'a>(alloc: Global) -> Result<Command<'a>, AllocError>
         CommandName::Bounds,
         CommandName::Plan,
         CommandName::Improve,
+        CommandName::Decide,
         CommandName::Drive,
         CommandName::Resume,
         CommandName::Hub,

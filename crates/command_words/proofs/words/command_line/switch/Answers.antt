@@ -1,10 +1,10 @@
-use Rattle.std.proofs.Common.{ap, Some, codes}
+use Rattle.std.proofs.Common.{ap, Some}
 use Rattle.clap.specs.Words.{Rule}
 use Rattle.clap.specs.declared.builder.action.ArgAction.TheVariants.{SetTrue}
-use Rattle.command_words.proofs.words.command_line.svg.Goals as goal
+use Rattle.command_words.proofs.words.command_line.switch.Goals as goal
 
 pub returns-clause-rule : goal.returns-clause-rule
-returns-clause-rule c = rw (c.help.ensures, c.action.ensures, c.long.ensures) (ap (λ (r : Rule). record r { long = Some (codes "svg"); action = Some SetTrue }) c.new.ensures.rule)
+returns-clause-rule c = rw (c.help.ensures, c.action.ensures, c.long.ensures) (ap (λ (r : Rule). record r { long = Some (c.args.name.now); action = Some SetTrue }) c.new.ensures.rule)
 
 pub returns-clause-local : goal.returns-clause-local
 returns-clause-local c = rw (c.help.ensures, c.action.ensures, c.long.ensures) c.new.ensures.optional.1
