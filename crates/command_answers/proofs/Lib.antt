@@ -8,3 +8,4 @@ pub mod ImproveRestLines
 pub mod PictureAnswers
 pub mod CellPlans
 pub mod BoundTexts
+pub mod DecideLines

@@ -8,6 +8,7 @@ use Rattle.plan_seek.specs.Orders.{Proposal}
 use Rattle.plan_seek.specs.Tasks.{PlanTask, task_in}
 use Rattle.plan_seek.specs.Turns.{PlanSearch, search_by}
 use Rattle.plan_improve.specs.Runs.{Asked}
+use Rattle.plan_decide.specs.declared.aim.Aim.{Aim}
 use Rattle.command_answers.specs.declared.answer.Answer.{Answer}
 use Rattle.command_answers.specs.declared.command_fault.CommandFault.{CommandFault}
 use Rattle.command_answers.specs.declared.loading.Loaded.{Loaded}
@@ -18,6 +19,7 @@ use Rattle.command_answers.specs.Checks.{IsCheckLine, IsLoaded}
 use Rattle.command_answers.specs.Explains.{IsExplanation}
 use Rattle.command_answers.specs.Timetables.{IsTimetable}
 use Rattle.command_answers.specs.BoundLines.{AreBounds}
+use Rattle.command_answers.specs.Deciding.{IsDecideAnswer}
 use Rattle.command_answers.specs.Shapes.{IsShapeLine, IsNotShapedLine, IsShapedOrNot}
 use Rattle.command_answers.specs.Search.{IsSearchAnswer}
 use Rattle.command_answers.specs.Improving.{IsImproveAnswer, ordered}
@@ -94,6 +96,10 @@ module _ {W : Type 0} (gives : W → List ℕ → Result (List ℕ) CommandFault
   -- `improve`: both are read, and what the search from this plan comes to is answered, or from the serial plan where it has no orders at all
   abbrev pub RunsImprove : Asked → ℕ → PairOfFiles → W → Result Answer CommandFault → W → Type 0
   RunsImprove made rounds pair = WithBoth pair (λ p. Told (IsImproveAnswer made rounds (ordered p)))
+
+  -- `decide`: both are read, and what is decided of the plan's budgets is answered
+  abbrev pub RunsDecide : Aim → PairOfFiles → W → Result Answer CommandFault → W → Type 0
+  RunsDecide aim pair = WithBoth pair (λ p. Told (IsDecideAnswer p aim))
 
   -- the log of a well-shaped plan is asked for, and then answered by a line of this kind; any other plan is answered by its first fault
   abbrev pub WithLog : (PlannedShop → List ℕ → Answer → Type 0) → List ℕ → PlannedShop → W → Result Answer CommandFault → W → Type 0

@@ -16,6 +16,8 @@ pub mod BoundLines
 pub mod Documents
 pub mod Search
 pub mod Improving
+pub mod DecisionLines
+pub mod Deciding
 pub mod LogLines
 pub mod Rests
 pub mod ImprovingRests

@@ -6,10 +6,12 @@ ghost use Rattle.command_answers.specs.Plans.{plan_command_fault};
 ghost use Rattle.command_answers.specs.Search.{search_command_fault};
 ghost use Rattle.command_answers.specs.Improving.{improve_command_fault};
 ghost use Rattle.command_answers.specs.ImprovingRests.{rest_command_fault};
+ghost use Rattle.command_answers.specs.Deciding.{decide_command_fault};
 ghost use Rattle.command_answers.specs.LogLines.{audit_command_fault};
 ghost use Rattle.command_answers.specs.Statuses.{status_of};
 
 use orlib_read::OrFault;
+use plan_decide::DecideFault;
 use plan_improve::ImproveFault;
 use plan_seek::SeekFault;
 use plan_text::PlanFault;
@@ -89,7 +91,7 @@ impl From<PlanFault> for CommandFault {
     }
 }
 
-/// The fault of a command that a fault of a search or of the audit is: out of memory. Each other one has an answer.
+/// The fault of a command that a fault of a search, of a decision or of the audit is: out of memory. Each other one has an answer.
 #[derive(Drop)]
 pub(crate) struct Unanswered(pub Option<CommandFault>);
 
@@ -122,6 +124,17 @@ impl From<ImproveRestFault> for Unanswered {
         match told {
             ImproveRestFault::Memory => Unanswered(Some(CommandFault::Memory)),
             _ => Unanswered(None),
+        }
+    }
+}
+
+impl From<DecideFault> for Unanswered {
+    ghost from_gives = { λ told unanswered. unanswered.0 ≡ decide_command_fault told };
+
+    fn from(told: DecideFault) -> Unanswered {
+        match told {
+            DecideFault::Memory => Unanswered(Some(CommandFault::Memory)),
+            DecideFault::JobOutOfRange => Unanswered(None),
         }
     }
 }

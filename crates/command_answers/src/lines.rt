@@ -1,7 +1,7 @@
 //! The texts of answers.
 
 ghost use Rattle.std.specs.Prelude.{◌≡◌, ◌++◌, IfOk, OnOk, decimal};
-ghost use Rattle.command_answers.specs.Documents.{IsDocumentAnswer};
+ghost use Rattle.command_answers.specs.Documents.{IsDocumentAnswer, IsHeadedAnswer};
 ghost use Rattle.command_answers.specs.Shapes.{IsLineOfFault};
 ghost use Rattle.command_answers.specs.LogLines.{log_refused_line};
 
@@ -25,6 +25,17 @@ pub(crate) fn document_answer(alloc: Global, plan: &Plan, status: u8) -> Answere
     ensures { IsDocumentAnswer plan.now status result }
 {
     let text = plan_document(alloc, plan)?.into_bytes();
+    Ok(Answer { text, status })
+}
+
+/// A line and the text of a plan behind it, with this status.
+pub(crate) fn headed_answer(alloc: Global, line: &[u8], plan: &Plan, status: u8) -> Answered
+    ensures { IsHeadedAnswer line.now plan.now status result }
+{
+    let document = document_answer(alloc, plan, status)?;
+    let mut text = Vec::new(alloc);
+    text.extend_from_slice(line)?;
+    text.extend_from_slice(&document.text)?;
     Ok(Answer { text, status })
 }
 

@@ -1,0 +1,10 @@
+use Rattle.std.proofs.Common.{Ok, refl}
+use Rattle.command_answers.proofs.decides.decide_answer.Goals as goal
+
+pub returns : goal.returns
+returns g c = record {
+  came = Ok c.in_ok-both.both;
+  mid = c.read_both.new.texts;
+  is = rw (← c.in_ok-both.was) c.read_both.ensures;
+  goes_on = (c.both_decided.ensures, refl);
+}

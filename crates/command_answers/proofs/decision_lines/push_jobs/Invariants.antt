@@ -1,0 +1,7 @@
+use Rattle.std.proofs.Common.{◌≡◌, ◌++◌, drop}
+use Rattle.command_answers.specs.DecisionLines.{job_words}
+use Rattle.command_answers.proofs.decision_lines.push_jobs.Given as goal
+
+-- what was written, and what is still to come
+abbrev pub invariant-loop-job : goal.invariant-loop-job
+invariant-loop-job l = l.text.items ++ job_words (drop l.job-index l.jobs) ≡ l.initial.text.items ++ job_words l.jobs

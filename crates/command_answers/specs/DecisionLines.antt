@@ -1,0 +1,45 @@
+-- The lines of what `decide` says.
+use Rattle.std.specs.Prelude.{◌==◌, ℕ, if◌then◌else◌, Bool, List, [], ◌++◌, codes, decimal}
+use Rattle.std.specs.List.{flat_map}
+use Rattle.plan_decide.specs.declared.decided.Within.{Within}
+use Rattle.plan_decide.specs.declared.excluded.Excluded.{Excluded}
+use Rattle.plan_decide.specs.declared.excluded.Excluded.TheVariants.{Alone, Pair, Several}
+use Rattle.plan_decide.specs.Excluding.{jobs_in}
+
+-- the numbers of the jobs, with a blank before each
+abbrev pub job_words : List ℕ → List ℕ
+job_words js = flat_map (λ j. codes " " ++ decimal j) js
+
+-- ` or fewer`, or nothing
+abbrev pub fewer_if : Bool → List ℕ
+fewer_if or_fewer = if or_fewer then codes " or fewer" else []
+
+-- the former where some of the jobs may not be needed
+abbrev pub fewer_words : Excluded → List ℕ
+fewer_words (Alone j) = []
+fewer_words (Pair i j) = []
+fewer_words (Several js or_fewer) = fewer_if or_fewer
+
+-- the numbers of the jobs that exclude each other, and that
+abbrev pub excluded_words : Excluded → List ℕ
+excluded_words e = job_words (jobs_in e) ++ fewer_words e
+
+-- `never jobs J0 J1 ..`
+abbrev pub never_line : Excluded → List ℕ
+never_line e = codes "never jobs" ++ excluded_words e ++ codes "\n"
+
+-- one such line for each
+abbrev pub never_lines : List Excluded → List ℕ
+never_lines es = flat_map never_line es
+
+-- `# least X`
+abbrev pub least_line : ℕ → List ℕ
+least_line x = codes "# least " ++ decimal x ++ codes "\n"
+
+-- `# at most X at least B`
+abbrev pub bounds_line : ℕ → ℕ → List ℕ
+bounds_line x b = codes "# at most " ++ decimal x ++ codes " at least " ++ decimal b ++ codes "\n"
+
+-- the line of an objective, which is known where both are the same
+abbrev pub within_line : Within → List ℕ
+within_line w = if w.at_least == w.at_most then least_line w.at_most else bounds_line w.at_most w.at_least

@@ -1,0 +1,128 @@
+//! The command `decide`.
+
+ghost use Rattle.std.specs.Prelude.{◌≡◌, IfOk};
+ghost use Rattle.plan_seek.specs.Tasks.{task_in};
+ghost use Rattle.command_answers.specs.Deciding.{AsksForJob, CanBeTold, IsDecideAnswer, IsDecidedAnswer, IsDecisionAnswer, IsLineRefused, IsUndecidedAnswer, out_of_range_line};
+ghost use Rattle.command_answers.specs.DecisionLines.{never_lines, within_line};
+ghost use Rattle.command_answers.specs.Documents.{IsHeadedAnswer};
+ghost use Rattle.command_answers.specs.Commands.{RunsDecide};
+
+use crate::answer::{Answer, Answered, GOOD, REFUSED};
+use crate::both::{Both, Pair, read_both, serially};
+use crate::command_fault::Unanswered;
+use crate::decision_lines::{push_never_lines, push_within_line};
+use crate::lines::{document_answer, fault_answer, headed_answer, line_answer, push_fact};
+use crate::texts::Texts;
+use arc_choice::Choose;
+use plan_decide::{Aim, DecideFault, Decided, Excluded, Objective, Watch, Within, decide};
+use shop_base::{Plan, Shaped};
+use std::alloc::{AllocError, Global};
+
+/// Whether any plan with the releases, budgets and cleaning times of the one in a file keeps all budgets, for the
+/// instance of another file, by complete searches of at most so many choices each. The orders of the given plan are
+/// read and not used. Where no plan keeps them, there is a line of jobs that exclude each other, or more than one. The
+/// words after `bad numbers ` are in no clause, but for those of a job that isn't of the shop. The text of a plan is
+/// read again: if it isn't that plan's, the fault is `NotReadBack`.
+pub fn decide_answer<T: Texts, C: Choose, W: Watch>(
+    alloc: Global,
+    texts: &mut T,
+    pair: &Pair<'_>,
+    aim: Aim,
+    choices: u64,
+    chooser: &mut C,
+    watch: &mut W,
+) -> Answered
+    ensures { RunsDecide T.gives aim pair.now texts.old result texts.new }
+{
+    let both = read_both(alloc, texts, pair)?;
+    both_decided(alloc, both, aim, choices, chooser, watch)
+}
+
+/// What is decided for a shop with the numbers of a plan, if these are sound, else their first fault.
+fn both_decided<C: Choose, W: Watch>(
+    alloc: Global,
+    both: Both,
+    aim: Aim,
+    choices: u64,
+    chooser: &mut C,
+    watch: &mut W,
+) -> Answered
+    ensures { IsDecideAnswer both aim result }
+{
+    match serially(alloc, both)?.shaped() {
+        Ok(shaped) => shaped_decided(alloc, shaped, aim, choices, chooser, watch),
+        Err(fault) => Ok(fault_answer(alloc, b"bad numbers ", fault)?),
+    }
+}
+
+/// What is decided for a shop with the numbers of this plan.
+fn shaped_decided<C: Choose, W: Watch>(
+    alloc: Global,
+    shaped: Shaped,
+    aim: Aim,
+    choices: u64,
+    chooser: &mut C,
+    watch: &mut W,
+) -> Answered
+    ensures { IsDecisionAnswer (task_in shaped) aim result }
+{
+    match decide(alloc, shaped, aim, choices, chooser, watch) {
+        Ok(decided) => decided_answer(alloc, &decided),
+        Err(undecided) => undecided_answer(alloc, aim, undecided.fault),
+    }
+}
+
+/// The text of a decision.
+fn decided_answer(alloc: Global, decided: &Decided) -> Answered
+    ensures { IsDecidedAnswer decided.now result }
+{
+    match decided {
+        Decided::Kept(verified) => document_answer(alloc, verified.shaped().plan(), GOOD),
+        Decided::Best(verified, within) => best_answer(alloc, verified.shaped().plan(), *within),
+        Decided::Never(excluded, _) => Ok(never_answer(alloc, excluded)?),
+        Decided::Open(_) => Ok(line_answer(alloc, b"open\n", REFUSED)?),
+    }
+}
+
+/// The text of the best plan that was found, behind the line of what is known of the objective.
+fn best_answer(alloc: Global, plan: &Plan, within: Within) -> Answered
+    ensures { IsHeadedAnswer (within_line within) plan.now 0 result }
+{
+    let mut line = Vec::new(alloc);
+    push_within_line(&mut line, within)?;
+    headed_answer(alloc, &line, plan, GOOD)
+}
+
+/// The lines of jobs that exclude each other.
+fn never_answer(alloc: Global, excluded: &[Excluded]) -> Result<Answer, AllocError>
+    ensures { IfOk result (IsLineRefused (never_lines excluded.now)) }
+{
+    let (mut text, status) = (Vec::new(alloc), REFUSED);
+    push_never_lines(&mut text, excluded)?;
+    Ok(Answer { text, status })
+}
+
+/// Why nothing is decided: the line of a job that isn't of the shop, or that memory ran out.
+fn undecided_answer(alloc: Global, aim: Aim, fault: DecideFault) -> Answered
+    requires { CanBeTold aim fault }
+    ensures { IsUndecidedAnswer aim fault result }
+{
+    match Unanswered::from(fault).0 {
+        Some(fault) => Err(fault),
+        None => Ok(out_of_range_answer(alloc, aim)?),
+    }
+}
+
+/// The line of the job whose leaving is asked for, which isn't of the shop.
+fn out_of_range_answer(alloc: Global, aim: Aim) -> Result<Answer, AllocError>
+    requires { AsksForJob aim }
+    ensures { IfOk result (IsLineRefused (out_of_range_line aim)) }
+{
+    let Aim::Least(Objective::Leaving(job)) = aim else {
+        unreachable!();
+    };
+    let (mut text, status) = (Vec::new(alloc), REFUSED);
+    push_fact(&mut text, b"bad numbers JobOutOfRange job ", u64::from(job))?;
+    text.push(b'\n')?;
+    Ok(Answer { text, status })
+}
