@@ -3,15 +3,16 @@ _cellplan() {
   local word=${COMP_WORDS[COMP_CWORD]} before=${COMP_WORDS[COMP_CWORD - 1]} command=${COMP_WORDS[1]} options
   COMPREPLY=()
   if [ "$COMP_CWORD" -eq 1 ]; then
-    mapfile -t COMPREPLY < <(compgen -W 'facts shape check explain schedule bounds plan improve drive resume hub audit gantt --help --version' -- "$word")
+    mapfile -t COMPREPLY < <(compgen -W 'facts shape check explain schedule bounds plan improve decide drive resume hub audit gantt --help --version' -- "$word")
     return
   fi
   case $before in
-    --instance | --at | --lines | --leap | --rounds | --seed) return ;;
+    --instance | --at | --lines | --leap | --rounds | --seed | --job | --choices) return ;;
   esac
   case $command in
     plan) options='--instance --rounds --help' ;;
     improve) options='--instance --after --at --rounds --seed --help' ;;
+    decide) options='--instance --least --job --choices --help' ;;
     check | explain) options='--instance --after --at --help' ;;
     schedule) options='--instance --after --at --svg --help' ;;
     drive) options='--instance --log --at --lines --leap --help' ;;

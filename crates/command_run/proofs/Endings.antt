@@ -24,7 +24,7 @@ use Rattle.cell_drive.specs.StatedResume.{stated_from}
 use Rattle.cell_drive.specs.InManner.{ResumesBy}
 use Rattle.command_words.specs.declared.words.Chosen.{Chosen}
 use Rattle.command_words.specs.declared.words.CommandName.{CommandName}
-use Rattle.command_words.specs.declared.words.CommandName.TheVariants.{Input as NoWords, Facts, Shape, Check, Explain, Schedule, Bounds, Plan as Search, Improve, Drive, Resume, Hub, Audit, Gantt}
+use Rattle.command_words.specs.declared.words.CommandName.TheVariants.{Input as NoWords, Facts, Shape, Check, Explain, Schedule, Bounds, Plan as Search, Improve, Decide, Drive, Resume, Hub, Audit, Gantt}
 use Rattle.command_words.specs.declared.words.WordsFault.{WordsFault}
 use Rattle.command_words.specs.declared.words.WordsFault.TheVariants.{Usage, Memory as NoWordsMemory}
 use Rattle.command_words.specs.Choice.{IsChoiceOf, TellsOneOf, reasons_in, found_in}
@@ -173,6 +173,7 @@ module _ {W : Type 0} (gives : W → List ℕ → Result (List ℕ) CommandFault
   written Bounds later outcome run = kept Bounds run.1
   written Search later outcome run = kept Search run.1
   written Improve later outcome run = kept Improve run.1
+  written Decide later outcome run = kept Decide run.1
   written Drive later outcome run = drives_written run.loaded later outcome run.loads run.drives
   written Resume later outcome run = resumes_written run.shaped run.texts_mid later outcome run.shapes run.resumes
   written Hub later outcome run = hub_written run.loaded later outcome run.loads run.drives

@@ -3,11 +3,12 @@ use Rattle.std.proofs.Common.{◌≡◌, ℕ, ◌≤◌, List, [], ◌∷◌, Bo
 use Rattle.plan_verifier.specs.Accepted.{VerifiedPlan}
 use Rattle.plan_verifier.specs.declared.verdict.Verdict.{Verdict}
 use Rattle.plan_verifier.specs.declared.verdict.Verdict.TheVariants.{Accepted, Refused}
-use Rattle.plan_seek.specs.Tasks.{task_in}
+use Rattle.plan_seek.specs.Tasks.{PlanTask, task_in}
 use Rattle.plan_seek.specs.Turns.{PlanSearch}
 use Rattle.plan_seek.specs.declared.seek_fault.SeekFault.{SeekFault}
 use Rattle.plan_seek.specs.declared.seek_fault.SeekFault.TheVariants.{BadNumbers, Exhausted, TooManyRounds, Memory as NoMemory}
 use Rattle.plan_improve.specs.Runs.{Asked}
+use Rattle.plan_decide.specs.declared.aim.Aim.{Aim}
 use Rattle.shop_base.specs.declared.shape_fault.ShapeFault.{ShapeFault}
 use Rattle.shop_base.specs.Plan.{PlannedShop}
 use Rattle.byte_streams.specs.declared.drive_fault.DriveFault.{DriveFault}
@@ -19,7 +20,7 @@ use Rattle.run_log.specs.declared.audit_fault.AuditFault.{AuditFault}
 use Rattle.run_log.specs.declared.audit_fault.AuditFault.TheVariants.{BadLine, NotExpected, Backwards, NotReady, Occupied, OutOfOrder, WrongPlace, NotClean, Memory as NoMemoryToAudit}
 use Rattle.command_words.specs.declared.words.Chosen.{Chosen}
 use Rattle.command_words.specs.declared.words.CommandName.{CommandName}
-use Rattle.command_words.specs.declared.words.CommandName.TheVariants.{Input as NoWords, Facts, Shape, Check, Explain, Schedule, Bounds, Plan, Improve, Drive, Resume, Hub, Audit, Gantt}
+use Rattle.command_words.specs.declared.words.CommandName.TheVariants.{Input as NoWords, Facts, Shape, Check, Explain, Schedule, Bounds, Plan, Improve, Decide, Drive, Resume, Hub, Audit, Gantt}
 use Rattle.command_answers.specs.declared.answer.Answer.{Answer}
 use Rattle.command_answers.specs.declared.cells.Cells.{Cells}
 use Rattle.command_answers.specs.declared.cells.Cells.TheVariants.{Accepted as AllAccepted, Line}
@@ -32,7 +33,8 @@ use Rattle.command_answers.specs.Shapes.{IsShapeLine, IsNotShapedLine}
 use Rattle.command_answers.specs.Checks.{IsCheckLine, IsLineOf, accepted_in, verdict_status}
 use Rattle.command_answers.specs.Explains.{IsExplanation}
 use Rattle.command_answers.specs.Timetables.{IsTimetable}
-use Rattle.command_answers.specs.BoundLines.{AreBounds}
+use Rattle.command_answers.specs.BoundLines.{AreBounds, IsBadNumbersLine}
+use Rattle.command_answers.specs.Deciding.{IsDecideAnswer, IsDecisionAnswer, IsDecisionText}
 use Rattle.command_answers.specs.Improving.{IsStatusOf, IsBestAnswer, IsImproveAnswer, ordered}
 use Rattle.command_answers.specs.Search.{IsSearchLine, IsSearchAnswer, IsNoPlanLine}
 use Rattle.command_answers.specs.declared.logs.Telling.{Telling}
@@ -57,7 +59,7 @@ use Rattle.text_lines.specs.Lines.{ended_lines}
 use Rattle.command_answers.specs.ImprovingRests.{RestAsked, IsRestAnswer}
 use Rattle.command_run.specs.Improvers.{AsksOne, AsksOneForRest, ImprovesPlan, ImprovesRest, Improves}
 use Rattle.command_run.specs.Tellings.{RunsTelling}
-use Rattle.command_run.specs.Program.{RunsCommand, file_at, log_in, manner_in, name_in, pair_in, plans_in}
+use Rattle.command_run.specs.Program.{RunsCommand, aim_in, file_at, log_in, manner_in, name_in, pair_in, plans_in}
 
 -- the answer's status is 0 or 1
 abbrev pub IsLow : Result Answer CommandFault → Type 0
@@ -144,6 +146,21 @@ low_bounds p answer (inl sound) = elim sound.1.status [
   | inr never ↦ one_low answer.status never.2
 ]
 low_bounds p answer (inr bad) = one_low answer.status bad.line.refused
+
+low_decision : (t : PlanTask) (aim : Aim) (answer : Answer) → IsDecisionText t aim answer → answer.status ≤ 1
+low_decision t aim answer (inl kept) = zero_low answer.status kept.text.ends
+low_decision t aim answer (inr (inl best)) = zero_low answer.status best.text.ends
+low_decision t aim answer (inr (inr (inl never))) = one_low answer.status never.refused
+low_decision t aim answer (inr (inr (inr (inl left_open)))) = one_low answer.status left_open.refused
+low_decision t aim answer (inr (inr (inr (inr outside)))) = one_low answer.status outside.refused
+
+low_decided : (t : PlanTask) (aim : Aim) (outcome : Result Answer CommandFault) → IsDecisionAnswer t aim outcome → IsLow outcome
+low_decided t aim (Ok answer) is = low_decision t aim answer is
+low_decided t aim (Err fault) is = tt
+
+low_decides : (p : PlannedShop) (aim : Aim) (outcome : Result Answer CommandFault) → IsDecideAnswer p aim outcome → IsLow outcome
+low_decides p aim outcome (inl sound) = low_decided (task_in p) aim outcome sound.1
+low_decides p aim outcome (inr bad) = low_or (IsBadNumbersLine p) outcome (λ answer line. one_low answer.status line.line.refused) bad
 
 low_status : (best : PlannedShop) (status : ℕ) → IsStatusOf best status → status ≤ 1
 low_status best status (inl accepted) = zero_low status accepted.1
@@ -396,6 +413,8 @@ module _ {W : Type 0} (gives : W → List ℕ → Result (List ℕ) CommandFault
   low Bounds chosen texts before outcome texts_after after run =
       low_both (pair_in chosen) (λ p. Told (IsOrMemory (AreBounds p))) texts outcome texts_after (λ p mid on. low_or (AreBounds p) outcome (low_bounds p) on.0) run.0
   low Plan chosen texts before outcome texts_after after run = low_seeks chosen.rounds _ texts outcome texts_after run.0
+  low Decide chosen texts before outcome texts_after after run =
+      low_both (pair_in chosen) (λ p. Told (IsDecideAnswer p (aim_in chosen))) texts outcome texts_after (λ p mid on. low_decides p (aim_in chosen) outcome on.0) run.0
   low Improve chosen texts before outcome texts_after after run = low_bettered chosen.at chosen.rounds (pair_in chosen) (log_in chosen) texts outcome texts_after run.0
   low Drive chosen texts before outcome texts_after after run = low_drives (manner_in chosen) run.loaded before after outcome run.drives
   low Resume chosen texts before outcome texts_after after run = low_resumes (manner_in chosen) chosen.at _ run.shaped run.texts_mid before outcome texts_after after run.resumes

@@ -5,9 +5,12 @@ use Rattle.shop_base.specs.declared.shape_fault.ShapeFault.{ShapeFault}
 use Rattle.shop_base.specs.Plan.{PlannedShop}
 use Rattle.cell_drive.specs.declared.manner.Manner.{Manner}
 use Rattle.run_journal.specs.Folders.{NamedLog}
+use Rattle.plan_decide.specs.declared.aim.Aim.{Aim}
+use Rattle.plan_decide.specs.declared.aim.Aim.TheVariants.{Promises, Least}
+use Rattle.plan_decide.specs.declared.aim.Objective.TheVariants.{Makespan, Leaving}
 use Rattle.command_words.specs.declared.words.Chosen.{Chosen}
 use Rattle.command_words.specs.declared.words.CommandName.{CommandName}
-use Rattle.command_words.specs.declared.words.CommandName.TheVariants.{Input as NoWords, Facts, Shape, Check, Explain, Schedule, Bounds, Plan, Improve, Drive, Resume, Hub, Audit, Gantt}
+use Rattle.command_words.specs.declared.words.CommandName.TheVariants.{Input as NoWords, Facts, Shape, Check, Explain, Schedule, Bounds, Plan, Improve, Decide, Drive, Resume, Hub, Audit, Gantt}
 use Rattle.command_words.specs.declared.words.Lines.{Lines}
 use Rattle.command_words.specs.declared.words.Lines.TheVariants.{One, Two}
 use Rattle.command_words.specs.declared.words.WordsFault.{WordsFault}
@@ -20,7 +23,7 @@ use Rattle.command_answers.specs.declared.command_fault.CommandFault.TheVariants
 use Rattle.command_answers.specs.declared.loading.Loaded.{Loaded}
 use Rattle.command_answers.specs.declared.logs.Telling.TheVariants.{Numbers}
 use Rattle.command_answers.specs.declared.rests.PlanTelling.TheVariants.{Verdict, Reasons}
-use Rattle.command_answers.specs.Commands.{PairOfFiles, RunsFacts, RunsShape, RunsBounds, RunsLog, Loads, Shapes}
+use Rattle.command_answers.specs.Commands.{PairOfFiles, RunsFacts, RunsShape, RunsBounds, RunsDecide, RunsLog, Loads, Shapes}
 use Rattle.command_answers.specs.Cells.{LoadsCells}
 use Rattle.command_run.specs.Streams.{Streams, Devices}
 use Rattle.command_run.specs.Inputs.{RunsInput}
@@ -56,6 +59,19 @@ name_in chosen = option_map string_bytes chosen.instance
 -- the log of whose rest is asked
 abbrev pub log_in : Chosen → Option (List ℕ)
 log_in chosen = option_map string_bytes chosen.after
+
+-- what is to be decided where no job is named: the least makespan, or whether the budgets can be kept
+abbrev pub overall_aim : Bool → Aim
+overall_aim true = Least Makespan
+overall_aim false = Promises
+
+-- what is to be decided: how soon the job can be out, or that
+abbrev pub aim_of : Option ℕ → Bool → Aim
+aim_of (Some j) least = Least (Leaving j)
+aim_of None least = overall_aim least
+
+abbrev pub aim_in : Chosen → Aim
+aim_in chosen = aim_of chosen.job chosen.least
 
 -- whether a command may keep a log of its own
 abbrev pub keeps_log : CommandName → Bool
@@ -134,6 +150,8 @@ module _ {W : Type 0} (gives : W → List ℕ → Result (List ℕ) CommandFault
       SeeksPlan gives chosen.rounds (pair_in chosen) texts outcome texts_after × (after ≡ before)
   RunsCommand Improve chosen texts before outcome texts_after after =
       Improves gives chosen.at chosen.rounds (pair_in chosen) (log_in chosen) texts outcome texts_after × (after ≡ before)
+  RunsCommand Decide chosen texts before outcome texts_after after =
+      RunsDecide gives (aim_in chosen) (pair_in chosen) texts outcome texts_after × (after ≡ before)
   RunsCommand Drive chosen texts before outcome texts_after after =
       RunsDrive (manner_in chosen) (pair_in chosen) texts before outcome texts_after after
   RunsCommand Resume chosen texts before outcome texts_after after =

@@ -7,8 +7,9 @@ ghost use Rattle.shop_base.specs.declared.limits.TheConstants.{MAX_MOMENT};
 ghost use Rattle.command_words.specs.Choice.{IsWithin};
 ghost use Rattle.command_run.specs.Improvers.{Improves};
 ghost use Rattle.command_run.specs.Tellings.{RunsTelling};
-ghost use Rattle.command_run.specs.Program.{RunsCommand, file_at, is_second, kept_log_in, log_in, manner_in, name_in, pair_in};
+ghost use Rattle.command_run.specs.Program.{RunsCommand, aim_in, file_at, is_second, kept_log_in, log_in, manner_in, name_in, overall_aim, pair_in};
 
+use crate::choosers::decision_answer;
 use crate::devices::{Screen, Streams};
 use crate::drives::drive_answer;
 use crate::hubs::hub_answer;
@@ -24,6 +25,7 @@ use command_answers::{
     shape_answer,
 };
 use command_words::{Chosen, CommandName, Lines};
+use plan_decide::{Aim, Objective};
 use shop_base::Moment;
 use std::alloc::Global;
 
@@ -136,6 +138,27 @@ fn bettered<T: Texts, S: Screen>(
     }
 }
 
+/// What is to be decided besides the budgets.
+fn aim(chosen: &Chosen) -> Aim
+    ensures { result ≡ aim_in chosen.now }
+{
+    match chosen.job {
+        Some(job) => Aim::Least(Objective::Leaving(job)),
+        None => overall_aim(chosen.least),
+    }
+}
+
+/// What is to be decided where no job is named.
+fn overall_aim(least: bool) -> Aim
+    ensures { result ≡ overall_aim least }
+{
+    if least {
+        Aim::Least(Objective::Makespan)
+    } else {
+        Aim::Promises
+    }
+}
+
 /// The log that a driven cell keeps.
 pub(crate) fn kept_log(chosen: &Chosen) -> Option<&str>
     ensures { option_copied result ≡ kept_log_in chosen.now }
@@ -171,6 +194,10 @@ pub(crate) fn command<T: Texts, R: Source, W: Outlet, S: Screen>(
         CommandName::Bounds => bounds_answer(alloc, texts, &pair(chosen)),
         CommandName::Plan => seek_answer(alloc, texts, &pair(chosen), chosen.rounds),
         CommandName::Improve => bettered(alloc, chosen, texts, screen),
+        CommandName::Decide => {
+            let (aim, choices) = (aim(chosen), chosen.choices);
+            decision_answer(alloc, texts, &pair(chosen), aim, choices, screen)
+        }
         CommandName::Drive => { drive_answer(alloc, texts, &pair(chosen), manner(chosen), streams) }
         CommandName::Resume => {
             let log = file(chosen, 2);

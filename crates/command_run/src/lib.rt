@@ -1,6 +1,8 @@
 //! The whole program of `cellplan`, over files and streams that are given to it.
 #![tactic(auto)]
 
+mod choice_progress;
+mod choosers;
 mod command;
 mod devices;
 mod drives;

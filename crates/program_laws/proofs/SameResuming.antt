@@ -30,7 +30,7 @@ use Rattle.drive_laws.proofs.StatedResumes.{stated_on_text}
 use Rattle.drive_laws.proofs.OneTaking.{one_text_from_a_log, one_stated_text_from_a_log, a_log_without_events_is_driven, a_log_without_events_is_driven_so}
 use Rattle.command_words.specs.declared.words.Chosen.{Chosen}
 use Rattle.command_words.specs.declared.words.CommandName.{CommandName}
-use Rattle.command_words.specs.declared.words.CommandName.TheVariants.{Input, Facts, Shape, Check, Explain, Schedule, Bounds, Plan, Improve, Drive, Resume, Hub, Audit, Gantt}
+use Rattle.command_words.specs.declared.words.CommandName.TheVariants.{Input, Facts, Shape, Check, Explain, Schedule, Bounds, Plan, Improve, Decide, Drive, Resume, Hub, Audit, Gantt}
 use Rattle.command_words.specs.declared.words.Lines.{Lines}
 use Rattle.command_words.specs.declared.words.WordsFault.{WordsFault}
 use Rattle.command_words.specs.declared.words.WordsFault.TheVariants.{Usage, Memory as NoWordsMemory}
@@ -62,6 +62,7 @@ is_resume Schedule word = (let differ : 115 ≡ 114 = ap first word in absurd (o
 is_resume Bounds word = (let differ : 98 ≡ 114 = ap first word in absurd (omega (arith, differ)))
 is_resume Plan word = (let differ : 112 ≡ 114 = ap first word in absurd (omega (arith, differ)))
 is_resume Improve word = (let differ : 105 ≡ 114 = ap first word in absurd (omega (arith, differ)))
+is_resume Decide word = (let differ : 100 ≡ 114 = ap first word in absurd (omega (arith, differ)))
 is_resume Drive word = (let differ : 100 ≡ 114 = ap first word in absurd (omega (arith, differ)))
 is_resume Hub word = (let differ : 104 ≡ 114 = ap first word in absurd (omega (arith, differ)))
 is_resume Audit word = (let differ : 97 ≡ 114 = ap first word in absurd (omega (arith, differ)))

@@ -27,7 +27,7 @@ use Rattle.cell_drive.proofs.OneText.{one_answer_text}
 use Rattle.cell_drive.proofs.OneStated.{one_stated_text, a_stated_cell_answers_so}
 use Rattle.command_words.specs.declared.words.Chosen.{Chosen}
 use Rattle.command_words.specs.declared.words.CommandName.{CommandName}
-use Rattle.command_words.specs.declared.words.CommandName.TheVariants.{Input, Facts, Shape, Check, Explain, Schedule, Bounds, Plan, Improve, Drive, Resume, Hub, Audit, Gantt}
+use Rattle.command_words.specs.declared.words.CommandName.TheVariants.{Input, Facts, Shape, Check, Explain, Schedule, Bounds, Plan, Improve, Decide, Drive, Resume, Hub, Audit, Gantt}
 use Rattle.command_words.specs.declared.words.Lines.{Lines}
 use Rattle.command_words.specs.declared.words.WordsFault.{WordsFault}
 use Rattle.command_words.specs.declared.words.WordsFault.TheVariants.{Usage, Memory as NoWordsMemory}
@@ -54,6 +54,10 @@ abbrev pub first : Option (List ℕ) → ℕ
 first None = 0
 first (Some word) = get_or word 0 0
 
+abbrev second : Option (List ℕ) → ℕ
+second None = 0
+second (Some word) = get_or word 1 0
+
 is_drive : (name : CommandName) → word_of name ≡ word_of Drive → name ≡ Drive
 is_drive Input word = absurd (cc word)
 is_drive Drive word = refl
@@ -65,6 +69,7 @@ is_drive Schedule word = (let differ : 115 ≡ 100 = ap first word in absurd (om
 is_drive Bounds word = (let differ : 98 ≡ 100 = ap first word in absurd (omega (arith, differ)))
 is_drive Plan word = (let differ : 112 ≡ 100 = ap first word in absurd (omega (arith, differ)))
 is_drive Improve word = (let differ : 105 ≡ 100 = ap first word in absurd (omega (arith, differ)))
+is_drive Decide word = (let differ : 101 ≡ 114 = ap second word in absurd (omega (arith, differ)))
 is_drive Resume word = (let differ : 114 ≡ 100 = ap first word in absurd (omega (arith, differ)))
 is_drive Hub word = (let differ : 104 ≡ 100 = ap first word in absurd (omega (arith, differ)))
 is_drive Audit word = (let differ : 97 ≡ 100 = ap first word in absurd (omega (arith, differ)))
