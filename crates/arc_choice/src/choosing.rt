@@ -30,7 +30,7 @@ pub trait Choose {
     /// choice, while a pair is open. No side, or one of a pair that isn't open, ends the search.
     fn choose(&mut self, question: &Question, state: &State) -> Option<Side>;
 
-    /// A side of this pair was decided last, and nothing answers the question any more: found at a pair of which
-    /// neither side can be, or, where none is named, at moments that are too late.
+    /// The side of `pair` that was decided last leaves no answer: of the pair `at` neither side can be, or, where that
+    /// is none, some node would come too late.
     fn clashed(&mut self, pair: usize, at: Option<usize>);
 }

@@ -41,6 +41,9 @@ pub fn explore<C: Choose>(
     if !branch.fits(question) {
         return Ok(Outcome::Never);
     }
+    if !branch.admits_arcs(question) {
+        return Ok(Outcome::Never);
+    }
     if let Err(_) = branch.tighten(question, &links, &mut work) {
         return Ok(Outcome::Never);
     }

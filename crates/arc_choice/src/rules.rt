@@ -147,6 +147,20 @@ impl Branch {
         true
     }
 
+    /// Whether no arc of the question is one that can't be, as each on a circle is.
+    pub(crate) fn admits_arcs(&self, question: &Question) -> bool
+        requires sound { IsSound question.now }
+        requires branch { IsBranch question.now self.now }
+        ensures { result ≡ false → HasNone Always question.now self.now }
+    {
+        for arc in &question.arcs {
+            if self.excludes(question, *arc) {
+                return false;
+            }
+        }
+        true
+    }
+
     /// Keeps an arc of the question, if there is one of this number.
     pub(crate) fn keep_arc(
         &mut self,

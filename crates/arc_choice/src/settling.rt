@@ -11,7 +11,7 @@ use crate::question::Question;
 use crate::rules::Clash;
 use crate::work::Work;
 
-/// More turns than the rules take, whatever is asked: a number in place of a proof of when they come to rest.
+/// The most turns of the rules before a branch is taken as it is: a number in place of a proof of when they come to rest.
 const ROUNDS: u64 = 1_000_000_000_000;
 
 impl Branch {
