@@ -12,3 +12,6 @@ pub returns-in-Never : goal.returns-in-Never
 returns-in-Never g c =
     no_plan_keeps (times_of c.args.shaped.now) c.deref.result.now c.args.limits.now c.in_ok-question.question c.in_ok-question.ensures.asks
     (at_never (IsImpossible c.in_ok-question.question) c.in_ok-explore.field-0 c.in-Never.is c.in_ok-explore.ensures)
+
+pub returns : goal.returns
+returns g c = tt
