@@ -1,7 +1,7 @@
 -- Jobs left out in turn.
 use Rattle.std.proofs.Common.{◌≡◌, ◌≢◌, ℕ, ◌+◌, ◌<◌, ◌≤◌, Bool, true, false, List, [], ◌∷◌, ◌++◌, map, length, set, slice_index, All, AllPairs, Contains, Option, None, Some, IsSome, is_some, Vec, Global, arith, refl, sym, ap, ◌∙◌, subst, inl, inr, true≢false, le_refl}
 use Rattle.std.proofs.lemmas.Bool.{cases_eq, cases_lt}
-use Rattle.std.proofs.lemmas.List.{get_or_past, get_or-set_same, get_or-set_other, get_or-map, get_or_append_left, get_or_push, length-set, length-map, length_push}
+use Rattle.std.proofs.lemmas.List.{get_or_past, get_or-set_same, get_or-set_other, get_or-map, length-set, length-map}
 use Rattle.std.proofs.lemmas.List.Elements.{All-nil, All-push, All-weaker, All-contains, Contains-append_left, Contains-push}
 use Rattle.shop_base.specs.declared.limits.TheConstants.{MAX_MOMENT}
 use Rattle.shop_base.specs.Plan.{jobs}
@@ -18,6 +18,7 @@ use Rattle.plan_decide.specs.Decisions.{IsAcceptedWith}
 use Rattle.plan_decide.specs.Asking.{AreLimits}
 use Rattle.plan_decide.specs.LeftOut.{cap, AreLimited, ArePromised, CanKeep, IsLeft}
 use Rattle.plan_decide.proofs.Limits.{promise_is}
+use Rattle.plan_decide.proofs.Pushing.{pairs_push}
 use Rattle.plan_decide.proofs.Budgets.{rebudgeted, accepted_again}
 
 -- a job with a limit has a place in the list
@@ -232,19 +233,10 @@ limited_passed limits n js is known = record {
 pub limited_more : (limits : List (Option ℕ)) (n : ℕ) (js more : List ℕ) → more ≡ js ++ n ∷ [] → IsSome (limit_of limits n) → AreLimited limits n js → AreLimited limits (n + 1) more
 limited_more limits n js more is some known = subst (AreLimited limits (n + 1)) (sym is) (record {
   below = All-push (λ j. j < n + 1) js n (All-weaker (λ j. j < n) (λ j. j < n + 1) (λ j lt. omega (arith, lt)) js known.below) (omega arith);
-  ascending = ascends;
+  ascending = pairs_push (λ i j. i < j) js n known.ascending known.below;
   limited = All-push (λ j. IsSome (limit_of limits j)) js n known.limited some;
   complete = λ j k lt named. elim (cases_eq j n) [
     | inl same ↦ subst (Contains (js ++ n ∷ [])) (sym same) (Contains-push js n)
     | inr other ↦ Contains-append_left js (n ∷ []) j (known.complete j k (omega (arith, lt, other)) named)
   ];
 })
-  where
-    ascends : AllPairs (λ i j. i < j) (js ++ n ∷ [])
-    ascends a b d before inside =
-        let long = length_push js n in
-        elim (cases_eq b (length js)) [
-          | inl last ↦ rw (get_or_append_left js (n ∷ []) d a (omega (arith, before, last)), get_or_push js n d b (sym last)) (known.below a d (omega (arith, before, last)))
-          | inr other ↦ rw (get_or_append_left js (n ∷ []) d a (omega (arith, before, inside, long, other)), get_or_append_left js (n ∷ []) d b (omega (arith, inside, long, other)))
-              (known.ascending a b d before (omega (arith, inside, long, other)))
-        ]

@@ -5,3 +5,4 @@ mod Telling
 mod Leaving
 mod Values
 mod Deciders
+mod Pushing

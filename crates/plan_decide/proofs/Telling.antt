@@ -1,8 +1,8 @@
 -- What is told of promises that can't be kept, as it is gathered.
-use Rattle.std.proofs.Common.{◌≡◌, ℕ, ◌+◌, ◌<◌, List, [], ◌∷◌, ◌++◌, length, Contains, arith, refl, sym, ap, subst, inl, inr, le_refl}
+use Rattle.std.proofs.Common.{◌≡◌, ℕ, ◌+◌, ◌<◌, ◌≤◌, List, [], ◌∷◌, ◌++◌, length, Contains, arith, refl, sym, ap, subst, inl, inr, le_refl, ◌⊎◌, ◌∙◌}
 use Rattle.std.proofs.lemmas.Bool.{cases_eq}
-use Rattle.std.proofs.lemmas.List.{length_push}
-use Rattle.std.proofs.lemmas.List.Elements.{All-nil, All-cons, All-push, Contains-append_left, Contains-push}
+use Rattle.std.proofs.lemmas.List.{length_push, nil_from_length}
+use Rattle.std.proofs.lemmas.List.Elements.{All-nil, All-cons, All-push, All-weaker, Contains-append_left, Contains-push}
 use Rattle.std.proofs.lemmas.List.Kept.{AllPairs-cons}
 use Rattle.shop_base.specs.Plan.{PlannedShop, jobs, machines, route, IsWellShaped}
 use Rattle.shop_base.proofs.Bounds.{route_work-le}
@@ -12,15 +12,16 @@ use Rattle.plan_bounds.specs.declared.makespan.LeastMakespan.{LeastMakespan}
 use Rattle.plan_bounds.proofs.Bounded.{no_plan_is_sooner-holds}
 use Rattle.plan_seek.specs.Tasks.{PlanTask, task_in, with_order}
 use Rattle.plan_decide.specs.declared.excluded.Excluded.{Excluded}
-use Rattle.plan_decide.specs.declared.excluded.Excluded.TheVariants.{Alone, Pair}
+use Rattle.plan_decide.specs.declared.excluded.Excluded.TheVariants.{Alone, Pair, Several}
 use Rattle.plan_decide.specs.declared.aim.Objective.TheVariants.{Makespan, Leaving}
 use Rattle.plan_decide.specs.declared.asked.Asked.TheVariants.{Both}
 use Rattle.plan_decide.specs.Promises.{job_count, times_in, IsPromised}
-use Rattle.plan_decide.specs.Excluding.{AreExcluded, IsNeverInTime, IsExclusion, AreExclusions, NoneIsAlone}
+use Rattle.plan_decide.specs.Excluding.{AreExcluded, IsNeverInTime, IsExclusion, ComesBefore, AreExclusions, NoneIsAlone}
 use Rattle.plan_decide.specs.Objectives.{IsLeast}
 use Rattle.plan_decide.specs.Asking.{IsImpossible}
-use Rattle.plan_decide.specs.Told.{AreAllAlone, AddsExclusions}
+use Rattle.plan_decide.specs.Told.{AreTold, AreToldBefore, AreAllAlone, AddsExclusions}
 use Rattle.plan_decide.proofs.Limits.{both_excluded}
+use Rattle.plan_decide.proofs.Pushing.{pairs_push}
 
 -- no plan has a makespan below the greatest bound
 pub least_makespan_least : (t : PlanTask) (least : LeastMakespan) → IsLeastMakespan (times_in t) least → IsLeast t Makespan least.at_least
@@ -62,13 +63,52 @@ pair_exclusion t i j below one other none = record {
   said = tt;
 }
 
+-- what comes before a job alone comes before the next
+before_alone : (e : Excluded) (n : ℕ) → ComesBefore e (Alone n) → ComesBefore e (Alone (n + 1))
+before_alone (Alone i) n before = omega (arith, before)
+before_alone (Pair i j) n before = before
+before_alone (Several js or_fewer) n before = before
+
+-- and before all pairs
+before_pairs : (e : Excluded) (n : ℕ) → ComesBefore e (Alone n) → ComesBefore e (Pair 0 0)
+before_pairs (Alone i) n before = tt
+before_pairs (Pair i j) n before = absurd before
+before_pairs (Several js or_fewer) n before = before
+
+-- what comes before a pair comes before a later one
+before_pair : (e : Excluded) (i j k l : ℕ) → (i < k) ⊎ ((i ≡ k) × (j ≤ l)) → ComesBefore e (Pair i j) → ComesBefore e (Pair k l)
+before_pair (Alone a) i j k l later before = tt
+before_pair (Pair a b) i j k l (inl more) (inl before) = inl (omega (arith, more, before))
+before_pair (Pair a b) i j k l (inl more) (inr (same, before)) = inl (omega (arith, more, same))
+before_pair (Pair a b) i j k l (inr (is, more)) (inl before) = inl (omega (arith, is, before))
+before_pair (Pair a b) i j k l (inr (is, more)) (inr (same, before)) = inr (omega (arith, is, same), omega (arith, more, before))
+before_pair (Several js or_fewer) i j k l later before = before
+
 module _ (t : PlanTask) where
+  pub told_none : (next : Excluded) → AreToldBefore t next []
+  told_none next = record {
+    told = record { each = All-nil (IsExclusion t); order = λ i j d one two. absurd (omega (arith, two)) };
+    before = All-nil (λ e. ComesBefore e next);
+  }
+
+  -- one more is told
+  told_more : (e next : Excluded) (es : List Excluded) → IsExclusion t e → ((other : Excluded) → ComesBefore other e → ComesBefore other next) → ComesBefore e next → AreToldBefore t e es
+      → AreToldBefore t next (es ++ e ∷ [])
+  told_more e next es exclusion later before known = record {
+    told = record { each = All-push (IsExclusion t) es e known.told.each exclusion; order = pairs_push ComesBefore es e known.told.order known.before };
+    before = All-push (λ other. ComesBefore other next) es e (All-weaker (λ other. ComesBefore other e) (λ other. ComesBefore other next) later es known.before) before;
+  }
+
+  -- nothing more is
+  told_later : (e next : Excluded) (es : List Excluded) → ((other : Excluded) → ComesBefore other e → ComesBefore other next) → AreToldBefore t e es → AreToldBefore t next es
+  told_later e next es later known = record { told = known.told; before = All-weaker (λ other. ComesBefore other e) (λ other. ComesBefore other next) later es known.before }
+
   pub alone_none : AreAllAlone t 0 []
-  alone_none = record { each = All-nil (IsExclusion t); alone = λ j lt. absurd (omega (arith, lt)) }
+  alone_none = record { told = told_none (Alone 0); alone = λ j lt. absurd (omega (arith, lt)) }
 
   pub alone_more : (n : ℕ) (es more : List Excluded) → more ≡ es ++ Alone n ∷ [] → IsPromised t n → IsNeverInTime t n → AreAllAlone t n es → AreAllAlone t (n + 1) more
   alone_more n es more is promised never known = subst (AreAllAlone t (n + 1)) (sym is) (record {
-    each = All-push (IsExclusion t) es (Alone n) known.each (alone_exclusion t n promised never);
+    told = told_more (Alone n) (Alone (n + 1)) es (alone_exclusion t n promised never) (λ e before. before_alone e n before) (omega arith) known.told;
     alone = λ j lt never_there. elim (cases_eq j n) [
       | inl same ↦ subst (λ k. Contains (es ++ Alone n ∷ []) (Alone k)) (sym same) (Contains-push es (Alone n))
       | inr other ↦ Contains-append_left es (Alone n ∷ []) (Alone j) (known.alone j (omega (arith, lt, other)) never_there)
@@ -77,35 +117,33 @@ module _ (t : PlanTask) where
 
   pub alone_passed : (n : ℕ) (es : List Excluded) → (IsNeverInTime t n → ⊥) → AreAllAlone t n es → AreAllAlone t (n + 1) es
   alone_passed n es possible known = record {
-    each = known.each;
+    told = told_later (Alone n) (Alone (n + 1)) es (λ e before. before_alone e n before) known.told;
     alone = λ j lt never_there. elim (cases_eq j n) [
       | inl same ↦ absurd (possible (subst (IsNeverInTime t) same never_there))
       | inr other ↦ known.alone j (omega (arith, lt, other)) never_there
     ];
   }
 
-  pub adds_none : (es : List Excluded) → AddsExclusions t es es
-  adds_none es = record { each = λ all. all; kept = λ e has. has; more = le_refl _ }
+  -- then come the pairs
+  pub pairs_next : (n : ℕ) (es : List Excluded) → AreAllAlone t n es → AreToldBefore t (Pair 0 0) es
+  pairs_next n es known = told_later (Alone n) (Pair 0 0) es (λ e before. before_pairs e n before) known.told
 
-  pub adds_one : (es more : List Excluded) (e : Excluded) → more ≡ es ++ e ∷ [] → IsExclusion t e → AddsExclusions t es more
-  adds_one es more e is exclusion = subst (AddsExclusions t es) (sym is) (record {
-    each = λ all. All-push (IsExclusion t) es e all exclusion;
-    kept = λ other has. Contains-append_left es (e ∷ []) other has;
-    more = omega (arith, length_push es e);
-  })
+  pub pair_more : (i j : ℕ) (es more : List Excluded) → more ≡ es ++ Pair i j ∷ [] → IsExclusion t (Pair i j) → AreToldBefore t (Pair i j) es → AreToldBefore t (Pair i (j + 1)) more
+  pair_more i j es more is exclusion known = subst (AreToldBefore t (Pair i (j + 1))) (sym is)
+      (told_more (Pair i j) (Pair i (j + 1)) es exclusion (λ e before. before_pair e i j i (j + 1) (inr (refl, omega arith)) before) (inr (refl, omega arith)) known)
 
-  pub adds_on : (es more most : List Excluded) → AddsExclusions t es more → AddsExclusions t more most → AddsExclusions t es most
-  adds_on es more most one next = record {
-    each = λ all. next.each (one.each all);
-    kept = λ e has. next.kept e (one.kept e has);
-    more = omega (arith, one.more, next.more);
-  }
+  pub pair_passed : (i j k : ℕ) (es : List Excluded) → j ≤ k → AreToldBefore t (Pair i j) es → AreToldBefore t (Pair i k) es
+  pair_passed i j k es later known = told_later (Pair i j) (Pair i k) es (λ e before. before_pair e i j i k (inr (refl, later)) before) known
+
+  pub row_passed : (i j k : ℕ) (es : List Excluded) → AreToldBefore t (Pair i j) es → AreToldBefore t (Pair (i + 1) k) es
+  row_passed i j k es known = told_later (Pair i j) (Pair (i + 1) k) es (λ e before. before_pair e i j (i + 1) k (inl (omega arith)) before) known
 
   -- what is told where some jobs are alone
-  pub told_alone : (n : ℕ) (es more : List Excluded) → n ≡ job_count t → 0 < length es → AreAllAlone t n es → AddsExclusions t es more → AreExclusions t more
-  told_alone n es more all some known adds = record {
+  pub told_alone : (n : ℕ) (es more : List Excluded) → n ≡ job_count t → 0 < length es → AreAllAlone t n es → AreTold t more → AddsExclusions es more → AreExclusions t more
+  told_alone n es more all some known told adds = record {
     some = omega (arith, some, adds.more);
-    each = adds.each known.each;
+    each = told.each;
+    order = told.order;
     alone = λ j never. adds.kept (Alone j) (known.alone j (omega (arith, all, never.inside)) never);
   }
 
@@ -114,5 +152,25 @@ module _ (t : PlanTask) where
   none_alone n es all none known j never = (let has = known.alone j (omega (arith, all, never.inside)) never in omega (arith, none, has.1))
 
   -- what is told where none is
-  pub told_others : (es : List Excluded) → 0 < length es → NoneIsAlone t → AddsExclusions t [] es → AreExclusions t es
-  told_others es some none adds = record { some = some; each = adds.each (All-nil (IsExclusion t)); alone = λ j never. absurd (none j never) }
+  pub told_others : (es : List Excluded) → 0 < length es → NoneIsAlone t → AreTold t es → AreExclusions t es
+  told_others es some none told = record { some = some; each = told.each; order = told.order; alone = λ j never. absurd (none j never) }
+
+  -- several alone
+  pub told_several : (es more : List Excluded) (e : Excluded) → length es ≡ 0 → more ≡ es ++ e ∷ [] → IsExclusion t e → NoneIsAlone t → AreExclusions t more
+  told_several es more e empty is exclusion none =
+      let alone : es ++ e ∷ [] ≡ e ∷ [] = ap (λ l. l ++ e ∷ []) (nil_from_length es empty) in
+      subst (AreExclusions t) (sym (is ∙ alone)) (record {
+        some = omega arith;
+        each = All-cons (IsExclusion t) e [] exclusion (All-nil (IsExclusion t));
+        order = λ i j d one two. absurd (omega (arith, one, two));
+        alone = λ j never. absurd (none j never);
+      })
+
+pub adds_none : (es : List Excluded) → AddsExclusions es es
+adds_none es = record { kept = λ e has. has; more = le_refl _ }
+
+pub adds_one : (es more : List Excluded) (e : Excluded) → more ≡ es ++ e ∷ [] → AddsExclusions es more
+adds_one es more e is = subst (AddsExclusions es) (sym is) (record { kept = λ other has. Contains-append_left es (e ∷ []) other has; more = omega (arith, length_push es e) })
+
+pub adds_on : (es more most : List Excluded) → AddsExclusions es more → AddsExclusions more most → AddsExclusions es most
+adds_on es more most one next = record { kept = λ e has. next.kept e (one.kept e has); more = omega (arith, one.more, next.more) }

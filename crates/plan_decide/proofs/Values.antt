@@ -60,7 +60,7 @@ found_apart t (Leaving j) best n free found least =
     let value = subst (λ p. IsValue (Leaving j) p best.value) found.plan.same found.value in
     least order best.value (loosened t j best.value order free accepted) (greatest_again (with_order (with_budget t j best.value) order) t.budget (leaving (with_order t order) j) best.value value)
 
-pub halved : (t : PlanTask) (objective : Objective) (halfway : Halfway) (within : Within) → IsFree t objective → within.at_least ≡ halfway.at_least → within.at_most ≡ halfway.best.value → within.open ≡ halfway.open
+pub halved : (t : PlanTask) (objective : Objective) (halfway : Halfway) (within : Within) → IsFree t objective → within.at_least ≡ halfway.at_least → within.at_most ≡ halfway.best.value → within.ended_open ≡ halfway.ended_open
     → halfway.best.value ≤ halfway.low → IsHalfway t objective halfway → IsHalved t objective (halfway.best.plan, within)
 halved t objective halfway within free lower upper opened end known =
     let apart = found_apart t objective halfway.best halfway.at_least free known.found known.least in

@@ -67,7 +67,7 @@ pub record IsBest (t : PlanTask) (aim : Aim) (verified : VerifiedPlan) (within :
   pub value : IsValue objective verified.planned within.at_most
   pub least : IsLeast (asked_for t aim) objective within.at_least
   pub apart : within.at_least ≤ within.at_most
-  pub exact : within.open ≡ false → within.at_least ≡ within.at_most
+  pub exact : within.ended_open ≡ false → within.at_least ≡ within.at_most
 
 -- why nothing is decided: the job isn't of the shop, or else out of memory
 abbrev pub IsDecideFault : PlanTask → Aim → DecideFault → Type 0

@@ -1,5 +1,5 @@
 -- Promises that exclude each other: no plan keeps all of them, whatever its orders.
-use Rattle.std.specs.Prelude.{◌≡◌, ◌≢◌, ℕ, ◌<◌, List, [], ◌∷◌, length, All, AllPairs, Contains, true, false}
+use Rattle.std.specs.Prelude.{◌≡◌, ◌≢◌, ◌⊎◌, ℕ, ◌<◌, List, [], ◌∷◌, length, All, AllPairs, Contains, true, false}
 use Rattle.shop_base.specs.declared.limits.TheConstants.{MAX_MOMENT}
 use Rattle.shop_base.specs.Plan.{PlannedShop, jobs, budget, IsWellShaped}
 use Rattle.plan_verifier.specs.Accepted.{HasNoCycle}
@@ -62,10 +62,21 @@ pub record IsExclusion (t : PlanTask) (e : Excluded) : Type 0 where
   pub excluded : AreExcluded t (jobs_in e)
   pub said : IsSaidOf t e
 
+-- one is told before the other: jobs alone first, ascending, and then pairs, ascending; several are told only where nothing else is
+abbrev pub ComesBefore : Excluded → Excluded → Type 0
+ComesBefore (Alone i) (Alone j) = i < j
+ComesBefore (Alone i) (Pair k l) = Unit {0}
+ComesBefore (Alone i) (Several js or_fewer) = ⊥
+ComesBefore (Pair i j) (Alone k) = ⊥
+ComesBefore (Pair i j) (Pair k l) = (i < k) ⊎ ((i ≡ k) × (j < l))
+ComesBefore (Pair i j) (Several js or_fewer) = ⊥
+ComesBefore (Several js or_fewer) e = ⊥
+
 -- what is told where no plan keeps all promises: some such jobs, and each job that is never in time by its bound
 pub record AreExclusions (t : PlanTask) (es : List Excluded) : Type 0 where
   pub some : 0 < length es
   pub each : All (IsExclusion t) es
+  pub order : AllPairs ComesBefore es
   pub alone : (j : ℕ) → IsNeverInTime t j → Contains es (Alone j)
 
 -- no job is never in time by its bound

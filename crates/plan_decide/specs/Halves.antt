@@ -35,7 +35,7 @@ module _ (t : PlanTask) (objective : Objective) where
   pub record IsHalfway (halfway : Halfway) : Type 0 where
     pub found : IsFoundWith halfway.best
     pub least : IsLeast t objective halfway.at_least
-    pub same : halfway.open ≡ false → halfway.low ≡ halfway.at_least
+    pub same : halfway.ended_open ≡ false → halfway.low ≡ halfway.at_least
 
   -- what is found in the end
   pub record IsHalved (found : VerifiedPlan × Within) : Type 0 where
@@ -43,4 +43,4 @@ module _ (t : PlanTask) (objective : Objective) where
     pub value : IsValue objective found.0.planned found.1.at_most
     pub least : IsLeast t objective found.1.at_least
     pub apart : found.1.at_least ≤ found.1.at_most
-    pub exact : found.1.open ≡ false → found.1.at_least ≡ found.1.at_most
+    pub exact : found.1.ended_open ≡ false → found.1.at_least ≡ found.1.at_most

@@ -1,20 +1,29 @@
 -- What is told of promises that can't be kept, while it is gathered.
-use Rattle.std.specs.Prelude.{ℕ, ◌<◌, ◌≤◌, List, All, Contains, length}
+use Rattle.std.specs.Prelude.{ℕ, ◌<◌, ◌≤◌, List, All, AllPairs, Contains, length}
 use Rattle.plan_seek.specs.Tasks.{PlanTask}
 use Rattle.plan_decide.specs.declared.excluded.Excluded.{Excluded}
 use Rattle.plan_decide.specs.declared.excluded.Excluded.TheVariants.{Alone}
 use Rattle.plan_decide.specs.declared.promises.Reply.{Reply}
 use Rattle.plan_decide.specs.declared.promises.Reply.TheVariants.{Orders, Never, Open}
-use Rattle.plan_decide.specs.Excluding.{IsNeverInTime, IsExclusion, AreExclusions, NoneIsAlone}
+use Rattle.plan_decide.specs.Excluding.{IsNeverInTime, IsExclusion, ComesBefore, AreExclusions, NoneIsAlone}
+
+-- jobs that exclude each other, in order
+pub record AreTold (t : PlanTask) (es : List Excluded) : Type 0 where
+  pub each : All (IsExclusion t) es
+  pub order : AllPairs ComesBefore es
+
+-- and all of them come before this one
+pub record AreToldBefore (t : PlanTask) (next : Excluded) (es : List Excluded) : Type 0 where
+  pub told : AreTold t es
+  pub before : All (λ e. ComesBefore e next) es
 
 -- of the first n jobs, each that is never in time by its bound is told
 pub record AreAllAlone (t : PlanTask) (n : ℕ) (es : List Excluded) : Type 0 where
-  pub each : All (IsExclusion t) es
+  pub told : AreToldBefore t (Alone n) es
   pub alone : (j : ℕ) → j < n → IsNeverInTime t j → Contains es (Alone j)
 
 -- more is told, and what was told stays
-pub record AddsExclusions (t : PlanTask) (old new : List Excluded) : Type 0 where
-  pub each : All (IsExclusion t) old → All (IsExclusion t) new
+pub record AddsExclusions (old new : List Excluded) : Type 0 where
   pub kept : (e : Excluded) → Contains old e → Contains new e
   pub more : length old ≤ length new
 

@@ -26,5 +26,5 @@ pub struct Within {
     /// The best plan that was found has this.
     pub at_most: Moment,
     /// Whether a search for something better ended open. Where none did, both moments are the same.
-    pub open: bool,
+    pub ended_open: bool,
 }

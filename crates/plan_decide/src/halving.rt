@@ -143,7 +143,7 @@ pub(crate) struct Halfway {
     pub best: Best,
     pub at_least: Moment,
     pub low: Moment,
-    pub open: bool,
+    pub ended_open: bool,
 }
 
 /// Halves what lies between the bound and the value of a plan, and gives the best plan that it finds.
@@ -163,7 +163,7 @@ pub(crate) fn halve<C: Choose, W: Watch>(
         best,
         at_least,
         low: at_least,
-        open: false,
+        ended_open: false,
     };
     while halfway.low < halfway.best.value {
         asker.tell(known(&halfway));
@@ -179,12 +179,12 @@ pub(crate) fn halve<C: Choose, W: Watch>(
 fn known(halfway: &Halfway) -> Within
     ensures at_least { result.at_least ≡ halfway.now.at_least }
     ensures at_most { result.at_most ≡ halfway.now.best.value }
-    ensures open { result.open ≡ halfway.now.open }
+    ensures ended_open { result.ended_open ≡ halfway.now.ended_open }
 {
     Within {
         at_least: halfway.at_least,
         at_most: halfway.best.value,
-        open: halfway.open,
+        ended_open: halfway.ended_open,
     }
 }
 
@@ -212,7 +212,7 @@ fn halve_once<C: Choose, W: Watch>(
         }),
         Looked::Open => Ok(Halfway {
             low: limit + 1,
-            open: true,
+            ended_open: true,
             ..halfway
         }),
     }

@@ -1,10 +1,11 @@
 //! Pairs of jobs whose promises exclude each other.
 
-ghost use Rattle.std.specs.Prelude.{◌≡◌, ◌<◌, OnOk};
+ghost use Rattle.std.specs.Prelude.{◌+◌, ◌<◌, OnOk};
 ghost use Rattle.shop_base.specs.Plan.{jobs};
 ghost use Rattle.plan_seek.specs.Tasks.{task_in};
+ghost use Rattle.plan_decide.specs.declared.excluded.Excluded.TheVariants.{Pair};
 ghost use Rattle.plan_decide.specs.Promises.{IsPromised};
-ghost use Rattle.plan_decide.specs.Told.{AddsExclusions};
+ghost use Rattle.plan_decide.specs.Told.{AreTold, AreToldBefore, AddsExclusions};
 
 use crate::alone::is_in_doubt;
 use crate::asked::Asked;
@@ -26,7 +27,9 @@ pub(crate) fn add_pairs<C: Choose, W: Watch>(
     asker: &mut Asker<'_, C, W>,
     told: &mut Vec<Excluded>,
 ) -> Result<(), AllocError>
-    ensures { OnOk result (AddsExclusions (task_in shaped.now) told.old.items told.new.items) }
+    requires { AreToldBefore (task_in shaped.now) (Pair 0 0) told.old.items }
+    ensures told { OnOk result (AreTold (task_in shaped.now) told.new.items) }
+    ensures adds { OnOk result (AddsExclusions told.old.items told.new.items) }
 {
     if doubtful_jobs(shaped) > PAIRED_JOBS {
         return Ok(());
@@ -56,8 +59,10 @@ fn add_pairs_of<C: Choose, W: Watch>(
     one: JobNo,
     told: &mut Vec<Excluded>,
 ) -> Result<(), AllocError>
-    requires { one < jobs shaped.now }
-    ensures { OnOk result (AddsExclusions (task_in shaped.now) told.old.items told.new.items) }
+    requires one { one < jobs shaped.now }
+    requires told { AreToldBefore (task_in shaped.now) (Pair one 0) told.old.items }
+    ensures told { OnOk result (AreToldBefore (task_in shaped.now) (Pair (one + 1) 0) told.new.items) }
+    ensures adds { OnOk result (AddsExclusions told.old.items told.new.items) }
 {
     if !is_in_doubt(shaped, one) {
         return Ok(());
@@ -81,7 +86,9 @@ fn add_pair<C: Choose, W: Watch>(
     requires other { other < jobs shaped.now }
     requires ascending { one < other }
     requires promised { IsPromised (task_in shaped.now) one }
-    ensures { OnOk result (AddsExclusions (task_in shaped.now) told.old.items told.new.items) }
+    requires told { AreToldBefore (task_in shaped.now) (Pair one other) told.old.items }
+    ensures told { OnOk result (AreToldBefore (task_in shaped.now) (Pair one (other + 1)) told.new.items) }
+    ensures adds { OnOk result (AddsExclusions told.old.items told.new.items) }
 {
     if !is_in_doubt(shaped, other) {
         return Ok(());

@@ -5,5 +5,5 @@ use Rattle.plan_decide.proofs.halving.halve.Goals as goal
 
 pub returns : goal.returns
 returns g c =
-    halved (task_in c.args.shaped.now) c.args.objective c.loop-halfway.halfway c.known-within.result c.requires.free c.known-within.ensures.at_least c.known-within.ensures.at_most c.known-within.ensures.open
+    halved (task_in c.args.shaped.now) c.args.objective c.loop-halfway.halfway c.known-within.result c.requires.free c.known-within.ensures.at_least c.known-within.ensures.at_most c.known-within.ensures.ended_open
     (omega (arith, c.loop-halfway-test.false)) c.loop-halfway.invariant
