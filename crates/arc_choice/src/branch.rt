@@ -16,7 +16,7 @@ use std::alloc::{AllocError, Global};
 const ROOM: usize = 64_000_000;
 
 /// Which side of a pair is decided, if one is.
-#[derive(Clone, Copy, Debug)]
+#[derive(Clone, Copy)]
 pub(crate) enum Decision {
     Open,
     One,

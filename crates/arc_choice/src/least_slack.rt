@@ -23,7 +23,7 @@ pub struct LeastSlack {
 }
 
 /// A pair that may be decided.
-#[derive(Clone, Copy, Debug)]
+#[derive(Clone, Copy)]
 struct Candidate {
     side: Side,
     slack: u64,

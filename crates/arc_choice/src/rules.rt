@@ -11,7 +11,7 @@ use crate::question::{Arc, Question};
 use crate::work::Work;
 
 /// There are no such moments.
-#[derive(Clone, Copy, Debug)]
+#[derive(Clone, Copy)]
 pub(crate) struct Clash {
     /// A pair of which neither side can be, if it was found there.
     pub(crate) at: Option<usize>,
