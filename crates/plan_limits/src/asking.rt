@@ -20,7 +20,7 @@ use std::alloc::{AllocError, Global};
 /// orders and the budgets of `shaped` aren't used. At most so many choices are made: a pair of jobs on a machine that
 /// is decided one way and, where that fails, the other, is one. Where no job is asked for, the orders are the serial
 /// ones. More than 1,024 nodes (a job that is asked for has one for each step and its leaving) or 16,384 pairs of jobs
-/// that are asked for on a machine are answered by `Open` at once.
+/// that are asked for on a machine are answered by `Open` at once. The error is out of memory.
 pub fn ask<C: Choose>(
     alloc: Global,
     shaped: &Shaped,

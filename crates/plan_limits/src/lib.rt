@@ -1,5 +1,5 @@
 //! Whether a shop has any plan that has given jobs out by given limits, whatever its orders: the question is put to a
-//! complete search over alternative graphs, which knows no shop.
+//! complete search over alternative graphs (Mascis and Pacciarelli, EJOR 143, 2002), which knows no shop.
 #![tactic(auto)]
 
 mod answer;

@@ -14,7 +14,8 @@ use arc_choice::Question;
 use shop_base::{Moment, Node, Shaped};
 use std::alloc::{AllocError, Global};
 
-/// The question for these nodes.
+/// The question for these nodes. All moments that are looked for answer it, so `Never` is never wrong. A question from
+/// which an arc or a pair is missing would be so too: no contract sees one that is left out.
 pub(crate) fn question_of(
     alloc: Global,
     shaped: &Shaped,
