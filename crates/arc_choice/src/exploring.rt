@@ -24,7 +24,8 @@ pub(crate) struct Waiting {
 /// Looks for moments that answer the question, in at most so many choices; a pair that is decided one way and, where
 /// that fails, the other, is one. The search is depth first and complete: it ends open only where the choices are used
 /// up, where the chooser names no open pair, or where the states that are open at one time would take more than
-/// 64,000,000 bytes: 16 for each node, 8 for each 64 nodes of each node, and 9 for each pair.
+/// 64,000,000 bytes: 16 for each node, 8 for each 64 nodes of each node, and 9 for each pair. Memory that is refused is
+/// an `AllocError`.
 pub fn explore<C: Choose>(
     alloc: Global,
     question: &Question,
