@@ -29,7 +29,7 @@ const DRAWN: &[u8] = b"scale 1\nmachine 0 0:0-2-2 1:8-9-9\nbar 00......1.\n\
     machine 1 0:2-4-4 1:4-8-8\nbar ..001111..\n";
 
 /// Whether the answer is this text, with this status.
-fn tells(answer: Result<Answer, CommandFault>, text: &[u8], status: u8) -> bool {
+pub(super) fn tells(answer: Result<Answer, CommandFault>, text: &[u8], status: u8) -> bool {
     match answer {
         Ok(answer) => answer.text.as_slice() == text && answer.status == status,
         Err(_) => false,

@@ -9,6 +9,8 @@ mod answers;
 #[cfg(test)]
 mod checks;
 #[cfg(test)]
+mod decisions;
+#[cfg(test)]
 mod shelf;
 #[cfg(test)]
 mod statuses;

@@ -2,6 +2,7 @@
 //! refuses each request for memory between an announcement and its answer in turn. Where none is refused, they show the
 //! answers of calls that have all memory.
 
+use super::decisions::decided;
 use super::texts::{CLEANED, CROSSED, IN_TIME, LATE, TWO};
 use super::verdicts::said;
 use alt_graph::{Solved, Times, check_chain, solve};
@@ -9,6 +10,7 @@ use cell_control::{Controller, Dues, ScanDues, TourneyDues};
 use cell_hub::{Hub, HubFault, Ticket};
 use command_answers::load;
 use orlib_read::read_instance;
+use plan_decide::{Aim, DecideFault, Decided, Objective, Undecided};
 use plan_seek::{GreedyProposer, NotFound, Proposer, SeekFault, ShiftProposer, seek};
 use plan_text::{PlanFault, plan_document, read_plan};
 use plan_verifier::{Verdict, Verified, verify};
@@ -378,6 +380,51 @@ fn all_comes_back_from_a_search(rt: HostRuntime) -> Result<(), Fail> {
     for &(given, wanted) in SEARCHES {
         let answer = found(&rt, given, &proposers)?;
         assert!(rt; is_found(alloc, &answer, wanted)?);
+    }
+    Ok(())
+}
+
+/// What is decided of the plan, once more where memory was wanting, with what came back.
+fn decided_at_last(
+    rt: &(impl Abort + AllocGlobal + Eprint),
+    plan: &[u8],
+    aim: Aim,
+) -> Result<Result<Decided, Undecided>, Fail> {
+    let shaped = shaped(rt.alloc(), plan)?;
+    asks(rt);
+    let answer = decided(rt.alloc(), shaped, aim);
+    answers(rt, answer.is_err());
+    match answer {
+        Ok(decided) => Ok(Ok(decided)),
+        Err(refused) => {
+            assert!(rt; refused.fault == DecideFault::Memory);
+            assert!(rt; is_whole(rt.alloc(), &refused.shaped, plan)?);
+            Ok(decided(rt.alloc(), refused.shaped, aim))
+        }
+    }
+}
+
+/// What is said of the promises.
+fn decision(decided: &Result<Decided, Undecided>) -> &'static str {
+    match decided {
+        Ok(Decided::Kept(_)) => "kept",
+        Ok(Decided::Best(_, within)) if within.at_least == 10 && within.at_most == 10 => "best",
+        Ok(Decided::Never(_, _)) => "never",
+        _ => "another decision",
+    }
+}
+
+#[test]
+fn a_plan_comes_back_undecided(rt: HostRuntime) -> Result<(), Fail> {
+    let makespan = Aim::Least(Objective::Makespan);
+    for (plan, aim, wanted) in [
+        (IN_TIME, Aim::Promises, "kept"),
+        (IN_TIME, makespan, "best"),
+        (IN_TIME, Aim::Least(Objective::Leaving(1)), "best"),
+        (LATE, makespan, "never"),
+    ] {
+        let answer = decided_at_last(&rt, plan, aim)?;
+        assert!(rt; decision(&answer) == wanted);
     }
     Ok(())
 }
