@@ -16,7 +16,7 @@ use Rattle.plan_decide.specs.declared.excluded.Excluded.TheVariants.{Alone, Pair
 use Rattle.plan_decide.specs.declared.aim.Objective.TheVariants.{Makespan, Leaving}
 use Rattle.plan_decide.specs.declared.asked.Asked.TheVariants.{Both}
 use Rattle.plan_decide.specs.Promises.{job_count, times_in, IsPromised}
-use Rattle.plan_decide.specs.Excluding.{AreExcluded, IsNeverInTime, IsExclusion, ComesBefore, AreExclusions, NoneIsAlone}
+use Rattle.plan_decide.specs.Excluding.{AreExcluded, IsNeverInTime, IsInDoubt, IsExclusion, ComesBefore, AreExclusions, NoneIsAlone}
 use Rattle.plan_decide.specs.Objectives.{IsLeast}
 use Rattle.plan_decide.specs.Asking.{IsImpossible}
 use Rattle.plan_decide.specs.Told.{AreTold, AreToldBefore, AreAllAlone, AddsExclusions}
@@ -55,12 +55,12 @@ alone_exclusion t j promised never = record {
   said = never;
 }
 
-pub pair_exclusion : (t : PlanTask) (i j : ℕ) → i < j → IsPromised t i → IsPromised t j → IsImpossible t (Both i j) → IsExclusion t (Pair i j)
+pub pair_exclusion : (t : PlanTask) (i j : ℕ) → i < j → IsInDoubt t i → IsInDoubt t j → IsImpossible t (Both i j) → IsExclusion t (Pair i j)
 pair_exclusion t i j below one other none = record {
-  promised = All-cons (IsPromised t) i (j ∷ []) one (All-cons (IsPromised t) j [] other (All-nil (IsPromised t)));
+  promised = All-cons (IsPromised t) i (j ∷ []) one.promised (All-cons (IsPromised t) j [] other.promised (All-nil (IsPromised t)));
   ascending = AllPairs-cons (λ a b. a < b) i (j ∷ []) (All-cons (λ b. i < b) j [] below (All-nil (λ b. i < b))) (λ a b d two three. absurd (omega (arith, two, three)));
   excluded = both_excluded t i j none;
-  said = tt;
+  said = (one, other);
 }
 
 -- what comes before a job alone comes before the next

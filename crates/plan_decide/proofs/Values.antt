@@ -5,6 +5,7 @@ use Rattle.std.proofs.lemmas.List.{get_or-set_same, get_or-set_other, length-set
 use Rattle.shop_base.specs.declared.limits.TheConstants.{MAX_MOMENT}
 use Rattle.shop_base.specs.Plan.{PlannedShop, jobs}
 use Rattle.shop_base.specs.Graph.{leaving}
+use Rattle.plan_verifier.specs.Accepted.{IsGreatest}
 use Rattle.plan_limits.specs.Limits.{IsOutBy}
 use Rattle.plan_seek.specs.Tasks.{PlanTask, with_order, IsAccepted}
 use Rattle.plan_decide.specs.declared.aim.Objective.{Objective}
@@ -71,3 +72,12 @@ halved t objective halfway within free lower upper opened end known =
       apart = omega (arith, apart, lower, upper);
       exact = λ closed. (let same = known.same (sym opened ∙ closed) in omega (arith, same, apart, end, lower, upper));
     }
+
+-- a leaving is the same in a plan with the same orders and another budget of the job
+pub leaving_again : (t : PlanTask) (j m n : ℕ) (loose plan : PlannedShop) → IsAcceptedWith (with_budget t j m) loose → IsAcceptedWith (with_budget t j n) plan → loose.plan.order ≡ plan.plan.order
+    → IsGreatest loose (leaving loose j) n → IsGreatest plan (leaving plan j) n
+leaving_again t j m n loose plan one other same greatest =
+    let order = plan.plan.order in
+    let is : loose ≡ with_order (with_budget t j m) order = one.same ∙ ap (with_order (with_budget t j m)) same in
+    let there : IsGreatest (with_order (with_budget t j m) order) (leaving (with_order t order) j) n = subst (λ p. IsGreatest p (leaving p j) n) is greatest in
+    subst (λ p. IsGreatest p (leaving p j) n) (sym other.same) (greatest_again (with_order (with_budget t j m) order) (set t.budget j n) (leaving (with_order t order) j) n there)

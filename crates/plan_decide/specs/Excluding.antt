@@ -42,16 +42,21 @@ pub record IsNeverInTime (t : PlanTask) (j : ℕ) : Type 0 where
   pub inside : j < job_count t
   pub past : budget_in t j < job_bound (times_in t) j
 
+-- job j has a promise, which its bound leaves possible
+pub record IsInDoubt (t : PlanTask) (j : ℕ) : Type 0 where
+  pub promised : IsPromised t j
+  pub possible : IsNeverInTime t j → ⊥
+
 -- the jobs
 abbrev pub jobs_in : Excluded → List ℕ
 jobs_in (Alone j) = j ∷ []
 jobs_in (Pair i j) = i ∷ j ∷ []
 jobs_in (Several js or_fewer) = js.items
 
--- what else is said of them: one alone is late by its bound, and of several each is needed, where no fewer might do
+-- what else is said of them: one alone is late by its bound, neither of a pair is, and of several each is needed, where no fewer might do
 abbrev pub IsSaidOf : PlanTask → Excluded → Type 0
 IsSaidOf t (Alone j) = IsNeverInTime t j
-IsSaidOf t (Pair i j) = Unit {0}
+IsSaidOf t (Pair i j) = IsInDoubt t i × IsInDoubt t j
 IsSaidOf t (Several js true) = Unit {0}
 IsSaidOf t (Several js false) = AreNeeded t js.items
 

@@ -3,8 +3,8 @@
 ghost use Rattle.std.specs.Prelude.{◌+◌, ◌<◌, IfOk, OnOk, MatchBool};
 ghost use Rattle.shop_base.specs.Plan.{jobs, IsWellShaped};
 ghost use Rattle.plan_seek.specs.Tasks.{task_in};
-ghost use Rattle.plan_decide.specs.Promises.{job_count, IsPromised};
-ghost use Rattle.plan_decide.specs.Excluding.{IsNeverInTime};
+ghost use Rattle.plan_decide.specs.Promises.{job_count};
+ghost use Rattle.plan_decide.specs.Excluding.{IsNeverInTime, IsInDoubt};
 ghost use Rattle.plan_decide.specs.Told.{AreAllAlone};
 
 use crate::excluded::Excluded;
@@ -25,7 +25,7 @@ pub(crate) fn is_never_in_time(shaped: &Shaped, job: JobNo) -> bool
 /// Whether the job has a promise, which its bound leaves possible.
 pub(crate) fn is_in_doubt(shaped: &Shaped, job: JobNo) -> bool
     requires { job < jobs shaped.now }
-    ensures { MatchBool result (IsPromised (task_in shaped.now) job) (Unit {0}) }
+    ensures { MatchBool result (IsInDoubt (task_in shaped.now) job) (Unit {0}) }
 {
     if is_never_in_time(shaped, job) {
         return false;

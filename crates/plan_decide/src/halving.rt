@@ -1,10 +1,10 @@
 //! The least value of an objective, by halving what lies between a bound and a plan.
 
-ghost use Rattle.std.specs.Prelude.{◌≡◌, ◌-◌, ◌<◌, IfOk, IfSome, MatchBool};
+ghost use Rattle.std.specs.Prelude.{◌≡◌, ◌-◌, ◌<◌, IfOk, IfSome};
 ghost use Rattle.shop_base.specs.Plan.{jobs};
 ghost use Rattle.plan_seek.specs.Tasks.{task_in};
 ghost use Rattle.plan_decide.specs.declared.aim.Objective.TheVariants.{Leaving};
-ghost use Rattle.plan_decide.specs.Objectives.{IsValue, IsLeast};
+ghost use Rattle.plan_decide.specs.Objectives.{IsLeast};
 ghost use Rattle.plan_decide.specs.Halves.{IsFree, IsFoundWith, IsLooked, IsHalfway, IsHalved};
 
 use crate::aim::Objective;
@@ -88,23 +88,9 @@ fn plan_at(
     let Some(value) = loose.earliest_leave(job) else {
         return Ok(None);
     };
-    let Some(plan) = accepted_at(alloc, shaped, job, value, order)? else {
-        return Ok(None);
-    };
-    if leaves_at(&plan, job, value) {
-        Ok(Some(Best { plan, value }))
-    } else {
-        Ok(None)
-    }
-}
-
-/// Whether this is the earliest leaving of the job.
-fn leaves_at(plan: &Verified, job: JobNo, moment: Moment) -> bool
-    ensures { MatchBool result (IsValue (Leaving job) plan.now.planned moment) (Unit {0}) }
-{
-    match plan.earliest_leave(job) {
-        Some(leaves) => leaves == moment,
-        None => false,
+    match accepted_at(alloc, shaped, job, value, order)? {
+        Some(plan) => Ok(Some(Best { plan, value })),
+        None => Ok(None),
     }
 }
 

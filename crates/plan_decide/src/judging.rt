@@ -2,6 +2,7 @@
 
 ghost use Rattle.std.specs.Prelude.{◌≡◌, ◌<◌, IfOk, IfSome};
 ghost use Rattle.shop_base.specs.Plan.{jobs};
+ghost use Rattle.shop_base.specs.Vectors.{lists_of};
 ghost use Rattle.plan_seek.specs.Tasks.{task_in, IsAccepted};
 ghost use Rattle.plan_decide.specs.Promises.{with_budgets, with_budget};
 ghost use Rattle.plan_decide.specs.Decisions.{IsAcceptedWith};
@@ -18,8 +19,9 @@ pub(crate) fn accepted_with(
     budget: Vec<Moment>,
     order: Vec<Vec<JobNo>>,
 ) -> Result<Option<Verified>, AllocError>
-    ensures { let t = with_budgets (task_in shaped.now) budget.items in
+    ensures accepted { let t = with_budgets (task_in shaped.now) budget.items in
         IfOk result (λ found. IfSome found (λ verified. IsAcceptedWith t verified.planned)) }
+    ensures order { IfOk result (λ found. IfSome found (λ verified. verified.planned.plan.order ≡ lists_of order.items)) }
 {
     let shop = copy_shop(alloc, shaped)?;
     let plan = Plan {
@@ -66,8 +68,9 @@ pub(crate) fn accepted_at(
     order: Vec<Vec<JobNo>>,
 ) -> Result<Option<Verified>, AllocError>
     requires { job < jobs shaped.now }
-    ensures { let t = with_budget (task_in shaped.now) job budget in
+    ensures accepted { let t = with_budget (task_in shaped.now) job budget in
         IfOk result (λ found. IfSome found (λ verified. IsAcceptedWith t verified.planned)) }
+    ensures order { IfOk result (λ found. IfSome found (λ verified. verified.planned.plan.order ≡ lists_of order.items)) }
 {
     let mut budgets = copy_moments(alloc, &shaped.plan().budget)?;
     budgets[job as usize] = budget;

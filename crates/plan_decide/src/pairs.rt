@@ -4,7 +4,7 @@ ghost use Rattle.std.specs.Prelude.{◌+◌, ◌<◌, OnOk};
 ghost use Rattle.shop_base.specs.Plan.{jobs};
 ghost use Rattle.plan_seek.specs.Tasks.{task_in};
 ghost use Rattle.plan_decide.specs.declared.excluded.Excluded.TheVariants.{Pair};
-ghost use Rattle.plan_decide.specs.Promises.{IsPromised};
+ghost use Rattle.plan_decide.specs.Excluding.{IsInDoubt};
 ghost use Rattle.plan_decide.specs.Told.{AreTold, AreToldBefore, AddsExclusions};
 
 use crate::alone::is_in_doubt;
@@ -85,7 +85,7 @@ fn add_pair<C: Choose, W: Watch>(
 ) -> Result<(), AllocError>
     requires other { other < jobs shaped.now }
     requires ascending { one < other }
-    requires promised { IsPromised (task_in shaped.now) one }
+    requires doubt { IsInDoubt (task_in shaped.now) one }
     requires told { AreToldBefore (task_in shaped.now) (Pair one other) told.old.items }
     ensures told { OnOk result (AreToldBefore (task_in shaped.now) (Pair one (other + 1)) told.new.items) }
     ensures adds { OnOk result (AddsExclusions told.old.items told.new.items) }

@@ -10,4 +10,4 @@ pub returns-clause-told : goal.returns-clause-told
 returns-clause-told g c =
     let t = task_in c.args.shaped.now in
     pair_more t c.args.one c.args.other c.args.told.now.items c.push.new.self.items c.in_ok-push.ensures.items
-    (pair_exclusion t c.args.one c.args.other c.requires.ascending c.requires.promised c.if-not-is_in_doubt.ensures (rw c.in-Never.is at c.in_ok-ask.ensures)) c.requires.told
+    (pair_exclusion t c.args.one c.args.other c.requires.ascending c.requires.doubt c.if-not-is_in_doubt.ensures (rw c.in-Never.is at c.in_ok-ask.ensures)) c.requires.told
