@@ -9,7 +9,7 @@ use Rattle.run_log.specs.Audits.{TellRun}
 use Rattle.plan_verifier.specs.declared.verdict.Judged.{Judged}
 use Rattle.plan_verifier.specs.declared.verdict.Judged.TheVariants.{Accepted, Refused}
 use Rattle.plan_verifier.specs.declared.verdict.Why.TheVariants.{Cycle, Late}
-use Rattle.rest_texts.specs.RestVerdicts.{HasRanks, IsRestJudged}
+use Rattle.plan_explain.specs.RestVerdicts.{HasRanks, IsRestJudged}
 use Rattle.command_answers.specs.declared.answer.Answer.{Answer}
 use Rattle.command_answers.specs.declared.rests.PlanTelling.{PlanTelling}
 use Rattle.command_answers.specs.Rests.{IsCellTold, IsPastLine, IsRestLine, IsRestTold, present_at, rest_status}

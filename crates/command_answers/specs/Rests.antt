@@ -9,9 +9,9 @@ use Rattle.run_log.specs.Audits.{TellRun}
 use Rattle.plan_verifier.specs.declared.verdict.Judged.{Judged}
 use Rattle.plan_verifier.specs.declared.verdict.Judged.TheVariants.{Accepted, Refused}
 use Rattle.plan_verifier.specs.declared.verdict.Why.TheVariants.{Cycle, Late}
-use Rattle.rest_texts.specs.RestVerdicts.{IsRestJudged}
-use Rattle.rest_texts.specs.RestFirstLines.{IsRestFirstLine}
-use Rattle.rest_texts.specs.RestExplained.{IsRestExplained}
+use Rattle.plan_explain.specs.RestVerdicts.{IsRestJudged}
+use Rattle.plan_explain.specs.RestFirstLines.{IsRestFirstLine}
+use Rattle.plan_explain.specs.RestExplained.{IsRestExplained}
 use Rattle.rest_texts.specs.RestScheduled.{IsRestScheduled}
 use Rattle.command_answers.specs.declared.answer.Answer.{Answer}
 use Rattle.command_answers.specs.declared.rests.PlanTelling.{PlanTelling}

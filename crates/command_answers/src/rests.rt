@@ -6,7 +6,7 @@ ghost use Rattle.shop_base.specs.Report.{IsNextMoment};
 ghost use Rattle.command_answers.specs.Rests.{IsRestLine, IsCellTold, IsPastLine, IsRestTold, IsTextOf, rest_status};
 ghost use Rattle.command_answers.specs.Steps.{IsOrMemory};
 ghost use Rattle.command_answers.specs.Commands.{RunsRest};
-ghost use Rattle.rest_texts.specs.RestVerdicts.{IsRestJudged};
+ghost use Rattle.plan_explain.specs.RestVerdicts.{IsRestJudged};
 
 use crate::answer::{Answer, Answered, GOOD, REFUSED};
 use crate::both::{Pair, read_both};
@@ -15,8 +15,9 @@ use crate::logs::fault_told;
 use crate::shapes::not_shaped_answer;
 use crate::texts::Texts;
 use cell_tables::WorkCell;
-use rest_texts::{explain_after, first_line_after, schedule_after};
+use plan_explain::{explain_after, first_line_after};
 use plan_verifier::{Judged, Why, verify_after};
+use rest_texts::schedule_after;
 use run_log::run_of_log;
 use shop_base::{Moment, Shaped};
 use std::alloc::{AllocError, Global};
@@ -154,11 +155,13 @@ fn rest_status(verdict: &Judged) -> u8
     match verdict {
         Judged::Accepted(_) => GOOD,
         Judged::Refused(Why::Cycle(_)) => REFUSED,
-        Judged::Refused(Why::Late {
-            job: _,
-            leaves: _,
-            chain: _,
-            times: _,
-        }) => REFUSED,
+        Judged::Refused(
+            Why::Late {
+                job: _,
+                leaves: _,
+                chain: _,
+                times: _,
+            },
+        ) => REFUSED,
     }
 }

@@ -3,3 +3,7 @@ pub mod Told
 pub mod Moments
 pub mod Texts
 pub mod LineLaws
+pub mod RestTexts
+pub mod RestPaths
+pub mod AtStart
+pub mod StartTexts

@@ -7,7 +7,6 @@ use Rattle.shop_base.specs.Graph.{node, Arc, HasArc, ArcsLead, Path, begins, fol
 use Rattle.alt_graph.specs.Evidence.{EndsIn}
 use Rattle.plan_verifier.specs.declared.verdict.Verdict.{Verdict}
 use Rattle.plan_verifier.specs.declared.verdict.Verdict.TheVariants.{Accepted, Refused}
-use Rattle.plan_verifier.specs.declared.verdict.Why.TheVariants.{Cycle, Late}
 use Rattle.plan_verifier.proofs.Reasons.{makespan_le}
 use Rattle.plan_explain.specs.FirstLines.{accepted_line, TellsAccepted, IsFirstLine}
 use Rattle.plan_explain.specs.declared.arcs.ToldArc.TheVariants.{Blocking}
@@ -89,5 +88,4 @@ accepted_once p one other here there =
 
 pub first_line_once : (verdict : Verdict) (one other : List ℕ) → IsFirstLine verdict one → IsFirstLine verdict other → one ≡ other
 first_line_once (Accepted verified) one other here there = accepted_once verified.planned one other here there
-first_line_once (Refused back (Cycle nodes)) one other here there = here ∙ sym there
-first_line_once (Refused back (Late job leaves chain times)) one other here there = here ∙ sym there
+first_line_once (Refused back why) one other here there = here ∙ sym there

@@ -25,28 +25,10 @@ pub on_ok_adds : {T E : Type 0} (P : List ℕ → Type 0) (r : Result T E) (old 
 on_ok_adds P (Ok x) old new added holds is = (added, holds, is)
 on_ok_adds P (Err e) old new added holds is = tt
 
--- two texts are added, one behind the other
-pub on_ok_both : {T E : Type 0} (P : List ℕ → Type 0) (r : Result T E) (old mid new a b : List ℕ) → mid ≡ old ++ a → P (a ++ b) → OnOk r (new ≡ mid ++ b) → OnOk r (Adds P old new)
-on_ok_both P r old mid new a b one holds two = on_ok_adds P r old new (a ++ b) holds (on_ok_same r new _ _ (ap (λ l. l ++ b) one ∙ append_assoc old a b) two)
-
--- the lines of a chain are that of its first node and those of the others
-pub chain_parts : (p : PlannedShop) (first : Node) (rest : List Node) (at : ℕ) (old mid : List ℕ) → at ≡ release p first.job → mid ≡ old ++ release_line at first
-    → mid ++ reached_lines p at first rest ≡ old ++ chain_lines p (first ∷ rest)
-chain_parts p first rest at old mid is one =
-    ap (λ l. l ++ reached_lines p at first rest) one ∙ append_assoc old (release_line at first) (reached_lines p at first rest)
-    ∙ ap (λ k. old ++ (release_line k first ++ reached_lines p k first rest)) is
-
-module _ (p : PlannedShop) (first : Node) (rest : List Node) (is : IsPath p (first ∷ rest)) where
-  pub path_inside : first.job < jobs p
-  path_inside = (path_begins p (first ∷ rest) is.last is.size is.path).1
-
-  pub path_along : IsWellShaped p → AreAlong p first rest
-  path_along shaped = (path_led p shaped (first ∷ rest) is.last is.size is.path).along
-
-  pub path_small : IsWellShaped p → (at : ℕ) → at ≡ release p first.job → length_from p at first rest < 2 ^ 64
-  path_small shaped at same =
-      let led = path_led p shaped (first ∷ rest) is.last is.size is.path in
-      omega (arith, ap (λ k. length_from p k first rest) same, led.size, is.small)
+-- what is added is also one of which Q holds
+pub on_ok_each : {T E : Type 0} (P Q : List ℕ → Type 0) (r : Result T E) (old new : List ℕ) → ((added : List ℕ) → P added → Q added) → OnOk r (Adds P old new) → OnOk r (Adds Q old new)
+on_ok_each P Q (Ok x) old new each (added, holds, is) = (added, each added holds, is)
+on_ok_each P Q (Err e) old new each holds = tt
 
 -- a verdict of which each refusal has the evidence against this plan
 pub evident : (p : PlannedShop) (verdict : Verdict) → OnRefused (λ back why. (back ≡ p) × IsReason p why) verdict → OnRefused IsReason verdict

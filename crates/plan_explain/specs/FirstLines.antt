@@ -6,9 +6,12 @@ use Rattle.shop_base.specs.NodeText.{node_text}
 use Rattle.shop_base.specs.Plan.{PlannedShop}
 use Rattle.plan_verifier.specs.declared.verdict.Verdict.{Verdict}
 use Rattle.plan_verifier.specs.declared.verdict.Verdict.TheVariants.{Accepted, Refused}
+use Rattle.plan_verifier.specs.declared.verdict.Why.{Why}
 use Rattle.plan_verifier.specs.declared.verdict.Why.TheVariants.{Cycle, Late}
 use Rattle.plan_verifier.specs.Accepted.{IsMakespan}
+use Rattle.plan_verifier.specs.Leavings.{IsMakespanAfter}
 use Rattle.plan_explain.specs.Leavings.{AreLeavings}
+use Rattle.plan_explain.specs.Moments.{leavings_by}
 
 -- the nodes, with a blank before each
 abbrev pub node_words : List Node → List ℕ
@@ -34,6 +37,15 @@ late_words job leaves = codes "refused late " ++ decimal job ++ codes " " ++ dec
 abbrev pub refused_late_line : ℕ → ℕ → List Node → List ℕ
 refused_late_line job leaves chain = codes "refused late " ++ decimal job ++ codes " " ++ decimal leaves ++ node_words chain ++ codes "\n"
 
+-- the line of a refusal
+abbrev pub refused_line : Why → List ℕ
+refused_line (Cycle nodes) = cycle_line nodes.items
+refused_line (Late job leaves chain times) = refused_late_line job leaves chain.items
+
+-- the line tells these moments of leavings, and the latest of them
+abbrev pub IsAcceptedText : PlannedShop → (Node → ℕ) → List ℕ → Type 0
+IsAcceptedText p kept line = (n : ℕ) × IsMakespanAfter p kept n × (line ≡ accepted_line n (leavings_by p kept))
+
 -- the line tells the makespan and the leavings of the plan
 pub record TellsAccepted (p : PlannedShop) (line : List ℕ) : Type 0 where
   pub makespan : ℕ
@@ -45,5 +57,4 @@ pub record TellsAccepted (p : PlannedShop) (line : List ℕ) : Type 0 where
 -- the first line of a verdict
 abbrev pub IsFirstLine : Verdict → List ℕ → Type 0
 IsFirstLine (Accepted verified) line = TellsAccepted verified.planned line
-IsFirstLine (Refused back (Cycle nodes)) line = line ≡ cycle_line nodes.items
-IsFirstLine (Refused back (Late job leaves chain times)) line = line ≡ refused_late_line job leaves chain.items
+IsFirstLine (Refused back why) line = line ≡ refused_line why

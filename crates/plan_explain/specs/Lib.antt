@@ -8,3 +8,12 @@ pub mod Explained
 pub mod LineLaws
 pub mod Added
 pub mod Moments
+-- The same of the rest of a run.
+pub mod RestVerdicts
+pub mod RestLeavings
+pub mod RestFirstLines
+pub mod Holds
+pub mod RestChains
+pub mod RestExplained
+-- The law that ties the two.
+pub mod StartTexts

@@ -10,7 +10,7 @@ use shop_base::{Node, Shaped};
 use std::alloc::AllocError;
 
 /// Adds a line for each node, of the arc from it to the next one; of the last to the first.
-pub fn push_cycle_lines(
+pub(crate) fn push_cycle_lines(
     text: &mut Vec<u8>,
     shaped: &Shaped,
     nodes: &[Node],

@@ -1,20 +1,16 @@
-//! The explanation of a verdict.
+//! The explanation of the verdict on a plan: that of the rest of a run that hasn't begun.
 
-ghost use Rattle.std.specs.Prelude.{◌<◌, IfOk, OnOk};
-ghost use Rattle.shop_base.specs.Plan.{jobs};
-ghost use Rattle.alt_graph.specs.Times.{AreOrdered};
-ghost use Rattle.plan_verifier.specs.Accepted.{IsPathToLeaving};
-ghost use Rattle.plan_verifier.specs.Verdicts.{OnRefused, IsReason, IsFirstLate};
+ghost use Rattle.std.specs.Prelude.{IfOk, OnOk};
+ghost use Rattle.plan_verifier.specs.Verdicts.{OnRefused, IsReason};
+ghost use Rattle.plan_verifier.specs.declared.verdict.Verdict.TheVariants.{Refused};
 ghost use Rattle.plan_explain.specs.Added.{Adds};
-ghost use Rattle.plan_explain.specs.Explained.{AreMomentLines, AreAcceptedLines, AreBehind, IsExplained};
+ghost use Rattle.plan_explain.specs.Explained.{AreAcceptedLines, AreBehind, IsExplained};
 
-use crate::chains::push_chain_lines;
-use crate::cycles::push_cycle_lines;
+use crate::explaining::{push_accepted_lines, push_refused_lines};
 use crate::first_lines::first_line;
-use crate::leaving_lines::{last_to_leave, push_leaving_lines};
-use alt_graph::Times;
+use cell_tables::WorkCell;
 use plan_verifier::{Verdict, Verified, Why};
-use shop_base::{JobNo, Moment, Node, Shaped};
+use shop_base::Shaped;
 use std::alloc::{AllocError, Global};
 
 /// Why a plan is accepted or refused. After [`first_line`] come the arcs of a cycle; or each job's leaving, its
@@ -36,57 +32,35 @@ fn push_lines_behind(alloc: Global, text: &mut Vec<u8>, verdict: &Verdict) -> Re
     ensures { OnOk result (Adds (AreBehind verdict.now) text.old.items text.new.items) }
 {
     match verdict {
-        Verdict::Accepted(verified) => push_accepted_lines(alloc, text, verified),
-        Verdict::Refused(shaped, Why::Cycle(nodes)) => push_cycle_lines(text, shaped, nodes),
-        Verdict::Refused(
-            shaped,
-            Why::Late {
-                job,
-                leaves,
-                chain,
-                times,
-            },
-        ) => push_late_lines(text, shaped, times, *job, *leaves, chain),
+        Verdict::Accepted(verified) => push_verified_lines(alloc, text, verified),
+        Verdict::Refused(shaped, why) => push_evidence_lines(alloc, text, shaped, why),
     }
 }
 
-fn push_late_lines(
-    text: &mut Vec<u8>,
-    shaped: &Shaped,
-    times: &Times,
-    job: JobNo,
-    leaves: Moment,
-    chain: &[Node],
-) -> Result<(), AllocError>
-    requires late { IsFirstLate shaped.now job leaves chain.now }
-    requires ordered { AreOrdered shaped.now times.now }
-    ensures { OnOk result (Adds (AreMomentLines shaped.now chain.now) text.old.items text.new.items) }
-{
-    push_leaving_lines(text, shaped, times)?;
-    push_chain_lines(text, shaped, chain)
-}
-
-fn push_accepted_lines(
+fn push_verified_lines(
     alloc: Global,
     text: &mut Vec<u8>,
     verified: &Verified,
 ) -> Result<(), AllocError>
     ensures { OnOk result (Adds (AreAcceptedLines verified.now.planned) text.old.items text.new.items) }
 {
-    let (shaped, times) = (verified.shaped(), verified.times());
-    let last = last_to_leave(shaped, times, verified.makespan());
-    let chain = chain_of(alloc, verified, last)?;
-    push_leaving_lines(text, shaped, times)?;
-    push_chain_lines(text, shaped, &chain)
+    match WorkCell::start(alloc, verified.shaped()) {
+        Ok(cell) => push_accepted_lines(alloc, text, &cell, 0, verified.times()),
+        Err((error, _)) => Err(error),
+    }
 }
 
-/// A longest chain to the job's leaving.
-fn chain_of(alloc: Global, verified: &Verified, job: JobNo) -> Result<Vec<Node>, AllocError>
-    requires { job < jobs verified.now.planned }
-    ensures { IfOk result (λ nodes. IsPathToLeaving verified.now job nodes.items) }
+fn push_evidence_lines(
+    alloc: Global,
+    text: &mut Vec<u8>,
+    shaped: &Shaped,
+    why: &Why,
+) -> Result<(), AllocError>
+    requires { IsReason shaped.now why.now }
+    ensures { OnOk result (Adds (AreBehind (Refused shaped.now why.now)) text.old.items text.new.items) }
 {
-    match verified.chain(alloc, job)? {
-        Some(chain) => Ok(chain),
-        None => unreachable!(),
+    match WorkCell::start(alloc, shaped) {
+        Ok(cell) => push_refused_lines(text, &cell, 0, why),
+        Err((error, _)) => Err(error),
     }
 }

@@ -1,16 +1,19 @@
-//! The first line of a verdict.
+//! The first line of a verdict on a plan, or on the rest of a run.
 
-ghost use Rattle.std.specs.Prelude.{◌≡◌, ◌++◌, IfOk, OnOk, codes, decimal};
+ghost use Rattle.std.specs.Prelude.{◌≡◌, ℕ, ◌++◌, IfOk, OnOk, codes, decimal};
 ghost use Rattle.shop_base.specs.NodeText.{node_text};
-ghost use Rattle.alt_graph.specs.Times.{AreOrdered};
+ghost use Rattle.alt_graph.specs.Times.{AreRanks, earliest_of};
 ghost use Rattle.plan_explain.specs.Added.{Adds};
-ghost use Rattle.plan_explain.specs.Moments.{leavings_of};
-ghost use Rattle.plan_explain.specs.FirstLines.{node_words, moment_words, accepted_line, cycle_line, late_words, refused_late_line, TellsAccepted, IsFirstLine};
+ghost use Rattle.plan_explain.specs.FirstLines.{node_words, moment_words, cycle_line, late_words, refused_late_line, refused_line, IsAcceptedText, TellsAccepted, IsFirstLine};
+ghost use Rattle.plan_explain.specs.Moments.{leavings_by};
+ghost use Rattle.plan_explain.specs.RestFirstLines.{IsLineByTimes, IsRestFirstLine};
+ghost use Rattle.plan_explain.specs.RestVerdicts.{HasRanks, IsRestJudged};
 
 use crate::words::{Line, push_line, put_node};
 use alt_graph::Times;
-use plan_verifier::{Verdict, Verified, Why, leave_time};
-use shop_base::{JobNo, Moment, Node, Shaped};
+use cell_tables::WorkCell;
+use plan_verifier::{Judged, Verdict, Verified, Why, leave_time, makespan};
+use shop_base::{JobNo, Moment, Node, Planned};
 use std::alloc::{AllocError, Global};
 
 /// The line of a verdict: `accepted makespan M leaves L0 L1 ..` with each job's earliest leaving,
@@ -21,65 +24,102 @@ pub fn first_line(alloc: Global, verdict: &Verdict) -> Result<Vec<u8>, AllocErro
 {
     let mut line = Vec::new(alloc);
     match verdict {
-        Verdict::Accepted(verified) => push_accepted_line(&mut line, verified)?,
-        Verdict::Refused(_, Why::Cycle(nodes)) => push_cycle_line(&mut line, nodes)?,
-        Verdict::Refused(
-            _,
-            Why::Late {
-                job,
-                leaves,
-                chain,
-                times: _,
-            },
-        ) => push_late_line(&mut line, *job, *leaves, chain)?,
+        Verdict::Accepted(verified) => push_verified_line(&mut line, verified)?,
+        Verdict::Refused(_, why) => push_refused_line(&mut line, why)?,
     }
     Ok(line)
 }
 
-/// Adds `accepted makespan M leaves L0 L1 ..`, with each job's earliest leaving.
-fn push_accepted_line(text: &mut Vec<u8>, verified: &Verified) -> Result<(), AllocError>
-    ensures { OnOk result (Adds (TellsAccepted verified.now.planned) text.old.items text.new.items) }
+/// The line of a verdict on the rest of a run, in the same words. Of a job that is gone it gives the moment at which that
+/// left.
+pub fn first_line_after<P: Planned>(
+    alloc: Global,
+    cell: &WorkCell<P>,
+    verdict: &Judged,
+) -> Result<Vec<u8>, AllocError>
+    requires { HasRanks cell.now.plan verdict.now }
+    ensures { (t : ℕ) → IsRestJudged cell.now.plan cell.now.cell t verdict.now
+        → IfOk result (λ line. IsRestFirstLine cell.now.plan cell.now.cell t verdict.now line.items) }
 {
-    let makespan = verified.makespan();
-    push_accepted_words(text, makespan, verified.shaped(), verified.times())
+    let mut line = Vec::new(alloc);
+    push_first_line(&mut line, cell, verdict)?;
+    Ok(line)
 }
 
-fn push_accepted_words(
+/// Adds the line of the verdict on the rest of a run.
+fn push_first_line<P: Planned>(
     text: &mut Vec<u8>,
-    makespan: Moment,
-    shaped: &Shaped,
+    cell: &WorkCell<P>,
+    verdict: &Judged,
+) -> Result<(), AllocError>
+    requires { HasRanks cell.now.plan verdict.now }
+    ensures { OnOk result (Adds (IsLineByTimes cell.now.plan verdict.now) text.old.items text.new.items) }
+{
+    match verdict {
+        Judged::Accepted(times) => push_accepted_line(text, cell, times),
+        Judged::Refused(why) => push_refused_line(text, why),
+    }
+}
+
+/// Adds the line of an accepted plan.
+fn push_verified_line(text: &mut Vec<u8>, verified: &Verified) -> Result<(), AllocError>
+    ensures { OnOk result (Adds (TellsAccepted verified.now.planned) text.old.items text.new.items) }
+{
+    push_accepted_line(text, verified.shaped(), verified.times())
+}
+
+/// Adds `accepted makespan M leaves L0 L1 ..`, with each job's leaving, and the latest of them.
+fn push_accepted_line<P: Planned>(
+    text: &mut Vec<u8>,
+    plan: &P,
     times: &Times,
 ) -> Result<(), AllocError>
-    requires { AreOrdered shaped.now times.now }
-    ensures { OnOk result (text.new.items ≡ text.old.items ++ accepted_line makespan (leavings_of shaped.now times.now)) }
+    requires { AreRanks (P.planned plan.now) times.now }
+    ensures { OnOk result (Adds (IsAcceptedText (P.planned plan.now) (earliest_of times.now)) text.old.items text.new.items) }
 {
     let mut line = Line::empty();
     line.put_text(b" leaves");
-    line.put_number(makespan);
+    line.put_number(makespan(plan, times));
     line.put_text(b"accepted makespan ");
     push_line(text, &line)?;
-    push_leavings(text, shaped, times)?;
+    push_leavings(text, plan, times)?;
     push_line(text, &Line::ended())
 }
 
-fn push_leavings(text: &mut Vec<u8>, shaped: &Shaped, times: &Times) -> Result<(), AllocError>
-    requires { AreOrdered shaped.now times.now }
-    ensures { OnOk result (text.new.items ≡ text.old.items ++ moment_words (leavings_of shaped.now times.now)) }
+/// Adds each job's leaving, with a blank before it.
+fn push_leavings<P: Planned>(text: &mut Vec<u8>, plan: &P, times: &Times) -> Result<(), AllocError>
+    requires { AreRanks (P.planned plan.now) times.now }
+    ensures { OnOk result (text.new.items ≡ text.old.items ++ moment_words (leavings_by (P.planned plan.now) (earliest_of times.now))) }
 {
-    for job in 0..shaped.job_count() {
-        push_moment(text, leave_time(shaped, times, job))?;
+    for job in 0..plan.shaped().job_count() {
+        push_moment(text, leave_time(plan, times, job))?;
     }
     Ok(())
 }
 
 /// Adds a blank and the moment.
-pub fn push_moment(text: &mut Vec<u8>, moment: Moment) -> Result<(), AllocError>
+fn push_moment(text: &mut Vec<u8>, moment: Moment) -> Result<(), AllocError>
     ensures { OnOk result (text.new.items ≡ text.old.items ++ codes " " ++ decimal moment) }
 {
     let mut line = Line::empty();
     line.put_number(moment);
     line.put_text(b" ");
     push_line(text, &line)
+}
+
+/// Adds the line of a refusal.
+fn push_refused_line(text: &mut Vec<u8>, why: &Why) -> Result<(), AllocError>
+    ensures { OnOk result (text.new.items ≡ text.old.items ++ refused_line why.now) }
+{
+    match why {
+        Why::Cycle(nodes) => push_cycle_line(text, nodes),
+        Why::Late {
+            job,
+            leaves,
+            chain,
+            times: _,
+        } => push_late_line(text, *job, *leaves, chain),
+    }
 }
 
 /// Adds `refused cycle n0 n1 ..`, with the cycle's nodes.
@@ -94,7 +134,7 @@ pub fn push_cycle_line(text: &mut Vec<u8>, nodes: &[Node]) -> Result<(), AllocEr
 }
 
 /// Adds `refused late J L n0 n1 ..`, with the nodes of a chain to the job's leaving.
-pub fn push_late_line(
+fn push_late_line(
     text: &mut Vec<u8>,
     job: JobNo,
     leaves: Moment,

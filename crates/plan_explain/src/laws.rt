@@ -3,6 +3,7 @@
 
 // Nothing is done here: a function's contract is the law, so a check of this crate proves it.
 
+ghost use Rattle.plan_explain.specs.StartTexts.{TheRestOfTheStartIsToldAsThePlan};
 ghost use Rattle.plan_explain.specs.LineLaws.{ArcsAreToldAsTheyAre, EachLineTellsThePathUpToIt, TheLastLineTellsTheLength, TheLinesOfACycleClose, AVerdictHasOneFirstLine};
 
 /// A job arc is shown by its job, the machine and the nominal time of its step. A blocking arc is shown by its machine,
@@ -33,4 +34,10 @@ pub fn the_lines_of_a_cycle_close()
 /// the same line.
 pub fn a_verdict_has_one_first_line()
     ensures { AVerdictHasOneFirstLine }
+{}
+
+/// From the cell at the start and moment 0 on, what is told of the rest of a run is told of the plan: the first line of
+/// its verdict, so the very same one, and an explanation.
+pub fn the_rest_of_the_start_is_told_as_the_plan()
+    ensures { TheRestOfTheStartIsToldAsThePlan }
 {}

@@ -1,35 +1,54 @@
 //! The lines of the jobs of a plan without a cycle.
 
-ghost use Rattle.std.specs.Prelude.{◌≡◌, ◌+◌, ◌≤◌, ◌++◌, length, OnOk};
-ghost use Rattle.alt_graph.specs.Times.{AreOrdered};
-ghost use Rattle.plan_verifier.specs.Accepted.{IsMakespan};
-ghost use Rattle.plan_explain.specs.Moments.{leavings_of};
-ghost use Rattle.plan_explain.specs.Leavings.{margin_words, leaving_line, leaving_lines, IsLastToLeave};
+ghost use Rattle.std.specs.Prelude.{◌≡◌, ◌+◌, ◌<◌, ◌≤◌, ◌++◌, length, OnOk};
+ghost use Rattle.shop_base.specs.Plan.{jobs, budget};
+ghost use Rattle.alt_graph.specs.Times.{AreRanks, earliest_of};
+ghost use Rattle.plan_explain.specs.Leavings.{margin_words, leaving_line};
+ghost use Rattle.plan_explain.specs.RestLeavings.{gone_line, rest_leaving_line, rest_leaving_lines};
 
 use crate::words::{Line, push_line};
 use alt_graph::Times;
+use cell_tables::WorkCell;
 use plan_verifier::leave_time;
-use shop_base::{JobNo, Moment, Shaped};
+use shop_base::{JobNo, Moment, Planned};
 use std::alloc::AllocError;
 
 /// Adds a line for each job, in ascending order.
-pub(crate) fn push_leaving_lines(
+pub(crate) fn push_leaving_lines<P: Planned>(
     text: &mut Vec<u8>,
-    shaped: &Shaped,
+    cell: &WorkCell<P>,
     times: &Times,
 ) -> Result<(), AllocError>
-    requires { AreOrdered shaped.now times.now }
-    ensures { OnOk result (text.new.items ≡ text.old.items ++ leaving_lines shaped.now (leavings_of shaped.now times.now)) }
+    requires { AreRanks cell.now.plan times.now }
+    ensures { OnOk result (text.new.items ≡ text.old.items
+        ++ rest_leaving_lines cell.now.plan cell.now.cell (earliest_of times.now)) }
 {
-    for job in 0..shaped.job_count() {
-        let leaves = leave_time(shaped, times, job);
-        push_leaving_line(text, job, leaves, shaped.budget_of(job))?;
+    for job in 0..cell.job_count() {
+        let leaves = leave_time(cell, times, job);
+        push_job_line(text, cell, job, leaves)?;
     }
     Ok(())
 }
 
+/// Adds the line of a job: when it left, or when it leaves and what is left to its budget.
+fn push_job_line<P: Planned>(
+    text: &mut Vec<u8>,
+    cell: &WorkCell<P>,
+    job: JobNo,
+    leaves: Moment,
+) -> Result<(), AllocError>
+    requires { job < jobs cell.now.plan }
+    ensures { OnOk result (text.new.items ≡ text.old.items ++ rest_leaving_line cell.now.plan cell.now.cell job leaves) }
+{
+    let budget = cell.shaped().budget_of(job);
+    if cell.step_count(job) < cell.job_state(job).made {
+        return push_gone_line(text, job, leaves, budget);
+    }
+    push_leaving_line(text, job, leaves, budget)
+}
+
 /// Adds `job J leaves L budget B slack S`, or `.. late D` where L is past B by D.
-pub fn push_leaving_line(
+fn push_leaving_line(
     text: &mut Vec<u8>,
     job: JobNo,
     leaves: Moment,
@@ -63,16 +82,21 @@ fn put_margin(line: &mut Line, leaves: Moment, budget: Moment)
     }
 }
 
-/// The least job that leaves last.
-pub(crate) fn last_to_leave(shaped: &Shaped, times: &Times, makespan: Moment) -> JobNo
-    requires ordered { AreOrdered shaped.now times.now }
-    requires makespan { IsMakespan shaped.now makespan }
-    ensures { IsLastToLeave shaped.now result makespan }
+/// Adds `job J left L budget B`.
+fn push_gone_line(
+    text: &mut Vec<u8>,
+    job: JobNo,
+    left: Moment,
+    budget: Moment,
+) -> Result<(), AllocError>
+    ensures { OnOk result (text.new.items ≡ text.old.items ++ gone_line job left budget) }
 {
-    for job in 0..shaped.job_count() {
-        if leave_time(shaped, times, job) == makespan {
-            return job;
-        }
-    }
-    unreachable!()
+    let mut line = Line::ended();
+    line.put_number(budget);
+    line.put_text(b" budget ");
+    line.put_number(left);
+    line.put_text(b" left ");
+    line.put_short_number(job);
+    line.put_text(b"job ");
+    push_line(text, &line)
 }

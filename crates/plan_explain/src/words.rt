@@ -10,7 +10,7 @@ use shop_base::{Moment, Node};
 use std::alloc::AllocError;
 
 /// The room of a line, in bytes.
-pub(crate) const LINE_ROOM: usize = 160;
+pub(crate) const LINE_ROOM: usize = 200;
 
 /// A line of an explanation. All are shorter than its room.
 pub(crate) type Line = text_lines::LineText<LINE_ROOM>;

@@ -2,7 +2,8 @@
 
 use super::rests::planned;
 use cell_tables::WorkCell;
-use rest_texts::{explain_after, schedule_after};
+use plan_explain::explain_after;
+use rest_texts::schedule_after;
 use plan_verifier::verify_after;
 use run_gantt::drawn_visits;
 use run_log::run_of_log;

@@ -10,7 +10,7 @@ use Rattle.plan_verifier.specs.Rest.{IsGreatestAhead}
 use Rattle.plan_verifier.specs.declared.verdict.Judged.{Judged}
 use Rattle.plan_verifier.specs.declared.verdict.Judged.TheVariants.{Accepted, Refused}
 use Rattle.plan_verifier.specs.declared.verdict.Why.TheVariants.{Cycle, Late}
-use Rattle.rest_texts.specs.RestFirstLines.{IsRestFirstLine}
+use Rattle.plan_explain.specs.RestFirstLines.{IsRestFirstLine}
 use Rattle.rest_texts.specs.RestSchedules.{AreRestLines}
 
 module _ (p : PlannedShop) (c : Cell) (t : ℕ) where

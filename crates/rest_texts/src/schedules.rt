@@ -9,15 +9,15 @@ ghost use Rattle.plan_schedule.specs.Calendars.{HasDeadlines, seen, due_in};
 ghost use Rattle.plan_verifier.specs.declared.verdict.Judged.TheVariants.{Refused};
 ghost use Rattle.plan_verifier.specs.Rest.{AreOrderedAhead};
 ghost use Rattle.plan_verifier.specs.RestVerdicts.{IsReasonAhead};
-ghost use Rattle.rest_texts.specs.RestVerdicts.{IsRestJudged};
+ghost use Rattle.plan_explain.specs.RestVerdicts.{IsRestJudged};
 ghost use Rattle.rest_texts.specs.SoonAhead.{AreBegun};
 ghost use Rattle.rest_texts.specs.RestSchedules.{AreRestLines};
 ghost use Rattle.rest_texts.specs.RestScheduled.{AreRestLinesInTime, AreRestScheduledBehind, IsRestScheduled};
 
-use crate::first_lines::first_line_after;
 use crate::scheduling::{push_cleanings, push_jobs};
 use alt_graph::{Deadlines, Times};
 use cell_tables::WorkCell;
+use plan_explain::first_line_after;
 use plan_schedule::Calendar;
 use plan_verifier::{Judged, Why, deadlines_after};
 use shop_base::{Moment, Planned};

@@ -1,11 +1,9 @@
 //! A line about the rest of a run, and the words that its lines share.
 
 ghost use Rattle.std.specs.Prelude.{◌≡◌, ◌+◌, ◌≤◌, ◌++◌, length, OnOk};
-ghost use Rattle.shop_base.specs.NodeText.{node_text};
 ghost use Rattle.plan_schedule.specs.Lines.{due_words};
-ghost use Rattle.rest_texts.specs.declared.words.TheConstants.{LINE_ROOM};
 
-use shop_base::{Moment, Node};
+use shop_base::Moment;
 use std::alloc::AllocError;
 
 /// The room of a line, in bytes.
@@ -13,17 +11,6 @@ pub(crate) const LINE_ROOM: usize = 240;
 
 /// A line of the rest of a run. All are shorter than its room.
 pub(crate) type Line = text_lines::LineText<LINE_ROOM>;
-
-/// Writes the node as `j.k`.
-pub(crate) fn put_node(line: &mut Line, node: Node)
-    requires { 21 + length line.old ≤ LINE_ROOM }
-    ensures written { line.new ≡ node_text node ++ line.old }
-    ensures length { length line.new ≤ 21 + length line.old }
-{
-    line.put_short_number(node.place);
-    line.put_text(b".");
-    line.put_short_number(node.job);
-}
 
 /// Writes the deadline, if there is one.
 pub(crate) fn put_due(line: &mut Line, due: Option<Moment>)

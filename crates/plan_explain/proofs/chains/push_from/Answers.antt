@@ -1,15 +1,23 @@
-use Rattle.plan_explain.proofs.Texts.{on_ok_same, chain_parts, path_inside, path_along, path_small}
+use Rattle.plan_explain.proofs.RestPaths.{chain_along, chain_small}
+use Rattle.plan_explain.proofs.RestTexts.{chain_parts}
 use Rattle.plan_explain.proofs.chains.push_from.Goals as goal
 
-pub release_of-release-requires : goal.release_of-release-requires
-release_of-release-requires c = path_inside c.args.shaped.now c.args.first c.args.rest.now c.requires
+pub bound_after-requires-clause-node : goal.bound_after-requires-clause-node
+bound_after-requires-clause-node g c = c.requires.chain.begins.0
+
+pub unreachable-requires : goal.unreachable-requires
+unreachable-requires g c = c.in_default.ensures c.requires.chain.begins.1
 
 pub push_reached_lines-requires-clause-arcs : goal.push_reached_lines-requires-clause-arcs
-push_reached_lines-requires-clause-arcs c = path_along c.args.shaped.now c.args.first c.args.rest.now c.requires c.release_of-release.ensures.well_shaped
+push_reached_lines-requires-clause-arcs g c =
+    rw c.shaped-shaped.ensures.plan (chain_along c.args.cell.now.plan c.args.cell.now.cell c.args.present c.args.first c.args.rest.now c.requires.chain c.shaped-shaped.ensures.well_shaped)
 
 pub push_reached_lines-requires-clause-small : goal.push_reached_lines-requires-clause-small
-push_reached_lines-requires-clause-small c = path_small c.args.shaped.now c.args.first c.args.rest.now c.requires c.release_of-release.ensures.well_shaped _ c.release_of-release.ensures.release
+push_reached_lines-requires-clause-small g c =
+    rw c.shaped-shaped.ensures.plan
+    (chain_small c.args.cell.now.plan c.args.cell.now.cell c.args.present c.args.first c.args.rest.now c.requires.chain c.shaped-shaped.ensures.well_shaped c.in-Some.bound c.shaped-shaped.ensures.sound c.in-Some.ensures)
 
 pub returns : goal.returns
-returns c = on_ok_same c.push_reached_lines.result c.push_reached_lines.new.text.items _ _
-    (chain_parts c.args.shaped.now c.args.first c.args.rest.now _ _ _ c.release_of-release.ensures.release c.in_ok-push_release_line.ensures) c.push_reached_lines.ensures
+returns g c =
+    chain_parts c.args.cell.now.plan c.args.cell.now.cell c.args.present c.args.first c.args.rest.now c.in-Some.bound c.push_reached_lines.result _ _ _ c.in-Some.ensures
+    c.in_ok-push_bound_line.ensures (rw c.shaped-shaped.ensures.plan at c.push_reached_lines.ensures)

@@ -1,0 +1,126 @@
+-- Paths ahead, from their first node on.
+use Rattle.std.proofs.Common.{◌≡◌, ℕ, ◌+◌, ◌^◌, ◌<◌, List, [], ◌∷◌, ◌++◌, Option, Some, inl, inr, arith, refl, sym, ap, subst, ◌∙◌}
+use Rattle.std.proofs.lemmas.Bool.{cases_lt}
+use Rattle.shop_base.specs.declared.node.Node.{Node}
+use Rattle.shop_base.specs.Plan.{PlannedShop, jobs, steps, IsWellShaped}
+use Rattle.shop_base.specs.Cell.{Cell, made, IsGone}
+use Rattle.shop_base.specs.Sound.{IsSound}
+use Rattle.shop_base.specs.Activity.{Arrival, Operation, Cleaning}
+use Rattle.shop_base.specs.Graph.{Arc, HasArc, IsNode, leaving}
+use Rattle.shop_base.specs.Ahead.{next_node, IsAhead, PathAhead, now, held, onward}
+use Rattle.alt_graph.specs.Times.{NodeTimes, earliest_of, IsPathFromBy}
+use Rattle.plan_verifier.specs.Rest.{AreOrderedAhead}
+use Rattle.plan_verifier.specs.declared.node_bound.Hold.{Hold}
+use Rattle.plan_verifier.specs.declared.node_bound.NodeBound.{NodeBound}
+use Rattle.plan_verifier.specs.Held.{IsHeldBy, awaited, arrived, worked, done, cleaned, BeginHeldUp, IsToldOf, IsBoundOf}
+use Rattle.plan_verifier.proofs.Tables.{later_is}
+use Rattle.plan_verifier.proofs.Holding.{hold_up, free_passed}
+use Rattle.plan_explain.specs.Arcs.{time_of, told_arc}
+use Rattle.plan_explain.specs.Chains.{AreAlong, length_from}
+use Rattle.plan_explain.proofs.ArcFacts.{arc_time, last_from, last_more, along_more, length_more}
+use Rattle.plan_explain.specs.RestChains.{IsRestChain}
+
+-- what a path ahead to v of length n is, from its first node on; any other length with which a path ahead begins there leads to such a path too
+pub record IsLedAhead (p : PlannedShop) (c : Cell) (t : ℕ) (u : Node) (us : List Node) (v : Node) (n : ℕ) : Type 0 where
+  pub along : AreAlong p u us
+  pub ends : last_from u us ≡ v
+  pub start : ℕ
+  pub begins : PathAhead p c t (u ∷ []) u start
+  pub size : length_from p start u us ≡ n
+  pub again : (s : ℕ) → PathAhead p c t (u ∷ []) u s → PathAhead p c t (u ∷ us) v (length_from p s u us)
+
+abbrev pub IsLedPathAhead : PlannedShop → Cell → ℕ → List Node → Node → ℕ → Type 0
+IsLedPathAhead p c t [] v n = ⊥
+IsLedPathAhead p c t (u ∷ us) v n = IsLedAhead p c t u us v n
+
+module _ (p : PlannedShop) (c : Cell) (t : ℕ) (shaped : IsWellShaped p) where
+  led_more : (nodes : List Node) (u v : Node) (n d : ℕ) → Arc p u v d → IsLedPathAhead p c t nodes u n → IsLedPathAhead p c t (nodes ++ v ∷ []) v (n + d)
+  led_more [] u v n d arc led = absurd led
+  led_more (w ∷ ws) u v n d arc led = record {
+    along = along_more p w ws v led.along (subst (λ (x : Node). HasArc p x v) (sym led.ends) (d, arc));
+    ends = last_more w ws v;
+    start = led.start;
+    begins = led.begins;
+    size = omega (arith, longer led.start, led.size);
+    again = λ s begin. subst (λ (m : ℕ). PathAhead p c t (w ∷ ws ++ v ∷ []) v m) (sym (longer s)) (onward (w ∷ ws) u v (length_from p s w ws) d (led.again s begin) arc);
+  }
+    where
+      longer : (s : ℕ) → length_from p s w (ws ++ v ∷ []) ≡ length_from p s w ws + d
+      longer s = omega (arith, length_more p s w ws v, ap (λ (x : Node). time_of (told_arc p x v)) led.ends, arc_time p shaped u v d arc)
+
+  -- a path ahead, from its first node on
+  pub ahead_led : (nodes : List Node) (v : Node) (n : ℕ) → PathAhead p c t nodes v n → IsLedPathAhead p c t nodes v n
+  ahead_led _ _ _ (now v is ahead) = record { along = tt; ends = refl; start = t; begins = now v is ahead; size = refl; again = λ s begin. begin }
+  ahead_led _ _ _ (held a due v goes holds) = record { along = tt; ends = refl; start = due; begins = held a due v goes holds; size = refl; again = λ s begin. begin }
+  ahead_led _ _ _ (onward nodes u v n d path arc) = led_more nodes u v n d arc (ahead_led nodes u n path)
+
+-- ---- what is told of a node begins a path ahead
+
+module _ (p : PlannedShop) (c : Cell) (t : ℕ) where
+  held_path : (h : Hold) (due : Option ℕ) (v : Node) (m : ℕ) → IsHeldBy p c h due v → due ≡ Some m → PathAhead p c t (v ∷ []) v m
+  held_path _ _ _ m (awaited j d is) some = let same : d ≡ m = cc in subst (λ (n : ℕ). PathAhead p c t (next_node c j ∷ []) (next_node c j) n) same (held (Arrival j) d (next_node c j) is refl)
+  held_path _ _ _ m (arrived j outside is) none = absurd cc
+  held_path _ _ _ m (worked j k x d is) some = let same : d ≡ m = cc in subst (λ (n : ℕ). PathAhead p c t (next_node c j ∷ []) (next_node c j) n) same (held (Operation j x) d (next_node c j) (k, is) refl)
+  held_path _ _ _ m (done j k x on is) none = absurd cc
+  held_path _ _ _ m (cleaned x from d v is stands) some = let same : d ≡ m = cc in subst (λ (n : ℕ). PathAhead p c t (v ∷ []) v n) same (held (Cleaning x) d v (from, is) stands)
+
+  pub told_path : (v : Node) (b : NodeBound) → IsSound p c → IsNode p v → IsToldOf p c t v b → PathAhead p c t (v ∷ []) v b.moment
+  told_path v b sound is told = subst (λ (n : ℕ). PathAhead p c t (v ∷ []) v n) (sym told.moment) (elim (later_is t told.due) [
+    | inl same ↦ subst (λ (n : ℕ). PathAhead p c t (v ∷ []) v n) (sym same) (now v is ahead)
+    | inr (m, some, same) ↦ subst (λ (n : ℕ). PathAhead p c t (v ∷ []) v n) (sym same) (held_path b.holds told.due v m told.holds some)
+  ])
+    where
+      ahead : IsAhead c v
+      ahead = elim (cases_lt v.place (made c v.job)) [
+        | inl passed ↦ absurd (free_passed p c t v sound passed (hold_up p c b.holds told.due v told.holds))
+        | inr here ↦ here
+      ]
+
+-- ---- the first node of a chain ahead
+
+module _ (p : PlannedShop) (c : Cell) (t : ℕ) (first : Node) (rest : List Node) (is : IsRestChain p c t (first ∷ rest)) (shaped : IsWellShaped p) where
+  led : IsLedAhead p c t first rest is.last is.size
+  led = ahead_led p c t shaped (first ∷ rest) is.last is.size is.path
+
+  pub chain_along : AreAlong p first rest
+  chain_along = led.along
+
+  pub chain_small : (b : NodeBound) → IsSound p c → IsBoundOf p c t first b → length_from p b.moment first rest < 2 ^ 64
+  chain_small b sound bound = omega (arith, is.small, is.greatest is.last (length_from p b.moment first rest) (led.again b.moment (told_path p c t first b sound is.begins.0 bound.told)))
+
+-- a longest chain is one of which the lines can be written
+pub rest_chain : (p : PlannedShop) (c : Cell) (t n : ℕ) (times : NodeTimes) (v : Node) (nodes : List Node) → AreOrderedAhead p c t times → IsNode p v → IsAhead c v → IsPathFromBy times v nodes
+    → n ≡ earliest_of times v → n < 2 ^ 64 → PathAhead p c t nodes v n × IsRestChain p c t nodes
+rest_chain p c t n times v nodes ordered node ahead chain is small = (
+  path,
+  record {
+    last = v;
+    size = n;
+    path = path;
+    begins = both.1;
+    greatest = λ w k other. omega (arith, ordered.greatest nodes w k other, is, ap (earliest_of times) (same_end nodes w k other path));
+    small = small;
+  },
+)
+  where
+    both : PathAhead p c t nodes v (earliest_of times v) × BeginHeldUp p c nodes
+    both = ordered.chains nodes v node ahead chain
+
+    path : PathAhead p c t nodes v n
+    path = subst (λ (m : ℕ). PathAhead p c t nodes v m) (sym is) both.0
+
+    same_end : (all : List Node) (w : Node) (k : ℕ) → PathAhead p c t all w k → PathAhead p c t all v n → w ≡ v
+    same_end [] w k one other = absurd (ahead_led p c t ordered.schedule.shaped [] w k one)
+    same_end (u ∷ us) w k one other = sym (ahead_led p c t ordered.schedule.shaped (u ∷ us) w k one).ends ∙ (ahead_led p c t ordered.schedule.shaped (u ∷ us) v n other).ends
+
+-- so is one to the leaving of a job that isn't gone
+pub leaving_chain : (p : PlannedShop) (c : Cell) (t n j : ℕ) (times : NodeTimes) (nodes : List Node) → AreOrderedAhead p c t times → j < jobs p → (IsGone p c j → ⊥) → IsPathFromBy times (leaving p j) nodes
+    → n ≡ earliest_of times (leaving p j) → n < 2 ^ 64 → PathAhead p c t nodes (leaving p j) n × IsRestChain p c t nodes
+leaving_chain p c t n j times nodes ordered inside still chain is small =
+    rest_chain p c t n times (leaving p j) nodes ordered (record { job = inside; place = omega arith }) here chain is small
+  where
+    here : IsAhead c (leaving p j)
+    here = elim (cases_lt (steps p j) (made c j)) [
+      | inl gone ↦ absurd (still gone)
+      | inr ahead ↦ ahead
+    ]

@@ -1,0 +1,25 @@
+-- The lines of a chain ahead.
+use Rattle.std.specs.Prelude.{◌≡◌, ℕ, ◌^◌, ◌<◌, ◌≤◌, List, [], ◌∷◌, ◌++◌}
+use Rattle.shop_base.specs.declared.node.Node.{Node}
+use Rattle.shop_base.specs.Plan.{PlannedShop}
+use Rattle.shop_base.specs.Cell.{Cell}
+use Rattle.shop_base.specs.Ahead.{PathAhead}
+use Rattle.plan_verifier.specs.Held.{BeginHeldUp, IsBoundOf}
+use Rattle.plan_verifier.specs.declared.node_bound.NodeBound.{NodeBound}
+use Rattle.plan_explain.specs.Chains.{reached_lines}
+use Rattle.plan_explain.specs.Holds.{bound_line}
+
+module _ (p : PlannedShop) (c : Cell) (t : ℕ) where
+  -- a longest path ahead along these nodes, from one that is held up, whose length is a moment
+  pub record IsRestChain (nodes : List Node) : Type 0 where
+    pub last : Node
+    pub size : ℕ
+    pub path : PathAhead p c t nodes last size
+    pub begins : BeginHeldUp p c nodes
+    pub greatest : (v : Node) (k : ℕ) → PathAhead p c t nodes v k → k ≤ size
+    pub small : size < 2 ^ 64
+
+  -- the lines of a chain: what its first node waits for, and each further node, with the length of the path up to it
+  abbrev pub AreRestChainLines : List Node → List ℕ → Type 0
+  AreRestChainLines [] lines = lines ≡ []
+  AreRestChainLines (u ∷ us) lines = (bound : NodeBound) × IsBoundOf p c t u bound × (lines ≡ bound_line u bound ++ reached_lines p bound.moment u us)

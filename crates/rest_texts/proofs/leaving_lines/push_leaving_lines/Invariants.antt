@@ -1,8 +1,0 @@
-use Rattle.std.proofs.Common.{◌≡◌, ◌++◌}
-use Rattle.alt_graph.specs.Times.{earliest_of}
-use Rattle.rest_texts.specs.RestLeavings.{rest_leaving_lines_below}
-use Rattle.rest_texts.proofs.leaving_lines.push_leaving_lines.Given as goal
-
--- the lines of the jobs looked at are written
-abbrev pub invariant-loop-job : goal.invariant-loop-job
-invariant-loop-job g l = l.text.items ≡ l.initial.text.items ++ rest_leaving_lines_below l.cell.plan l.cell.cell (earliest_of l.times) l.job
