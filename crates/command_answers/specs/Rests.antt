@@ -12,7 +12,7 @@ use Rattle.plan_verifier.specs.declared.verdict.Why.TheVariants.{Cycle, Late}
 use Rattle.plan_explain.specs.RestVerdicts.{IsRestJudged}
 use Rattle.plan_explain.specs.RestFirstLines.{IsRestFirstLine}
 use Rattle.plan_explain.specs.RestExplained.{IsRestExplained}
-use Rattle.rest_texts.specs.RestScheduled.{IsRestScheduled}
+use Rattle.plan_schedule.specs.RestScheduled.{IsRestScheduled}
 use Rattle.command_answers.specs.declared.answer.Answer.{Answer}
 use Rattle.command_answers.specs.declared.rests.PlanTelling.{PlanTelling}
 use Rattle.command_answers.specs.declared.rests.PlanTelling.TheVariants.{Verdict, Reasons, Moments}

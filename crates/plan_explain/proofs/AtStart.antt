@@ -1,21 +1,21 @@
 -- What is ahead of the start from moment 0 on is the whole plan: its greatest lengths, its evidence and what holds up its nodes.
-use Rattle.std.proofs.Common.{◌≡◌, ℕ, ◌+◌, ◌<◌, ◌≤◌, List, [], ◌∷◌, ◌++◌, Option, None, Some, inl, inr, arith, refl, sym, ap, subst, ◌∙◌}
+use Rattle.std.proofs.Common.{◌≡◌, ℕ, ◌+◌, ◌<◌, ◌≤◌, List, [], ◌∷◌, ◌++◌, Option, None, Some, inl, arith, refl, sym, ap, subst, ◌∙◌}
 use Rattle.shop_base.specs.declared.node.Node.{Node}
 use Rattle.shop_base.specs.Plan.{PlannedShop, jobs, release, IsWellShaped}
 use Rattle.shop_base.specs.Cell.{MachineState, cleaning, start, IsGone}
-use Rattle.shop_base.specs.Activity.{Activity, Arrival, Operation, Cleaning, GoesOn, IsAwaited}
-use Rattle.shop_base.specs.Graph.{node, leaving, IsNode, IsSchedule, MeetBudgets, Path, follows}
-use Rattle.shop_base.specs.Ahead.{next_node, HoldsUp, MeetBudgetsAhead, PathAhead, now, held, onward}
+use Rattle.shop_base.specs.Activity.{Activity, Arrival, Operation, Cleaning, GoesOn}
+use Rattle.shop_base.specs.Graph.{leaving, Path, follows}
+use Rattle.shop_base.specs.Ahead.{HoldsUp, PathAhead, now, held, onward}
 use Rattle.shop_base.specs.AheadLaw.{TheStartIsACase}
 use Rattle.shop_base.proofs.Visits.{visits_job}
 use Rattle.shop_base.proofs.InShop.{outside_in_shop, start_unused}
 use Rattle.shop_base.proofs.Keeping.{start-made, start-sound}
 use Rattle.shop_base.proofs.ControlledRuns.{start_not_ready}
 use Rattle.shop_base.proofs.StartAhead.{the_start_is_a_case-holds}
-use Rattle.alt_graph.specs.Times.{NodeTimes, earliest_of, AreOrdered, IsPathFromBy}
+use Rattle.alt_graph.specs.Times.{NodeTimes, earliest_of, AreOrdered}
 use Rattle.alt_graph.proofs.Paths.{path_begins, path_some, first_path}
 use Rattle.alt_graph.proofs.WholePlans.{times_ranks, path_by}
-use Rattle.plan_verifier.specs.Accepted.{IsGreatest, IsWithinBudget}
+use Rattle.plan_verifier.specs.Accepted.{IsGreatest}
 use Rattle.plan_verifier.specs.Verdicts.{IsFirstLate, IsReason}
 use Rattle.plan_verifier.specs.Rest.{AreOrderedAhead, IsGreatestAhead}
 use Rattle.plan_verifier.specs.RestVerdicts.{IsFirstLateAhead, IsReasonAhead}

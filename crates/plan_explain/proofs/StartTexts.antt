@@ -1,5 +1,5 @@
 -- The rest of a run that hasn't begun is told as the whole plan.
-use Rattle.std.proofs.Common.{◌≡◌, ℕ, zero, suc, ◌+◌, ◌<◌, ◌≤◌, List, [], ◌∷◌, ◌++◌, Option, None, Some, codes, decimal, get_or, if◌then◌else◌, inl, inr, arith, refl, sym, ap, subst, ◌∙◌}
+use Rattle.std.proofs.Common.{◌≡◌, ℕ, zero, suc, ◌<◌, ◌≤◌, List, [], ◌∷◌, ◌++◌, Option, None, Some, codes, decimal, if◌then◌else◌, inl, inr, arith, refl, sym, ap, subst, ◌∙◌}
 use Rattle.std.proofs.lemmas.Bool.{le-ltb}
 use Rattle.std.proofs.Math.Nat.{zero-max}
 use Rattle.shop_base.specs.declared.node.Node.{Node}
@@ -9,10 +9,9 @@ use Rattle.shop_base.specs.Cell.{Cell, start}
 use Rattle.shop_base.specs.Graph.{leaving, Path}
 use Rattle.shop_base.specs.Ahead.{PathAhead}
 use Rattle.shop_base.proofs.Keeping.{start-made}
-use Rattle.alt_graph.specs.Times.{NodeTimes}
 use Rattle.plan_verifier.specs.Accepted.{IsGreatest}
 use Rattle.plan_verifier.specs.Held.{IsBoundOf, later_than, overdue_at}
-use Rattle.plan_verifier.specs.Leavings.{IsMakespanAfter, LeavesLast}
+use Rattle.plan_verifier.specs.Leavings.{LeavesLast}
 use Rattle.plan_verifier.specs.declared.node_bound.Hold.{Hold}
 use Rattle.plan_verifier.specs.declared.node_bound.Hold.TheVariants.{Awaited}
 use Rattle.plan_verifier.specs.declared.node_bound.NodeBound.{NodeBound}
@@ -32,7 +31,7 @@ use Rattle.plan_explain.specs.Holds.{hold_words, overdue_words, bound_line}
 use Rattle.plan_explain.specs.RestChains.{AreRestChainLines}
 use Rattle.plan_explain.specs.RestLeavings.{gone_line, rest_leaving_line, rest_leaving_lines_below, rest_leaving_lines, AreRestLeavings}
 use Rattle.plan_explain.specs.RestFirstLines.{IsRestFirstLine}
-use Rattle.plan_explain.specs.RestExplained.{IsPathTextTo, IsLastChainText, AreRestMomentLines, AreRestBehind, IsRestExplained}
+use Rattle.plan_explain.specs.RestExplained.{IsLastChainText, AreRestBehind}
 use Rattle.plan_explain.specs.StartTexts.{said_of, TheRestOfTheStartIsToldAsThePlan}
 use Rattle.plan_explain.proofs.Moments.{moments_at, leavings-greatest, latest_makespan, accepted_told}
 use Rattle.plan_explain.proofs.RestPaths.{ahead_led}

@@ -1,15 +1,11 @@
 -- Texts from their parts.
-use Rattle.std.proofs.Common.{◌≡◌, ℕ, ◌<◌, ◌^◌, List, [], ◌∷◌, ◌++◌, Result, Ok, Err, OnOk, sym, ap, subst, ◌∙◌, arith}
+use Rattle.std.proofs.Common.{◌≡◌, ℕ, List, [], ◌++◌, Result, Ok, Err, OnOk, sym, ap, subst, ◌∙◌}
 use Rattle.std.proofs.lemmas.List.{append-nil, append_assoc}
-use Rattle.shop_base.specs.declared.node.Node.{Node}
-use Rattle.shop_base.specs.Plan.{PlannedShop, release, jobs, IsWellShaped}
-use Rattle.alt_graph.proofs.Paths.{path_begins}
+use Rattle.shop_base.specs.Plan.{PlannedShop}
 use Rattle.plan_verifier.specs.declared.verdict.Verdict.{Verdict}
 use Rattle.plan_verifier.specs.declared.verdict.Verdict.TheVariants.{Accepted, Refused}
 use Rattle.plan_verifier.specs.Verdicts.{OnRefused, IsReason}
 use Rattle.plan_explain.specs.Added.{Adds}
-use Rattle.plan_explain.specs.Chains.{IsPath, AreAlong, length_from, release_line, reached_lines, chain_lines}
-use Rattle.plan_explain.proofs.ArcFacts.{path_led}
 
 -- what is added may be written in another way
 pub on_ok_same : {T E : Type 0} (r : Result T E) (new one other : List ℕ) → one ≡ other → OnOk r (new ≡ one) → OnOk r (new ≡ other)

@@ -1,5 +1,8 @@
+pub mod SoonAhead
 pub mod Moments
 pub mod Texts
+pub mod RestAdded
 pub mod Behind
 pub mod Drawing
 pub mod ExactRun
+pub mod StartSchedule

@@ -2,8 +2,8 @@
 use Rattle.std.specs.Prelude.{◌≡◌, ℕ, ◌+◌, ◌*◌, ◌≤◌, Option, None, Some, IfSome}
 use Rattle.shop_base.specs.declared.node.Node.{Node}
 use Rattle.shop_base.specs.declared.limits.TheConstants.{MAX_JOBS, MAX_MACHINES, MAX_NOMINAL}
-use Rattle.shop_base.specs.Plan.{PlannedShop, steps}
-use Rattle.shop_base.specs.Graph.{IsNode, node}
+use Rattle.shop_base.specs.Plan.{PlannedShop}
+use Rattle.shop_base.specs.Graph.{IsNode}
 use Rattle.alt_graph.specs.Bounds.{MAX_BOUND}
 use Rattle.alt_graph.specs.Times.{NodeTimes, earliest_of, AreRanks}
 use Rattle.alt_graph.specs.Latest.{NodeMoments, HasMoment, moment_of}
@@ -48,10 +48,6 @@ IsCalendarOf p times deadlines c = c ≡ record { plan = p; times = times; deadl
 -- the moment of the node isn't later
 abbrev pub IsSoon : PlanCalendar → Node → Type 0
 IsSoon c v = earliest_of c.times v ≤ the_last_moment
-
--- so of each place of job j
-abbrev pub AreSoonOf : PlanCalendar → ℕ → Type 0
-AreSoonOf c j = (k : ℕ) → k ≤ steps c.plan j → IsSoon c (node j k)
 
 -- so of each node
 abbrev pub AreSoon : PlanCalendar → Type 0

@@ -5,4 +5,12 @@ pub mod Scheduled
 pub mod DrawnVisits
 pub mod AsTold
 pub mod ScheduleLaw
+-- The same of the rest of a run.
+pub mod RestLines
+pub mod RestSchedules
+pub mod RestScheduled
+-- The law that ties the two.
+pub mod StartSchedule
+-- Of proofs and private contracts alone.
 pub mod Calendars
+pub mod SoonAhead

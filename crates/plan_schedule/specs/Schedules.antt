@@ -49,14 +49,14 @@ module _ (p : PlannedShop) (at : Node → ℕ) (due : Node → Option ℕ) where
   abbrev pub IsVisitText : ℕ → ℕ → List ℕ → Type 0
   IsVisitText j k text = (behind : List ℕ) × IsCleaningText j k behind × (text ≡ visit_line (visit_of j k) ++ behind)
 
-  -- the lines of the first visits of job j, in the order of its route
-  pub data AreVisitTexts (j : ℕ) : ℕ → List ℕ → Type 0 where
-    no_visit : AreVisitTexts j 0 []
-    next_visit : (k : ℕ) (text more : List ℕ) → AreVisitTexts j k text → IsVisitText j k more → AreVisitTexts j (k + 1) (text ++ more)
+  -- the lines of job j's visits from one place of its route up to another
+  pub data AreVisitsFrom (j first : ℕ) : ℕ → List ℕ → Type 0 where
+    no_visit : AreVisitsFrom j first first []
+    next_visit : (k : ℕ) (text more : List ℕ) → AreVisitsFrom j first k text → IsVisitText j k more → AreVisitsFrom j first (k + 1) (text ++ more)
 
   -- the lines of job j
   abbrev pub IsJobText : ℕ → List ℕ → Type 0
-  IsJobText j text = (visits : List ℕ) × AreVisitTexts j (steps p j) visits × (text ≡ arrival_line j (release p j) (due (node j 0)) ++ visits)
+  IsJobText j text = (visits : List ℕ) × AreVisitsFrom j 0 (steps p j) visits × (text ≡ arrival_line j (release p j) (due (node j 0)) ++ visits)
 
   -- the lines of the first jobs, ascending
   pub data AreJobTexts : ℕ → List ℕ → Type 0 where

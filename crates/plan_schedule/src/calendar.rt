@@ -2,7 +2,7 @@
 
 ghost use Rattle.std.specs.Prelude.{◌≡◌, ◌+◌, ◌<◌, ◌≤◌, IfOk, MatchOption};
 ghost use Rattle.shop_base.specs.Shop.{step_at};
-ghost use Rattle.shop_base.specs.Plan.{jobs, steps, route, release};
+ghost use Rattle.shop_base.specs.Plan.{jobs, steps, route};
 ghost use Rattle.shop_base.specs.Graph.{IsNode, node};
 ghost use Rattle.alt_graph.specs.Times.{AreRanks, earliest_of};
 ghost use Rattle.plan_schedule.specs.Schedules.{visit_of, IsCleaning, IsCleaningDue, HasNoCleaning};
@@ -17,7 +17,7 @@ use std::marker::Model;
 /// A plan without a cycle, with a moment for each of its nodes, as in the exact run, and its deadlines if it is
 /// accepted. Or the same for the rest of a run; its passed nodes have moments that no line shows.
 #[derive(Drop)]
-pub struct Calendar<'a> {
+pub(crate) struct Calendar<'a> {
     graph: Graph<'a>,
     times: &'a Times,
     deadlines: Option<&'a Deadlines>,
@@ -35,7 +35,7 @@ impl<'a> Model for Calendar<'a> {
 
 impl<'a> Calendar<'a> {
     /// The calendar of a plan by these moments and deadlines. Fails only when out of memory.
-    pub fn new(
+    pub(crate) fn new(
         alloc: Global,
         shaped: &'a Shaped,
         times: &'a Times,
@@ -61,19 +61,11 @@ impl<'a> Calendar<'a> {
     }
 
     /// How many steps the job has.
-    pub fn steps(&self, job: JobNo) -> u32
+    pub(crate) fn steps(&self, job: JobNo) -> u32
         requires { job < jobs self.now.plan }
         ensures { result ≡ steps self.now.plan job }
     {
         self.graph.shaped().step_count(job)
-    }
-
-    /// The latest moment at which the job arrives.
-    pub(crate) fn release(&self, job: JobNo) -> Moment
-        requires { job < jobs self.now.plan }
-        ensures { result ≡ release self.now.plan job }
-    {
-        self.graph.shaped().release_of(job)
     }
 
     /// The job's visit by the step at a place of its route.
@@ -147,7 +139,7 @@ impl<'a> Calendar<'a> {
     }
 
     /// The moment of the node's move, in time units.
-    pub fn at(&self, node: Node) -> Moment
+    pub(crate) fn at(&self, node: Node) -> Moment
         requires { IsNode self.now.plan node }
         ensures { result ≡ earliest_of self.now.times node }
     {
@@ -158,7 +150,7 @@ impl<'a> Calendar<'a> {
     }
 
     /// The node's deadline, if the plan is accepted.
-    pub fn due(&self, node: Node) -> Option<Moment>
+    pub(crate) fn due(&self, node: Node) -> Option<Moment>
         requires { IsNode self.now.plan node }
         ensures { result ≡ due_at self.now node }
     {

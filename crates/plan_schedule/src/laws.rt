@@ -1,8 +1,9 @@
-//! The law of schedules: of the lines that `schedule` writes. Its ranks are there of each plan that is accepted or
+//! The laws of schedules: of the lines that `schedule` writes. Its ranks are there of each plan that is accepted or
 //! late, as `never_stuck` asks for them.
 
 // Nothing is done here: a function's contract is the law, so a check of this crate proves it.
 
+ghost use Rattle.plan_schedule.specs.StartSchedule.{TheRestOfTheStartIsScheduledAsThePlan};
 ghost use Rattle.plan_schedule.specs.ScheduleLaw.{SchedulesTellTheExactRun, SomeRunIsExact};
 
 /// Let the ranks rise along every arc, and let lines give the greatest length of a path to each node as its moment.
@@ -13,4 +14,9 @@ ghost use Rattle.plan_schedule.specs.ScheduleLaw.{SchedulesTellTheExactRun, Some
 pub fn schedules_tell_the_exact_run()
     ensures exact { SchedulesTellTheExactRun }
     ensures some { SomeRunIsExact }
+{}
+
+/// From the cell at the start and moment 0 on, a schedule of the rest of a run is one of the plan.
+pub fn the_rest_of_the_start_is_scheduled_as_the_plan()
+    ensures { TheRestOfTheStartIsScheduledAsThePlan }
 {}

@@ -1,16 +1,18 @@
 //! The schedule of a plan: when each job arrives, when each visit and each cleaning begins and ends in the exact
 //! run, and how late each may end.
+//!
+//! All is told of the rest of a run, from a cell and a present moment on; a whole plan is that of a run that hasn't begun.
 #![tactic(auto)]
 
 mod calendar;
 pub mod laws;
 mod lines;
 mod picture_visits;
+mod rest_lines;
+mod rest_schedules;
 mod schedules;
 mod scheduling;
 
-pub use calendar::Calendar;
-pub use lines::push_arrival_line;
 pub use picture_visits::drawn_visits;
+pub use rest_schedules::schedule_after;
 pub use schedules::schedule;
-pub use scheduling::{push_cleaning_behind, push_visit};

@@ -8,10 +8,10 @@ use shop_base::{JobNo, MachineNo, Moment};
 use std::alloc::AllocError;
 
 /// The room of a line, in bytes.
-const LINE_ROOM: usize = 200;
+pub(crate) const LINE_ROOM: usize = 200;
 
 /// A line of a schedule. All are shorter than its room.
-type Line = text_lines::LineText<LINE_ROOM>;
+pub(crate) type Line = text_lines::LineText<LINE_ROOM>;
 
 /// A visit of a job to a machine: when its operation begins and ends, its deadline, and when the job leaves.
 #[derive(Clone, Copy)]
@@ -34,7 +34,7 @@ pub(crate) struct Cleaning {
 }
 
 /// Adds `job J arrives R by D`, without ` by D` if there is no deadline.
-pub fn push_arrival_line(
+pub(crate) fn push_arrival_line(
     text: &mut Vec<u8>,
     job: JobNo,
     release: Moment,
@@ -86,8 +86,8 @@ pub(crate) fn push_cleaning_line(text: &mut Vec<u8>, cleaning: Cleaning) -> Resu
 }
 
 /// Writes the deadline, if there is one.
-fn put_due(line: &mut Line, due: Option<Moment>)
-    requires { length line.old ≤ 30 }
+pub(crate) fn put_due(line: &mut Line, due: Option<Moment>)
+    requires { length line.old ≤ 60 }
     ensures written { line.new ≡ due_words due ++ line.old }
     ensures length { length line.new ≤ 24 + length line.old }
 {
@@ -101,7 +101,7 @@ fn put_due(line: &mut Line, due: Option<Moment>)
 }
 
 /// Adds the line.
-fn push_line(text: &mut Vec<u8>, line: &Line) -> Result<(), AllocError>
+pub(crate) fn push_line(text: &mut Vec<u8>, line: &Line) -> Result<(), AllocError>
     ensures { OnOk result (text.new.items ≡ text.old.items ++ line.now) }
 {
     text.extend_from_slice(line.bytes())?;

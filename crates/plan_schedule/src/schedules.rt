@@ -1,14 +1,13 @@
-//! The schedule of a verdict.
+//! The schedule of the verdict on a plan: that of the rest of a run that hasn't begun.
 
 ghost use Rattle.std.specs.Prelude.{IfOk, OnOk};
-ghost use Rattle.alt_graph.specs.Times.{AreOrdered};
 ghost use Rattle.plan_verifier.specs.Verdicts.{OnRefused, IsReason};
+ghost use Rattle.plan_verifier.specs.declared.verdict.Verdict.TheVariants.{Refused};
 ghost use Rattle.plan_explain.specs.Added.{Adds};
-ghost use Rattle.plan_schedule.specs.Scheduled.{AreLinesInTime, AreLateLines, AreScheduledBehind, IsScheduled};
+ghost use Rattle.plan_schedule.specs.Scheduled.{AreLinesInTime, AreScheduledBehind, IsScheduled};
 
-use crate::calendar::Calendar;
-use crate::scheduling::push_jobs;
-use alt_graph::{Times, latest_moments};
+use crate::rest_schedules::{push_lines_in_time, push_refused_lines};
+use cell_tables::WorkCell;
 use plan_explain::first_line;
 use plan_verifier::{Verdict, Verified, Why};
 use shop_base::Shaped;
@@ -24,52 +23,38 @@ pub fn schedule(alloc: Global, verdict: &Verdict) -> Result<Vec<u8>, AllocError>
     ensures { IfOk result (λ text. IsScheduled verdict.now text.items) }
 {
     let mut text = first_line(alloc, verdict)?;
-    push_lines_behind(alloc, &mut text, verdict)?;
+    match verdict {
+        Verdict::Accepted(verified) => push_verified_lines(alloc, &mut text, verified)?,
+        Verdict::Refused(shaped, why) => push_late_lines(alloc, &mut text, shaped, why)?,
+    }
     Ok(text)
 }
 
-/// Adds the lines after the first one.
-fn push_lines_behind(alloc: Global, text: &mut Vec<u8>, verdict: &Verdict) -> Result<(), AllocError>
-    requires { OnRefused IsReason verdict.now }
-    ensures { OnOk result (Adds (AreScheduledBehind verdict.now) text.old.items text.new.items) }
-{
-    match verdict {
-        Verdict::Accepted(verified) => push_accepted_lines(alloc, text, verified),
-        Verdict::Refused(_, Why::Cycle(_)) => Ok(()),
-        Verdict::Refused(
-            shaped,
-            Why::Late {
-                job: _,
-                leaves: _,
-                chain: _,
-                times,
-            },
-        ) => push_late_lines(alloc, text, shaped, times),
-    }
-}
-
-fn push_accepted_lines(
+fn push_verified_lines(
     alloc: Global,
     text: &mut Vec<u8>,
     verified: &Verified,
 ) -> Result<(), AllocError>
     ensures { OnOk result (Adds (AreLinesInTime verified.now.planned) text.old.items text.new.items) }
 {
-    let (shaped, times) = (verified.shaped(), verified.times());
-    let deadlines = latest_moments(alloc, shaped, times)?;
-    let calendar = Calendar::new(alloc, shaped, times, Some(&deadlines))?;
-    push_jobs(text, &calendar)
+    match WorkCell::start(alloc, verified.shaped()) {
+        Ok(cell) => push_lines_in_time(alloc, text, &cell, 0, verified.times()),
+        Err((error, _)) => Err(error),
+    }
 }
 
-fn push_late_lines<'a>(
+/// Adds the lines of a plan that is refused for a late job; none if it is for a cycle.
+fn push_late_lines(
     alloc: Global,
     text: &mut Vec<u8>,
-    shaped: &'a Shaped,
-    times: &'a Times,
+    shaped: &Shaped,
+    why: &Why,
 ) -> Result<(), AllocError>
-    requires { AreOrdered shaped.now times.now }
-    ensures { OnOk result (Adds (AreLateLines shaped.now) text.old.items text.new.items) }
+    requires { IsReason shaped.now why.now }
+    ensures { OnOk result (Adds (AreScheduledBehind (Refused shaped.now why.now)) text.old.items text.new.items) }
 {
-    let calendar = Calendar::new(alloc, shaped, times, None)?;
-    push_jobs(text, &calendar)
+    match WorkCell::start(alloc, shaped) {
+        Ok(cell) => push_refused_lines(alloc, text, &cell, 0, why),
+        Err((error, _)) => Err(error),
+    }
 }

@@ -3,7 +3,7 @@
 use super::rests::planned;
 use cell_tables::WorkCell;
 use plan_explain::explain_after;
-use rest_texts::schedule_after;
+use plan_schedule::schedule_after;
 use plan_verifier::verify_after;
 use run_gantt::drawn_visits;
 use run_log::run_of_log;

@@ -1,6 +1,4 @@
-use Rattle.std.proofs.Common.{◌≡◌, ap}
-use Rattle.shop_base.specs.Plan.{PlannedShop}
-use Rattle.shop_base.specs.Cell.{start}
+use Rattle.std.proofs.Common.{ap}
 use Rattle.plan_verifier.specs.declared.verdict.Judged.TheVariants.{Refused}
 use Rattle.plan_verifier.specs.declared.verdict.Verdict.TheVariants.{Refused as RefusedPlan}
 use Rattle.plan_explain.specs.Explained.{AreBehind}

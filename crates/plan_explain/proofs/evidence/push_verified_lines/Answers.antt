@@ -1,4 +1,3 @@
-use Rattle.std.proofs.Common.{◌≡◌, ap, ◌∙◌}
 use Rattle.shop_base.specs.Cell.{start}
 use Rattle.plan_verifier.specs.declared.verdict.Judged.TheVariants.{Accepted}
 use Rattle.plan_explain.specs.Explained.{AreAcceptedLines}

@@ -1,8 +1,7 @@
 use Rattle.std.proofs.Common.{None}
 use Rattle.alt_graph.proofs.WholePlans.{times_ranks}
 use Rattle.plan_schedule.specs.Calendars.{IsCalendarOf}
-use Rattle.plan_schedule.proofs.Moments.{are_soon}
-use Rattle.plan_schedule.proofs.Behind.{are_earliest}
+use Rattle.plan_schedule.proofs.Moments.{are_soon, are_earliest}
 use Rattle.plan_schedule.proofs.Drawing.{drawn_by}
 use Rattle.plan_schedule.proofs.picture_visits.drawn_visits.Goals as goal
 

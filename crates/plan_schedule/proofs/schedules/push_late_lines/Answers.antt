@@ -1,18 +1,23 @@
-use Rattle.plan_schedule.specs.Scheduled.{AreLateLines}
-use Rattle.alt_graph.proofs.WholePlans.{times_ranks}
-use Rattle.plan_schedule.proofs.Moments.{are_soon}
-use Rattle.plan_schedule.proofs.Texts.{on_ok_adds}
-use Rattle.plan_schedule.proofs.Behind.{AreLinesBy, late}
+use Rattle.std.proofs.Common.{ap}
+use Rattle.plan_verifier.specs.declared.verdict.Judged.TheVariants.{Refused}
+use Rattle.plan_verifier.specs.declared.verdict.Verdict.TheVariants.{Refused as RefusedPlan}
+use Rattle.plan_explain.proofs.StartTexts.{reason_there}
+use Rattle.plan_explain.proofs.Texts.{on_ok_each}
+use Rattle.plan_schedule.specs.Scheduled.{AreScheduledBehind}
+use Rattle.plan_schedule.specs.RestScheduled.{AreRestScheduledBehind}
+use Rattle.plan_schedule.proofs.StartSchedule.{at_once, late_told}
 use Rattle.plan_schedule.proofs.schedules.push_late_lines.Goals as goal
 
-pub new-requires-clause-ranks : goal.new-requires-clause-ranks
-new-requires-clause-ranks c = times_ranks _ _ c.requires.times
+pub push_refused_lines-requires-clause-present : goal.push_refused_lines-requires-clause-present
+push_refused_lines-requires-clause-present c = rw c.in-Ok.ensures.start (at_once c.args.shaped.now)
 
-pub push_jobs-requires : goal.push_jobs-requires
-push_jobs-requires c = are_soon c.args.shaped.now c.args.times.now c.requires _ c.in_ok-calendar.calendar c.in_ok-calendar.ensures
+pub push_refused_lines-requires-clause-reason : goal.push_refused_lines-requires-clause-reason
+push_refused_lines-requires-clause-reason c =
+    reason_there c.args.shaped.now c.in-Ok.cell.plan c.in-Ok.cell.cell (ap (λ x. x.plan) c.in-Ok.ensures.start) (ap (λ x. x.cell) c.in-Ok.ensures.start) c.args.why.now c.requires
 
-pub returns : goal.returns
-returns c =
-    let calendar = c.in_ok-calendar.calendar in
-    on_ok_adds (AreLinesBy calendar) (AreLateLines c.args.shaped.now) c.push_jobs.result _ _ _
-    (late c.args.shaped.now c.args.times.now calendar c.in_ok-calendar.ensures c.requires _ _) c.push_jobs.ensures
+pub returns-in-Ok : goal.returns-in-Ok
+returns-in-Ok c =
+    let why = c.args.why.now in
+    on_ok_each (AreRestScheduledBehind c.in-Ok.cell.plan c.in-Ok.cell.cell 0 (Refused why)) (AreScheduledBehind (RefusedPlan c.args.shaped.now why)) c.push_refused_lines.result _ _
+    (late_told c.args.shaped.now c.in-Ok.cell.plan c.in-Ok.cell.cell (ap (λ x. x.plan) c.in-Ok.ensures.start) (ap (λ x. x.cell) c.in-Ok.ensures.start) why c.requires)
+    c.push_refused_lines.ensures

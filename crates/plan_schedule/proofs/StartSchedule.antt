@@ -1,0 +1,92 @@
+-- The rest of a run that hasn't begun is scheduled as the whole plan.
+use Rattle.std.proofs.Common.{◌≡◌, ℕ, ◌<◌, ◌≤◌, List, [], ◌++◌, Option, None, Some, max, if◌then◌else◌, inl, inr, arith, refl, sym, ap, subst, ◌∙◌}
+use Rattle.std.proofs.Math.Nat.{max-zero}
+use Rattle.std.proofs.lemmas.List.{append-nil}
+use Rattle.shop_base.specs.declared.node.Node.{Node}
+use Rattle.shop_base.specs.Plan.{PlannedShop, jobs, machines, release, IsWellShaped}
+use Rattle.shop_base.specs.Cell.{Cell, start}
+use Rattle.shop_base.specs.Report.{IsNextMoment}
+use Rattle.shop_base.specs.Graph.{node}
+use Rattle.shop_base.proofs.Keeping.{start-made}
+use Rattle.shop_base.proofs.ControlledRuns.{start_not_ready}
+use Rattle.plan_verifier.specs.Verdicts.{IsReason}
+use Rattle.plan_verifier.specs.declared.verdict.Judged.{Judged}
+use Rattle.plan_verifier.specs.declared.verdict.Judged.TheVariants.{Accepted, Refused}
+use Rattle.plan_verifier.specs.declared.verdict.Why.{Why}
+use Rattle.plan_verifier.specs.declared.verdict.Why.TheVariants.{Cycle, Late}
+use Rattle.plan_explain.specs.StartTexts.{said_of}
+use Rattle.plan_explain.proofs.AtStart.{start_clean, nobody_gone, greatest_to}
+use Rattle.plan_explain.proofs.StartTexts.{first_line_told}
+use Rattle.plan_schedule.specs.Lines.{arrival_line}
+use Rattle.plan_schedule.specs.Schedules.{IsJobText, AreJobTexts, no_job, next_job, AreScheduleLines}
+use Rattle.plan_schedule.specs.Scheduled.{AreEarliest, AreScheduledBehind}
+use Rattle.plan_schedule.specs.RestLines.{arrived_line}
+use Rattle.plan_schedule.specs.RestSchedules.{arrival_after, AreCleanedTexts, no_machine, next_machine, IsRestJobText, AreRestJobTexts, no_job as no_rest_job, next_job as next_rest_job, AreRestLines}
+use Rattle.plan_schedule.specs.RestScheduled.{AreRestMoments, AreRestScheduledBehind}
+use Rattle.plan_schedule.specs.StartSchedule.{TheRestOfTheStartIsScheduledAsThePlan}
+
+-- moment 0 can be the next moment of the start
+pub at_once : (p : PlannedShop) → IsNextMoment (start p) 0
+at_once p = record { in_order = omega arith; in_range = omega arith }
+
+-- no cleaning goes on there
+none_cleaned : (p : PlannedShop) (due : Node → Option ℕ) (n : ℕ) (text : List ℕ) → AreCleanedTexts p (start p) 0 due n text → text ≡ []
+none_cleaned p due _ _ no_machine = refl
+none_cleaned p due _ _ (next_machine m text more are is) = elim is [
+  | inl (none, empty) ↦ ap (λ l. text ++ l) empty ∙ append-nil text ∙ none_cleaned p due m text are
+  | inr (s, some, cleaned, is_cleaned, line) ↦ absurd (cc (start_clean p m, some))
+]
+
+module _ (p : PlannedShop) (shaped : IsWellShaped p) where
+  earliest_told : (moments : Node → ℕ) → AreRestMoments p (start p) 0 moments → AreEarliest p moments
+  earliest_told moments are v is = greatest_to p shaped v (moments v) (are v is (omega (arith, start-made p v.job is.job)))
+
+  module _ (at : Node → ℕ) (due : Node → Option ℕ) where
+    arrival_told : (j : ℕ) → arrival_after p (start p) 0 due j ≡ arrival_line j (release p j) (due (node j 0))
+    arrival_told j =
+        ap (λ yes. if yes then arrived_line j else arrival_line j (max (release p j) 0) (due (node j 0))) (start_not_ready p j)
+        ∙ ap (λ n. arrival_line j n (due (node j 0))) (max-zero (release p j))
+
+    job_told : (j : ℕ) (text : List ℕ) → j < jobs p → IsRestJobText p (start p) 0 at due j text → IsJobText p at due j text
+    job_told j text inside (inl (gone, is)) = absurd (nobody_gone p shaped j inside gone)
+    job_told j text inside (inr (inl (outside, visits, are, is))) = (visits, are, is ∙ ap (λ l. l ++ visits) (arrival_told j))
+    job_told j text inside (inr (inr here)) = absurd (omega (arith, here.entered, start-made p j inside))
+
+    jobs_told : (n : ℕ) (text : List ℕ) → n ≤ jobs p → AreRestJobTexts p (start p) 0 at due n text → AreJobTexts p at due n text
+    jobs_told _ _ within no_rest_job = no_job
+    jobs_told _ _ within (next_rest_job j text more are is) = next_job j text more (jobs_told j text (omega arith) are) (job_told j more (omega arith) is)
+
+    lines_told : (lines : List ℕ) → AreRestLines p (start p) 0 at due lines → AreScheduleLines p at due lines
+    lines_told lines are =
+        subst (AreScheduleLines p at due)
+        (sym (are.both ∙ ap (λ l. are.jobs_told ++ l) (none_cleaned p due (machines p) are.cleanings_told are.going_on) ∙ append-nil are.jobs_told))
+        (jobs_told (jobs p) are.jobs_told (omega arith) are.are)
+
+  pub behind_told : (verdict : Judged) (lines : List ℕ) → AreRestScheduledBehind p (start p) 0 verdict lines → AreScheduledBehind (said_of p verdict) lines
+  behind_told (Accepted times) lines are = record {
+    moments = are.moments;
+    earliest = earliest_told are.moments are.earliest;
+    dues = are.dues;
+    deadlines = are.deadlines;
+    are = lines_told are.moments (λ v. Some (are.dues v)) lines are.are;
+  }
+  behind_told (Refused (Cycle nodes)) lines none = none
+  behind_told (Refused (Late job leaves chain times)) lines are = record {
+    moments = are.moments;
+    earliest = earliest_told are.moments are.earliest;
+    are = lines_told are.moments (λ v. None) lines are.are;
+  }
+
+-- of a refusal, at a cell that is the start
+module _ (p q : PlannedShop) (c : Cell) (same : q ≡ p) (at : c ≡ start p) (why : Why) (reason : IsReason p why) where
+  told_why : (w : Why) → IsReason p w → (lines : List ℕ) → AreRestScheduledBehind p (start p) 0 (Refused w) lines → AreScheduledBehind (said_of p (Refused w)) lines
+  told_why (Cycle nodes) cycle lines none = none
+  told_why (Late job leaves chain times) late lines are = behind_told p late.1.times.schedule.shaped (Refused (Late job leaves chain times)) lines are
+
+  pub late_told : (lines : List ℕ) → AreRestScheduledBehind q c 0 (Refused why) lines → AreScheduledBehind (said_of p (Refused why)) lines
+  late_told lines are =
+      told_why why reason lines (subst (λ (x : Cell). AreRestScheduledBehind p x 0 (Refused why) lines) at (subst (λ (x : PlannedShop). AreRestScheduledBehind x c 0 (Refused why) lines) same are))
+
+pub the_rest_of_the_start_is_scheduled_as_the_plan-holds : TheRestOfTheStartIsScheduledAsThePlan
+the_rest_of_the_start_is_scheduled_as_the_plan-holds p verdict text shaped is =
+    record { first = is.first; is = first_line_told p shaped verdict is.first is.is; behind = is.behind; are = behind_told p shaped verdict is.behind is.are; both = is.both }

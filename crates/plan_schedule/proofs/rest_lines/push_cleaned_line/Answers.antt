@@ -1,0 +1,18 @@
+use Rattle.std.proofs.Common.{◌≡◌, ◌++◌, refl, ap}
+use Rattle.plan_explain.proofs.Texts.{on_ok_same}
+use Rattle.plan_schedule.specs.RestLines.{cleaned_line}
+use Rattle.plan_schedule.proofs.rest_lines.push_cleaned_line.Goals as goal
+
+pub returns : goal.returns
+returns c =
+    let line : c.put_text-3.new.self ≡ cleaned_line c.args.cleaned = rw (
+      c.put_text-3.ensures.written,
+      c.put_short_number.ensures.written,
+      c.put_text-2.ensures.written,
+      c.put_number-2.ensures.written,
+      c.put_text.ensures.written,
+      c.put_number.ensures.written,
+      c.put_due.ensures.written,
+      c.ended-line.ensures,
+    ) refl in
+    on_ok_same c.push_line.result c.push_line.new.text.items _ _ (ap (λ l. c.args.text.now.items ++ l) line) c.push_line.ensures

@@ -1,0 +1,132 @@
+//! The schedule of the rest of a run.
+
+ghost use Rattle.std.specs.Prelude.{IfOk, OnOk};
+ghost use Rattle.shop_base.specs.Report.{IsNextMoment};
+ghost use Rattle.shop_base.specs.Ahead.{MeetBudgetsAhead};
+ghost use Rattle.alt_graph.specs.Times.{earliest_of};
+ghost use Rattle.plan_explain.specs.Added.{Adds};
+ghost use Rattle.plan_schedule.specs.Calendars.{HasDeadlines, seen, due_in};
+ghost use Rattle.plan_verifier.specs.declared.verdict.Judged.TheVariants.{Refused};
+ghost use Rattle.plan_verifier.specs.Rest.{AreOrderedAhead};
+ghost use Rattle.plan_verifier.specs.RestVerdicts.{IsReasonAhead};
+ghost use Rattle.plan_explain.specs.RestVerdicts.{IsRestJudged};
+ghost use Rattle.plan_schedule.specs.SoonAhead.{AreBegun};
+ghost use Rattle.plan_schedule.specs.RestSchedules.{AreRestLines};
+ghost use Rattle.plan_schedule.specs.RestScheduled.{AreRestLinesInTime, AreRestScheduledBehind, IsRestScheduled};
+
+use crate::calendar::Calendar;
+use crate::scheduling::{push_cleanings, push_jobs};
+use alt_graph::{Deadlines, Times};
+use cell_tables::WorkCell;
+use plan_explain::first_line_after;
+use plan_verifier::{Judged, Why, deadlines_after};
+use shop_base::{Moment, Planned};
+use std::alloc::{AllocError, Global};
+
+/// When what is left of a run begins and ends, and how late it may end, from a cell and the present moment on: after
+/// the verdict's first line the lines of each job in ascending order, and then the lines of the cleanings that go on.
+/// What is overdue is taken to end at the present moment. Moments are whole time units, the earliest for each move
+/// ahead. If the rest is accepted, the deadlines follow them. A plan with a cycle has only its first line.
+pub fn schedule_after<P: Planned>(
+    alloc: Global,
+    cell: &WorkCell<P>,
+    present: Moment,
+    verdict: &Judged,
+) -> Result<Vec<u8>, AllocError>
+    requires present { IsNextMoment cell.now.cell present }
+    requires judged { IsRestJudged cell.now.plan cell.now.cell present verdict.now }
+    ensures { IfOk result (λ text. IsRestScheduled cell.now.plan cell.now.cell present verdict.now text.items) }
+{
+    let mut text = first_line_after(alloc, cell, verdict)?;
+    push_lines_behind(alloc, &mut text, cell, present, verdict)?;
+    Ok(text)
+}
+
+/// Adds the lines after the first one.
+fn push_lines_behind<P: Planned>(
+    alloc: Global,
+    text: &mut Vec<u8>,
+    cell: &WorkCell<P>,
+    present: Moment,
+    verdict: &Judged,
+) -> Result<(), AllocError>
+    requires present { IsNextMoment cell.now.cell present }
+    requires judged { IsRestJudged cell.now.plan cell.now.cell present verdict.now }
+    ensures { OnOk result (Adds (AreRestScheduledBehind cell.now.plan cell.now.cell present verdict.now) text.old.items text.new.items) }
+{
+    match verdict {
+        Judged::Accepted(times) => push_lines_in_time(alloc, text, cell, present, times),
+        Judged::Refused(why) => push_refused_lines(alloc, text, cell, present, why),
+    }
+}
+
+pub(crate) fn push_refused_lines<P: Planned>(
+    alloc: Global,
+    text: &mut Vec<u8>,
+    cell: &WorkCell<P>,
+    present: Moment,
+    why: &Why,
+) -> Result<(), AllocError>
+    requires present { IsNextMoment cell.now.cell present }
+    requires reason { IsReasonAhead cell.now.plan cell.now.cell present (Refused why.now) }
+    ensures { OnOk result (Adds (AreRestScheduledBehind cell.now.plan cell.now.cell present (Refused why.now)) text.old.items text.new.items) }
+{
+    match why {
+        Why::Cycle(_) => Ok(()),
+        Why::Late {
+            job: _,
+            leaves: _,
+            chain: _,
+            times,
+        } => push_lines(alloc, text, cell, present, times, None),
+    }
+}
+
+pub(crate) fn push_lines_in_time<P: Planned>(
+    alloc: Global,
+    text: &mut Vec<u8>,
+    cell: &WorkCell<P>,
+    present: Moment,
+    times: &Times,
+) -> Result<(), AllocError>
+    requires present { IsNextMoment cell.now.cell present }
+    requires ordered { AreOrderedAhead cell.now.plan cell.now.cell present times.now }
+    requires budgets { MeetBudgetsAhead cell.now.plan cell.now.cell (earliest_of times.now) }
+    ensures { OnOk result (Adds (AreRestLinesInTime cell.now.plan cell.now.cell present) text.old.items text.new.items) }
+{
+    let deadlines = deadlines_after(alloc, cell, times)?;
+    push_lines(alloc, text, cell, present, times, Some(&deadlines))
+}
+
+/// Adds the lines of all jobs and of the cleanings that go on, by these moments and deadlines.
+fn push_lines<'a, P: Planned>(
+    alloc: Global,
+    text: &mut Vec<u8>,
+    cell: &'a WorkCell<P>,
+    present: Moment,
+    times: &'a Times,
+    deadlines: Option<&'a Deadlines>,
+) -> Result<(), AllocError>
+    requires present { IsNextMoment cell.now.cell present }
+    requires ordered { AreOrderedAhead cell.now.plan cell.now.cell present times.now }
+    requires deadlines { HasDeadlines cell.now.plan (seen deadlines (λ d. d.now)) }
+    ensures { OnOk result (Adds (AreRestLines cell.now.plan cell.now.cell present (earliest_of times.now) (due_in (seen deadlines.entry (λ d. d.now))))
+        text.old.items text.new.items) }
+{
+    // Called for its clause alone: sums with these moments fit.
+    cleanings_in_range(cell);
+    let calendar = Calendar::new(alloc, cell.shaped(), times, deadlines)?;
+    push_jobs(text, cell, present, &calendar)?;
+    push_cleanings(text, cell, present, &calendar)
+}
+
+/// The cleanings that go on began at moments within the limit.
+fn cleanings_in_range<P: Planned>(cell: &WorkCell<P>)
+    ensures { AreBegun cell.now.cell }
+{
+    // Called for its clause alone: the cell is sound.
+    let _plan = cell.shaped();
+    for machine in 0..cell.machine_count() {
+        let _since = cell.cleaned_since(machine);
+    }
+}

@@ -1,3 +1,0 @@
-pub mod RestAdded
-pub mod SoonAhead
-pub mod RestBehind
