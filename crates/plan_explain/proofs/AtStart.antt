@@ -59,6 +59,9 @@ module _ (p : PlannedShop) (shaped : IsWellShaped p) where
   greatest_from v n is = (let (nodes, path) = is.reached in
       record { reached = (nodes, case.path nodes v n path); longest = λ all k other. no_longer all v n k is other })
 
+  pub path_ahead : (nodes : List Node) (v : Node) (n : ℕ) → Path p nodes v n → PathAhead p (start p) 0 nodes v n
+  path_ahead = case.path
+
   -- ---- what holds up a node is the arrival of its job, which is due at its release
 
   pub held_first : (h : Hold) (due : Option ℕ) (v : Node) → IsHeldBy p (start p) h due v → (v.place ≡ 0) × (v.job < jobs p) × (h ≡ Awaited v.job) × (due ≡ Some (release p v.job))

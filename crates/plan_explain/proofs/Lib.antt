@@ -7,3 +7,4 @@ pub mod RestTexts
 pub mod RestPaths
 pub mod AtStart
 pub mod StartTexts
+pub mod BackToTheRest

@@ -32,13 +32,13 @@ use Rattle.plan_explain.specs.RestChains.{AreRestChainLines}
 use Rattle.plan_explain.specs.RestLeavings.{gone_line, rest_leaving_line, rest_leaving_lines_below, rest_leaving_lines, AreRestLeavings}
 use Rattle.plan_explain.specs.RestFirstLines.{IsRestFirstLine}
 use Rattle.plan_explain.specs.RestExplained.{IsLastChainText, AreRestBehind}
-use Rattle.plan_explain.specs.StartTexts.{said_of, TheRestOfTheStartIsToldAsThePlan}
+use Rattle.plan_explain.specs.StartTexts.{said_of}
 use Rattle.plan_explain.proofs.Moments.{moments_at, leavings-greatest, latest_makespan, accepted_told}
 use Rattle.plan_explain.proofs.RestPaths.{ahead_led}
 use Rattle.plan_explain.proofs.AtStart.{nobody_gone, greatest_to, held_first, path_along, reason_ahead}
 
 -- the line of a node that waits for its job's release
-release_told : (p : PlannedShop) (u : Node) (m : ℕ) (h : Hold) (o : Option ℕ) → m ≡ release p u.job → h ≡ Awaited u.job → o ≡ None
+pub release_told : (p : PlannedShop) (u : Node) (m : ℕ) (h : Hold) (o : Option ℕ) → m ≡ release p u.job → h ≡ Awaited u.job → o ≡ None
     → before (decimal m ∷ codes " " ∷ node_text u ∷ codes " " ∷ []) (before (hold_words h) (overdue_words o ++ codes "\n")) ≡ release_line (release p u.job) u
 release_told p u m h o at holds none = rw (at, holds, none) refl
 
@@ -149,9 +149,3 @@ module _ (p q : PlannedShop) (c : Cell) (same : q ≡ p) (at : c ≡ start p) (w
   pub evidence_told : (lines : List ℕ) → AreRestBehind q c 0 (Refused why) lines → AreBehind (said_of p (Refused why)) lines
   evidence_told lines are =
       told_why why reason lines (subst (λ (x : Cell). AreRestBehind p x 0 (Refused why) lines) at (subst (λ (x : PlannedShop). AreRestBehind x c 0 (Refused why) lines) same are))
-
-pub the_rest_of_the_start_is_told_as_the_plan-holds : TheRestOfTheStartIsToldAsThePlan
-the_rest_of_the_start_is_told_as_the_plan-holds p verdict text shaped = (
-  first_line_told p shaped verdict text,
-  λ is. record { first = is.first; is = first_line_told p shaped verdict is.first is.is; behind = is.behind; are = behind_told p shaped verdict is.behind is.are; both = is.both },
-)

@@ -1,5 +1,5 @@
 -- The law of the start: of a run that hasn't begun the rest is told as the whole plan.
-use Rattle.std.specs.Prelude.{ℕ, List}
+use Rattle.std.specs.Prelude.{◌↔◌, ℕ, List}
 use Rattle.shop_base.specs.Plan.{PlannedShop, IsWellShaped}
 use Rattle.shop_base.specs.Cell.{start}
 use Rattle.plan_verifier.specs.declared.verdict.Judged.{Judged}
@@ -9,6 +9,7 @@ use Rattle.plan_verifier.specs.declared.verdict.Verdict.TheVariants.{Accepted, R
 use Rattle.plan_explain.specs.FirstLines.{IsFirstLine}
 use Rattle.plan_explain.specs.Explained.{IsExplained}
 use Rattle.plan_explain.specs.RestFirstLines.{IsRestFirstLine}
+use Rattle.plan_explain.specs.RestVerdicts.{IsRestJudged}
 use Rattle.plan_explain.specs.RestExplained.{IsRestExplained}
 
 -- a verdict on the rest, said of the whole plan
@@ -16,7 +17,7 @@ abbrev pub said_of : PlannedShop → Judged → Verdict
 said_of p (AcceptedRest times) = Accepted (record { planned = p; times = times })
 said_of p (RefusedRest why) = Refused p why
 
--- what is told of the rest from the start and moment 0 on is told of the plan: the first line, which a verdict has but once, and an explanation
+-- of a verdict on the rest from the start and moment 0 on the same is told as of the plan: its first line is the plan's, and its explanations are the plan's
 abbrev pub TheRestOfTheStartIsToldAsThePlan : Type 0
-TheRestOfTheStartIsToldAsThePlan = (p : PlannedShop) (verdict : Judged) (text : List ℕ) → IsWellShaped p
-    → (IsRestFirstLine p (start p) 0 verdict text → IsFirstLine (said_of p verdict) text) × (IsRestExplained p (start p) 0 verdict text → IsExplained (said_of p verdict) text)
+TheRestOfTheStartIsToldAsThePlan = (p : PlannedShop) (verdict : Judged) (text : List ℕ) → IsWellShaped p → IsRestJudged p (start p) 0 verdict
+    → (IsRestFirstLine p (start p) 0 verdict text ↔ IsFirstLine (said_of p verdict) text) × (IsRestExplained p (start p) 0 verdict text ↔ IsExplained (said_of p verdict) text)

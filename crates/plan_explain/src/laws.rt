@@ -36,8 +36,8 @@ pub fn a_verdict_has_one_first_line()
     ensures { AVerdictHasOneFirstLine }
 {}
 
-/// From the cell at the start and moment 0 on, what is told of the rest of a run is told of the plan: the first line of
-/// its verdict, so the very same one, and an explanation.
+/// From the cell at the start and moment 0 on, just what is told of the plan is told of the rest of a run: the same first
+/// line, and the same explanations.
 pub fn the_rest_of_the_start_is_told_as_the_plan()
     ensures { TheRestOfTheStartIsToldAsThePlan }
 {}

@@ -1,5 +1,5 @@
 -- The rest of a run that hasn't begun is scheduled as the whole plan.
-use Rattle.std.proofs.Common.{◌≡◌, ℕ, ◌<◌, ◌≤◌, List, [], ◌++◌, Option, None, Some, max, if◌then◌else◌, inl, inr, arith, refl, sym, ap, subst, ◌∙◌}
+use Rattle.std.proofs.Common.{◌≡◌, ℕ, zero, suc, ◌<◌, ◌≤◌, List, [], ◌++◌, Option, None, Some, max, if◌then◌else◌, inl, inr, arith, refl, sym, ap, subst, ◌∙◌}
 use Rattle.std.proofs.Math.Nat.{max-zero}
 use Rattle.std.proofs.lemmas.List.{append-nil}
 use Rattle.shop_base.specs.declared.node.Node.{Node}
@@ -15,8 +15,9 @@ use Rattle.plan_verifier.specs.declared.verdict.Judged.TheVariants.{Accepted, Re
 use Rattle.plan_verifier.specs.declared.verdict.Why.{Why}
 use Rattle.plan_verifier.specs.declared.verdict.Why.TheVariants.{Cycle, Late}
 use Rattle.plan_explain.specs.StartTexts.{said_of}
-use Rattle.plan_explain.proofs.AtStart.{start_clean, nobody_gone, greatest_to}
+use Rattle.plan_explain.proofs.AtStart.{start_clean, nobody_gone, greatest_to, greatest_from}
 use Rattle.plan_explain.proofs.StartTexts.{first_line_told}
+use Rattle.plan_explain.proofs.BackToTheRest.{first_line_back}
 use Rattle.plan_schedule.specs.Lines.{arrival_line}
 use Rattle.plan_schedule.specs.Schedules.{IsJobText, AreJobTexts, no_job, next_job, AreScheduleLines}
 use Rattle.plan_schedule.specs.Scheduled.{AreEarliest, AreScheduledBehind}
@@ -87,6 +88,50 @@ module _ (p q : PlannedShop) (c : Cell) (same : q ≡ p) (at : c ≡ start p) (w
   late_told lines are =
       told_why why reason lines (subst (λ (x : Cell). AreRestScheduledBehind p x 0 (Refused why) lines) at (subst (λ (x : PlannedShop). AreRestScheduledBehind x c 0 (Refused why) lines) same are))
 
+-- ---- and what is scheduled of the plan is scheduled of the rest
+
+clean_lines : (p : PlannedShop) (due : Node → Option ℕ) (n : ℕ) → AreCleanedTexts p (start p) 0 due n []
+clean_lines p due zero = no_machine
+clean_lines p due (suc m) = subst (λ (n : ℕ). AreCleanedTexts p (start p) 0 due n []) (omega arith) (next_machine m [] [] (clean_lines p due m) (inl (start_clean p m, refl)))
+
+module _ (p : PlannedShop) (shaped : IsWellShaped p) where
+  earliest_back : (moments : Node → ℕ) → AreEarliest p moments → AreRestMoments p (start p) 0 moments
+  earliest_back moments are v is ahead = greatest_from p shaped v (moments v) (are v is)
+
+  module _ (at : Node → ℕ) (due : Node → Option ℕ) where
+    job_back : (j : ℕ) (text : List ℕ) → j < jobs p → IsJobText p at due j text → IsRestJobText p (start p) 0 at due j text
+    job_back j text inside (visits, are, is) = inr (inl (start-made p j inside, visits, are, is ∙ ap (λ l. l ++ visits) (sym (arrival_told p shaped at due j))))
+
+    jobs_back : (n : ℕ) (text : List ℕ) → n ≤ jobs p → AreJobTexts p at due n text → AreRestJobTexts p (start p) 0 at due n text
+    jobs_back _ _ within no_job = no_rest_job
+    jobs_back _ _ within (next_job j text more are is) = next_rest_job j text more (jobs_back j text (omega arith) are) (job_back j more (omega arith) is)
+
+    lines_back : (lines : List ℕ) → AreScheduleLines p at due lines → AreRestLines p (start p) 0 at due lines
+    lines_back lines are = record {
+      jobs_told = lines;
+      are = jobs_back (jobs p) lines (omega arith) are;
+      cleanings_told = [];
+      going_on = clean_lines p due (machines p);
+      both = sym (append-nil lines);
+    }
+
+  behind_back : (verdict : Judged) (lines : List ℕ) → AreScheduledBehind (said_of p verdict) lines → AreRestScheduledBehind p (start p) 0 verdict lines
+  behind_back (Accepted times) lines are = record {
+    moments = are.moments;
+    earliest = earliest_back are.moments are.earliest;
+    dues = are.dues;
+    deadlines = are.deadlines;
+    are = lines_back are.moments (λ v. Some (are.dues v)) lines are.are;
+  }
+  behind_back (Refused (Cycle nodes)) lines none = none
+  behind_back (Refused (Late job leaves chain times)) lines are = record {
+    moments = are.moments;
+    earliest = earliest_back are.moments are.earliest;
+    are = lines_back are.moments (λ v. None) lines are.are;
+  }
+
 pub the_rest_of_the_start_is_scheduled_as_the_plan-holds : TheRestOfTheStartIsScheduledAsThePlan
-the_rest_of_the_start_is_scheduled_as_the_plan-holds p verdict text shaped is =
-    record { first = is.first; is = first_line_told p shaped verdict is.first is.is; behind = is.behind; are = behind_told p shaped verdict is.behind is.are; both = is.both }
+the_rest_of_the_start_is_scheduled_as_the_plan-holds p verdict text shaped = (
+  λ is. record { first = is.first; is = first_line_told p shaped verdict is.first is.is; behind = is.behind; are = behind_told p shaped verdict is.behind is.are; both = is.both },
+  λ is. record { first = is.first; is = first_line_back p shaped verdict is.first is.is; behind = is.behind; are = behind_back p shaped verdict is.behind is.are; both = is.both },
+)

@@ -1,5 +1,5 @@
 -- The law of the start: of a run that hasn't begun the rest is scheduled as the whole plan.
-use Rattle.std.specs.Prelude.{ℕ, List}
+use Rattle.std.specs.Prelude.{◌↔◌, ℕ, List}
 use Rattle.shop_base.specs.Plan.{PlannedShop, IsWellShaped}
 use Rattle.shop_base.specs.Cell.{start}
 use Rattle.plan_verifier.specs.declared.verdict.Judged.{Judged}
@@ -7,7 +7,7 @@ use Rattle.plan_explain.specs.StartTexts.{said_of}
 use Rattle.plan_schedule.specs.Scheduled.{IsScheduled}
 use Rattle.plan_schedule.specs.RestScheduled.{IsRestScheduled}
 
--- a schedule of the rest from the start and moment 0 on is one of the plan
+-- the schedules of the rest from the start and moment 0 on are those of the plan
 abbrev pub TheRestOfTheStartIsScheduledAsThePlan : Type 0
 TheRestOfTheStartIsScheduledAsThePlan = (p : PlannedShop) (verdict : Judged) (text : List ℕ) → IsWellShaped p
-    → IsRestScheduled p (start p) 0 verdict text → IsScheduled (said_of p verdict) text
+    → IsRestScheduled p (start p) 0 verdict text ↔ IsScheduled (said_of p verdict) text

@@ -16,7 +16,7 @@ pub fn schedules_tell_the_exact_run()
     ensures some { SomeRunIsExact }
 {}
 
-/// From the cell at the start and moment 0 on, a schedule of the rest of a run is one of the plan.
+/// From the cell at the start and moment 0 on, the schedules of the rest of a run are those of the plan.
 pub fn the_rest_of_the_start_is_scheduled_as_the_plan()
     ensures { TheRestOfTheStartIsScheduledAsThePlan }
 {}
