@@ -6,7 +6,6 @@ pub mod Chains
 pub mod Leavings
 pub mod Explained
 pub mod LineLaws
-pub mod Added
 pub mod Moments
 -- The same of the rest of a run.
 pub mod RestVerdicts
@@ -17,3 +16,5 @@ pub mod RestChains
 pub mod RestExplained
 -- The law that ties the two.
 pub mod StartTexts
+-- Of proofs and private contracts alone.
+pub mod Added
