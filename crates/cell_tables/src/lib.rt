@@ -10,9 +10,9 @@
 mod due_moments;
 mod entry;
 mod moves;
-mod planned;
 mod places;
 mod plan_readers;
+mod planned;
 mod standing;
 mod tables;
 mod work_cell;

@@ -33,8 +33,7 @@ explanation_bound p answer (inr explained) = omega (arith, explained.explained.s
 
 rest_bound : (verdict : Judged) → rest_status verdict ≤ 1
 rest_bound (AcceptedRest times) = omega arith
-rest_bound (Refused (Cycle nodes)) = omega arith
-rest_bound (Refused (Late job leaves chain times)) = omega arith
+rest_bound (Refused why) = omega arith
 
 pub told_bound : (telling : PlanTelling) (p : PlannedShop) (c : Cell) (t : ℕ) (answer : Answer) → IsRestTold telling p c t answer → answer.status ≤ 1
 told_bound telling p c t answer told = omega (arith, told.status, rest_bound told.verdict)

@@ -53,8 +53,7 @@ of_run telling at p log run q c answer plan cell told =
 
 low_verdict : (verdict : Judged) (status : ℕ) → status ≡ rest_status verdict → status ≤ 1
 low_verdict (Accepted times) status is = omega (arith, is)
-low_verdict (Refused (Cycle nodes)) status is = omega (arith, is)
-low_verdict (Refused (Late job leaves chain times)) status is = omega (arith, is)
+low_verdict (Refused why) status is = omega (arith, is)
 
 low_cell : (telling : PlanTelling) (at : Option ℕ) (p : PlannedShop) (c : Cell) (answer : Answer) → IsCellTold telling at p c answer → answer.status ≤ 1
 low_cell telling at p c answer (inl past) = (let one = past.1.1 in omega (arith, one))

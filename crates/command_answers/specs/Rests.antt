@@ -21,8 +21,7 @@ use Rattle.command_answers.specs.LogLines.{IsLogRefused}
 -- the status of a verdict on the rest
 abbrev pub rest_status : Judged → ℕ
 rest_status (Accepted times) = 0
-rest_status (Refused (Cycle nodes)) = 1
-rest_status (Refused (Late job leaves chain times)) = 1
+rest_status (Refused why) = 1
 
 -- the text of a verdict on the rest: its first line, its explanation or its schedule
 abbrev pub IsTextOf : PlanTelling → PlannedShop → Cell → ℕ → Judged → List ℕ → Type 0

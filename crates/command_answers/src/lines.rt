@@ -33,10 +33,9 @@ pub(crate) fn headed_answer(alloc: Global, line: &[u8], plan: &Plan, status: u8)
     ensures { IsHeadedAnswer line.now plan.now status result }
 {
     let document = document_answer(alloc, plan, status)?;
-    let mut text = Vec::new(alloc);
-    text.extend_from_slice(line)?;
-    text.extend_from_slice(&document.text)?;
-    Ok(Answer { text, status })
+    let mut answer = line_answer(alloc, line, status)?;
+    answer.text.extend_from_slice(&document.text)?;
+    Ok(answer)
 }
 
 /// A line, with this status.

@@ -18,8 +18,8 @@ use crate::shapes::not_shaped_answer;
 use crate::texts::Texts;
 use plan_explain::push_cycle_line;
 use plan_improve::Watch;
-use rest_improve::{ImproveRestFault, Improved, RestImprover, improve_after};
 use plan_verifier::{Judged, Why};
+use rest_improve::{ImproveRestFault, Improved, RestImprover, improve_after};
 use shop_base::{Moment, Node, Shaped};
 use std::alloc::{AllocError, Global};
 
@@ -95,12 +95,14 @@ fn judged_answer(alloc: Global, found: &Improved) -> Answered
     match &found.verdict {
         Judged::Accepted(_) => document_answer(alloc, found.shaped.plan(), GOOD),
         Judged::Refused(Why::Cycle(nodes)) => Ok(cycle_answer(alloc, nodes)?),
-        Judged::Refused(Why::Late {
-            job: _,
-            leaves: _,
-            chain: _,
-            times: _,
-        }) => document_answer(alloc, found.shaped.plan(), REFUSED),
+        Judged::Refused(
+            Why::Late {
+                job: _,
+                leaves: _,
+                chain: _,
+                times: _,
+            },
+        ) => document_answer(alloc, found.shaped.plan(), REFUSED),
     }
 }
 

@@ -17,7 +17,7 @@ use crate::texts::Texts;
 use cell_tables::WorkCell;
 use plan_explain::{explain_after, first_line_after};
 use plan_schedule::schedule_after;
-use plan_verifier::{Judged, Why, verify_after};
+use plan_verifier::{Judged, verify_after};
 use run_log::run_of_log;
 use shop_base::{Moment, Shaped};
 use std::alloc::{AllocError, Global};
@@ -154,14 +154,6 @@ fn rest_status(verdict: &Judged) -> u8
 {
     match verdict {
         Judged::Accepted(_) => GOOD,
-        Judged::Refused(Why::Cycle(_)) => REFUSED,
-        Judged::Refused(
-            Why::Late {
-                job: _,
-                leaves: _,
-                chain: _,
-                times: _,
-            },
-        ) => REFUSED,
+        Judged::Refused(_) => REFUSED,
     }
 }

@@ -4,10 +4,10 @@ use crate::rests::shaped_as;
 use crate::told::Told;
 use plan_improve::MAX_ROUNDS;
 use plan_text::{PlanFault, plan_document};
+use plan_verifier::Judged;
 use rest_improve::{
     AnnealingRestImprover, ImproveRestFault, Improved, Rest, RestImprover, improve_after,
 };
-use plan_verifier::Judged;
 use run_log::AuditFault;
 use shop_base::{JobNo, Shaped};
 use std::alloc::{AllocError, Global};

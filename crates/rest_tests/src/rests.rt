@@ -76,12 +76,14 @@ fn is_in_time(alloc: Global, cell: &WorkCell<Shaped>) -> Result<bool, AllocError
 fn is_late(alloc: Global, cell: &WorkCell<Shaped>) -> Result<bool, AllocError> {
     match judged(alloc, cell, 1)? {
         Some(
-            Judged::Refused(Why::Late {
-                job,
-                leaves,
-                chain,
-                times: _,
-            }),
+            Judged::Refused(
+                Why::Late {
+                    job,
+                    leaves,
+                    chain,
+                    times: _,
+                },
+            ),
         ) => Ok(job == 0 && leaves == 6 && check_chain_after(cell, 1, &chain) == Some(6)),
         _ => Ok(false),
     }
