@@ -15,7 +15,6 @@ use Rattle.command_answers.specs.declared.rests.PlanTelling.{PlanTelling}
 use Rattle.command_answers.specs.Rests.{rest_status, IsRestTold}
 use Rattle.plan_verifier.specs.declared.verdict.Judged.{Judged}
 use Rattle.plan_verifier.specs.declared.verdict.Judged.TheVariants.{Accepted as AcceptedRest, Refused}
-use Rattle.plan_verifier.specs.declared.verdict.Why.TheVariants.{Cycle, Late}
 
 pub verdict_bound : (verdict : Verdict) → verdict_status verdict ≤ 1
 verdict_bound (Accepted verified) = omega arith

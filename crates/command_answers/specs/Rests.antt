@@ -8,7 +8,6 @@ use Rattle.cell_tables.specs.Events.{events_of}
 use Rattle.run_log.specs.Audits.{TellRun}
 use Rattle.plan_verifier.specs.declared.verdict.Judged.{Judged}
 use Rattle.plan_verifier.specs.declared.verdict.Judged.TheVariants.{Accepted, Refused}
-use Rattle.plan_verifier.specs.declared.verdict.Why.TheVariants.{Cycle, Late}
 use Rattle.plan_explain.specs.RestVerdicts.{IsRestJudged}
 use Rattle.plan_explain.specs.RestFirstLines.{IsRestFirstLine}
 use Rattle.plan_explain.specs.RestExplained.{IsRestExplained}
