@@ -1,6 +1,6 @@
 //! The run that a log records.
 
-ghost use Rattle.std.specs.Prelude.{◌≡◌, ◌*◌, ◌≤◌, [], length, vec_capacity, IfOk, OnOk, IfErr};
+ghost use Rattle.std.specs.Prelude.{◌≡◌, ◌*◌, ◌≤◌, [], length, vec_capacity, IfOk, OnOk, IfErr, IfSome, IfNone};
 ghost use Rattle.shop_base.specs.Ends.{stated_number};
 ghost use Rattle.text_lines.specs.Lines.{lines_of, ended_lines};
 ghost use Rattle.event_lines.specs.LogLines.{LinesTell};
@@ -44,6 +44,26 @@ pub fn run_of_log<P: Planned>(
 {
     let room = most_entries(basis.shaped());
     read_log(alloc, basis, ended_part(text), room)
+}
+
+/// The same, if the whole lines of the log record a run of the plan; `None` if they don't.
+pub fn run_if_told<P: Planned>(
+    alloc: Global,
+    basis: P,
+    text: &[u8],
+) -> Result<Option<LoggedRun<P>>, AllocError>
+    ensures plan { IfOk result (λ found. IfSome found (λ run. run.cell.plan ≡ P.planned basis)) }
+    ensures tells { IfOk result (λ found. IfSome found (λ run.
+        LinesTell (P.planned basis) (ended_lines text.now) run.entries.items)) }
+    ensures told { IfOk result (λ found. IfSome found (λ run. IsTold (P.planned basis) run.cell.cell run.entries.items)) }
+    ensures none { IfOk result (λ found. IfNone found (TellRun (P.planned basis) (ended_lines text.now) → ⊥)) }
+{
+    let room = most_entries(basis.shaped());
+    let mut run = LoggedRun::with_room(alloc, basis, room)?;
+    match run.take_lines(ended_part(text)) {
+        Ok(()) => Ok(Some(run)),
+        Err(_) => Ok(None),
+    }
 }
 
 /// The run that the log records, if all its lines record one. It has room for so many entries.
