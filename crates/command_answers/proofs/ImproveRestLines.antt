@@ -14,16 +14,17 @@ use Rattle.run_log.specs.Audits.{TellRun, IsFirstBad, IsAuditFault}
 use Rattle.run_log.specs.declared.audit_fault.AuditFault.{AuditFault}
 use Rattle.run_log.specs.declared.audit_fault.AuditFault.TheVariants.{BadLine, NotExpected, Backwards, NotReady, Occupied, NotClean, OutOfOrder, WrongPlace, Memory as LogMemory}
 use Rattle.plan_seek.specs.declared.search.TheConstants.{MAX_ROUNDS}
+use Rattle.plan_improve.specs.Settings.{rest_after}
 use Rattle.plan_improve.specs.Reordered.{IsReordered}
 use Rattle.plan_verifier.specs.declared.verdict.Judged.{Judged}
 use Rattle.plan_verifier.specs.declared.verdict.Judged.TheVariants.{Accepted, Refused}
 use Rattle.plan_verifier.specs.declared.verdict.Why.TheVariants.{Cycle, Late}
 use Rattle.plan_verifier.specs.RestVerdicts.{IsAcceptableAhead, IsRestAccepted}
-use Rattle.rest_improve.specs.declared.improve_rest_fault.ImproveRestFault.{ImproveRestFault}
-use Rattle.rest_improve.specs.declared.improve_rest_fault.ImproveRestFault.TheVariants.{TooManyRounds, Log, Past, MomentTooLarge, Memory as WantOfMemory}
-use Rattle.rest_improve.specs.Costs.{IsCellOf}
-use Rattle.rest_improve.specs.Faults.{IsImproveRestFault, IsMomentFault}
-use Rattle.rest_improve.specs.Improved.{HasNoBegin, IsFound, IsNeverWorse, IsVerdictOn, present_of}
+use Rattle.plan_improve.specs.declared.improve_rest_fault.ImproveRestFault.{ImproveRestFault}
+use Rattle.plan_improve.specs.declared.improve_rest_fault.ImproveRestFault.TheVariants.{TooManyRounds, Log, Past, MomentTooLarge, Memory as WantOfMemory}
+use Rattle.plan_improve.specs.RestCosts.{IsCellOf}
+use Rattle.plan_improve.specs.Faults.{IsImproveRestFault, IsMomentFault}
+use Rattle.plan_improve.specs.Improved.{HasNoRestBegin, IsFound, IsNeverWorse, IsVerdictOn, present_of}
 use Rattle.command_answers.specs.declared.answer.Answer.{Answer}
 use Rattle.command_answers.specs.declared.command_fault.CommandFault.{CommandFault}
 use Rattle.command_answers.specs.declared.command_fault.CommandFault.TheVariants.{Instance, Plan, Read, Write, InputTooLong, Log, LogInUse, Memory}
@@ -88,9 +89,9 @@ module _ (made : RestAsked) (at : Option ℕ) (rounds : ℕ) (lines : List (List
 
   module _ (best : PlannedShop) (few : rounds ≤ MAX_ROUNDS) (same : IsReordered start best) (begun : TellRun start lines)
       (present : (c : Cell) → IsCellOf lines start c → IsNextMoment c (present_of at c.last)) (kept : TellRun best lines)
-      (acyclic : (HasCycle best → ⊥) ⊎ HasNoBegin lines start) (stays : HasNoBegin lines start → best ≡ start)
-      (never_worse : (c : Cell) → IsCellOf lines start c → IsNeverWorse lines (present_of at c.last) start best)
-      (found : (c : Cell) → IsCellOf lines start c → HasNoBegin lines start ⊎ IsFound (made lines (present_of at c.last)) lines start best) where
+      (acyclic : (HasCycle best → ⊥) ⊎ HasNoRestBegin lines start) (stays : HasNoRestBegin lines start → best ≡ start)
+      (never_worse : (c : Cell) → IsCellOf lines start c → IsNeverWorse (rest_after lines (present_of at c.last)) start best)
+      (found : (c : Cell) → IsCellOf lines start c → HasNoRestBegin lines start ⊎ IsFound (rest_after lines (present_of at c.last)) (made lines (present_of at c.last)) start best) where
     -- a plan without a cycle is the best one
     best_is : (c : Cell) → IsCellOf lines start c → (HasCycle best → ⊥) → (IsAcceptableAhead start c (present_of at c.last) → IsAcceptableAhead best c (present_of at c.last))
         → IsBestRest made lines (present_of at c.last) c start best
@@ -120,7 +121,7 @@ module _ (made : RestAsked) (at : Option ℕ) (rounds : ℕ) (lines : List (List
     judged_is (Refused (Cycle nodes)) (Ok answer) judged accepted line =
         let (c, here) = cell_there lines start begun in
         let cycle : IsCycle best nodes.items = (judged c here).refused in
-        let none : HasNoBegin lines start = elim acyclic [ inl free ↦ absurd (free (cycle_has best nodes.items cycle)) | inr is ↦ is ] in
+        let none : HasNoRestBegin lines start = elim acyclic [ inl free ↦ absurd (free (cycle_has best nodes.items cycle)) | inr is ↦ is ] in
         inl (
           few,
           inr (inl (record {

@@ -9,6 +9,7 @@ use Rattle.plan_seek.specs.Orders.{Proposal}
 use Rattle.plan_seek.specs.declared.search.TheConstants.{MAX_ROUNDS}
 use Rattle.plan_improve.specs.declared.improve_fault.ImproveFault.{ImproveFault}
 use Rattle.plan_improve.specs.declared.improve_fault.ImproveFault.TheVariants.{TooManyRounds, Memory as WantOfMemory}
+use Rattle.plan_improve.specs.Settings.{Left, whole_plan}
 use Rattle.plan_improve.specs.Reordered.{IsReordered}
 use Rattle.plan_improve.specs.Runs.{Asked, Rounds}
 use Rattle.plan_improve.specs.Improved.{IsFound, IsNeverWorse}
@@ -30,15 +31,15 @@ abbrev pub ordered : PlannedShop → PlannedShop
 ordered p = orders_or_serial p p.plan.order
 
 -- what so many rounds of questions to these improvers make of a plan
-abbrev pub RoundsOf : {B : Type 0} → ℕ → (B → PlannedShop → ℕ → Proposal → Type 0) → List B → Asked
-RoundsOf rounds may improvers = Rounds may improvers rounds
+abbrev pub RoundsOf : {B : Type 0} → ℕ → (B → PlannedShop → Left → ℕ → Proposal → Type 0) → List B → Asked
+RoundsOf rounds may improvers = Rounds whole_plan may improvers rounds
 
 -- the best plan that is met: only the orders may differ, no cycle, never worse, exactly what the questions make of the start, and accepted if the start is
 pub record IsBest (made : Asked) (start best : PlannedShop) : Type 0 where
   pub same : IsReordered start best
   pub acyclic : HasNoCycle best
-  pub never_worse : IsNeverWorse start best
-  pub found : IsFound made start best
+  pub never_worse : IsNeverWorse whole_plan start best
+  pub found : IsFound whole_plan made start best
   pub stays_accepted : IsAcceptable start → IsAcceptable best
 
 -- the status tells an accepted plan from one of which a job is late

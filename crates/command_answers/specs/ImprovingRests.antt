@@ -13,17 +13,17 @@ use Rattle.plan_text.specs.Documents.{IsPlanText}
 use Rattle.plan_explain.specs.FirstLines.{cycle_line}
 use Rattle.plan_seek.specs.Orders.{Proposal}
 use Rattle.plan_seek.specs.declared.search.TheConstants.{MAX_ROUNDS}
+use Rattle.plan_improve.specs.Settings.{Left, rest_after}
 use Rattle.plan_improve.specs.Reordered.{IsReordered}
-use Rattle.plan_improve.specs.Runs.{Asked}
+use Rattle.plan_improve.specs.Runs.{Asked, Rounds}
 use Rattle.plan_verifier.specs.declared.verdict.Judged.{Judged}
 use Rattle.plan_verifier.specs.declared.verdict.Judged.TheVariants.{Accepted, Refused}
 use Rattle.plan_verifier.specs.declared.verdict.Why.TheVariants.{Cycle, Late}
 use Rattle.plan_verifier.specs.RestVerdicts.{IsAcceptableAhead}
-use Rattle.rest_improve.specs.declared.improve_rest_fault.ImproveRestFault.{ImproveRestFault}
-use Rattle.rest_improve.specs.declared.improve_rest_fault.ImproveRestFault.TheVariants.{TooManyRounds, Log, Past, MomentTooLarge, Memory as WantOfMemory}
-use Rattle.rest_improve.specs.Costs.{IsCellOf}
-use Rattle.rest_improve.specs.Runs.{Rounds}
-use Rattle.rest_improve.specs.Improved.{HasNoBegin, IsFound, IsNeverWorse, present_of}
+use Rattle.plan_improve.specs.declared.improve_rest_fault.ImproveRestFault.{ImproveRestFault}
+use Rattle.plan_improve.specs.declared.improve_rest_fault.ImproveRestFault.TheVariants.{TooManyRounds, Log, Past, MomentTooLarge, Memory as WantOfMemory}
+use Rattle.plan_improve.specs.RestCosts.{IsCellOf}
+use Rattle.plan_improve.specs.Improved.{HasNoRestBegin, IsFound, IsNeverWorse, present_of}
 use Rattle.command_answers.specs.declared.answer.Answer.{Answer}
 use Rattle.command_answers.specs.declared.command_fault.CommandFault.{CommandFault}
 use Rattle.command_answers.specs.declared.command_fault.CommandFault.TheVariants.{Plan, Memory}
@@ -38,16 +38,16 @@ abbrev pub RestAsked : Type 1
 RestAsked = List (List ℕ) → ℕ → Asked
 
 -- what so many rounds of questions to these improvers make of a plan
-abbrev pub RestRoundsOf : {B : Type 0} → ℕ → (B → PlannedShop → ℕ → Proposal → Type 0) → List B → RestAsked
-RestRoundsOf rounds may improvers lines t = Rounds lines t may improvers rounds
+abbrev pub RestRoundsOf : {B : Type 0} → ℕ → (B → PlannedShop → Left → ℕ → Proposal → Type 0) → List B → RestAsked
+RestRoundsOf rounds may improvers lines t = Rounds (rest_after lines t) may improvers rounds
 
 -- the best plan that is met for the rest: only the orders may differ, the log tells a run of it, no cycle, never worse for the rest than the one with which the search begins, exactly what the questions make of that, and its rest is accepted if the start's is
 pub record IsBestRest (made : RestAsked) (lines : List (List ℕ)) (t : ℕ) (c : Cell) (start best : PlannedShop) : Type 0 where
   pub same : IsReordered start best
   pub kept : TellRun best lines
   pub acyclic : HasCycle best → ⊥
-  pub never_worse : IsNeverWorse lines t start best
-  pub found : IsFound (made lines t) lines start best
+  pub never_worse : IsNeverWorse (rest_after lines t) start best
+  pub found : IsFound (rest_after lines t) (made lines t) start best
   pub stays_accepted : IsAcceptableAhead start c t → IsAcceptableAhead best c t
 
 -- the status tells an accepted rest from one of which a job is late
@@ -83,7 +83,7 @@ pub record IsRestCycle (at : Option ℕ) (lines : List (List ℕ)) (start : Plan
   pub cell : Cell
   pub run : IsCellOf lines start cell
   pub present : IsNextMoment cell (present_of at cell.last)
-  pub none : HasNoBegin lines start
+  pub none : HasNoRestBegin lines start
   pub nodes : List Node
   pub cycle : IsCycle start nodes
   pub line : IsCycleLine nodes answer

@@ -12,10 +12,9 @@ ghost use Rattle.command_answers.specs.Statuses.{status_of};
 
 use orlib_read::OrFault;
 use plan_decide::DecideFault;
-use plan_improve::ImproveFault;
+use plan_improve::{ImproveFault, ImproveRestFault};
 use plan_seek::SeekFault;
 use plan_text::PlanFault;
-use rest_improve::ImproveRestFault;
 use run_log::AuditFault;
 use std::alloc::AllocError;
 use std::io::{self, ErrorKind};

@@ -3,7 +3,7 @@
 ghost use Rattle.std.specs.Prelude.{◌≡◌, ◌≤◌, IfOk, IfSome, None};
 ghost use Rattle.shop_base.specs.declared.limits.TheConstants.{MAX_MOMENT};
 ghost use Rattle.text_lines.specs.Lines.{ended_lines};
-ghost use Rattle.rest_improve.specs.declared.improve_rest_fault.ImproveRestFault.TheVariants.{MomentTooLarge};
+ghost use Rattle.plan_improve.specs.declared.improve_rest_fault.ImproveRestFault.TheVariants.{MomentTooLarge};
 ghost use Rattle.command_answers.specs.ImprovingRests.{RestRoundsOf, IsRestAnswer, IsJudgedAnswer, IsUnfoundAnswer, IsCycleLine, rest_command_fault};
 ghost use Rattle.command_answers.specs.Commands.{RunsImproveRest, WithRest};
 
@@ -17,9 +17,8 @@ use crate::rests::past_answer;
 use crate::shapes::not_shaped_answer;
 use crate::texts::Texts;
 use plan_explain::push_cycle_line;
-use plan_improve::Watch;
+use plan_improve::{ImproveRestFault, Improved, Improver, Watch, improve_after};
 use plan_verifier::{Judged, Why};
-use rest_improve::{ImproveRestFault, Improved, RestImprover, improve_after};
 use shop_base::{Moment, Node, Shaped};
 use std::alloc::{AllocError, Global};
 
@@ -34,7 +33,7 @@ pub fn improve_rest_answer<T: Texts, W: Watch>(
     pair: &Pair<'_>,
     log: &str,
     at: Option<Moment>,
-    improvers: &[Box<dyn RestImprover>],
+    improvers: &[Box<dyn Improver>],
     rounds: u32,
     watch: &mut W,
 ) -> Answered
@@ -53,7 +52,7 @@ fn better_rest_answer<T: Texts, W: Watch>(
     both: Both,
     log: &str,
     at: Option<Moment>,
-    improvers: &[Box<dyn RestImprover>],
+    improvers: &[Box<dyn Improver>],
     rounds: u32,
     watch: &mut W,
 ) -> Answered
@@ -75,7 +74,7 @@ fn found_answer<W: Watch>(
     start: Shaped,
     log: &[u8],
     at: Option<Moment>,
-    improvers: &[Box<dyn RestImprover>],
+    improvers: &[Box<dyn Improver>],
     rounds: u32,
     watch: &mut W,
 ) -> Answered

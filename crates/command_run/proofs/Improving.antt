@@ -1,8 +1,9 @@
 -- A search for better plans by improvers that may answer more.
-use Rattle.std.proofs.Common.{◌≡◌, ℕ, zero, suc, ◌<◌, List, [], ◌∷◌, Result, Ok, Err, Some, inl, inr, length, slice_get, subst, refl, arith}
+use Rattle.std.proofs.Common.{◌≡◌, ℕ, zero, suc, ◌<◌, List, [], ◌∷◌, Option, Result, Ok, Err, Some, inl, inr, length, slice_get, subst, refl, arith}
 use Rattle.std.proofs.lemmas.Option.{slice_get_within}
 use Rattle.shop_base.specs.Plan.{PlannedShop}
 use Rattle.plan_seek.specs.Orders.{Proposal}
+use Rattle.plan_improve.specs.Settings.{Setting, Left, whole_plan}
 use Rattle.plan_improve.specs.Runs.{Asked, EndsAfter, AfterSome, nobody, one_more, AfterRound, AfterRounds, no_round, round_more, RoundsTold, Rounds}
 use Rattle.plan_improve.specs.Watching.{Told as Telling}
 use Rattle.command_answers.specs.declared.answer.Answer.{Answer}
@@ -52,28 +53,31 @@ pub stands_alone : (who : Unit {0}) (n : ℕ) → n < 1 → slice_get (who ∷ [
 stands_alone who zero lt = refl
 stands_alone who (suc n) lt = absurd (omega arith)
 
-module _ {B : Type 0} (may : B → PlannedShop → ℕ → Proposal → Type 0) (improvers : List B) (alone : length improvers ≡ 1) where
+module _ (s : Setting) {B : Type 0} (may : B → PlannedShop → Left → ℕ → Proposal → Type 0) (improvers : List B) (alone : length improvers ≡ 1) where
   -- what one improver makes of a plan is what one that may answer anything makes of it
-  some_more : (round : ℕ) (p : PlannedShop) (n : ℕ) (r : PlannedShop) → AfterSome may improvers round p n r → AfterSome MayImprove (tt ∷ []) round p n r
+  some_more : (round : ℕ) (p : PlannedShop) (n : ℕ) (r : PlannedShop) → AfterSome s may improvers round p n r → AfterSome s MayImprove (tt ∷ []) round p n r
   some_more round p n r nobody = nobody
-  some_more round p n r (one_more m who q s answer run above stands given becomes) =
-      one_more m tt q s answer (some_more round p m q run) above (stands_alone tt m (omega (arith, alone, slice_get_within improvers m who stands))) tt becomes
+  some_more round p n r (one_more m who q z rest answer run above left stands given becomes) =
+      one_more m tt q z rest answer (some_more round p m q run) above left (stands_alone tt m (omega (arith, alone, slice_get_within improvers m who stands))) tt becomes
 
-  round_all_more : (round : ℕ) (p q : PlannedShop) → AfterRound may improvers round p q → AfterRound MayImprove (tt ∷ []) round p q
-  round_all_more round p q is = record { asked = is.asked; after = some_more round p is.asked q is.after; ends = subst (λ k. EndsAfter k is.asked q) alone is.ends }
+  round_all_more : (round : ℕ) (p q : PlannedShop) → AfterRound s may improvers round p q → AfterRound s MayImprove (tt ∷ []) round p q
+  round_all_more round p q is = record { asked = is.asked; after = some_more round p is.asked q is.after; ends = subst (λ k. EndsAfter s k is.asked q) alone is.ends }
 
-  rounds_more : (p : PlannedShop) (n : ℕ) (told : List Telling) (r : PlannedShop) → AfterRounds may improvers p n told r → AfterRounds MayImprove (tt ∷ []) p n told r
+  rounds_more : (p : PlannedShop) (n : ℕ) (told : List Telling) (r : PlannedShop) → AfterRounds s may improvers p n told r → AfterRounds s MayImprove (tt ∷ []) p n told r
   rounds_more p n told r no_round = no_round
-  rounds_more p n told r (round_more m before q s cost at_least run is bound unmet last) =
-      round_more m before q s cost at_least (rounds_more p m before q run) is bound unmet (round_all_more m q s last)
+  rounds_more p n told r (round_more m before q z cost at_least run is bound unmet last) =
+      round_more m before q z cost at_least (rounds_more p m before q run) is bound unmet (round_all_more m q z last)
 
-  told_more : (rounds : ℕ) (told : List Telling) (p q : PlannedShop) → RoundsTold may improvers rounds told p q → RoundsTold MayImprove (tt ∷ []) rounds told p q
+  told_more : (rounds : ℕ) (told : List Telling) (p q : PlannedShop) → RoundsTold s may improvers rounds told p q → RoundsTold s MayImprove (tt ∷ []) rounds told p q
   told_more rounds told p q is = record { asked = is.asked; after = rounds_more p is.asked told q is.after; ends = is.ends }
 
-  -- a search by one improver
-  pub improves : {W : Type 0} (gives : W → List ℕ → Result (List ℕ) CommandFault → W → Type 0)
-      (rounds : ℕ) (pair : PairOfFiles) (before : W) (outcome : Result Answer CommandFault) (after : W)
-      → RunsImprove gives (Rounds may improvers rounds) rounds pair before outcome after
-      → RunsImprove gives (AsksOne rounds) rounds pair before outcome after
-  improves gives rounds pair before outcome after =
-      runs_more gives (Rounds may improvers rounds) (AsksOne rounds) (λ p q found. (found.0, told_more rounds found.0 p q found.1)) rounds pair before outcome after
+  pub all_more : (rounds : ℕ) (p q : PlannedShop) → Rounds s may improvers rounds p q → Rounds s MayImprove (tt ∷ []) rounds p q
+  all_more rounds p q found = (found.0, told_more rounds found.0 p q found.1)
+
+-- a search by one improver
+pub improves : {W B : Type 0} (may : B → PlannedShop → Left → ℕ → Proposal → Type 0) (improvers : List B) → length improvers ≡ 1 → (gives : W → List ℕ → Result (List ℕ) CommandFault → W → Type 0)
+    (rounds : ℕ) (pair : PairOfFiles) (before : W) (outcome : Result Answer CommandFault) (after : W)
+    → RunsImprove gives (Rounds whole_plan may improvers rounds) rounds pair before outcome after
+    → RunsImprove gives (AsksOne rounds) rounds pair before outcome after
+improves may improvers alone gives rounds pair before outcome after =
+    runs_more gives (Rounds whole_plan may improvers rounds) (AsksOne rounds) (all_more whole_plan may improvers alone rounds) rounds pair before outcome after

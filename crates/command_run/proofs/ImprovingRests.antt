@@ -1,12 +1,10 @@
 -- A search for a better rest of a run by improvers that may answer more.
-use Rattle.std.proofs.Common.{◌≡◌, ℕ, List, [], ◌∷◌, Option, Result, Ok, Err, inl, inr, length, subst, arith}
-use Rattle.std.proofs.lemmas.Option.{slice_get_within}
+use Rattle.std.proofs.Common.{◌≡◌, ℕ, List, Option, Result, Ok, Err, inl, inr, length}
 use Rattle.shop_base.specs.Plan.{PlannedShop}
 use Rattle.shop_base.specs.Cell.{Cell}
 use Rattle.text_lines.specs.Lines.{ended_lines}
 use Rattle.plan_seek.specs.Orders.{Proposal}
-use Rattle.plan_improve.specs.Watching.{Told as Telling}
-use Rattle.rest_improve.specs.Runs.{AfterSome, nobody, one_more, AfterRounds, no_round, round_more}
+use Rattle.plan_improve.specs.Settings.{Left, rest_after}
 use Rattle.command_answers.specs.declared.answer.Answer.{Answer}
 use Rattle.command_answers.specs.declared.command_fault.CommandFault.{CommandFault}
 use Rattle.command_answers.specs.declared.command_fault.CommandFault.TheVariants.{Instance, Plan, Read, Write, InputTooLong, Log, LogInUse, Memory}
@@ -16,7 +14,7 @@ use Rattle.command_answers.specs.Steps.{Told}
 use Rattle.command_answers.specs.Texts.{Asks}
 use Rattle.command_answers.specs.Commands.{PairOfFiles, ReadsBoth, WithRest, RunsImproveRest}
 use Rattle.command_run.specs.Improvers.{MayImprove, AsksOneForRest}
-use Rattle.command_run.proofs.Improving.{stands_alone}
+use Rattle.command_run.proofs.Improving.{all_more}
 use Rattle.command_run.proofs.Planning.{then_more}
 
 module _ (made more : RestAsked) (less : (lines : List (List ℕ)) (t : ℕ) (p q : PlannedShop) → made lines t p q → more lines t p q) (at : Option ℕ) (rounds : ℕ) where
@@ -75,21 +73,9 @@ module _ (made more : RestAsked) (less : (lines : List (List ℕ)) (t : ℕ) (p 
         then_more (ReadsBoth gives pair) (λ p. WithRest gives made at rounds log (ordered p)) (λ p. WithRest gives more at rounds log (ordered p)) before outcome after
         (λ p last is. with_more log (ordered p) last outcome after is)
 
-module _ (lines : List (List ℕ)) (t : ℕ) {B : Type 0} (may : B → PlannedShop → ℕ → Proposal → Type 0) (improvers : List B) (alone : length improvers ≡ 1) where
-  -- what one improver makes of a plan is what one that may answer anything makes of it
-  some_more : (round : ℕ) (p : PlannedShop) (n : ℕ) (r : PlannedShop) → AfterSome lines t may improvers round p n r → AfterSome lines t MayImprove (tt ∷ []) round p n r
-  some_more round p n r nobody = nobody
-  some_more round p n r (one_more m who q s answer run stands given becomes) =
-      one_more m tt q s answer (some_more round p m q run) (stands_alone tt m (omega (arith, alone, slice_get_within improvers m who stands))) tt becomes
-
-  rounds_more : (p : PlannedShop) (n : ℕ) (told : List Telling) (r : PlannedShop) → AfterRounds lines t may improvers p n told r → AfterRounds lines t MayImprove (tt ∷ []) p n told r
-  rounds_more p n told r no_round = no_round
-  rounds_more p n told r (round_more m before q s cost run is last) =
-      round_more m before q s cost (rounds_more p m before q run) is (subst (λ k. AfterSome lines t MayImprove (tt ∷ []) m q k s) alone (some_more m q (length improvers) s last))
-
 -- a search by one improver
-pub improves_rest : {W B : Type 0} (gives : W → List ℕ → Result (List ℕ) CommandFault → W → Type 0) (may : B → PlannedShop → ℕ → Proposal → Type 0) (improvers : List B) → length improvers ≡ 1
+pub improves_rest : {W B : Type 0} (gives : W → List ℕ → Result (List ℕ) CommandFault → W → Type 0) (may : B → PlannedShop → Left → ℕ → Proposal → Type 0) (improvers : List B) → length improvers ≡ 1
     → (at : Option ℕ) (rounds : ℕ) (pair : PairOfFiles) (log : List ℕ) (before : W) (outcome : Result Answer CommandFault) (after : W)
     → RunsImproveRest gives (RestRoundsOf rounds may improvers) at rounds pair log before outcome after → RunsImproveRest gives (AsksOneForRest rounds) at rounds pair log before outcome after
 improves_rest gives may improvers alone at rounds pair log before outcome after =
-    runs_more (RestRoundsOf rounds may improvers) (AsksOneForRest rounds) (λ lines t p q found. (found.0, rounds_more lines t may improvers alone p rounds found.0 q found.1)) at rounds gives pair log before outcome after
+    runs_more (RestRoundsOf rounds may improvers) (AsksOneForRest rounds) (λ lines t. all_more (rest_after lines t) may improvers alone rounds) at rounds gives pair log before outcome after

@@ -2,21 +2,21 @@
 use Rattle.std.specs.Prelude.{◌≡◌, ◌⊎◌, ℕ, List, [], ◌∷◌, Option, None, Some, Result, Err}
 use Rattle.shop_base.specs.Plan.{PlannedShop}
 use Rattle.plan_seek.specs.Orders.{Proposal}
+use Rattle.plan_improve.specs.Settings.{Left, whole_plan, rest_after}
 use Rattle.plan_improve.specs.Runs.{Asked, Rounds}
 use Rattle.command_answers.specs.declared.answer.Answer.{Answer}
 use Rattle.command_answers.specs.declared.command_fault.CommandFault.{CommandFault}
 use Rattle.command_answers.specs.declared.command_fault.CommandFault.TheVariants.{Memory}
-use Rattle.rest_improve.specs.Runs.{Rounds as RoundsAfter}
 use Rattle.command_answers.specs.ImprovingRests.{RestAsked}
 use Rattle.command_answers.specs.Commands.{PairOfFiles, RunsImprove, RunsImproveRest}
 
 -- what the improver may answer: anything
-abbrev pub MayImprove : Unit {0} → PlannedShop → ℕ → Proposal → Type 0
-MayImprove improver plan round answer = Unit {0}
+abbrev pub MayImprove : Unit {0} → PlannedShop → Left → ℕ → Proposal → Type 0
+MayImprove improver plan rest round answer = Unit {0}
 
 -- what so many rounds make of a plan, in each of which the one improver is asked
 abbrev pub AsksOne : ℕ → Asked
-AsksOne rounds = Rounds MayImprove (tt ∷ []) rounds
+AsksOne rounds = Rounds whole_plan MayImprove (tt ∷ []) rounds
 
 -- a better plan is sought by the one improver, unless memory runs out before any file is asked for
 abbrev pub ImprovesPlan : {W : Type 0} → (W → List ℕ → Result (List ℕ) CommandFault → W → Type 0) → ℕ → PairOfFiles → W → Result Answer CommandFault → W → Type 0
@@ -25,7 +25,7 @@ ImprovesPlan gives rounds pair before outcome after =
 
 -- the same for the rest of a run
 abbrev pub AsksOneForRest : ℕ → RestAsked
-AsksOneForRest rounds lines t = RoundsAfter lines t MayImprove (tt ∷ []) rounds
+AsksOneForRest rounds lines t = Rounds (rest_after lines t) MayImprove (tt ∷ []) rounds
 
 -- a better plan for the rest of the run in a log is sought by the one improver, unless memory runs out before any file is asked for
 abbrev pub ImprovesRest : {W : Type 0} → (W → List ℕ → Result (List ℕ) CommandFault → W → Type 0) → Option ℕ → ℕ → PairOfFiles → List ℕ → W → Result Answer CommandFault → W → Type 0

@@ -8,7 +8,6 @@ use crate::devices::Screen;
 use crate::progress::Progress;
 use command_answers::{Answered, Pair, Texts, improve_answer, improve_rest_answer};
 use plan_improve::{AnnealingImprover, Improver};
-use rest_improve::{AnnealingRestImprover, RestImprover};
 use shop_base::Moment;
 use std::alloc::{AllocError, Global};
 
@@ -46,8 +45,8 @@ pub(crate) fn better_rest_answer<T: Texts, S: Screen>(
     requires { IfSome at (λ present. present ≤ MAX_MOMENT) }
     ensures { ImprovesRest T.gives at rounds pair.now log.now texts.old result texts.new }
 {
-    let mut improvers: Vec<Box<dyn RestImprover>> = Vec::new(alloc);
-    let annealing = Box::new(alloc, AnnealingRestImprover::new(seed)).map_err(AllocError::from)?;
+    let mut improvers: Vec<Box<dyn Improver>> = Vec::new(alloc);
+    let annealing = Box::new(alloc, AnnealingImprover::new(seed)).map_err(AllocError::from)?;
     improvers.push(annealing).map_err(AllocError::from)?;
     let mut progress = Progress { screen, rounds };
     let answer = improve_rest_answer(

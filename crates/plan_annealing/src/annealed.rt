@@ -18,34 +18,10 @@ use std::alloc::{AllocError, Global};
 /// round (1, 5, ..) is hotter, and all late jobs count in it. The others are cooler from the third round on, if no job is
 /// late and there are more than 100 operations. A round looks at some 20 million nodes at most, and tries no more
 /// neighbours than 50 times the square of the number of operations. Other seeds and rounds draw other neighbours, and
-/// the same ones draw the same again. It is proved only that there are as many orders as machines, or none.
+/// the same ones draw the same again. Where the rest of a run is given, only entries that are ahead are exchanged, a job
+/// that is gone is never late, and no job makes its next move before its bound. It is proved only that there are as many
+/// orders as machines, or none.
 pub fn annealed_orders(
-    alloc: Global,
-    shaped: &Shaped,
-    seed: u32,
-    round: u32,
-) -> Result<Option<Vec<Vec<JobNo>>>, AllocError>
-    ensures each_machine { IfOk result (λ answer. IfSome answer (λ orders. length orders.items ≡ machines shaped.now)) }
-{
-    annealed(alloc, shaped, None, seed, round)
-}
-
-/// The same for the rest of a run of the plan: only entries that are ahead are exchanged, a job that is gone is never
-/// late, and no job makes its next move before its bound.
-pub fn annealed_rest(
-    alloc: Global,
-    shaped: &Shaped,
-    rest: &Rest,
-    seed: u32,
-    round: u32,
-) -> Result<Option<Vec<Vec<JobNo>>>, AllocError>
-    ensures each_machine { IfOk result (λ answer. IfSome answer (λ orders. length orders.items ≡ machines shaped.now)) }
-{
-    annealed(alloc, shaped, Some(rest), seed, round)
-}
-
-/// The orders of the best plan that is met from a plan, or from what a run has left of it.
-fn annealed(
     alloc: Global,
     shaped: &Shaped,
     rest: Option<&Rest>,

@@ -17,5 +17,5 @@ mod rest;
 mod timing;
 mod turning;
 
-pub use annealed::{annealed_orders, annealed_rest};
+pub use annealed::annealed_orders;
 pub use rest::{JobRest, Rest};

@@ -1,5 +1,5 @@
 -- The laws of plans that are no worse than others.
-use Rattle.std.proofs.Common.{◌≡◌, ℕ, ◌-◌, ◌<◌, ◌≤◌, inl, inr, arith, refl, ◌∙◌}
+use Rattle.std.proofs.Common.{◌≡◌, ℕ, ◌-◌, ◌<◌, ◌≤◌, Option, None, Some, inl, inr, arith, refl, ◌∙◌}
 use Rattle.shop_base.specs.Plan.{PlannedShop, jobs, budget, IsWellShaped}
 use Rattle.shop_base.specs.Ends.{sum_below}
 use Rattle.shop_base.proofs.Sums.{sum_below_zero, sum_below-le}
@@ -8,9 +8,12 @@ use Rattle.plan_verifier.proofs.Reasons.{makespan_le}
 use Rattle.plan_bounds.proofs.Bounded.{no_plan_is_sooner-holds}
 use Rattle.plan_improve.specs.declared.cost.Cost.{Cost}
 use Rattle.plan_improve.specs.Costs.{IsCost, IsLess, IsAtMost}
-use Rattle.plan_improve.specs.AtBound.{IsBound}
+use Rattle.plan_improve.specs.Settings.{IsBoundThere}
+use Rattle.plan_improve.specs.AtBound.{IsBound, Meets}
+use Rattle.plan_improve.specs.Reordered.{IsReordered}
 use Rattle.plan_improve.specs.Laws.{AcceptedPlansStayAccepted, TheirMakespansNeverGrow, ASecondSearchIsNoWorse, NoWorseIsPassedOn, NobodyBettersIt}
-use Rattle.plan_improve.proofs.Keeping.{most_of_most, same_late, same_makespan, same_bound}
+use Rattle.plan_improve.proofs.Comparing.{most_of_most, zero_most}
+use Rattle.plan_improve.proofs.Once.{same_late, same_makespan, same_bound}
 
 -- a plan to be accepted is never late
 never_late : (p : PlannedShop) (c : Cost) → IsAcceptable p → IsCost p c → c.late ≡ 0
@@ -30,10 +33,6 @@ on_time q c is zero = record {
       let part : is.late.leaves j - budget q j ≤ sum_below (λ i. is.late.leaves i - budget q i) (jobs q) = sum_below-le (λ i. is.late.leaves i - budget q i) (jobs q) j inside in
       omega (arith, is.late.sum, zero));
 }
-
-zero_most : (c d : Cost) → IsAtMost c d → d.late ≡ 0 → c.late ≡ 0
-zero_most c d (inl less) zero = absurd (omega arith)
-zero_most c d (inr (same, most)) zero = omega arith
 
 least_most : (c d : Cost) → IsAtMost c d → d.late ≡ 0 → c.makespan ≤ d.makespan
 least_most c d (inl less) zero = absurd (omega arith)
@@ -56,7 +55,7 @@ never_grow p q m n no_worse acceptable one other =
     )
 
 pub second : ASecondSearchIsNoWorse
-second p q acyclic never_worse = never_worse p (inl (acyclic, refl))
+second p q acyclic never_worse = never_worse p (inl ((λ cycle. acyclic cycle.0 cycle.1), refl))
 
 pub passed_on : NoWorseIsPassedOn
 passed_on p q r one next = record {
@@ -78,8 +77,13 @@ never_less : (c d : Cost) (n : ℕ) → d.late ≡ 0 → d.makespan ≡ n → n 
 never_less c d n late makespan most (inl less) = omega arith
 never_less c d n late makespan most (inr (same, less)) = omega arith
 
+met : (p q : PlannedShop) (best cost other : Cost) (at_least : Option ℕ) → IsReordered p q → IsCost p best → IsBoundThere p at_least → Meets best at_least → IsWellShaped q → IsCost q cost
+    → IsCost p other → IsLess cost other → ⊥
+met p q best cost other None same one bound meets shaped is than less = meets
+met p q best cost other (Some n) same one bound meets shaped is than less =
+    never_less cost other n (same_late p other best than one ∙ meets.0) (same_makespan p other best than one ∙ meets.1)
+    (above_bound q n cost.makespan shaped (same_bound p q n same bound) is.makespan) less
+
 pub nobody_betters : NobodyBettersIt
 nobody_betters p q best same better =
-    never_less better.cost better.other best.at_least
-    (same_late p better.other best.cost better.than best.is ∙ best.meets.0) (same_makespan p better.other best.cost better.than best.is ∙ best.meets.1)
-    (above_bound q best.at_least better.cost.makespan better.shaped (same_bound p q best.at_least same best.bound) better.is.makespan) better.less
+    met p q best.cost better.cost better.other best.at_least same best.is best.bound best.meets better.shaped better.is better.than better.less

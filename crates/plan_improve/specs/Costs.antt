@@ -1,6 +1,6 @@
--- What a plan costs: its total lateness and its makespan, by the lengths of its paths; and which of two plans is better.
+-- What a plan costs: its total lateness and its makespan, by the lengths of its paths; and which of two costs is less.
 use Rattle.std.specs.Prelude.{◌≡◌, ℕ, ◌-◌, ◌<◌, ◌≤◌, ◌⊎◌}
-use Rattle.shop_base.specs.Plan.{PlannedShop, jobs, budget, IsWellShaped}
+use Rattle.shop_base.specs.Plan.{PlannedShop, jobs, budget}
 use Rattle.shop_base.specs.Graph.{leaving}
 use Rattle.shop_base.specs.Ends.{sum_below}
 use Rattle.plan_verifier.specs.Accepted.{HasNoCycle, IsGreatest, IsMakespan}
@@ -29,20 +29,3 @@ IsLess c d = (c.late < d.late) ⊎ ((c.late ≡ d.late) × (c.makespan < d.makes
 -- a cost is at most the other: less late, or as late with no greater makespan
 abbrev pub IsAtMost : Cost → Cost → Type 0
 IsAtMost c d = (c.late < d.late) ⊎ ((c.late ≡ d.late) × (c.makespan ≤ d.makespan))
-
--- p is better than q: it is well shaped, neither has a cycle, and its cost is less
-pub record IsBetter (p q : PlannedShop) : Type 0 where
-  pub shaped : IsWellShaped p
-  pub cost : Cost
-  pub other : Cost
-  pub is : IsCost p cost
-  pub than : IsCost q other
-  pub less : IsLess cost other
-
--- p is no worse than q: neither has a cycle, and its cost is at most the other's
-pub record IsNoWorse (p q : PlannedShop) : Type 0 where
-  pub cost : Cost
-  pub other : Cost
-  pub is : IsCost p cost
-  pub than : IsCost q other
-  pub most : IsAtMost cost other

@@ -1,43 +1,66 @@
 -- Where a search for a better plan begins, and what it gives.
-use Rattle.std.specs.Prelude.{◌≡◌, ℕ, ◌<◌, ◌≤◌, ◌⊎◌, List, Option}
+use Rattle.std.specs.Prelude.{◌≡◌, ◌↔◌, ℕ, ◌<◌, ◌≤◌, ◌⊎◌, List, [], Option, None, Some}
 use Rattle.shop_base.specs.Plan.{PlannedShop}
-use Rattle.plan_verifier.specs.Accepted.{HasNoCycle}
+use Rattle.shop_base.specs.Cell.{Cell}
+use Rattle.plan_verifier.specs.declared.verdict.Judged.{Judged}
 use Rattle.plan_verifier.specs.declared.verdict.Verdict.{Verdict}
 use Rattle.plan_verifier.specs.declared.verdict.Verdict.TheVariants.{Accepted, Refused}
+use Rattle.plan_verifier.specs.RestVerdicts.{IsAcceptedAhead, IsReasonAhead, IsAcceptableAhead, IsRestAccepted}
+use Rattle.event_lines.specs.LogLines.{LinesTell}
 use Rattle.alt_graph.specs.Solved.{HasCycle}
 use Rattle.plan_seek.specs.Orders.{serial_order}
 use Rattle.plan_seek.specs.declared.search.TheConstants.{MAX_ROUNDS}
 use Rattle.plan_improve.specs.declared.improve_fault.ImproveFault.{ImproveFault}
 use Rattle.plan_improve.specs.declared.improve_fault.ImproveFault.TheVariants.{TooManyRounds, Memory}
-use Rattle.plan_improve.specs.Costs.{IsNoWorse}
+use Rattle.plan_improve.specs.Settings.{Setting, IsNoWorse}
 use Rattle.plan_improve.specs.Reordered.{reordered}
 use Rattle.plan_improve.specs.Watching.{Told, IsToldMore}
 use Rattle.plan_improve.specs.Runs.{Asked}
-
--- where the search begins: at the plan itself, or where that has a cycle, at the serial plan
-abbrev pub IsBegin : PlannedShop → PlannedShop → Type 0
-IsBegin start p = (HasNoCycle start × (p ≡ start)) ⊎ (HasCycle start × (p ≡ reordered start (serial_order start.shop)))
 
 -- the plan that is judged
 abbrev pub judged : Verdict → PlannedShop
 judged (Accepted verified) = verified.planned
 judged (Refused back why) = back
 
--- the plan is what the questions make of the one with which the search begins
-pub record IsFound (made : Asked) (start p : PlannedShop) : Type 0 where
-  pub begin : PlannedShop
-  pub begins_at : IsBegin start begin
-  pub run : made begin p
+module _ (s : Setting) where
+  -- where the search begins: at the plan itself, or where that has a cycle and nothing has happened yet, at the serial plan
+  abbrev pub IsBegin : PlannedShop → PlannedShop → Type 0
+  IsBegin start p = ((HasCycle start → ⊥) × (p ≡ start)) ⊎ (HasCycle start × s.fresh start × (p ≡ reordered start (serial_order start.shop)))
 
--- it is what rounds make of that plan, in which whoever watches is told these very things
-pub record IsFoundTold (before after : Option (List Told)) (made : List Told → Asked) (start p : PlannedShop) : Type 0 where
-  pub told : List Told
-  pub more : IsToldMore before told after
-  pub found : IsFound (made told) start p
+  -- there is no plan to begin with: this one has a cycle, and something has happened
+  abbrev pub HasNoBegin : PlannedShop → Type 0
+  HasNoBegin start = HasCycle start × (s.fresh start → ⊥)
 
--- the plan is no worse than the one with which the search begins
-abbrev pub IsNeverWorse : PlannedShop → PlannedShop → Type 0
-IsNeverWorse start p = (begin : PlannedShop) → IsBegin start begin → IsNoWorse p begin
+  -- the plan is what the questions make of the one with which the search begins
+  pub record IsFound (made : Asked) (start p : PlannedShop) : Type 0 where
+    pub begin : PlannedShop
+    pub begins_at : IsBegin start begin
+    pub run : made begin p
+
+  -- it is what rounds make of that plan, in which whoever watches is told these very things
+  pub record IsFoundTold (before after : Option (List Told)) (made : List Told → Asked) (start p : PlannedShop) : Type 0 where
+    pub told : List Told
+    pub more : IsToldMore before told after
+    pub found : IsFound (made told) start p
+
+  -- the plan is no worse than the one with which the search begins
+  abbrev pub IsNeverWorse : PlannedShop → PlannedShop → Type 0
+  IsNeverWorse start p = (begin : PlannedShop) → IsBegin start begin → IsNoWorse s p begin
+
+-- the same for the rest of the run that these lines tell: they tell an event
+abbrev pub HasNoRestBegin : List (List ℕ) → PlannedShop → Type 0
+HasNoRestBegin lines start = HasCycle start × (LinesTell start lines [] → ⊥)
+
+-- the present moment: the one that is given, else the last one
+abbrev pub present_of : Option ℕ → ℕ → ℕ
+present_of None last = last
+present_of (Some at) last = at
+
+-- what is said of the rest from a cell and the present moment t on
+pub record IsVerdictOn (p : PlannedShop) (c : Cell) (t : ℕ) (verdict : Judged) : Type 0 where
+  pub accepted : IsAcceptedAhead p c t verdict
+  pub refused : IsReasonAhead p c t verdict
+  pub exact : IsRestAccepted verdict ↔ IsAcceptableAhead p c t
 
 -- why no plan is given: more rounds than the most, or else out of memory
 abbrev pub IsImproveFault : ℕ → ImproveFault → Type 0

@@ -1,58 +1,102 @@
 -- The best plan so far with its cost, while answers are judged.
-use Rattle.std.specs.Prelude.{◌↔◌, List, Option, None, Some}
+use Rattle.std.specs.Prelude.{◌≡◌, ◌≤◌, ◌⊎◌, ℕ, List, Option, None, Some}
+use Rattle.shop_base.specs.declared.limits.TheConstants.{MAX_MOMENT}
 use Rattle.shop_base.specs.Plan.{PlannedShop}
-use Rattle.plan_verifier.specs.Accepted.{IsAcceptable}
-use Rattle.plan_verifier.specs.declared.verdict.Verdict.{Verdict}
-use Rattle.plan_verifier.specs.Verdicts.{SaysAccepted, OnRefused, IsReason}
+use Rattle.text_lines.specs.Lines.{ended_lines}
+use Rattle.alt_graph.specs.Solved.{HasCycle}
+use Rattle.plan_annealing.specs.declared.rest.Rest.{Rest}
 use Rattle.plan_seek.specs.Orders.{Proposal}
 use Rattle.plan_improve.specs.declared.cost.Cost.{Cost}
 use Rattle.plan_improve.specs.declared.best.Best.{Best}
-use Rattle.plan_improve.specs.Costs.{IsCost, IsLess, IsAtMost, IsNoWorse}
+use Rattle.plan_improve.specs.declared.beginning.First.{First}
+use Rattle.plan_improve.specs.declared.beginning.First.TheVariants.{Begins, Stays}
+use Rattle.plan_improve.specs.declared.fixed.Fixed.{Fixed}
+use Rattle.plan_improve.specs.declared.fixed.Fixed.TheVariants.{Nothing, Run}
+use Rattle.plan_improve.specs.Costs.{IsLess, IsAtMost}
+use Rattle.plan_improve.specs.Settings.{Setting, whole_plan, rest_after}
 use Rattle.plan_improve.specs.Reordered.{IsReordered}
 use Rattle.plan_improve.specs.Watching.{Told, IsToldMore}
 use Rattle.plan_improve.specs.Runs.{Asked, Becomes}
-use Rattle.plan_improve.specs.Improved.{IsBegin, judged}
+use Rattle.plan_improve.specs.Improved.{IsBegin, HasNoBegin}
 
--- this is the plan's cost if it has one that is less than the bound; else it has none
-abbrev pub IsCostBelow : PlannedShop → Cost → Option Cost → Type 0
-IsCostBelow p bound None = (c : Cost) → IsCost p c → IsLess c bound → ⊥
-IsCostBelow p bound (Some cost) = IsCost p cost × IsLess cost bound
+-- what is fixed, by the definitions
+abbrev pub setting_of : Fixed → Setting
+setting_of (Nothing at_least) = whole_plan
+setting_of (Run log present rest) = rest_after (ended_lines log.now) present
 
--- the best plan that an answer makes of one with its cost
-pub record IsNext (p : PlannedShop) (c : Cost) (answer : Proposal) (kept : Best) : Type 0 where
-  pub becomes : Becomes p answer kept.shaped
-  pub is : IsCost kept.shaped kept.cost
-  pub most : IsAtMost kept.cost c
+-- what an improver is told that is left
+abbrev pub rest_in : Fixed → Option Rest
+rest_in (Nothing at_least) = None
+rest_in (Run log present rest) = Some rest.now
 
--- the best plan that an answer which may be given makes of the best one so far
-abbrev pub IsNextOf : (Proposal → Type 0) → Best → Best → Type 0
-IsNextOf may best kept = (answer : Proposal) × may answer × IsNext best.shaped best.cost answer kept
+-- the bound, if one is known
+abbrev pub bound_in : Fixed → Option ℕ
+bound_in (Nothing at_least) = Some at_least
+bound_in (Run log present rest) = None
 
--- the best plan that questions make of one with its cost
-pub record IsLast (made : Asked) (p : PlannedShop) (c : Cost) (kept : Best) : Type 0 where
-  pub run : made p kept.shaped
-  pub same : IsReordered p kept.shaped
-  pub is : IsCost kept.shaped kept.cost
-  pub most : IsAtMost kept.cost c
+-- the present moment, if there is one, is within the limit
+abbrev pub IsEarly : Fixed → Type 0
+IsEarly (Nothing at_least) = Unit {0}
+IsEarly (Run log present rest) = present ≤ MAX_MOMENT
 
--- the best plan that rounds make of one with its cost, and what is told meanwhile
-pub record IsLastTold (before after : Option (List Told)) (made : List Told → Asked) (p : PlannedShop) (c : Cost) (kept : Best) : Type 0 where
-  pub told : List Told
-  pub more : IsToldMore before told after
-  pub last : IsLast (made told) p c kept
+-- this is fixed for a plan, whatever its orders: what is left of it, and its bound
+pub record IsFixed (fixed : Fixed) (p : PlannedShop) : Type 0 where
+  pub early : IsEarly fixed
+  pub left : (q : PlannedShop) (cost : Cost) → IsReordered p q → (setting_of fixed).costs q cost → (setting_of fixed).leaves q (rest_in fixed)
+  pub bound : (q : PlannedShop) → IsReordered p q → (setting_of fixed).bounds q (bound_in fixed)
 
--- what is said of the best plan that questions make of a first one
-pub record IsImproved (made : Asked) (start : PlannedShop) (verdict : Verdict) : Type 0 where
-  pub begin : PlannedShop
-  pub begins_at : IsBegin start begin
-  pub run : made begin (judged verdict)
-  pub same : IsReordered start (judged verdict)
-  pub no_worse : IsNoWorse (judged verdict) begin
-  pub exact : SaysAccepted verdict ↔ IsAcceptable (judged verdict)
-  pub reason : OnRefused IsReason verdict
+module _ (s : Setting) where
+  -- the plan doesn't keep what is fixed, or it has a cycle
+  abbrev pub HasNoCost : PlannedShop → Type 0
+  HasNoCost p = (s.keeps p → ⊥) ⊎ HasCycle p
 
--- what is said of it, and what is told meanwhile
-pub record IsImprovedTold (before after : Option (List Told)) (made : List Told → Asked) (start : PlannedShop) (verdict : Verdict) : Type 0 where
-  pub told : List Told
-  pub more : IsToldMore before told after
-  pub improved : IsImproved (made told) start verdict
+  -- this is the plan's cost if it has one that is less than the bound; else it has none
+  abbrev pub IsCostBelow : PlannedShop → Cost → Option Cost → Type 0
+  IsCostBelow p bound None = (c : Cost) → s.costs p c → IsLess c bound → ⊥
+  IsCostBelow p bound (Some cost) = s.costs p cost × IsLess cost bound
+
+  -- the plan with which a search begins, with its cost, or that there is none
+  abbrev pub IsFirst : PlannedShop → First → Type 0
+  IsFirst start (Begins best) = IsBegin s start best.shaped × s.costs best.shaped best.cost
+  IsFirst start (Stays back) = (back ≡ start) × HasNoBegin s start
+
+  -- the best plan that an answer makes of one with its cost
+  pub record IsNext (p : PlannedShop) (c : Cost) (answer : Proposal) (kept : Best) : Type 0 where
+    pub becomes : Becomes s p answer kept.shaped
+    pub is : s.costs kept.shaped kept.cost
+    pub most : IsAtMost kept.cost c
+
+  -- the best plan that an answer which may be given makes of the best one so far
+  abbrev pub IsNextOf : (Proposal → Type 0) → Best → Best → Type 0
+  IsNextOf may best kept = (answer : Proposal) × may answer × IsNext best.shaped best.cost answer kept
+
+  -- the best plan that questions make of one with its cost
+  pub record IsLast (made : Asked) (p : PlannedShop) (c : Cost) (kept : Best) : Type 0 where
+    pub run : made p kept.shaped
+    pub same : IsReordered p kept.shaped
+    pub is : s.costs kept.shaped kept.cost
+    pub most : IsAtMost kept.cost c
+
+  -- the best plan that rounds make of one with its cost, and what is told meanwhile
+  pub record IsLastTold (before after : Option (List Told)) (made : List Told → Asked) (p : PlannedShop) (c : Cost) (kept : Best) : Type 0 where
+    pub told : List Told
+    pub more : IsToldMore before told after
+    pub last : IsLast (made told) p c kept
+
+  -- the plan that questions make of the one with which the search begins, and what is told meanwhile
+  pub record IsSearched (before after : Option (List Told)) (made : List Told → Asked) (start p : PlannedShop) : Type 0 where
+    pub begin : PlannedShop
+    pub begins_at : IsBegin s start begin
+    pub told : List Told
+    pub more : IsToldMore before told after
+    pub run : made told begin p
+    pub same : IsReordered start p
+    pub cost : Cost
+    pub first : Cost
+    pub is : s.costs p cost
+    pub than : s.costs begin first
+    pub most : IsAtMost cost first
+
+  -- it is that or, where there is no plan to begin with, the start
+  abbrev pub Comes : Option (List Told) → Option (List Told) → (List Told → Asked) → PlannedShop → PlannedShop → Type 0
+  Comes before after made start p = (HasNoBegin s start × (p ≡ start)) ⊎ IsSearched before after made start p

@@ -1,28 +1,56 @@
--- The laws of better plans: what is no worse stays accepted, a second search gives nothing worse than the first, and nobody betters a plan that meets its bound.
-use Rattle.std.specs.Prelude.{ℕ, ◌≤◌}
-use Rattle.shop_base.specs.Plan.{PlannedShop}
+-- The laws of better plans: what is no worse stays accepted, a second search gives nothing worse than the first, nobody betters a plan that meets its bound, and a log has one cell.
+use Rattle.std.specs.Prelude.{◌≡◌, ◌↔◌, ℕ, ◌≤◌, List}
+use Rattle.shop_base.specs.Plan.{PlannedShop, order, IsWellShaped}
+use Rattle.shop_base.specs.Cell.{Cell, entries, start}
+use Rattle.shop_base.specs.Move.{IsPrefix}
+use Rattle.run_log.specs.Audits.{TellRun}
 use Rattle.plan_verifier.specs.Accepted.{HasNoCycle, IsAcceptable, IsMakespan}
-use Rattle.plan_improve.specs.Costs.{IsBetter, IsNoWorse}
-use Rattle.plan_improve.specs.AtBound.{IsAtBound}
+use Rattle.plan_verifier.specs.RestVerdicts.{IsAcceptableAhead}
+use Rattle.plan_improve.specs.declared.cost.Cost.{Cost}
+use Rattle.plan_improve.specs.Costs.{IsCost}
+use Rattle.plan_improve.specs.RestCosts.{IsCellOf, IsCostFrom}
+use Rattle.plan_improve.specs.Settings.{whole_plan, rest_after, IsBetter, IsNoWorse, IsAtBound}
 use Rattle.plan_improve.specs.Reordered.{IsReordered}
 use Rattle.plan_improve.specs.Improved.{IsNeverWorse}
 
 -- a plan that is no worse than one to be accepted is to be accepted itself
 abbrev pub AcceptedPlansStayAccepted : Type 0
-AcceptedPlansStayAccepted = (p q : PlannedShop) → IsNoWorse q p → IsAcceptable p → IsAcceptable q
+AcceptedPlansStayAccepted = (p q : PlannedShop) → IsNoWorse whole_plan q p → IsAcceptable p → IsAcceptable q
 
 -- and its makespan is no greater
 abbrev pub TheirMakespansNeverGrow : Type 0
-TheirMakespansNeverGrow = (p q : PlannedShop) (m n : ℕ) → IsNoWorse q p → IsAcceptable p → IsMakespan p m → IsMakespan q n → n ≤ m
+TheirMakespansNeverGrow = (p q : PlannedShop) (m n : ℕ) → IsNoWorse whole_plan q p → IsAcceptable p → IsMakespan p m → IsMakespan q n → n ≤ m
 
 -- what a search gives of a plan without a cycle is no worse than that plan: so a second search gives nothing worse than the first one gave
 abbrev pub ASecondSearchIsNoWorse : Type 0
-ASecondSearchIsNoWorse = (p q : PlannedShop) → HasNoCycle p → IsNeverWorse p q → IsNoWorse q p
+ASecondSearchIsNoWorse = (p q : PlannedShop) → HasNoCycle p → IsNeverWorse whole_plan p q → IsNoWorse whole_plan q p
 
 -- what is no worse than a plan that is no worse than a first one is no worse than the first one
 abbrev pub NoWorseIsPassedOn : Type 0
-NoWorseIsPassedOn = (p q r : PlannedShop) → IsNoWorse q p → IsNoWorse r q → IsNoWorse r p
+NoWorseIsPassedOn = (p q r : PlannedShop) → IsNoWorse whole_plan q p → IsNoWorse whole_plan r q → IsNoWorse whole_plan r p
 
 -- a plan that meets its bound can't be bettered: no plan that differs from it in its orders alone is better
 abbrev pub NobodyBettersIt : Type 0
-NobodyBettersIt = (p q : PlannedShop) → IsAtBound p → IsReordered p q → IsBetter q p → ⊥
+NobodyBettersIt = (p q : PlannedShop) → IsAtBound whole_plan p → IsReordered p q → IsBetter whole_plan q p → ⊥
+
+-- lines that tell a run of two plans that differ in their orders alone lead to one cell
+abbrev pub EachOrderHasOneCell : Type 0
+EachOrderHasOneCell = (lines : List (List ℕ)) (p q : PlannedShop) (c d : Cell) → IsReordered p q → IsCellOf lines p c → IsCellOf lines q d → c ≡ d
+
+-- the entries of the cell begin the plan's orders
+abbrev pub BeginsWithEntries : Cell → PlannedShop → Type 0
+BeginsWithEntries c q = (m : ℕ) → IsPrefix (entries c m) (order q m)
+
+-- lines that tell a run of a plan tell one of another that differs in its orders alone exactly where the entries of the cell at the end begin the other's orders
+abbrev pub ALogIsKeptByTheEntries : Type 0
+ALogIsKeptByTheEntries = (lines : List (List ℕ)) (p q : PlannedShop) (c : Cell) → IsWellShaped p → IsWellShaped q → IsReordered p q → IsCellOf lines p c
+    → TellRun q lines ↔ BeginsWithEntries c q
+
+-- a rest by a plan that is no worse than one by which it is to be accepted is to be accepted itself
+abbrev pub AcceptedRestsStayAccepted : Type 0
+AcceptedRestsStayAccepted = (lines : List (List ℕ)) (t : ℕ) (p q : PlannedShop) (c d : Cell) → IsNoWorse (rest_after lines t) q p → IsCellOf lines p c → IsCellOf lines q d
+    → IsAcceptableAhead p c t → IsAcceptableAhead q d t
+
+-- the rest of a run that hasn't begun costs what the whole plan does, from moment 0 on
+abbrev pub TheRestOfTheStartCostsThePlan : Type 0
+TheRestOfTheStartCostsThePlan = (p : PlannedShop) (cost : Cost) → IsWellShaped p → IsCostFrom p (start p) 0 cost ↔ IsCost p cost

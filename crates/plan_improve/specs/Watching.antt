@@ -12,3 +12,8 @@ pub record Told : Type 0 where
 abbrev pub IsToldMore : Option (List Told) → List Told → Option (List Told) → Type 0
 IsToldMore None more after = Unit {0}
 IsToldMore (Some before) more after = after ≡ Some (before ++ more)
+
+-- the bound that is told: 0 where none is known
+abbrev pub told_bound : Option ℕ → ℕ
+told_bound None = 0
+told_bound (Some n) = n

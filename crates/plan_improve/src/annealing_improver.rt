@@ -1,11 +1,11 @@
 use crate::improver::Improver;
-use plan_annealing::annealed_orders;
+use plan_annealing::{Rest, annealed_orders};
 use shop_base::{JobNo, Shaped};
 use std::alloc::{AllocError, Global};
 
-/// A local search from the best plan so far: simulated annealing over the orders of the machines, as plan_annealing
-/// does it. Another seed searches elsewhere, and the same one does the same again. By its clause it may answer
-/// anything: it is only proved that it is safe and ends.
+/// A local search from the best plan so far, in which only entries that are ahead are exchanged: simulated annealing
+/// over the orders of the machines, as plan_annealing does it. Another seed searches elsewhere, and the same one does
+/// the same again. By its clause it may answer anything: it is only proved that it is safe and ends.
 #[derive(Clone, Copy)]
 pub struct AnnealingImprover {
     seed: u32,
@@ -19,14 +19,15 @@ impl AnnealingImprover {
 }
 
 impl Improver for AnnealingImprover {
-    ghost may = { λ improver shaped round answer. Unit {0} };
+    ghost may = { λ improver shaped rest round answer. Unit {0} };
 
     fn improve(
         &self,
         alloc: Global,
         shaped: &Shaped,
+        rest: Option<&Rest>,
         round: u32,
     ) -> Result<Option<Vec<Vec<JobNo>>>, AllocError> {
-        annealed_orders(alloc, shaped, self.seed, round)
+        annealed_orders(alloc, shaped, rest, self.seed, round)
     }
 }

@@ -24,13 +24,16 @@ impl Cost {
         self.late < other.late
     }
 
-    /// Whether no job is late, and the makespan is this bound, below which none can be.
-    pub fn meets(&self, at_least: Moment) -> bool
+    /// Whether no job is late, and the makespan is this bound, below which none can be, if one is known.
+    pub fn meets(&self, at_least: Option<Moment>) -> bool
         ensures { MatchBool result (Meets self.now at_least) (Meets self.now at_least → ⊥) }
     {
         if self.late > 0 {
             return false;
         }
-        self.makespan == at_least
+        match at_least {
+            Some(at_least) => self.makespan == at_least,
+            None => false,
+        }
     }
 }

@@ -4,18 +4,19 @@ ghost use Rattle.std.specs.Prelude.{◌≡◌, ◌≤◌, ◌↔◌, OnOk, IfOk,
 ghost use Rattle.plan_verifier.specs.Accepted.{HasNoCycle, IsAcceptable};
 ghost use Rattle.plan_verifier.specs.Verdicts.{SaysAccepted, OnRefused, IsReason};
 ghost use Rattle.plan_improve.specs.Reordered.{IsReordered};
+ghost use Rattle.plan_improve.specs.Settings.{whole_plan};
 ghost use Rattle.plan_improve.specs.Runs.{RoundsTold, Rounds};
 ghost use Rattle.plan_improve.specs.Improved.{IsNeverWorse, IsFound, IsFoundTold, IsImproveFault, judged};
-ghost use Rattle.plan_improve.specs.Keeping.{IsImprovedTold};
+ghost use Rattle.plan_improve.specs.Keeping.{IsSearched};
 
-use crate::beginning::begin;
-use crate::best::Best;
+use crate::fixed::Fixed;
 use crate::improve_fault::ImproveFault;
 use crate::improver::Improver;
 use crate::not_improved::NotImproved;
 use crate::reordering::{copy_orders, put_back};
-use crate::rounds::ask_in_rounds;
+use crate::searching::search;
 use crate::watch::Watch;
+use plan_bounds::least_makespan;
 use plan_seek::MAX_ROUNDS;
 use plan_verifier::{Verdict, verify};
 use shop_base::Shaped;
@@ -38,11 +39,12 @@ pub fn improve<W: Watch>(
 ) -> Result<Verdict, NotImproved>
     ensures same { IfOk result (λ verdict. IsReordered start (judged verdict)) }
     ensures acyclic { IfOk result (λ verdict. HasNoCycle (judged verdict)) }
-    ensures never_worse { IfOk result (λ verdict. IsNeverWorse start (judged verdict)) }
+    ensures never_worse { IfOk result (λ verdict. IsNeverWorse whole_plan start (judged verdict)) }
     ensures found { IfOk result (λ verdict.
-        IsFound (Rounds (λ b. may b) improvers.now rounds) start (judged verdict)) }
+        IsFound whole_plan (Rounds whole_plan (λ b. may b) improvers.now rounds) start (judged verdict)) }
     ensures told { IfOk result (λ verdict.
-        IsFoundTold (W.told watch.old) (W.told watch.new) (RoundsTold (λ b. may b) improvers.now rounds) start (judged verdict)) }
+        IsFoundTold whole_plan (W.told watch.old) (W.told watch.new)
+        (RoundsTold whole_plan (λ b. may b) improvers.now rounds) start (judged verdict)) }
     ensures stays_accepted { IfOk result (λ verdict. IsAcceptable start → SaysAccepted verdict) }
     ensures exact { IfOk result (λ verdict. SaysAccepted verdict ↔ IsAcceptable (judged verdict)) }
     ensures reason { IfOk result (OnRefused IsReason) }
@@ -79,12 +81,14 @@ fn improve_on<W: Watch>(
     rounds: u32,
     watch: &mut W,
 ) -> Result<Verdict, (AllocError, Shaped)>
-    ensures improved { IfOk result (IsImprovedTold (W.told watch.old) (W.told watch.new)
-        (RoundsTold (λ b. may b) improvers.now rounds) start) }
+    ensures searched { IfOk result (λ verdict. IsSearched whole_plan (W.told watch.old) (W.told watch.new)
+        (RoundsTold whole_plan (λ b. may b) improvers.now rounds) start (judged verdict)) }
+    ensures exact { IfOk result (λ verdict. SaysAccepted verdict ↔ IsAcceptable (judged verdict)) }
+    ensures reason { IfOk result (OnRefused IsReason) }
     ensures handed_back { IfErr result (λ refused. IsReordered start refused.1) }
 {
-    let best = begin(alloc, start)?;
-    let best = ask_in_rounds(alloc, best, improvers, rounds, watch)?;
-    let Best { shaped, cost: _ } = best;
-    verify(alloc, shaped)
+    let at_least = least_makespan(&start).at_least;
+    let fixed = Fixed::Nothing { at_least };
+    let best = search(alloc, start, &fixed, false, improvers, rounds, watch)?;
+    verify(alloc, best)
 }

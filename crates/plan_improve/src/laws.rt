@@ -1,11 +1,13 @@
-//! The laws of better plans: for whoever improves a plan more than once.
+//! The laws of better plans: for whoever improves a plan more than once, or one for the rest of a run.
 //!
 //! A plan is no worse than another where neither has a cycle, and the first is less late, or as late with no greater
 //! makespan.
 
 // Nothing is done here: a function's contract is the law, so a check of this crate proves it.
 
-ghost use Rattle.plan_improve.specs.Laws.{AcceptedPlansStayAccepted, TheirMakespansNeverGrow, ASecondSearchIsNoWorse, NoWorseIsPassedOn, NobodyBettersIt};
+ghost use Rattle.plan_improve.specs.Laws.{AcceptedPlansStayAccepted, TheirMakespansNeverGrow, ASecondSearchIsNoWorse};
+ghost use Rattle.plan_improve.specs.Laws.{NoWorseIsPassedOn, NobodyBettersIt, EachOrderHasOneCell};
+ghost use Rattle.plan_improve.specs.Laws.{ALogIsKeptByTheEntries, AcceptedRestsStayAccepted, TheRestOfTheStartCostsThePlan};
 
 /// A plan that is no worse than an accepted one is accepted, and its makespan is no greater.
 pub fn accepted_plans_stay_accepted()
@@ -24,4 +26,26 @@ pub fn second_searches_are_no_worse()
 /// and jobs. Then no plan that differs from it in its orders alone is better.
 pub fn a_plan_at_its_bound_is_best()
     ensures { NobodyBettersIt }
+{}
+
+/// Lines that record a run of a plan and one of another that differs in its orders alone lead to one cell: which of
+/// the plans is asked makes no difference.
+pub fn a_log_has_one_cell()
+    ensures { EachOrderHasOneCell }
+{}
+
+/// Lines that record a run of a plan record one of another that differs in its orders alone exactly where each machine's
+/// other order begins with those that have entered it.
+pub fn a_log_is_kept_by_the_entries()
+    ensures { ALogIsKeptByTheEntries }
+{}
+
+/// A plan that is no worse than one whose rest is accepted has a rest that is accepted.
+pub fn accepted_rests_stay_accepted()
+    ensures { AcceptedRestsStayAccepted }
+{}
+
+/// The rest of a run that hasn't begun costs what the whole plan does.
+pub fn the_rest_of_the_start_costs_the_plan()
+    ensures { TheRestOfTheStartCostsThePlan }
 {}

@@ -1,18 +1,18 @@
 //! The improvers asked in turn, round by round.
 
-ghost use Rattle.std.specs.Prelude.{IfOk, IfErr};
+ghost use Rattle.std.specs.Prelude.{◌≡◌, Option, IfOk, IfErr, option_copied};
 ghost use Rattle.plan_seek.specs.Orders.{proposal_of};
-ghost use Rattle.plan_improve.specs.Costs.{IsCost};
-ghost use Rattle.plan_improve.specs.AtBound.{IsBound};
 ghost use Rattle.plan_improve.specs.Reordered.{IsReordered};
+ghost use Rattle.plan_improve.specs.Watching.{told_bound};
 ghost use Rattle.plan_improve.specs.Runs.{AfterRound, RoundsTold};
-ghost use Rattle.plan_improve.specs.Keeping.{IsNextOf, IsLast, IsLastTold};
+ghost use Rattle.plan_improve.specs.Keeping.{setting_of, rest_in, IsFixed, IsNextOf, IsLast, IsLastTold};
 
 use crate::best::Best;
+use crate::fixed::Fixed;
 use crate::improver::Improver;
 use crate::judging::judge_orders;
 use crate::watch::Watch;
-use plan_bounds::least_makespan;
+use plan_annealing::Rest;
 use shop_base::{JobNo, Moment, Shaped};
 use std::alloc::{AllocError, Global};
 
@@ -20,44 +20,63 @@ use std::alloc::{AllocError, Global};
 pub(crate) fn ask_in_rounds<W: Watch>(
     alloc: Global,
     mut best: Best,
+    fixed: &Fixed<'_>,
     improvers: &[Box<dyn Improver>],
     rounds: u32,
     watch: &mut W,
 ) -> Result<Best, (AllocError, Shaped)>
-    requires { IsCost best.shaped best.cost }
-    ensures last { IfOk result (IsLastTold (W.told watch.old) (W.told watch.new)
-        (RoundsTold (λ b. may b) improvers.now rounds) best.shaped best.cost) }
+    requires cost { (setting_of fixed.now).costs best.shaped best.cost }
+    requires fixed { IsFixed fixed.now best.shaped }
+    ensures last { IfOk result (IsLastTold (setting_of fixed.now) (W.told watch.old) (W.told watch.new)
+        (RoundsTold (setting_of fixed.now) (λ b. may b) improvers.now rounds) best.shaped best.cost) }
     ensures handed_back { IfErr result (λ refused. IsReordered best.shaped refused.1) }
 {
-    let at_least = least_makespan(&best.shaped).at_least;
+    let at_least = fixed.at_least();
     for round in 0..rounds {
         if best.cost.meets(at_least) {
             return Ok(best);
         }
-        watch.round(round, best.cost.late, best.cost.makespan, at_least);
-        best = ask_each(alloc, best, improvers, round, at_least)?;
+        watch.round(
+            round,
+            best.cost.late,
+            best.cost.makespan,
+            bound_told(at_least),
+        );
+        best = ask_each(alloc, best, fixed, improvers, round)?;
     }
     Ok(best)
 }
 
-/// Asks each improver in order, until the best plan meets this bound.
+/// The bound that is told: 0 where none is known.
+fn bound_told(at_least: Option<Moment>) -> Moment
+    ensures { result ≡ told_bound at_least }
+{
+    match at_least {
+        Some(at_least) => at_least,
+        None => 0,
+    }
+}
+
+/// Asks each improver in order, until the best plan meets its bound.
 fn ask_each(
     alloc: Global,
     mut best: Best,
+    fixed: &Fixed<'_>,
     improvers: &[Box<dyn Improver>],
     round: u32,
-    bound: Moment,
 ) -> Result<Best, (AllocError, Shaped)>
-    requires cost { IsCost best.shaped best.cost }
-    requires bound { IsBound best.shaped bound }
-    ensures last { IfOk result (IsLast (AfterRound (λ b. may b) improvers.now round) best.shaped best.cost) }
+    requires cost { (setting_of fixed.now).costs best.shaped best.cost }
+    requires fixed { IsFixed fixed.now best.shaped }
+    ensures last { let s = setting_of fixed.now in
+        IfOk result (IsLast s (AfterRound s (λ b. may b) improvers.now round) best.shaped best.cost) }
     ensures handed_back { IfErr result (λ refused. IsReordered best.shaped refused.1) }
 {
+    let bound = fixed.at_least();
     for improver in improvers {
         if best.cost.meets(bound) {
             return Ok(best);
         }
-        best = ask_one(alloc, best, improver, round)?;
+        best = ask_one(alloc, best, fixed, improver, round)?;
     }
     Ok(best)
 }
@@ -66,15 +85,18 @@ fn ask_each(
 fn ask_one(
     alloc: Global,
     best: Best,
+    fixed: &Fixed<'_>,
     improver: &Box<dyn Improver>,
     round: u32,
 ) -> Result<Best, (AllocError, Shaped)>
-    requires { IsCost best.shaped best.cost }
-    ensures asked { IfOk result (IsNextOf (may improver.now best.shaped round) best) }
+    requires cost { (setting_of fixed.now).costs best.shaped best.cost }
+    requires fixed { IsFixed fixed.now best.shaped }
+    ensures asked { IfOk result (IsNextOf (setting_of fixed.now)
+        (may improver.now best.shaped (rest_in fixed.now) round) best) }
     ensures handed_back { IfErr result (λ refused. IsReordered best.shaped refused.1) }
 {
-    match ask(alloc, improver, &best.shaped, round) {
-        Ok(Some(order)) => judge_orders(alloc, best, order),
+    match ask(alloc, improver, &best.shaped, fixed.rest(), round) {
+        Ok(Some(order)) => judge_orders(alloc, best, order, fixed),
         Ok(None) => Ok(best),
         Err(error) => {
             let Best { shaped, cost: _ } = best;
@@ -88,9 +110,11 @@ fn ask(
     alloc: Global,
     improver: &Box<dyn Improver>,
     shaped: &Shaped,
+    rest: Option<&Rest>,
     round: u32,
 ) -> Result<Option<Vec<Vec<JobNo>>>, AllocError>
-    ensures { IfOk result (λ answer. may improver.now shaped.now round (proposal_of answer)) }
+    ensures { IfOk result (λ answer.
+        may improver.now shaped.now (option_copied rest.entry) round (proposal_of answer)) }
 {
-    improver.improve(alloc, shaped, round)
+    improver.improve(alloc, shaped, rest, round)
 }

@@ -1,4 +1,4 @@
-use plan_improve::Improver;
+use plan_improve::{Improver, Rest};
 use shop_base::{JobNo, Shaped};
 use std::alloc::{AllocError, Global};
 
@@ -7,12 +7,13 @@ use std::alloc::{AllocError, Global};
 pub struct BudgetImprover;
 
 impl Improver for BudgetImprover {
-    ghost may = { λ improver shaped round answer. Unit {0} };
+    ghost may = { λ improver shaped rest round answer. Unit {0} };
 
     fn improve(
         &self,
         alloc: Global,
         shaped: &Shaped,
+        _rest: Option<&Rest>,
         _round: u32,
     ) -> Result<Option<Vec<Vec<JobNo>>>, AllocError> {
         let plan = shaped.plan();

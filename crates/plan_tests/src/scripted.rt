@@ -2,7 +2,7 @@
 
 use crate::by_budget::BudgetImprover;
 use crate::descending::DescendingProposer;
-use plan_improve::Improver;
+use plan_improve::{Improver, Rest};
 use plan_seek::Proposer;
 use shop_base::{JobNo, Shaped, Shop};
 use std::alloc::{AllocError, Global};
@@ -94,16 +94,17 @@ impl Proposer for Scripted {
 }
 
 impl Improver for Scripted {
-    ghost may = { λ improver shaped round answer. Unit {0} };
+    ghost may = { λ improver shaped rest round answer. Unit {0} };
 
     fn improve(
         &self,
         alloc: Global,
         shaped: &Shaped,
+        rest: Option<&Rest>,
         round: u32,
     ) -> Result<Option<Vec<Vec<JobNo>>>, AllocError> {
         match self.asked(round) {
-            Answer::Shown => BudgetImprover.improve(alloc, shaped, round),
+            Answer::Shown => BudgetImprover.improve(alloc, shaped, rest, round),
             answer => orders(alloc, answer),
         }
     }

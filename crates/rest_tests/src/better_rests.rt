@@ -2,12 +2,11 @@
 
 use crate::rests::shaped_as;
 use crate::told::Told;
-use plan_improve::MAX_ROUNDS;
+use plan_improve::{
+    AnnealingImprover, ImproveRestFault, Improved, Improver, MAX_ROUNDS, Rest, improve_after,
+};
 use plan_text::{PlanFault, plan_document};
 use plan_verifier::Judged;
-use rest_improve::{
-    AnnealingRestImprover, ImproveRestFault, Improved, Rest, RestImprover, improve_after,
-};
 use run_log::AuditFault;
 use shop_base::{JobNo, Shaped};
 use std::alloc::{AllocError, Global};
@@ -41,14 +40,14 @@ struct Silent {
     questions: Rc<Cell<u32>>,
 }
 
-impl RestImprover for Silent {
-    ghost may = { λ improver shaped round answer. Unit {0} };
+impl Improver for Silent {
+    ghost may = { λ improver shaped rest round answer. Unit {0} };
 
-    fn improve_rest(
+    fn improve(
         &self,
         _alloc: Global,
         _shaped: &Shaped,
-        _rest: &Rest,
+        _rest: Option<&Rest>,
         _round: u32,
     ) -> Result<Option<Vec<Vec<JobNo>>>, AllocError> {
         self.questions.set(self.questions.get().saturating_add(1));
@@ -60,9 +59,9 @@ impl RestImprover for Silent {
 fn improvers(
     alloc: Global,
     questions: &Rc<Cell<u32>>,
-) -> Result<Vec<Box<dyn RestImprover>>, AllocError> {
-    let mut improvers: Vec<Box<dyn RestImprover>> = Vec::new(alloc);
-    improvers.push(Box::new(alloc, AnnealingRestImprover::new(0))?)?;
+) -> Result<Vec<Box<dyn Improver>>, AllocError> {
+    let mut improvers: Vec<Box<dyn Improver>> = Vec::new(alloc);
+    improvers.push(Box::new(alloc, AnnealingImprover::new(0))?)?;
     let questions = questions.clone()?;
     improvers.push(Box::new(alloc, Silent { questions })?)?;
     Ok(improvers)
@@ -83,7 +82,7 @@ fn improved(
     alloc: Global,
     start: Shaped,
     plan: &[u8],
-    improvers: &[Box<dyn RestImprover>],
+    improvers: &[Box<dyn Improver>],
     watch: &mut Told,
 ) -> Result<(bool, bool), Fail> {
     match improve_after(alloc, start, LOG, Some(4), improvers, 2, watch) {

@@ -1,0 +1,37 @@
+-- How costs compare.
+use Rattle.std.proofs.Common.{◌≡◌, inl, inr, arith, refl}
+use Rattle.plan_improve.specs.declared.cost.Cost.{Cost}
+use Rattle.plan_improve.specs.Costs.{IsLess, IsAtMost}
+
+-- at most what is at most a cost
+pub most_of_most : (c d e : Cost) → IsAtMost c d → IsAtMost d e → IsAtMost c e
+most_of_most c d e (inl less) (inl most) = inl (omega arith)
+most_of_most c d e (inl less) (inr (same, most)) = inl (omega arith)
+most_of_most c d e (inr (same, less)) (inl most) = inl (omega arith)
+most_of_most c d e (inr (same, less)) (inr (equal, most)) = inr (omega arith, omega arith)
+
+pub less_is : (c d e : Cost) → c.late ≡ d.late → c.makespan ≡ d.makespan → IsLess d e → IsLess c e
+less_is c d e late makespan (inl less) = inl (omega arith)
+less_is c d e late makespan (inr (same, less)) = inr (omega arith, omega arith)
+
+pub less_than : (c d e : Cost) → d.late ≡ e.late → d.makespan ≡ e.makespan → IsLess c d → IsLess c e
+less_than c d e late makespan (inl less) = inl (omega arith)
+less_than c d e late makespan (inr (same, less)) = inr (omega arith, omega arith)
+
+pub not_both : (c d : Cost) → IsLess c d → IsAtMost d c → ⊥
+not_both c d (inl less) (inl most) = omega arith
+not_both c d (inl less) (inr (same, most)) = omega arith
+not_both c d (inr (same, less)) (inl most) = omega arith
+not_both c d (inr (same, less)) (inr (equal, most)) = omega arith
+
+pub most_same : (c : Cost) → IsAtMost c c
+most_same c = inr (refl, omega arith)
+
+pub most_less : (c d : Cost) → IsLess c d → IsAtMost c d
+most_less c d (inl less) = inl less
+most_less c d (inr (same, less)) = inr (same, omega arith)
+
+-- nothing is late that is at most what isn't
+pub zero_most : (c d : Cost) → IsAtMost c d → d.late ≡ 0 → c.late ≡ 0
+zero_most c d (inl less) zero = absurd (omega arith)
+zero_most c d (inr (same, most)) zero = omega arith

@@ -1,0 +1,79 @@
+-- Lines that tell runs of plans that differ in their orders alone tell the same events, and lead to one cell.
+use Rattle.std.proofs.Common.{◌≡◌, ℕ, zero, suc, List, [], ◌∷◌, refl, sym, ap, ◌∙◌, subst}
+use Rattle.shop_base.specs.declared.move_order.Spot.{Spot}
+use Rattle.shop_base.specs.declared.move_order.Spot.TheVariants.{Out, At}
+use Rattle.shop_base.specs.Plan.{PlannedShop}
+use Rattle.shop_base.specs.Cell.{Cell, made, start}
+use Rattle.shop_base.specs.Move.{source, target, spot_after, after_leaving, with_entry, with_moved}
+use Rattle.shop_base.specs.Run.{Event, Reported, Moved, after, after_all, ends_in}
+use Rattle.shop_base.specs.declared.report.Report.TheVariants.{Arrive, Finish, Clean}
+use Rattle.cell_tables.specs.Events.{events_of}
+use Rattle.cell_tables.specs.Moving.{IsSpotOf}
+use Rattle.cell_tables.specs.declared.entry.Entry.{Entry}
+use Rattle.cell_tables.specs.declared.entry.Entry.TheVariants.{Report as ReportEntry, Order as OrderEntry}
+use Rattle.event_lines.specs.LogLines.{IsEntryOf, LineTells, LinesTell}
+use Rattle.event_lines.proofs.Readings.{one_reading}
+use Rattle.plan_improve.specs.Reordered.{reordered, IsReordered}
+use Rattle.run_log.specs.Audits.{TellRun}
+use Rattle.plan_improve.specs.RestCosts.{IsCellOf}
+
+module _ (p : PlannedShop) (order : List (List ℕ)) where
+  abbrev other_plan : PlannedShop
+  other_plan = reordered p order
+
+  -- what an event makes of a cell hangs on the routes and the cleaning times alone
+  pub source_same : (j n : ℕ) → spot_after other_plan j n ≡ spot_after p j n
+  source_same j zero = refl
+  source_same j (suc k) = refl
+
+  leaving_same : (c : Cell) (s : Spot) (t : ℕ) → after_leaving other_plan c s t ≡ after_leaving p c s t
+  leaving_same c Out t = refl
+  leaving_same c (At m) t = refl
+
+  pub after_same : (c : Cell) (e : Event) → after other_plan c e ≡ after p c e
+  after_same c (Reported r) = refl
+  after_same c (Moved o) = ap (λ (x : Cell). with_moved (with_entry x o.job (target p c o.job)) o.job o.at)
+      (ap (λ (s : Spot). after_leaving other_plan c s o.at) (source_same o.job (made c o.job)) ∙ leaving_same c (source p c o.job) o.at)
+
+  all_same : (c : Cell) (es : List Event) → after_all other_plan c es ≡ after_all p c es
+  all_same c [] = refl
+  all_same c (e ∷ es) = ap (λ (x : Cell). after_all other_plan x es) (after_same c e) ∙ all_same (after p c e) es
+
+  ends_same : (es : List Event) → ends_in other_plan es ≡ ends_in p es
+  ends_same es = all_same (start p) es
+
+  -- and what a line tells on the numbers of jobs and machines
+  spot_same : (s : Spot) → IsSpotOf other_plan s → IsSpotOf p s
+  spot_same Out is = tt
+  spot_same (At m) is = is
+
+  entry_same : (e : Entry) → IsEntryOf other_plan e → IsEntryOf p e
+  entry_same (ReportEntry (Arrive j at)) is = is
+  entry_same (ReportEntry (Finish j m at)) is = is
+  entry_same (ReportEntry (Clean m at)) is = is
+  entry_same (OrderEntry o) is = (is.0, spot_same o.source is.1, spot_same o.target is.2, is.3)
+
+  line_same : (line : List ℕ) (es : List Entry) → LineTells other_plan line es → LineTells p line es
+  line_same line [] is = is
+  line_same line (e ∷ []) is = (is.0, is.1, entry_same e is.2)
+  line_same line (e ∷ f ∷ es) is = is
+
+  pub tell_same : (lines : List (List ℕ)) (es : List Entry) → LinesTell other_plan lines es → LinesTell p lines es
+  tell_same [] es is = is
+  tell_same (line ∷ lines) es is = (is.0, is.1, line_same line is.0 is.2, tell_same lines is.1 is.3, is.4)
+
+  cell_same : (lines : List (List ℕ)) (c d : Cell) → IsCellOf lines p c → IsCellOf lines other_plan d → c ≡ d
+  cell_same lines c d one other =
+      let told : other.told ≡ one.told = one_reading p lines other.told one.told (tell_same lines other.told other.tells) one.tells in
+      one.run.cell ∙ sym (other.run.cell ∙ ap (λ es. ends_in other_plan (events_of es)) told ∙ ends_same (events_of one.told))
+
+pub one_cell : (lines : List (List ℕ)) (p q : PlannedShop) (c d : Cell) → IsReordered p q → IsCellOf lines p c → IsCellOf lines q d → c ≡ d
+one_cell lines p q c d same one other = cell_same p q.plan.order lines c d one (subst (λ (x : PlannedShop). IsCellOf lines x d) same other)
+
+-- of one plan too
+pub cell_once : (lines : List (List ℕ)) (p : PlannedShop) (c d : Cell) → IsCellOf lines p c → IsCellOf lines p d → c ≡ d
+cell_once lines p c d one other = one_cell lines p p c d refl one other
+
+-- lines that lead to a cell tell a run
+pub tells_run : (lines : List (List ℕ)) (p : PlannedShop) (c : Cell) → IsCellOf lines p c → TellRun p lines
+tells_run lines p c is = (is.told, is.tells, is.run.run)

@@ -1,0 +1,99 @@
+-- What a rest costs, from the moments of its nodes; it is the only cost.
+use Rattle.std.proofs.Common.{◌≡◌, ℕ, suc, ◌+◌, ◌*◌, ◌-◌, ◌<◌, ◌≤◌, if◌then◌else◌, nat_lt, lt-ltb, le-ltb, List, inl, inr, arith, refl, sym, ap, ◌∙◌, subst}
+use Rattle.std.proofs.lemmas.Bool.{cases_lt}
+use Rattle.shop_base.specs.declared.node.Node.{Node}
+use Rattle.shop_base.specs.Plan.{PlannedShop, jobs, steps, budget}
+use Rattle.shop_base.specs.Cell.{Cell, made}
+use Rattle.shop_base.specs.Graph.{leaving}
+use Rattle.shop_base.specs.Ends.{sum_below}
+use Rattle.shop_base.proofs.Sums.{sum_below_same}
+use Rattle.shop_base.proofs.Cycles.{ranks_exclude_cycle}
+use Rattle.alt_graph.specs.Times.{NodeTimes, rank_of, earliest_of}
+use Rattle.plan_verifier.specs.Rest.{AreOrderedAhead, IsGreatestAhead}
+use Rattle.plan_verifier.specs.Leavings.{IsMakespanAfter}
+use Rattle.plan_verifier.proofs.GoingOn.{leaving_ahead}
+use Rattle.plan_improve.specs.declared.cost.Cost.{Cost}
+use Rattle.plan_improve.specs.RestCosts.{AreLeavingsAhead, late_by, IsLatest, IsCostFrom, IsRestCost}
+use Rattle.plan_improve.specs.RestKeeping.{leaves_in, LeaveSoon, the_last_leaving}
+use Rattle.plan_improve.proofs.OneCell.{cell_once}
+
+module _ (p : PlannedShop) (c : Cell) (t : ℕ) where
+  greatest_once : (v : Node) (m n : ℕ) → IsGreatestAhead p c t v m → IsGreatestAhead p c t v n → m ≡ n
+  greatest_once v m n one other = omega (arith, other.longest one.reached.0 m one.reached.1, one.longest other.reached.0 n other.reached.1)
+
+  leaves_once : (f g : ℕ → ℕ) → AreLeavingsAhead p c t f → AreLeavingsAhead p c t g → (j : ℕ) → j < jobs p → f j ≡ g j
+  leaves_once f g one other j inside = elim (cases_lt (steps p j) (made c j)) [
+    | inl gone ↦ one.left j inside gone ∙ sym (other.left j inside gone)
+    | inr here ↦ greatest_once (leaving p j) (f j) (g j) (one.ahead j inside (λ gone. omega arith)) (other.ahead j inside (λ gone. omega arith))
+  ]
+
+  late_once : (f g : ℕ → ℕ) → AreLeavingsAhead p c t f → AreLeavingsAhead p c t g → sum_below (late_by p c f) (jobs p) ≡ sum_below (late_by p c g) (jobs p)
+  late_once f g one other = sum_below_same _ _ (jobs p)
+      (λ j inside. ap (λ n. if nat_lt (steps p j) (made c j) then 0 else n - budget p j) (leaves_once f g one other j inside))
+
+  latest_le : (f g : ℕ → ℕ) (m n : ℕ) → ((j : ℕ) → j < jobs p → f j ≡ g j) → IsLatest p f m → IsLatest p g n → m ≤ n
+  latest_le f g m n same one other =
+      let (j, inside, is) = one.reached in
+      omega (arith, is, same j inside, other.bound j inside)
+
+  cost_late : (a b : Cost) → IsCostFrom p c t a → IsCostFrom p c t b → a.late ≡ b.late
+  cost_late a b one other = one.late ∙ late_once one.leaves other.leaves one.are other.are ∙ sym other.late
+
+  cost_makespan : (a b : Cost) → IsCostFrom p c t a → IsCostFrom p c t b → a.makespan ≡ b.makespan
+  cost_makespan a b one other = omega (
+    arith,
+    latest_le one.leaves other.leaves a.makespan b.makespan (leaves_once one.leaves other.leaves one.are other.are) one.makespan other.makespan,
+    latest_le other.leaves one.leaves b.makespan a.makespan (leaves_once other.leaves one.leaves other.are one.are) other.makespan one.makespan,
+  )
+
+  -- the moments of the leavings give the cost
+  pub cost_is : (times : NodeTimes) (cost : Cost) → AreOrderedAhead p c t times → cost.late ≡ sum_below (late_by p c (leaves_in p times)) (jobs p)
+      → IsMakespanAfter p (earliest_of times) cost.makespan → IsCostFrom p c t cost
+  cost_is times cost ordered late makespan = record {
+    acyclic = λ cycle. ranks_exclude_cycle p (rank_of times) cycle.0 ordered.schedule.ranks cycle.1;
+    leaves = leaves_in p times;
+    are = record {
+      left = λ j inside gone. ordered.left j inside gone;
+      ahead = λ j inside here. (record {
+        reached = ordered.reached (leaving p j) (record { job = inside; place = omega arith }) (leaving_ahead p c j here);
+        longest = λ nodes k path. ordered.greatest nodes (leaving p j) k path;
+      });
+    };
+    late = late;
+    makespan = record { bound = makespan.bound; reached = makespan.reached };
+  }
+
+-- the total lateness of the first n jobs
+pub record IsLateBelow (p : PlannedShop) (c : Cell) (leaves : ℕ → ℕ) (n late : ℕ) : Type 0 where
+  pub sum : late ≡ sum_below (late_by p c leaves) n
+  pub few : late ≤ n * 2020200000000
+
+pub late_none : (p : PlannedShop) (c : Cell) (leaves : ℕ → ℕ) → IsLateBelow p c leaves 0 0
+late_none p c leaves = record { sum = refl; few = omega arith }
+
+-- a job isn't later than it leaves
+pub late_few : (p : PlannedShop) (c : Cell) (times : NodeTimes) (j : ℕ) → LeaveSoon p c (earliest_of times) → j < jobs p → late_by p c (leaves_in p times) j ≤ the_last_leaving
+late_few p c times j soon inside = elim (cases_lt (steps p j) (made c j)) [
+  | inl gone ↦ rw (lt-ltb (steps p j) (made c j) gone) (omega arith)
+  | inr here ↦ rw (le-ltb (steps p j) (made c j) here) (omega (arith, soon j inside (λ gone. omega arith)))
+]
+
+pub late_more : (p : PlannedShop) (c : Cell) (leaves : ℕ → ℕ) (n late x : ℕ) → IsLateBelow p c leaves n late → x ≡ late_by p c leaves n → late_by p c leaves n ≤ the_last_leaving
+    → IsLateBelow p c leaves (n + 1) (late + x)
+late_more p c leaves n late x below is few =
+    let next : suc n ≡ n + 1 = omega arith in
+    let more : late + x ≡ sum_below (late_by p c leaves) n + late_by p c leaves n = omega (arith, below.sum, is) in
+    record {
+      sum = subst (λ k. late + x ≡ sum_below (late_by p c leaves) k) next more;
+      few = omega (arith, below.few, is, few);
+    }
+
+module _ (lines : List (List ℕ)) (t : ℕ) (p : PlannedShop) (a b : Cost) (one : IsRestCost lines t p a) (other : IsRestCost lines t p b) where
+  same_costs : IsCostFrom p one.cell t b
+  same_costs = subst (λ (x : Cell). IsCostFrom p x t b) (cell_once lines p other.cell one.cell other.run one.run) other.costs
+
+  pub same_late : a.late ≡ b.late
+  same_late = cost_late p one.cell t a b one.costs same_costs
+
+  pub same_makespan : a.makespan ≡ b.makespan
+  same_makespan = cost_makespan p one.cell t a b one.costs same_costs

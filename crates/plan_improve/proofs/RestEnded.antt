@@ -1,0 +1,88 @@
+-- What is said of a better plan for the rest of a run.
+use Rattle.std.proofs.Common.{◌≡◌, ◌⊎◌, ℕ, List, Option, Result, Ok, Err, IfOk, IfErr, inl, inr, refl, sym, ap, ◌∙◌, subst}
+use Rattle.shop_base.specs.Plan.{PlannedShop}
+use Rattle.shop_base.specs.Cell.{Cell}
+use Rattle.shop_base.specs.Report.{IsNextMoment}
+use Rattle.alt_graph.specs.Solved.{HasCycle}
+use Rattle.plan_verifier.specs.RestVerdicts.{IsAcceptableAhead, IsRestAccepted}
+use Rattle.plan_improve.specs.Settings.{rest_after, IsNoWorse}
+use Rattle.plan_improve.specs.Reordered.{IsReordered}
+use Rattle.plan_improve.specs.Watching.{Told}
+use Rattle.plan_improve.specs.Runs.{Asked}
+use Rattle.plan_improve.specs.declared.improved.Improved.{Improved}
+use Rattle.plan_improve.specs.RestCosts.{IsCellOf}
+use Rattle.plan_improve.specs.Improved.{HasNoRestBegin, IsFound, IsFoundTold, IsNeverWorse, IsVerdictOn, present_of}
+use Rattle.plan_improve.specs.Keeping.{Comes}
+use Rattle.plan_improve.specs.RestKeeping.{IsSet, IsJudgedOn, IsImprovedTold}
+use Rattle.plan_improve.proofs.OneCell.{one_cell, cell_once}
+use Rattle.plan_improve.proofs.RestLawful.{accepted}
+use Rattle.plan_improve.proofs.Searched.{same_numbers, stays_there, never_worse_either, found_either, found_told_either}
+
+module _ (lines : List (List ℕ)) (t : ℕ) (before after : Option (List Told)) (made : List Told → Asked) (start : PlannedShop) where
+  -- the lines tell a run of the plan that is found, which ends as that of the start does
+  pub comes_set : (p : PlannedShop) → IsSet lines t start → Comes (rest_after lines t) before after made start p → IsSet lines t p
+  comes_set p set (inl stays) = subst (IsSet lines t) (sym stays.1) set
+  comes_set p set (inr came) = (
+    came.is.cell,
+    came.is.run,
+    subst (λ (x : Cell). IsNextMoment x t) (one_cell lines start p set.0 came.is.cell came.same set.1 came.is.run) set.2,
+  )
+
+  -- with the verdict on its rest
+  pub improved_answer : {E : Type 0} (p : PlannedShop) (r : Result Improved E) → Comes (rest_after lines t) before after made start p → IfOk r (IsJudgedOn lines t p)
+      → IfOk r (IsImprovedTold lines t before after made start)
+  improved_answer p (Ok found) comes judged = record {
+    came = subst (Comes (rest_after lines t) before after made start) (sym judged.shaped) comes;
+    cell = judged.cell;
+    run = subst (λ (x : PlannedShop). IsCellOf lines x judged.cell) (sym judged.shaped) judged.run;
+    verdict = subst (λ (x : PlannedShop). IsVerdictOn x judged.cell t found.verdict) (sym judged.shaped) judged.verdict;
+  }
+  improved_answer p (Err e) comes judged = tt
+
+  pub back_answer : {A E : Type 0} (p : PlannedShop) (r : Result A (E × PlannedShop)) → Comes (rest_after lines t) before after made start p → IfErr r (λ refused. refused.1 ≡ p)
+      → IfErr r (λ refused. IsReordered start refused.1)
+  back_answer p (Ok found) comes back = tt
+  back_answer p (Err e) comes back = subst (IsReordered start) (sym back) (same_numbers (rest_after lines t) before after made start p comes)
+
+  module _ (found : Improved) (is : IsImprovedTold lines t before after made start found) where
+    pub same_rest_numbers : IsReordered start found.shaped
+    same_rest_numbers = same_numbers (rest_after lines t) before after made start found.shaped is.came
+
+    pub acyclic_unless : (HasCycle found.shaped → ⊥) ⊎ HasNoRestBegin lines start
+    acyclic_unless = elim is.came [
+      | inl stays ↦ inr stays.0
+      | inr came ↦ inl came.is.costs.acyclic
+    ]
+
+    pub rest_stays : HasNoRestBegin lines start → found.shaped ≡ start
+    rest_stays none = stays_there (rest_after lines t) before after made start found.shaped is.came none
+
+-- the same, where the present moment is told by the cell of the log
+module _ (lines : List (List ℕ)) (at : Option ℕ) (t : ℕ) (before after : Option (List Told)) (made : ℕ → List Told → Asked) (start : PlannedShop) (begun : Cell)
+    (told : IsCellOf lines start begun) (present : t ≡ present_of at begun.last) (found : Improved) (is : IsImprovedTold lines t before after (made t) start found)
+    (c : Cell) (here : IsCellOf lines start c) where
+  moment : t ≡ present_of at c.last
+  moment = present ∙ ap (λ (x : Cell). present_of at x.last) (cell_once lines start begun c told here)
+
+  pub never_worse : IsNeverWorse (rest_after lines (present_of at c.last)) start found.shaped
+  never_worse = subst (λ n. IsNeverWorse (rest_after lines n) start found.shaped) moment (never_worse_either (rest_after lines t) before after (made t) start found.shaped is.came)
+
+  pub is_found : HasNoRestBegin lines start ⊎ IsFound (rest_after lines (present_of at c.last)) (λ p q. (told : List Told) × made (present_of at c.last) told p q) start found.shaped
+  is_found = subst (λ n. HasNoRestBegin lines start ⊎ IsFound (rest_after lines n) (λ p q. (told : List Told) × made n told p q) start found.shaped) moment
+      (found_either (rest_after lines t) before after (made t) start found.shaped is.came)
+
+  pub is_found_told : HasNoRestBegin lines start ⊎ IsFoundTold (rest_after lines (present_of at c.last)) before after (made (present_of at c.last)) start found.shaped
+  is_found_told = subst (λ n. HasNoRestBegin lines start ⊎ IsFoundTold (rest_after lines n) before after (made n) start found.shaped) moment
+      (found_told_either (rest_after lines t) before after (made t) start found.shaped is.came)
+
+  same_cell : is.cell ≡ c
+  same_cell = sym (one_cell lines start found.shaped c is.cell (same_rest_numbers lines t before after (made t) start found is) here is.run)
+
+  pub verdict_there : IsVerdictOn found.shaped c (present_of at c.last) found.verdict
+  verdict_there = subst (λ n. IsVerdictOn found.shaped c n found.verdict) moment (subst (λ (x : Cell). IsVerdictOn found.shaped x t found.verdict) same_cell is.verdict)
+
+  pub stays_accepted : IsAcceptableAhead start c (present_of at c.last) → IsRestAccepted found.verdict
+  stays_accepted acceptable =
+      let no_worse : IsNoWorse (rest_after lines (present_of at c.last)) found.shaped start = never_worse start (inl (acceptable.acyclic, refl)) in
+      let ends : IsCellOf lines found.shaped c = subst (λ (x : Cell). IsCellOf lines found.shaped x) same_cell is.run in
+      verdict_there.exact.1 (accepted lines (present_of at c.last) start found.shaped c c no_worse here ends acceptable)

@@ -1,0 +1,13 @@
+use Rattle.std.proofs.Common.{◌≡◌, map}
+use Rattle.std.specs.List.{range_with_len}
+use Rattle.shop_base.specs.Cell.{cleaning}
+use Rattle.plan_improve.specs.RestOf.{job_rest}
+use Rattle.plan_improve.proofs.rest_of_cell.rest_of.Given as goal
+
+-- the jobs looked at
+abbrev pub invariant-loop-job : goal.invariant-loop-job
+invariant-loop-job g l = l.jobs.items ≡ map (job_rest l.cell.plan l.cell.cell l.present) (range_with_len 0 l.job)
+
+-- the machines looked at
+abbrev pub invariant-loop-machine : goal.invariant-loop-machine
+invariant-loop-machine g l = l.cleanings.items ≡ map (cleaning l.cell.cell) (range_with_len 0 l.machine)

@@ -1,0 +1,67 @@
+//! From where the rest of a run is looked at.
+
+ghost use Rattle.std.specs.Prelude.{◌≡◌, ◌≤◌, ◌↔◌, false, [], IfOk, IfErr};
+ghost use Rattle.shop_base.specs.declared.limits.TheConstants.{MAX_MOMENT};
+ghost use Rattle.text_lines.specs.Lines.{ended_lines};
+ghost use Rattle.event_lines.specs.LogLines.{LinesTell};
+ghost use Rattle.plan_improve.specs.Faults.{IsMomentFault, IsBeginFault};
+ghost use Rattle.plan_improve.specs.RestKeeping.{IsPresent, IsRestAt, IsSetAt};
+
+use crate::improve_rest_fault::ImproveRestFault;
+use crate::rest_of_cell::rest_of;
+use plan_annealing::Rest;
+use run_log::run_of_log;
+use shop_base::limits::MAX_MOMENT;
+use shop_base::{Moment, Shaped};
+use std::alloc::Global;
+
+/// What is known of a run before its rest is looked at.
+#[derive(Drop)]
+pub(crate) struct Begun {
+    pub present: Moment,
+    pub rest: Rest,
+    /// Whether its log records an event.
+    pub has_event: bool,
+}
+
+/// The run that the log records by the plan, at the moment that is given or else at its last one.
+pub(crate) fn begun_at(
+    alloc: Global,
+    start: &Shaped,
+    log: &[u8],
+    at: Option<Moment>,
+) -> Result<Begun, ImproveRestFault>
+    ensures set { IfOk result (λ begun. IsSetAt (ended_lines log.now) at start.now begun.present) }
+    ensures rest { IfOk result (λ begun. IsRestAt (ended_lines log.now) start.now begun.present begun.rest) }
+    ensures event { IfOk result (λ begun. (begun.has_event ≡ false) ↔ LinesTell start.now (ended_lines log.now) []) }
+    ensures refused { IfErr result (IsBeginFault (ended_lines log.now) at start.now) }
+{
+    let run = run_of_log(alloc, start, log)?;
+    // Called for its clause alone: the last moment is within the limit.
+    let _plan = run.cell.shaped();
+    let present = present_moment(at, run.cell.last())?;
+    let rest = rest_of(alloc, &run.cell, present)?;
+    Ok(Begun {
+        present,
+        rest,
+        has_event: run.entries.as_slice().len() > 0,
+    })
+}
+
+/// The moment that is given, if it can be the present one after the last, or else the last one.
+fn present_moment(at: Option<Moment>, last: Moment) -> Result<Moment, ImproveRestFault>
+    requires { last ≤ MAX_MOMENT }
+    ensures present { IfOk result (IsPresent at last) }
+    ensures refused { IfErr result (IsMomentFault at last) }
+{
+    let Some(at) = at else {
+        return Ok(last);
+    };
+    if at < last {
+        return Err(ImproveRestFault::Past { last });
+    }
+    if at > MAX_MOMENT {
+        return Err(ImproveRestFault::MomentTooLarge);
+    }
+    Ok(at)
+}

@@ -1,5 +1,0 @@
-use Rattle.rest_improve.proofs.Lawful.{same_cell}
-use Rattle.rest_improve.proofs.laws.a_log_has_one_cell.Goals as goal
-
-pub returns : goal.returns
-returns c lines p q one other same first next = same_cell lines p q one other same first next

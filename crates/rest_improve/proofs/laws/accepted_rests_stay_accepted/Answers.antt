@@ -1,5 +1,0 @@
-use Rattle.rest_improve.proofs.Lawful.{accepted}
-use Rattle.rest_improve.proofs.laws.accepted_rests_stay_accepted.Goals as goal
-
-pub returns : goal.returns
-returns c lines t p q one other no_worse first next acceptable = accepted lines t p q one other no_worse first next acceptable

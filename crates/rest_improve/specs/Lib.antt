@@ -1,9 +1,0 @@
--- Reached by public clauses: to be read and believed.
-pub mod Costs
-pub mod Runs
-pub mod Improved
-pub mod Faults
-pub mod Laws
--- Of proofs and private contracts alone.
-pub mod RestOf
-pub mod Keeping
