@@ -1,5 +1,5 @@
 -- The rest of a run, while a plan is improved for it.
-use Rattle.std.specs.Prelude.{◌≡◌, ℕ, ◌<◌, ◌≤◌, List, Option}
+use Rattle.std.specs.Prelude.{◌≡◌, ℕ, ◌<◌, ◌≤◌, List, Option, Some}
 use Rattle.shop_base.specs.declared.limits.TheConstants.{MAX_MOMENT}
 use Rattle.shop_base.specs.declared.node.Node.{Node}
 use Rattle.shop_base.specs.Plan.{PlannedShop, jobs}
@@ -11,8 +11,7 @@ use Rattle.plan_annealing.specs.declared.rest.Rest.{Rest}
 use Rattle.plan_verifier.specs.declared.verdict.Judged.{Judged}
 use Rattle.plan_improve.specs.declared.improved.Improved.{Improved}
 use Rattle.plan_improve.specs.RestCosts.{IsCellOf}
-use Rattle.plan_improve.specs.RestOf.{IsRestOf}
-use Rattle.plan_improve.specs.Settings.{rest_after}
+use Rattle.plan_improve.specs.Settings.{rest_after, IsRestThere}
 use Rattle.plan_improve.specs.Watching.{Told}
 use Rattle.plan_improve.specs.Runs.{Asked}
 use Rattle.plan_improve.specs.Improved.{IsVerdictOn, present_of}
@@ -44,7 +43,7 @@ module _ (lines : List (List ℕ)) where
 
   -- this is left of the plan from their cell and the present moment t on
   abbrev pub IsRestAt : PlannedShop → ℕ → Rest → Type 0
-  IsRestAt p t rest = (c : Cell) × IsCellOf lines p c × IsRestOf p c t rest
+  IsRestAt p t rest = IsRestThere lines t p (Some rest)
 
 module _ (lines : List (List ℕ)) (t : ℕ) where
   -- the verdict on the rest of the run that they tell by the plan
