@@ -1,9 +1,9 @@
 -- The lines of a chain.
-use Rattle.std.specs.Prelude.{ℕ, ◌+◌, ◌^◌, ◌<◌, List, [], ◌∷◌, ◌++◌, codes, decimal}
+use Rattle.std.specs.Prelude.{ℕ, ◌+◌, List, [], ◌∷◌, ◌++◌, codes, decimal}
 use Rattle.shop_base.specs.declared.node.Node.{Node}
 use Rattle.shop_base.specs.NodeText.{node_text}
 use Rattle.shop_base.specs.Plan.{PlannedShop, release}
-use Rattle.shop_base.specs.Graph.{HasArc, Path}
+use Rattle.shop_base.specs.Graph.{HasArc}
 use Rattle.plan_explain.specs.declared.arcs.ToldArc.{ToldArc}
 use Rattle.plan_explain.specs.Arcs.{before, time_of, arc_words, told_arc}
 
@@ -20,13 +20,6 @@ length_from p t u (v ∷ vs) = length_from p (reached_at p t u v) v vs
 abbrev pub AreAlong : PlannedShop → Node → List Node → Type 0
 AreAlong p u [] = Unit {0}
 AreAlong p u (v ∷ vs) = HasArc p u v × AreAlong p v vs
-
--- a path to some node, whose length is a moment
-pub record IsPath (p : PlannedShop) (nodes : List Node) : Type 0 where
-  pub last : Node
-  pub size : ℕ
-  pub path : Path p nodes last size
-  pub small : size < 2 ^ 64
 
 -- `R j.0 release of job J`
 abbrev pub release_line : ℕ → Node → List ℕ

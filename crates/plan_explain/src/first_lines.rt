@@ -30,7 +30,7 @@ pub fn first_line(alloc: Global, verdict: &Verdict) -> Result<Vec<u8>, AllocErro
     Ok(line)
 }
 
-/// The line of a verdict on the rest of a run, in the same words. Of a job that is gone it gives the moment at which that
+/// The line of a verdict on the rest of a run, in the same words. Of a job that is gone it gives the moment at which it
 /// left.
 pub fn first_line_after<P: Planned>(
     alloc: Global,
@@ -75,7 +75,8 @@ fn push_accepted_line<P: Planned>(
     times: &Times,
 ) -> Result<(), AllocError>
     requires { AreRanks (P.planned plan.now) times.now }
-    ensures { OnOk result (Adds (IsAcceptedText (P.planned plan.now) (earliest_of times.now)) text.old.items text.new.items) }
+    ensures { let p = P.planned plan.now in
+        OnOk result (Adds (IsAcceptedText p (earliest_of times.now)) text.old.items text.new.items) }
 {
     let mut line = Line::empty();
     line.put_text(b" leaves");
@@ -89,7 +90,8 @@ fn push_accepted_line<P: Planned>(
 /// Adds each job's leaving, with a blank before it.
 fn push_leavings<P: Planned>(text: &mut Vec<u8>, plan: &P, times: &Times) -> Result<(), AllocError>
     requires { AreRanks (P.planned plan.now) times.now }
-    ensures { OnOk result (text.new.items ≡ text.old.items ++ moment_words (leavings_by (P.planned plan.now) (earliest_of times.now))) }
+    ensures { let p = P.planned plan.now in
+        OnOk result (text.new.items ≡ text.old.items ++ moment_words (leavings_by p (earliest_of times.now))) }
 {
     for job in 0..plan.shaped().job_count() {
         push_moment(text, leave_time(plan, times, job))?;
