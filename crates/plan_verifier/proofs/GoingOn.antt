@@ -1,5 +1,5 @@
 -- What holds of every run that goes on from a cell whose rest has ranks and earliest moments.
-use Rattle.std.proofs.Common.{◌≡◌, ◌↔◌, ℕ, ◌<◌, ◌≤◌, List, arith, sym, subst, inl, inr}
+use Rattle.std.proofs.Common.{◌≡◌, ◌↔◌, ℕ, ◌<◌, ◌≤◌, List, ◌++◌, arith, sym, subst, inl, inr}
 use Rattle.std.proofs.lemmas.Bool.{cases_lt}
 use Rattle.shop_base.specs.declared.node.Node.{Node}
 use Rattle.shop_base.specs.declared.report.Report.{Report}
@@ -11,10 +11,13 @@ use Rattle.shop_base.specs.Punctual.{ArePunctualFrom, AreNotEarly}
 use Rattle.shop_base.specs.Ends.{HasEnded, reports_in}
 use Rattle.shop_base.specs.ReportsLeft.{reports_left}
 use Rattle.shop_base.specs.Graph.{leaving, IsSimpleCycle}
-use Rattle.shop_base.specs.KeptMoments.{KeepsLeaving}
+use Rattle.shop_base.specs.KeptMoments.{KeepsMoments, KeepsLeaving}
 use Rattle.shop_base.specs.Ahead.{IsAhead, RespectArcs, MeetBudgetsAhead, MomentsFitAhead, PathAhead, IsScheduleAhead, GoesOnTo}
 use Rattle.shop_base.specs.Within.{AreWithin, AreByTheirOwn, AreMadeBy}
 use Rattle.shop_base.specs.Deadlines.{AreDeadlines}
+use Rattle.shop_base.specs.Sound.{IsSound}
+use Rattle.shop_base.proofs.InTime.{path_kept}
+use Rattle.shop_base.proofs.Keeping.{run-sound}
 use Rattle.shop_base.proofs.GoingOn.{never_stuck_from_there-holds, ends_on_the_reports_left-holds, a_cycle_stops_every_continuation-holds}
 use Rattle.shop_base.proofs.Within.{in_time_within-holds, each_move_is_in_time-holds, in_time_from_there-holds, just_in_time_from_there-holds, fit-can_be_kept}
 use Rattle.shop_base.proofs.SomeExact.{some_continuation_is_exact-holds}
@@ -22,6 +25,8 @@ use Rattle.shop_base.proofs.Deadlines.{deadlines_are_the_latest-holds, no_deadli
 use Rattle.alt_graph.specs.Times.{NodeTimes, rank_of, earliest_of}
 use Rattle.plan_verifier.specs.FromThere.{IsNeverStuckFrom, IsInTimeFrom, IsNeverGoneAfterFrom, IsNeverGoneBeforeFrom, IsJustInTimeFrom, IsNeverInBudgetFrom, AreDeadlinesFrom, IsNeverDoneFrom}
 use Rattle.plan_verifier.specs.Rest.{AreOrderedAhead}
+use Rattle.plan_verifier.specs.RestVerdicts.{IsAcceptableAhead}
+use Rattle.plan_verifier.proofs.Acceptable.{acceptable}
 use Rattle.plan_verifier.proofs.PathsAhead.{path_no_faster}
 
 -- a job that isn't gone has its leaving ahead
@@ -119,11 +124,10 @@ module _ (p : PlannedShop) (c : Cell) (t : ℕ) (times : NodeTimes) (ordered : A
           (subst (λ (d : Cell). IsAhead d v) (sym same) ahead);
       in_time = λ es rs fs end run same on within j inside here. in_time_by_deadlines-holds p rank kept due es t rs fs end run (in_order es same next) (schedule es same kept ordered.schedule.moments) (early es same) (dues es same)
           (goes es same rs fs end on) (subst (λ (d : Cell). AreWithin p due d fs) (sym same) within) j inside (still_here es same j here);
-      stays = λ es rs fs end run same on within. (
-        stay es rs fs end run same on,
-        the_rest_stays_accepted-holds p rank kept due es t rs fs end run (in_order es same next) (schedule es same kept ordered.schedule.moments) (early es same) (dues es same)
-            (goes es same rs fs end on) (subst (λ (d : Cell). AreWithin p due d fs) (sym same) within),
-      );
+      stays = λ es rs fs end run same on within.
+          let still = the_rest_stays_accepted-holds p rank kept due es t rs fs end run (in_order es same next) (schedule es same kept ordered.schedule.moments) (early es same) (dues es same)
+          (goes es same rs fs end on) (subst (λ (d : Cell). AreWithin p due d fs) (sym same) within) in
+          (stay es rs fs end run same on, still_acceptable es rs fs end run same on still.0 still.1 still.2, still);
       out = λ es rs fs end run same on own ended j inside here. all_out_by_deadlines-holds p rank kept due es t rs fs end run (in_order es same next) (schedule es same kept ordered.schedule.moments) (early es same) (dues es same)
           (goes es same rs fs end on) (subst (λ (d : Cell). AreByTheirOwn p due d fs) (sym same) own) ended j inside (still_here es same j here);
     }
@@ -138,6 +142,14 @@ module _ (p : PlannedShop) (c : Cell) (t : ℕ) (times : NodeTimes) (ordered : A
         stay es rs fs end run same on =
             let all = never_stuck_from es rs fs end run same on in
             subst (λ (d : Cell). AreDeadlines p d due) (sym all.1) (deadlines_stay-holds p due es fs ordered.schedule.shaped run all.0 (dues es same))
+
+        -- by moments that still fit, which no path ahead exceeds
+        still_acceptable : (es : List Event) (rs : List Report) (fs : List Event) (end : Cell) → IsRun p es → ends_in p es ≡ c → GoesOnTo p c t rs fs end
+            → (moments : Node → ℕ) → KeepsMoments p moments end → MeetBudgetsAhead p end moments → IsAcceptableAhead p end end.last
+        still_acceptable es rs fs end run same on moments keeps meets =
+            let all = never_stuck_from es rs fs end run same on in
+            let sound : IsSound p end = subst (IsSound p) (sym all.1) (run-sound p (es ++ fs) ordered.schedule.shaped all.0) in
+            acceptable p end end.last rank moments ordered.schedule.ranks (λ nodes v n path. path_kept p end end.last moments nodes v n sound keeps path) meets
 
   pub never_gone_before : (j : ℕ) → j < jobs p → (IsGone p c j → ⊥) → IsNeverGoneBeforeFrom p c t j (kept (leaving p j))
   never_gone_before j inside here = (let (nodes, path) = leaving_path j inside here in path_no_faster p c t j nodes (kept (leaving p j)) ordered.schedule.shaped path)

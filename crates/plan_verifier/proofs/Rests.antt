@@ -13,8 +13,8 @@ use Rattle.shop_base.specs.Graph.{IsNode, leaving}
 use Rattle.shop_base.specs.Ahead.{next_node, IsAhead, HoldsUp, PathAhead, now, held, onward, MomentsFitAhead}
 use Rattle.shop_base.proofs.Cycles.{source_node}
 use Rattle.shop_base.proofs.CellFacts.{arrival_due, operation_due, job_due}
-use Rattle.shop_base.proofs.Ahead.{IsLeftIn, arc_ahead, held_left, path_left}
-use Rattle.shop_base.proofs.InTime.{present_left}
+use Rattle.shop_base.proofs.Ahead.{IsLeftIn, arc_ahead, held_left}
+use Rattle.shop_base.proofs.InTime.{path_kept}
 use Rattle.alt_graph.specs.Bounds.{NodeBounds, bound_of, PathFrom, begins_at, goes_along}
 use Rattle.alt_graph.specs.Times.{NodeTimes, earliest_of, AreOrderedFrom}
 use Rattle.alt_graph.specs.declared.solving.Solved.{Solved}
@@ -145,10 +145,7 @@ module _ (p : PlannedShop) (c : Cell) (t : ℕ) (sound : IsSound p c) where
         onward nodes u v n d (path_ahead nodes u n (of_ahead p c t sound u (source_node p u v d arc).job from) path) arc
 
     none_longer : (nodes : List Node) (v : Node) (n : ℕ) → PathAhead p c t nodes v n → n ≤ kept v
-    none_longer _ _ _ (now v is ahead) = present_left p c t kept v moments (record { ahead = ahead; job = is.job; place = is.place })
-    none_longer _ _ _ (held a due v going holds) = activity_kept a due v going holds
-    none_longer _ _ _ (onward nodes u v n d path arc) =
-        omega (arith, none_longer nodes u n path, moments.arcs u v d (path_left p c t nodes u n sound path).ahead arc)
+    none_longer nodes v n path = path_kept p c t kept nodes v n sound moments path
 
     -- a path to a passed node is its bound alone
     passed_path : (nodes : List Node) (v : Node) (n : ℕ) → v.place < made c v.job → PathFrom p b nodes v n → n ≡ since c v.job

@@ -8,9 +8,11 @@ use Rattle.shop_base.specs.Ahead.{MeetBudgetsAhead}
 use Rattle.shop_base.specs.AheadLaw.{TheStartIsACase}
 use Rattle.shop_base.proofs.Keeping.{start-made}
 use Rattle.shop_base.proofs.StartAhead.{the_start_is_a_case-holds}
-use Rattle.alt_graph.specs.Times.{NodeTimes, earliest_of, AreOrdered}
+use Rattle.alt_graph.specs.Times.{NodeTimes, rank_of, earliest_of, AreOrdered}
 use Rattle.plan_verifier.specs.Rest.{AreOrderedAhead}
+use Rattle.plan_verifier.specs.RestVerdicts.{IsAcceptableAhead}
 use Rattle.plan_verifier.specs.StartLaw.{TheRestOfTheStartIsThePlan}
+use Rattle.plan_verifier.proofs.Acceptable.{acceptable}
 
 module _ (p : PlannedShop) (whole rest : NodeTimes) (ordered : AreOrdered p whole) (ahead : AreOrderedAhead p (start p) 0 rest) where
   case : TheStartIsACase p
@@ -37,5 +39,13 @@ module _ (p : PlannedShop) (whole rest : NodeTimes) (ordered : AreOrdered p whol
     λ meets j inside here. omega (arith, meets j inside, leaving_same j inside),
   )
 
+  acceptable_same : IsAcceptableAhead p (start p) 0 ↔ MeetBudgets p (earliest_of whole)
+  acceptable_same = (there, λ meets. acceptable p (start p) 0 (rank_of rest) (earliest_of rest) ahead.schedule.ranks ahead.greatest (budgets_same.1 meets))
+    where
+      there : IsAcceptableAhead p (start p) 0 → MeetBudgets p (earliest_of whole)
+      there is j inside =
+          let (nodes, path) = ahead.reached (leaving p j) (record { job = inside; place = omega arith }) (omega (arith, start-made p j inside)) in
+          omega (arith, is.budgets j inside (λ gone. absurd (omega (arith, start-made p j inside))) nodes (earliest_of rest (leaving p j)) path, leaving_same j inside)
+
 pub the_rest_of_the_start_is_the_plan-holds : TheRestOfTheStartIsThePlan
-the_rest_of_the_start_is_the_plan-holds p whole rest ordered ahead = (same p whole rest ordered ahead, budgets_same p whole rest ordered ahead)
+the_rest_of_the_start_is_the_plan-holds p whole rest ordered ahead = (same p whole rest ordered ahead, budgets_same p whole rest ordered ahead, acceptable_same p whole rest ordered ahead)

@@ -6,18 +6,17 @@ use Rattle.shop_base.specs.Plan.{PlannedShop, jobs, budget, IsWellShaped}
 use Rattle.shop_base.specs.Cell.{Cell, IsGone}
 use Rattle.shop_base.specs.Graph.{leaving, IsNode, RanksRise}
 use Rattle.shop_base.specs.CycleLaw.{AreNeverMade}
-use Rattle.shop_base.specs.Ahead.{MeetBudgetsAhead, PathAhead, now, held, onward}
-use Rattle.shop_base.proofs.Cycles.{ranks_exclude_cycle}
-use Rattle.alt_graph.specs.Solved.{HasCycle}
+use Rattle.shop_base.specs.Ahead.{PathAhead, now, held, onward}
 use Rattle.alt_graph.specs.Times.{NodeTimes, rank_of, earliest_of, IsPathFromBy}
 use Rattle.alt_graph.proofs.CycleParts.{cycle_simple, cycle_stops}
 use Rattle.alt_graph.proofs.WholePlans.{cycle_has}
 use Rattle.plan_verifier.specs.FromThere.{IsNeverInBudgetFrom, IsNeverDoneFrom}
 use Rattle.plan_verifier.specs.Rest.{AreOrderedAhead, IsChainAhead}
-use Rattle.plan_verifier.specs.RestVerdicts.{IsWithinBudgetAhead, IsAcceptableAhead, IsAcceptedAhead, IsFirstLateAhead, IsReasonAhead, IsRestAccepted, OnRestRefused, OnRestCycle, OnRestTimes}
+use Rattle.plan_verifier.specs.RestVerdicts.{IsAcceptableAhead, IsAcceptedAhead, IsFirstLateAhead, IsReasonAhead, IsRestAccepted, OnRestRefused, OnRestCycle, OnRestTimes}
 use Rattle.plan_verifier.specs.declared.verdict.Judged.{Judged}
 use Rattle.plan_verifier.specs.declared.verdict.Judged.TheVariants.{Accepted, Refused}
 use Rattle.plan_verifier.specs.declared.verdict.Why.TheVariants.{Cycle, Late}
+use Rattle.plan_verifier.proofs.Acceptable.{acyclic, within_budget}
 use Rattle.plan_verifier.proofs.GoingOn.{leaving_ahead, never_gone_before, never_done_just, late_just, cycle_never_done}
 use Rattle.plan_verifier.proofs.PathsAhead.{ahead_ends, ahead_some}
 
@@ -30,15 +29,6 @@ path_few p c t rank _ _ _ rise (onward nodes u v n d path arc) = omega (arith, p
 module _ (p : PlannedShop) (c : Cell) (t : ℕ) (times : NodeTimes) (ordered : AreOrderedAhead p c t times) where
   abbrev kept : Node → ℕ
   kept = earliest_of times
-
-  acyclic : HasCycle p → ⊥
-  acyclic (nodes, cycle) = ranks_exclude_cycle p (rank_of times) nodes ordered.schedule.ranks cycle
-
-  within_budget : (j : ℕ) → kept (leaving p j) ≤ budget p j → IsWithinBudgetAhead p c t j
-  within_budget j le nodes n path = omega (arith, ordered.greatest nodes (leaving p j) n path)
-
-  pub acceptable : MeetBudgetsAhead p c kept → IsAcceptableAhead p c t
-  acceptable meets = record { acyclic = acyclic; budgets = λ j inside here. within_budget j (meets j inside here) }
 
   -- a path ahead as long as the moment of its end is evidence of it
   path_chain : (nodes : List Node) (v : Node) → IsNode p v → PathAhead p c t nodes v (kept v) → IsChainAhead p c t nodes (kept v)
@@ -57,10 +47,10 @@ module _ (p : PlannedShop) (c : Cell) (t : ℕ) (times : NodeTimes) (ordered : A
       let is : IsNode p (leaving p j) = record { job = inside; place = omega arith } in
       let (path, begins) = ordered.chains nodes (leaving p j) is (leaving_ahead p c j here) chain in
       record {
-        acyclic = acyclic;
+        acyclic = acyclic p c t (rank_of times) kept ordered.schedule.ranks ordered.greatest;
         job = inside;
         here = here;
-        before = λ i lt still. within_budget i (before i lt still);
+        before = λ i lt still. within_budget p c t (rank_of times) kept ordered.schedule.ranks ordered.greatest i (before i lt still);
         greatest = record { reached = (nodes, path); longest = λ others k other. ordered.greatest others (leaving p j) k other };
         past = past;
         path = path;

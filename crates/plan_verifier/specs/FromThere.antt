@@ -15,6 +15,7 @@ use Rattle.shop_base.specs.NeverStuckLaw.{CanGoOn, CanReportEach}
 use Rattle.shop_base.specs.Ahead.{IsAhead, RespectArcs, MeetBudgetsAhead, MomentsFitAhead, GoesOnTo, MoveFrom}
 use Rattle.shop_base.specs.Within.{AreWithin, AreByTheirOwn, AreMadeBy}
 use Rattle.shop_base.specs.Deadlines.{AreDeadlines}
+use Rattle.plan_verifier.specs.RestVerdicts.{IsAcceptableAhead}
 
 module _ (p : PlannedShop) (c : Cell) (t : ℕ) where
   -- each controlled run that goes on is with the run before it a run, which ends at rest and not stuck; it has ended or can go on, each activity can be reported; and it has ended exactly where it has the reports that were left in c, and never has more
@@ -50,7 +51,7 @@ module _ (p : PlannedShop) (c : Cell) (t : ℕ) where
   IsNeverInBudgetFrom = (es fs : List Event) → IsRun p es → ends_in p es ≡ c → IsRun p (es ++ fs) → MoveFrom t fs → AreNotEarly p c fs
       → (j : ℕ) × (j < jobs p) × (IsGone p c j → ⊥) × (IsOutByBudget p (ends_in p (es ++ fs)) j → ⊥)
 
-  -- the deadlines of a rest whose earliest moments are these, and what runs come to that go on from there: the deadlines are the latest moments that respect the arcs ahead and meet the budgets, and none is before the earliest moment; while each report comes by those of all that goes on, each job that isn't gone in c is in time, and the rest stays one whose moments meet the budgets, with the same deadlines; and once the run has ended each is out by its budget, where each activity ended by its own
+  -- the deadlines of a rest whose earliest moments are these, and what runs come to that go on from there: the deadlines are the latest moments that respect the arcs ahead and meet the budgets, and none is before the earliest moment; while each report comes by those of all that goes on, each job that isn't gone in c is in time, and the rest is one to be accepted from its last moment on, with the same deadlines; and once the run has ended each is out by its budget, where each activity ended by its own
   pub record AreDeadlinesFrom (early kept : Node → ℕ) : Type 0 where
     pub deadlines : AreDeadlines p c kept
     pub latest : (other : Node → ℕ) (es : List Event) → IsRun p es → ends_in p es ≡ c → RespectArcs p c other → MeetBudgetsAhead p c other → (v : Node) → IsNode p v → IsAhead c v → other v ≤ kept v
@@ -58,7 +59,7 @@ module _ (p : PlannedShop) (c : Cell) (t : ℕ) where
     pub in_time : (es : List Event) (rs : List Report) (fs : List Event) (end : Cell) → IsRun p es → ends_in p es ≡ c → GoesOnTo p c t rs fs end → AreWithin p kept c fs
         → (j : ℕ) → j < jobs p → (IsGone p c j → ⊥) → IsInTime p end j × (IsGone p end j → IsOutByBudget p end j)
     pub stays : (es : List Event) (rs : List Report) (fs : List Event) (end : Cell) → IsRun p es → ends_in p es ≡ c → GoesOnTo p c t rs fs end → AreWithin p kept c fs
-        → AreDeadlines p end kept × ((moments : Node → ℕ) × KeepsMoments p moments end × MeetBudgetsAhead p end moments)
+        → AreDeadlines p end kept × IsAcceptableAhead p end end.last × ((moments : Node → ℕ) × KeepsMoments p moments end × MeetBudgetsAhead p end moments)
     pub out : (es : List Event) (rs : List Report) (fs : List Event) (end : Cell) → IsRun p es → ends_in p es ≡ c → GoesOnTo p c t rs fs end → AreByTheirOwn p kept c fs
         → HasEnded p end → (j : ℕ) → j < jobs p → (IsGone p c j → ⊥) → IsOutByBudget p end j
 

@@ -1,7 +1,9 @@
 ghost use Rattle.std.specs.Prelude.{◌≡◌, ◌<◌, ◌≤◌, ◌↔◌, Ok, None, IfOk, IsSome, MatchOption, IfSome};
 ghost use Rattle.shop_base.specs.Plan.{jobs};
 ghost use Rattle.shop_base.specs.declared.node.Node.{Node};
+ghost use Rattle.shop_base.specs.Cell.{start};
 ghost use Rattle.shop_base.specs.Graph.{leaving, IsNode};
+ghost use Rattle.shop_base.specs.Deadlines.{AreDeadlines};
 ghost use Rattle.shop_base.specs.ExactLaw.{IsNeverGoneBefore};
 ghost use Rattle.alt_graph.specs.Times.{AreOrdered};
 ghost use Rattle.plan_verifier.specs.Accepted.{IsVerified, IsGreatest, IsLongestTo, IsMakespan, IsNeverGoneAfter, IsGoneJustAt, IsPathToLeaving, kept_at};
@@ -67,12 +69,13 @@ impl Verified {
         self.times.earliest(node)
     }
 
-    /// The deadlines of all nodes: the latest moments at which their moves can be made so that each job is out by its
-    /// budget. As long as every activity ends by the deadline of the move that it holds up, every job is, however long
-    /// it took. Each call finds them anew, in time and memory linear in the nodes and machines; it fails only when out
-    /// of memory.
+    /// The deadlines of all nodes: the latest moments for their moves that leave each move after them its nominal and
+    /// cleaning times, and each job its budget. As long as every activity ends by the deadline of the move that it holds
+    /// up, every job is out by its budget, however long it took. Each call finds them anew, in time and memory linear in
+    /// the nodes and machines; it fails only when out of memory.
     pub fn deadlines(&self, alloc: Global) -> Result<Deadlines, AllocError>
         ensures nodes { IfOk result (λ found. (v : Node) → IsNode self.now.planned v ↔ HasMoment found v) }
+        ensures deadlines { let p = self.now.planned in IfOk result (λ found. AreDeadlines p (start p) (moment_of found)) }
         ensures fit { IfOk result (λ found. FitBudgets self.now.planned (moment_of found)) }
         ensures latest { IfOk result (λ found. AreTheLatest self.now.planned (moment_of found)) }
         ensures not_before { IfOk result (λ found. (v : Node) → IsNode self.now.planned v → kept_at self.now v ≤ moment_of found v) }

@@ -6,6 +6,9 @@ use Rattle.plan_verifier.proofs.verified.Verified.deadlines.Goals as goal
 pub latest_moments-requires : goal.latest_moments-requires
 latest_moments-requires c = times_ranks _ _ c.self.invariant.ordered.times
 
+pub returns-clause-deadlines : goal.returns-clause-deadlines
+returns-clause-deadlines c = rw (← c.self.view_is) (c.latest_moments.ensures.deadlines c.self.invariant.ordered c.self.invariant.budgets)
+
 pub returns-clause-fit : goal.returns-clause-fit
 returns-clause-fit c =
     rw (← c.self.view_is) (ok_each c.latest_moments.result (λ found deadlines. (of_verified _ c.self.invariant _ deadlines).fit) (c.latest_moments.ensures.deadlines c.self.invariant.ordered c.self.invariant.budgets))
