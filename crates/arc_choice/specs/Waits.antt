@@ -12,6 +12,7 @@ module _ (q : Question) where
     pub branch : IsBranch q x.branch
     pub pair : x.side.pair < length q.pairs.items
 
+  -- each of these is
   abbrev pub AreWaiting : List Waiting → Type 0
   AreWaiting [] = Unit {0}
   AreWaiting (x ∷ xs) = IsWaiting x × AreWaiting xs

@@ -147,7 +147,7 @@ impl Branch {
         true
     }
 
-    /// Whether no arc of the question is one that can't be, as each on a circle is.
+    /// Whether no arc of the question is one that can't be, as each on a cycle is.
     pub(crate) fn admits_arcs(&self, question: &Question) -> bool
         requires sound { IsSound question.now }
         requires branch { IsBranch question.now self.now }

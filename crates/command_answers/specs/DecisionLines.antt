@@ -14,7 +14,7 @@ job_words js = flat_map (λ j. codes " " ++ decimal j) js
 abbrev pub fewer_if : Bool → List ℕ
 fewer_if or_fewer = if or_fewer then codes " or fewer" else []
 
--- the former where some of the jobs may not be needed
+-- ` or fewer` behind several jobs, where some of them may not be needed
 abbrev pub fewer_words : Excluded → List ℕ
 fewer_words (Alone j) = []
 fewer_words (Pair i j) = []

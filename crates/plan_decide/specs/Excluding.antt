@@ -15,7 +15,7 @@ pub record KeepsPromises (t : PlanTask) (js : List ℕ) (p : PlannedShop) : Type
   pub acyclic : HasNoCycle p
   pub out : (j : ℕ) → Contains js j → IsOutBy p j (budget_in t j)
 
--- a plan of the same shop with the same releases and cleaning times, whatever its orders and budgets
+-- a plan of the same shop with the same releases and cleaning times, which are given or left out alike, whatever its orders and budgets
 pub record IsPlanOf (t : PlanTask) (p : PlannedShop) : Type 0 where
   pub shaped : IsWellShaped p
   pub same : times_of p ≡ times_in t

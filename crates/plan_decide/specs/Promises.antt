@@ -40,11 +40,12 @@ module _ (t : PlanTask) where
   asked_for (Least Makespan) = t
   asked_for (Least (Leaving j)) = with_budget j MAX_MOMENT
 
-  -- the job whose leaving is asked for is of the shop
+  -- the job whose leaving is the objective, if one is, is of the shop
   abbrev pub IsOfShop : Objective → Type 0
   IsOfShop Makespan = Unit {0}
   IsOfShop (Leaving j) = j < job_count
 
+  -- the job whose leaving is asked for, if one is, is of the shop
   abbrev pub IsInRange : Aim → Type 0
   IsInRange Promises = Unit {0}
   IsInRange (Least objective) = IsOfShop objective

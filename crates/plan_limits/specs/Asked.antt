@@ -97,9 +97,11 @@ module _ (t : ShopTimes) where
       pub later : IsEntry machine (other + 1) other
       pub is : pair ≡ pair_between one other (clean_in t.clean machine * FINE + 1)
 
+    -- each of these is one between two places of a job
     abbrev pub AreRouteArcs : List Arc → Type 0
     AreRouteArcs arcs = (a : ℕ) → a < length arcs → IsRouteArc (slice_index_or arcs a no_arc)
 
+    -- each of these is one of two entries of a machine
     abbrev pub AreMachinePairs : List Pair → Type 0
     AreMachinePairs pairs = (a : ℕ) → a < length pairs → IsMachinePair (slice_index_or pairs a no_pair)
 
