@@ -17,7 +17,8 @@ use Rattle.alt_graph.specs.Sources.{IsJobArc, IsBlockingArc}
 use Rattle.alt_graph.specs.Times.{NodeTimes, rank_of, earliest_of, AreRanks, AreTimes}
 use Rattle.alt_graph.specs.Layout.{number_of}
 use Rattle.alt_graph.specs.Latest.{IsLatest, AreLatest, HasMoment, AreInside}
-use Rattle.alt_graph.specs.LatestRows.{IsTold, AreTold, moment_in, HasRows, AreLatestFrom}
+use Rattle.alt_graph.specs.ByRank.{IsTold, AreTold}
+use Rattle.alt_graph.specs.LatestRows.{moment_in, HasRows, AreLatestFrom}
 use Rattle.alt_graph.proofs.ArcKinds.{arc_kind, arc_once, job_arc_is, blocking_arc_is, target_node, job_target_once, blocking_target_once}
 use Rattle.alt_graph.proofs.NodeNumbers.{node_same, number_inside, number_same, next_first, cases_node}
 

@@ -8,6 +8,7 @@ pub mod Lookups
 pub mod PlanGraph
 pub mod Sources
 pub mod Latest
+pub mod ByRank
 -- Of proofs and private contracts alone.
 pub mod Places
 pub mod Ranking

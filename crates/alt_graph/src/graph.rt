@@ -51,15 +51,15 @@ impl<'a> Graph<'a> {
     }
 
     /// How many nodes there are.
-    pub(crate) fn node_count(&self) -> usize
+    pub fn node_count(&self) -> usize
         ensures count { result ≡ slice_index self.now.firsts (jobs self.now.plan) }
         ensures sound { IsSoundGraph self.now }
     {
         self.lookups.firsts[self.shaped.job_count() as usize] as usize
     }
 
-    /// The number of a node.
-    pub(crate) fn number(&self, node: Node) -> usize
+    /// The number of a node: the nodes are counted job after job, and within a job by place.
+    pub fn number(&self, node: Node) -> usize
         requires { IsNode self.now.plan node }
         ensures number { result ≡ number_of self.now.firsts node }
         ensures sound { IsSoundGraph self.now }

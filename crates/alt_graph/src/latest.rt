@@ -9,7 +9,8 @@ ghost use Rattle.alt_graph.specs.Evidence.{node_count};
 ghost use Rattle.alt_graph.specs.Sources.{IsJobArc, IsBlockingArc};
 ghost use Rattle.alt_graph.specs.Times.{AreRanks, AreOrdered, earliest_of};
 ghost use Rattle.alt_graph.specs.Latest.{HasMoment, AreLatest, IsLatest, moment_of};
-ghost use Rattle.alt_graph.specs.LatestRows.{IsTold, AreTold, HasRows, moment_in};
+ghost use Rattle.alt_graph.specs.ByRank.{IsTold, AreTold};
+ghost use Rattle.alt_graph.specs.LatestRows.{HasRows, moment_in};
 
 use crate::graph::Graph;
 use crate::numbers::counted_number;
@@ -79,8 +80,8 @@ pub fn latest_moments(
     Ok(Deadlines { firsts, moments })
 }
 
-/// The nodes by their ranks.
-fn by_rank(
+/// The nodes by their ranks. Fails only when out of memory.
+pub fn by_rank(
     alloc: Global,
     shaped: &Shaped,
     times: &Times,

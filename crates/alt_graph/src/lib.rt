@@ -26,6 +26,7 @@ pub use bounds::{Bounds, Whole};
 pub use chain_check::{check_chain, check_chain_from};
 pub use cycle_check::check_cycle;
 pub use graph::Graph;
-pub use latest::{Deadlines, latest_moments};
+pub use latest::{Deadlines, by_rank, latest_moments};
 pub use solving::{Solved, solve, solve_from};
+pub use sources::{ArcIn, job_source};
 pub use times::Times;

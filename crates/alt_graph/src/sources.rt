@@ -12,13 +12,13 @@ use shop_base::{MachineNo, Moment, Node, Shaped};
 
 /// The node from which an arc comes, and the arc's length.
 #[derive(Clone, Copy)]
-pub(crate) struct ArcIn {
+pub struct ArcIn {
     pub node: Node,
     pub length: Moment,
 }
 
 /// The job arc into the node, if there is one.
-pub(crate) fn job_source(shaped: &Shaped, node: Node) -> Option<ArcIn>
+pub fn job_source(shaped: &Shaped, node: Node) -> Option<ArcIn>
     ensures arc { IsArcIn (IsJobArc shaped.now) node result }
     ensures well_shaped { IsWellShaped shaped.now }
 {
@@ -52,7 +52,7 @@ pub(crate) fn job_target(shaped: &Shaped, node: Node) -> Option<Node>
 
 impl Graph<'_> {
     /// The blocking arc into the node, if there is one.
-    pub(crate) fn blocking_source(&self, node: Node) -> Option<ArcIn>
+    pub fn blocking_source(&self, node: Node) -> Option<ArcIn>
         ensures arc { IsArcIn (IsBlockingArc self.now.plan) node result }
         ensures sound { IsSoundGraph self.now }
     {

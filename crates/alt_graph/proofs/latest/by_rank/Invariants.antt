@@ -1,7 +1,7 @@
 use Rattle.std.proofs.Common.{ℕ, ◌≡◌, ◌<◌, ◌≤◌, length}
 use Rattle.shop_base.specs.Plan.{steps}
 use Rattle.shop_base.specs.Graph.{node}
-use Rattle.alt_graph.specs.LatestRows.{IsTold, AreTold}
+use Rattle.alt_graph.specs.ByRank.{IsTold, AreTold}
 use Rattle.alt_graph.proofs.latest.by_rank.Given as goal
 
 -- the nodes of the jobs looked at are told, and no others

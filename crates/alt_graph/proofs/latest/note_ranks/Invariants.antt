@@ -1,7 +1,7 @@
 use Rattle.std.proofs.Common.{ℕ, ◌<◌}
 use Rattle.shop_base.specs.declared.node.Node.{Node}
 use Rattle.shop_base.specs.Graph.{IsNode, node}
-use Rattle.alt_graph.specs.LatestRows.{IsTold, AreTold}
+use Rattle.alt_graph.specs.ByRank.{IsTold, AreTold}
 use Rattle.alt_graph.proofs.latest.note_ranks.Given as goal
 
 -- the nodes looked at are told, those told before are so still, and no others
