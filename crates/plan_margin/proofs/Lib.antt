@@ -1,0 +1,4 @@
+pub mod LongerPaths
+pub mod GreatestLengths
+pub mod InMargin
+pub mod Halving

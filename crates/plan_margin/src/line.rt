@@ -1,0 +1,39 @@
+//! The line of a margin.
+
+ghost use Rattle.std.specs.Prelude.{◌≡◌, ◌+◌, ◌≤◌, ◌++◌, length, OnOk};
+ghost use Rattle.plan_margin.specs.MarginLine.{then_words, margin_line};
+
+use crate::margin::Margin;
+use shop_base::JobNo;
+use std::alloc::AllocError;
+use text_lines::LineText;
+
+/// The bytes of the longest line: two numbers of 10 digits and the words.
+const ROOM: usize = 50;
+
+type Line = LineText<ROOM>;
+
+/// Adds `margin S thousandths`, and ` then job J` if some job is late with more.
+pub fn push_margin_line(text: &mut Vec<u8>, margin: Margin) -> Result<(), AllocError>
+    ensures { OnOk result (text.new.items ≡ text.old.items ++ margin_line margin) }
+{
+    let mut line = Line::ended();
+    put_then(&mut line, margin.then);
+    line.put_text(b" thousandths");
+    line.put_short_number(margin.thousandths);
+    line.put_text(b"margin ");
+    text.extend_from_slice(line.bytes())?;
+    Ok(())
+}
+
+/// Writes which job is late with more, if one is.
+fn put_then(line: &mut Line, then: Option<JobNo>)
+    requires { length line.old ≤ 1 }
+    ensures written { line.new ≡ then_words then ++ line.old }
+    ensures length { length line.new ≤ 20 + length line.old }
+{
+    if let Some(job) = then {
+        line.put_short_number(job);
+        line.put_text(b" then job ");
+    }
+}
