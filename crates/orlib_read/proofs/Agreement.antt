@@ -87,7 +87,7 @@ section_agrees text name = record {
 
 -- ---- answers
 
-only_memory : (fault : OrFault) → (fault ≢ Memory → ⊥) → fault ≡ Memory
+pub only_memory : (fault : OrFault) → (fault ≢ Memory → ⊥) → fault ≡ Memory
 only_memory Memory h = refl
 only_memory NoInstance h = absurd (h (λ e. cc))
 only_memory NoSizes h = absurd (h (λ e. cc))

@@ -7,3 +7,5 @@ pub mod Heads
 pub mod Drafts
 pub mod Sections
 pub mod Agreement
+pub mod Routes
+pub mod Documents

@@ -1,5 +1,7 @@
 -- What a reader of instance texts answers.
-use Rattle.std.specs.Prelude.{◌≡◌, ◌≢◌, ◌⊎◌, ℕ, List, Result, Ok, Err}
+use Rattle.std.specs.Prelude.{◌≡◌, ◌≢◌, ◌⊎◌, ℕ, List, Vec, Result, Ok, Err}
+use Rattle.std.specs.declared.alloc.Global.{Global}
+use Rattle.shop_base.specs.declared.shop.Step.{Step}
 use Rattle.shop_base.specs.declared.shop_fault.ShopFault.{ShopFault}
 use Rattle.shop_base.specs.Shop.{JobShop, IsShop}
 use Rattle.shop_base.specs.ShopFault.{IsFirstFault}
@@ -16,6 +18,11 @@ IsRead (Err fault) description shop = fault ≡ Memory
 -- each description and shop of which this holds is the answer, unless memory ran out
 abbrev pub ReadsEach : Result Named OrFault → (List ℕ → JobShop → Type 0) → Type 0
 ReadsEach answer Is = (description : List ℕ) (shop : JobShop) → Is description shop → IsRead answer description shop
+
+-- each route of which this holds is the answer, unless memory ran out
+abbrev pub ReadsRoute : Result (Vec Step Global) OrFault → (List Step → Type 0) → Type 0
+ReadsRoute (Ok steps) Is = (route : List Step) → Is route → steps.items ≡ route
+ReadsRoute (Err fault) Is = (route : List Step) → Is route → fault ≡ Memory
 
 -- the answer is this fault, unless memory ran out
 abbrev pub IsRefused : Result Named OrFault → OrFault → Type 0

@@ -25,6 +25,10 @@ unfilled_from number text = filter is_unfilled (numbered_from number (lines_of t
 abbrev pub unfilled_lines : List ℕ → List NumberedLine
 unfilled_lines text = unfilled_from 1 text
 
+-- the line of these bytes, as the first of a text
+abbrev pub first_line : List ℕ → NumberedLine
+first_line bytes = record { number = 1; bytes = bytes }
+
 -- an instance line: the word `instance`, and the name of an instance
 abbrev pub IsInstanceLine : NumberedLine → List ℕ → Type 0
 IsInstanceLine line name = words_of line.bytes ≡ codes "instance" ∷ name ∷ []

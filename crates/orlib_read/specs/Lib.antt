@@ -4,6 +4,7 @@ pub mod Kinds
 pub mod Instance
 pub mod Faults
 pub mod Answers
+pub mod Lines
 -- Of proofs and private contracts alone.
 pub mod Reading
 pub mod Cursor

@@ -3,15 +3,20 @@
 //! The grammar is a relation on the whole list of lines.
 #![tactic(auto)]
 
+mod compare;
+mod document;
 mod draft;
 mod kinds;
 mod lines;
 mod named;
+mod not_written;
 mod or_fault;
 mod readers;
 mod reading;
 mod words;
 
+pub use document::instance_document;
 pub use named::Named;
+pub use not_written::NotWritten;
 pub use or_fault::OrFault;
-pub use readers::{read_from_collection, read_instance};
+pub use readers::{read_from_collection, read_instance, read_route};

@@ -1,21 +1,21 @@
 //! The readers of instance texts.
 
-ghost use Rattle.std.specs.Prelude.{◌≡◌, ◌≢◌, Result, IfOk, IfErr, OnOk};
+ghost use Rattle.std.specs.Prelude.{◌≡◌, ◌≢◌, ◌⊎◌, Result, IfOk, IfErr, OnOk};
 ghost use Rattle.shop_base.specs.Shop.{IsShop};
 ghost use Rattle.shop_base.specs.Vectors.{lists_of};
 ghost use Rattle.orlib_read.specs.declared.or_fault.OrFault.{OrFault};
-ghost use Rattle.orlib_read.specs.Kinds.{unfilled_lines};
+ghost use Rattle.orlib_read.specs.Kinds.{unfilled_lines, first_line, IsJobLine};
 ghost use Rattle.orlib_read.specs.Instance.{IsInstance, IsInstanceOf};
-ghost use Rattle.orlib_read.specs.Faults.{IsInstanceFault, IsInstanceOfFault};
-ghost use Rattle.orlib_read.specs.Answers.{ReadsEach, IsRefused, Answers};
+ghost use Rattle.orlib_read.specs.Faults.{IsInstanceFault, IsInstanceOfFault, IsOddLine, IsWordLine};
+ghost use Rattle.orlib_read.specs.Answers.{ReadsEach, ReadsRoute, IsRefused, Answers};
 ghost use Rattle.orlib_read.specs.Reading.{Content, Gives, instance_at, section_at};
 ghost use Rattle.orlib_read.specs.Views.{content_of, IsShopFault};
 
 use crate::draft::Draft;
-use crate::lines::Lines;
+use crate::lines::{Line, Lines};
 use crate::named::Named;
 use crate::or_fault::OrFault;
-use crate::reading::read_draft;
+use crate::reading::{read_draft, route_of};
 use shop_base::{Shop, Step};
 use std::alloc::Global;
 
@@ -47,6 +47,24 @@ pub fn read_from_collection(alloc: Global, text: &[u8], name: &[u8]) -> Result<N
     ensures first { (fault : OrFault) → IsInstanceOfFault text.now name.now fault → IsRefused result fault }
 {
     named(alloc, section_draft(alloc, text, name))
+}
+
+/// Reads the route on a job's line: pairs of machine and nominal time. The line's number is taken to be 1.
+pub fn read_route(alloc: Global, line: &[u8]) -> Result<Vec<Step>, OrFault>
+    // What is read is the line's route, and the line's route is read.
+    ensures found { IfOk result (λ route. IsJobLine (first_line line.now) route.items) }
+    ensures only { ReadsRoute result (IsJobLine (first_line line.now)) }
+
+    // A fault is what is wrong first.
+    ensures fault { IfErr result (λ fault. fault ≢ OrFault.Memory → IsOddLine (first_line line.now) fault ⊎ IsWordLine (first_line line.now) fault) }
+{
+    route_of(
+        alloc,
+        Line {
+            number: 1,
+            bytes: line,
+        },
+    )
 }
 
 #[tactic(auto, unfolding(crate::specs::Reading::instance_at))]

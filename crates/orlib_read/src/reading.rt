@@ -84,7 +84,7 @@ fn step_of(line: usize, before: usize, machine: &[u8], nominal: &[u8]) -> Result
 
 /// The route on a job line.
 #[tactic(auto, unfolding(crate::specs::Reading::route_at))]
-fn route_of(alloc: Global, line: Line) -> Result<Vec<Step>, OrFault>
+pub(crate) fn route_of(alloc: Global, line: Line) -> Result<Vec<Step>, OrFault>
     ensures { Gives (λ route. route.items) result (route_at (numbered_line line.entry)) }
 {
     let route = steps_of(alloc, line);
