@@ -1,0 +1,4 @@
+pub mod Known
+pub mod SeenNames
+pub mod Places
+pub mod Answering

@@ -1,0 +1,48 @@
+//! The keys of a table.
+
+ghost use Rattle.std.specs.Prelude.{◌≡◌, not, option_map, string_bytes};
+ghost use Rattle.std.specs.BTreeMap.{keys};
+ghost use Rattle.std.specs.List.{find};
+ghost use Rattle.std.specs.Option.{option_copied};
+ghost use Rattle.toml.specs.Data.{get_member};
+ghost use Rattle.toml.specs.View.{view, table_view};
+ghost use Rattle.people_names.specs.Keys.{is_known_key};
+ghost use Rattle.people_names.specs.Answers.{Passes};
+ghost use Rattle.people_names.specs.Faults.{key_faults};
+
+use crate::names_fault::{KeyText, NamesFault};
+use crate::names_key::{BEGIN, NamesKey};
+use std::alloc::Global;
+use toml::{Table, Value};
+
+/// The value of a key, if the table has one.
+pub(crate) fn value_of<'a>(table: &'a Table, key: &str) -> Option<&'a Value>
+    ensures { option_map (λ v. view v.now) result ≡ get_member key.now (table_view table.now) }
+{
+    table.get(key)
+}
+
+fn is_known(key: &str) -> bool
+    ensures { result ≡ is_known_key key.now }
+{
+    key == NamesKey::Jobs.name() || key == NamesKey::Machines.name() || key == BEGIN
+}
+
+/// The least key that isn't one of a text of names, if there is one.
+fn unknown_key(table: &Table) -> Option<&String>
+    ensures { option_copied result ≡ find (λ key. not (is_known_key (string_bytes key))) (keys table.now) }
+{
+    table.keys().find(|key| !is_known(key))
+}
+
+/// Refuses a key that isn't one of a text of names.
+pub(crate) fn check_known(alloc: Global, table: &Table) -> Result<(), NamesFault>
+    ensures { Passes (key_faults (table_view table.now)) result }
+{
+    match unknown_key(table) {
+        Some(key) => Err(NamesFault::UnknownKey {
+            key: KeyText::of(alloc, key)?,
+        }),
+        None => Ok(()),
+    }
+}

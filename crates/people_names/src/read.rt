@@ -1,0 +1,122 @@
+//! The reader of names.
+
+ghost use Rattle.std.specs.Prelude.{◌≡◌, ◌≢◌, ◌≤◌, nat_le, map, string_bytes, length, IfOk, IfErr, None, Some};
+ghost use Rattle.toml.specs.View.{table_view};
+ghost use Rattle.people_names.specs.declared.names_fault.NamesFault.{NamesFault};
+ghost use Rattle.people_names.specs.Keys.{value_at, begin_in};
+ghost use Rattle.people_names.specs.NameBooks.{NameBook};
+ghost use Rattle.people_names.specs.Lists.{AreShort};
+ghost use Rattle.people_names.specs.Documents.{IsDocument, IsNoDocument, IsNamesText, IsFirstNamesFault};
+ghost use Rattle.people_names.specs.Answers.{IsRead, IsRefused, Passes, PassesExactly};
+ghost use Rattle.people_names.specs.Reading.{names_at, clock_in, names_in};
+ghost use Rattle.people_names.specs.Faults.{list_faults, clock_faults, unless, value_faults, faults_of};
+
+use crate::clock::{Clock, clock_of};
+use crate::keys::{check_known, value_of};
+use crate::lists::names_of;
+use crate::names::{Names, names_for_people};
+use crate::names_fault::NamesFault;
+use crate::names_key::{BEGIN, NamesKey};
+use std::alloc::Global;
+use toml::Table;
+
+/// The names of a key, where the table has it.
+fn names_at(alloc: Global, table: &Table, key: NamesKey) -> Result<Vec<String>, NamesFault>
+    ensures faults { Passes (list_faults key (value_at (table_view table.now) key)) result }
+    ensures value { IfOk result (λ names. map string_bytes names.items ≡ names_at (value_at (table_view table.now) key)) }
+    ensures short { IfOk result (λ names. AreShort (map string_bytes names.items)) }
+{
+    match value_of(table, key.name()) {
+        Some(value) => names_of(alloc, key, value),
+        None => Ok(Vec::new(alloc)),
+    }
+}
+
+/// The clock, where the table states one.
+fn clock_in(table: &Table) -> Result<Option<Clock>, NamesFault>
+    ensures faults { PassesExactly (clock_faults (begin_in (table_view table.now))) result }
+    ensures value { IfOk result (λ clock. clock ≡ clock_in (begin_in (table_view table.now))) }
+{
+    let Some(value) = value_of(table, BEGIN) else {
+        return Ok(None);
+    };
+    let Some(text) = value.as_str() else {
+        return Err(NamesFault::BadClock);
+    };
+    match clock_of(text.as_bytes()) {
+        Some(clock) => Ok(Some(clock)),
+        None => Err(NamesFault::BadClock),
+    }
+}
+
+/// Refuses more names than there may be.
+fn check_count(key: NamesKey, names: &[String], most: usize) -> Result<(), NamesFault>
+    ensures { PassesExactly (unless (nat_le (length names.now) most) (NamesFault.TooManyNames key)) result }
+{
+    if most < names.len() {
+        return Err(NamesFault::TooManyNames { key });
+    }
+    Ok(())
+}
+
+/// The names and the clock of a table whose keys are known.
+fn values_of(
+    alloc: Global,
+    table: &Table,
+    jobs: usize,
+    machines: usize,
+) -> Result<Names, NamesFault>
+    ensures faults { Passes (value_faults jobs machines (table_view table.now)) result }
+    ensures value { IfOk result (λ names. names ≡ names_in (table_view table.now)) }
+{
+    let of_jobs = names_at(alloc, table, NamesKey::Jobs)?;
+    let of_machines = names_at(alloc, table, NamesKey::Machines)?;
+    let clock = clock_in(table)?;
+    check_count(NamesKey::Jobs, &of_jobs, jobs)?;
+    check_count(NamesKey::Machines, &of_machines, machines)?;
+    Ok(names_for_people(of_jobs, of_machines, clock))
+}
+
+/// The names and the clock of a table.
+fn names_in(alloc: Global, table: &Table, jobs: usize, machines: usize) -> Result<Names, NamesFault>
+    ensures faults { Passes (faults_of jobs machines (table_view table.now)) result }
+    ensures value { IfOk result (λ names. names ≡ names_in (table_view table.now)) }
+{
+    check_known(alloc, table)?;
+    values_of(alloc, table, jobs, machines)
+}
+
+/// The table of a text.
+fn table_of(alloc: Global, text: &[u8]) -> Result<Table, NamesFault>
+    ensures document { IfOk result (λ table. IsDocument text.now (table_view table)) }
+    ensures refused { IfErr result (λ fault. fault ≢ NamesFault.Memory → IsNoDocument text.now fault) }
+{
+    let Ok(text) = std::str::from_utf8(text) else {
+        return Err(NamesFault::NotToml);
+    };
+    Ok(toml::table_from_str(alloc, text)?)
+}
+
+/// Reads names from the text of a TOML document, for a shop with so many jobs and machines.
+///
+/// Its keys are `jobs` and `machines`, each with an array of the first names, and `begin`, what the clock says at moment
+/// 0. An empty text has names for nobody, but it is for people: lines tell them no promises that nobody gave.
+pub fn read_names(
+    alloc: Global,
+    text: &[u8],
+    jobs: usize,
+    machines: usize,
+) -> Result<Names, NamesFault>
+    // What is read are the text's names, and the text's names are read.
+    ensures found { IfOk result (λ names. IsNamesText jobs machines text.now names) }
+    ensures only { (names : NameBook) → IsNamesText jobs machines text.now names → IsRead result names }
+
+    // A fault is what is wrong first, and what is wrong first is the fault.
+    ensures fault { IfErr result (λ fault. fault ≢ NamesFault.Memory → IsFirstNamesFault jobs machines text.now fault) }
+    ensures first { (fault : NamesFault) → IsFirstNamesFault jobs machines text.now fault → IsRefused result fault }
+{
+    match table_of(alloc, text) {
+        Ok(table) => names_in(alloc, &table, jobs, machines),
+        Err(fault) => Err(fault),
+    }
+}
