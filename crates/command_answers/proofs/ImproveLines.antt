@@ -7,15 +7,17 @@ use Rattle.plan_verifier.specs.declared.verdict.Verdict.TheVariants.{Accepted, R
 use Rattle.plan_verifier.specs.Verdicts.{SaysAccepted}
 use Rattle.plan_seek.specs.declared.search.TheConstants.{MAX_ROUNDS}
 use Rattle.plan_improve.specs.declared.improve_fault.ImproveFault.{ImproveFault}
-use Rattle.plan_improve.specs.declared.improve_fault.ImproveFault.TheVariants.{TooManyRounds, Memory as WantOfMemory}
+use Rattle.plan_improve.specs.declared.improve_fault.ImproveFault.TheVariants.{TooManyRounds, Log as LogFault, Past, MomentTooLarge, Memory as WantOfMemory}
 use Rattle.plan_improve.specs.Runs.{Asked}
-use Rattle.plan_improve.specs.Improved.{IsImproveFault, judged}
+use Rattle.plan_verifier.specs.Seen.{judged}
+use Rattle.plan_improve.specs.Faults.{IsImproveFault}
+use Rattle.command_answers.specs.ImprovingRests.{IsUnfoundAnswer}
 use Rattle.command_answers.specs.declared.answer.Answer.{Answer}
 use Rattle.command_answers.specs.declared.command_fault.CommandFault.{CommandFault}
 use Rattle.command_answers.specs.declared.command_fault.CommandFault.TheVariants.{Instance, Plan, Read, Write, InputTooLong, Log, LogInUse, Memory}
 use Rattle.command_answers.specs.Checks.{verdict_status}
 use Rattle.command_answers.specs.Documents.{IsDocumentAnswer}
-use Rattle.command_answers.specs.Improving.{IsBest, IsStatusOf, IsBestAnswer, IsUnimprovedAnswer}
+use Rattle.command_answers.specs.Improving.{IsBest, IsStatusOf, IsBestAnswer}
 
 status_is : (verdict : Verdict) → SaysAccepted verdict ↔ IsAcceptable (judged verdict) → IsStatusOf (judged verdict) (verdict_status verdict)
 status_is (Accepted verified) exact = inl (exact.0 tt, refl)
@@ -42,7 +44,10 @@ module _ (made : Asked) (rounds : ℕ) (start : PlannedShop) where
   best_answer_is verdict (Err Memory) is few exact text = tt
 
   -- the line of too many rounds is the answer
-  pub no_best_is : (fault : ImproveFault) (outcome : Result Answer CommandFault) → IsImproveFault rounds fault → IsUnimprovedAnswer fault outcome → IsBestAnswer made rounds start outcome
+  pub no_best_is : (fault : ImproveFault) (outcome : Result Answer CommandFault) → IsImproveFault rounds fault → IsUnfoundAnswer fault outcome → IsBestAnswer made rounds start outcome
   no_best_is TooManyRounds (Ok answer) many line = inr (record { many_rounds = many; line = line.0; refused = line.1 })
   no_best_is TooManyRounds (Err fault) many line = rw line tt
   no_best_is WantOfMemory outcome many line = rw line tt
+  no_best_is (LogFault fault) outcome many line = absurd many
+  no_best_is (Past last) outcome many line = absurd many
+  no_best_is MomentTooLarge outcome many line = absurd many

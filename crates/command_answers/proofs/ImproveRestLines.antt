@@ -20,8 +20,8 @@ use Rattle.plan_verifier.specs.declared.verdict.Judged.{Judged}
 use Rattle.plan_verifier.specs.declared.verdict.Judged.TheVariants.{Accepted, Refused}
 use Rattle.plan_verifier.specs.declared.verdict.Why.TheVariants.{Cycle, Late}
 use Rattle.plan_verifier.specs.RestVerdicts.{IsAcceptableAhead, IsRestAccepted}
-use Rattle.plan_improve.specs.declared.improve_rest_fault.ImproveRestFault.{ImproveRestFault}
-use Rattle.plan_improve.specs.declared.improve_rest_fault.ImproveRestFault.TheVariants.{TooManyRounds, Log, Past, MomentTooLarge, Memory as WantOfMemory}
+use Rattle.plan_improve.specs.declared.improve_fault.ImproveFault.{ImproveFault}
+use Rattle.plan_improve.specs.declared.improve_fault.ImproveFault.TheVariants.{TooManyRounds, Log, Past, MomentTooLarge, Memory as WantOfMemory}
 use Rattle.plan_improve.specs.RestCosts.{IsCellOf}
 use Rattle.plan_improve.specs.Faults.{IsImproveRestFault, IsMomentFault}
 use Rattle.plan_improve.specs.Improved.{HasNoRestBegin, IsFound, IsNeverWorse, IsVerdictOn, present_of}
@@ -143,7 +143,7 @@ module _ (made : RestAsked) (at : Option ℕ) (rounds : ℕ) (lines : List (List
   line_is IsLine (Err fault) each line = subst (λ (x : CommandFault). IsRestAnswer made at rounds lines start (Err x)) (sym line) tt
 
   -- what is told where no plan is given
-  pub unfound_is : (fault : ImproveRestFault) (outcome : Result Answer CommandFault) → IfSome at (λ n. n ≤ MAX_MOMENT) → IsImproveRestFault lines at rounds start fault → IsUnfoundAnswer fault outcome
+  pub unfound_is : (fault : ImproveFault) (outcome : Result Answer CommandFault) → IfSome at (λ n. n ≤ MAX_MOMENT) → IsImproveRestFault lines at rounds start fault → IsUnfoundAnswer fault outcome
       → IsRestAnswer made at rounds lines start outcome
   unfound_is TooManyRounds outcome early why told =
       line_is _ outcome (λ answer line. inr (record { many_rounds = why; line = line.0; refused = line.1 })) told
@@ -155,7 +155,7 @@ module _ (made : RestAsked) (at : Option ℕ) (rounds : ℕ) (lines : List (List
   unfound_is MomentTooLarge outcome early why told = absurd (never_large at why.1.0.last early why.1.2)
   unfound_is WantOfMemory outcome early why told = subst (IsRestAnswer made at rounds lines start) (sym told) tt
 
-  pub not_large : (fault : ImproveRestFault) → IfSome at (λ n. n ≤ MAX_MOMENT) → IsImproveRestFault lines at rounds start fault → fault ≡ MomentTooLarge → ⊥
+  pub not_large : (fault : ImproveFault) → IfSome at (λ n. n ≤ MAX_MOMENT) → IsImproveRestFault lines at rounds start fault → fault ≡ MomentTooLarge → ⊥
   not_large fault early why is =
       let large : IsImproveRestFault lines at rounds start MomentTooLarge = subst (IsImproveRestFault lines at rounds start) is why in
       never_large at large.1.0.last early large.1.2

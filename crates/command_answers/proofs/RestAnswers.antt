@@ -22,8 +22,7 @@ present_within most (Some n) last given low = given
 -- an accepted rest has its ranks
 pub has_ranks : (p : PlannedShop) (c : Cell) (t : ℕ) (verdict : Judged) → IsRestJudged p c t verdict → HasRanks p verdict
 has_ranks p c t (Accepted times) judged = judged.accepted.0.ranks
-has_ranks p c t (Refused (Cycle nodes)) judged = tt
-has_ranks p c t (Refused (Late job leaves chain times)) judged = tt
+has_ranks p c t (Refused why) judged = tt
 
 module _ {E : Type 0} (telling : PlanTelling) (at : Option ℕ) (p : PlannedShop) (c : Cell) (answered : Result Answer E) where
   -- a moment that is past

@@ -7,8 +7,6 @@ use Rattle.plan_text.specs.Documents.{IsPlanText}
 use Rattle.plan_verifier.specs.Accepted.{HasNoCycle, IsAcceptable}
 use Rattle.plan_seek.specs.Orders.{Proposal}
 use Rattle.plan_seek.specs.declared.search.TheConstants.{MAX_ROUNDS}
-use Rattle.plan_improve.specs.declared.improve_fault.ImproveFault.{ImproveFault}
-use Rattle.plan_improve.specs.declared.improve_fault.ImproveFault.TheVariants.{TooManyRounds, Memory as WantOfMemory}
 use Rattle.plan_improve.specs.Settings.{Left, whole_plan}
 use Rattle.plan_improve.specs.Reordered.{IsReordered}
 use Rattle.plan_improve.specs.Runs.{Asked, Rounds}
@@ -76,13 +74,3 @@ IsBestAnswer made rounds start (Err other) = ⊥
 -- what is answered: that of the best plan, or the first fault of the plan's shape
 abbrev pub IsImproveAnswer : Asked → ℕ → PlannedShop → Result Answer CommandFault → Type 0
 IsImproveAnswer made rounds start outcome = (IsWellShaped start × IsBestAnswer made rounds start outcome) ⊎ IsOrMemory (IsNotShapedLine start) outcome
-
--- the fault of a command that the search's is, if memory ran out
-abbrev pub improve_command_fault : ImproveFault → Option CommandFault
-improve_command_fault WantOfMemory = Some Memory
-improve_command_fault TooManyRounds = None
-
--- what is answered where there is no verdict: the line of too many rounds, or that memory ran out
-abbrev pub IsUnimprovedAnswer : ImproveFault → Result Answer CommandFault → Type 0
-IsUnimprovedAnswer TooManyRounds outcome = IsOrMemory (λ answer. (answer.text.items ≡ codes "too many rounds\n") × (answer.status ≡ 1)) outcome
-IsUnimprovedAnswer WantOfMemory outcome = outcome ≡ Err Memory

@@ -20,8 +20,8 @@ use Rattle.plan_verifier.specs.declared.verdict.Judged.{Judged}
 use Rattle.plan_verifier.specs.declared.verdict.Judged.TheVariants.{Accepted, Refused}
 use Rattle.plan_verifier.specs.declared.verdict.Why.TheVariants.{Cycle, Late}
 use Rattle.plan_verifier.specs.RestVerdicts.{IsAcceptableAhead}
-use Rattle.plan_improve.specs.declared.improve_rest_fault.ImproveRestFault.{ImproveRestFault}
-use Rattle.plan_improve.specs.declared.improve_rest_fault.ImproveRestFault.TheVariants.{TooManyRounds, Log, Past, MomentTooLarge, Memory as WantOfMemory}
+use Rattle.plan_improve.specs.declared.improve_fault.ImproveFault.{ImproveFault}
+use Rattle.plan_improve.specs.declared.improve_fault.ImproveFault.TheVariants.{TooManyRounds, Log, Past, MomentTooLarge, Memory as WantOfMemory}
 use Rattle.plan_improve.specs.RestCosts.{IsCellOf}
 use Rattle.plan_improve.specs.Improved.{HasNoRestBegin, IsFound, IsNeverWorse, present_of}
 use Rattle.command_answers.specs.declared.answer.Answer.{Answer}
@@ -114,12 +114,12 @@ IsJudgedAnswer best (Refused (Cycle nodes)) outcome = IsOrMemory (IsCycleLine no
 IsJudgedAnswer best (Refused (Late job leaves chain times)) outcome = IsDocumentAnswer best.plan 1 outcome
 
 -- the fault of a command that the search's is, if memory ran out
-abbrev pub rest_command_fault : ImproveRestFault → Option CommandFault
-rest_command_fault WantOfMemory = Some Memory
-rest_command_fault fault = None
+abbrev pub improve_command_fault : ImproveFault → Option CommandFault
+improve_command_fault WantOfMemory = Some Memory
+improve_command_fault fault = None
 
 -- what is answered where no plan is given
-abbrev pub IsUnfoundAnswer : ImproveRestFault → Result Answer CommandFault → Type 0
+abbrev pub IsUnfoundAnswer : ImproveFault → Result Answer CommandFault → Type 0
 IsUnfoundAnswer TooManyRounds outcome = IsOrMemory (λ answer. (answer.text.items ≡ codes "too many rounds\n") × (answer.status ≡ 1)) outcome
 IsUnfoundAnswer (Log fault) outcome = IsFaultTold fault outcome
 IsUnfoundAnswer (Past last) outcome = IsOrMemory (IsPastLine last) outcome

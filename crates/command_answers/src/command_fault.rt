@@ -4,15 +4,14 @@ ghost use Rattle.command_answers.specs.Reading.{IsFaultOfSystem};
 ghost use Rattle.command_answers.specs.Instances.{instance_command_fault};
 ghost use Rattle.command_answers.specs.Plans.{plan_command_fault};
 ghost use Rattle.command_answers.specs.Search.{search_command_fault};
-ghost use Rattle.command_answers.specs.Improving.{improve_command_fault};
-ghost use Rattle.command_answers.specs.ImprovingRests.{rest_command_fault};
+ghost use Rattle.command_answers.specs.ImprovingRests.{improve_command_fault};
 ghost use Rattle.command_answers.specs.Deciding.{decide_command_fault};
 ghost use Rattle.command_answers.specs.LogLines.{audit_command_fault};
 ghost use Rattle.command_answers.specs.Statuses.{status_of};
 
 use orlib_read::OrFault;
 use plan_decide::DecideFault;
-use plan_improve::{ImproveFault, ImproveRestFault};
+use plan_improve::ImproveFault;
 use plan_seek::SeekFault;
 use plan_text::PlanFault;
 use run_log::AuditFault;
@@ -111,17 +110,6 @@ impl From<ImproveFault> for Unanswered {
     fn from(told: ImproveFault) -> Unanswered {
         match told {
             ImproveFault::Memory => Unanswered(Some(CommandFault::Memory)),
-            ImproveFault::TooManyRounds => Unanswered(None),
-        }
-    }
-}
-
-impl From<ImproveRestFault> for Unanswered {
-    ghost from_gives = { λ told unanswered. unanswered.0 ≡ rest_command_fault told };
-
-    fn from(told: ImproveRestFault) -> Unanswered {
-        match told {
-            ImproveRestFault::Memory => Unanswered(Some(CommandFault::Memory)),
             _ => Unanswered(None),
         }
     }

@@ -1,20 +1,20 @@
 //! The command `improve`.
 
 ghost use Rattle.std.specs.Prelude.{◌≡◌};
-ghost use Rattle.plan_improve.specs.Improved.{judged};
+ghost use Rattle.plan_verifier.specs.Seen.{judged};
 ghost use Rattle.command_answers.specs.Steps.{IsOrMemory};
 ghost use Rattle.command_answers.specs.Checks.{verdict_status};
 ghost use Rattle.command_answers.specs.Documents.{IsDocumentAnswer};
-ghost use Rattle.command_answers.specs.Improving.{RoundsOf, IsBestAnswer, IsImproveAnswer, IsUnimprovedAnswer, ordered};
+ghost use Rattle.command_answers.specs.Improving.{RoundsOf, IsBestAnswer, IsImproveAnswer, ordered};
 ghost use Rattle.command_answers.specs.Commands.{RunsImprove};
 
 use crate::answer::{Answered, GOOD, Outcome, REFUSED};
 use crate::both::{Both, Pair, read_both, serially};
-use crate::command_fault::Unanswered;
-use crate::lines::{document_answer, line_answer};
+use crate::lines::document_answer;
+use crate::rest_improves::unfound_answer;
 use crate::shapes::not_shaped_answer;
 use crate::texts::Texts;
-use plan_improve::{ImproveFault, Improver, Watch, improve};
+use plan_improve::{Improver, Watch, improve};
 use plan_verifier::Verdict;
 use shop_base::Shaped;
 use std::alloc::Global;
@@ -76,7 +76,7 @@ fn best_answer<W: Watch>(
 {
     match improve(alloc, start, improvers, rounds, watch) {
         Ok(verdict) => verdict_answer(alloc, &verdict),
-        Err(refused) => unimproved_answer(alloc, refused.fault),
+        Err(refused) => unfound_answer(alloc, refused.fault),
     }
 }
 
@@ -87,15 +87,5 @@ fn verdict_answer(alloc: Global, verdict: &Verdict) -> Answered
     match verdict {
         Verdict::Accepted(verified) => document_answer(alloc, verified.shaped().plan(), GOOD),
         Verdict::Refused(late, _) => document_answer(alloc, late.plan(), REFUSED),
-    }
-}
-
-/// The line that says why there is no plan.
-fn unimproved_answer(alloc: Global, fault: ImproveFault) -> Answered
-    ensures { IsUnimprovedAnswer fault result }
-{
-    match Unanswered::from(fault).0 {
-        Some(fault) => Err(fault),
-        None => Ok(line_answer(alloc, b"too many rounds\n", REFUSED)?),
     }
 }

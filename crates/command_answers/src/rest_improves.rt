@@ -3,8 +3,8 @@
 ghost use Rattle.std.specs.Prelude.{◌≡◌, ◌≤◌, IfOk, IfSome, None};
 ghost use Rattle.shop_base.specs.declared.limits.TheConstants.{MAX_MOMENT};
 ghost use Rattle.text_lines.specs.Lines.{ended_lines};
-ghost use Rattle.plan_improve.specs.declared.improve_rest_fault.ImproveRestFault.TheVariants.{MomentTooLarge};
-ghost use Rattle.command_answers.specs.ImprovingRests.{RestRoundsOf, IsRestAnswer, IsJudgedAnswer, IsUnfoundAnswer, IsCycleLine, rest_command_fault};
+ghost use Rattle.plan_improve.specs.declared.improve_fault.ImproveFault.TheVariants.{MomentTooLarge};
+ghost use Rattle.command_answers.specs.ImprovingRests.{RestRoundsOf, IsRestAnswer, IsJudgedAnswer, IsUnfoundAnswer, IsCycleLine, improve_command_fault};
 ghost use Rattle.command_answers.specs.Commands.{RunsImproveRest, WithRest};
 
 use crate::answer::{Answer, Answered, GOOD, REFUSED};
@@ -17,7 +17,7 @@ use crate::rests::past_answer;
 use crate::shapes::not_shaped_answer;
 use crate::texts::Texts;
 use plan_explain::push_cycle_line;
-use plan_improve::{ImproveRestFault, Improved, Improver, Watch, improve_after};
+use plan_improve::{ImproveFault, Improved, Improver, Watch, improve_after};
 use plan_verifier::{Judged, Why};
 use shop_base::{Moment, Node, Shaped};
 use std::alloc::{AllocError, Global};
@@ -115,7 +115,7 @@ fn cycle_answer(alloc: Global, nodes: &[Node]) -> Result<Answer, AllocError>
 }
 
 /// What is answered if no plan is given, unless memory ran out.
-fn unfound_answer(alloc: Global, fault: ImproveRestFault) -> Answered
+pub(crate) fn unfound_answer(alloc: Global, fault: ImproveFault) -> Answered
     requires { fault ≡ MomentTooLarge → ⊥ }
     ensures { IsUnfoundAnswer fault result }
 {
@@ -126,16 +126,16 @@ fn unfound_answer(alloc: Global, fault: ImproveRestFault) -> Answered
 }
 
 /// The line that says why no plan is given.
-fn refused_answer(alloc: Global, fault: ImproveRestFault) -> Answered
+fn refused_answer(alloc: Global, fault: ImproveFault) -> Answered
     requires moment { fault ≡ MomentTooLarge → ⊥ }
-    requires memory { rest_command_fault fault ≡ None }
+    requires memory { improve_command_fault fault ≡ None }
     ensures { IsUnfoundAnswer fault result }
 {
     match fault {
-        ImproveRestFault::TooManyRounds => Ok(line_answer(alloc, b"too many rounds\n", REFUSED)?),
-        ImproveRestFault::Log(fault) => fault_told(alloc, fault),
-        ImproveRestFault::Past { last } => Ok(past_answer(alloc, last)?),
-        ImproveRestFault::MomentTooLarge => unreachable!(),
-        ImproveRestFault::Memory => unreachable!(),
+        ImproveFault::TooManyRounds => Ok(line_answer(alloc, b"too many rounds\n", REFUSED)?),
+        ImproveFault::Log(fault) => fault_told(alloc, fault),
+        ImproveFault::Past { last } => Ok(past_answer(alloc, last)?),
+        ImproveFault::MomentTooLarge => unreachable!(),
+        ImproveFault::Memory => unreachable!(),
     }
 }

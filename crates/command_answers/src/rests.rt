@@ -7,6 +7,7 @@ ghost use Rattle.command_answers.specs.Rests.{IsRestLine, IsCellTold, IsPastLine
 ghost use Rattle.command_answers.specs.Steps.{IsOrMemory};
 ghost use Rattle.command_answers.specs.Commands.{RunsRest};
 ghost use Rattle.plan_explain.specs.RestVerdicts.{IsRestJudged};
+ghost use Rattle.plan_verifier.specs.Seen.{lent};
 
 use crate::answer::{Answer, Answered, GOOD, REFUSED};
 use crate::both::{Pair, read_both};
@@ -17,7 +18,7 @@ use crate::texts::Texts;
 use cell_tables::WorkCell;
 use plan_explain::{explain_after, first_line_after};
 use plan_schedule::schedule_after;
-use plan_verifier::{Judged, verify_after};
+use plan_verifier::{Judged, Seen, verify_after};
 use run_log::run_of_log;
 use shop_base::{Moment, Shaped};
 use std::alloc::{AllocError, Global};
@@ -124,7 +125,7 @@ pub fn rest_told(
     ensures { IfOk result (IsRestTold telling cell.now.plan cell.now.cell present) }
 {
     let verdict = verify_after(alloc, cell, present)?;
-    let text = verdict_text(alloc, cell, present, &verdict, telling)?;
+    let text = verdict_text(alloc, cell, present, verdict.seen(), telling)?;
     let status = rest_status(&verdict);
     Ok(Answer { text, status })
 }
@@ -134,12 +135,13 @@ fn verdict_text(
     alloc: Global,
     cell: &WorkCell<Shaped>,
     present: Moment,
-    verdict: &Judged,
+    verdict: Seen<'_>,
     telling: PlanTelling,
 ) -> Result<Vec<u8>, AllocError>
     requires present { IsNextMoment cell.now.cell present }
-    requires judged { IsRestJudged cell.now.plan cell.now.cell present verdict.now }
-    ensures { IfOk result (λ text. IsTextOf telling cell.now.plan cell.now.cell present verdict.now text.items) }
+    requires judged { IsRestJudged cell.now.plan cell.now.cell present (lent verdict) }
+    ensures { let p = cell.now.plan in
+        IfOk result (λ text. IsTextOf telling p cell.now.cell present (lent verdict.entry) text.items) }
 {
     match telling {
         PlanTelling::Verdict => first_line_after(alloc, cell, verdict),

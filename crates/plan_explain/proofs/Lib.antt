@@ -7,4 +7,3 @@ pub mod RestTexts
 pub mod RestPaths
 pub mod AtStart
 pub mod StartTexts
-pub mod BackToTheRest

@@ -2,19 +2,19 @@
 use Rattle.std.proofs.Common.{◌≡◌, ℕ, ◌+◌, List, [], ◌∷◌, ◌++◌, inl, inr, arith, refl, sym, ap, ◌∙◌}
 use Rattle.std.proofs.lemmas.List.{append-nil, append_assoc}
 use Rattle.shop_base.specs.declared.node.Node.{Node}
-use Rattle.shop_base.specs.Plan.{PlannedShop, release, clean, IsWellShaped}
-use Rattle.shop_base.specs.Graph.{node, Arc, HasArc, ArcsLead, Path, begins, follows, IsSimpleCycle}
+use Rattle.shop_base.specs.Plan.{PlannedShop, jobs, release, clean, IsWellShaped}
+use Rattle.shop_base.specs.Graph.{node, leaving, Arc, HasArc, ArcsLead, Path, begins, follows, IsSimpleCycle}
 use Rattle.alt_graph.specs.Evidence.{EndsIn}
 use Rattle.plan_verifier.specs.declared.verdict.Verdict.{Verdict}
 use Rattle.plan_verifier.specs.declared.verdict.Verdict.TheVariants.{Accepted, Refused}
-use Rattle.plan_verifier.proofs.Reasons.{makespan_le}
-use Rattle.plan_explain.specs.FirstLines.{accepted_line, TellsAccepted, IsFirstLine}
+use Rattle.plan_verifier.proofs.Reasons.{greatest_once, makespan_le}
+use Rattle.plan_explain.specs.FirstLines.{accepted_line, moments_below, TellsAccepted, IsFirstLine}
 use Rattle.plan_explain.specs.declared.arcs.ToldArc.TheVariants.{Blocking}
 use Rattle.plan_explain.specs.Arcs.{told_arc}
 use Rattle.plan_explain.specs.Cycles.{arc_line, arc_lines, cycle_lines}
 use Rattle.plan_explain.specs.Chains.{reached_at, length_from, release_line, reached_line, reached_lines, chain_lines}
 use Rattle.plan_explain.specs.LineLaws.{AreArcsTold, IsLastLine}
-use Rattle.plan_explain.proofs.Moments.{same_leavings}
+use Rattle.plan_explain.proofs.Moments.{moments_same}
 use Rattle.plan_explain.proofs.ArcFacts.{told_job, told_blocking, apart, arc_time, last_from, IsLedPath, path_led}
 
 pub arcs_told : (p : PlannedShop) → IsWellShaped p → AreArcsTold p
@@ -84,7 +84,8 @@ module _ (p : PlannedShop) where
 accepted_once : (p : PlannedShop) (one other : List ℕ) → TellsAccepted p one → TellsAccepted p other → one ≡ other
 accepted_once p one other here there =
     let makespans : here.makespan ≡ there.makespan = omega (arith, makespan_le p here.makespan there.makespan here.is there.is, makespan_le p there.makespan here.makespan there.is here.is) in
-    here.words ∙ ap (λ n. accepted_line n here.leaves) makespans ∙ ap (accepted_line there.makespan) (same_leavings p here.leaves there.leaves here.leavings there.leavings) ∙ sym there.words
+    here.words ∙ ap (λ n. accepted_line n (moments_below here.leaves (jobs p))) makespans
+    ∙ ap (accepted_line there.makespan) (moments_same here.leaves there.leaves (jobs p) (λ j inside. greatest_once p (leaving p j) _ _ (here.leavings j inside) (there.leavings j inside))) ∙ sym there.words
 
 pub first_line_once : (verdict : Verdict) (one other : List ℕ) → IsFirstLine verdict one → IsFirstLine verdict other → one ≡ other
 first_line_once (Accepted verified) one other here there = accepted_once verified.planned one other here there

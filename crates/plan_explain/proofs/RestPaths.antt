@@ -14,7 +14,10 @@ use Rattle.plan_verifier.specs.declared.node_bound.Hold.{Hold}
 use Rattle.plan_verifier.specs.declared.node_bound.NodeBound.{NodeBound}
 use Rattle.plan_verifier.specs.Held.{IsHeldBy, awaited, arrived, worked, done, cleaned, BeginHeldUp, IsToldOf, IsBoundOf}
 use Rattle.plan_verifier.proofs.Tables.{later_is}
+use Rattle.plan_verifier.proofs.Acceptable.{leaving_node}
+use Rattle.plan_verifier.proofs.GoingOn.{leaving_ahead}
 use Rattle.plan_verifier.proofs.Holding.{hold_up, free_passed}
+use Rattle.plan_verifier.proofs.PathsAhead.{along_greatest}
 use Rattle.plan_explain.specs.Arcs.{time_of, told_arc}
 use Rattle.plan_explain.specs.Chains.{AreAlong, length_from}
 use Rattle.plan_explain.proofs.ArcFacts.{arc_time, last_from, last_more, along_more, length_more}
@@ -88,39 +91,23 @@ module _ (p : PlannedShop) (c : Cell) (t : ℕ) (first : Node) (rest : List Node
   pub chain_small : (b : NodeBound) → IsSound p c → IsBoundOf p c t first b → length_from p b.moment first rest < 2 ^ 64
   chain_small b sound bound = omega (arith, is.small, is.greatest is.last (length_from p b.moment first rest) (led.again b.moment (told_path p c t first b sound is.begins.0 bound.told)))
 
--- a longest chain is one of which the lines can be written
-pub rest_chain : (p : PlannedShop) (c : Cell) (t n : ℕ) (times : NodeTimes) (v : Node) (nodes : List Node) → AreOrderedAhead p c t times → IsNode p v → IsAhead c v → IsPathFromBy times v nodes
-    → n ≡ earliest_of times v → n < 2 ^ 64 → PathAhead p c t nodes v n × IsRestChain p c t nodes
-rest_chain p c t n times v nodes ordered node ahead chain is small = (
+-- a longest chain to the leaving of a job that isn't gone is one of which the lines can be written
+pub leaving_chain : (p : PlannedShop) (c : Cell) (t n j : ℕ) (times : NodeTimes) (nodes : List Node) → AreOrderedAhead p c t times → j < jobs p → (IsGone p c j → ⊥) → IsPathFromBy times (leaving p j) nodes
+    → n ≡ earliest_of times (leaving p j) → n < 2 ^ 64 → PathAhead p c t nodes (leaving p j) n × IsRestChain p c t nodes
+leaving_chain p c t n j times nodes ordered inside still chain is small = (
   path,
   record {
-    last = v;
+    last = leaving p j;
     size = n;
     path = path;
     begins = both.1;
-    greatest = λ w k other. omega (arith, ordered.greatest nodes w k other, is, ap (earliest_of times) (same_end nodes w k other path));
+    greatest = along_greatest p c t nodes (leaving p j) n path (λ k other. omega (arith, ordered.greatest nodes (leaving p j) k other, is));
     small = small;
   },
 )
   where
-    both : PathAhead p c t nodes v (earliest_of times v) × BeginHeldUp p c nodes
-    both = ordered.chains nodes v node ahead chain
+    both : PathAhead p c t nodes (leaving p j) (earliest_of times (leaving p j)) × BeginHeldUp p c nodes
+    both = ordered.chains nodes (leaving p j) (leaving_node p j inside) (leaving_ahead p c j still) chain
 
-    path : PathAhead p c t nodes v n
-    path = subst (λ (m : ℕ). PathAhead p c t nodes v m) (sym is) both.0
-
-    same_end : (all : List Node) (w : Node) (k : ℕ) → PathAhead p c t all w k → PathAhead p c t all v n → w ≡ v
-    same_end [] w k one other = absurd (ahead_led p c t ordered.schedule.shaped [] w k one)
-    same_end (u ∷ us) w k one other = sym (ahead_led p c t ordered.schedule.shaped (u ∷ us) w k one).ends ∙ (ahead_led p c t ordered.schedule.shaped (u ∷ us) v n other).ends
-
--- so is one to the leaving of a job that isn't gone
-pub leaving_chain : (p : PlannedShop) (c : Cell) (t n j : ℕ) (times : NodeTimes) (nodes : List Node) → AreOrderedAhead p c t times → j < jobs p → (IsGone p c j → ⊥) → IsPathFromBy times (leaving p j) nodes
-    → n ≡ earliest_of times (leaving p j) → n < 2 ^ 64 → PathAhead p c t nodes (leaving p j) n × IsRestChain p c t nodes
-leaving_chain p c t n j times nodes ordered inside still chain is small =
-    rest_chain p c t n times (leaving p j) nodes ordered (record { job = inside; place = omega arith }) here chain is small
-  where
-    here : IsAhead c (leaving p j)
-    here = elim (cases_lt (steps p j) (made c j)) [
-      | inl gone ↦ absurd (still gone)
-      | inr ahead ↦ ahead
-    ]
+    path : PathAhead p c t nodes (leaving p j) n
+    path = subst (λ (m : ℕ). PathAhead p c t nodes (leaving p j) m) (sym is) both.0

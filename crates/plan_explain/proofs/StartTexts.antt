@@ -1,41 +1,47 @@
--- The rest of a run that hasn't begun is told as the whole plan.
+-- The rest of a run that hasn't begun is told as the whole plan, and the plan as that.
 use Rattle.std.proofs.Common.{◌≡◌, ℕ, zero, suc, ◌<◌, ◌≤◌, List, [], ◌∷◌, ◌++◌, Option, None, Some, codes, decimal, if◌then◌else◌, inl, inr, arith, refl, sym, ap, subst, ◌∙◌}
 use Rattle.std.proofs.lemmas.Bool.{le-ltb}
 use Rattle.std.proofs.Math.Nat.{zero-max}
 use Rattle.shop_base.specs.declared.node.Node.{Node}
 use Rattle.shop_base.specs.NodeText.{node_text}
 use Rattle.shop_base.specs.Plan.{PlannedShop, jobs, steps, budget, release, IsWellShaped}
-use Rattle.shop_base.specs.Cell.{Cell, start}
+use Rattle.shop_base.specs.Cell.{start}
 use Rattle.shop_base.specs.Graph.{leaving, Path}
-use Rattle.shop_base.specs.Ahead.{PathAhead}
+use Rattle.shop_base.specs.Ahead.{PathAhead, next_node}
 use Rattle.shop_base.proofs.Keeping.{start-made}
+use Rattle.shop_base.proofs.ControlledRuns.{start_not_ready}
+use Rattle.alt_graph.proofs.NodeNumbers.{node_same}
+use Rattle.alt_graph.proofs.Paths.{path_begins, path_some}
 use Rattle.plan_verifier.specs.Accepted.{IsGreatest}
-use Rattle.plan_verifier.specs.Held.{IsBoundOf, later_than, overdue_at}
-use Rattle.plan_verifier.specs.Leavings.{LeavesLast}
+use Rattle.plan_verifier.specs.Held.{IsHeldBy, awaited, IsBoundOf, BeginHeldUp, later_than, overdue_at}
+use Rattle.plan_verifier.specs.Leavings.{AreLeavings, LeavesLast}
 use Rattle.plan_verifier.specs.declared.node_bound.Hold.{Hold}
 use Rattle.plan_verifier.specs.declared.node_bound.Hold.TheVariants.{Awaited}
 use Rattle.plan_verifier.specs.declared.node_bound.NodeBound.{NodeBound}
 use Rattle.plan_verifier.specs.declared.verdict.Judged.{Judged}
 use Rattle.plan_verifier.specs.declared.verdict.Judged.TheVariants.{Accepted, Refused}
-use Rattle.plan_verifier.specs.declared.verdict.Why.{Why}
+use Rattle.plan_verifier.specs.declared.verdict.Verdict.{Verdict}
+use Rattle.plan_verifier.specs.declared.verdict.Verdict.TheVariants.{Accepted as AcceptedPlan, Refused as RefusedPlan}
 use Rattle.plan_verifier.specs.declared.verdict.Why.TheVariants.{Cycle, Late}
-use Rattle.plan_verifier.specs.Verdicts.{IsReason}
 use Rattle.plan_verifier.specs.RestVerdicts.{IsReasonAhead}
+use Rattle.plan_verifier.specs.Seen.{judged, as_rest}
+use Rattle.plan_verifier.proofs.AtStart.{start_clean, nobody_gone, case, leavings_to, leavings_from}
+use Rattle.plan_verifier.proofs.Reasons.{makespan_is, makespan_last}
 use Rattle.plan_explain.specs.Arcs.{before}
 use Rattle.plan_explain.specs.Chains.{release_line, reached_lines, chain_lines}
 use Rattle.plan_explain.specs.FirstLines.{IsFirstLine}
 use Rattle.plan_explain.specs.Leavings.{IsLastToLeave, leaving_line, leaving_lines_below, leaving_lines}
-use Rattle.plan_explain.specs.Moments.{leavings_by}
-use Rattle.plan_explain.specs.Explained.{AreMomentLines, AreAcceptedLines, AreBehind}
+use Rattle.plan_explain.specs.Explained.{AreBehind, IsExplained}
 use Rattle.plan_explain.specs.Holds.{hold_words, overdue_words, bound_line}
 use Rattle.plan_explain.specs.RestChains.{AreRestChainLines}
-use Rattle.plan_explain.specs.RestLeavings.{gone_line, rest_leaving_line, rest_leaving_lines_below, rest_leaving_lines, AreRestLeavings}
+use Rattle.plan_explain.specs.RestLeavings.{gone_line, rest_leaving_line, rest_leaving_lines_below, rest_leaving_lines}
 use Rattle.plan_explain.specs.RestFirstLines.{IsRestFirstLine}
-use Rattle.plan_explain.specs.RestExplained.{IsLastChainText, AreRestBehind}
-use Rattle.plan_explain.specs.StartTexts.{said_of}
-use Rattle.plan_explain.proofs.Moments.{moments_at, leavings-greatest, latest_makespan, accepted_told}
+use Rattle.plan_explain.specs.RestVerdicts.{IsRestJudged}
+use Rattle.plan_explain.specs.RestExplained.{AreRestBehind, IsRestExplained}
+use Rattle.plan_explain.specs.StartTexts.{said_of, TheRestOfTheStartIsToldAsThePlan}
+use Rattle.plan_explain.proofs.Moments.{accepted_told}
 use Rattle.plan_explain.proofs.RestPaths.{ahead_led}
-use Rattle.plan_explain.proofs.AtStart.{nobody_gone, greatest_to, held_first, path_along, reason_ahead}
+use Rattle.plan_explain.proofs.AtStart.{BeginFirst, held_first, path_along}
 
 -- the line of a node that waits for its job's release
 pub release_told : (p : PlannedShop) (u : Node) (m : ℕ) (h : Hold) (o : Option ℕ) → m ≡ release p u.job → h ≡ Awaited u.job → o ≡ None
@@ -65,87 +71,157 @@ module _ (p : PlannedShop) (shaped : IsWellShaped p) where
       let (m, le, found) = path_along p shaped (u ∷ us) v n path (first, inside) in
       subst (Path p (u ∷ us) v) (let longest = greatest.longest (u ∷ us) m found in omega (arith, le, longest)) found
 
-  -- ---- the leavings
+  -- the bound of a job's first node
+  first_bound : (u : Node) → u.place ≡ 0 → u.job < jobs p → IsBoundOf p (start p) 0 u (record { moment = release p u.job; holds = Awaited u.job; overdue = None })
+  first_bound u first inside = record {
+    told = record {
+      due = Some (release p u.job);
+      holds = subst (λ (v : Node). IsHeldBy p (start p) (Awaited u.job) (Some (release p u.job)) v) (node_same (next_node (start p) u.job) u refl (start-made p u.job inside ∙ sym first))
+          (awaited u.job (release p u.job) (record { outside = start-made p u.job inside; not_ready = start_not_ready p u.job; is_due = refl }));
+      moment = sym (zero-max (release p u.job));
+      overdue = sym (ap (λ yes. if yes then Some (release p u.job) else None) (le-ltb (release p u.job) 0 (omega arith)));
+    };
+    first = λ other told. (let (begins, within, holds, due) = held_first p shaped other.holds told.due u told.holds in
+        inr (sym (told.moment ∙ ap (later_than 0) due ∙ zero-max (release p u.job)), omega arith));
+  }
 
-  module _ (kept : Node → ℕ) (leavings : AreRestLeavings p (start p) 0 kept) where
-    pub greatest : (j : ℕ) → j < jobs p → IsGreatest p (leaving p j) (kept (leaving p j))
-    greatest j inside = elim (leavings j inside) [
-      | inl (gone, is) ↦ absurd (nobody_gone p shaped j inside gone)
-      | inr (here, is) ↦ greatest_to p shaped (leaving p j) (kept (leaving p j)) is
-    ]
+  chain_back : (nodes : List Node) → BeginFirst p nodes → AreRestChainLines p (start p) 0 nodes (chain_lines p nodes)
+  chain_back [] begun = absurd begun
+  chain_back (u ∷ us) (first, inside) =
+      (record { moment = release p u.job; holds = Awaited u.job; overdue = None }, first_bound u first inside, ap (λ l. l ++ reached_lines p (release p u.job) u us) (sym (release_told p u (release p u.job) (Awaited u.job) None refl refl refl)))
 
-    line_told : (n leaves : ℕ) → n < jobs p → rest_leaving_line p (start p) n leaves ≡ leaving_line n leaves (budget p n)
-    line_told n leaves inside =
-        ap (λ yes. if yes then gone_line n leaves (budget p n) else leaving_line n leaves (budget p n)) (le-ltb (steps p n) _ (omega (arith, start-made p n inside)))
+  begin_path : (nodes : List Node) (v : Node) (n : ℕ) → Path p nodes v n → BeginFirst p nodes
+  begin_path [] v n path = absurd (omega (arith, path_some p [] v n path))
+  begin_path (u ∷ us) v n path = path_begins p (u ∷ us) v n path
 
-    below_told : (n : ℕ) → n ≤ jobs p → rest_leaving_lines_below p (start p) kept n ≡ leaving_lines_below p (leavings_by p kept) n
+  begin_held : (nodes : List Node) → BeginHeldUp p (start p) nodes → BeginFirst p nodes
+  begin_held [] begun = absurd begun
+  begin_held (u ∷ us) (is, inl next) = (sym next ∙ start-made p u.job is.job, is.job)
+  begin_held (u ∷ us) (is, inr (m, due, (from, going), holds)) = absurd (cc (start_clean p m, going.is_cleaned))
+
+  -- ---- the lines of jobs
+
+  module _ (leaves : ℕ → ℕ) where
+    line_told : (n : ℕ) → n < jobs p → rest_leaving_line p (start p) n (leaves n) ≡ leaving_line n (leaves n) (budget p n)
+    line_told n inside =
+        ap (λ yes. if yes then gone_line n (leaves n) (budget p n) else leaving_line n (leaves n) (budget p n)) (le-ltb (steps p n) _ (omega (arith, start-made p n inside)))
+
+    below_told : (n : ℕ) → n ≤ jobs p → rest_leaving_lines_below p (start p) leaves n ≡ leaving_lines_below p leaves n
     below_told zero within = refl
     below_told (suc n) within =
-        ap (λ l. l ++ rest_leaving_line p (start p) n (kept (leaving p n))) (below_told n (omega arith))
-        ∙ ap (λ l. leaving_lines_below p (leavings_by p kept) n ++ l)
-        (line_told n (kept (leaving p n)) (omega arith) ∙ ap (λ m. leaving_line n m (budget p n)) (sym (moments_at (λ j. kept (leaving p j)) (jobs p) n (omega arith))))
+        ap (λ l. l ++ rest_leaving_line p (start p) n (leaves n)) (below_told n (omega arith)) ∙ ap (λ l. leaving_lines_below p leaves n ++ l) (line_told n (omega arith))
 
-    pub lines_told : rest_leaving_lines p (start p) kept ≡ leaving_lines p (leavings_by p kept)
-    lines_told = below_told (jobs p) (omega arith)
+    lines_told : (behind : List ℕ) → rest_leaving_lines p (start p) leaves ++ behind ≡ leaving_lines p leaves ++ behind
+    lines_told behind = ap (λ l. l ++ behind) (below_told (jobs p) (omega arith))
 
     -- the last to leave
-    last_told : (j : ℕ) → LeavesLast p (start p) kept j → IsLastToLeave p j (kept (leaving p j))
-    last_told j last = record {
-      makespan = latest_makespan p kept greatest (kept (leaving p j)) (record {
-        bound = λ i inside. last.last i inside (nobody_gone p shaped i inside);
-        reached = (j, last.job, refl);
-      });
-      inside = last.job;
-      reached = (greatest j last.job).reached;
-      first = λ i nodes k lt path. (let inside : i < jobs p = omega (arith, lt, last.job) in
-          let sooner = last.first i lt (nobody_gone p shaped i inside) in
-          omega (arith, sooner, (greatest i inside).longest nodes k path));
-    }
+    module _ (are : AreLeavings p leaves) where
+      last_told : (j : ℕ) → LeavesLast p (start p) leaves j → IsLastToLeave p j (leaves j)
+      last_told j last = record {
+        makespan = makespan_is p leaves (leaves j) are (record { bound = λ i inside. last.last i inside (nobody_gone p i inside); reached = (j, last.job, refl) });
+        inside = last.job;
+        reached = (are j last.job).reached;
+        first = λ i nodes k lt path. (let inside : i < jobs p = omega (arith, lt, last.job) in
+            omega (arith, last.first i lt (nobody_gone p i inside), (are i inside).longest nodes k path));
+      }
 
-    accepted_behind : (lines behind : List ℕ) → IsLastChainText p (start p) 0 kept behind → lines ≡ rest_leaving_lines p (start p) kept ++ behind → AreAcceptedLines p lines
-    accepted_behind lines behind (inl (gone, none)) are = absurd (nobody_gone p shaped 0 shaped.shop.counts.some_job (gone 0 shaped.shop.counts.some_job))
-    accepted_behind lines behind (inr (j, last, (chain, path, told))) are = record {
-      last = j;
-      makespan = kept (leaving p j);
-      leaves_last = last_told j last;
-      chain = chain;
-      path = chain_begins chain (leaving p j) (kept (leaving p j)) behind path told (greatest j last.job);
-      are = moments_behind chain lines behind told are;
-    }
-      where
-        moments_behind : (nodes : List Node) (all more : List ℕ) → AreRestChainLines p (start p) 0 nodes more → all ≡ rest_leaving_lines p (start p) kept ++ more → AreMomentLines p nodes all
-        moments_behind nodes all more is both = record {
-          leaves = leavings_by p kept;
-          leavings = leavings-greatest p kept greatest;
-          are = both ∙ ap (λ l. l ++ more) lines_told ∙ ap (λ l. leaving_lines p (leavings_by p kept) ++ l) (chain_told nodes more is);
-        }
+      last_back : (j n : ℕ) → IsLastToLeave p j n → (n ≡ leaves j) × LeavesLast p (start p) leaves j
+      last_back j n last =
+          let (nodes, path) = last.reached in
+          let most = makespan_last p leaves n are last.makespan in
+          let same : n ≡ leaves j = omega (arith, most.bound j last.inside, (are j last.inside).longest nodes n path) in (
+            same,
+            record {
+              job = last.inside;
+              here = nobody_gone p j last.inside;
+              last = λ i inside here. omega (arith, most.bound i inside, same);
+              first = λ i lt here. (let inside : i < jobs p = omega (arith, lt, last.inside) in
+                  let (front, sooner) = (are i inside).reached in
+                  omega (arith, last.first i front (leaves i) lt sooner, same));
+            },
+          )
 
   -- ---- the texts
 
   pub first_line_told : (verdict : Judged) (line : List ℕ) → IsRestFirstLine p (start p) 0 verdict line → IsFirstLine (said_of p verdict) line
-  first_line_told (Accepted times) line is = accepted_told p is.kept (greatest is.kept is.leavings) line is.tells
+  first_line_told (Accepted times) line is = accepted_told p is.leaves line (leavings_to p shaped is.leaves is.leavings) is.tells
   first_line_told (Refused why) line is = is
 
-  pub behind_told : (verdict : Judged) (lines : List ℕ) → AreRestBehind p (start p) 0 verdict lines → AreBehind (said_of p verdict) lines
-  behind_told (Accepted times) lines are = accepted_behind are.kept are.leavings lines are.behind are.are_behind are.are
+  pub first_line_back : (verdict : Judged) (line : List ℕ) → IsFirstLine (said_of p verdict) line → IsRestFirstLine p (start p) 0 verdict line
+  first_line_back (Accepted times) line is = record {
+    leaves = is.leaves;
+    leavings = leavings_from p shaped is.leaves is.leavings;
+    tells = (is.makespan, makespan_last p is.leaves is.makespan is.leavings is.is, is.words);
+  }
+  first_line_back (Refused why) line is = is
+
+  behind_told : (verdict : Judged) (lines : List ℕ) → AreRestBehind p (start p) 0 verdict lines → AreBehind (said_of p verdict) lines
+  behind_told (Accepted times) lines are = elim are.are_behind [
+    | inl (gone, none) ↦ absurd (nobody_gone p 0 shaped.shop.counts.some_job (gone 0 shaped.shop.counts.some_job))
+    | inr (j, last, (chain, path, told)) ↦ (
+        let leavings = leavings_to p shaped are.leaves are.leavings in
+        record {
+          last = j;
+          makespan = are.leaves j;
+          leaves_last = last_told are.leaves leavings j last;
+          chain = chain;
+          path = chain_begins chain (leaving p j) (are.leaves j) are.behind path told (leavings j last.job);
+          are = record { leaves = are.leaves; leavings = leavings; are = are.are ∙ lines_told are.leaves are.behind ∙ ap (λ l. leaving_lines p are.leaves ++ l) (chain_told chain are.behind told) };
+        })
+  ]
   behind_told (Refused (Cycle nodes)) lines are = are
   behind_told (Refused (Late job leaves chain times)) lines are = record {
-    leaves = leavings_by p are.kept;
-    leavings = leavings-greatest p are.kept (greatest are.kept are.leavings);
-    are = are.are ∙ ap (λ l. l ++ are.behind) (lines_told are.kept are.leavings) ∙ ap (λ l. leaving_lines p (leavings_by p are.kept) ++ l) (chain_told chain.items are.behind are.are_behind);
+    leaves = are.leaves;
+    leavings = leavings_to p shaped are.leaves are.leavings;
+    are = are.are ∙ lines_told are.leaves are.behind ∙ ap (λ l. leaving_lines p are.leaves ++ l) (chain_told chain.items are.behind are.are_behind);
   }
 
--- ---- a reason against a plan, at a cell that is the start
+  behind_back : (verdict : Judged) (lines : List ℕ) → IsReasonAhead p (start p) 0 verdict → AreBehind (said_of p verdict) lines → AreRestBehind p (start p) 0 verdict lines
+  behind_back (Accepted times) lines reason are =
+      let moments = are.are in
+      let (same, last) = last_back moments.leaves moments.leavings are.last are.makespan are.leaves_last in
+      let path : Path p are.chain (leaving p are.last) (moments.leaves are.last) = subst (Path p are.chain (leaving p are.last)) same are.path in
+      record {
+        leaves = moments.leaves;
+        leavings = leavings_from p shaped moments.leaves moments.leavings;
+        behind = chain_lines p are.chain;
+        are_behind = inr (
+          are.last,
+          last,
+          (
+            are.chain,
+            (case p shaped).path are.chain (leaving p are.last) (moments.leaves are.last) path,
+            chain_back are.chain (begin_path are.chain (leaving p are.last) (moments.leaves are.last) path),
+          ),
+        );
+        are = moments.are ∙ sym (lines_told moments.leaves (chain_lines p are.chain));
+      }
+  behind_back (Refused (Cycle nodes)) lines reason are = are
+  behind_back (Refused (Late job leaves chain times)) lines (late, ordered, same) are = record {
+    leaves = are.leaves;
+    leavings = leavings_from p shaped are.leaves are.leavings;
+    behind = chain_lines p chain.items;
+    are_behind = chain_back chain.items (begin_held chain.items late.begins);
+    are = are.are ∙ sym (lines_told are.leaves (chain_lines p chain.items));
+  }
 
-module _ (p q : PlannedShop) (c : Cell) (same : q ≡ p) (at : c ≡ start p) (why : Why) (reason : IsReason p why) where
-  pub reason_there : IsReasonAhead q c 0 (Refused why)
-  reason_there =
-      subst (λ (x : PlannedShop). IsReasonAhead x c 0 (Refused why)) (sym same) (subst (λ (x : Cell). IsReasonAhead p x 0 (Refused why)) (sym at) (reason_ahead p why reason))
+pub the_rest_of_the_start_is_told_as_the_plan-holds : TheRestOfTheStartIsToldAsThePlan
+the_rest_of_the_start_is_told_as_the_plan-holds p verdict text shaped known = (
+  (first_line_told p shaped verdict text, first_line_back p shaped verdict text),
+  (
+    λ is. record { first = is.first; is = first_line_told p shaped verdict is.first is.is; behind = is.behind; are = behind_told p shaped verdict is.behind is.are; both = is.both },
+    λ is. record {
+      first = is.first;
+      is = first_line_back p shaped verdict is.first is.is;
+      behind = is.behind;
+      are = behind_back p shaped verdict is.behind known.refused is.are;
+      both = is.both;
+    },
+  ),
+)
 
-  told_why : (w : Why) → IsReason p w → (lines : List ℕ) → AreRestBehind p (start p) 0 (Refused w) lines → AreBehind (said_of p (Refused w)) lines
-  told_why (Cycle nodes) cycle lines are = are
-  told_why (Late job leaves chain times) late lines are = behind_told p late.1.times.schedule.shaped (Refused (Late job leaves chain times)) lines are
-
-  pub evidence_told : (lines : List ℕ) → AreRestBehind q c 0 (Refused why) lines → AreBehind (said_of p (Refused why)) lines
-  evidence_told lines are =
-      told_why why reason lines (subst (λ (x : Cell). AreRestBehind p x 0 (Refused why) lines) at (subst (λ (x : PlannedShop). AreRestBehind x c 0 (Refused why) lines) same are))
+-- so the explanation of a verdict is that of the same verdict on the rest from there
+pub explained_told : (verdict : Verdict) (text : List ℕ) → IsWellShaped (judged verdict) → IsRestJudged (judged verdict) (start (judged verdict)) 0 (as_rest verdict)
+    → IsRestExplained (judged verdict) (start (judged verdict)) 0 (as_rest verdict) text → IsExplained verdict text
+explained_told (AcceptedPlan v) text shaped known is = (the_rest_of_the_start_is_told_as_the_plan-holds v.planned (Accepted v.times) text shaped known).1.0 is
+explained_told (RefusedPlan p why) text shaped known is = (the_rest_of_the_start_is_told_as_the_plan-holds p (Refused why) text shaped known).1.0 is

@@ -7,13 +7,14 @@ use Rattle.plan_verifier.specs.declared.verdict.Verdict.{Verdict}
 use Rattle.plan_verifier.specs.declared.verdict.Verdict.TheVariants.{Accepted, Refused}
 use Rattle.plan_verifier.specs.declared.verdict.Why.TheVariants.{Cycle, Late}
 use Rattle.plan_explain.specs.FirstLines.{IsFirstLine}
-use Rattle.plan_explain.specs.Leavings.{AreLeavings, IsLastToLeave, leaving_lines}
+use Rattle.plan_verifier.specs.Leavings.{AreLeavings}
+use Rattle.plan_explain.specs.Leavings.{IsLastToLeave, leaving_lines}
 use Rattle.plan_explain.specs.Cycles.{cycle_lines}
 use Rattle.plan_explain.specs.Chains.{chain_lines}
 
 -- a line for each job's leaving, and then those of the chain
 pub record AreMomentLines (p : PlannedShop) (chain : List Node) (lines : List ℕ) : Type 0 where
-  pub leaves : List ℕ
+  pub leaves : ℕ → ℕ
   pub leavings : AreLeavings p leaves
   pub are : lines ≡ leaving_lines p leaves ++ chain_lines p chain
 

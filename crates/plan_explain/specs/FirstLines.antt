@@ -1,17 +1,15 @@
 -- The first lines of verdicts.
-use Rattle.std.specs.Prelude.{◌≡◌, ℕ, List, ◌++◌, codes, decimal}
+use Rattle.std.specs.Prelude.{◌≡◌, ℕ, zero, suc, List, [], ◌∷◌, ◌++◌, codes, decimal}
 use Rattle.std.specs.List.{flat_map}
 use Rattle.shop_base.specs.declared.node.Node.{Node}
 use Rattle.shop_base.specs.NodeText.{node_text}
-use Rattle.shop_base.specs.Plan.{PlannedShop}
+use Rattle.shop_base.specs.Plan.{PlannedShop, jobs}
 use Rattle.plan_verifier.specs.declared.verdict.Verdict.{Verdict}
 use Rattle.plan_verifier.specs.declared.verdict.Verdict.TheVariants.{Accepted, Refused}
 use Rattle.plan_verifier.specs.declared.verdict.Why.{Why}
 use Rattle.plan_verifier.specs.declared.verdict.Why.TheVariants.{Cycle, Late}
 use Rattle.plan_verifier.specs.Accepted.{IsMakespan}
-use Rattle.plan_verifier.specs.Leavings.{IsMakespanAfter}
-use Rattle.plan_explain.specs.Leavings.{AreLeavings}
-use Rattle.plan_explain.specs.Moments.{leavings_by}
+use Rattle.plan_verifier.specs.Leavings.{AreLeavings, IsLastLeaving}
 
 -- the nodes, with a blank before each
 abbrev pub node_words : List Node → List ℕ
@@ -42,17 +40,22 @@ abbrev pub refused_line : Why → List ℕ
 refused_line (Cycle nodes) = cycle_line nodes.items
 refused_line (Late job leaves chain times) = refused_late_line job leaves chain.items
 
--- the line tells these moments of leavings, and the latest of them
-abbrev pub IsAcceptedText : PlannedShop → (Node → ℕ) → List ℕ → Type 0
-IsAcceptedText p kept line = (n : ℕ) × IsMakespanAfter p kept n × (line ≡ accepted_line n (leavings_by p kept))
+-- the moments of the first n jobs
+abbrev pub moments_below : (ℕ → ℕ) → ℕ → List ℕ
+moments_below leaves zero = []
+moments_below leaves (suc n) = moments_below leaves n ++ leaves n ∷ []
+
+-- the line tells these leavings, and the last of them
+abbrev pub IsAcceptedText : PlannedShop → (ℕ → ℕ) → List ℕ → Type 0
+IsAcceptedText p leaves line = (n : ℕ) × IsLastLeaving p leaves n × (line ≡ accepted_line n (moments_below leaves (jobs p)))
 
 -- the line tells the makespan and the leavings of the plan
 pub record TellsAccepted (p : PlannedShop) (line : List ℕ) : Type 0 where
   pub makespan : ℕ
   pub is : IsMakespan p makespan
-  pub leaves : List ℕ
+  pub leaves : ℕ → ℕ
   pub leavings : AreLeavings p leaves
-  pub words : line ≡ accepted_line makespan leaves
+  pub words : line ≡ accepted_line makespan (moments_below leaves (jobs p))
 
 -- the first line of a verdict
 abbrev pub IsFirstLine : Verdict → List ℕ → Type 0

@@ -1,15 +1,10 @@
--- The jobs' leavings of a plan without a cycle, and their lines.
-use Rattle.std.specs.Prelude.{◌≡◌, ℕ, zero, suc, ◌-◌, ◌<◌, nat_lt, if◌then◌else◌, List, [], ◌∷◌, ◌++◌, codes, decimal, length, slice_index}
+-- The lines of the jobs of a plan without a cycle, and which of them leaves last.
+use Rattle.std.specs.Prelude.{ℕ, zero, suc, ◌-◌, ◌<◌, nat_lt, if◌then◌else◌, List, [], ◌∷◌, ◌++◌, codes, decimal}
 use Rattle.shop_base.specs.declared.node.Node.{Node}
 use Rattle.shop_base.specs.Plan.{PlannedShop, jobs, budget}
 use Rattle.shop_base.specs.Graph.{leaving, Path}
-use Rattle.plan_verifier.specs.Accepted.{IsGreatest, IsMakespan}
+use Rattle.plan_verifier.specs.Accepted.{IsMakespan}
 use Rattle.plan_explain.specs.Arcs.{before}
-
--- each job's earliest leaving: the greatest length of a path to it
-pub record AreLeavings (p : PlannedShop) (leaves : List ℕ) : Type 0 where
-  pub size : length leaves ≡ jobs p
-  pub greatest : (j : ℕ) → j < jobs p → IsGreatest p (leaving p j) (slice_index leaves j)
 
 -- the least job that leaves last, and when: at the makespan, before which each job with a lesser number leaves
 pub record IsLastToLeave (p : PlannedShop) (j n : ℕ) : Type 0 where
@@ -27,10 +22,10 @@ abbrev pub leaving_line : ℕ → ℕ → ℕ → List ℕ
 leaving_line j leaves budget = before (codes "job " ∷ decimal j ∷ codes " leaves " ∷ decimal leaves ∷ codes " budget " ∷ decimal budget ∷ margin_words leaves budget ∷ []) (codes "\n")
 
 -- the lines of the first n jobs
-abbrev pub leaving_lines_below : PlannedShop → List ℕ → ℕ → List ℕ
+abbrev pub leaving_lines_below : PlannedShop → (ℕ → ℕ) → ℕ → List ℕ
 leaving_lines_below p leaves zero = []
-leaving_lines_below p leaves (suc n) = leaving_lines_below p leaves n ++ leaving_line n (slice_index leaves n) (budget p n)
+leaving_lines_below p leaves (suc n) = leaving_lines_below p leaves n ++ leaving_line n (leaves n) (budget p n)
 
 -- the lines of all jobs, in ascending order
-abbrev pub leaving_lines : PlannedShop → List ℕ → List ℕ
+abbrev pub leaving_lines : PlannedShop → (ℕ → ℕ) → List ℕ
 leaving_lines p leaves = leaving_lines_below p leaves (jobs p)

@@ -6,7 +6,6 @@ pub mod Chains
 pub mod Leavings
 pub mod Explained
 pub mod LineLaws
-pub mod Moments
 -- The same of the rest of a run.
 pub mod RestVerdicts
 pub mod RestLeavings

@@ -1,10 +1,7 @@
--- The jobs' leavings in the rest of a run, and their lines.
-use Rattle.std.specs.Prelude.{◌≡◌, ℕ, zero, suc, ◌<◌, ◌⊎◌, nat_lt, if◌then◌else◌, List, [], ◌∷◌, ◌++◌, codes, decimal}
-use Rattle.shop_base.specs.declared.node.Node.{Node}
+-- The lines of the jobs in the rest of a run.
+use Rattle.std.specs.Prelude.{ℕ, zero, suc, nat_lt, if◌then◌else◌, List, [], ◌∷◌, ◌++◌, codes, decimal}
 use Rattle.shop_base.specs.Plan.{PlannedShop, jobs, steps, budget}
-use Rattle.shop_base.specs.Cell.{Cell, made, since, IsGone}
-use Rattle.shop_base.specs.Graph.{leaving}
-use Rattle.plan_verifier.specs.Rest.{IsGreatestAhead}
+use Rattle.shop_base.specs.Cell.{Cell, made}
 use Rattle.plan_explain.specs.Arcs.{before}
 use Rattle.plan_explain.specs.Leavings.{leaving_line}
 
@@ -18,19 +15,10 @@ module _ (p : PlannedShop) (c : Cell) where
   rest_leaving_line j leaves = if nat_lt (steps p j) (made c j) then gone_line j leaves (budget p j) else leaving_line j leaves (budget p j)
 
   -- the lines of the first n jobs
-  abbrev pub rest_leaving_lines_below : (Node → ℕ) → ℕ → List ℕ
-  rest_leaving_lines_below kept zero = []
-  rest_leaving_lines_below kept (suc n) = rest_leaving_lines_below kept n ++ rest_leaving_line n (kept (leaving p n))
+  abbrev pub rest_leaving_lines_below : (ℕ → ℕ) → ℕ → List ℕ
+  rest_leaving_lines_below leaves zero = []
+  rest_leaving_lines_below leaves (suc n) = rest_leaving_lines_below leaves n ++ rest_leaving_line n (leaves n)
 
   -- the lines of all jobs, in ascending order
-  abbrev pub rest_leaving_lines : (Node → ℕ) → List ℕ
-  rest_leaving_lines kept = rest_leaving_lines_below kept (jobs p)
-
-module _ (p : PlannedShop) (c : Cell) (t : ℕ) where
-  -- when job j leaves: when it left, where it is gone, and else at the earliest, which is the greatest length of a path ahead to its leaving
-  abbrev pub IsRestLeaving : ℕ → ℕ → Type 0
-  IsRestLeaving j n = (IsGone p c j × (n ≡ since c j)) ⊎ ((IsGone p c j → ⊥) × IsGreatestAhead p c t (leaving p j) n)
-
-  -- so of each job
-  abbrev pub AreRestLeavings : (Node → ℕ) → Type 0
-  AreRestLeavings kept = (j : ℕ) → j < jobs p → IsRestLeaving j (kept (leaving p j))
+  abbrev pub rest_leaving_lines : (ℕ → ℕ) → List ℕ
+  rest_leaving_lines leaves = rest_leaving_lines_below leaves (jobs p)

@@ -6,7 +6,6 @@ use Rattle.alt_graph.specs.Times.{AreRanks}
 use Rattle.plan_verifier.specs.RestVerdicts.{IsAcceptedAhead, IsReasonAhead}
 use Rattle.plan_verifier.specs.declared.verdict.Judged.{Judged}
 use Rattle.plan_verifier.specs.declared.verdict.Judged.TheVariants.{Accepted, Refused}
-use Rattle.plan_verifier.specs.declared.verdict.Why.TheVariants.{Cycle, Late}
 
 -- it is accepted with its earliest moments, or refused with the reason
 pub record IsRestJudged (p : PlannedShop) (c : Cell) (t : ℕ) (verdict : Judged) : Type 0 where
@@ -16,5 +15,4 @@ pub record IsRestJudged (p : PlannedShop) (c : Cell) (t : ℕ) (verdict : Judged
 -- of an accepted rest each node of the shop has a rank
 abbrev pub HasRanks : PlannedShop → Judged → Type 0
 HasRanks p (Accepted times) = AreRanks p times
-HasRanks p (Refused (Cycle nodes)) = Unit {0}
-HasRanks p (Refused (Late job leaves chain times)) = Unit {0}
+HasRanks p (Refused why) = Unit {0}

@@ -6,6 +6,8 @@ ghost use Rattle.shop_base.specs.Plan.{jobs};
 ghost use Rattle.shop_base.specs.Cell.{IsGone};
 ghost use Rattle.shop_base.specs.Graph.{leaving};
 ghost use Rattle.alt_graph.specs.Times.{earliest_of};
+ghost use Rattle.plan_verifier.specs.Leavings.{leaves_in};
+ghost use Rattle.plan_verifier.specs.Seen.{lent};
 ghost use Rattle.plan_explain.specs.Added.{Adds};
 ghost use Rattle.plan_verifier.specs.Rest.{AreOrderedAhead};
 ghost use Rattle.plan_verifier.specs.declared.verdict.Judged.TheVariants.{Refused};
@@ -20,7 +22,7 @@ use crate::first_lines::first_line_after;
 use crate::leaving_lines::push_leaving_lines;
 use alt_graph::Times;
 use cell_tables::WorkCell;
-use plan_verifier::{Judged, Why, last_to_leave, leave_time};
+use plan_verifier::{Seen, Why, last_to_leave, leave_time};
 use shop_base::{JobNo, Moment, Node, Planned};
 use std::alloc::{AllocError, Global};
 
@@ -33,11 +35,11 @@ pub fn explain_after<P: Planned>(
     alloc: Global,
     cell: &WorkCell<P>,
     present: Moment,
-    verdict: &Judged,
+    verdict: Seen<'_>,
 ) -> Result<Vec<u8>, AllocError>
     requires present { present ≤ MAX_MOMENT }
-    requires judged { IsRestJudged cell.now.plan cell.now.cell present verdict.now }
-    ensures { IfOk result (λ text. IsRestExplained cell.now.plan cell.now.cell present verdict.now text.items) }
+    requires judged { IsRestJudged cell.now.plan cell.now.cell present (lent verdict) }
+    ensures { IfOk result (λ text. IsRestExplained cell.now.plan cell.now.cell present (lent verdict.entry) text.items) }
 {
     let mut text = first_line_after(alloc, cell, verdict)?;
     push_lines_behind(alloc, &mut text, cell, present, verdict)?;
@@ -50,19 +52,20 @@ fn push_lines_behind<P: Planned>(
     text: &mut Vec<u8>,
     cell: &WorkCell<P>,
     present: Moment,
-    verdict: &Judged,
+    verdict: Seen<'_>,
 ) -> Result<(), AllocError>
     requires present { present ≤ MAX_MOMENT }
-    requires judged { IsRestJudged cell.now.plan cell.now.cell present verdict.now }
-    ensures { OnOk result (Adds (AreRestBehind cell.now.plan cell.now.cell present verdict.now) text.old.items text.new.items) }
+    requires judged { IsRestJudged cell.now.plan cell.now.cell present (lent verdict) }
+    ensures { let p = cell.now.plan in
+        OnOk result (Adds (AreRestBehind p cell.now.cell present (lent verdict.entry)) text.old.items text.new.items) }
 {
     match verdict {
-        Judged::Accepted(times) => push_accepted_lines(alloc, text, cell, present, times),
-        Judged::Refused(why) => push_refused_lines(text, cell, present, why),
+        Seen::Accepted(times) => push_accepted_lines(alloc, text, cell, present, times),
+        Seen::Refused(why) => push_refused_lines(text, cell, present, why),
     }
 }
 
-pub(crate) fn push_refused_lines<P: Planned>(
+fn push_refused_lines<P: Planned>(
     text: &mut Vec<u8>,
     cell: &WorkCell<P>,
     present: Moment,
@@ -95,13 +98,13 @@ fn push_late_lines<P: Planned>(
     requires present { present ≤ MAX_MOMENT }
     requires ordered { AreOrderedAhead cell.now.plan cell.now.cell present times.now }
     requires late { IsFirstLateAhead cell.now.plan cell.now.cell present job leaves chain.now }
-    ensures { OnOk result (Adds (AreRestMomentLines cell.now.plan cell.now.cell present (λ kept. AreRestChainLines cell.now.plan cell.now.cell present chain.now)) text.old.items text.new.items) }
+    ensures { OnOk result (Adds (AreRestMomentLines cell.now.plan cell.now.cell present (λ leaves. AreRestChainLines cell.now.plan cell.now.cell present chain.now)) text.old.items text.new.items) }
 {
     push_leaving_lines(text, cell, times)?;
     push_chain_lines(text, cell, present, chain)
 }
 
-pub(crate) fn push_accepted_lines<P: Planned>(
+fn push_accepted_lines<P: Planned>(
     alloc: Global,
     text: &mut Vec<u8>,
     cell: &WorkCell<P>,
@@ -127,7 +130,8 @@ fn push_last_chain<P: Planned>(
 ) -> Result<(), AllocError>
     requires present { present ≤ MAX_MOMENT }
     requires ordered { AreOrderedAhead cell.now.plan cell.now.cell present times.now }
-    ensures { OnOk result (Adds (IsLastChainText cell.now.plan cell.now.cell present (earliest_of times.now)) text.old.items text.new.items) }
+    ensures { let p = cell.now.plan in
+        OnOk result (Adds (IsLastChainText p cell.now.cell present (leaves_in p times.now)) text.old.items text.new.items) }
 {
     match last_to_leave(cell, times) {
         Some(job) => {

@@ -2,17 +2,19 @@
 
 ghost use Rattle.std.specs.Prelude.{◌≡◌, ℕ, ◌++◌, IfOk, OnOk, codes, decimal};
 ghost use Rattle.shop_base.specs.NodeText.{node_text};
-ghost use Rattle.alt_graph.specs.Times.{AreRanks, earliest_of};
+ghost use Rattle.shop_base.specs.Plan.{jobs};
+ghost use Rattle.alt_graph.specs.Times.{AreRanks};
+ghost use Rattle.plan_verifier.specs.Leavings.{leaves_in};
+ghost use Rattle.plan_verifier.specs.Seen.{lent};
 ghost use Rattle.plan_explain.specs.Added.{Adds};
-ghost use Rattle.plan_explain.specs.FirstLines.{node_words, moment_words, cycle_line, late_words, refused_late_line, refused_line, IsAcceptedText, TellsAccepted, IsFirstLine};
-ghost use Rattle.plan_explain.specs.Moments.{leavings_by};
+ghost use Rattle.plan_explain.specs.FirstLines.{node_words, moment_words, cycle_line, late_words, refused_late_line, refused_line, moments_below, IsAcceptedText, IsFirstLine};
 ghost use Rattle.plan_explain.specs.RestFirstLines.{IsLineByTimes, IsRestFirstLine};
 ghost use Rattle.plan_explain.specs.RestVerdicts.{HasRanks, IsRestJudged};
 
 use crate::words::{Line, push_line, put_node};
 use alt_graph::Times;
 use cell_tables::WorkCell;
-use plan_verifier::{Judged, Verdict, Verified, Why, leave_time, makespan};
+use plan_verifier::{Seen, Verdict, Why, leave_time, makespan};
 use shop_base::{JobNo, Moment, Node, Planned};
 use std::alloc::{AllocError, Global};
 
@@ -22,12 +24,7 @@ use std::alloc::{AllocError, Global};
 pub fn first_line(alloc: Global, verdict: &Verdict) -> Result<Vec<u8>, AllocError>
     ensures { IfOk result (λ line. IsFirstLine verdict.now line.items) }
 {
-    let mut line = Vec::new(alloc);
-    match verdict {
-        Verdict::Accepted(verified) => push_verified_line(&mut line, verified)?,
-        Verdict::Refused(_, why) => push_refused_line(&mut line, why)?,
-    }
-    Ok(line)
+    line_of(alloc, verdict.shaped(), verdict.seen())
 }
 
 /// The line of a verdict on the rest of a run, in the same words. Of a job that is gone it gives the moment at which it
@@ -35,37 +32,38 @@ pub fn first_line(alloc: Global, verdict: &Verdict) -> Result<Vec<u8>, AllocErro
 pub fn first_line_after<P: Planned>(
     alloc: Global,
     cell: &WorkCell<P>,
-    verdict: &Judged,
+    verdict: Seen<'_>,
 ) -> Result<Vec<u8>, AllocError>
-    requires { HasRanks cell.now.plan verdict.now }
-    ensures { (t : ℕ) → IsRestJudged cell.now.plan cell.now.cell t verdict.now
-        → IfOk result (λ line. IsRestFirstLine cell.now.plan cell.now.cell t verdict.now line.items) }
+    requires { HasRanks cell.now.plan (lent verdict) }
+    ensures { (t : ℕ) → IsRestJudged cell.now.plan cell.now.cell t (lent verdict.entry)
+        → IfOk result (λ line. IsRestFirstLine cell.now.plan cell.now.cell t (lent verdict.entry) line.items) }
+{
+    line_of(alloc, cell, verdict)
+}
+
+/// The line of a verdict on a plan, by its earliest moments or its evidence.
+fn line_of<P: Planned>(alloc: Global, plan: &P, verdict: Seen<'_>) -> Result<Vec<u8>, AllocError>
+    requires { HasRanks (P.planned plan.now) (lent verdict) }
+    ensures { IfOk result (λ line. IsLineByTimes (P.planned plan.now) (lent verdict.entry) line.items) }
 {
     let mut line = Vec::new(alloc);
-    push_first_line(&mut line, cell, verdict)?;
+    push_first_line(&mut line, plan, verdict)?;
     Ok(line)
 }
 
-/// Adds the line of the verdict on the rest of a run.
 fn push_first_line<P: Planned>(
     text: &mut Vec<u8>,
-    cell: &WorkCell<P>,
-    verdict: &Judged,
+    plan: &P,
+    verdict: Seen<'_>,
 ) -> Result<(), AllocError>
-    requires { HasRanks cell.now.plan verdict.now }
-    ensures { OnOk result (Adds (IsLineByTimes cell.now.plan verdict.now) text.old.items text.new.items) }
+    requires { HasRanks (P.planned plan.now) (lent verdict) }
+    ensures { let p = P.planned plan.now in
+        OnOk result (Adds (IsLineByTimes p (lent verdict.entry)) text.old.items text.new.items) }
 {
     match verdict {
-        Judged::Accepted(times) => push_accepted_line(text, cell, times),
-        Judged::Refused(why) => push_refused_line(text, why),
+        Seen::Accepted(times) => push_accepted_line(text, plan, times),
+        Seen::Refused(why) => push_refused_line(text, why),
     }
-}
-
-/// Adds the line of an accepted plan.
-fn push_verified_line(text: &mut Vec<u8>, verified: &Verified) -> Result<(), AllocError>
-    ensures { OnOk result (Adds (TellsAccepted verified.now.planned) text.old.items text.new.items) }
-{
-    push_accepted_line(text, verified.shaped(), verified.times())
 }
 
 /// Adds `accepted makespan M leaves L0 L1 ..`, with each job's leaving, and the latest of them.
@@ -76,7 +74,7 @@ fn push_accepted_line<P: Planned>(
 ) -> Result<(), AllocError>
     requires { AreRanks (P.planned plan.now) times.now }
     ensures { let p = P.planned plan.now in
-        OnOk result (Adds (IsAcceptedText p (earliest_of times.now)) text.old.items text.new.items) }
+        OnOk result (Adds (IsAcceptedText p (leaves_in p times.now)) text.old.items text.new.items) }
 {
     let mut line = Line::empty();
     line.put_text(b" leaves");
@@ -91,7 +89,7 @@ fn push_accepted_line<P: Planned>(
 fn push_leavings<P: Planned>(text: &mut Vec<u8>, plan: &P, times: &Times) -> Result<(), AllocError>
     requires { AreRanks (P.planned plan.now) times.now }
     ensures { let p = P.planned plan.now in
-        OnOk result (text.new.items ≡ text.old.items ++ moment_words (leavings_by p (earliest_of times.now))) }
+        OnOk result (text.new.items ≡ text.old.items ++ moment_words (moments_below (leaves_in p times.now) (jobs p))) }
 {
     for job in 0..plan.shaped().job_count() {
         push_moment(text, leave_time(plan, times, job))?;

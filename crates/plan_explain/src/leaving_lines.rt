@@ -2,7 +2,8 @@
 
 ghost use Rattle.std.specs.Prelude.{◌≡◌, ◌+◌, ◌<◌, ◌≤◌, ◌++◌, length, OnOk};
 ghost use Rattle.shop_base.specs.Plan.{jobs, budget};
-ghost use Rattle.alt_graph.specs.Times.{AreRanks, earliest_of};
+ghost use Rattle.alt_graph.specs.Times.{AreRanks};
+ghost use Rattle.plan_verifier.specs.Leavings.{leaves_in};
 ghost use Rattle.plan_explain.specs.Leavings.{margin_words, leaving_line};
 ghost use Rattle.plan_explain.specs.RestLeavings.{gone_line, rest_leaving_line, rest_leaving_lines};
 
@@ -20,8 +21,8 @@ pub(crate) fn push_leaving_lines<P: Planned>(
     times: &Times,
 ) -> Result<(), AllocError>
     requires { AreRanks cell.now.plan times.now }
-    ensures { OnOk result (text.new.items ≡ text.old.items
-        ++ rest_leaving_lines cell.now.plan cell.now.cell (earliest_of times.now)) }
+    ensures { let p = cell.now.plan in
+        OnOk result (text.new.items ≡ text.old.items ++ rest_leaving_lines p cell.now.cell (leaves_in p times.now)) }
 {
     for job in 0..cell.job_count() {
         let leaves = leave_time(cell, times, job);

@@ -17,3 +17,4 @@ mod words;
 pub use evidence::explain;
 pub use explaining::explain_after;
 pub use first_lines::{first_line, first_line_after, push_cycle_line};
+pub use words::{LINE_ROOM, Line, push_line};

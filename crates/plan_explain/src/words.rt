@@ -10,10 +10,10 @@ use shop_base::{Moment, Node};
 use std::alloc::AllocError;
 
 /// The room of a line, in bytes.
-pub(crate) const LINE_ROOM: usize = 200;
+pub const LINE_ROOM: usize = 200;
 
-/// A line of an explanation. All are shorter than its room.
-pub(crate) type Line = text_lines::LineText<LINE_ROOM>;
+/// A line of an explanation or a schedule. All are shorter than its room.
+pub type Line = text_lines::LineText<LINE_ROOM>;
 
 /// Writes the node as `j.k`.
 pub(crate) fn put_node(line: &mut Line, node: Node)
@@ -74,8 +74,8 @@ pub(crate) fn put_arc(line: &mut Line, arc: ToldArc)
     }
 }
 
-/// Adds the line.
-pub(crate) fn push_line(text: &mut Vec<u8>, line: &Line) -> Result<(), AllocError>
+/// Adds the line, and fails only when out of memory.
+pub fn push_line(text: &mut Vec<u8>, line: &Line) -> Result<(), AllocError>
     ensures { OnOk result (text.new.items ≡ text.old.items ++ line.now) }
 {
     text.extend_from_slice(line.bytes())?;

@@ -1,23 +1,23 @@
 -- From where the rest of a run is looked at.
-use Rattle.std.proofs.Common.{◌≡◌, ℕ, ◌≤◌, ◌↔◌, nat_lt, lt-ltb, arith, false, Option, Result, Ok, Err, IfOk, IfErr, List, [], ◌∷◌, length, refl, sym, subst}
+use Rattle.std.proofs.Common.{◌≡◌, ℕ, ◌≤◌, ◌↔◌, nat_lt, lt-ltb, arith, false, Option, Result, Ok, Err, IfErr, OnOk, List, [], ◌∷◌, length, refl, sym, subst}
 use Rattle.shop_base.specs.Plan.{PlannedShop}
 use Rattle.shop_base.specs.Cell.{Cell}
 use Rattle.shop_base.specs.Report.{IsNextMoment}
+use Rattle.cell_tables.specs.Tables.{cell_of}
 use Rattle.cell_tables.specs.declared.entry.Entry.{Entry}
+use Rattle.plan_improve.specs.declared.begun.Begun.{Begun}
 use Rattle.event_lines.specs.LogLines.{LinesTell}
 use Rattle.event_lines.proofs.Readings.{one_reading}
-use Rattle.run_log.specs.Audits.{IsTold, IsAuditFault}
+use Rattle.run_log.specs.Audits.{IsAuditFault}
 use Rattle.run_log.specs.declared.audit_fault.AuditFault.{AuditFault}
 use Rattle.run_log.specs.declared.audit_fault.AuditFault.TheVariants.{BadLine, NotExpected, Backwards, NotReady, Occupied, NotClean, OutOfOrder, WrongPlace, Memory}
-use Rattle.plan_verifier.specs.declared.verdict.Judged.{Judged}
-use Rattle.plan_verifier.specs.RestVerdicts.{IsAcceptedAhead, IsReasonAhead, IsAcceptableAhead, IsRestAccepted}
 use Rattle.plan_seek.specs.declared.search.TheConstants.{MAX_ROUNDS}
 use Rattle.plan_improve.specs.RestCosts.{IsCellOf}
-use Rattle.plan_improve.specs.Improved.{present_of, IsVerdictOn}
+use Rattle.plan_improve.specs.Improved.{present_of}
 use Rattle.plan_improve.specs.Faults.{log_fault, IsBeginFault, IsImproveRestFault}
-use Rattle.plan_improve.specs.declared.not_improved_rest.NotImprovedRest.{NotImprovedRest}
-use Rattle.plan_improve.specs.declared.improve_rest_fault.ImproveRestFault.TheVariants.{Memory as WantOfMemory}
-use Rattle.plan_improve.specs.RestKeeping.{IsSet, IsSetAt, IsVerdictThere}
+use Rattle.plan_improve.specs.declared.not_improved.NotImproved.{NotImproved}
+use Rattle.plan_improve.specs.declared.improve_fault.ImproveFault.TheVariants.{Memory as WantOfMemory}
+use Rattle.plan_improve.specs.RestKeeping.{IsBegun}
 use Rattle.plan_improve.proofs.OneCell.{cell_once}
 
 -- whether lines tell an event, by what they tell
@@ -29,20 +29,20 @@ event_told lines p (e ∷ es) n tells is = (
 )
 
 -- out of memory is why no plan is given
-pub memory_rest : {A : Type 0} (lines : List (List ℕ)) (at : Option ℕ) (rounds : ℕ) (p : PlannedShop) (r : Result A NotImprovedRest) → rounds ≤ MAX_ROUNDS
+pub memory_rest : {A : Type 0} (lines : List (List ℕ)) (at : Option ℕ) (rounds : ℕ) (p : PlannedShop) (r : Result A NotImproved) → rounds ≤ MAX_ROUNDS
     → IfErr r (λ refused. refused.fault ≡ WantOfMemory) → IfErr r (λ refused. IsImproveRestFault lines at rounds p refused.fault)
 memory_rest lines at rounds p (Ok found) few is = tt
 memory_rest lines at rounds p (Err refused) few is = subst (IsImproveRestFault lines at rounds p) (sym is) (few, tt)
 
--- the present moment can be the next after the run that the lines tell by the plan
-pub set_next : (lines : List (List ℕ)) (t : ℕ) (p : PlannedShop) (c : Cell) (told : List Entry) → IsSet lines t p → LinesTell p lines told → IsTold p c told → IsNextMoment c t
-set_next lines t p c told set tells run =
-    subst (λ (x : Cell). IsNextMoment x t) (cell_once lines p set.0 c set.1 (record { told = told; tells = tells; run = run })) set.2
+pub few_rounds : {A E : Type 0} (r : Result A E) (rounds : ℕ) → rounds ≤ MAX_ROUNDS → OnOk r (rounds ≤ MAX_ROUNDS)
+few_rounds (Ok found) rounds few = few
+few_rounds (Err e) rounds few = tt
 
--- it is told by each cell of the log
-pub present_next : (lines : List (List ℕ)) (at : Option ℕ) (t : ℕ) (p : PlannedShop) → IsSetAt lines at p t → (c : Cell) → IsCellOf lines p c → IsNextMoment c (present_of at c.last)
-present_next lines at t p set c here =
-    subst (λ (x : Cell). IsNextMoment x (present_of at x.last)) (cell_once lines p set.0 c set.1 here) (subst (IsNextMoment set.0) set.3 set.2)
+-- the present moment can be the next after each cell of the log
+pub present_next : (lines : List (List ℕ)) (at : Option ℕ) (p : PlannedShop) (begun : Begun) → IsBegun lines p begun → begun.present ≡ present_of at (cell_of p begun.tables).last
+    → (c : Cell) → IsCellOf lines p c → IsNextMoment c (present_of at c.last)
+present_next lines at p begun is present c here =
+    subst (λ (x : Cell). IsNextMoment x (present_of at x.last)) (cell_once lines p (cell_of p begun.tables) c is.cell here) (subst (IsNextMoment (cell_of p begun.tables)) present is.next)
 
 -- the fault of a log is one of the beginning
 pub log_begin : (lines : List (List ℕ)) (at : Option ℕ) (p : PlannedShop) (fault : AuditFault) → IsAuditFault p lines fault → IsBeginFault lines at p (log_fault fault)
@@ -55,13 +55,3 @@ log_begin lines at p (Occupied n) is = is
 log_begin lines at p (NotClean n) is = is
 log_begin lines at p (OutOfOrder n) is = is
 log_begin lines at p (WrongPlace n) is = is
-
--- the verdict on the rest of the run that the lines tell
-pub verdict_answer : {E : Type 0} (lines : List (List ℕ)) (t : ℕ) (p q : PlannedShop) (c : Cell) (told : List Entry) (r : Result Judged E) → q ≡ p → LinesTell p lines told → IsTold p c told
-    → IfOk r (IsAcceptedAhead q c t) → IfOk r (IsReasonAhead q c t) → IfOk r (λ verdict. IsRestAccepted verdict ↔ IsAcceptableAhead q c t) → IfOk r (IsVerdictThere lines t p)
-verdict_answer lines t p q c told (Ok verdict) same tells run accepted refused exact = (
-  c,
-  record { told = told; tells = tells; run = run },
-  subst (λ (x : PlannedShop). IsVerdictOn x c t verdict) same (record { accepted = accepted; refused = refused; exact = exact }),
-)
-verdict_answer lines t p q c told (Err e) same tells run accepted refused exact = tt

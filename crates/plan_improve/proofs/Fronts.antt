@@ -18,7 +18,7 @@ use Rattle.run_log.specs.Audits.{TellRun}
 use Rattle.plan_improve.specs.RestCosts.{IsCellOf}
 use Rattle.plan_improve.specs.Reordered.{reordered}
 use Rattle.plan_improve.specs.Laws.{BeginsWithEntries, ALogIsKeptByTheEntries}
-use Rattle.plan_improve.proofs.OneCell.{source_same, after_same, tell_same, one_cell}
+use Rattle.plan_improve.proofs.OneCell.{source_same, after_same, ends_same, tell_same, one_cell, tells_run}
 
 -- what begins a list begins what that begins
 through : (a b c : List ℕ) → IsPrefix a b → IsPrefix b c → IsPrefix a c
@@ -93,15 +93,18 @@ module _ (p : PlannedShop) (orders : List (List ℕ)) (shaped : IsWellShaped p) 
         subst (λ (x : Cell). AreEvents other x es) (sym (after_same p orders c e)) (events_there (after p c e) es next rest begins),
       )
 
-  run_there : (es : List Event) → IsRun p es → BeginsWithEntries (ends_in p es) other → IsRun other es
+  pub run_there : (es : List Event) → IsRun p es → BeginsWithEntries (ends_in p es) other → IsRun other es
   run_there es run begins = events_there (start p) es (start-sound p shaped) run begins
 
-  log_there : (lines : List (List ℕ)) (c : Cell) → IsCellOf lines p c → BeginsWithEntries c other → TellRun other lines
-  log_there lines c is begins = (
-    is.told,
-    tell_same other p.plan.order lines is.told is.tells,
-    run_there (events_of is.told) is.run.run (subst (λ (x : Cell). BeginsWithEntries x other) is.run.cell begins),
-  )
+  pub log_there : (lines : List (List ℕ)) (c : Cell) → IsCellOf lines p c → BeginsWithEntries c other → IsCellOf lines other c
+  log_there lines c is begins = record {
+    told = is.told;
+    tells = tell_same other p.plan.order lines is.told is.tells;
+    run = record {
+      run = run_there (events_of is.told) is.run.run (subst (λ (x : Cell). BeginsWithEntries x other) is.run.cell begins);
+      cell = is.run.cell ∙ sym (ends_same p orders (events_of is.told));
+    };
+  }
 
 pub entries_law : ALogIsKeptByTheEntries
 entries_law lines p q c shaped fits same is = (begins, told)
@@ -112,4 +115,5 @@ entries_law lines p q c shaped fits same is = (begins, told)
         subst (λ (x : Cell). BeginsWithEntries x q) (sym (one_cell lines p q c (ends_in q (events_of run.0)) same is ends)) (run-sound q (events_of run.0) fits run.2).in_order
 
     told : BeginsWithEntries c q → TellRun q lines
-    told keeps = subst (λ (x : PlannedShop). TellRun x lines) (sym same) (log_there p q.plan.order shaped lines c is (subst (BeginsWithEntries c) same keeps))
+    told keeps = subst (λ (x : PlannedShop). TellRun x lines) (sym same)
+        (tells_run lines (reordered p q.plan.order) c (log_there p q.plan.order shaped lines c is (subst (BeginsWithEntries c) same keeps)))

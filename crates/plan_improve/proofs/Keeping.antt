@@ -3,6 +3,7 @@ use Rattle.std.proofs.Common.{◌≡◌, ℕ, ◌+◌, ◌<◌, List, [], ◌∷
 use Rattle.std.proofs.lemmas.List.{append-nil}
 use Rattle.std.proofs.lemmas.Option.{slice_get_read}
 use Rattle.shop_base.specs.Plan.{PlannedShop, IsWellShaped}
+use Rattle.cell_tables.specs.PlannedCell.{PlannedCell}
 use Rattle.plan_annealing.specs.declared.rest.Rest.{Rest}
 use Rattle.plan_seek.specs.Orders.{Proposal}
 use Rattle.plan_improve.specs.declared.cost.Cost.{Cost}
@@ -14,7 +15,7 @@ use Rattle.plan_improve.specs.Settings.{Setting, IsBetter, IsAtBound}
 use Rattle.plan_improve.specs.Reordered.{reordered, IsReordered}
 use Rattle.plan_improve.specs.Watching.{Told, IsToldMore, told_bound}
 use Rattle.plan_improve.specs.Runs.{Asked, Becomes, no_answer, no_better, better, EndsAfter, AfterSome, nobody, one_more, AfterRound, AfterRounds, no_round, round_more, RoundsTold}
-use Rattle.plan_improve.specs.Keeping.{setting_of, rest_in, bound_in, IsFixed, IsNext, IsNextOf, IsLast, IsLastTold}
+use Rattle.plan_improve.specs.Keeping.{setting_of, rest_in, bound_in, IsFixed, Stands, IsNext, IsNextOf, IsLast, IsLastTold}
 use Rattle.plan_improve.proofs.Comparing.{most_of_most, less_is, less_than, not_both, most_same, most_less}
 use Rattle.plan_improve.proofs.Once.{OneCost, reordered_on}
 
@@ -35,6 +36,16 @@ module _ (s : Setting) where
   becomes_same p answer q (no_better order not) = refl
   becomes_same p answer q (better order is) = refl
 
+  -- the cell stays as it was
+  next_same : (x y : PlannedCell PlannedShop) (c : Cost) (answer : Proposal) → Stands s x → s.costs x.plan c → y.plan ≡ x.plan → y.cell ≡ x.cell → Becomes s x.plan answer x.plan
+      → IsNext s x.plan c answer (record { cell = y; cost = c })
+  next_same x y c answer stands is plan cell becomes = record {
+    becomes = subst (Becomes s x.plan answer) (sym plan) becomes;
+    stands = subst (λ p. s.cells p y.cell) (sym plan) (subst (s.cells x.plan) (sym cell) stands);
+    is = subst (λ p. s.costs p c) (sym plan) is;
+    most = most_same c;
+  }
+
   module _ (once : OneCost s) where
     -- a plan whose cost isn't less than the bound
     pub none_below : (p : PlannedShop) (cost bound : Cost) → s.costs p cost → IsAtMost bound cost → (c : Cost) → s.costs p c → IsLess c bound → ⊥
@@ -48,45 +59,41 @@ module _ (s : Setting) where
         let same = once p one.other bound one.than is in
         none one.cost one.is (less_than one.cost one.other bound same.0 same.1 one.less)
 
-    -- orders that are no better
-    pub next_worse : (p x back : PlannedShop) (c : Cost) (order : List (List ℕ)) → s.costs p c → x ≡ reordered p order → ((d : Cost) → s.costs x d → IsLess d c → ⊥) → back ≡ p
-        → IsNext s p c (Some order) (record { shaped = back; cost = c })
-    next_worse p x back c order is new none same = subst (λ y. IsNext s p c (Some order) (record { shaped = y; cost = c })) (sym same)
-        (record {
-          becomes = no_better order (not_better (reordered p order) p c is (subst (λ y. (d : Cost) → s.costs y d → IsLess d c → ⊥) new none));
-          is = is;
-          most = most_same c;
-        })
+    -- orders that are no better: the cell is the first again
+    pub next_worse : (x y z : PlannedCell PlannedShop) (c : Cost) (order : List (List ℕ)) → Stands s x → s.costs x.plan c → y.plan ≡ reordered x.plan order
+        → ((d : Cost) → s.costs y.plan d → IsLess d c → ⊥) → z.plan ≡ x.plan → z.cell ≡ x.cell → IsNext s x.plan c (Some order) (record { cell = z; cost = c })
+    next_worse x y z c order stands is new none plan cell = next_same x z c (Some order) stands is plan cell
+        (no_better order (not_better (reordered x.plan order) x.plan c is (subst (λ p. (d : Cost) → s.costs p d → IsLess d c → ⊥) new none)))
 
   -- no answer
-  pub next_none : (p : PlannedShop) (c : Cost) → s.costs p c → IsNext s p c None (record { shaped = p; cost = c })
-  next_none p c is = record { becomes = no_answer; is = is; most = most_same c }
+  pub next_none : (x : PlannedCell PlannedShop) (c : Cost) → Stands s x → s.costs x.plan c → IsNext s x.plan c None (record { cell = x; cost = c })
+  next_none x c stands is = next_same x x c None stands is refl refl no_answer
 
   -- orders that don't fit
-  pub next_unfit : (p back : PlannedShop) (c : Cost) (order : List (List ℕ)) → s.costs p c → (back ≡ p) × (IsWellShaped (reordered p order) → ⊥)
-      → IsNext s p c (Some order) (record { shaped = back; cost = c })
-  next_unfit p back c order is (same, unfit) = subst (λ x. IsNext s p c (Some order) (record { shaped = x; cost = c })) (sym same)
-      (record { becomes = no_better order (λ one. unfit one.shaped); is = is; most = most_same c })
+  pub next_unfit : (x y : PlannedCell PlannedShop) (c : Cost) (order : List (List ℕ)) → Stands s x → s.costs x.plan c → y.plan ≡ x.plan → y.cell ≡ x.cell
+      → (IsBetter s (reordered x.plan order) x.plan → ⊥) → IsNext s x.plan c (Some order) (record { cell = y; cost = c })
+  next_unfit x y c order stands is plan cell not = next_same x y c (Some order) stands is plan cell (no_better order not)
 
   -- orders that are better
-  pub next_better : (p x : PlannedShop) (c d : Cost) (order : List (List ℕ)) → s.costs p c → x ≡ reordered p order → IsWellShaped x → s.costs x d → IsLess d c
-      → IsNext s p c (Some order) (record { shaped = x; cost = d })
-  next_better p x c d order is new shaped cost less = record {
-    becomes = subst (Becomes s p (Some order)) (sym new) (better order (record {
+  pub next_better : (x y : PlannedCell PlannedShop) (c d : Cost) (order : List (List ℕ)) → s.costs x.plan c → y.plan ≡ reordered x.plan order → IsWellShaped y.plan → Stands s y → s.costs y.plan d
+      → IsLess d c → IsNext s x.plan c (Some order) (record { cell = y; cost = d })
+  next_better x y c d order is new shaped stands cost less = record {
+    becomes = subst (Becomes s x.plan (Some order)) (sym new) (better order (record {
       shaped = subst IsWellShaped new shaped;
       cost = d;
       other = c;
-      is = subst (λ y. s.costs y d) new cost;
+      is = subst (λ p. s.costs p d) new cost;
       than = is;
       less = less;
     }));
+    stands = stands;
     is = cost;
     most = most_less d c less;
   }
 
   -- the answer of one improver, put to the test
   pub asked_answer : {E : Type 0} (may : Proposal → Type 0) (best : Best) (order : List (List ℕ)) (r : Result Best E) → may (Some order)
-      → IfOk r (IsNext s best.shaped best.cost (Some order)) → IfOk r (IsNextOf s may best)
+      → IfOk r (IsNext s best.cell.plan best.cost (Some order)) → IfOk r (IsNextOf s may best)
   asked_answer may best order (Ok kept) given next = (Some order, given, next)
   asked_answer may best order (Err e) given next = tt
 
@@ -95,42 +102,44 @@ module _ (fixed : Fixed) where
   here = setting_of fixed
 
   -- the best plan so far meets the bound of the first
-  pub at_bound : (made : Asked) (p : PlannedShop) (first : Cost) (best : Best) → IsLast here made p first best → IsFixed fixed p → Meets best.cost (bound_in fixed) → IsAtBound here best.shaped
+  pub at_bound : (made : Asked) (p : PlannedShop) (first : Cost) (best : Best) → IsLast here made p first best → IsFixed fixed p → Meets best.cost (bound_in fixed) → IsAtBound here best.cell.plan
   at_bound made p first best known is meets =
-      record { cost = best.cost; at_least = bound_in fixed; is = known.is; bound = is.bound best.shaped known.same; meets = meets }
+      record { cost = best.cost; at_least = bound_in fixed; is = known.is; bound = is.bound best.cell.plan known.same; meets = meets }
 
   module _ {B : Type 0} (may : B → PlannedShop → Option Rest → ℕ → Proposal → Type 0) (improvers : List B) where
     -- one more improver was asked, as the best plan was above its bound
     pub one_more_asked : (round n : ℕ) (p : PlannedShop) (first : Cost) (best kept : Best) (who : B) → IsFixed fixed p → (Meets best.cost (bound_in fixed) → ⊥)
         → n < length improvers → who ≡ get_or improvers n who
-        → IsLast here (λ x. AfterSome here may improvers round x n) p first best → IsNextOf here (may who best.shaped (rest_in fixed) round) best kept
+        → IsLast here (λ x. AfterSome here may improvers round x n) p first best → IsNextOf here (may who best.cell.plan (rest_in fixed) round) best kept
         → IsLast here (λ x. AfterSome here may improvers round x (n + 1)) p first kept
     one_more_asked round n p first best kept who is above inside stands known (answer, given, next) = record {
-      run = one_more n who best.shaped kept.shaped (rest_in fixed) answer known.run
-          (record { cost = best.cost; at_least = bound_in fixed; is = known.is; bound = is.bound best.shaped known.same; above = above })
-          (is.left best.shaped best.cost known.same known.is) (slice_get_read improvers (length improvers) n who refl inside stands) given next.becomes;
-      same = reordered_on p best.shaped kept.shaped known.same (becomes_same here best.shaped answer kept.shaped next.becomes);
+      run = one_more n who best.cell.plan kept.cell.plan (rest_in fixed) answer known.run
+          (record { cost = best.cost; at_least = bound_in fixed; is = known.is; bound = is.bound best.cell.plan known.same; above = above })
+          (is.left best.cell.plan best.cost known.same known.is) (slice_get_read improvers (length improvers) n who refl inside stands) given next.becomes;
+      same = reordered_on p best.cell.plan kept.cell.plan known.same (becomes_same here best.cell.plan answer kept.cell.plan next.becomes);
+      stands = next.stands;
       is = next.is;
       most = most_of_most kept.cost best.cost first next.most known.most;
     }
 
     -- no improver more is asked
     pub round_ends : (round n : ℕ) (p : PlannedShop) (first : Cost) (best : Best) → IsLast here (λ x. AfterSome here may improvers round x n) p first best
-        → EndsAfter here (length improvers) n best.shaped → IsLast here (AfterRound here may improvers round) p first best
-    round_ends round n p first best known ends = record { run = record { asked = n; after = known.run; ends = ends }; same = known.same; is = known.is; most = known.most }
+        → EndsAfter here (length improvers) n best.cell.plan → IsLast here (AfterRound here may improvers round) p first best
+    round_ends round n p first best known ends = record { run = record { asked = n; after = known.run; ends = ends }; same = known.same; stands = known.stands; is = known.is; most = known.most }
 
     -- one more round, before which the best plan doesn't meet its bound
     pub one_more_round : (before between after : Option (List Told)) (n : ℕ) (p : PlannedShop) (first : Cost) (best kept : Best) → IsFixed fixed p → (Meets best.cost (bound_in fixed) → ⊥)
         → IsLastTold here before between (λ told x. AfterRounds here may improvers x n told) p first best
         → IsToldMore between (record { round = n; cost = best.cost; at_least = told_bound (bound_in fixed) } ∷ []) after
-        → IsLast here (AfterRound here may improvers n) best.shaped best.cost kept
+        → IsLast here (AfterRound here may improvers n) best.cell.plan best.cost kept
         → IsLastTold here before after (λ told x. AfterRounds here may improvers x (n + 1) told) p first kept
     one_more_round before between after n p first best kept is unmet known more next = record {
       told = known.told ++ record { round = n; cost = best.cost; at_least = told_bound (bound_in fixed) } ∷ [];
       more = told_on before between after known.told (record { round = n; cost = best.cost; at_least = told_bound (bound_in fixed) } ∷ []) known.more more;
       last = record {
-        run = round_more n known.told best.shaped kept.shaped best.cost (bound_in fixed) known.last.run known.last.is (is.bound best.shaped known.last.same) unmet next.run;
-        same = reordered_on p best.shaped kept.shaped known.last.same next.same;
+        run = round_more n known.told best.cell.plan kept.cell.plan best.cost (bound_in fixed) known.last.run known.last.is (is.bound best.cell.plan known.last.same) unmet next.run;
+        same = reordered_on p best.cell.plan kept.cell.plan known.last.same next.same;
+        stands = next.stands;
         is = next.is;
         most = most_of_most kept.cost best.cost first next.most known.last.most;
       };
@@ -139,11 +148,11 @@ module _ (fixed : Fixed) where
     -- no round more
     pub rounds_end : (before after : Option (List Told)) (n rounds : ℕ) (p : PlannedShop) (first : Cost) (best : Best)
         → IsLastTold here before after (λ told x. AfterRounds here may improvers x n told) p first best
-        → EndsAfter here rounds n best.shaped → IsLastTold here before after (RoundsTold here may improvers rounds) p first best
+        → EndsAfter here rounds n best.cell.plan → IsLastTold here before after (RoundsTold here may improvers rounds) p first best
     rounds_end before after n rounds p first best known ends = record {
       told = known.told;
       more = known.more;
-      last = record { run = record { asked = n; after = known.last.run; ends = ends }; same = known.last.same; is = known.last.is; most = known.last.most };
+      last = record { run = record { asked = n; after = known.last.run; ends = ends }; same = known.last.same; stands = known.last.stands; is = known.last.is; most = known.last.most };
     }
 
     pub bound_met : (before after : Option (List Told)) (n rounds : ℕ) (p : PlannedShop) (first : Cost) (best : Best)
@@ -153,13 +162,13 @@ module _ (fixed : Fixed) where
         rounds_end before after n rounds p first best known
         (inr (few, at_bound (λ x. AfterRounds here may improvers x n known.told) p first best known.last is meets))
 
-    pub nobody_asked : (round : ℕ) (best : Best) → here.costs best.shaped best.cost → IsLast here (λ x. AfterSome here may improvers round x 0) best.shaped best.cost best
-    nobody_asked round best is = record { run = nobody; same = refl; is = is; most = most_same best.cost }
+    pub nobody_asked : (round : ℕ) (best : Best) → Stands here best.cell → here.costs best.cell.plan best.cost → IsLast here (λ x. AfterSome here may improvers round x 0) best.cell.plan best.cost best
+    nobody_asked round best stands is = record { run = nobody; same = refl; stands = stands; is = is; most = most_same best.cost }
 
-    pub no_rounds : (before : Option (List Told)) (best : Best) → here.costs best.shaped best.cost
-        → IsLastTold here before before (λ told x. AfterRounds here may improvers x 0 told) best.shaped best.cost best
-    no_rounds before best is = record {
+    pub no_rounds : (before : Option (List Told)) (best : Best) → Stands here best.cell → here.costs best.cell.plan best.cost
+        → IsLastTold here before before (λ told x. AfterRounds here may improvers x 0 told) best.cell.plan best.cost best
+    no_rounds before best stands is = record {
       told = [];
       more = told_nothing before;
-      last = record { run = no_round; same = refl; is = is; most = most_same best.cost };
+      last = record { run = no_round; same = refl; stands = stands; is = is; most = most_same best.cost };
     }

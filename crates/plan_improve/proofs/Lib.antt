@@ -15,3 +15,5 @@ pub mod RestLawful
 pub mod RestEnded
 pub mod StartCosts
 pub mod Fronts
+pub mod SameFronts
+pub mod Standing

@@ -1,6 +1,5 @@
 -- Each plan has one cost; and what is fixed is so for all plans that differ in their orders alone.
-use Rattle.std.proofs.Common.{◌≡◌, ℕ, ◌-◌, ◌≤◌, List, [], inl, inr, arith, refl, sym, ap, ◌∙◌, subst}
-use Rattle.shop_base.specs.declared.node.Node.{Node}
+use Rattle.std.proofs.Common.{◌≡◌, ℕ, ◌-◌, ◌≤◌, List, Some, arith, refl, sym, ap, ◌∙◌, subst}
 use Rattle.shop_base.specs.declared.limits.TheConstants.{MAX_MOMENT}
 use Rattle.shop_base.specs.Plan.{PlannedShop, jobs, budget}
 use Rattle.shop_base.specs.Cell.{Cell}
@@ -8,10 +7,10 @@ use Rattle.shop_base.specs.Ends.{sum_below}
 use Rattle.shop_base.specs.Graph.{leaving}
 use Rattle.shop_base.proofs.Sums.{sum_below_same}
 use Rattle.text_lines.specs.Lines.{ended_lines}
+use Rattle.alt_graph.specs.Solved.{HasCycle}
 use Rattle.plan_bounds.specs.Bounds.{times_of}
 use Rattle.plan_bounds.specs.Makespan.{IsBy}
-use Rattle.plan_verifier.specs.Accepted.{IsGreatest}
-use Rattle.plan_verifier.proofs.Reasons.{makespan_le}
+use Rattle.plan_verifier.proofs.Reasons.{greatest_once, makespan_le}
 use Rattle.plan_annealing.specs.declared.rest.Rest.{Rest}
 use Rattle.plan_improve.specs.declared.cost.Cost.{Cost}
 use Rattle.plan_improve.specs.declared.fixed.Fixed.{Fixed}
@@ -19,20 +18,16 @@ use Rattle.plan_improve.specs.declared.fixed.Fixed.TheVariants.{Nothing, Run}
 use Rattle.plan_improve.specs.AtBound.{IsBound}
 use Rattle.plan_improve.specs.Costs.{IsLateness, IsCost}
 use Rattle.plan_improve.specs.RestCosts.{IsCellOf}
-use Rattle.plan_improve.specs.RestKeeping.{IsRestAt}
 use Rattle.plan_improve.specs.RestOf.{IsRestOf}
-use Rattle.plan_improve.specs.Settings.{Setting}
+use Rattle.plan_improve.specs.Settings.{Setting, IsRestThere}
 use Rattle.plan_improve.specs.Reordered.{reordered, IsReordered}
-use Rattle.plan_improve.specs.Keeping.{setting_of, IsFixed, HasNoCost}
-use Rattle.plan_improve.proofs.OneCell.{one_cell, tell_same, tells_run}
+use Rattle.plan_improve.specs.Keeping.{setting_of, IsFixed}
+use Rattle.plan_improve.proofs.OneCell.{one_cell}
 use Rattle.plan_improve.proofs.RestCosts.{same_late as same_rest_late, same_makespan as same_rest_makespan}
 
 -- a plan has one cost
 abbrev pub OneCost : Setting → Type 0
 OneCost s = (p : PlannedShop) (c d : Cost) → s.costs p c → s.costs p d → (c.late ≡ d.late) × (c.makespan ≡ d.makespan)
-
-greatest_once : (p : PlannedShop) (v : Node) (m n : ℕ) → IsGreatest p v m → IsGreatest p v n → m ≡ n
-greatest_once p v m n one other = omega (arith, other.longest one.reached.0 m one.reached.1, one.longest other.reached.0 n other.reached.1)
 
 lateness_once : (p : PlannedShop) (m n : ℕ) → IsLateness p m → IsLateness p n → m ≡ n
 lateness_once p m n one other = one.sum ∙ same ∙ sym other.sum
@@ -70,7 +65,7 @@ fixed_on fixed p q is same = record {
 
 -- of a whole plan
 pub nothing_fixed : (p : PlannedShop) (n : ℕ) → IsBound p n → IsFixed (Nothing n) p
-nothing_fixed p n is = record { early = tt; left = λ q cost same costs. refl; bound = λ q same. same_bound p q n same is }
+nothing_fixed p n is = record { early = omega arith; left = λ q cost same costs. refl; bound = λ q same. same_bound p q n same is }
 
 -- what is left of a plan is left of one with other orders
 rest_same : (p : PlannedShop) (order : List (List ℕ)) (c : Cell) (t : ℕ) (rest : Rest) → IsRestOf p c t rest → IsRestOf (reordered p order) c t rest
@@ -84,7 +79,7 @@ rest_on lines t p q rest c d same one is other =
 -- of the rest of a run
 abbrev pub FitsRun : Fixed → PlannedShop → Type 0
 FitsRun (Nothing at_least) p = ⊥
-FitsRun (Run log present rest) p = (present ≤ MAX_MOMENT) × IsRestAt (ended_lines log.now) p present rest.now
+FitsRun (Run log present rest) p = (present ≤ MAX_MOMENT) × IsRestThere (ended_lines log.now) present p (Some rest.now)
 
 pub run_fixed : (fixed : Fixed) (p : PlannedShop) → FitsRun fixed p → IsFixed fixed p
 run_fixed (Nothing at_least) p is = absurd is
@@ -94,14 +89,7 @@ run_fixed (Run log present rest) p (early, (c, one, is)) = record {
   bound = λ q same. refl;
 }
 
--- where nothing has happened yet, a plan with other orders keeps what is fixed too
-pub fresh_keeps : (fixed : Fixed) (p : PlannedShop) (order : List (List ℕ)) → (setting_of fixed).fresh p → (setting_of fixed).keeps (reordered p order)
-fresh_keeps (Nothing at_least) p order none = tt
-fresh_keeps (Run log present rest) p order none = ([], tell_same (reordered p order) p.plan.order (ended_lines log.now) [] none, tt)
-
--- a plan that doesn't keep what is fixed, or has a cycle, costs nothing
-pub no_cost : (fixed : Fixed) (p : PlannedShop) → HasNoCost (setting_of fixed) p → (c : Cost) → (setting_of fixed).costs p c → ⊥
-no_cost (Nothing at_least) p (inl not) c is = not tt
-no_cost (Nothing at_least) p (inr cycle) c is = is.acyclic cycle.0 cycle.1
-no_cost (Run log present rest) p (inl untold) c is = untold (tells_run (ended_lines log.now) p is.cell is.run)
-no_cost (Run log present rest) p (inr cycle) c is = is.costs.acyclic cycle
+-- a plan with a cycle costs nothing
+pub no_cost : (fixed : Fixed) (p : PlannedShop) → HasCycle p → (c : Cost) → (setting_of fixed).costs p c → ⊥
+no_cost (Nothing at_least) p cycle c is = is.acyclic cycle.0 cycle.1
+no_cost (Run log present rest) p cycle c is = is.costs.acyclic cycle

@@ -39,7 +39,7 @@ module _ (p : PlannedShop) (order : List (List ℕ)) where
   all_same c [] = refl
   all_same c (e ∷ es) = ap (λ (x : Cell). after_all other_plan x es) (after_same c e) ∙ all_same (after p c e) es
 
-  ends_same : (es : List Event) → ends_in other_plan es ≡ ends_in p es
+  pub ends_same : (es : List Event) → ends_in other_plan es ≡ ends_in p es
   ends_same es = all_same (start p) es
 
   -- and what a line tells on the numbers of jobs and machines

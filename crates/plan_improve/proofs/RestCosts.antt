@@ -7,14 +7,14 @@ use Rattle.shop_base.specs.Cell.{Cell, made}
 use Rattle.shop_base.specs.Graph.{leaving}
 use Rattle.shop_base.specs.Ends.{sum_below}
 use Rattle.shop_base.proofs.Sums.{sum_below_same}
-use Rattle.shop_base.proofs.Cycles.{ranks_exclude_cycle}
-use Rattle.alt_graph.specs.Times.{NodeTimes, rank_of, earliest_of}
+use Rattle.alt_graph.specs.Times.{NodeTimes, rank_of}
 use Rattle.plan_verifier.specs.Rest.{AreOrderedAhead, IsGreatestAhead}
-use Rattle.plan_verifier.specs.Leavings.{IsMakespanAfter}
-use Rattle.plan_verifier.proofs.GoingOn.{leaving_ahead}
+use Rattle.plan_verifier.specs.Leavings.{leaves_in, AreLeavingsAhead, IsLastLeaving}
+use Rattle.plan_verifier.proofs.Acceptable.{acyclic}
+use Rattle.plan_verifier.proofs.GoingOn.{leavings_ahead}
 use Rattle.plan_improve.specs.declared.cost.Cost.{Cost}
-use Rattle.plan_improve.specs.RestCosts.{AreLeavingsAhead, late_by, IsLatest, IsCostFrom, IsRestCost}
-use Rattle.plan_improve.specs.RestKeeping.{leaves_in, LeaveSoon, the_last_leaving}
+use Rattle.plan_improve.specs.RestCosts.{late_by, IsCostFrom, IsRestCost}
+use Rattle.plan_improve.specs.RestKeeping.{LeaveSoon, the_last_leaving}
 use Rattle.plan_improve.proofs.OneCell.{cell_once}
 
 module _ (p : PlannedShop) (c : Cell) (t : ℕ) where
@@ -31,10 +31,8 @@ module _ (p : PlannedShop) (c : Cell) (t : ℕ) where
   late_once f g one other = sum_below_same _ _ (jobs p)
       (λ j inside. ap (λ n. if nat_lt (steps p j) (made c j) then 0 else n - budget p j) (leaves_once f g one other j inside))
 
-  latest_le : (f g : ℕ → ℕ) (m n : ℕ) → ((j : ℕ) → j < jobs p → f j ≡ g j) → IsLatest p f m → IsLatest p g n → m ≤ n
-  latest_le f g m n same one other =
-      let (j, inside, is) = one.reached in
-      omega (arith, is, same j inside, other.bound j inside)
+  last_le : (f g : ℕ → ℕ) (m n : ℕ) → ((j : ℕ) → j < jobs p → f j ≡ g j) → IsLastLeaving p f m → IsLastLeaving p g n → m ≤ n
+  last_le f g m n same one other = (let (j, inside, is) = one.reached in omega (arith, is, same j inside, other.bound j inside))
 
   cost_late : (a b : Cost) → IsCostFrom p c t a → IsCostFrom p c t b → a.late ≡ b.late
   cost_late a b one other = one.late ∙ late_once one.leaves other.leaves one.are other.are ∙ sym other.late
@@ -42,26 +40,15 @@ module _ (p : PlannedShop) (c : Cell) (t : ℕ) where
   cost_makespan : (a b : Cost) → IsCostFrom p c t a → IsCostFrom p c t b → a.makespan ≡ b.makespan
   cost_makespan a b one other = omega (
     arith,
-    latest_le one.leaves other.leaves a.makespan b.makespan (leaves_once one.leaves other.leaves one.are other.are) one.makespan other.makespan,
-    latest_le other.leaves one.leaves b.makespan a.makespan (leaves_once other.leaves one.leaves other.are one.are) other.makespan one.makespan,
+    last_le one.leaves other.leaves a.makespan b.makespan (leaves_once one.leaves other.leaves one.are other.are) one.makespan other.makespan,
+    last_le other.leaves one.leaves b.makespan a.makespan (leaves_once other.leaves one.leaves other.are one.are) other.makespan one.makespan,
   )
 
   -- the moments of the leavings give the cost
   pub cost_is : (times : NodeTimes) (cost : Cost) → AreOrderedAhead p c t times → cost.late ≡ sum_below (late_by p c (leaves_in p times)) (jobs p)
-      → IsMakespanAfter p (earliest_of times) cost.makespan → IsCostFrom p c t cost
-  cost_is times cost ordered late makespan = record {
-    acyclic = λ cycle. ranks_exclude_cycle p (rank_of times) cycle.0 ordered.schedule.ranks cycle.1;
-    leaves = leaves_in p times;
-    are = record {
-      left = λ j inside gone. ordered.left j inside gone;
-      ahead = λ j inside here. (record {
-        reached = ordered.reached (leaving p j) (record { job = inside; place = omega arith }) (leaving_ahead p c j here);
-        longest = λ nodes k path. ordered.greatest nodes (leaving p j) k path;
-      });
-    };
-    late = late;
-    makespan = record { bound = makespan.bound; reached = makespan.reached };
-  }
+      → IsLastLeaving p (leaves_in p times) cost.makespan → IsCostFrom p c t cost
+  cost_is times cost ordered late makespan =
+      record { acyclic = acyclic p (rank_of times) ordered.schedule.ranks; leaves = leaves_in p times; are = leavings_ahead p c t times ordered; late = late; makespan = makespan }
 
 -- the total lateness of the first n jobs
 pub record IsLateBelow (p : PlannedShop) (c : Cell) (leaves : ℕ → ℕ) (n late : ℕ) : Type 0 where
@@ -72,7 +59,7 @@ pub late_none : (p : PlannedShop) (c : Cell) (leaves : ℕ → ℕ) → IsLateBe
 late_none p c leaves = record { sum = refl; few = omega arith }
 
 -- a job isn't later than it leaves
-pub late_few : (p : PlannedShop) (c : Cell) (times : NodeTimes) (j : ℕ) → LeaveSoon p c (earliest_of times) → j < jobs p → late_by p c (leaves_in p times) j ≤ the_last_leaving
+pub late_few : (p : PlannedShop) (c : Cell) (times : NodeTimes) (j : ℕ) → LeaveSoon p c (leaves_in p times) → j < jobs p → late_by p c (leaves_in p times) j ≤ the_last_leaving
 late_few p c times j soon inside = elim (cases_lt (steps p j) (made c j)) [
   | inl gone ↦ rw (lt-ltb (steps p j) (made c j) gone) (omega arith)
   | inr here ↦ rw (le-ltb (steps p j) (made c j) here) (omega (arith, soon j inside (λ gone. omega arith)))

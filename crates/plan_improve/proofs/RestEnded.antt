@@ -12,37 +12,34 @@ use Rattle.plan_improve.specs.Runs.{Asked}
 use Rattle.plan_improve.specs.declared.improved.Improved.{Improved}
 use Rattle.plan_improve.specs.RestCosts.{IsCellOf}
 use Rattle.plan_improve.specs.Improved.{HasNoRestBegin, IsFound, IsFoundTold, IsNeverWorse, IsVerdictOn, present_of}
-use Rattle.plan_improve.specs.Keeping.{Comes}
-use Rattle.plan_improve.specs.RestKeeping.{IsSet, IsJudgedOn, IsImprovedTold}
+use Rattle.cell_tables.specs.PlannedCell.{PlannedCell}
+use Rattle.plan_improve.specs.Keeping.{Comes, IsComeTo}
+use Rattle.plan_improve.specs.RestKeeping.{IsImprovedTold}
 use Rattle.plan_improve.proofs.OneCell.{one_cell, cell_once}
 use Rattle.plan_improve.proofs.RestLawful.{accepted}
 use Rattle.plan_improve.proofs.Searched.{same_numbers, stays_there, never_worse_either, found_either, found_told_either}
 
 module _ (lines : List (List ℕ)) (t : ℕ) (before after : Option (List Told)) (made : List Told → Asked) (start : PlannedShop) where
-  -- the lines tell a run of the plan that is found, which ends as that of the start does
-  pub comes_set : (p : PlannedShop) → IsSet lines t start → Comes (rest_after lines t) before after made start p → IsSet lines t p
-  comes_set p set (inl stays) = subst (IsSet lines t) (sym stays.1) set
-  comes_set p set (inr came) = (
-    came.is.cell,
-    came.is.run,
-    subst (λ (x : Cell). IsNextMoment x t) (one_cell lines start p set.0 came.is.cell came.same set.1 came.is.run) set.2,
-  )
+  -- the present moment can be the next after the run that the lines tell by the plan that is found
+  pub come_next : (x : PlannedCell PlannedShop) (c : Cell) → IsCellOf lines start c → IsNextMoment c t → IsComeTo (rest_after lines t) before after made start x → IsNextMoment x.cell t
+  come_next x c here next come =
+      subst (λ (d : Cell). IsNextMoment d t) (one_cell lines start x.plan c x.cell (same_numbers (rest_after lines t) before after made start x.plan come.0) here come.1) next
 
-  -- with the verdict on its rest
-  pub improved_answer : {E : Type 0} (p : PlannedShop) (r : Result Improved E) → Comes (rest_after lines t) before after made start p → IfOk r (IsJudgedOn lines t p)
-      → IfOk r (IsImprovedTold lines t before after made start)
-  improved_answer p (Ok found) comes judged = record {
-    came = subst (Comes (rest_after lines t) before after made start) (sym judged.shaped) comes;
-    cell = judged.cell;
-    run = subst (λ (x : PlannedShop). IsCellOf lines x judged.cell) (sym judged.shaped) judged.run;
-    verdict = subst (λ (x : PlannedShop). IsVerdictOn x judged.cell t found.verdict) (sym judged.shaped) judged.verdict;
+  -- the plan with the verdict on its rest
+  pub improved_answer : {E : Type 0} (x : PlannedCell PlannedShop) (r : Result Improved E) → IsComeTo (rest_after lines t) before after made start x → IfOk r (λ found. found.shaped ≡ x.plan)
+      → IfOk r (λ found. IsVerdictOn x.plan x.cell t found.verdict) → IfOk r (IsImprovedTold lines t before after made start)
+  improved_answer x (Ok found) come plan verdict = record {
+    came = subst (Comes (rest_after lines t) before after made start) (sym plan) come.0;
+    cell = x.cell;
+    run = subst (λ (p : PlannedShop). IsCellOf lines p x.cell) (sym plan) come.1;
+    verdict = subst (λ (p : PlannedShop). IsVerdictOn p x.cell t found.verdict) (sym plan) verdict;
   }
-  improved_answer p (Err e) comes judged = tt
+  improved_answer x (Err e) come plan verdict = tt
 
-  pub back_answer : {A E : Type 0} (p : PlannedShop) (r : Result A (E × PlannedShop)) → Comes (rest_after lines t) before after made start p → IfErr r (λ refused. refused.1 ≡ p)
+  pub back_answer : {A E : Type 0} (x : PlannedCell PlannedShop) (r : Result A (E × PlannedShop)) → IsComeTo (rest_after lines t) before after made start x → IfErr r (λ refused. refused.1 ≡ x.plan)
       → IfErr r (λ refused. IsReordered start refused.1)
-  back_answer p (Ok found) comes back = tt
-  back_answer p (Err e) comes back = subst (IsReordered start) (sym back) (same_numbers (rest_after lines t) before after made start p comes)
+  back_answer x (Ok found) come back = tt
+  back_answer x (Err e) come back = subst (IsReordered start) (sym back) (same_numbers (rest_after lines t) before after made start x.plan come.0)
 
   module _ (found : Improved) (is : IsImprovedTold lines t before after made start found) where
     pub same_rest_numbers : IsReordered start found.shaped

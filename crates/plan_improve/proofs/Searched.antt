@@ -1,31 +1,15 @@
 -- What is said of the plan that a search gives, from where it begins and what was kept.
 use Rattle.std.proofs.Common.{◌≡◌, ◌⊎◌, List, Option, inl, inr, refl, sym, ◌∙◌, subst}
-use Rattle.shop_base.specs.Plan.{PlannedShop, IsWellShaped}
-use Rattle.alt_graph.specs.Solved.{HasCycle}
-use Rattle.plan_seek.specs.Orders.{serial_order}
+use Rattle.shop_base.specs.Plan.{PlannedShop}
 use Rattle.plan_improve.specs.declared.cost.Cost.{Cost}
 use Rattle.plan_improve.specs.declared.best.Best.{Best}
-use Rattle.plan_improve.specs.declared.fixed.Fixed.{Fixed}
 use Rattle.plan_improve.specs.Settings.{Setting, IsNoWorse}
-use Rattle.plan_improve.specs.Reordered.{reordered, IsReordered}
+use Rattle.plan_improve.specs.Reordered.{IsReordered}
 use Rattle.plan_improve.specs.Watching.{Told}
 use Rattle.plan_improve.specs.Runs.{Asked}
 use Rattle.plan_improve.specs.Improved.{IsBegin, HasNoBegin, IsFound, IsFoundTold, IsNeverWorse}
-use Rattle.plan_improve.specs.Keeping.{setting_of, HasNoCost, IsLastTold, IsSearched, Comes}
-use Rattle.plan_improve.proofs.Once.{reordered_on, fresh_keeps}
-use Rattle.plan_improve.proofs.Serially.{serial_acyclic}
-
--- a plan that keeps what is fixed, and has no cost, has a cycle
-pub has_cycle : (s : Setting) (p : PlannedShop) → HasNoCost s p → s.keeps p → HasCycle p
-has_cycle s p (inl not) keeps = absurd (not keeps)
-has_cycle s p (inr cycle) keeps = cycle
-
--- the serial plan has a cost where nothing has happened yet
-pub serial_costs : (fixed : Fixed) (start serial : PlannedShop) → IsWellShaped start → (setting_of fixed).fresh start → serial ≡ reordered start (serial_order start.shop)
-    → HasNoCost (setting_of fixed) serial → ⊥
-serial_costs fixed start serial shaped none is (inl not) =
-    not (subst (λ (x : PlannedShop). (setting_of fixed).keeps x) (sym is) (fresh_keeps fixed start (serial_order start.shop) none))
-serial_costs fixed start serial shaped none is (inr cycle) = serial_acyclic start shaped (subst HasCycle is cycle)
+use Rattle.plan_improve.specs.Keeping.{IsLastTold, IsSearched, Comes}
+use Rattle.plan_improve.proofs.Once.{reordered_on}
 
 module _ (s : Setting) where
   pub begin_same : (start p : PlannedShop) → IsBegin s start p → IsReordered start p
@@ -54,7 +38,7 @@ module _ (s : Setting) where
       told = last.told;
       more = last.more;
       run = last.last.run;
-      same = reordered_on start p kept.shaped (begin_same start p begins) last.last.same;
+      same = reordered_on start p kept.cell.plan (begin_same start p begins) last.last.same;
       cost = kept.cost;
       first = first;
       is = last.last.is;

@@ -1,14 +1,10 @@
 -- What a plan costs: its total lateness and its makespan, by the lengths of its paths; and which of two costs is less.
 use Rattle.std.specs.Prelude.{◌≡◌, ℕ, ◌-◌, ◌<◌, ◌≤◌, ◌⊎◌}
 use Rattle.shop_base.specs.Plan.{PlannedShop, jobs, budget}
-use Rattle.shop_base.specs.Graph.{leaving}
 use Rattle.shop_base.specs.Ends.{sum_below}
-use Rattle.plan_verifier.specs.Accepted.{HasNoCycle, IsGreatest, IsMakespan}
+use Rattle.plan_verifier.specs.Accepted.{HasNoCycle, IsMakespan}
+use Rattle.plan_verifier.specs.Leavings.{AreLeavings}
 use Rattle.plan_improve.specs.declared.cost.Cost.{Cost}
-
--- these are the earliest leavings: of each job the greatest length of a path to its leaving
-abbrev pub AreLeavings : PlannedShop → (ℕ → ℕ) → Type 0
-AreLeavings p leaves = (j : ℕ) → j < jobs p → IsGreatest p (leaving p j) (leaves j)
 
 -- the total lateness (Pinedo, Scheduling: the sum of the T_j): over all jobs, what each leaves past its budget
 pub record IsLateness (p : PlannedShop) (n : ℕ) : Type 0 where

@@ -3,24 +3,14 @@ use Rattle.std.specs.Prelude.{◌≡◌, ◌↔◌, ℕ, ◌<◌, ◌≤◌, ◌
 use Rattle.shop_base.specs.Plan.{PlannedShop}
 use Rattle.shop_base.specs.Cell.{Cell}
 use Rattle.plan_verifier.specs.declared.verdict.Judged.{Judged}
-use Rattle.plan_verifier.specs.declared.verdict.Verdict.{Verdict}
-use Rattle.plan_verifier.specs.declared.verdict.Verdict.TheVariants.{Accepted, Refused}
 use Rattle.plan_verifier.specs.RestVerdicts.{IsAcceptedAhead, IsReasonAhead, IsAcceptableAhead, IsRestAccepted}
 use Rattle.event_lines.specs.LogLines.{LinesTell}
 use Rattle.alt_graph.specs.Solved.{HasCycle}
 use Rattle.plan_seek.specs.Orders.{serial_order}
-use Rattle.plan_seek.specs.declared.search.TheConstants.{MAX_ROUNDS}
-use Rattle.plan_improve.specs.declared.improve_fault.ImproveFault.{ImproveFault}
-use Rattle.plan_improve.specs.declared.improve_fault.ImproveFault.TheVariants.{TooManyRounds, Memory}
 use Rattle.plan_improve.specs.Settings.{Setting, IsNoWorse}
 use Rattle.plan_improve.specs.Reordered.{reordered}
 use Rattle.plan_improve.specs.Watching.{Told, IsToldMore}
 use Rattle.plan_improve.specs.Runs.{Asked}
-
--- the plan that is judged
-abbrev pub judged : Verdict → PlannedShop
-judged (Accepted verified) = verified.planned
-judged (Refused back why) = back
 
 module _ (s : Setting) where
   -- where the search begins: at the plan itself, or where that has a cycle and nothing has happened yet, at the serial plan
@@ -61,8 +51,3 @@ pub record IsVerdictOn (p : PlannedShop) (c : Cell) (t : ℕ) (verdict : Judged)
   pub accepted : IsAcceptedAhead p c t verdict
   pub refused : IsReasonAhead p c t verdict
   pub exact : IsRestAccepted verdict ↔ IsAcceptableAhead p c t
-
--- why no plan is given: more rounds than the most, or else out of memory
-abbrev pub IsImproveFault : ℕ → ImproveFault → Type 0
-IsImproveFault rounds TooManyRounds = MAX_ROUNDS < rounds
-IsImproveFault rounds Memory = rounds ≤ MAX_ROUNDS

@@ -1,20 +1,29 @@
 -- The best plan so far with its cost, while answers are judged.
-use Rattle.std.specs.Prelude.{◌≡◌, ◌≤◌, ◌⊎◌, ℕ, List, Option, None, Some}
+use Rattle.std.specs.Prelude.{◌≡◌, ◌<◌, ◌≤◌, ◌⊎◌, ℕ, List, [], Option, None, Some, length, take, slice_index_or}
 use Rattle.shop_base.specs.declared.limits.TheConstants.{MAX_MOMENT}
-use Rattle.shop_base.specs.Plan.{PlannedShop}
+use Rattle.shop_base.specs.Plan.{PlannedShop, IsWellShaped}
+use Rattle.shop_base.specs.Cell.{Cell}
+use Rattle.shop_base.specs.Move.{IsPrefix}
+use Rattle.shop_base.specs.Run.{Event, IsRun, ends_in}
+use Rattle.shop_base.specs.Vectors.{lists_of}
 use Rattle.text_lines.specs.Lines.{ended_lines}
-use Rattle.alt_graph.specs.Solved.{HasCycle}
+use Rattle.cell_tables.specs.PlannedCell.{PlannedCell}
+use Rattle.cell_tables.specs.Tables.{no_row}
+use Rattle.cell_tables.specs.declared.tables.MachineRow.{MachineRow}
 use Rattle.plan_annealing.specs.declared.rest.Rest.{Rest}
 use Rattle.plan_seek.specs.Orders.{Proposal}
 use Rattle.plan_improve.specs.declared.cost.Cost.{Cost}
 use Rattle.plan_improve.specs.declared.best.Best.{Best}
 use Rattle.plan_improve.specs.declared.beginning.First.{First}
-use Rattle.plan_improve.specs.declared.beginning.First.TheVariants.{Begins, Stays}
+use Rattle.plan_improve.specs.declared.beginning.First.TheVariants.{Begins, Stays as StaysFirst}
+use Rattle.plan_improve.specs.declared.recasting.Recast.{Recast}
+use Rattle.plan_improve.specs.declared.recasting.Recast.TheVariants.{Fits, Stays}
 use Rattle.plan_improve.specs.declared.fixed.Fixed.{Fixed}
 use Rattle.plan_improve.specs.declared.fixed.Fixed.TheVariants.{Nothing, Run}
 use Rattle.plan_improve.specs.Costs.{IsLess, IsAtMost}
 use Rattle.plan_improve.specs.Settings.{Setting, whole_plan, rest_after}
-use Rattle.plan_improve.specs.Reordered.{IsReordered}
+use Rattle.plan_improve.specs.Laws.{BeginsWithEntries}
+use Rattle.plan_improve.specs.Reordered.{reordered, IsReordered}
 use Rattle.plan_improve.specs.Watching.{Told, IsToldMore}
 use Rattle.plan_improve.specs.Runs.{Asked, Becomes}
 use Rattle.plan_improve.specs.Improved.{IsBegin, HasNoBegin}
@@ -34,10 +43,14 @@ abbrev pub bound_in : Fixed → Option ℕ
 bound_in (Nothing at_least) = Some at_least
 bound_in (Run log present rest) = None
 
--- the present moment, if there is one, is within the limit
+-- the present moment
+abbrev pub present_in : Fixed → ℕ
+present_in (Nothing at_least) = 0
+present_in (Run log present rest) = present
+
+-- it is within the limit
 abbrev pub IsEarly : Fixed → Type 0
-IsEarly (Nothing at_least) = Unit {0}
-IsEarly (Run log present rest) = present ≤ MAX_MOMENT
+IsEarly fixed = present_in fixed ≤ MAX_MOMENT
 
 -- this is fixed for a plan, whatever its orders: what is left of it, and its bound
 pub record IsFixed (fixed : Fixed) (p : PlannedShop) : Type 0 where
@@ -46,9 +59,9 @@ pub record IsFixed (fixed : Fixed) (p : PlannedShop) : Type 0 where
   pub bound : (q : PlannedShop) → IsReordered p q → (setting_of fixed).bounds q (bound_in fixed)
 
 module _ (s : Setting) where
-  -- the plan doesn't keep what is fixed, or it has a cycle
-  abbrev pub HasNoCost : PlannedShop → Type 0
-  HasNoCost p = (s.keeps p → ⊥) ⊎ HasCycle p
+  -- the cell is the one to which what has happened leads by its plan
+  abbrev pub Stands : PlannedCell PlannedShop → Type 0
+  Stands x = s.cells x.plan x.cell
 
   -- this is the plan's cost if it has one that is less than the bound; else it has none
   abbrev pub IsCostBelow : PlannedShop → Cost → Option Cost → Type 0
@@ -57,24 +70,26 @@ module _ (s : Setting) where
 
   -- the plan with which a search begins, with its cost, or that there is none
   abbrev pub IsFirst : PlannedShop → First → Type 0
-  IsFirst start (Begins best) = IsBegin s start best.shaped × s.costs best.shaped best.cost
-  IsFirst start (Stays back) = (back ≡ start) × HasNoBegin s start
+  IsFirst start (Begins best) = IsBegin s start best.cell.plan × Stands best.cell × s.costs best.cell.plan best.cost
+  IsFirst start (StaysFirst back) = (back.plan ≡ start) × Stands back × HasNoBegin s start
 
   -- the best plan that an answer makes of one with its cost
   pub record IsNext (p : PlannedShop) (c : Cost) (answer : Proposal) (kept : Best) : Type 0 where
-    pub becomes : Becomes s p answer kept.shaped
-    pub is : s.costs kept.shaped kept.cost
+    pub becomes : Becomes s p answer kept.cell.plan
+    pub stands : Stands kept.cell
+    pub is : s.costs kept.cell.plan kept.cost
     pub most : IsAtMost kept.cost c
 
   -- the best plan that an answer which may be given makes of the best one so far
   abbrev pub IsNextOf : (Proposal → Type 0) → Best → Best → Type 0
-  IsNextOf may best kept = (answer : Proposal) × may answer × IsNext best.shaped best.cost answer kept
+  IsNextOf may best kept = (answer : Proposal) × may answer × IsNext best.cell.plan best.cost answer kept
 
   -- the best plan that questions make of one with its cost
   pub record IsLast (made : Asked) (p : PlannedShop) (c : Cost) (kept : Best) : Type 0 where
-    pub run : made p kept.shaped
-    pub same : IsReordered p kept.shaped
-    pub is : s.costs kept.shaped kept.cost
+    pub run : made p kept.cell.plan
+    pub same : IsReordered p kept.cell.plan
+    pub stands : Stands kept.cell
+    pub is : s.costs kept.cell.plan kept.cost
     pub most : IsAtMost kept.cost c
 
   -- the best plan that rounds make of one with its cost, and what is told meanwhile
@@ -100,3 +115,21 @@ module _ (s : Setting) where
   -- it is that or, where there is no plan to begin with, the start
   abbrev pub Comes : Option (List Told) → Option (List Told) → (List Told → Asked) → PlannedShop → PlannedShop → Type 0
   Comes before after made start p = (HasNoBegin s start × (p ≡ start)) ⊎ IsSearched before after made start p
+
+  -- a cell by that plan
+  abbrev pub IsComeTo : Option (List Told) → Option (List Told) → (List Told → Asked) → PlannedShop → PlannedCell PlannedShop → Type 0
+  IsComeTo before after made start x = Comes before after made start x.plan × Stands x
+
+-- some run of the plan leads to the cell
+abbrev pub IsReached : PlannedShop → Cell → Type 0
+IsReached p c = (es : List Event) × IsRun p es × (c ≡ ends_in p es)
+
+-- what comes of the orders of a cell's plan that are replaced: the cell by the plan with the new ones, and the old ones; or the cell again, where the new ones don't fit the shop, or don't begin with the entries so far
+abbrev pub IsRecast : PlannedCell PlannedShop → List (List ℕ) → Recast → Type 0
+IsRecast x order (Fits y old) = (y.plan ≡ reordered x.plan order) × (y.cell ≡ x.cell) × (x.plan ≡ reordered y.plan (lists_of old.items)) × IsWellShaped y.plan × BeginsWithEntries x.cell y.plan
+IsRecast x order (Stays y) = (y.plan ≡ x.plan) × (y.cell ≡ x.cell) × (IsWellShaped (reordered x.plan order) → BeginsWithEntries x.cell (reordered x.plan order) → ⊥)
+
+-- there is a new order for each machine, and it begins with those of the old one that have entered it
+abbrev pub Begin : List MachineRow → List (List ℕ) → List (List ℕ) → Type 0
+Begin rows old new =
+    (length rows ≤ length new) × ((m : ℕ) → m < length rows → IsPrefix (take (slice_index_or rows m no_row).entered (slice_index_or old m [])) (slice_index_or new m []))

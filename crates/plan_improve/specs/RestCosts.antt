@@ -1,14 +1,13 @@
 -- What the rest of a run costs by a plan: the total lateness of the jobs that aren't gone, and the makespan.
-use Rattle.std.specs.Prelude.{◌≡◌, ℕ, ◌-◌, ◌<◌, ◌≤◌, nat_lt, if◌then◌else◌, List}
+use Rattle.std.specs.Prelude.{◌≡◌, ℕ, ◌-◌, nat_lt, if◌then◌else◌, List}
 use Rattle.shop_base.specs.Plan.{PlannedShop, jobs, steps, budget}
-use Rattle.shop_base.specs.Cell.{Cell, made, since, IsGone}
-use Rattle.shop_base.specs.Graph.{leaving}
+use Rattle.shop_base.specs.Cell.{Cell, made}
 use Rattle.shop_base.specs.Ends.{sum_below}
 use Rattle.alt_graph.specs.Solved.{HasCycle}
 use Rattle.cell_tables.specs.declared.entry.Entry.{Entry}
 use Rattle.event_lines.specs.LogLines.{LinesTell}
 use Rattle.run_log.specs.Audits.{IsTold}
-use Rattle.plan_verifier.specs.Rest.{IsGreatestAhead}
+use Rattle.plan_verifier.specs.Leavings.{AreLeavingsAhead, IsLastLeaving}
 use Rattle.plan_improve.specs.declared.cost.Cost.{Cost}
 
 -- the lines tell a run of the plan, and this is the cell at its end
@@ -17,19 +16,9 @@ pub record IsCellOf (lines : List (List ℕ)) (p : PlannedShop) (c : Cell) : Typ
   pub tells : LinesTell p lines told
   pub run : IsTold p c told
 
--- the leavings: of a job that is gone the moment at which it left, of each other job the greatest length of a path ahead to its leaving
-pub record AreLeavingsAhead (p : PlannedShop) (c : Cell) (t : ℕ) (leaves : ℕ → ℕ) : Type 0 where
-  pub left : (j : ℕ) → j < jobs p → IsGone p c j → leaves j ≡ since c j
-  pub ahead : (j : ℕ) → j < jobs p → (IsGone p c j → ⊥) → IsGreatestAhead p c t (leaving p j) (leaves j)
-
 -- what job j leaves past its budget, nothing where it is gone
 abbrev pub late_by : PlannedShop → Cell → (ℕ → ℕ) → ℕ → ℕ
 late_by p c leaves j = if nat_lt (steps p j) (made c j) then 0 else leaves j - budget p j
-
--- the latest of the leavings
-pub record IsLatest (p : PlannedShop) (leaves : ℕ → ℕ) (n : ℕ) : Type 0 where
-  pub bound : (j : ℕ) → j < jobs p → leaves j ≤ n
-  pub reached : (j : ℕ) × (j < jobs p) × (leaves j ≡ n)
 
 -- the plan has no cycle, and these are the total lateness and the makespan of the rest from the cell and the present moment t on
 pub record IsCostFrom (p : PlannedShop) (c : Cell) (t : ℕ) (cost : Cost) : Type 0 where
@@ -37,7 +26,7 @@ pub record IsCostFrom (p : PlannedShop) (c : Cell) (t : ℕ) (cost : Cost) : Typ
   pub leaves : ℕ → ℕ
   pub are : AreLeavingsAhead p c t leaves
   pub late : cost.late ≡ sum_below (late_by p c leaves) (jobs p)
-  pub makespan : IsLatest p leaves cost.makespan
+  pub makespan : IsLastLeaving p leaves cost.makespan
 
 module _ (lines : List (List ℕ)) (t : ℕ) where
   -- the same of the rest of the run that the lines tell by the plan

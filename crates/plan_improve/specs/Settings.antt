@@ -1,9 +1,8 @@
 -- What is fixed while a plan is improved: nothing of a whole plan, or a run so far; and which of two plans that keep it is better.
 use Rattle.std.specs.Prelude.{◌≡◌, ℕ, List, [], Option, None, Some}
 use Rattle.shop_base.specs.Plan.{PlannedShop, IsWellShaped}
-use Rattle.shop_base.specs.Cell.{Cell}
+use Rattle.shop_base.specs.Cell.{Cell, start}
 use Rattle.event_lines.specs.LogLines.{LinesTell}
-use Rattle.run_log.specs.Audits.{TellRun}
 use Rattle.plan_annealing.specs.declared.rest.Rest.{Rest}
 use Rattle.plan_improve.specs.declared.cost.Cost.{Cost}
 use Rattle.plan_improve.specs.Costs.{IsCost, IsLess, IsAtMost}
@@ -15,9 +14,9 @@ use Rattle.plan_improve.specs.RestOf.{IsRestOf}
 abbrev pub Left : Type 0
 Left = Option Rest
 
--- what is fixed: what a plan has to keep, that nothing has happened yet, what a plan costs that keeps it and has no cycle, what an improver is told that is left of it, and the bound of its makespan, if one is known
+-- what is fixed: the cell to which what has happened leads by a plan, that nothing has happened yet, what a plan costs that keeps it and has no cycle, what an improver is told that is left of it, and the bound of its makespan, if one is known
 pub record Setting : Type 1 where
-  pub keeps : PlannedShop → Type 0
+  pub cells : PlannedShop → Cell → Type 0
   pub fresh : PlannedShop → Type 0
   pub costs : PlannedShop → Cost → Type 0
   pub leaves : PlannedShop → Left → Type 0
@@ -30,7 +29,7 @@ IsBoundThere p (Some n) = IsBound p n
 
 -- nothing is fixed: whole plans are compared, and nothing is told to be left
 abbrev pub whole_plan : Setting
-whole_plan = record { keeps = λ p. Unit {0}; fresh = λ p. Unit {0}; costs = IsCost; leaves = λ p rest. rest ≡ None; bounds = IsBoundThere }
+whole_plan = record { cells = λ p c. c ≡ start p; fresh = λ p. Unit {0}; costs = IsCost; leaves = λ p rest. rest ≡ None; bounds = IsBoundThere }
 
 -- this is left of the plan from the cell of the run that the lines tell, and the present moment t on
 abbrev pub IsRestThere : List (List ℕ) → ℕ → PlannedShop → Left → Type 0
@@ -40,7 +39,7 @@ IsRestThere lines t p (Some rest) = (c : Cell) × IsCellOf lines p c × IsRestOf
 -- the run that the lines tell is fixed: the rests of this run from the present moment t on are compared
 abbrev pub rest_after : List (List ℕ) → ℕ → Setting
 rest_after lines t = record {
-  keeps = λ p. TellRun p lines;
+  cells = IsCellOf lines;
   fresh = λ p. LinesTell p lines [];
   costs = IsRestCost lines t;
   leaves = IsRestThere lines t;
@@ -65,7 +64,7 @@ module _ (s : Setting) where
     pub than : s.costs q other
     pub most : IsAtMost cost other
 
-  -- the plan is above its bound yet, or none is known
+  -- the plan doesn't meet its bound, or none is known
   pub record IsAboveBound (p : PlannedShop) : Type 0 where
     pub cost : Cost
     pub at_least : Option ℕ

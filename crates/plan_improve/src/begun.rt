@@ -1,14 +1,16 @@
 //! From where the rest of a run is looked at.
 
-ghost use Rattle.std.specs.Prelude.{◌≡◌, ◌≤◌, ◌↔◌, false, [], IfOk, IfErr};
+ghost use Rattle.std.specs.Prelude.{◌≡◌, ◌≤◌, IfOk, IfErr};
 ghost use Rattle.shop_base.specs.declared.limits.TheConstants.{MAX_MOMENT};
 ghost use Rattle.text_lines.specs.Lines.{ended_lines};
-ghost use Rattle.event_lines.specs.LogLines.{LinesTell};
+ghost use Rattle.cell_tables.specs.Tables.{cell_of};
+ghost use Rattle.plan_improve.specs.Improved.{present_of};
 ghost use Rattle.plan_improve.specs.Faults.{IsMomentFault, IsBeginFault};
-ghost use Rattle.plan_improve.specs.RestKeeping.{IsPresent, IsRestAt, IsSetAt};
+ghost use Rattle.plan_improve.specs.RestKeeping.{IsPresent, IsBegun};
 
-use crate::improve_rest_fault::ImproveRestFault;
+use crate::improve_fault::ImproveFault;
 use crate::rest_of_cell::rest_of;
+use cell_tables::Tables;
 use plan_annealing::Rest;
 use run_log::run_of_log;
 use shop_base::limits::MAX_MOMENT;
@@ -22,6 +24,8 @@ pub(crate) struct Begun {
     pub rest: Rest,
     /// Whether its log records an event.
     pub has_event: bool,
+    /// The cell at its end.
+    pub tables: Tables,
 }
 
 /// The run that the log records by the plan, at the moment that is given or else at its last one.
@@ -30,10 +34,9 @@ pub(crate) fn begun_at(
     start: &Shaped,
     log: &[u8],
     at: Option<Moment>,
-) -> Result<Begun, ImproveRestFault>
-    ensures set { IfOk result (λ begun. IsSetAt (ended_lines log.now) at start.now begun.present) }
-    ensures rest { IfOk result (λ begun. IsRestAt (ended_lines log.now) start.now begun.present begun.rest) }
-    ensures event { IfOk result (λ begun. (begun.has_event ≡ false) ↔ LinesTell start.now (ended_lines log.now) []) }
+) -> Result<Begun, ImproveFault>
+    ensures begun { IfOk result (IsBegun (ended_lines log.now) start.now) }
+    ensures present { IfOk result (λ begun. begun.present ≡ present_of at (cell_of start.now begun.tables).last) }
     ensures refused { IfErr result (IsBeginFault (ended_lines log.now) at start.now) }
 {
     let run = run_of_log(alloc, start, log)?;
@@ -41,15 +44,18 @@ pub(crate) fn begun_at(
     let _plan = run.cell.shaped();
     let present = present_moment(at, run.cell.last())?;
     let rest = rest_of(alloc, &run.cell, present)?;
+    let has_event = run.entries.as_slice().len() > 0;
+    let (_, tables) = run.cell.into_parts();
     Ok(Begun {
         present,
         rest,
-        has_event: run.entries.as_slice().len() > 0,
+        has_event,
+        tables,
     })
 }
 
 /// The moment that is given, if it can be the present one after the last, or else the last one.
-fn present_moment(at: Option<Moment>, last: Moment) -> Result<Moment, ImproveRestFault>
+fn present_moment(at: Option<Moment>, last: Moment) -> Result<Moment, ImproveFault>
     requires { last ≤ MAX_MOMENT }
     ensures present { IfOk result (IsPresent at last) }
     ensures refused { IfErr result (IsMomentFault at last) }
@@ -58,10 +64,10 @@ fn present_moment(at: Option<Moment>, last: Moment) -> Result<Moment, ImproveRes
         return Ok(last);
     };
     if at < last {
-        return Err(ImproveRestFault::Past { last });
+        return Err(ImproveFault::Past { last });
     }
     if at > MAX_MOMENT {
-        return Err(ImproveRestFault::MomentTooLarge);
+        return Err(ImproveFault::MomentTooLarge);
     }
     Ok(at)
 }

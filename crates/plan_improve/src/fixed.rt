@@ -1,10 +1,12 @@
 //! What is fixed while a plan is improved.
 
 ghost use Rattle.std.specs.Prelude.{◌≡◌, IfOk, MatchOption, option_copied};
-ghost use Rattle.plan_improve.specs.Keeping.{setting_of, rest_in, bound_in, IsEarly, HasNoCost, IsCostBelow};
+ghost use Rattle.alt_graph.specs.Solved.{HasCycle};
+ghost use Rattle.plan_improve.specs.Keeping.{setting_of, rest_in, bound_in, present_in, IsEarly, IsCostBelow, Stands};
 
 use crate::cost::Cost;
-use crate::costing::{cost_after, cost_of};
+use crate::costing::cost_from;
+use cell_tables::WorkCell;
 use plan_annealing::Rest;
 use shop_base::{Moment, Shaped};
 use std::alloc::{AllocError, Global};
@@ -16,8 +18,8 @@ pub(crate) enum Fixed<'a> {
     Nothing {
         at_least: Moment,
     },
-    /// The run that a log's whole lines record: a plan is improved for the rest of it from a present moment on, and this
-    /// is what it has left.
+    /// The run that a log's whole lines record, which are read once, before: a plan is improved for the rest of it from a
+    /// present moment on, and this is what it has left.
     Run {
         log: &'a [u8],
         present: Moment,
@@ -54,33 +56,44 @@ impl<'a> Fixed<'a> {
         }
     }
 
-    /// The plan's cost; `None` if it doesn't keep what is fixed, or has a cycle.
-    pub fn cost(&self, alloc: Global, shaped: &Shaped) -> Result<Option<Cost>, AllocError>
-        requires { IsEarly self.now }
-        ensures { let s = setting_of self.now in
-            IfOk result (λ cost. MatchOption cost (HasNoCost s shaped.now) (s.costs shaped.now)) }
+    /// The present moment.
+    pub fn present(&self) -> Moment
+        ensures { result ≡ present_in self.now }
     {
         match self {
-            Fixed::Nothing { at_least: _ } => cost_of(alloc, shaped),
+            Fixed::Nothing { at_least: _ } => 0,
             Fixed::Run {
-                log,
+                log: _,
                 present,
                 rest: _,
-            } => cost_after(alloc, shaped, log, *present),
+            } => *present,
         }
     }
 
-    /// The plan's cost, if it has one and it is less than this.
+    /// The cost of a cell's plan; `None` if it has a cycle.
+    pub fn cost(&self, alloc: Global, cell: &WorkCell<Shaped>) -> Result<Option<Cost>, AllocError>
+        requires early { IsEarly self.now }
+        requires stands { Stands (setting_of self.now) cell.now }
+        ensures { let p = cell.now.plan in
+            IfOk result (λ cost. MatchOption cost (HasCycle p) ((setting_of self.now).costs p)) }
+    {
+        // Called for its clause alone: the plan is well shaped.
+        let _plan = cell.shaped();
+        cost_from(alloc, cell, self.present())
+    }
+
+    /// The cost of a cell's plan, if it has one and it is less than this.
     pub fn cost_below(
         &self,
         alloc: Global,
-        shaped: &Shaped,
+        cell: &WorkCell<Shaped>,
         bound: &Cost,
     ) -> Result<Option<Cost>, AllocError>
-        requires { IsEarly self.now }
-        ensures { IfOk result (IsCostBelow (setting_of self.now) shaped.now bound.now) }
+        requires early { IsEarly self.now }
+        requires stands { Stands (setting_of self.now) cell.now }
+        ensures { IfOk result (IsCostBelow (setting_of self.now) cell.now.plan bound.now) }
     {
-        match self.cost(alloc, shaped)? {
+        match self.cost(alloc, cell)? {
             Some(cost) => {
                 if cost.is_less(bound) {
                     Ok(Some(cost))

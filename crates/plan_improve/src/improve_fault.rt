@@ -1,12 +1,23 @@
+use run_log::AuditFault;
+use shop_base::Moment;
 use std::alloc::AllocError;
 use thiserror::Error;
 
-/// Why no plan is given.
+/// Why no plan is given. Of a whole plan there are too many rounds, or memory is out.
 #[derive(Clone, Copy, Debug, PartialEq, Eq, Error)]
 pub enum ImproveFault {
     /// There are more than `MAX_ROUNDS` rounds.
     #[error("TooManyRounds")]
     TooManyRounds,
+    /// The log's whole lines record no run of the plan: the first fault of the first bad one.
+    #[error("Log {0}")]
+    Log(AuditFault),
+    /// The present moment is before the last one of the log.
+    #[error("Past {last}")]
+    Past { last: Moment },
+    /// The present moment is past the latest.
+    #[error("MomentTooLarge")]
+    MomentTooLarge,
     /// Out of memory, here or in an improver. The best plan so far is lost.
     #[error("Memory")]
     Memory,
@@ -20,5 +31,19 @@ impl From<AllocError> for ImproveFault {
 
     fn from(_error: AllocError) -> ImproveFault {
         ImproveFault::Memory
+    }
+}
+
+impl From<AuditFault> for ImproveFault {
+    ghost use Rattle.std.specs.Prelude.{◌≡◌};
+    ghost use Rattle.plan_improve.specs.Faults.{log_fault};
+
+    ghost from_gives = { λ told fault. fault ≡ log_fault told };
+
+    fn from(told: AuditFault) -> ImproveFault {
+        match told {
+            AuditFault::Memory => ImproveFault::Memory,
+            _ => ImproveFault::Log(told),
+        }
     }
 }

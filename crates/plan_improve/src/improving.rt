@@ -6,16 +6,20 @@ ghost use Rattle.plan_verifier.specs.Verdicts.{SaysAccepted, OnRefused, IsReason
 ghost use Rattle.plan_improve.specs.Reordered.{IsReordered};
 ghost use Rattle.plan_improve.specs.Settings.{whole_plan};
 ghost use Rattle.plan_improve.specs.Runs.{RoundsTold, Rounds};
-ghost use Rattle.plan_improve.specs.Improved.{IsNeverWorse, IsFound, IsFoundTold, IsImproveFault, judged};
+ghost use Rattle.plan_verifier.specs.Seen.{judged};
+ghost use Rattle.plan_improve.specs.Faults.{IsImproveFault};
+ghost use Rattle.plan_improve.specs.Improved.{IsNeverWorse, IsFound, IsFoundTold};
 ghost use Rattle.plan_improve.specs.Keeping.{IsSearched};
 
 use crate::fixed::Fixed;
 use crate::improve_fault::ImproveFault;
 use crate::improver::Improver;
 use crate::not_improved::NotImproved;
+use crate::recasting::plan_of;
 use crate::reordering::{copy_orders, put_back};
 use crate::searching::search;
 use crate::watch::Watch;
+use cell_tables::WorkCell;
 use plan_bounds::least_makespan;
 use plan_seek::MAX_ROUNDS;
 use plan_verifier::{Verdict, verify};
@@ -89,6 +93,7 @@ fn improve_on<W: Watch>(
 {
     let at_least = least_makespan(&start).at_least;
     let fixed = Fixed::Nothing { at_least };
-    let best = search(alloc, start, &fixed, false, improvers, rounds, watch)?;
-    verify(alloc, best)
+    let cell = WorkCell::start(alloc, start)?;
+    let best = search(alloc, cell, &fixed, false, improvers, rounds, watch)?;
+    verify(alloc, plan_of(best))
 }

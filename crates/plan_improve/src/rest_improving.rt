@@ -1,35 +1,34 @@
 //! A plan that is improved for the rest of a run, and judged at the end.
 
-ghost use Rattle.std.specs.Prelude.{◌≡◌, ◌≤◌, ◌↔◌, ◌⊎◌, false, [], OnOk, IfOk, IfErr};
-ghost use Rattle.shop_base.specs.declared.limits.TheConstants.{MAX_MOMENT};
+ghost use Rattle.std.specs.Prelude.{◌≡◌, ◌≤◌, ◌⊎◌, OnOk, IfOk, IfErr};
 ghost use Rattle.shop_base.specs.Cell.{Cell};
 ghost use Rattle.shop_base.specs.Report.{IsNextMoment};
 ghost use Rattle.text_lines.specs.Lines.{ended_lines};
-ghost use Rattle.event_lines.specs.LogLines.{LinesTell};
 ghost use Rattle.run_log.specs.Audits.{TellRun};
 ghost use Rattle.alt_graph.specs.Solved.{HasCycle};
 ghost use Rattle.plan_verifier.specs.RestVerdicts.{IsAcceptableAhead, IsRestAccepted};
-ghost use Rattle.plan_improve.specs.declared.improve_rest_fault.ImproveRestFault.TheVariants.{Memory};
+ghost use Rattle.plan_improve.specs.declared.improve_fault.ImproveFault.TheVariants.{Memory};
 ghost use Rattle.plan_improve.specs.Reordered.{IsReordered};
 ghost use Rattle.plan_improve.specs.Settings.{rest_after};
 ghost use Rattle.plan_improve.specs.Faults.{IsImproveRestFault};
 ghost use Rattle.plan_improve.specs.RestCosts.{IsCellOf};
 ghost use Rattle.plan_improve.specs.Runs.{RoundsTold, Rounds};
 ghost use Rattle.plan_improve.specs.Improved.{HasNoRestBegin, IsNeverWorse, IsFound, IsFoundTold, IsVerdictOn, present_of};
-ghost use Rattle.plan_improve.specs.RestKeeping.{IsSet, IsRestAt, IsImprovedTold, IsVerdictThere, IsJudgedOn};
+ghost use Rattle.plan_improve.specs.RestKeeping.{IsBegun, IsImprovedTold};
 
 use crate::begun::{Begun, begun_at};
 use crate::fixed::Fixed;
-use crate::improve_rest_fault::ImproveRestFault;
+use crate::improve_fault::ImproveFault;
 use crate::improved::Improved;
 use crate::improver::Improver;
-use crate::not_improved_rest::NotImprovedRest;
+use crate::not_improved::NotImproved;
+use crate::recasting::plan_of;
 use crate::reordering::{copy_orders, put_back};
 use crate::searching::search;
 use crate::watch::Watch;
+use cell_tables::WorkCell;
 use plan_seek::MAX_ROUNDS;
-use plan_verifier::{Judged, verify_after};
-use run_log::run_if_told;
+use plan_verifier::verify_after;
 use shop_base::{Moment, Shaped};
 use std::alloc::{AllocError, Global};
 
@@ -50,7 +49,7 @@ pub fn improve_after<W: Watch>(
     improvers: &[Box<dyn Improver>],
     rounds: u32,
     watch: &mut W,
-) -> Result<Improved, NotImprovedRest>
+) -> Result<Improved, NotImproved>
     ensures same { IfOk result (λ found. IsReordered start found.shaped) }
     ensures begun { IfOk result (λ found. TellRun start (ended_lines log.now)) }
     ensures present { IfOk result (λ found. (c : Cell) → IsCellOf (ended_lines log.now) start c
@@ -76,14 +75,14 @@ pub fn improve_after<W: Watch>(
     ensures handed_back { IfErr result (λ refused. refused.start ≡ start) }
 {
     if rounds > MAX_ROUNDS {
-        return Err(NotImprovedRest {
-            fault: ImproveRestFault::TooManyRounds,
+        return Err(NotImproved {
+            fault: ImproveFault::TooManyRounds,
             start,
         });
     }
     match begun_at(alloc, &start, log, at) {
-        Ok(begun) => improve_begun(alloc, start, log, &begun, improvers, rounds, watch),
-        Err(fault) => Err(NotImprovedRest { fault, start }),
+        Ok(begun) => improve_begun(alloc, start, log, begun, improvers, rounds, watch),
+        Err(fault) => Err(NotImproved { fault, start }),
     }
 }
 
@@ -92,30 +91,28 @@ fn improve_begun<W: Watch>(
     alloc: Global,
     start: Shaped,
     log: &[u8],
-    begun: &Begun,
+    begun: Begun,
     improvers: &[Box<dyn Improver>],
     rounds: u32,
     watch: &mut W,
-) -> Result<Improved, NotImprovedRest>
-    requires set { IsSet (ended_lines log.now) begun.now.present start }
-    requires rest { IsRestAt (ended_lines log.now) start begun.now.present begun.now.rest }
-    requires event { (begun.now.has_event ≡ false) ↔ LinesTell start (ended_lines log.now) [] }
-    ensures improved { IfOk result (IsImprovedTold (ended_lines log.now) begun.now.present
+) -> Result<Improved, NotImproved>
+    requires { IsBegun (ended_lines log.now) start begun }
+    ensures improved { IfOk result (IsImprovedTold (ended_lines log.now) begun.present
         (W.told watch.old) (W.told watch.new)
-        (RoundsTold (rest_after (ended_lines log.now) begun.now.present) (λ b. may b) improvers.now rounds) start) }
+        (RoundsTold (rest_after (ended_lines log.now) begun.present) (λ b. may b) improvers.now rounds) start) }
     ensures memory { IfErr result (λ refused. refused.fault ≡ Memory) }
     ensures handed_back { IfErr result (λ refused. refused.start ≡ start) }
 {
     match copy_orders(alloc, &start.plan().order) {
         Ok(order) => match improve_from(alloc, start, log, begun, improvers, rounds, watch) {
             Ok(found) => Ok(found),
-            Err((error, back)) => Err(NotImprovedRest {
-                fault: ImproveRestFault::from(error),
+            Err((error, back)) => Err(NotImproved {
+                fault: ImproveFault::from(error),
                 start: put_back(back, order),
             }),
         },
-        Err(error) => Err(NotImprovedRest {
-            fault: ImproveRestFault::from(error),
+        Err(error) => Err(NotImproved {
+            fault: ImproveFault::from(error),
             start,
         }),
     }
@@ -126,65 +123,49 @@ fn improve_from<W: Watch>(
     alloc: Global,
     start: Shaped,
     log: &[u8],
-    begun: &Begun,
+    begun: Begun,
     improvers: &[Box<dyn Improver>],
     rounds: u32,
     watch: &mut W,
 ) -> Result<Improved, (AllocError, Shaped)>
-    requires set { IsSet (ended_lines log.now) begun.now.present start }
-    requires rest { IsRestAt (ended_lines log.now) start begun.now.present begun.now.rest }
-    requires event { (begun.now.has_event ≡ false) ↔ LinesTell start (ended_lines log.now) [] }
-    ensures improved { IfOk result (IsImprovedTold (ended_lines log.now) begun.now.present
+    requires { IsBegun (ended_lines log.now) start begun }
+    ensures improved { IfOk result (IsImprovedTold (ended_lines log.now) begun.present
         (W.told watch.old) (W.told watch.new)
-        (RoundsTold (rest_after (ended_lines log.now) begun.now.present) (λ b. may b) improvers.now rounds) start) }
+        (RoundsTold (rest_after (ended_lines log.now) begun.present) (λ b. may b) improvers.now rounds) start) }
     ensures handed_back { IfErr result (λ refused. IsReordered start refused.1) }
 {
+    let Begun {
+        present,
+        rest,
+        has_event,
+        tables,
+    } = begun;
+    let cell = WorkCell::of_parts(start, tables);
     let fixed = Fixed::Run {
         log,
-        present: begun.present,
-        rest: &begun.rest,
+        present,
+        rest: &rest,
     };
-    let best = search(
-        alloc,
-        start,
-        &fixed,
-        begun.has_event,
-        improvers,
-        rounds,
-        watch,
-    )?;
-    judged(alloc, best, log, begun.present)
+    let best = search(alloc, cell, &fixed, has_event, improvers, rounds, watch)?;
+    judged(alloc, best, present)
 }
 
-/// The plan, with the verdict on the rest of the run that the log records by it; on a fault the plan again.
+/// The plan of a cell, with the verdict on the rest from there; on a fault the plan again.
 fn judged(
     alloc: Global,
-    shaped: Shaped,
-    log: &[u8],
+    cell: WorkCell<Shaped>,
     present: Moment,
 ) -> Result<Improved, (AllocError, Shaped)>
-    requires { IsSet (ended_lines log.now) present shaped }
-    ensures judged { IfOk result (IsJudgedOn (ended_lines log.now) present shaped) }
-    ensures handed_back { IfErr result (λ refused. refused.1 ≡ shaped) }
+    requires { IsNextMoment cell.cell present }
+    ensures plan { IfOk result (λ found. found.shaped ≡ cell.plan) }
+    ensures verdict { IfOk result (λ found. IsVerdictOn cell.plan cell.cell present found.verdict) }
+    ensures handed_back { IfErr result (λ refused. refused.1 ≡ cell.plan) }
 {
-    match verdict_on(alloc, &shaped, log, present) {
-        Ok(verdict) => Ok(Improved { shaped, verdict }),
-        Err(error) => Err((error, shaped)),
-    }
-}
-
-/// The verdict on the rest of the run that the log records by the plan.
-fn verdict_on(
-    alloc: Global,
-    shaped: &Shaped,
-    log: &[u8],
-    present: Moment,
-) -> Result<Judged, AllocError>
-    requires { IsSet (ended_lines log.now) present shaped.now }
-    ensures { IfOk result (IsVerdictThere (ended_lines log.now) present shaped.now) }
-{
-    match run_if_told(alloc, shaped, log)? {
-        Some(run) => verify_after(alloc, &run.cell, present),
-        None => unreachable!(),
+    match verify_after(alloc, &cell, present) {
+        Ok(verdict) => Ok(Improved {
+            shaped: plan_of(cell),
+            verdict,
+        }),
+        Err(error) => Err((error, plan_of(cell))),
     }
 }

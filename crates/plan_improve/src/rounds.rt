@@ -5,12 +5,13 @@ ghost use Rattle.plan_seek.specs.Orders.{proposal_of};
 ghost use Rattle.plan_improve.specs.Reordered.{IsReordered};
 ghost use Rattle.plan_improve.specs.Watching.{told_bound};
 ghost use Rattle.plan_improve.specs.Runs.{AfterRound, RoundsTold};
-ghost use Rattle.plan_improve.specs.Keeping.{setting_of, rest_in, IsFixed, IsNextOf, IsLast, IsLastTold};
+ghost use Rattle.plan_improve.specs.Keeping.{setting_of, rest_in, IsFixed, IsNextOf, IsLast, IsLastTold, Stands};
 
 use crate::best::Best;
 use crate::fixed::Fixed;
 use crate::improver::Improver;
 use crate::judging::judge_orders;
+use crate::recasting::plan_of;
 use crate::watch::Watch;
 use plan_annealing::Rest;
 use shop_base::{JobNo, Moment, Shaped};
@@ -25,11 +26,12 @@ pub(crate) fn ask_in_rounds<W: Watch>(
     rounds: u32,
     watch: &mut W,
 ) -> Result<Best, (AllocError, Shaped)>
-    requires cost { (setting_of fixed.now).costs best.shaped best.cost }
-    requires fixed { IsFixed fixed.now best.shaped }
+    requires stands { Stands (setting_of fixed.now) best.cell }
+    requires cost { (setting_of fixed.now).costs best.cell.plan best.cost }
+    requires fixed { IsFixed fixed.now best.cell.plan }
     ensures last { IfOk result (IsLastTold (setting_of fixed.now) (W.told watch.old) (W.told watch.new)
-        (RoundsTold (setting_of fixed.now) (λ b. may b) improvers.now rounds) best.shaped best.cost) }
-    ensures handed_back { IfErr result (λ refused. IsReordered best.shaped refused.1) }
+        (RoundsTold (setting_of fixed.now) (λ b. may b) improvers.now rounds) best.cell.plan best.cost) }
+    ensures handed_back { IfErr result (λ refused. IsReordered best.cell.plan refused.1) }
 {
     let at_least = fixed.at_least();
     for round in 0..rounds {
@@ -65,11 +67,12 @@ fn ask_each(
     improvers: &[Box<dyn Improver>],
     round: u32,
 ) -> Result<Best, (AllocError, Shaped)>
-    requires cost { (setting_of fixed.now).costs best.shaped best.cost }
-    requires fixed { IsFixed fixed.now best.shaped }
+    requires stands { Stands (setting_of fixed.now) best.cell }
+    requires cost { (setting_of fixed.now).costs best.cell.plan best.cost }
+    requires fixed { IsFixed fixed.now best.cell.plan }
     ensures last { let s = setting_of fixed.now in
-        IfOk result (IsLast s (AfterRound s (λ b. may b) improvers.now round) best.shaped best.cost) }
-    ensures handed_back { IfErr result (λ refused. IsReordered best.shaped refused.1) }
+        IfOk result (IsLast s (AfterRound s (λ b. may b) improvers.now round) best.cell.plan best.cost) }
+    ensures handed_back { IfErr result (λ refused. IsReordered best.cell.plan refused.1) }
 {
     let bound = fixed.at_least();
     for improver in improvers {
@@ -89,18 +92,19 @@ fn ask_one(
     improver: &Box<dyn Improver>,
     round: u32,
 ) -> Result<Best, (AllocError, Shaped)>
-    requires cost { (setting_of fixed.now).costs best.shaped best.cost }
-    requires fixed { IsFixed fixed.now best.shaped }
+    requires stands { Stands (setting_of fixed.now) best.cell }
+    requires cost { (setting_of fixed.now).costs best.cell.plan best.cost }
+    requires fixed { IsFixed fixed.now best.cell.plan }
     ensures asked { IfOk result (IsNextOf (setting_of fixed.now)
-        (may improver.now best.shaped (rest_in fixed.now) round) best) }
-    ensures handed_back { IfErr result (λ refused. IsReordered best.shaped refused.1) }
+        (may improver.now best.cell.plan (rest_in fixed.now) round) best) }
+    ensures handed_back { IfErr result (λ refused. IsReordered best.cell.plan refused.1) }
 {
-    match ask(alloc, improver, &best.shaped, fixed.rest(), round) {
+    match ask(alloc, improver, best.cell.shaped(), fixed.rest(), round) {
         Ok(Some(order)) => judge_orders(alloc, best, order, fixed),
         Ok(None) => Ok(best),
         Err(error) => {
-            let Best { shaped, cost: _ } = best;
-            Err((error, shaped))
+            let Best { cell, cost: _ } = best;
+            Err((error, plan_of(cell)))
         }
     }
 }

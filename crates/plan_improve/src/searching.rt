@@ -3,7 +3,7 @@
 ghost use Rattle.std.specs.Prelude.{◌≡◌, ◌↔◌, false, IfOk, IfErr};
 ghost use Rattle.plan_improve.specs.Reordered.{IsReordered};
 ghost use Rattle.plan_improve.specs.Runs.{RoundsTold};
-ghost use Rattle.plan_improve.specs.Keeping.{setting_of, IsFixed, Comes};
+ghost use Rattle.plan_improve.specs.Keeping.{setting_of, IsFixed, IsComeTo, Stands};
 
 use crate::beginning::{First, first_plan};
 use crate::best::Best;
@@ -11,32 +11,33 @@ use crate::fixed::Fixed;
 use crate::improver::Improver;
 use crate::rounds::ask_in_rounds;
 use crate::watch::Watch;
+use cell_tables::WorkCell;
 use shop_base::Shaped;
 use std::alloc::{AllocError, Global};
 
-/// The best plan that is met from this one on; this one if there is no plan to begin with. On a fault some plan that
-/// differs in its orders alone comes back.
+/// The cell by the best plan that is met from its own on; the cell itself if there is no plan to begin with. On a fault some
+/// plan that differs in its orders alone comes back.
 pub(crate) fn search<W: Watch>(
     alloc: Global,
-    start: Shaped,
+    start: WorkCell<Shaped>,
     fixed: &Fixed<'_>,
     has_event: bool,
     improvers: &[Box<dyn Improver>],
     rounds: u32,
     watch: &mut W,
-) -> Result<Shaped, (AllocError, Shaped)>
-    requires fixed { IsFixed fixed.now start }
-    requires keeps { (setting_of fixed.now).keeps start }
-    requires event { (has_event ≡ false) ↔ (setting_of fixed.now).fresh start }
-    ensures comes { IfOk result (Comes (setting_of fixed.now) (W.told watch.old) (W.told watch.new)
-        (RoundsTold (setting_of fixed.now) (λ b. may b) improvers.now rounds) start) }
-    ensures handed_back { IfErr result (λ refused. IsReordered start refused.1) }
+) -> Result<WorkCell<Shaped>, (AllocError, Shaped)>
+    requires fixed { IsFixed fixed.now start.plan }
+    requires stands { Stands (setting_of fixed.now) start }
+    requires event { (has_event ≡ false) ↔ (setting_of fixed.now).fresh start.plan }
+    ensures comes { IfOk result (IsComeTo (setting_of fixed.now) (W.told watch.old) (W.told watch.new)
+        (RoundsTold (setting_of fixed.now) (λ b. may b) improvers.now rounds) start.plan) }
+    ensures handed_back { IfErr result (λ refused. IsReordered start.plan refused.1) }
 {
     match first_plan(alloc, start, fixed, has_event)? {
         First::Begins(best) => {
             let best = ask_in_rounds(alloc, best, fixed, improvers, rounds, watch)?;
-            let Best { shaped, cost: _ } = best;
-            Ok(shaped)
+            let Best { cell, cost: _ } = best;
+            Ok(cell)
         }
         First::Stays(start) => Ok(start),
     }

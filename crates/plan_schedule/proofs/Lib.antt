@@ -1,4 +1,3 @@
-pub mod SoonAhead
 pub mod Moments
 pub mod Texts
 pub mod RestAdded

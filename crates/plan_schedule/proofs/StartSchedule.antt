@@ -4,31 +4,26 @@ use Rattle.std.proofs.Math.Nat.{max-zero}
 use Rattle.std.proofs.lemmas.List.{append-nil}
 use Rattle.shop_base.specs.declared.node.Node.{Node}
 use Rattle.shop_base.specs.Plan.{PlannedShop, jobs, machines, release, IsWellShaped}
-use Rattle.shop_base.specs.Cell.{Cell, start}
-use Rattle.shop_base.specs.Report.{IsNextMoment}
+use Rattle.shop_base.specs.Cell.{start}
 use Rattle.shop_base.specs.Graph.{node}
 use Rattle.shop_base.proofs.Keeping.{start-made}
 use Rattle.shop_base.proofs.ControlledRuns.{start_not_ready}
-use Rattle.plan_verifier.specs.Verdicts.{IsReason}
 use Rattle.plan_verifier.specs.declared.verdict.Judged.{Judged}
 use Rattle.plan_verifier.specs.declared.verdict.Judged.TheVariants.{Accepted, Refused}
-use Rattle.plan_verifier.specs.declared.verdict.Why.{Why}
+use Rattle.plan_verifier.specs.declared.verdict.Verdict.{Verdict}
+use Rattle.plan_verifier.specs.declared.verdict.Verdict.TheVariants.{Accepted as AcceptedPlan, Refused as RefusedPlan}
 use Rattle.plan_verifier.specs.declared.verdict.Why.TheVariants.{Cycle, Late}
 use Rattle.plan_explain.specs.StartTexts.{said_of}
-use Rattle.plan_explain.proofs.AtStart.{start_clean, nobody_gone, greatest_to, greatest_from}
-use Rattle.plan_explain.proofs.StartTexts.{first_line_told}
-use Rattle.plan_explain.proofs.BackToTheRest.{first_line_back}
+use Rattle.plan_verifier.specs.Seen.{judged, as_rest}
+use Rattle.plan_verifier.proofs.AtStart.{start_clean, nobody_gone, greatest_to, greatest_from}
+use Rattle.plan_explain.proofs.StartTexts.{first_line_told, first_line_back}
 use Rattle.plan_schedule.specs.Lines.{arrival_line}
 use Rattle.plan_schedule.specs.Schedules.{IsJobText, AreJobTexts, no_job, next_job, AreScheduleLines}
-use Rattle.plan_schedule.specs.Scheduled.{AreEarliest, AreScheduledBehind}
+use Rattle.plan_schedule.specs.Scheduled.{AreEarliest, AreScheduledBehind, IsScheduled}
 use Rattle.plan_schedule.specs.RestLines.{arrived_line}
 use Rattle.plan_schedule.specs.RestSchedules.{arrival_after, AreCleanedTexts, no_machine, next_machine, IsRestJobText, AreRestJobTexts, no_job as no_rest_job, next_job as next_rest_job, AreRestLines}
-use Rattle.plan_schedule.specs.RestScheduled.{AreRestMoments, AreRestScheduledBehind}
+use Rattle.plan_schedule.specs.RestScheduled.{AreRestMoments, AreRestScheduledBehind, IsRestScheduled}
 use Rattle.plan_schedule.specs.StartSchedule.{TheRestOfTheStartIsScheduledAsThePlan}
-
--- moment 0 can be the next moment of the start
-pub at_once : (p : PlannedShop) → IsNextMoment (start p) 0
-at_once p = record { in_order = omega arith; in_range = omega arith }
 
 -- no cleaning goes on there
 none_cleaned : (p : PlannedShop) (due : Node → Option ℕ) (n : ℕ) (text : List ℕ) → AreCleanedTexts p (start p) 0 due n text → text ≡ []
@@ -49,7 +44,7 @@ module _ (p : PlannedShop) (shaped : IsWellShaped p) where
         ∙ ap (λ n. arrival_line j n (due (node j 0))) (max-zero (release p j))
 
     job_told : (j : ℕ) (text : List ℕ) → j < jobs p → IsRestJobText p (start p) 0 at due j text → IsJobText p at due j text
-    job_told j text inside (inl (gone, is)) = absurd (nobody_gone p shaped j inside gone)
+    job_told j text inside (inl (gone, is)) = absurd (nobody_gone p j inside gone)
     job_told j text inside (inr (inl (outside, visits, are, is))) = (visits, are, is ∙ ap (λ l. l ++ visits) (arrival_told j))
     job_told j text inside (inr (inr here)) = absurd (omega (arith, here.entered, start-made p j inside))
 
@@ -77,16 +72,6 @@ module _ (p : PlannedShop) (shaped : IsWellShaped p) where
     earliest = earliest_told are.moments are.earliest;
     are = lines_told are.moments (λ v. None) lines are.are;
   }
-
--- of a refusal, at a cell that is the start
-module _ (p q : PlannedShop) (c : Cell) (same : q ≡ p) (at : c ≡ start p) (why : Why) (reason : IsReason p why) where
-  told_why : (w : Why) → IsReason p w → (lines : List ℕ) → AreRestScheduledBehind p (start p) 0 (Refused w) lines → AreScheduledBehind (said_of p (Refused w)) lines
-  told_why (Cycle nodes) cycle lines none = none
-  told_why (Late job leaves chain times) late lines are = behind_told p late.1.times.schedule.shaped (Refused (Late job leaves chain times)) lines are
-
-  pub late_told : (lines : List ℕ) → AreRestScheduledBehind q c 0 (Refused why) lines → AreScheduledBehind (said_of p (Refused why)) lines
-  late_told lines are =
-      told_why why reason lines (subst (λ (x : Cell). AreRestScheduledBehind p x 0 (Refused why) lines) at (subst (λ (x : PlannedShop). AreRestScheduledBehind x c 0 (Refused why) lines) same are))
 
 -- ---- and what is scheduled of the plan is scheduled of the rest
 
@@ -135,3 +120,8 @@ the_rest_of_the_start_is_scheduled_as_the_plan-holds p verdict text shaped = (
   λ is. record { first = is.first; is = first_line_told p shaped verdict is.first is.is; behind = is.behind; are = behind_told p shaped verdict is.behind is.are; both = is.both },
   λ is. record { first = is.first; is = first_line_back p shaped verdict is.first is.is; behind = is.behind; are = behind_back p shaped verdict is.behind is.are; both = is.both },
 )
+
+-- so the schedule of a verdict is that of the same verdict on the rest from there
+pub scheduled_told : (verdict : Verdict) (text : List ℕ) → IsWellShaped (judged verdict) → IsRestScheduled (judged verdict) (start (judged verdict)) 0 (as_rest verdict) text → IsScheduled verdict text
+scheduled_told (AcceptedPlan v) text shaped is = (the_rest_of_the_start_is_scheduled_as_the_plan-holds v.planned (Accepted v.times) text shaped).0 is
+scheduled_told (RefusedPlan p why) text shaped is = (the_rest_of_the_start_is_scheduled_as_the_plan-holds p (Refused why) text shaped).0 is

@@ -20,7 +20,7 @@ visit_line visit =
     before (due_words visit.due ∷ codes " leaves " ∷ decimal visit.leaves ∷ []) (codes "\n")
     )
 
--- `machine M cleaned from L to C by D`
-abbrev pub cleaning_line : Cleaning → List ℕ
-cleaning_line cleaning =
-    before (codes "machine " ∷ decimal cleaning.machine ∷ codes " cleaned from " ∷ decimal cleaning.from ∷ codes " to " ∷ decimal cleaning.to ∷ due_words cleaning.due ∷ []) (codes "\n")
+-- `machine M cleaned from L to C by D`, where these words say when it begins
+abbrev pub cleaning_line : List ℕ → Cleaning → List ℕ
+cleaning_line begins cleaning =
+    before (codes "machine " ∷ decimal cleaning.machine ∷ begins ∷ decimal cleaning.from ∷ codes " to " ∷ decimal cleaning.to ∷ due_words cleaning.due ∷ []) (codes "\n")

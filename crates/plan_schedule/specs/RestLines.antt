@@ -4,7 +4,6 @@ use Rattle.plan_explain.specs.Arcs.{before}
 use Rattle.plan_schedule.specs.Lines.{due_words}
 use Rattle.plan_schedule.specs.declared.rest_lines.Ending.{Ending}
 use Rattle.plan_schedule.specs.declared.rest_lines.Entered.{Entered}
-use Rattle.plan_schedule.specs.declared.rest_lines.Cleaned.{Cleaned}
 
 -- `job J left L`
 abbrev pub left_line : ℕ → ℕ → List ℕ
@@ -25,8 +24,3 @@ entered_line entered =
     before (codes "job " ∷ decimal entered.job ∷ codes " on machine " ∷ decimal entered.machine ∷ codes " since " ∷ decimal entered.since ∷ []) (
     before (ending_words entered.ends ∷ codes " leaves " ∷ decimal entered.leaves ∷ []) (codes "\n")
     )
-
--- `machine M cleaned since S to C by D`
-abbrev pub cleaned_line : Cleaned → List ℕ
-cleaned_line cleaned =
-    before (codes "machine " ∷ decimal cleaned.machine ∷ codes " cleaned since " ∷ decimal cleaned.since ∷ codes " to " ∷ decimal cleaned.ends.to ∷ due_words cleaned.ends.due ∷ []) (codes "\n")

@@ -1,14 +1,14 @@
 -- Which lines the schedule of the rest of a run has, by the moment of each node ahead, and its deadline where there is one.
-use Rattle.std.specs.Prelude.{◌≡◌, ℕ, ◌+◌, ◌<◌, ◌≤◌, ◌⊎◌, max, if◌then◌else◌, List, [], ◌++◌, length, Option, None, Some}
+use Rattle.std.specs.Prelude.{◌≡◌, ℕ, ◌+◌, ◌<◌, ◌≤◌, ◌⊎◌, max, if◌then◌else◌, List, [], ◌++◌, codes, length, Option, None, Some}
 use Rattle.shop_base.specs.declared.node.Node.{Node}
 use Rattle.shop_base.specs.Plan.{PlannedShop, jobs, machines, steps, order, machine_of, nominal, release, clean, Stands}
 use Rattle.shop_base.specs.Cell.{Cell, made, ready, since, entries, cleaning, IsGone}
 use Rattle.shop_base.specs.Graph.{node}
-use Rattle.plan_schedule.specs.Lines.{arrival_line}
+use Rattle.plan_schedule.specs.Lines.{arrival_line, cleaning_line}
 use Rattle.plan_schedule.specs.Schedules.{IsCleaningText, AreVisitsFrom}
 use Rattle.plan_schedule.specs.declared.rest_lines.Entered.{Entered}
-use Rattle.plan_schedule.specs.declared.rest_lines.Cleaned.{Cleaned}
-use Rattle.plan_schedule.specs.RestLines.{left_line, arrived_line, entered_line, cleaned_line}
+use Rattle.plan_schedule.specs.declared.lines.Cleaning.{Cleaning}
+use Rattle.plan_schedule.specs.RestLines.{left_line, arrived_line, entered_line}
 
 module _ (p : PlannedShop) (c : Cell) (due : Node → Option ℕ) where
   -- the deadline of the entry of machine m by the next job in its order; none where no job is next
@@ -22,15 +22,15 @@ module _ (p : PlannedShop) (c : Cell) (t : ℕ) (due : Node → Option ℕ) wher
   arrival_after j = if ready c j then arrived_line j else arrival_line j (max (release p j) t) (due (node j 0))
 
   -- the cleaning of machine m that goes on since a moment: it ends when it is due, or at the present moment where it is overdue
-  pub record IsCleaned (m s : ℕ) (cleaned : Cleaned) : Type 0 where
-    pub place : cleaned.machine ≡ m
-    pub begun : cleaned.since ≡ s
-    pub ends : cleaned.ends.to ≡ max (s + clean p m) t
-    pub deadline : IsNextDue p c due m cleaned.ends.due
+  pub record IsCleaningSince (m s : ℕ) (cleaning : Cleaning) : Type 0 where
+    pub place : cleaning.machine ≡ m
+    pub begun : cleaning.from ≡ s
+    pub ends : cleaning.to ≡ max (s + clean p m) t
+    pub deadline : IsNextDue p c due m cleaning.due
 
   -- the line of machine m: none where it isn't being cleaned, else that of its cleaning
   abbrev pub IsCleanedText : ℕ → List ℕ → Type 0
-  IsCleanedText m text = ((cleaning c m ≡ None) × (text ≡ [])) ⊎ ((s : ℕ) × (cleaning c m ≡ Some s) × (cleaned : Cleaned) × IsCleaned m s cleaned × (text ≡ cleaned_line cleaned))
+  IsCleanedText m text = ((cleaning c m ≡ None) × (text ≡ [])) ⊎ ((s : ℕ) × (cleaning c m ≡ Some s) × (going_on : Cleaning) × IsCleaningSince m s going_on × (text ≡ cleaning_line (codes " cleaned since ") going_on))
 
   -- the lines of the first machines, ascending
   pub data AreCleanedTexts : ℕ → List ℕ → Type 0 where

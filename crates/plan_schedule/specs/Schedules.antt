@@ -1,5 +1,5 @@
 -- Which lines a schedule has, by the moment of each node in the exact run, and its deadline where there is one.
-use Rattle.std.specs.Prelude.{◌≡◌, ℕ, ◌+◌, ◌<◌, ◌⊎◌, List, [], ◌++◌, Option, None, Some}
+use Rattle.std.specs.Prelude.{◌≡◌, ℕ, ◌+◌, ◌<◌, ◌⊎◌, List, [], ◌++◌, codes, Option, None, Some}
 use Rattle.shop_base.specs.declared.node.Node.{Node}
 use Rattle.shop_base.specs.Plan.{PlannedShop, jobs, steps, machine_of, nominal, release, clean}
 use Rattle.shop_base.specs.Graph.{node}
@@ -43,7 +43,7 @@ module _ (p : PlannedShop) (at : Node → ℕ) (due : Node → Option ℕ) where
 
   -- the line behind a visit: none where the machine has no cleaning time, else that of its cleaning
   abbrev pub IsCleaningText : ℕ → ℕ → List ℕ → Type 0
-  IsCleaningText j k text = (HasNoCleaning p j k × (text ≡ [])) ⊎ ((cleaning : Cleaning) × IsCleaning j k cleaning × (text ≡ cleaning_line cleaning))
+  IsCleaningText j k text = (HasNoCleaning p j k × (text ≡ [])) ⊎ ((cleaning : Cleaning) × IsCleaning j k cleaning × (text ≡ cleaning_line (codes " cleaned from ") cleaning))
 
   -- the lines of a visit
   abbrev pub IsVisitText : ℕ → ℕ → List ℕ → Type 0

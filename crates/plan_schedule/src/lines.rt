@@ -2,16 +2,10 @@
 
 ghost use Rattle.std.specs.Prelude.{◌≡◌, ◌+◌, ◌≤◌, ◌++◌, length, OnOk};
 ghost use Rattle.plan_schedule.specs.Lines.{due_words, arrival_line, visit_line, cleaning_line};
-ghost use Rattle.plan_schedule.specs.declared.lines.TheConstants.{LINE_ROOM};
 
+use plan_explain::{Line, push_line};
 use shop_base::{JobNo, MachineNo, Moment};
 use std::alloc::AllocError;
-
-/// The room of a line, in bytes.
-pub(crate) const LINE_ROOM: usize = 200;
-
-/// A line of a schedule. All are shorter than its room.
-pub(crate) type Line = text_lines::LineText<LINE_ROOM>;
 
 /// A visit of a job to a machine: when its operation begins and ends, its deadline, and when the job leaves.
 #[derive(Clone, Copy)]
@@ -70,16 +64,21 @@ pub(crate) fn push_visit_line(text: &mut Vec<u8>, visit: Visit) -> Result<(), Al
     push_line(text, &line)
 }
 
-/// Adds `machine M cleaned from L to C by D`.
-pub(crate) fn push_cleaning_line(text: &mut Vec<u8>, cleaning: Cleaning) -> Result<(), AllocError>
-    ensures { OnOk result (text.new.items ≡ text.old.items ++ cleaning_line cleaning) }
+/// Adds `machine M cleaned from L to C by D`, or `.. since L to C by D` if the cleaning goes on.
+pub(crate) fn push_cleaning_line(
+    text: &mut Vec<u8>,
+    begins: &[u8],
+    cleaning: Cleaning,
+) -> Result<(), AllocError>
+    requires { length begins.now ≤ 20 }
+    ensures { OnOk result (text.new.items ≡ text.old.items ++ cleaning_line begins.now cleaning) }
 {
     let mut line = Line::ended();
     put_due(&mut line, cleaning.due);
     line.put_number(cleaning.to);
     line.put_text(b" to ");
     line.put_number(cleaning.from);
-    line.put_text(b" cleaned from ");
+    line.put_text(begins);
     line.put_short_number(cleaning.machine);
     line.put_text(b"machine ");
     push_line(text, &line)
@@ -98,12 +97,4 @@ pub(crate) fn put_due(line: &mut Line, due: Option<Moment>)
         }
         None => {}
     }
-}
-
-/// Adds the line.
-pub(crate) fn push_line(text: &mut Vec<u8>, line: &Line) -> Result<(), AllocError>
-    ensures { OnOk result (text.new.items ≡ text.old.items ++ line.now) }
-{
-    text.extend_from_slice(line.bytes())?;
-    Ok(())
 }

@@ -1,9 +1,10 @@
 //! The lines of a schedule that only the rest of a run has.
 
 ghost use Rattle.std.specs.Prelude.{◌≡◌, ◌+◌, ◌≤◌, ◌++◌, length, OnOk};
-ghost use Rattle.plan_schedule.specs.RestLines.{ending_words, left_line, arrived_line, entered_line, cleaned_line};
+ghost use Rattle.plan_schedule.specs.RestLines.{ending_words, left_line, arrived_line, entered_line};
 
-use crate::lines::{Line, push_line, put_due};
+use crate::lines::put_due;
+use plan_explain::{Line, push_line};
 use shop_base::{JobNo, MachineNo, Moment};
 use std::alloc::AllocError;
 
@@ -22,14 +23,6 @@ pub(crate) struct Entered {
     pub since: Moment,
     pub ends: Option<Ending>,
     pub leaves: Moment,
-}
-
-/// A cleaning that goes on: since when, and when it ends.
-#[derive(Clone, Copy)]
-pub(crate) struct Cleaned {
-    pub machine: MachineNo,
-    pub since: Moment,
-    pub ends: Ending,
 }
 
 /// Adds `job J left L`.
@@ -86,19 +79,4 @@ fn put_ending(line: &mut Line, ends: Option<Ending>)
         }
         None => line.put_text(b" done"),
     }
-}
-
-/// Adds `machine M cleaned since S to C by D`.
-pub(crate) fn push_cleaned_line(text: &mut Vec<u8>, cleaned: Cleaned) -> Result<(), AllocError>
-    ensures { OnOk result (text.new.items ≡ text.old.items ++ cleaned_line cleaned) }
-{
-    let mut line = Line::ended();
-    put_due(&mut line, cleaned.ends.due);
-    line.put_number(cleaned.ends.to);
-    line.put_text(b" to ");
-    line.put_number(cleaned.since);
-    line.put_text(b" cleaned since ");
-    line.put_short_number(cleaned.machine);
-    line.put_text(b"machine ");
-    push_line(text, &line)
 }

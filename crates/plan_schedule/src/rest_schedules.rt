@@ -8,9 +8,9 @@ ghost use Rattle.plan_explain.specs.Added.{Adds};
 ghost use Rattle.plan_schedule.specs.Calendars.{HasDeadlines, seen, due_in};
 ghost use Rattle.plan_verifier.specs.declared.verdict.Judged.TheVariants.{Refused};
 ghost use Rattle.plan_verifier.specs.Rest.{AreOrderedAhead};
+ghost use Rattle.plan_verifier.specs.Seen.{lent};
 ghost use Rattle.plan_verifier.specs.RestVerdicts.{IsReasonAhead};
 ghost use Rattle.plan_explain.specs.RestVerdicts.{IsRestJudged};
-ghost use Rattle.plan_schedule.specs.SoonAhead.{AreBegun};
 ghost use Rattle.plan_schedule.specs.RestSchedules.{AreRestLines};
 ghost use Rattle.plan_schedule.specs.RestScheduled.{AreRestLinesInTime, AreRestScheduledBehind, IsRestScheduled};
 
@@ -19,7 +19,7 @@ use crate::scheduling::{push_cleanings, push_jobs};
 use alt_graph::{Deadlines, Times};
 use cell_tables::WorkCell;
 use plan_explain::first_line_after;
-use plan_verifier::{Judged, Why, deadlines_after};
+use plan_verifier::{Seen, Why, cleanings_in_range, deadlines_after};
 use shop_base::{Moment, Planned};
 use std::alloc::{AllocError, Global};
 
@@ -31,11 +31,11 @@ pub fn schedule_after<P: Planned>(
     alloc: Global,
     cell: &WorkCell<P>,
     present: Moment,
-    verdict: &Judged,
+    verdict: Seen<'_>,
 ) -> Result<Vec<u8>, AllocError>
     requires present { IsNextMoment cell.now.cell present }
-    requires judged { IsRestJudged cell.now.plan cell.now.cell present verdict.now }
-    ensures { IfOk result (λ text. IsRestScheduled cell.now.plan cell.now.cell present verdict.now text.items) }
+    requires judged { IsRestJudged cell.now.plan cell.now.cell present (lent verdict) }
+    ensures { IfOk result (λ text. IsRestScheduled cell.now.plan cell.now.cell present (lent verdict.entry) text.items) }
 {
     let mut text = first_line_after(alloc, cell, verdict)?;
     push_lines_behind(alloc, &mut text, cell, present, verdict)?;
@@ -48,19 +48,20 @@ fn push_lines_behind<P: Planned>(
     text: &mut Vec<u8>,
     cell: &WorkCell<P>,
     present: Moment,
-    verdict: &Judged,
+    verdict: Seen<'_>,
 ) -> Result<(), AllocError>
     requires present { IsNextMoment cell.now.cell present }
-    requires judged { IsRestJudged cell.now.plan cell.now.cell present verdict.now }
-    ensures { OnOk result (Adds (AreRestScheduledBehind cell.now.plan cell.now.cell present verdict.now) text.old.items text.new.items) }
+    requires judged { IsRestJudged cell.now.plan cell.now.cell present (lent verdict) }
+    ensures { let p = cell.now.plan in
+        OnOk result (Adds (AreRestScheduledBehind p cell.now.cell present (lent verdict.entry)) text.old.items text.new.items) }
 {
     match verdict {
-        Judged::Accepted(times) => push_lines_in_time(alloc, text, cell, present, times),
-        Judged::Refused(why) => push_refused_lines(alloc, text, cell, present, why),
+        Seen::Accepted(times) => push_lines_in_time(alloc, text, cell, present, times),
+        Seen::Refused(why) => push_refused_lines(alloc, text, cell, present, why),
     }
 }
 
-pub(crate) fn push_refused_lines<P: Planned>(
+fn push_refused_lines<P: Planned>(
     alloc: Global,
     text: &mut Vec<u8>,
     cell: &WorkCell<P>,
@@ -82,7 +83,7 @@ pub(crate) fn push_refused_lines<P: Planned>(
     }
 }
 
-pub(crate) fn push_lines_in_time<P: Planned>(
+fn push_lines_in_time<P: Planned>(
     alloc: Global,
     text: &mut Vec<u8>,
     cell: &WorkCell<P>,
@@ -118,15 +119,4 @@ fn push_lines<'a, P: Planned>(
     let calendar = Calendar::new(alloc, cell.shaped(), times, deadlines)?;
     push_jobs(text, cell, present, &calendar)?;
     push_cleanings(text, cell, present, &calendar)
-}
-
-/// The cleanings that go on began at moments within the limit.
-fn cleanings_in_range<P: Planned>(cell: &WorkCell<P>)
-    ensures { AreBegun cell.now.cell }
-{
-    // Called for its clause alone: the cell is sound.
-    let _plan = cell.shaped();
-    for machine in 0..cell.machine_count() {
-        let _since = cell.cleaned_since(machine);
-    }
 }

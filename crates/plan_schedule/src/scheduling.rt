@@ -13,11 +13,8 @@ ghost use Rattle.plan_schedule.specs.Schedules.{IsCleaningText, IsVisitText, Are
 ghost use Rattle.plan_schedule.specs.RestSchedules.{arrival_after, entered_of, IsEnteredText, IsRestJobText, AreRestJobTexts, IsNextDue, IsCleanedText, AreCleanedTexts};
 
 use crate::calendar::Calendar;
-use crate::lines::{push_arrival_line, push_cleaning_line, push_visit_line};
-use crate::rest_lines::{
-    Cleaned, Ending, Entered, push_arrived_line, push_cleaned_line, push_entered_line,
-    push_left_line,
-};
+use crate::lines::{Cleaning, push_arrival_line, push_cleaning_line, push_visit_line};
+use crate::rest_lines::{Ending, Entered, push_arrived_line, push_entered_line, push_left_line};
 use cell_tables::WorkCell;
 use shop_base::{JobNo, MachineNo, Moment, Node, Planned};
 use std::alloc::AllocError;
@@ -139,7 +136,7 @@ fn push_cleaning_behind(
         OnOk result (Adds (IsCleaningText c.plan (earliest_of c.times) (due_at c) job place) text.old.items text.new.items) }
 {
     match calendar.cleaning(job, place) {
-        Some(cleaning) => push_cleaning_line(text, cleaning),
+        Some(cleaning) => push_cleaning_line(text, b" cleaned from ", cleaning),
         None => Ok(()),
     }
 }
@@ -242,12 +239,14 @@ fn push_cleaning<P: Planned>(
     };
     let to = (since + cell.shaped().clean_of(machine)).max(present);
     let due = next_due(cell, calendar, machine);
-    push_cleaned_line(
+    push_cleaning_line(
         text,
-        Cleaned {
+        b" cleaned since ",
+        Cleaning {
             machine,
-            since,
-            ends: Ending { to, due },
+            from: since,
+            to,
+            due,
         },
     )
 }

@@ -18,7 +18,7 @@ use Rattle.plan_verifier.specs.RestVerdicts.{IsAcceptedAhead, IsReasonAhead}
 use Rattle.plan_verifier.proofs.Tables.{ahead_of, of_ahead}
 use Rattle.plan_verifier.proofs.Rests.{ordered_ahead}
 use Rattle.plan_verifier.proofs.GoingOn.{leaving_ahead}
-use Rattle.plan_verifier.proofs.Acceptable.{acceptable as acceptable_rest}
+use Rattle.plan_verifier.proofs.Acceptable.{leaving_node, acceptable_ahead, chain_few}
 use Rattle.plan_verifier.proofs.Verdicts.{first_late as first_late_rest}
 use Rattle.plan_verifier.proofs.Reasons.{acceptable, first_late}
 
@@ -30,7 +30,8 @@ judged_whole p shaped (Accepted times) (ordered, meets) =
 judged_whole p shaped (Refused (Cycle nodes)) cycle = cycle
 judged_whole p shaped (Refused (Late job leaves chain times)) (ordered, first, same, path) =
     let is : AreOrdered p times = ordered_to p shaped times ordered in
-    (rw same (first_late p times is job chain.items first (path_by times (leaving p job) chain.items path p is.times)), is)
+    let few = chain_few p (whole p) times (leaving p job) chain.items ordered.times (leaving_node p job first.inside) path in
+    (rw same (first_late p times is job chain.items first (path_by times (leaving p job) chain.items path p is.times) few), is)
 
 module _ (p : PlannedShop) (c : Cell) (t : ℕ) (sound : IsSound p c) where
   -- a job that isn't gone is one whose leaving is ahead
@@ -44,7 +45,7 @@ module _ (p : PlannedShop) (c : Cell) (t : ℕ) (sound : IsSound p c) where
   judged_accepted (Accepted times) (ordered, meets) =
       let is : AreOrderedAhead p c t times = ordered_ahead p c t sound times ordered in
       let budgets : MeetBudgetsAhead p c (earliest_of times) = λ j inside here. meets j inside (here_ahead j inside here) in
-      (is, acceptable_rest p c t (rank_of times) (earliest_of times) is.schedule.ranks is.greatest budgets, budgets)
+      (is, acceptable_ahead p c t (rank_of times) (earliest_of times) is.schedule.ranks is.greatest budgets, budgets)
   judged_accepted (Refused why) judged = tt
 
   pub judged_reason : (judged : Judged) → IsJudgedFrom p (rest_bounds p c t) judged → IsReasonAhead p c t judged
@@ -53,5 +54,6 @@ module _ (p : PlannedShop) (c : Cell) (t : ℕ) (sound : IsSound p c) where
   judged_reason (Refused (Late job leaves chain times)) (ordered, first, same, path) =
       let is : AreOrderedAhead p c t times = ordered_ahead p c t sound times ordered in
       let late = first_late_rest p c t times is job chain.items first.inside (ahead_here job first.inside first.here) first.past
-      (λ i lt here. first.before i lt (here_ahead i (omega (arith, lt, first.inside)) here)) path in
+      (λ i lt here. first.before i lt (here_ahead i (omega (arith, lt, first.inside)) here)) path
+      (chain_few p (rest_bounds p c t) times (leaving p job) chain.items ordered.times (leaving_node p job first.inside) path) in
       (rw same late, is, same)

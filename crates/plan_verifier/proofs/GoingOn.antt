@@ -24,9 +24,10 @@ use Rattle.shop_base.proofs.SomeExact.{some_continuation_is_exact-holds}
 use Rattle.shop_base.proofs.Deadlines.{deadlines_are_the_latest-holds, no_deadline_is_too_early-holds, in_time_by_deadlines-holds, the_rest_stays_accepted-holds, all_out_by_deadlines-holds, deadlines_stay-holds}
 use Rattle.alt_graph.specs.Times.{NodeTimes, rank_of, earliest_of}
 use Rattle.plan_verifier.specs.FromThere.{IsNeverStuckFrom, IsInTimeFrom, IsNeverGoneAfterFrom, IsNeverGoneBeforeFrom, IsJustInTimeFrom, IsNeverInBudgetFrom, AreDeadlinesFrom, IsNeverDoneFrom}
+use Rattle.plan_verifier.specs.Leavings.{leaves_in, AreLeavingsAhead}
 use Rattle.plan_verifier.specs.Rest.{AreOrderedAhead}
 use Rattle.plan_verifier.specs.RestVerdicts.{IsAcceptableAhead}
-use Rattle.plan_verifier.proofs.Acceptable.{acceptable}
+use Rattle.plan_verifier.proofs.Acceptable.{leaving_node, acceptable_ahead}
 use Rattle.plan_verifier.proofs.PathsAhead.{path_no_faster}
 
 -- a job that isn't gone has its leaving ahead
@@ -44,7 +45,14 @@ module _ (p : PlannedShop) (c : Cell) (t : ℕ) (times : NodeTimes) (ordered : A
   kept = earliest_of times
 
   pub leaving_path : (j : ℕ) → j < jobs p → (IsGone p c j → ⊥) → (nodes : List Node) × PathAhead p c t nodes (leaving p j) (kept (leaving p j))
-  leaving_path j inside here = ordered.reached (leaving p j) (record { job = inside; place = omega arith }) (leaving_ahead p c j here)
+  leaving_path j inside here = ordered.reached (leaving p j) (leaving_node p j inside) (leaving_ahead p c j here)
+
+  -- the earliest moments of the leavings are the leavings
+  pub leavings_ahead : AreLeavingsAhead p c t (leaves_in p times)
+  leavings_ahead = record {
+    left = ordered.left;
+    ahead = λ j inside here. (record { reached = leaving_path j inside here; longest = λ nodes k path. ordered.greatest nodes (leaving p j) k path });
+  }
 
   module _ (es : List Event) (end : ends_in p es ≡ c) where
     -- a statement on the cell is one on the end of the run
@@ -149,7 +157,7 @@ module _ (p : PlannedShop) (c : Cell) (t : ℕ) (times : NodeTimes) (ordered : A
         still_acceptable es rs fs end run same on moments keeps meets =
             let all = never_stuck_from es rs fs end run same on in
             let sound : IsSound p end = subst (IsSound p) (sym all.1) (run-sound p (es ++ fs) ordered.schedule.shaped all.0) in
-            acceptable p end end.last rank moments ordered.schedule.ranks (λ nodes v n path. path_kept p end end.last moments nodes v n sound keeps path) meets
+            acceptable_ahead p end end.last rank moments ordered.schedule.ranks (λ nodes v n path. path_kept p end end.last moments nodes v n sound keeps path) meets
 
   pub never_gone_before : (j : ℕ) → j < jobs p → (IsGone p c j → ⊥) → IsNeverGoneBeforeFrom p c t j (kept (leaving p j))
   never_gone_before j inside here = (let (nodes, path) = leaving_path j inside here in path_no_faster p c t j nodes (kept (leaving p j)) ordered.schedule.shaped path)

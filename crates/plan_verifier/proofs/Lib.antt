@@ -10,4 +10,6 @@ pub mod GoingOn
 pub mod Verdicts
 pub mod LastLeavings
 pub mod Holding
+pub mod AtStart
+pub mod Soon
 pub mod StartLaw

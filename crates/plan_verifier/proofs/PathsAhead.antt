@@ -1,12 +1,10 @@
 -- Paths ahead, measured from where they can begin.
-use Rattle.std.proofs.Common.{◌≡◌, ◌↔◌, ℕ, ◌+◌, ◌<◌, ◌≤◌, List, [], ◌∷◌, ◌++◌, map, get_or, length, length-append, Option, None, Some, arith, refl, sym, ap, subst, ◌∙◌, inl, inr, lt-ltb, le-ltb}
-use Rattle.std.specs.Prelude.{IfSome}
-use Rattle.std.specs.List.{range_with_len}
+use Rattle.std.proofs.Common.{◌≡◌, ◌↔◌, ℕ, ◌+◌, ◌<◌, ◌≤◌, List, [], ◌∷◌, ◌++◌, length, length-append, if◌then◌else◌, nat_lt, Option, None, Some, arith, refl, sym, ap, subst, ◌∙◌, inl, inr, lt-ltb, le-ltb}
+use Rattle.std.specs.Prelude.{IfSome, unwrap_or}
 use Rattle.std.proofs.Math.Seq.{get_or-append_seam}
-use Rattle.std.proofs.lemmas.Bool.{cases_lt, cases_order}
-use Rattle.std.proofs.lemmas.List.FromFn.{get_or-map-range_with_len}
+use Rattle.std.proofs.lemmas.Bool.{cases_lt}
 use Rattle.shop_base.specs.declared.node.Node.{Node}
-use Rattle.shop_base.specs.Plan.{PlannedShop, jobs, steps, IsWellShaped}
+use Rattle.shop_base.specs.Plan.{PlannedShop, IsWellShaped}
 use Rattle.shop_base.specs.Cell.{Cell, job_in, made}
 use Rattle.shop_base.specs.Activity.{Activity, Arrival, Operation, Cleaning, GoesOn}
 use Rattle.shop_base.specs.Movers.{due_of_job}
@@ -21,16 +19,16 @@ use Rattle.shop_base.proofs.LowerBounds.{no_continuation_is_faster-holds}
 use Rattle.alt_graph.specs.Bounds.{NodeBounds, bound_of, PathFrom, begins_at, goes_along, IsChainFrom}
 use Rattle.alt_graph.specs.Evidence.{EndsIn}
 use Rattle.alt_graph.specs.Places.{node_at}
-use Rattle.plan_verifier.specs.CellBounds.{cleaned_at}
+use Rattle.plan_verifier.specs.CellBounds.{bound_in, held_to, cleaned_at}
 use Rattle.plan_verifier.specs.FromThere.{IsNeverGoneBeforeFrom}
 use Rattle.plan_verifier.specs.Held.{later_than}
-use Rattle.plan_verifier.specs.PathBounds.{path_bounds, begun_at, beginning_in}
+use Rattle.plan_verifier.specs.PathBounds.{path_bounds, beginning_in}
 use Rattle.plan_verifier.specs.Rest.{IsChainAhead}
-use Rattle.plan_verifier.proofs.Rests.{some_same, later_path, next_path}
-use Rattle.plan_verifier.proofs.Tables.{ahead_of, later_is, later_above, later_other, holds_cleaned}
+use Rattle.plan_verifier.proofs.Rests.{some_same, bound_path}
+use Rattle.plan_verifier.proofs.Tables.{bound_next, bound_later, bound_told, told_by, ahead_of, later_above, later_other, holds_cleaned}
 
 -- a path ahead ends with its last node
-pub ahead_ends : (p : PlannedShop) (c : Cell) (t : ℕ) (nodes : List Node) (v : Node) (n i : ℕ) → PathAhead p c t nodes v n → i + 1 ≡ length nodes → node_at nodes i ≡ v
+ahead_ends : (p : PlannedShop) (c : Cell) (t : ℕ) (nodes : List Node) (v : Node) (n i : ℕ) → PathAhead p c t nodes v n → i + 1 ≡ length nodes → node_at nodes i ≡ v
 ahead_ends p c t _ _ _ i (now v is ahead) end = let first : i ≡ 0 = omega arith in ap (node_at (v ∷ [])) first
 ahead_ends p c t _ _ _ i (held a due v going holds) end = let first : i ≡ 0 = omega arith in ap (node_at (v ∷ [])) first
 ahead_ends p c t _ _ _ i (onward nodes u v n d path arc) end =
@@ -38,10 +36,18 @@ ahead_ends p c t _ _ _ i (onward nodes u v n d path arc) end =
     ap (node_at (nodes ++ v ∷ [])) is ∙ get_or-append_seam nodes v [] (node 0 0)
 
 -- it has a node
-pub ahead_some : (p : PlannedShop) (c : Cell) (t : ℕ) (nodes : List Node) (v : Node) (n : ℕ) → PathAhead p c t nodes v n → (i : ℕ) × (i + 1 ≡ length nodes)
+ahead_some : (p : PlannedShop) (c : Cell) (t : ℕ) (nodes : List Node) (v : Node) (n : ℕ) → PathAhead p c t nodes v n → (i : ℕ) × (i + 1 ≡ length nodes)
 ahead_some p c t _ _ _ (now v is ahead) = (0, refl)
 ahead_some p c t _ _ _ (held a due v going holds) = (0, refl)
 ahead_some p c t _ _ _ (onward nodes u v n d path arc) = (length nodes, omega (arith, length-append nodes (v ∷ [])))
+
+-- so paths ahead along the same nodes end with the same one
+pub along_greatest : (p : PlannedShop) (c : Cell) (t : ℕ) (nodes : List Node) (v : Node) (n : ℕ) → PathAhead p c t nodes v n → ((k : ℕ) → PathAhead p c t nodes v k → k ≤ n)
+    → (w : Node) (k : ℕ) → PathAhead p c t nodes w k → k ≤ n
+along_greatest p c t nodes v n path longest w k other =
+    let (i, end) = ahead_some p c t nodes v n path in
+    let same : w ≡ v = sym (ahead_ends p c t nodes w k i other end) ∙ ahead_ends p c t nodes v n i path end in
+    longest k (subst (λ (u : Node). PathAhead p c t nodes u k) same other)
 
 -- no run that goes on is faster than a path ahead to a leaving
 pub path_no_faster : (p : PlannedShop) (c : Cell) (t j : ℕ) (nodes : List Node) (n : ℕ) → IsWellShaped p → PathAhead p c t nodes (leaving p j) n → IsNeverGoneBeforeFrom p c t j n
@@ -50,67 +56,60 @@ path_no_faster p c t j nodes n shaped path es fs run end more from late gone =
     (subst (λ (d : Cell). AreNotEarly p d fs) (sym end) late) gone
 
 module _ (p : PlannedShop) (c : Cell) (t : ℕ) (v : Node) where
-  begun_next : made c v.job ≡ v.place → begun_at p c t v ≡ later_than t (due_of_job p v.job (job_in c v.job))
+  -- the present moment or, of its job's next node, when what goes on with the job is due, if that is later
+  abbrev begun_at : ℕ
+  begun_at = if nat_lt (made c v.job) v.place then t else later_than t (due_of_job p v.job (job_in c v.job))
+
+  begun_next : made c v.job ≡ v.place → begun_at ≡ later_than t (due_of_job p v.job (job_in c v.job))
   begun_next next = rw (le-ltb (made c v.job) v.place (omega arith)) refl
 
-  begun_later : made c v.job < v.place → begun_at p c t v ≡ t
+  begun_later : made c v.job < v.place → begun_at ≡ t
   begun_later later = rw (lt-ltb (made c v.job) v.place later) refl
 
-  begun_above : IsAhead c v → t ≤ begun_at p c t v
-  begun_above ahead = elim (cases_lt (made c v.job) v.place) [
+  begun_above : t ≤ begun_at
+  begun_above = elim (cases_lt (made c v.job) v.place) [
     | inl later ↦ omega (arith, begun_later later)
-    | inr other ↦ (let here : made c v.job ≤ v.place = ahead in omega (arith, begun_next (omega arith), later_above t (due_of_job p v.job (job_in c v.job))))
+    | inr other ↦ rw (le-ltb (made c v.job) v.place other) (later_above t (due_of_job p v.job (job_in c v.job)))
   ]
+
+  held_or : (o : Option ℕ) → unwrap_or (held_to t o) t ≡ later_than t o
+  held_or None = refl
+  held_or (Some due) = refl
 
   pub beginning_passed : v.place < made c v.job → beginning_in p c t v ≡ None
   beginning_passed passed = rw (lt-ltb v.place (made c v.job) passed) refl
 
-  beginning_ahead : IsAhead c v → beginning_in p c t v ≡ Some (later_than (begun_at p c t v) (cleaned_at p c v))
-  beginning_ahead ahead = let here : made c v.job ≤ v.place = ahead in rw (le-ltb v.place (made c v.job) here) refl
+  pub beginning_here : IsAhead c v → beginning_in p c t v ≡ Some (unwrap_or (bound_in p c t v) t)
+  beginning_here ahead = let here : made c v.job ≤ v.place = ahead in rw (le-ltb v.place (made c v.job) here) refl
 
-  pub beginning_next : made c v.job ≡ v.place → beginning_in p c t v ≡ Some (later_than (later_than t (due_of_job p v.job (job_in c v.job))) (cleaned_at p c v))
-  beginning_next next = beginning_ahead (omega arith) ∙ ap (λ n. Some (later_than n (cleaned_at p c v))) (begun_next next)
-
-  pub beginning_later : made c v.job < v.place → beginning_in p c t v ≡ Some (later_than t (cleaned_at p c v))
-  beginning_later later = beginning_ahead (omega arith) ∙ ap (λ n. Some (later_than n (cleaned_at p c v))) (begun_later later)
+  -- it is also when the cleaning that holds the node up is due, if that is later
+  beginning_ahead : IsAhead c v → beginning_in p c t v ≡ Some (later_than begun_at (cleaned_at p c v))
+  beginning_ahead ahead = beginning_here ahead ∙ ap (λ n. Some n) (elim (cases_lt (made c v.job) v.place) [
+    | inl later ↦ ap (λ o. unwrap_or o t) (bound_later p c t v later) ∙ held_or (cleaned_at p c v) ∙ ap (λ n. later_than n (cleaned_at p c v)) (sym (begun_later later))
+    | inr other ↦ (let next : made c v.job ≡ v.place = (let here : made c v.job ≤ v.place = ahead in omega arith) in
+        ap (λ o. unwrap_or o t) (bound_next p c t v next) ∙ ap (λ n. later_than n (cleaned_at p c v)) (sym (begun_next next)))
+  ])
 
 module _ (p : PlannedShop) (c : Cell) (t : ℕ) (sound : IsSound p c) where
   abbrev b : NodeBounds
   b = path_bounds p c t
 
   pub beginning_told : (v : Node) → IsNode p v → bound_of b v ≡ beginning_in p c t v
-  beginning_told v is =
-      ap (λ (row : List (Option ℕ)). get_or row v.place None)
-      (get_or-map-range_with_len (λ j. map (λ k. beginning_in p c t (node j k)) (range_with_len 0 (steps p j + 1))) 0 (jobs p) v.job v.job [] is.job (omega arith))
-      ∙ get_or-map-range_with_len (λ k. beginning_in p c t (node v.job k)) 0 (steps p v.job + 1) v.place v.place None (omega (arith, is.place)) (omega arith)
+  beginning_told v is = told_by p (beginning_in p c t) v is
 
   -- where a path can begin one begins
   beginning_path : (v : Node) (n : ℕ) → IsNode p v → bound_of b v ≡ Some n → PathAhead p c t (v ∷ []) v n
-  beginning_path v n is told = elim (cases_order v.place (made c v.job)) [
-    | inl same ↦ from_next (sym same)
-    | inr other ↦ elim other [
-      | inl passed ↦ absurd (differ n (sym (beginning_told v is ∙ beginning_passed p c t v passed) ∙ told))
-      | inr later ↦ from_later later
-    ]
+  beginning_path v n is told = elim (cases_lt v.place (made c v.job)) [
+    | inl passed ↦ absurd (differ n (sym (beginning_told v is ∙ beginning_passed p c t v passed) ∙ told))
+    | inr here ↦ subst (λ k. PathAhead p c t (v ∷ []) v k) (some_same p c t sound _ _ (sym (beginning_told v is ∙ beginning_here p c t v here) ∙ told)) (from here (bound_in p c t v) refl)
   ]
     where
       differ : (m : ℕ) → None ≡ Some m → ⊥
       differ m bad = cc
 
-      from_next : made c v.job ≡ v.place → PathAhead p c t (v ∷ []) v n
-      from_next next =
-          let first = later_than t (due_of_job p v.job (job_in c v.job)) in
-          let left : IsLeftIn p c v = record { ahead = omega arith; job = is.job; place = is.place } in
-          let same : later_than first (cleaned_at p c v) ≡ n = some_same p c t sound _ _ (sym (beginning_told v is ∙ beginning_next p c t v next) ∙ told) in
-          subst (λ k. PathAhead p c t (v ∷ []) v k) same
-          (later_path p c t sound v first (later_than first (cleaned_at p c v)) left (next_path p c t sound v first is next (later_is t (due_of_job p v.job (job_in c v.job)))) (later_is first (cleaned_at p c v)))
-
-      from_later : made c v.job < v.place → PathAhead p c t (v ∷ []) v n
-      from_later later =
-          let left : IsLeftIn p c v = record { ahead = omega arith; job = is.job; place = is.place } in
-          let same : later_than t (cleaned_at p c v) ≡ n = some_same p c t sound _ _ (sym (beginning_told v is ∙ beginning_later p c t v later) ∙ told) in
-          subst (λ k. PathAhead p c t (v ∷ []) v k) same
-          (later_path p c t sound v t (later_than t (cleaned_at p c v)) left (now v is left.ahead) (later_is t (cleaned_at p c v)))
+      from : IsAhead c v → (o : Option ℕ) → bound_in p c t v ≡ o → PathAhead p c t (v ∷ []) v (unwrap_or o t)
+      from ahead None none = now v is ahead
+      from ahead (Some m) some = bound_path p c t sound v m is ahead (bound_told p c t sound v is ∙ some)
 
   -- so each path from there is one ahead
   path_ahead : (nodes : List Node) (v : Node) (n : ℕ) → PathFrom p b nodes v n → PathAhead p c t nodes v n
@@ -137,7 +136,7 @@ module _ (p : PlannedShop) (c : Cell) (t : ℕ) (sound : IsSound p c) where
 
   path_long : (nodes : List Node) (v : Node) (k : ℕ) → PathAhead p c t nodes v k → (n : ℕ) × (k ≤ n) × PathFrom p b nodes v n
   path_long _ _ _ (now v is ahead) =
-      begin_long v t (record { ahead = ahead; job = is.job; place = is.place }) (omega (arith, begun_above p c t v ahead, later_above (begun_at p c t v) (cleaned_at p c v)))
+      begin_long v t (record { ahead = ahead; job = is.job; place = is.place }) (omega (arith, begun_above p c t v, later_above (begun_at p c t v) (cleaned_at p c v)))
   path_long _ _ _ (held a due v going holds) = begin_long v due (held_left p c a due v sound going holds) (held_long a due v going holds)
   path_long _ _ _ (onward nodes u v n d path arc) =
       let (m, le, from) = path_long nodes u n path in

@@ -1,74 +1,54 @@
 -- The leavings of an ordered graph: their greatest lengths, and what these say of every exact run.
-use Rattle.std.proofs.Common.{ℕ, ◌+◌, ◌<◌, ◌≤◌, List, length, inl, inr, arith, subst}
-use Rattle.std.proofs.lemmas.List.{length_push}
+use Rattle.std.proofs.Common.{◌≡◌, ℕ, ◌<◌, ◌≤◌, List, length, inl, inr, arith, sym, subst}
 use Rattle.shop_base.specs.declared.node.Node.{Node}
 use Rattle.shop_base.specs.Plan.{PlannedShop, jobs, budget, IsWellShaped}
-use Rattle.shop_base.specs.Graph.{leaving, IsNode, MeetBudgets, Path, begins, follows, RanksRise}
-use Rattle.shop_base.proofs.Cycles.{ranks_exclude_cycle}
+use Rattle.shop_base.specs.Graph.{leaving, MeetBudgets, Path}
 use Rattle.shop_base.specs.Cell.{since}
 use Rattle.shop_base.specs.KeptMoments.{KeepsLeaving}
 use Rattle.shop_base.proofs.StartAhead.{controlled-leavings_kept, just_in_time-holds, no_exact_run_is_faster-holds}
-use Rattle.alt_graph.specs.Evidence.{IsChain}
+use Rattle.alt_graph.specs.Evidence.{node_count}
 use Rattle.shop_base.specs.ExactLaw.{IsNeverGoneBefore}
 use Rattle.shop_base.specs.CycleLaw.{IsNeverDone, AreNeverMade}
 use Rattle.alt_graph.specs.Times.{NodeTimes, rank_of, earliest_of, AreOrdered}
-use Rattle.plan_verifier.specs.Accepted.{VerifiedPlan, kept_at, HasNoCycle, IsWithinBudget, IsGreatest, IsAcceptable, IsVerified, IsMakespan, IsNeverGoneAfter, IsGoneJustAt, rank_in}
+use Rattle.plan_verifier.specs.Accepted.{VerifiedPlan, kept_at, HasNoCycle, IsGreatest, IsAcceptable, IsVerified, IsMakespan, IsNeverGoneAfter, IsGoneJustAt, rank_in}
 use Rattle.alt_graph.specs.Bounds.{whole}
 use Rattle.alt_graph.proofs.CycleParts.{cycle_simple, cycle_stops}
 use Rattle.alt_graph.proofs.WholePlans.{whole_ahead}
 use Rattle.plan_verifier.specs.FromBounds.{IsFirstPastFrom}
-use Rattle.plan_verifier.specs.Leavings.{IsMakespanAfter}
-use Rattle.plan_verifier.specs.declared.verdict.Verdict.TheVariants.{Refused}
+use Rattle.plan_verifier.specs.Leavings.{AreLeavings, IsLastLeaving, leaves_in}
+use Rattle.plan_verifier.specs.Seen.{judged}
+use Rattle.plan_verifier.specs.declared.verdict.Verdict.{Verdict}
+use Rattle.plan_verifier.specs.declared.verdict.Verdict.TheVariants.{Accepted, Refused}
 use Rattle.plan_verifier.specs.declared.verdict.Why.{Why}
 use Rattle.plan_verifier.specs.declared.verdict.Why.TheVariants.{Cycle, Late}
-use Rattle.plan_verifier.specs.Verdicts.{IsFirstLate, IsReason, OnCycle, OnLate, IsNeverInBudget}
-
--- a path has no more nodes than its last one's rank and one
-pub path_few : (p : PlannedShop) (rank : Node → ℕ) (nodes : List Node) (v : Node) (n : ℕ) → RanksRise p rank → Path p nodes v n → length nodes ≤ rank v + 1
-path_few p rank nodes v n rise (begins j inside) = omega arith
-path_few p rank nodes v n rise (follows front u w m d path arc) =
-    omega (arith, path_few p rank front u m rise path, rise u w d arc, length_push front w)
+use Rattle.plan_verifier.specs.Verdicts.{IsFirstLate, IsReason, OnAccepted, OnRefused, OnCycle, OnLate, IsNeverInBudget}
+use Rattle.plan_verifier.proofs.Acceptable.{leaving_node, acyclic, within_budget}
 
 module _ (p : PlannedShop) (t : NodeTimes) (ordered : AreOrdered p t) where
-  pub acyclic : HasNoCycle p
-  acyclic nodes cycle = ranks_exclude_cycle p (rank_of t) nodes ordered.times.schedule.ranks cycle
-
-  -- the leaving of a job is a node
-  pub leaving_node : (j : ℕ) → j < jobs p → IsNode p (leaving p j)
-  leaving_node j inside = record { job = inside; place = omega arith }
-
-  -- the kept moment of a leaving is the greatest length
-  pub leaving_greatest : (j : ℕ) → j < jobs p → IsGreatest p (leaving p j) (earliest_of t (leaving p j))
-  leaving_greatest j inside = record {
-    reached = ordered.lengths.reached (leaving p j) (leaving_node j inside);
+  -- the kept moments of the leavings are the greatest lengths
+  pub leavings_greatest : AreLeavings p (leaves_in p t)
+  leavings_greatest j inside = record {
+    reached = ordered.lengths.reached (leaving p j) (leaving_node p j inside);
     longest = λ nodes k path. ordered.lengths.greatest nodes (leaving p j) k path;
   }
 
-  -- a job whose kept leaving is within its budget
-  pub within_budget : (j : ℕ) → earliest_of t (leaving p j) ≤ budget p j → IsWithinBudget p j
-  within_budget j le nodes n path = omega (arith, ordered.lengths.greatest nodes (leaving p j) n path)
+  no_cycle : HasNoCycle p
+  no_cycle nodes cycle = acyclic p (rank_of t) ordered.times.schedule.ranks (nodes, cycle)
 
   pub acceptable : MeetBudgets p (earliest_of t) → IsAcceptable p
-  acceptable meets = record { acyclic = acyclic; budgets = λ j inside. within_budget j (meets j inside) }
-
-  -- a path to a leaving is evidence
-  pub path_chain : (j : ℕ) → j < jobs p → (nodes : List Node) (n : ℕ) → Path p nodes (leaving p j) n → IsChain p nodes n
-  path_chain j inside nodes n path = record {
-    few = omega (arith, path_few p (rank_of t) nodes (leaving p j) n ordered.times.schedule.ranks path, ordered.times.few (leaving p j) (leaving_node j inside));
-    path = (leaving p j, path);
-  }
+  acceptable meets = record { acyclic = no_cycle; budgets = λ j inside. within_budget p (Path p) (earliest_of t) ordered.lengths.greatest j (meets j inside) }
 
   -- the first job whose kept leaving is past its budget is late
-  pub first_late : (j : ℕ) (nodes : List Node) → IsFirstPastFrom p (whole p) (earliest_of t) j → Path p nodes (leaving p j) (earliest_of t (leaving p j))
+  pub first_late : (j : ℕ) (nodes : List Node) → IsFirstPastFrom p (whole p) (earliest_of t) j → Path p nodes (leaving p j) (earliest_of t (leaving p j)) → length nodes ≤ node_count p
       → IsFirstLate p j (earliest_of t (leaving p j)) nodes
-  first_late j nodes first path = record {
-    acyclic = acyclic;
+  first_late j nodes first path few = record {
+    acyclic = no_cycle;
     job = first.inside;
-    before = λ i lt. within_budget i (first.before i lt (whole_ahead p ordered.times.schedule.shaped (leaving p i)));
-    greatest = leaving_greatest j first.inside;
+    before = λ i lt. within_budget p (Path p) (earliest_of t) ordered.lengths.greatest i (first.before i lt (whole_ahead p ordered.times.schedule.shaped (leaving p i)));
+    greatest = leavings_greatest j first.inside;
     past = first.past;
     path = path;
-    evidence = path_chain j first.inside nodes (earliest_of t (leaving p j)) path;
+    evidence = record { few = few; path = (leaving p j, path) };
   }
 
 -- no job is gone before the length of a path to its leaving
@@ -100,13 +80,26 @@ pub reason_refutes : (p : PlannedShop) (why : Why) → IsReason p why → IsAcce
 reason_refutes p (Cycle nodes) is acceptable = acceptable.acyclic nodes.items (cycle_simple p nodes.items is)
 reason_refutes p (Late job leaves chain times) is acceptable = (let within = acceptable.budgets job is.0.job _ leaves is.0.path in omega (arith, within, is.0.past))
 
+-- the plan that is judged, and the evidence against it
+pub judged_same : (p : PlannedShop) (verdict : Verdict) → OnAccepted (λ verified. (verified.planned ≡ p) × IsAcceptable p) verdict → OnRefused (λ back why. (back ≡ p) × IsReason p why) verdict → judged verdict ≡ p
+judged_same p (Accepted verified) accepted reasoned = accepted.0
+judged_same p (Refused back why) accepted reasoned = reasoned.0
+
+pub evident : (p : PlannedShop) (verdict : Verdict) → OnRefused (λ back why. (back ≡ p) × IsReason p why) verdict → OnRefused IsReason verdict
+evident p (Accepted verified) reasoned = tt
+evident p (Refused back why) (same, reason) = subst (λ (q : PlannedShop). IsReason q why) (sym same) reason
+
+-- there is one greatest length of the paths to a node
+pub greatest_once : (p : PlannedShop) (v : Node) (m n : ℕ) → IsGreatest p v m → IsGreatest p v n → m ≡ n
+greatest_once p v m n one other = omega (arith, other.longest one.reached.0 m one.reached.1, one.longest other.reached.0 n other.reached.1)
+
 -- a plan has one makespan
 pub makespan_le : (p : PlannedShop) (m n : ℕ) → IsMakespan p m → IsMakespan p n → m ≤ n
 makespan_le p m n one other = other.bound one.reached.0 one.reached.2 m one.reached.1 one.reached.3
 
 -- the earliest leaving of a job of an accepted plan
-pub verified_greatest : (v : VerifiedPlan) → IsVerified v → (j : ℕ) → j < jobs v.planned → IsGreatest v.planned (leaving v.planned j) (kept_at v (leaving v.planned j))
-verified_greatest v sound j inside = leaving_greatest v.planned v.times sound.ordered j inside
+pub verified_greatest : (v : VerifiedPlan) → IsVerified v → AreLeavings v.planned (leaves_in v.planned v.times)
+verified_greatest v sound = leavings_greatest v.planned v.times sound.ordered
 
 -- where all reports are exact, no job of an accepted plan is gone since before the kept moment of its leaving
 pub verified_never_before : (v : VerifiedPlan) → IsVerified v → (j : ℕ) → j < jobs v.planned → IsNeverGoneBefore v.planned j (kept_at v (leaving v.planned j))
@@ -128,11 +121,18 @@ verified_just_in_time v sound j inside rs es end run exact gone =
     let path = (verified_greatest v sound j inside).reached in
     just_in_time-holds v.planned (rank_in v) (kept_at v) rs es end sound.schedule run exact j path.0 path.1 gone
 
--- the latest of all leavings is the makespan
-pub latest_makespan : (v : VerifiedPlan) (n : ℕ) → IsVerified v → IsMakespanAfter v.planned (kept_at v) n → IsMakespan v.planned n
-latest_makespan v n sound last = record {
-  bound = λ j nodes k inside path. omega (arith, (verified_greatest v sound j inside).longest nodes k path, last.bound j inside);
-  reached = (let (j, inside, is) = last.reached in
-      let path = (verified_greatest v sound j inside).reached in
-      (j, inside, path.0, subst (Path v.planned path.0 (leaving v.planned j)) is path.1));
-}
+-- the last of the leavings is the makespan
+module _ (p : PlannedShop) (leaves : ℕ → ℕ) (n : ℕ) (are : AreLeavings p leaves) where
+  pub makespan_is : IsLastLeaving p leaves n → IsMakespan p n
+  makespan_is last = record {
+    bound = λ j nodes k inside path. omega (arith, (are j inside).longest nodes k path, last.bound j inside);
+    reached = (let (j, inside, is) = last.reached in
+        let (nodes, path) = (are j inside).reached in
+        (j, inside, nodes, subst (Path p nodes (leaving p j)) is path));
+  }
+
+  pub makespan_last : IsMakespan p n → IsLastLeaving p leaves n
+  makespan_last makespan = record { bound = none_later; reached = (let (j, inside, nodes, path) = makespan.reached in (j, inside, omega (arith, none_later j inside, (are j inside).longest nodes n path))) }
+    where
+      none_later : (j : ℕ) → j < jobs p → leaves j ≤ n
+      none_later j inside = (let (nodes, path) = (are j inside).reached in makespan.bound j nodes (leaves j) inside path)

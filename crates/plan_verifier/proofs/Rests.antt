@@ -34,13 +34,13 @@ module _ (p : PlannedShop) (c : Cell) (t : ℕ) (sound : IsSound p c) where
   some_same n m same = cc
 
   -- a bound of a node ahead is the length of a path ahead
-  pub later_path : (v : Node) (n m : ℕ) → IsLeftIn p c v → PathAhead p c t (v ∷ []) v n → (m ≡ n) ⊎ ((due : ℕ) × (cleaned_at p c v ≡ Some due) × (m ≡ due)) → PathAhead p c t (v ∷ []) v m
+  later_path : (v : Node) (n m : ℕ) → IsLeftIn p c v → PathAhead p c t (v ∷ []) v n → (m ≡ n) ⊎ ((due : ℕ) × (cleaned_at p c v ≡ Some due) × (m ≡ due)) → PathAhead p c t (v ∷ []) v m
   later_path v n m left path (inl same) = subst (λ k. PathAhead p c t (v ∷ []) v k) (sym same) path
   later_path v n m left path (inr (due, told, same)) =
       let (machine, going, holds) = cleaned_holds p c v due told in
       subst (λ k. PathAhead p c t (v ∷ []) v k) (sym same) (held (Cleaning machine) due v going holds)
 
-  pub next_path : (v : Node) (n : ℕ) → IsNode p v → made c v.job ≡ v.place → (n ≡ t) ⊎ ((due : ℕ) × (due_of_job p v.job (job_in c v.job) ≡ Some due) × (n ≡ due)) → PathAhead p c t (v ∷ []) v n
+  next_path : (v : Node) (n : ℕ) → IsNode p v → made c v.job ≡ v.place → (n ≡ t) ⊎ ((due : ℕ) × (due_of_job p v.job (job_in c v.job) ≡ Some due) × (n ≡ due)) → PathAhead p c t (v ∷ []) v n
   next_path v n is next (inl same) = subst (λ k. PathAhead p c t (v ∷ []) v k) (sym same) (now v is (omega arith))
   next_path v n is next (inr (due, told, same)) =
       let here : v ≡ next_node c v.job = node_same v (next_node c v.job) refl (sym next) in
@@ -49,7 +49,7 @@ module _ (p : PlannedShop) (c : Cell) (t : ℕ) (sound : IsSound p c) where
         | inr (m, works) ↦ held (Operation v.job m) due v works here
       ])
 
-  bound_path : (v : Node) (n : ℕ) → IsNode p v → IsAhead c v → bound_of b v ≡ Some n → PathAhead p c t (v ∷ []) v n
+  pub bound_path : (v : Node) (n : ℕ) → IsNode p v → IsAhead c v → bound_of b v ≡ Some n → PathAhead p c t (v ∷ []) v n
   bound_path v n is ahead told = elim (cases_order v.place (made c v.job)) [
     | inl same ↦ (
         let left : IsLeftIn p c v = record { ahead = ahead; job = is.job; place = is.place } in

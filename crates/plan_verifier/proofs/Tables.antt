@@ -18,6 +18,14 @@ use Rattle.alt_graph.specs.Bounds.{bound_of, IsAheadOf, AreRooted}
 use Rattle.plan_verifier.specs.CellBounds.{rest_bounds, bound_in, held_to, is_next_in, cleaned_at}
 use Rattle.plan_verifier.specs.Held.{later_than}
 
+-- what a table of bounds tells of a node
+pub told_by : (p : PlannedShop) (bound : Node → Option ℕ) (v : Node) → IsNode p v
+    → get_or (get_or (map (λ j. map (λ k. bound (node j k)) (range_with_len 0 (steps p j + 1))) (range_with_len 0 (jobs p))) v.job []) v.place None ≡ bound v
+told_by p bound v is =
+    ap (λ (row : List (Option ℕ)). get_or row v.place None)
+    (get_or-map-range_with_len (λ j. map (λ k. bound (node j k)) (range_with_len 0 (steps p j + 1))) 0 (jobs p) v.job v.job [] is.job (omega arith))
+    ∙ get_or-map-range_with_len (λ k. bound (node v.job k)) 0 (steps p v.job + 1) v.place v.place None (omega (arith, is.place)) (omega arith)
+
 module _ (p : PlannedShop) (c : Cell) (t : ℕ) where
   -- a passed node has the moment of its job's last move
   pub bound_passed : (v : Node) → v.place < made c v.job → bound_in p c t v ≡ Some (since c v.job)
@@ -36,10 +44,7 @@ module _ (p : PlannedShop) (c : Cell) (t : ℕ) where
     made_told j inside = get_or-map (λ (s : JobState). s.made) c.jobs j absent 0 (omega (arith, sound.job_count))
 
     pub bound_told : (v : Node) → IsNode p v → bound_of (rest_bounds p c t) v ≡ bound_in p c t v
-    bound_told v is =
-        ap (λ (row : List (Option ℕ)). get_or row v.place None)
-        (get_or-map-range_with_len (λ j. map (λ k. bound_in p c t (node j k)) (range_with_len 0 (steps p j + 1))) 0 (jobs p) v.job v.job [] is.job (omega arith))
-        ∙ get_or-map-range_with_len (λ k. bound_in p c t (node v.job k)) 0 (steps p v.job + 1) v.place v.place None (omega (arith, is.place)) (omega arith)
+    bound_told v is = told_by p (bound_in p c t) v is
 
     -- a node is ahead by the table where it is in the cell
     pub ahead_of : (v : Node) → v.job < jobs p → IsAhead c v → IsAheadOf (rest_bounds p c t) v

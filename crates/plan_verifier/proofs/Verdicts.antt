@@ -1,61 +1,48 @@
 -- The verdict on a rest: what is late, what is accepted, and what that says of the runs that go on.
-use Rattle.std.proofs.Common.{◌≡◌, ◌↔◌, ℕ, ◌+◌, ◌<◌, ◌≤◌, List, length, arith, sym, subst, ◌∙◌}
-use Rattle.std.proofs.lemmas.List.{length_push}
+use Rattle.std.proofs.Common.{◌↔◌, ℕ, ◌<◌, ◌≤◌, List, length, Result, Ok, Err, IfOk, arith}
 use Rattle.shop_base.specs.declared.node.Node.{Node}
 use Rattle.shop_base.specs.Plan.{PlannedShop, jobs, budget, IsWellShaped}
 use Rattle.shop_base.specs.Cell.{Cell, IsGone}
-use Rattle.shop_base.specs.Graph.{leaving, IsNode, RanksRise}
+use Rattle.shop_base.specs.Graph.{leaving}
 use Rattle.shop_base.specs.CycleLaw.{AreNeverMade}
-use Rattle.shop_base.specs.Ahead.{PathAhead, now, held, onward}
+use Rattle.shop_base.specs.Ahead.{PathAhead}
+use Rattle.alt_graph.specs.Evidence.{node_count}
 use Rattle.alt_graph.specs.Times.{NodeTimes, rank_of, earliest_of, IsPathFromBy}
 use Rattle.alt_graph.proofs.CycleParts.{cycle_simple, cycle_stops}
 use Rattle.alt_graph.proofs.WholePlans.{cycle_has}
 use Rattle.plan_verifier.specs.FromThere.{IsNeverInBudgetFrom, IsNeverDoneFrom}
-use Rattle.plan_verifier.specs.Rest.{AreOrderedAhead, IsChainAhead}
+use Rattle.plan_verifier.specs.Rest.{AreOrderedAhead}
 use Rattle.plan_verifier.specs.RestVerdicts.{IsAcceptableAhead, IsAcceptedAhead, IsFirstLateAhead, IsReasonAhead, IsRestAccepted, OnRestRefused, OnRestCycle, OnRestTimes}
 use Rattle.plan_verifier.specs.declared.verdict.Judged.{Judged}
 use Rattle.plan_verifier.specs.declared.verdict.Judged.TheVariants.{Accepted, Refused}
 use Rattle.plan_verifier.specs.declared.verdict.Why.TheVariants.{Cycle, Late}
-use Rattle.plan_verifier.proofs.Acceptable.{acyclic, within_budget}
+use Rattle.plan_verifier.proofs.Acceptable.{leaving_node, acyclic, within_budget}
 use Rattle.plan_verifier.proofs.GoingOn.{leaving_ahead, never_gone_before, never_done_just, late_just, cycle_never_done}
-use Rattle.plan_verifier.proofs.PathsAhead.{ahead_ends, ahead_some}
-
--- a path ahead has no more nodes than its last one's rank and one
-path_few : (p : PlannedShop) (c : Cell) (t : ℕ) (rank : Node → ℕ) (nodes : List Node) (v : Node) (n : ℕ) → RanksRise p rank → PathAhead p c t nodes v n → length nodes ≤ rank v + 1
-path_few p c t rank _ _ _ rise (now v is ahead) = omega arith
-path_few p c t rank _ _ _ rise (held a due v going holds) = omega arith
-path_few p c t rank _ _ _ rise (onward nodes u v n d path arc) = omega (arith, path_few p c t rank nodes u n rise path, rise u v d arc, length_push nodes v)
+use Rattle.plan_verifier.proofs.PathsAhead.{along_greatest}
 
 module _ (p : PlannedShop) (c : Cell) (t : ℕ) (times : NodeTimes) (ordered : AreOrderedAhead p c t times) where
   abbrev kept : Node → ℕ
   kept = earliest_of times
 
-  -- a path ahead as long as the moment of its end is evidence of it
-  path_chain : (nodes : List Node) (v : Node) → IsNode p v → PathAhead p c t nodes v (kept v) → IsChainAhead p c t nodes (kept v)
-  path_chain nodes v is path = record {
-    few = omega (arith, path_few p c t (rank_of times) nodes v (kept v) ordered.schedule.ranks path, ordered.ranks.few v is);
-    path = (v, path);
-    greatest = λ w k other. (
-        let (i, end) = ahead_some p c t nodes v (kept v) path in
-        let same : w ≡ v = sym (ahead_ends p c t nodes w k i other end) ∙ ahead_ends p c t nodes v (kept v) i path end in
-        ordered.greatest nodes v k (subst (λ (u : Node). PathAhead p c t nodes u k) same other));
-  }
-
   pub first_late : (j : ℕ) (nodes : List Node) → j < jobs p → (IsGone p c j → ⊥) → budget p j < kept (leaving p j)
-      → ((i : ℕ) → i < j → (IsGone p c i → ⊥) → kept (leaving p i) ≤ budget p i) → IsPathFromBy times (leaving p j) nodes → IsFirstLateAhead p c t j (kept (leaving p j)) nodes
-  first_late j nodes inside here past before chain =
-      let is : IsNode p (leaving p j) = record { job = inside; place = omega arith } in
-      let (path, begins) = ordered.chains nodes (leaving p j) is (leaving_ahead p c j here) chain in
+      → ((i : ℕ) → i < j → (IsGone p c i → ⊥) → kept (leaving p i) ≤ budget p i) → IsPathFromBy times (leaving p j) nodes → length nodes ≤ node_count p
+      → IsFirstLateAhead p c t j (kept (leaving p j)) nodes
+  first_late j nodes inside here past before chain few =
+      let (path, begins) = ordered.chains nodes (leaving p j) (leaving_node p j inside) (leaving_ahead p c j here) chain in
       record {
-        acyclic = acyclic p c t (rank_of times) kept ordered.schedule.ranks ordered.greatest;
+        acyclic = acyclic p (rank_of times) ordered.schedule.ranks;
         job = inside;
         here = here;
-        before = λ i lt still. within_budget p c t (rank_of times) kept ordered.schedule.ranks ordered.greatest i (before i lt still);
+        before = λ i lt still. within_budget p (PathAhead p c t) kept ordered.greatest i (before i lt still);
         greatest = record { reached = (nodes, path); longest = λ others k other. ordered.greatest others (leaving p j) k other };
         past = past;
         path = path;
         begins = begins;
-        evidence = path_chain nodes (leaving p j) is path;
+        evidence = record {
+          few = few;
+          path = (leaving p j, path);
+          greatest = along_greatest p c t nodes (leaving p j) (kept (leaving p j)) path (λ k other. ordered.greatest nodes (leaving p j) k other);
+        };
       }
 
 -- a reason for a refusal leaves no rest to be accepted
@@ -71,11 +58,12 @@ verdict_exact p c t (Accepted times) accepted reason = (λ _. accepted.1, λ _. 
 verdict_exact p c t (Refused why) accepted reason = (λ says. absurd says, λ is. reason_refutes p c t (Refused why) reason is)
 
 -- it has earliest moments or a cycle
-pub verdict_times : (p : PlannedShop) (c : Cell) (t : ℕ) (P : NodeTimes → Type 0) (verdict : Judged) → ((times : NodeTimes) → AreOrderedAhead p c t times → P times)
-    → IsAcceptedAhead p c t verdict → IsReasonAhead p c t verdict → OnRestTimes P verdict
-verdict_times p c t P (Accepted times) holds accepted reason = holds times accepted.0
-verdict_times p c t P (Refused (Cycle nodes)) holds accepted reason = tt
-verdict_times p c t P (Refused (Late job leaves chain times)) holds accepted reason = holds times reason.1
+pub verdict_times : {E : Type 0} (p : PlannedShop) (c : Cell) (t : ℕ) (P : NodeTimes → Type 0) (judged : Result Judged E) → ((times : NodeTimes) → AreOrderedAhead p c t times → P times)
+    → IfOk judged (IsAcceptedAhead p c t) → IfOk judged (IsReasonAhead p c t) → IfOk judged (OnRestTimes P)
+verdict_times p c t P (Ok (Accepted times)) holds accepted reason = holds times accepted.0
+verdict_times p c t P (Ok (Refused (Cycle nodes))) holds accepted reason = tt
+verdict_times p c t P (Ok (Refused (Late job leaves chain times))) holds accepted reason = holds times reason.1
+verdict_times p c t P (Err e) holds accepted reason = tt
 
 pub verdict_stops : (p : PlannedShop) (c : Cell) (t : ℕ) (verdict : Judged) → IsWellShaped p → IsReasonAhead p c t verdict → OnRestCycle (λ nodes. AreNeverMade p nodes × IsNeverDoneFrom p c) verdict
 verdict_stops p c t (Accepted times) shaped reason = tt

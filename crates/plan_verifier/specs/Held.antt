@@ -2,7 +2,8 @@
 use Rattle.std.specs.Prelude.{◌≡◌, ℕ, ◌<◌, ◌≤◌, ◌⊎◌, List, [], ◌∷◌, length, Option, None, Some, max, nat_lt, if◌then◌else◌, true}
 use Rattle.shop_base.specs.declared.node.Node.{Node}
 use Rattle.shop_base.specs.Plan.{PlannedShop, nominal, clean, Stands}
-use Rattle.shop_base.specs.Cell.{Cell, made, ready, since, entries, IsOutside, IsOn}
+use Rattle.shop_base.specs.declared.limits.TheConstants.{MAX_MOMENT}
+use Rattle.shop_base.specs.Cell.{Cell, made, ready, since, entries, cleaning, IsOutside, IsOn}
 use Rattle.shop_base.specs.Activity.{Cleaning, GoesOn, IsAwaited, IsWorked, IsCleaned}
 use Rattle.shop_base.specs.Graph.{IsNode}
 use Rattle.shop_base.specs.Ahead.{next_node, HoldsUp}
@@ -60,3 +61,7 @@ GoesBefore one other = (other.moment < one.moment) ⊎ ((one.moment ≡ other.mo
 pub record IsBoundOf (p : PlannedShop) (c : Cell) (t : ℕ) (v : Node) (b : NodeBound) : Type 0 where
   pub told : IsToldOf p c t v b
   pub first : (other : NodeBound) → IsToldOf p c t v other → GoesBefore b other
+
+-- each cleaning that goes on began at a moment within the limit
+abbrev pub AreBegun : Cell → Type 0
+AreBegun c = (m s : ℕ) → cleaning c m ≡ Some s → s ≤ MAX_MOMENT

@@ -1,6 +1,7 @@
 -- Reached by public clauses: to be read and believed.
 pub mod Accepted
 pub mod Verdicts
+pub mod Seen
 pub mod ByDeadlines
 pub mod Held
 pub mod Rest

@@ -34,7 +34,7 @@ pub(crate) fn is_next<P: Planned>(cell: &WorkCell<P>, machine: MachineNo, job: J
 
 /// When the cleaning of the machine that the node's job enters by it is due, if it is the next entry there and the
 /// machine is being cleaned.
-pub(crate) fn cleaned_by<P: Planned>(cell: &WorkCell<P>, node: Node) -> Option<Moment>
+fn cleaned_by<P: Planned>(cell: &WorkCell<P>, node: Node) -> Option<Moment>
     requires { IsNode cell.now.plan node }
     ensures due { result ≡ cleaned_at cell.now.plan cell.now.cell node }
     ensures limited { IfSome result (λ due. due ≤ MAX_BOUND) }
@@ -50,7 +50,7 @@ pub(crate) fn cleaned_by<P: Planned>(cell: &WorkCell<P>, node: Node) -> Option<M
 }
 
 /// The later of a moment and of another, if there is one.
-pub(crate) fn later_of(one: Moment, other: Option<Moment>) -> Moment
+fn later_of(one: Moment, other: Option<Moment>) -> Moment
     ensures { result ≡ later_than one other }
 {
     match other {

@@ -8,7 +8,7 @@ ghost use Rattle.plan_verifier.specs.FromThere.{IsNeverGoneBeforeFrom};
 ghost use Rattle.plan_verifier.specs.PathBounds.{path_bounds};
 ghost use Rattle.plan_verifier.specs.Rest.{IsChainAhead};
 
-use crate::cell_bounds::{cleaned_by, later_of};
+use crate::cell_bounds::CellBounds;
 use alt_graph::{Bounds, check_chain_from};
 use cell_tables::WorkCell;
 use shop_base::{Moment, Node, Planned};
@@ -27,40 +27,31 @@ pub fn check_chain_after<P: Planned>(
     ensures no_faster { let p = cell.now.plan in
         IfSome result (λ n. (j : ℕ) → EndsIn nodes.now (leaving p j) → IsNeverGoneBeforeFrom p cell.now.cell present j n) }
 {
-    check_chain_from(cell.shaped(), &PathBounds { cell, present }, nodes)
+    let rest = CellBounds { cell, present };
+    check_chain_from(cell.shaped(), &PathBounds { rest }, nodes)
 }
 
 /// Where a path ahead can begin, and at which moment it begins there at the latest.
 #[derive(Drop)]
 struct PathBounds<'a, P: Planned> {
-    pub cell: &'a WorkCell<P>,
-    pub present: Moment,
-    ghost in_range: { present ≤ MAX_MOMENT },
+    pub rest: CellBounds<'a, P>,
 }
 
 impl<'a, P: Planned> Bounds for PathBounds<'a, P> {
-    ghost planned = { λ b. b.cell.now.plan };
+    ghost planned = { λ b. b.rest.cell.now.plan };
 
-    ghost bounds = { λ b. path_bounds b.cell.now.plan b.cell.now.cell b.present };
+    ghost bounds = { λ b. path_bounds b.rest.cell.now.plan b.rest.cell.now.cell b.rest.present };
 
     fn is_ahead(&self, node: Node) -> bool {
-        // Called for its clause alone: the cell is sound.
-        let _plan = self.cell.shaped();
-        self.cell.job_state(node.job).made <= node.place
+        self.rest.is_ahead(node)
     }
 
     fn bound(&self, node: Node) -> Option<Moment> {
         // Called for its clause alone: the cell is sound.
-        let _plan = self.cell.shaped();
-        let made = self.cell.job_state(node.job).made;
-        if node.place < made {
+        let _plan = self.rest.cell.shaped();
+        if !self.rest.is_ahead(node) {
             return None;
         }
-        let cleaned = cleaned_by(self.cell, node);
-        if made < node.place {
-            return Some(later_of(self.present, cleaned));
-        }
-        let moment = later_of(self.present, self.cell.job_due(node.job));
-        Some(later_of(moment, cleaned))
+        Some(self.rest.bound(node).unwrap_or(self.rest.present))
     }
 }

@@ -7,7 +7,7 @@ ghost use Rattle.shop_base.specs.Graph.{leaving};
 ghost use Rattle.alt_graph.specs.Bounds.{IsAheadOf};
 ghost use Rattle.alt_graph.specs.Times.{AreRanks, earliest_of};
 ghost use Rattle.plan_verifier.specs.FromBounds.{MeetBudgetsFrom, IsFirstPastFrom};
-ghost use Rattle.plan_verifier.specs.Leavings.{IsMakespanAfter, LeavesLast};
+ghost use Rattle.plan_verifier.specs.Leavings.{leaves_in, IsLastLeaving, LeavesLast};
 
 use alt_graph::{Bounds, Times};
 use cell_tables::WorkCell;
@@ -40,7 +40,7 @@ pub fn leaving_of<P: Planned>(plan: &P, job: JobNo) -> Node
 /// The latest of all jobs' leavings.
 pub fn makespan<P: Planned>(plan: &P, times: &Times) -> Moment
     requires { AreRanks (P.planned plan.now) times.now }
-    ensures { IsMakespanAfter (P.planned plan.now) (earliest_of times.now) result }
+    ensures { let p = P.planned plan.now in IsLastLeaving p (leaves_in p times.now) result }
 {
     let mut makespan = 0;
     for job in 0..plan.shaped().job_count() {
@@ -89,7 +89,7 @@ fn is_late<B: Bounds>(shaped: &Shaped, bounds: &B, times: &Times, job: JobNo) ->
 pub fn last_to_leave<P: Planned>(cell: &WorkCell<P>, times: &Times) -> Option<JobNo>
     requires { AreRanks cell.now.plan times.now }
     ensures { let p = cell.now.plan in let c = cell.now.cell in
-        MatchOption result ((j : ℕ) → j < jobs p → IsGone p c j) (LeavesLast p c (earliest_of times.now)) }
+        MatchOption result ((j : ℕ) → j < jobs p → IsGone p c j) (LeavesLast p c (leaves_in p times.now)) }
 {
     let mut last = None;
     for job in 0..cell.job_count() {
@@ -110,8 +110,9 @@ fn later_to_leave<P: Planned>(
     requires ranks { AreRanks cell.now.plan times.now }
     requires one { IfSome one (λ j. j < jobs cell.now.plan) }
     requires other { other < jobs cell.now.plan }
-    ensures { let p = cell.now.plan in let kept = earliest_of times.now in
-        MatchOption one (result ≡ other) (λ j. ((kept (leaving p j) < kept (leaving p other)) × (result ≡ other)) ⊎ ((kept (leaving p other) ≤ kept (leaving p j)) × (result ≡ j))) }
+    ensures { let leaves = leaves_in cell.now.plan times.now in
+        MatchOption one (result ≡ other)
+        (λ j. ((leaves j < leaves other) × (result ≡ other)) ⊎ ((leaves other ≤ leaves j) × (result ≡ j))) }
 {
     match one {
         Some(job) => {

@@ -8,6 +8,7 @@
 mod cell_bounds;
 mod chain_check;
 mod deadlines;
+mod in_range;
 mod judging;
 pub mod laws;
 mod leavings;
@@ -20,9 +21,10 @@ mod verifying;
 
 pub use chain_check::check_chain_after;
 pub use deadlines::deadlines_after;
+pub use in_range::cleanings_in_range;
 pub use leavings::{last_to_leave, later, leave_time, leaving_of, makespan};
 pub use node_bound::{Hold, NodeBound, bound_after};
 pub use solving::solve_after;
-pub use verdict::{Judged, Verdict, Why};
+pub use verdict::{Judged, Seen, Verdict, Why};
 pub use verified::Verified;
 pub use verifying::{verify, verify_after};

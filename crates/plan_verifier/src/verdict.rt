@@ -1,3 +1,8 @@
+ghost use Rattle.std.specs.Prelude.{◌≡◌};
+ghost use Rattle.plan_verifier.specs.Accepted.{IsVerified};
+ghost use Rattle.plan_verifier.specs.Seen.{lent, judged, as_rest};
+ghost use Rattle.plan_verifier.specs.Verdicts.{OnAccepted};
+
 use crate::verified::Verified;
 use alt_graph::Times;
 use shop_base::{JobNo, Moment, Node, Shaped};
@@ -40,4 +45,51 @@ pub enum Why {
         chain: Vec<Node>,
         times: Times,
     },
+}
+
+/// A verdict, lent: one on a whole plan is lent as that on the rest of a run that hasn't begun.
+#[derive(Clone, Copy)]
+pub enum Seen<'a> {
+    /// The ranks of all nodes, and the earliest moments of those ahead.
+    Accepted(&'a Times),
+    Refused(&'a Why),
+}
+
+impl Verdict {
+    /// The verdict, lent.
+    pub fn seen(&self) -> Seen<'_>
+        ensures same { lent result ≡ as_rest self.now }
+        ensures verified { OnAccepted IsVerified self.now }
+    {
+        match self {
+            Verdict::Accepted(verified) => {
+                // Called for its clause alone: the plan is verified.
+                let _plan = verified.shaped();
+                Seen::Accepted(verified.times())
+            }
+            Verdict::Refused(_, why) => Seen::Refused(why),
+        }
+    }
+
+    /// The plan that is judged.
+    pub fn shaped(&self) -> &Shaped
+        ensures { result.now ≡ judged self.now }
+    {
+        match self {
+            Verdict::Accepted(verified) => verified.shaped(),
+            Verdict::Refused(shaped, _) => shaped,
+        }
+    }
+}
+
+impl Judged {
+    /// The verdict, lent.
+    pub fn seen(&self) -> Seen<'_>
+        ensures { lent result ≡ self.now }
+    {
+        match self {
+            Judged::Accepted(times) => Seen::Accepted(times),
+            Judged::Refused(why) => Seen::Refused(why),
+        }
+    }
 }

@@ -3,7 +3,7 @@
 use crate::rests::shaped_as;
 use crate::told::Told;
 use plan_improve::{
-    AnnealingImprover, ImproveRestFault, Improved, Improver, MAX_ROUNDS, Rest, improve_after,
+    AnnealingImprover, ImproveFault, Improved, Improver, MAX_ROUNDS, Rest, improve_after,
 };
 use plan_text::{PlanFault, plan_document};
 use plan_verifier::Judged;
@@ -97,7 +97,7 @@ fn given_back(
     alloc: Global,
     log: &[u8],
     rounds: u32,
-) -> Result<Option<(bool, ImproveRestFault)>, Fail> {
+) -> Result<Option<(bool, ImproveFault)>, Fail> {
     let start = shaped_as(alloc, RUSH, AT_THE_END)?;
     let questions = Rc::new(alloc, Cell::new(0))?;
     let improvers = improvers(alloc, &questions)?;
@@ -147,9 +147,9 @@ fn a_rest_is_shortened(rt: HostRuntime) -> Result<(), Fail> {
 #[test]
 fn a_plan_comes_back_with_the_fault(rt: HostRuntime) -> Result<(), Fail> {
     let rounds = given_back(rt.alloc(), LOG, MAX_ROUNDS + 1)?;
-    assert!(rt; rounds == Some((true, ImproveRestFault::TooManyRounds)));
+    assert!(rt; rounds == Some((true, ImproveFault::TooManyRounds)));
     let log = given_back(rt.alloc(), b"report 0 finish 0 0\n", 0)?;
     let why = AuditFault::NotExpected { line: 1 };
-    assert!(rt; log == Some((true, ImproveRestFault::Log(why))));
+    assert!(rt; log == Some((true, ImproveFault::Log(why))));
     Ok(())
 }

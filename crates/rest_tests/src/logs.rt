@@ -41,8 +41,8 @@ fn is_told(alloc: Global, cell: &WorkCell<Shaped>, present: Moment) -> Result<bo
         return Ok(false);
     }
     let verdict = verify_after(alloc, cell, present)?;
-    let explained = explain_after(alloc, cell, present, &verdict)?;
-    let scheduled = schedule_after(alloc, cell, present, &verdict)?;
+    let explained = explain_after(alloc, cell, present, verdict.seen())?;
+    let scheduled = schedule_after(alloc, cell, present, verdict.seen())?;
     Ok(explained.as_slice() == EXPLAINED && scheduled.as_slice() == SCHEDULED)
 }
 

@@ -17,5 +17,8 @@ returns-in-Ok g c =
 
 pub returns-in-Err : goal.returns-in-Err
 returns-in-Err g c =
-    no_best_is (Rounds whole_plan (λ b. (goal.Improver-dyn g (b.vtable, b.value)).may b.value) c.args.improvers.now c.args.rounds) c.args.rounds c.args.start c.in-Err.refused.fault c.unimproved_answer.result
-    c.in-Err.ensures.refused c.unimproved_answer.ensures
+    no_best_is (Rounds whole_plan (λ b. (goal.Improver-dyn g (b.vtable, b.value)).may b.value) c.args.improvers.now c.args.rounds) c.args.rounds c.args.start c.in-Err.refused.fault c.unfound_answer.result
+    c.in-Err.ensures.refused c.unfound_answer.ensures
+
+pub unfound_answer-requires : goal.unfound_answer-requires
+unfound_answer-requires g c = λ large. rw large at c.in-Err.ensures.refused

@@ -16,5 +16,5 @@ push_chain_lines-requires-clause-chain g c = record {
 
 pub returns : goal.returns
 returns g c =
-    moment_lines c.args.cell.now.plan c.args.cell.now.cell c.args.present c.args.times.now (λ kept. AreRestChainLines c.args.cell.now.plan c.args.cell.now.cell c.args.present c.args.chain.now)
+    moment_lines c.args.cell.now.plan c.args.cell.now.cell c.args.present c.args.times.now (λ leaves. AreRestChainLines c.args.cell.now.plan c.args.cell.now.cell c.args.present c.args.chain.now)
     c.push_chain_lines.result _ _ _ c.requires.ordered c.in_ok-push_leaving_lines.ensures c.push_chain_lines.ensures

@@ -1,14 +1,19 @@
-use Rattle.std.proofs.Common.{ap, ◌∙◌}
+use Rattle.std.proofs.Common.{◌≡◌, inr, ap, subst, ◌∙◌}
+use Rattle.shop_base.specs.Plan.{PlannedShop}
+use Rattle.shop_base.specs.Vectors.{lists_of}
+use Rattle.alt_graph.specs.Solved.{HasCycle}
 use Rattle.plan_seek.specs.Orders.{serial_order}
 use Rattle.plan_improve.specs.Reordered.{reordered}
-use Rattle.plan_improve.proofs.Serially.{serial_fits}
-use Rattle.plan_improve.proofs.Searched.{serial_costs}
+use Rattle.plan_improve.proofs.Serially.{serial_fits, serial_acyclic}
+use Rattle.plan_improve.proofs.Standing.{stands_reached, stands_on, fresh_begins}
 use Rattle.plan_improve.proofs.beginning.first_serially.Goals as goal
 
-pub put_back-serial-requires : goal.put_back-serial-requires
-put_back-serial-requires c = serial_fits c.args.start _ _ c.shop.ensures.well_shaped c.shop.ensures.same c.in-Ok.ensures
+pub reorder_by-serial-requires-clause-reached : goal.reorder_by-serial-requires-clause-reached
+reorder_by-serial-requires-clause-reached c = stands_reached c.args.fixed.now c.args.start.plan c.args.start.cell c.requires.stands
 
-pub unreachable-requires : goal.unreachable-requires
-unreachable-requires c =
-    serial_costs c.args.fixed.now c.args.start c.put_back-serial.result c.shop.ensures.well_shaped (c.requires.event.0 c.if-has_event.false)
-    (c.put_back-serial.ensures ∙ ap (reordered c.args.start) (c.in-Ok.ensures ∙ ap serial_order c.shop.ensures.same)) (rw c.in-Ok-None.field-0-is at c.in-Ok-None.ensures)
+pub reorder_by-serial-requires-clause-shaped : goal.reorder_by-serial-requires-clause-shaped
+reorder_by-serial-requires-clause-shaped c = ?
+
+pub reorder_by-serial-requires-clause-begins : goal.reorder_by-serial-requires-clause-begins
+reorder_by-serial-requires-clause-begins c =
+    fresh_begins c.args.fixed.now c.args.start.plan (reordered c.args.start.plan (lists_of c.in-Ok.order.items)) c.args.start.cell c.requires.stands (c.requires.event.0 c.if-has_event.false)

@@ -4,8 +4,7 @@ use Rattle.plan_improve.proofs.costing.cost_from.Goals as goal
 
 pub cost_in-requires-clause-soon : goal.cost_in-requires-clause-soon
 cost_in-requires-clause-soon g c =
-    leave_soon c.args.cell.now.plan c.args.cell.now.cell c.args.present c.shaped-plan.ensures.sound c.shaped-plan.ensures.well_shaped c.cleanings_in_range.ensures c.requires
-    c.in-Ordered.times (rw c.in-Ordered.is at c.in_ok-times.ensures.ordered)
+    leave_soon c.args.cell.now.plan c.args.cell.now.cell c.args.present c.in-Ordered.times c.shaped-plan.ensures.sound c.cleanings_in_range.ensures c.requires (rw c.in-Ordered.is at c.in_ok-times.ensures.ordered)
 
 pub returns-in-Ordered : goal.returns-in-Ordered
 returns-in-Ordered g c =

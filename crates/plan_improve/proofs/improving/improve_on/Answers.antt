@@ -1,24 +1,33 @@
+use Rattle.std.proofs.Common.{◌≡◌, ◌↔◌, IfOk, sym, subst}
+use Rattle.shop_base.specs.Plan.{PlannedShop}
+use Rattle.plan_verifier.specs.Accepted.{IsAcceptable}
+use Rattle.plan_verifier.specs.Seen.{judged}
+use Rattle.plan_verifier.specs.Verdicts.{SaysAccepted}
+use Rattle.plan_verifier.proofs.Answers.{ok_both, ok_each}
+use Rattle.plan_verifier.proofs.Reasons.{judged_same, evident}
+use Rattle.plan_improve.specs.Keeping.{Comes, IsSearched}
 use Rattle.plan_improve.specs.Settings.{whole_plan}
 use Rattle.plan_improve.specs.Runs.{RoundsTold}
 use Rattle.plan_improve.proofs.Once.{nothing_fixed}
-use Rattle.plan_improve.proofs.Ended.{searched_answer, exact_answer, reason_answer, refused_answer}
+use Rattle.plan_improve.proofs.Ended.{came_on, back_same}
 use Rattle.plan_improve.proofs.improving.improve_on.Goals as goal
 
 pub search-requires-clause-fixed : goal.search-requires-clause-fixed
-search-requires-clause-fixed g c = nothing_fixed c.args.start c.least_makespan-at_least.result.at_least (c.least_makespan-at_least.result.by, c.least_makespan-at_least.ensures)
+search-requires-clause-fixed g c =
+    rw c.in_ok-cell.ensures.start (nothing_fixed c.args.start c.least_makespan-at_least.result.at_least (c.least_makespan-at_least.result.by, c.least_makespan-at_least.ensures))
 
-pub returns-clause-searched : goal.returns-clause-searched
-returns-clause-searched g c = searched_answer (g.W.Watch.told c.args.watch.now) (g.W.Watch.told c.search.new.watch)
-    (RoundsTold whole_plan (λ b. (goal.Improver-dyn g (b.vtable, b.value)).may b.value) c.args.improvers.now c.args.rounds) c.args.start c.in_ok-best.best c.in_ok-best.ensures.comes c.verify.result c.verify.ensures.accepted c.verify.ensures.refused
-
-pub returns-clause-exact : goal.returns-clause-exact
-returns-clause-exact g c = exact_answer (g.W.Watch.told c.args.watch.now) (g.W.Watch.told c.search.new.watch)
-    (RoundsTold whole_plan (λ b. (goal.Improver-dyn g (b.vtable, b.value)).may b.value) c.args.improvers.now c.args.rounds) c.args.start c.in_ok-best.best c.in_ok-best.ensures.comes c.verify.result c.verify.ensures.accepted c.verify.ensures.refused c.verify.ensures.exact
-
-pub returns-clause-reason : goal.returns-clause-reason
-returns-clause-reason g c = reason_answer (g.W.Watch.told c.args.watch.now) (g.W.Watch.told c.search.new.watch)
-    (RoundsTold whole_plan (λ b. (goal.Improver-dyn g (b.vtable, b.value)).may b.value) c.args.improvers.now c.args.rounds) c.args.start c.in_ok-best.best c.in_ok-best.ensures.comes c.verify.result c.verify.ensures.refused
-
-pub returns-clause-handed_back : goal.returns-clause-handed_back
-returns-clause-handed_back g c = refused_answer (g.W.Watch.told c.args.watch.now) (g.W.Watch.told c.search.new.watch)
-    (RoundsTold whole_plan (λ b. (goal.Improver-dyn g (b.vtable, b.value)).may b.value) c.args.improvers.now c.args.rounds) c.args.start c.in_ok-best.best c.in_ok-best.ensures.comes c.verify.result c.verify.ensures.handed_back
+pub returns : goal.returns
+returns g c =
+    let before = g.W.Watch.told c.args.watch.now in
+    let after = g.W.Watch.told c.search.new.watch in
+    let made = RoundsTold whole_plan (λ b. (goal.Improver-dyn g (b.vtable, b.value)).may b.value) c.args.improvers.now c.args.rounds in
+    let p = c.plan_of.result in
+    let comes : Comes whole_plan before after made c.args.start p = rw c.plan_of.ensures (rw c.in_ok-cell.ensures.start at c.in_ok-best.ensures.comes.0) in
+    let verdict = c.verify.result in
+    let same : IfOk verdict (λ told. judged told ≡ p) = ok_both verdict (λ told is refused. judged_same p told is refused) c.verify.ensures.accepted c.verify.ensures.refused in
+    record {
+      searched = ok_each verdict (λ told is. subst (IsSearched whole_plan before after made c.args.start) (sym is) (came_on before after made c.args.start p comes)) same;
+      exact = ok_both verdict (λ told is exact. subst (λ (x : PlannedShop). SaysAccepted told ↔ IsAcceptable x) (sym is) exact) same c.verify.ensures.exact;
+      reason = ok_each verdict (λ told refused. evident p told refused) c.verify.ensures.refused;
+      handed_back = back_same before after made c.args.start p verdict comes c.verify.ensures.handed_back;
+    }

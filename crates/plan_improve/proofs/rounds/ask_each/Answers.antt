@@ -6,25 +6,25 @@ use Rattle.plan_improve.proofs.Keeping.{at_bound, one_more_asked, nobody_asked, 
 use Rattle.plan_improve.proofs.rounds.ask_each.Goals as goal
 
 pub loop-improver-init : goal.loop-improver-init
-loop-improver-init g c = nobody_asked c.args.fixed.now (λ b. (goal.Improver-dyn g (b.vtable, b.value)).may b.value) c.args.improvers.now c.args.round c.args.best c.requires.cost
+loop-improver-init g c = nobody_asked c.args.fixed.now (λ b. (goal.Improver-dyn g (b.vtable, b.value)).may b.value) c.args.improvers.now c.args.round c.args.best c.requires.stands c.requires.cost
 
 pub ask_one-requires-clause-fixed : goal.ask_one-requires-clause-fixed
-ask_one-requires-clause-fixed g c = fixed_on c.args.fixed.now c.args.best.shaped c.loop-improver.best.shaped c.requires.fixed c.loop-improver.invariant.same
+ask_one-requires-clause-fixed g c = fixed_on c.args.fixed.now c.args.best.cell.plan c.loop-improver.best.cell.plan c.requires.fixed c.loop-improver.invariant.same
 
 pub loop-improver-preserved : goal.loop-improver-preserved
 loop-improver-preserved g c = one_more_asked c.args.fixed.now (λ b. (goal.Improver-dyn g (b.vtable, b.value)).may b.value) c.args.improvers.now c.args.round c.loop-improver.improver-index
-    c.args.best.shaped c.args.best.cost c.loop-improver.best c.in_ok-best.best c.improver-item.result c.requires.fixed (rw c.at_least-bound.ensures at c.if-meets.ensures) (omega arith) c.improver-item.is
+    c.args.best.cell.plan c.args.best.cost c.loop-improver.best c.in_ok-best.best c.improver-item.result c.requires.fixed (rw c.at_least-bound.ensures at c.if-meets.ensures) (omega arith) c.improver-item.is
     c.loop-improver.invariant c.in_ok-best.ensures.asked
 
 pub returns-then-meets-clause-last : goal.returns-then-meets-clause-last
 returns-then-meets-clause-last g c = round_ends c.args.fixed.now (λ b. (goal.Improver-dyn g (b.vtable, b.value)).may b.value) c.args.improvers.now c.args.round c.loop-improver.improver-index
-    c.args.best.shaped c.args.best.cost c.loop-improver.best c.loop-improver.invariant (inr (
+    c.args.best.cell.plan c.args.best.cost c.loop-improver.best c.loop-improver.invariant (inr (
       omega (arith, c.loop-improver-test.true),
       at_bound c.args.fixed.now
           (λ p. AfterSome (setting_of c.args.fixed.now) (λ b. (goal.Improver-dyn g (b.vtable, b.value)).may b.value) c.args.improvers.now c.args.round p c.loop-improver.improver-index)
-          c.args.best.shaped c.args.best.cost c.loop-improver.best c.loop-improver.invariant c.requires.fixed (rw c.at_least-bound.ensures at c.if-meets.ensures),
+          c.args.best.cell.plan c.args.best.cost c.loop-improver.best c.loop-improver.invariant c.requires.fixed (rw c.at_least-bound.ensures at c.if-meets.ensures),
     ))
 
 pub returns-clause-last : goal.returns-clause-last
 returns-clause-last g c = round_ends c.args.fixed.now (λ b. (goal.Improver-dyn g (b.vtable, b.value)).may b.value) c.args.improvers.now c.args.round c.loop-improver.improver-index
-    c.args.best.shaped c.args.best.cost c.loop-improver.best c.loop-improver.invariant (inl (omega (arith, c.loop-improver-test.false, c.loop-improver.auto.improver-index-end)))
+    c.args.best.cell.plan c.args.best.cost c.loop-improver.best c.loop-improver.invariant (inl (omega (arith, c.loop-improver-test.false, c.loop-improver.auto.improver-index-end)))

@@ -5,4 +5,4 @@ use Rattle.plan_improve.proofs.rounds.ask_in_rounds.Given as goal
 -- the best plan is what the rounds so far make of the first, and what was told is of these rounds
 abbrev pub invariant-loop-round : goal.invariant-loop-round
 invariant-loop-round g l = IsLastTold (setting_of l.fixed) (g.W.Watch.told l.fn.watch) (g.W.Watch.told l.watch)
-    (λ told p. AfterRounds (setting_of l.fixed) (λ b. (goal.Improver-dyn g (b.vtable, b.value)).may b.value) l.improvers p l.round told) l.fn.best.shaped l.fn.best.cost l.best
+    (λ told p. AfterRounds (setting_of l.fixed) (λ b. (goal.Improver-dyn g (b.vtable, b.value)).may b.value) l.improvers p l.round told) l.fn.best.cell.plan l.fn.best.cost l.best

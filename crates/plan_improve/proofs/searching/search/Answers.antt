@@ -8,16 +8,19 @@ use Rattle.plan_improve.proofs.searching.search.Goals as goal
 pub ask_in_rounds-requires-clause-fixed : goal.ask_in_rounds-requires-clause-fixed
 ask_in_rounds-requires-clause-fixed g c =
     let first = rw c.in-Begins.is at c.in_ok-best.ensures.first in
-    fixed_on c.args.fixed.now c.args.start c.in-Begins.best.shaped c.requires.fixed (begin_same (setting_of c.args.fixed.now) c.args.start c.in-Begins.best.shaped first.0)
+    fixed_on c.args.fixed.now c.args.start.plan c.in-Begins.best.cell.plan c.requires.fixed (begin_same (setting_of c.args.fixed.now) c.args.start.plan c.in-Begins.best.cell.plan first.0)
 
 pub returns-in_ok-best-in-Begins-clause-comes : goal.returns-in_ok-best-in-Begins-clause-comes
 returns-in_ok-best-in-Begins-clause-comes g c =
     let first = rw c.in-Begins.is at c.in_ok-best.ensures.first in
-    inr (searched (setting_of c.args.fixed.now) (g.W.Watch.told c.args.watch.now) (g.W.Watch.told c.ask_in_rounds.new.watch)
-    (RoundsTold (setting_of c.args.fixed.now) (λ b. (goal.Improver-dyn g (b.vtable, b.value)).may b.value) c.args.improvers.now c.args.rounds)
-    c.args.start c.in-Begins.best.shaped c.in-Begins.best.cost c.in_ok-best-in-Begins.best first.0 first.1 c.in_ok-best-in-Begins.ensures.last)
+    let last = c.in_ok-best-in-Begins.ensures.last in (
+      inr (searched (setting_of c.args.fixed.now) (g.W.Watch.told c.args.watch.now) (g.W.Watch.told c.ask_in_rounds.new.watch)
+          (RoundsTold (setting_of c.args.fixed.now) (λ b. (goal.Improver-dyn g (b.vtable, b.value)).may b.value) c.args.improvers.now c.args.rounds)
+          c.args.start.plan c.in-Begins.best.cell.plan c.in-Begins.best.cost c.in_ok-best-in-Begins.best first.0 first.2 last),
+      last.last.stands,
+    )
 
 pub returns-in-Stays-clause-comes : goal.returns-in-Stays-clause-comes
 returns-in-Stays-clause-comes g c =
     let first = rw c.in-Stays.is at c.in_ok-best.ensures.first in
-    inl (first.1, first.0)
+    (inl (first.2, first.0), first.1)

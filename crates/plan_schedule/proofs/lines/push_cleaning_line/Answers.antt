@@ -5,14 +5,6 @@ use Rattle.plan_schedule.proofs.lines.push_cleaning_line.Goals as goal
 
 pub returns : goal.returns
 returns c =
-    let line : c.put_text-3.new.self ≡ cleaning_line c.args.cleaning = rw (
-      c.put_text-3.ensures.written,
-      c.put_short_number.ensures.written,
-      c.put_text-2.ensures.written,
-      c.put_number-2.ensures.written,
-      c.put_text.ensures.written,
-      c.put_number.ensures.written,
-      c.put_due.ensures.written,
-      c.ended-line.ensures,
-    ) refl in
+    let line : c.put_text-3.new.self ≡ cleaning_line c.args.begins.now c.args.cleaning = rw (c.put_text-3.ensures.written, c.put_short_number.ensures.written, c.put_text-2.ensures.written, c.put_number-2.ensures.written) (
+    rw (c.put_text.ensures.written, c.put_number.ensures.written, c.put_due.ensures.written, c.ended-line.ensures) refl) in
     on_ok_same c.push_line.result c.push_line.new.text.items _ _ (ap (λ l. c.args.text.now.items ++ l) line) c.push_line.ensures

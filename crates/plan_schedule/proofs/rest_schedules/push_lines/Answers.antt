@@ -1,6 +1,6 @@
 use Rattle.std.proofs.Common.{ap, ◌∙◌}
 use Rattle.plan_schedule.specs.Calendars.{PlanCalendar}
-use Rattle.plan_schedule.proofs.SoonAhead.{soon_ahead}
+use Rattle.plan_schedule.proofs.Moments.{soon_ahead}
 use Rattle.plan_schedule.proofs.Behind.{lines_added}
 use Rattle.plan_schedule.proofs.rest_schedules.push_lines.Goals as goal
 
@@ -16,8 +16,8 @@ push_jobs-requires-clause-plan g c = ap (λ (k : PlanCalendar). k.plan) c.in_ok-
 pub push_jobs-requires-clause-soon : goal.push_jobs-requires-clause-soon
 push_jobs-requires-clause-soon g c =
     let is = rw c.shaped.ensures.plan at c.in_ok-calendar.ensures in
-    soon_ahead c.args.cell.now.plan c.args.cell.now.cell c.args.present c.shaped.ensures.sound c.requires.ordered.schedule.shaped c.cleanings_in_range.ensures c.requires.present.in_range
-    c.args.times.now _ c.in_ok-calendar.calendar is c.requires.ordered
+    soon_ahead c.args.cell.now.plan c.args.cell.now.cell c.args.present c.args.times.now _ c.in_ok-calendar.calendar c.shaped.ensures.sound c.cleanings_in_range.ensures c.requires.present.in_range
+    is c.requires.ordered
 
 pub push_cleanings-requires-clause-plan : goal.push_cleanings-requires-clause-plan
 push_cleanings-requires-clause-plan g c = ap (λ (k : PlanCalendar). k.plan) c.in_ok-calendar.ensures ∙ c.shaped.ensures.plan

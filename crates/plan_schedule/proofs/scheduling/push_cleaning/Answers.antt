@@ -1,23 +1,23 @@
-use Rattle.std.proofs.Common.{◌+◌, inr, refl, sym, ap, ◌∙◌}
+use Rattle.std.proofs.Common.{◌+◌, codes, inr, refl, sym, ap, ◌∙◌}
 use Rattle.std.specs.Prelude.{max}
 use Rattle.shop_base.specs.Plan.{PlannedShop, clean}
 use Rattle.plan_schedule.specs.Calendars.{due_at}
 use Rattle.plan_schedule.proofs.Texts.{on_ok_added}
-use Rattle.plan_schedule.specs.RestLines.{cleaned_line}
+use Rattle.plan_schedule.specs.Lines.{cleaning_line}
 use Rattle.plan_schedule.specs.RestSchedules.{IsCleanedText}
-use Rattle.plan_schedule.specs.declared.rest_lines.Cleaned.{Cleaned}
+use Rattle.plan_schedule.specs.declared.lines.Cleaning.{Cleaning}
 use Rattle.plan_schedule.proofs.scheduling.push_cleaning.Goals as goal
 
 pub returns : goal.returns
 returns g c =
     let k = c.args.calendar.now in
     let m = c.args.machine in
-    let cleaned : Cleaned = record { machine = m; since = c.in-Some.since; ends = record { to = c.max-to.result; due = c.next_due-due.result } } in
-    on_ok_added (IsCleanedText k.plan c.args.cell.now.cell c.args.present (due_at k) m) c.push_cleaned_line.result _ _ (cleaned_line cleaned)
+    let cleaning : Cleaning = record { machine = m; from = c.in-Some.since; to = c.max-to.result; due = c.next_due-due.result } in
+    on_ok_added (IsCleanedText k.plan c.args.cell.now.cell c.args.present (due_at k) m) c.push_cleaning_line.result _ _ (cleaning_line (codes " cleaned since ") cleaning)
     (inr (
       c.in-Some.since,
       sym c.in-Some.ensures.since,
-      cleaned,
+      cleaning,
       record {
         place = refl;
         begun = refl;
@@ -26,4 +26,4 @@ returns g c =
       },
       refl,
     ))
-    c.push_cleaned_line.ensures
+    c.push_cleaning_line.ensures

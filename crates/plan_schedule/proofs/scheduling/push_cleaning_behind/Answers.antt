@@ -1,4 +1,4 @@
-use Rattle.std.proofs.Common.{inr, refl}
+use Rattle.std.proofs.Common.{codes, inr, refl}
 use Rattle.alt_graph.specs.Times.{earliest_of}
 use Rattle.plan_schedule.specs.Lines.{cleaning_line}
 use Rattle.plan_schedule.specs.Calendars.{due_at}
@@ -9,7 +9,7 @@ use Rattle.plan_schedule.proofs.scheduling.push_cleaning_behind.Goals as goal
 pub returns-in-Some : goal.returns-in-Some
 returns-in-Some c =
     let d = c.args.calendar.now in
-    on_ok_added (IsCleaningText d.plan (earliest_of d.times) (due_at d) c.args.job c.args.place) c.push_cleaning_line.result _ _ (cleaning_line c.in-Some.cleaning)
+    on_ok_added (IsCleaningText d.plan (earliest_of d.times) (due_at d) c.args.job c.args.place) c.push_cleaning_line.result _ _ (cleaning_line (codes " cleaned from ") c.in-Some.cleaning)
     (inr (c.in-Some.cleaning, c.in-Some.ensures, refl)) c.push_cleaning_line.ensures
 
 pub returns-in-None : goal.returns-in-None

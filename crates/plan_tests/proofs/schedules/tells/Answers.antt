@@ -1,4 +1,4 @@
-use Rattle.plan_explain.proofs.Texts.{evident}
+use Rattle.plan_verifier.proofs.Reasons.{evident}
 use Rattle.plan_tests.proofs.schedules.tells.Goals as goal
 
 pub schedule-requires : goal.schedule-requires

@@ -1,7 +1,6 @@
+use Rattle.plan_improve.proofs.StartCosts.{costs_there}
 use Rattle.plan_improve.proofs.fixed.Fixed.cost.Goals as goal
 
-pub returns-in-Nothing : goal.returns-in-Nothing
-returns-in-Nothing c = rw c.in-Nothing.is c.cost_of.ensures
-
-pub returns-in-Run : goal.returns-in-Run
-returns-in-Run c = rw c.in-Run.is c.cost_after.ensures
+pub returns : goal.returns
+returns c =
+    costs_there c.args.self.now c.args.cell.now.plan c.args.cell.now.cell c.cost_from.result c.shaped-plan.ensures.well_shaped c.requires.stands (rw c.present.ensures at c.cost_from.ensures)

@@ -1,0 +1,97 @@
+-- Cells by plans with other orders that begin with the entries so far.
+use Rattle.std.proofs.Common.{◌≡◌, ◌↔◌, ℕ, zero, suc, ◌+◌, ◌<◌, ◌≤◌, List, [], ◌∷◌, ◌++◌, length, take, get_or, length-append, Some, inl, inr, arith, refl, sym, ap, ◌∙◌, subst}
+use Rattle.std.proofs.Math.Seq.{take-append_seam}
+use Rattle.std.proofs.lemmas.Bool.{cases_lt}
+use Rattle.std.proofs.lemmas.List.{get_or_past}
+use Rattle.shop_base.specs.Plan.{PlannedShop, machines, order, IsWellShaped}
+use Rattle.shop_base.specs.declared.limits.TheConstants.{MAX_MOMENT}
+use Rattle.shop_base.specs.Cell.{Cell, MachineState, since, entries, cleaning}
+use Rattle.shop_base.specs.Move.{IsPrefix}
+use Rattle.shop_base.specs.Sound.{IsSound}
+use Rattle.shop_base.proofs.Keeping.{run-sound}
+use Rattle.cell_tables.specs.Tables.{cell_of, no_row, state_of, states_from, entered_at, AreTables, AreSound}
+use Rattle.cell_tables.specs.declared.tables.MachineRow.{MachineRow}
+use Rattle.cell_tables.specs.declared.tables.Tables.{Tables}
+use Rattle.cell_tables.proofs.Cells.{row-inside, entries-read, entries-count}
+use Rattle.plan_improve.specs.Keeping.{IsReached, Begin}
+use Rattle.plan_improve.specs.Laws.{BeginsWithEntries}
+use Rattle.plan_improve.specs.Reordered.{reordered}
+use Rattle.plan_improve.proofs.Fronts.{run_there}
+use Rattle.plan_improve.proofs.OneCell.{ends_same}
+
+-- a cell to which a run leads is sound
+pub reached_sound : (p : PlannedShop) (c : Cell) → IsWellShaped p → IsReached p c → IsSound p c
+reached_sound p c shaped (es, run, is) = subst (IsSound p) (sym is) (run-sound p es shaped run)
+
+-- the run is one of the other plan
+pub reached_on : (p : PlannedShop) (orders : List (List ℕ)) (c : Cell) → IsWellShaped p → IsReached p c → BeginsWithEntries c (reordered p orders) → IsReached (reordered p orders) c
+reached_on p orders c shaped (es, run, is) begins =
+    (es, run_there p orders shaped es run (subst (λ (x : Cell). BeginsWithEntries x (reordered p orders)) is begins), is ∙ sym (ends_same p orders es))
+
+-- rows of which the same jobs have entered are the same machines
+states_same : (p q : PlannedShop) (m : ℕ) (rows : List MachineRow)
+    → ((k : ℕ) → k < length rows → take (get_or rows k no_row).entered (order q (m + k)) ≡ take (get_or rows k no_row).entered (order p (m + k)))
+    → states_from q m rows ≡ states_from p m rows
+states_same p q m [] same = refl
+states_same p q m (row ∷ rows) same =
+    let here : m + 0 ≡ m = omega arith in
+    ap (λ es. record { entries = es; cleaning = row.cleaning } ∷ states_from q (suc m) rows) (subst (λ n. take row.entered (order q n) ≡ take row.entered (order p n)) here (same 0 (omega arith)))
+    ∙ ap (λ (states : List MachineState). state_of p m row ∷ states) (states_same p q (suc m) rows (λ k lt.
+    let next : m + suc k ≡ suc m + k = omega arith in
+    subst (λ n. take (get_or rows k no_row).entered (order q n) ≡ take (get_or rows k no_row).entered (order p n)) next (same (suc k) (omega arith))))
+
+module _ (p : PlannedShop) (orders : List (List ℕ)) (t : Tables) (are : AreSound p t) where
+  abbrev other : PlannedShop
+  other = reordered p orders
+
+  module _ (fits : IsWellShaped other) (reached : IsReached p (cell_of p t)) (begins : BeginsWithEntries (cell_of p t) other) where
+    -- the same jobs have entered a machine
+    fronts_same : (m : ℕ) → m < machines p → take (entered_at t m) (order other m) ≡ take (entered_at t m) (order p m)
+    fronts_same m inside =
+        let (rest, is) = begins m in
+        ap (take (entered_at t m)) is
+        ∙ ap (λ n. take n (entries (cell_of p t) m ++ rest)) (sym (entries-count p t m are.tables inside))
+        ∙ take-append_seam (entries (cell_of p t) m) rest
+        ∙ entries-read p t m are.tables inside
+
+    pub cell_same : cell_of other t ≡ cell_of p t
+    unfolding cell_of
+    cell_same = ap (λ (states : List MachineState). let c : Cell = record { jobs = t.jobs.items; machines = states; last = t.last } in c)
+        (states_same p other 0 t.machines.items (λ k lt.
+        let here : 0 + k ≡ k = omega arith in
+        subst (λ n. take (entered_at t k) (order other n) ≡ take (entered_at t k) (order p n)) (sym here) (fronts_same k (omega (arith, lt, are.tables.machine_count)))))
+
+    room : (m : ℕ) → m < machines p → entered_at t m ≤ length (order other m)
+    room m inside =
+        let (rest, is) = begins m in
+        omega (arith, entries-count p t m are.tables inside, ap length is, length-append (entries (cell_of p t) m) rest)
+
+    -- so the tables are those of the other plan's cell
+    pub other_sound : AreSound other t
+    other_sound = record {
+      tables = record {
+        shaped = fits;
+        job_count = are.tables.job_count;
+        machine_count = are.tables.machine_count;
+        cursors = room;
+        since_in_range = subst (λ (c : Cell). (j : ℕ) → since c j ≤ MAX_MOMENT) (sym cell_same) are.tables.since_in_range;
+        cleaning_in_range = subst (λ (c : Cell). (m s : ℕ) → cleaning c m ≡ Some s → s ≤ MAX_MOMENT) (sym cell_same) are.tables.cleaning_in_range;
+        last_in_range = are.tables.last_in_range;
+      };
+      sound = subst (IsSound other) (sym cell_same) (reached_sound other (cell_of p t) fits (reached_on p orders (cell_of p t) are.tables.shaped reached begins));
+    }
+
+  -- the entries of the cell are those that the rows tell
+  pub begins_told : IsWellShaped other → Begin t.machines.items p.plan.order orders ↔ BeginsWithEntries (cell_of p t) other
+  begins_told fits = (there, λ begins. (omega (arith, are.tables.machine_count, fits.counts.orders), λ m lt. back m (omega (arith, lt, are.tables.machine_count)) (begins m)))
+    where
+      back : (m : ℕ) → m < machines p → IsPrefix (entries (cell_of p t) m) (order other m) → IsPrefix (take (entered_at t m) (order p m)) (order other m)
+      back m inside is = subst (λ es. IsPrefix es (order other m)) (entries-read p t m are.tables inside) is
+
+      there : Begin t.machines.items p.plan.order orders → BeginsWithEntries (cell_of p t) other
+      there begin m = elim (cases_lt m (machines p)) [
+        | inl inside ↦ subst (λ es. IsPrefix es (order other m)) (sym (entries-read p t m are.tables inside)) (begin.1 m (omega (arith, inside, are.tables.machine_count)))
+        | inr past ↦ subst (IsPrefix (entries (cell_of p t) m))
+            (get_or_past p.plan.order m [] (omega (arith, past, are.tables.shaped.counts.orders)) ∙ sym (get_or_past orders m [] (omega (arith, past, fits.counts.orders))))
+            (are.sound.in_order m)
+      ]

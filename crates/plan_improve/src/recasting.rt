@@ -1,0 +1,84 @@
+//! Cells whose plan's orders are replaced.
+
+ghost use Rattle.std.specs.Prelude.{◌≡◌, ℕ, ◌<◌, ◌≤◌, ◌↔◌, [], IsTrue, length, slice_index_or};
+ghost use Rattle.shop_base.specs.Plan.{IsWellShaped};
+ghost use Rattle.shop_base.specs.Move.{IsPrefix};
+ghost use Rattle.shop_base.specs.Vectors.{lists_of};
+ghost use Rattle.cell_tables.specs.Tables.{no_row};
+ghost use Rattle.plan_improve.specs.Laws.{BeginsWithEntries};
+ghost use Rattle.plan_improve.specs.Reordered.{reordered};
+ghost use Rattle.plan_improve.specs.Keeping.{IsReached, IsRecast, Begin};
+
+use crate::reordering::{Replaced, put_back, replace};
+use cell_tables::{MachineRow, WorkCell};
+use shop_base::{JobNo, Shaped};
+
+/// What came of replacing the orders of a cell's plan.
+#[derive(Drop)]
+pub(crate) enum Recast {
+    /// The cell by the plan with the new orders, and the old ones.
+    Fits(WorkCell<Shaped>, Vec<Vec<JobNo>>),
+    /// The new orders don't fit the shop, or don't begin with the entries so far; the cell is as it was.
+    Stays(WorkCell<Shaped>),
+}
+
+/// The cell by its plan with other orders, if they fit the shop and begin with the entries so far: then what has happened
+/// is a run of that plan too, which leads to the same cell. Takes no memory.
+pub(crate) fn reorder(cell: WorkCell<Shaped>, order: Vec<Vec<JobNo>>) -> Recast
+    requires { IsReached cell.plan cell.cell }
+    ensures { IsRecast cell (lists_of order.items) result }
+{
+    let (shaped, tables) = cell.into_parts();
+    if !begin(&tables.machines, &shaped.plan().order, &order) {
+        return Recast::Stays(WorkCell::of_parts(shaped, tables));
+    }
+    match replace(shaped, order) {
+        Replaced::Fits(shaped, old) => Recast::Fits(WorkCell::of_parts(shaped, tables), old),
+        Replaced::Stays(shaped) => Recast::Stays(WorkCell::of_parts(shaped, tables)),
+    }
+}
+
+/// The cell by its plan with orders that fit it, and begin with the entries so far. Takes no memory.
+pub(crate) fn reorder_by(cell: WorkCell<Shaped>, order: Vec<Vec<JobNo>>) -> WorkCell<Shaped>
+    requires reached { IsReached cell.plan cell.cell }
+    requires shaped { IsWellShaped (reordered cell.plan (lists_of order.items)) }
+    requires begins { BeginsWithEntries cell.cell (reordered cell.plan (lists_of order.items)) }
+    ensures plan { result.plan ≡ reordered cell.plan (lists_of order.items) }
+    ensures cell { result.cell ≡ cell.cell }
+{
+    let (shaped, tables) = cell.into_parts();
+    WorkCell::of_parts(put_back(shaped, order), tables)
+}
+
+/// The plan of a cell, taken out.
+pub(crate) fn plan_of(cell: WorkCell<Shaped>) -> Shaped
+    ensures { result ≡ cell.plan }
+{
+    let (shaped, _) = cell.into_parts();
+    shaped
+}
+
+/// Whether there is a new order for each machine, which begins with those jobs of the old one that have entered it.
+fn begin(rows: &[MachineRow], old: &[Vec<JobNo>], new: &[Vec<JobNo>]) -> bool
+    requires orders { length rows.now ≤ length old.now }
+    requires entered { (m : ℕ) → m < length rows.now → (slice_index_or rows.now m no_row).entered ≤ length (slice_index_or (lists_of old.now) m []) }
+    ensures { IsTrue result ↔ Begin rows.now (lists_of old.now) (lists_of new.now) }
+{
+    if new.len() < rows.len() {
+        return false;
+    }
+    for machine in 0..rows.len() {
+        let front = &old[machine][..rows[machine].entered as usize];
+        if !begins(&new[machine], front) {
+            return false;
+        }
+    }
+    true
+}
+
+/// Whether the order begins with these jobs.
+fn begins(order: &[JobNo], front: &[JobNo]) -> bool
+    ensures { IsTrue result ↔ IsPrefix front.now order.now }
+{
+    order.starts_with(front)
+}

@@ -1,0 +1,17 @@
+//! Since when the cleanings of a cell go on.
+
+ghost use Rattle.plan_verifier.specs.Held.{AreBegun};
+
+use cell_tables::WorkCell;
+use shop_base::Planned;
+
+/// The cleanings that go on began at moments within the limit. It does nothing, and is called for its clause alone.
+pub fn cleanings_in_range<P: Planned>(cell: &WorkCell<P>)
+    ensures { AreBegun cell.now.cell }
+{
+    // Called for its clause alone: the cell is sound.
+    let _plan = cell.shaped();
+    for machine in 0..cell.machine_count() {
+        let _since = cell.cleaned_since(machine);
+    }
+}
