@@ -1,41 +1,71 @@
--- The pictures of plans, and the lines in place of pictures.
-use Rattle.std.proofs.Common.{◌≡◌, List, ℕ, Result, Ok, Err, subst, sym}
-use Rattle.shop_base.specs.Plan.{PlannedShop}
-use Rattle.plan_verifier.specs.Accepted.{VerifiedPlan}
-use Rattle.plan_verifier.specs.declared.verdict.Verdict.TheVariants.{Accepted, Refused}
-use Rattle.command_answers.specs.declared.answer.Answer.{Answer}
-use Rattle.command_answers.specs.declared.command_fault.CommandFault.{CommandFault}
-use Rattle.command_answers.specs.declared.loading.Loaded.{Loaded}
-use Rattle.command_answers.specs.declared.loading.Loaded.TheVariants.{NotShaped, Judged}
+-- The pictures of logs, of plans and of the rests of runs.
+use Rattle.std.proofs.Common.{◌≡◌, ◌<◌, ◌≤◌, ℕ, List, Option, Result, Ok, Err, IfOk, Bool, refl, inl, inr, subst, sym, ap, ◌∙◌}
+use Rattle.shop_base.specs.Plan.{PlannedShop, jobs}
+use Rattle.shop_base.specs.Cell.{Cell}
+use Rattle.shop_base.specs.Run.{ends_in}
+use Rattle.text_lines.specs.Lines.{ended_lines}
+use Rattle.cell_tables.specs.declared.entry.Entry.{Entry}
+use Rattle.cell_tables.specs.Events.{events_of}
+use Rattle.run_log.specs.declared.audit_result.Audit.{Audit}
+use Rattle.run_log.specs.Audits.{TellRun}
+use Rattle.run_picture.specs.declared.head.Sheet.{Sheet}
+use Rattle.run_picture.specs.declared.visit.DrawnVisit.{DrawnVisit}
+use Rattle.run_picture.specs.declared.late_leaving.LateLeaving.{LateLeaving}
+use Rattle.run_picture.specs.Late.{late_leavings}
+use Rattle.run_picture.specs.PictureText.{IsPicture}
+use Rattle.run_gantt.specs.DrawnVisits.{drawn_visits}
+use Rattle.run_gantt.specs.LeavingsTold.{leavings_told}
+use Rattle.plan_schedule.specs.declared.picture_visits.DrawnRun.{DrawnRun}
+use Rattle.plan_schedule.specs.DrawnVisits.{IsDrawnRun}
+use Rattle.plan_explain.specs.RestVerdicts.{IsRestJudged}
+use Rattle.plan_verifier.specs.declared.verdict.Judged.{Judged}
 use Rattle.command_answers.specs.declared.pictures.Drawn.{Drawn}
-use Rattle.command_answers.specs.declared.pictures.Drawn.TheVariants.{Picture, Line}
-use Rattle.command_answers.specs.Steps.{IsOrMemory}
-use Rattle.command_answers.specs.Checks.{IsLoaded, IsLineOf, accepted_in}
-use Rattle.command_answers.specs.Pictures.{IsDrawnOf, IsPlanDrawn, IsPlanPicture}
-use Rattle.command_answers.proofs.CheckLines.{line_of_loaded}
+use Rattle.command_answers.specs.Rests.{present_at}
+use Rattle.command_answers.specs.Pictures.{log_sheet, run_sheet, line_at, IsRunPicture, IsVerdictDrawn, IsRestDrawn, IsCellDrawn, IsRestDrawing}
 
--- an accepted plan is drawn
-pub accepted_drawn : (loaded : Loaded) (v : VerifiedPlan) (picture : List ℕ) → accepted_in loaded ≡ Ok v → IsPlanPicture v.planned picture → IsDrawnOf loaded (Picture picture)
-accepted_drawn (NotShaped fault) v picture is drawn = absurd (cc is)
-accepted_drawn (Judged (Refused back why)) v picture is drawn = absurd (cc is)
-accepted_drawn (Judged (Accepted w)) v picture is drawn = (let same : w ≡ v = cc is in subst (λ (x : VerifiedPlan). IsPlanPicture x.planned picture) (sym same) drawn)
+-- a picture of the same
+same_picture : (sheet other : Sheet) (visits others : List DrawnVisit) (late lates : List (Option LateLeaving)) (picture : List ℕ) → sheet ≡ other → visits ≡ others → late ≡ lates
+    → IsPicture sheet visits late picture → IsPicture other others lates picture
+same_picture sheet other visits others late lates picture is are marks drawn =
+    subst (λ (s : Sheet). IsPicture s others lates picture) is
+    (subst (λ (v : List DrawnVisit). IsPicture sheet v lates picture) are (subst (λ (l : List (Option LateLeaving)). IsPicture sheet visits l picture) marks drawn))
 
-same_line : (loaded other : Loaded) (answer : Answer) → loaded ≡ other → IsLineOf other answer → IsLineOf loaded answer
-same_line loaded other answer same line = subst (λ (l : Loaded). IsLineOf l answer) (sym same) line
+-- that of a log's entries
+pub audit_drawn : (p : PlannedShop) (run : Audit) (sheet : Sheet) (entries : List Entry) (visits : List DrawnVisit) (leavings lent : List (Option ℕ)) (late : List (Option LateLeaving)) (picture : List ℕ)
+    → sheet ≡ log_sheet p run → entries ≡ run.entries.items → visits ≡ drawn_visits p entries → leavings ≡ leavings_told (jobs p) entries → lent ≡ leavings → late ≡ late_leavings p lent
+    → IsPicture sheet visits late picture
+    → IsPicture (log_sheet p run) (drawn_visits p run.entries.items) (late_leavings p (leavings_told (jobs p) run.entries.items)) picture
+audit_drawn p run sheet entries visits leavings lent late picture is same are left lends marks drawn =
+    same_picture sheet (log_sheet p run) visits (drawn_visits p run.entries.items) late (late_leavings p (leavings_told (jobs p) run.entries.items)) picture is
+    (are ∙ ap (drawn_visits p) same) (marks ∙ ap (late_leavings p) (lends ∙ left ∙ ap (leavings_told (jobs p)) same)) drawn
 
--- any other has its line
-pub refused_drawn : (loaded other : Loaded) (answer : Answer) → accepted_in loaded ≡ Err other → IsLineOf other answer → IsDrawnOf loaded (Line answer)
-refused_drawn (NotShaped fault) other answer is line = same_line (NotShaped fault) other answer (cc is) line
-refused_drawn (Judged (Refused back why)) other answer is line = same_line (Judged (Refused back why)) other answer (cc is) line
-refused_drawn (Judged (Accepted w)) other answer is line = absurd (cc is)
+module _ (p : PlannedShop) (c : Cell) (t : ℕ) (line : Option ℕ) (told : List DrawnVisit) where
+  -- that of a run, by what is drawn of it
+  pub run_drawn : (q : PlannedShop) (run : DrawnRun) (sheet : Sheet) (lent : List (Option ℕ)) (late : List (Option LateLeaving)) (in_time : Bool) (picture : List ℕ) → q ≡ p → IsDrawnRun p c t told run
+      → sheet ≡ run_sheet q t line in_time run → lent ≡ run.leavings.items → late ≡ late_leavings q lent → IsPicture sheet run.visits.items late picture → IsRunPicture p c t line told in_time picture
+  run_drawn q run sheet lent late in_time picture plan is sheet_is lends marks drawn = record {
+    run = run;
+    is = is;
+    drawn = same_picture sheet (run_sheet p t line in_time run) run.visits.items run.visits.items late (late_leavings p run.leavings.items) picture
+        (sheet_is ∙ ap (λ (x : PlannedShop). run_sheet x t line in_time run) plan) refl
+        (marks ∙ ap (late_leavings q) lends ∙ ap (λ (x : PlannedShop). late_leavings x run.leavings.items) plan) drawn;
+  }
 
--- what comes of what is said of a plan comes of the plan
-pub drawn_of_loaded : (p : PlannedShop) (loaded : Loaded) (outcome : Result Drawn CommandFault) → IsLoaded p loaded → IsOrMemory (IsDrawnOf loaded) outcome → IsOrMemory (IsPlanDrawn p) outcome
-drawn_of_loaded p loaded (Err fault) is memory = memory
-drawn_of_loaded p (NotShaped fault) (Ok (Picture picture)) first bad = absurd bad
-drawn_of_loaded p (NotShaped fault) (Ok (Line answer)) first line = (line_of_loaded p (NotShaped fault) answer first line, line.refused)
-drawn_of_loaded p (Judged (Accepted v)) (Ok (Picture picture)) judged drawn =
-    (judged.well_shaped, judged.accepted.1, subst (λ (q : PlannedShop). IsPlanPicture q picture) judged.accepted.0 drawn)
-drawn_of_loaded p (Judged (Accepted v)) (Ok (Line answer)) judged bad = absurd bad
-drawn_of_loaded p (Judged (Refused back why)) (Ok (Picture picture)) judged bad = absurd bad
-drawn_of_loaded p (Judged (Refused back why)) (Ok (Line answer)) judged line = (line_of_loaded p (Judged (Refused back why)) answer judged line, line.1)
+  -- the verdict is drawn
+  pub verdict_shown : {E : Type 0} (verdict : Judged) (came : Result Drawn E) → IsRestJudged p c t verdict → IfOk came (IsVerdictDrawn p c t line told verdict) → IfOk came (IsRestDrawn p c t line told)
+  verdict_shown verdict (Ok drawn) judged is = record { verdict = verdict; judged = judged; is = is }
+  verdict_shown verdict (Err error) judged is = tt
+
+-- the rest from a present moment on that isn't past
+pub rest_shown : {E : Type 0} (at : Option ℕ) (p : PlannedShop) (c : Cell) (entries : List Entry) (came : Result Drawn E) → c.last ≤ present_at at c
+    → IfOk came (IsRestDrawn p c (present_at at c) (line_at at entries (present_at at c)) (drawn_visits p entries)) → IfOk came (IsCellDrawn at p c entries)
+rest_shown at p c entries (Ok drawn) later is = inr (later, is)
+rest_shown at p c entries (Err error) later is = tt
+
+-- what comes of the cell at the end of the run that a log tells
+pub run_shown : (at : Option ℕ) (p : PlannedShop) (log : List ℕ) (run : TellRun p (ended_lines log)) (q : PlannedShop) (c : Cell) (entries : List Entry) (drawn : Drawn)
+    → q ≡ p → c ≡ ends_in p (events_of run.0) → entries ≡ run.0 → IsCellDrawn at q c entries drawn → IsRestDrawing at p log drawn
+run_shown at p log run q c entries drawn plan cell same is =
+    let of_entries : IsCellDrawn at q c run.0 drawn = subst (λ (es : List Entry). IsCellDrawn at q c es drawn) same is in
+    let at_end : IsCellDrawn at q (ends_in p (events_of run.0)) run.0 drawn = subst (λ (d : Cell). IsCellDrawn at q d run.0 drawn) cell of_entries in
+    inl (record { run = run; is = subst (λ (x : PlannedShop). IsCellDrawn at x (ends_in p (events_of run.0)) run.0 drawn) plan at_end })

@@ -1,75 +1,145 @@
 -- The pictures that answer `gantt` and `schedule`, where they are asked for.
-use Rattle.std.specs.Prelude.{◌≡◌, ℕ, List, ◌⊎◌, Result}
-use Rattle.shop_base.specs.Plan.{PlannedShop, IsWellShaped, machines}
-use Rattle.text_lines.specs.Lines.{lines_of}
-use Rattle.plan_verifier.specs.Accepted.{IsAcceptable}
-use Rattle.plan_verifier.specs.declared.verdict.Verdict.TheVariants.{Accepted, Refused}
+use Rattle.std.specs.Prelude.{◌≡◌, ℕ, ◌<◌, ◌≤◌, max, Bool, true, false, List, [], ◌∷◌, ◌⊎◌, Option, None, Some, Result}
+use Rattle.shop_base.specs.Plan.{PlannedShop, IsWellShaped, jobs, machines}
+use Rattle.shop_base.specs.Cell.{Cell, start}
+use Rattle.shop_base.specs.Run.{ends_in}
+use Rattle.text_lines.specs.Lines.{lines_of, ended_lines}
+use Rattle.cell_tables.specs.declared.entry.Entry.{Entry}
+use Rattle.cell_tables.specs.Events.{events_of}
+use Rattle.run_picture.specs.declared.head.Head.{Head}
+use Rattle.run_picture.specs.declared.head.Head.TheVariants.{Accepted as InTime, Late as TooLate, Log}
+use Rattle.run_picture.specs.declared.head.Sheet.{Sheet}
 use Rattle.run_picture.specs.declared.visit.DrawnVisit.{DrawnVisit}
+use Rattle.run_picture.specs.Late.{late_leavings, lateness, latest}
 use Rattle.run_picture.specs.LastMoments.{last_of}
 use Rattle.run_picture.specs.PictureText.{IsPicture}
-use Rattle.plan_schedule.specs.DrawnVisits.{AreDrawnVisits}
+use Rattle.plan_verifier.specs.declared.verdict.Judged.{Judged}
+use Rattle.plan_verifier.specs.declared.verdict.Judged.TheVariants.{Accepted, Refused}
+use Rattle.plan_verifier.specs.declared.verdict.Why.TheVariants.{Cycle, Late}
+use Rattle.plan_explain.specs.RestVerdicts.{IsRestJudged}
+use Rattle.plan_explain.specs.FirstLines.{cycle_line}
+use Rattle.plan_schedule.specs.declared.picture_visits.DrawnRun.{DrawnRun}
+use Rattle.plan_schedule.specs.DrawnVisits.{IsDrawnRun}
 use Rattle.run_log.specs.declared.audit_result.Audit.{Audit}
-use Rattle.run_log.specs.Audits.{IsAudit}
+use Rattle.run_log.specs.Audits.{IsAudit, TellRun}
 use Rattle.run_gantt.specs.DrawnVisits.{drawn_visits}
+use Rattle.run_gantt.specs.LeavingsTold.{leavings_told}
+use Rattle.command_answers.specs.declared.answer.Answer.{Answer}
 use Rattle.command_answers.specs.declared.command_fault.CommandFault.{CommandFault}
-use Rattle.command_answers.specs.declared.loading.Loaded.{Loaded}
-use Rattle.command_answers.specs.declared.loading.Loaded.TheVariants.{NotShaped, Judged}
 use Rattle.command_answers.specs.declared.pictures.Drawn.{Drawn}
 use Rattle.command_answers.specs.declared.pictures.Drawn.TheVariants.{Picture, Line}
 use Rattle.command_answers.specs.Steps.{Then, Told, IsOrMemory}
 use Rattle.command_answers.specs.Texts.{Asks}
 use Rattle.command_answers.specs.Shapes.{IsNotShapedLine}
-use Rattle.command_answers.specs.Checks.{IsCheckLine, IsLineOf}
 use Rattle.command_answers.specs.LogLines.{IsLogRefused}
+use Rattle.command_answers.specs.Rests.{IsPastLine, present_at}
 use Rattle.command_answers.specs.Commands.{PairOfFiles, WithBoth}
 
--- the picture of the run that a log tells: its visits, up to its last moment
-pub record IsLogPicture (p : PlannedShop) (log picture : List ℕ) : Type 0 where
-  pub run : Audit
-  pub is : IsAudit p (lines_of log) run
-  pub drawn : IsPicture (machines p) run.last (drawn_visits p run.entries.items) picture
+-- nothing is drawn, but there is such a line
+abbrev pub IsLineAlone : (Answer → Type 0) → Drawn → Type 0
+IsLineAlone Is (Picture picture status) = ⊥
+IsLineAlone Is (Line answer) = Is answer
 
--- what comes of a log: its picture, or the line of its first fault
-abbrev pub IsLogDrawn : PlannedShop → List ℕ → Drawn → Type 0
-IsLogDrawn p log (Picture picture) = IsLogPicture p log picture
-IsLogDrawn p log (Line answer) = IsLogRefused p (lines_of log) answer
+-- a picture of this kind is drawn, with this status
+abbrev pub IsPictureAlone : (List ℕ → Type 0) → ℕ → Drawn → Type 0
+IsPictureAlone Is good (Picture picture status) = Is picture × (status ≡ good)
+IsPictureAlone Is good (Line answer) = ⊥
 
 -- what comes of a plan that isn't well shaped: the line of its first fault
 abbrev pub IsUnshapedDrawn : PlannedShop → Drawn → Type 0
-IsUnshapedDrawn p (Picture picture) = ⊥
-IsUnshapedDrawn p (Line answer) = IsNotShapedLine p answer
+IsUnshapedDrawn p = IsLineAlone (IsNotShapedLine p)
 
--- the picture of the exact run of a plan: its visits, up to the last moment that they tell
-pub record IsPlanPicture (p : PlannedShop) (picture : List ℕ) : Type 0 where
-  pub visits : List DrawnVisit
-  pub are : AreDrawnVisits p visits
-  pub drawn : IsPicture (machines p) (last_of visits) visits picture
+-- ---- a log
 
--- what comes of a plan: the picture of one that is accepted, or the line of `check`, which refuses any other
+-- what the picture of a log's run is of
+abbrev pub log_sheet : PlannedShop → Audit → Sheet
+log_sheet p run = record { machines = machines p; last = run.last; head = Log run.last run.complete; present = None }
+
+-- the picture of the run that a log tells: its visits, up to its last moment, and the jobs that have left late marked
+pub record IsLogPicture (p : PlannedShop) (log picture : List ℕ) : Type 0 where
+  pub run : Audit
+  pub is : IsAudit p (lines_of log) run
+  pub drawn : IsPicture (log_sheet p run) (drawn_visits p run.entries.items) (late_leavings p (leavings_told (jobs p) run.entries.items)) picture
+
+-- what comes of a log: its picture, or the line of its first fault
+abbrev pub IsLogDrawn : PlannedShop → List ℕ → Drawn → Type 0
+IsLogDrawn p log drawn = IsPictureAlone (IsLogPicture p log) 0 drawn ⊎ IsLineAlone (IsLogRefused p (lines_of log)) drawn
+
+-- ---- the exact run, from any cell on
+
+-- what stands above the rows: of a run in time when the last job leaves, else the greatest lateness
+abbrev pub run_head : Bool → PlannedShop → List (Option ℕ) → Head
+run_head true p leavings = InTime (latest leavings)
+run_head false p leavings = TooLate (lateness p leavings)
+
+-- what the picture of such a run is of: its axis goes up to its last moment, or to the present moment t if that is later
+abbrev pub run_sheet : PlannedShop → ℕ → Option ℕ → Bool → DrawnRun → Sheet
+run_sheet p t line in_time run = record {
+  machines = machines p;
+  last = max (last_of run.visits.items) t;
+  head = run_head in_time p run.leavings.items;
+  present = line;
+}
+
+module _ (p : PlannedShop) (c : Cell) (t : ℕ) (line : Option ℕ) (told : List DrawnVisit) where
+  -- the picture of the run that goes on from a cell c and the present moment t: the visits told so far and those ahead, and the jobs that leave or have left late marked
+  pub record IsRunPicture (in_time : Bool) (picture : List ℕ) : Type 0 where
+    pub run : DrawnRun
+    pub is : IsDrawnRun p c t told run
+    pub drawn : IsPicture (run_sheet p t line in_time run) run.visits.items (late_leavings p run.leavings.items) picture
+
+  -- what comes of a verdict: a picture with the verdict's status, but of a cycle the line of the verdict
+  abbrev pub IsVerdictDrawn : Judged → Drawn → Type 0
+  IsVerdictDrawn (Accepted times) drawn = IsPictureAlone (IsRunPicture true) 0 drawn
+  IsVerdictDrawn (Refused (Late job leaves chain times)) drawn = IsPictureAlone (IsRunPicture false) 1 drawn
+  IsVerdictDrawn (Refused (Cycle nodes)) drawn = IsLineAlone (λ answer. (answer.text.items ≡ cycle_line nodes.items) × (answer.status ≡ 1)) drawn
+
+  -- what comes of a cell: the verdict on the rest is drawn
+  pub record IsRestDrawn (drawn : Drawn) : Type 0 where
+    pub verdict : Judged
+    pub judged : IsRestJudged p c t verdict
+    pub is : IsVerdictDrawn verdict drawn
+
+-- what comes of a well-shaped plan: the whole of it is the rest of a run that hasn't begun
 abbrev pub IsPlanDrawn : PlannedShop → Drawn → Type 0
-IsPlanDrawn p (Picture picture) = IsWellShaped p × IsAcceptable p × IsPlanPicture p picture
-IsPlanDrawn p (Line answer) = IsCheckLine p answer × (answer.status ≡ 1)
+IsPlanDrawn p drawn = IsRestDrawn p (start p) 0 None [] drawn ⊎ IsUnshapedDrawn p drawn
 
--- the same by what is said of the plan
-abbrev pub IsDrawnOf : Loaded → Drawn → Type 0
-IsDrawnOf (NotShaped fault) (Picture picture) = ⊥
-IsDrawnOf (NotShaped fault) (Line answer) = IsLineOf (NotShaped fault) answer
-IsDrawnOf (Judged (Accepted verified)) (Picture picture) = IsPlanPicture verified.planned picture
-IsDrawnOf (Judged (Accepted verified)) (Line answer) = ⊥
-IsDrawnOf (Judged (Refused back why)) (Picture picture) = ⊥
-IsDrawnOf (Judged (Refused back why)) (Line answer) = IsLineOf (Judged (Refused back why)) answer
+-- the present moment has a line, unless no moment is given and the log tells nothing
+abbrev pub line_at : Option ℕ → List Entry → ℕ → Option ℕ
+line_at None [] t = None
+line_at None (entry ∷ entries) t = Some t
+line_at (Some given) entries t = Some t
+
+-- what comes of the cell at the end of these entries: that the present moment is past, or else the rest from there
+abbrev pub IsCellDrawn : Option ℕ → PlannedShop → Cell → List Entry → Drawn → Type 0
+IsCellDrawn at p c entries drawn =
+    ((present_at at c < c.last) × IsLineAlone (IsPastLine c.last) drawn)
+    ⊎ ((c.last ≤ present_at at c) × IsRestDrawn p c (present_at at c) (line_at at entries (present_at at c)) (drawn_visits p entries) drawn)
+
+-- what comes of a log whose whole lines tell a run of the plan: the run that goes on from the cell at its end
+pub record IsRestOfLogDrawn (at : Option ℕ) (p : PlannedShop) (log : List ℕ) (drawn : Drawn) : Type 0 where
+  pub run : TellRun p (ended_lines log)
+  pub is : IsCellDrawn at p (ends_in p (events_of run.0)) run.0 drawn
+
+-- what comes of a log: so, or the line of the first fault of its whole lines
+abbrev pub IsRestDrawing : Option ℕ → PlannedShop → List ℕ → Drawn → Type 0
+IsRestDrawing at p log drawn = IsRestOfLogDrawn at p log drawn ⊎ IsLineAlone (IsLogRefused p (ended_lines log)) drawn
 
 module _ {W : Type 0} (gives : W → List ℕ → Result (List ℕ) CommandFault → W → Type 0) where
-  -- the log of a well-shaped plan is asked for, and then drawn; any other plan is answered by its first fault
-  abbrev pub WithDrawnLog : List ℕ → PlannedShop → W → Result Drawn CommandFault → W → Type 0
-  WithDrawnLog path p before outcome after =
-      (IsWellShaped p × Then (Asks gives path) (λ log. Told (IsOrMemory (IsLogDrawn p log))) before outcome after)
+  -- the log of a well-shaped plan is asked for, and then drawn so; any other plan is answered by its first fault
+  abbrev pub WithDrawnLog : (PlannedShop → List ℕ → Drawn → Type 0) → List ℕ → PlannedShop → W → Result Drawn CommandFault → W → Type 0
+  WithDrawnLog IsDrawing path p before outcome after =
+      (IsWellShaped p × Then (Asks gives path) (λ log. Told (IsOrMemory (IsDrawing p log))) before outcome after)
       ⊎ Told (IsOrMemory (IsUnshapedDrawn p)) before outcome after
 
   -- `gantt --svg`: both are read, and then the log
   abbrev pub DrawsLog : PairOfFiles → List ℕ → W → Result Drawn CommandFault → W → Type 0
-  DrawsLog pair log = WithBoth gives pair (WithDrawnLog log)
+  DrawsLog pair log = WithBoth gives pair (WithDrawnLog IsLogDrawn log)
 
   -- `schedule --svg`: both are read, and the plan's exact run is drawn
   abbrev pub DrawsSchedule : PairOfFiles → W → Result Drawn CommandFault → W → Type 0
   DrawsSchedule pair = WithBoth gives pair (λ p. Told (IsOrMemory (IsPlanDrawn p)))
+
+  -- `schedule --svg` of the rest of a run: both are read, and then its log
+  abbrev pub DrawsRest : Option ℕ → PairOfFiles → List ℕ → W → Result Drawn CommandFault → W → Type 0
+  DrawsRest at pair log = WithBoth gives pair (WithDrawnLog (IsRestDrawing at) log)

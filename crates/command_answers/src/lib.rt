@@ -46,7 +46,7 @@ pub use improves::improve_answer;
 pub use lines::log_refused;
 pub use loading::{Loaded, load, load_files, load_shaped};
 pub use logs::{Telling, fault_told, log_answer};
-pub use pictures::{Drawn, log_picture, schedule_picture};
+pub use pictures::{Drawn, log_picture, rest_picture, schedule_picture};
 pub use reading::read_whole;
 pub use rest_improves::improve_rest_answer;
 pub use rests::{PlanTelling, past_answer, rest_answer, rest_told};

@@ -1,27 +1,48 @@
 //! The pictures of the commands `gantt` and `schedule`.
 
-ghost use Rattle.std.specs.Prelude.{IfOk};
+ghost use Rattle.std.specs.Prelude.{◌≡◌, ◌≤◌, [], IfOk, IfSome, None};
+ghost use Rattle.shop_base.specs.Plan.{jobs};
+ghost use Rattle.shop_base.specs.declared.limits.TheConstants.{MAX_MOMENT};
+ghost use Rattle.shop_base.specs.Report.{IsNextMoment};
+ghost use Rattle.shop_base.specs.Cell.{start};
+ghost use Rattle.plan_verifier.specs.Rest.{AreOrderedAhead};
+ghost use Rattle.run_picture.specs.Late.{late_leavings};
+ghost use Rattle.run_picture.specs.PictureText.{IsPicture};
+ghost use Rattle.run_gantt.specs.DrawnVisits.{drawn_visits};
+ghost use Rattle.run_gantt.specs.LeavingsTold.{leavings_told};
+ghost use Rattle.plan_verifier.specs.RestVerdicts.{IsReasonAhead};
+ghost use Rattle.plan_verifier.specs.declared.verdict.Judged.TheVariants.{Refused};
+ghost use Rattle.plan_explain.specs.FirstLines.{cycle_line};
+ghost use Rattle.plan_explain.specs.RestVerdicts.{IsRestJudged};
 ghost use Rattle.command_answers.specs.Steps.{IsOrMemory};
-ghost use Rattle.command_answers.specs.Pictures.{DrawsLog, DrawsSchedule, IsDrawnOf, IsLogDrawn, IsPlanPicture};
+ghost use Rattle.command_answers.specs.Pictures.{DrawsLog, DrawsRest, DrawsSchedule, IsCellDrawn, IsLogDrawn, IsRestDrawing, IsRestDrawn, IsRunPicture, IsVerdictDrawn, line_at, log_sheet, run_head, run_sheet};
 
-use crate::answer::{Answer, Outcome};
+use crate::answer::{Answer, GOOD, Outcome, REFUSED};
 use crate::both::{Pair, read_both};
-use crate::checks::loaded_answer;
-use crate::loading::{Loaded, judged};
 use crate::logs::fault_told;
+use crate::rests::{past_answer, present_at};
 use crate::shapes::not_shaped_answer;
 use crate::texts::Texts;
-use plan_verifier::Verified;
-use run_log::audit;
-use run_picture::{Picture, last_moment};
-use shop_base::Shaped;
+use alt_graph::Times;
+use cell_tables::{Entry, WorkCell};
+use plan_explain::push_cycle_line;
+use plan_schedule::{DrawnRun, drawn_run};
+use plan_verifier::{Judged, Why, verify_after};
+use run_log::{Audit, audit, run_of_log};
+use run_picture::{DrawnVisit, Head, Picture, Sheet, last_moment, late_leavings, lateness, latest};
+use shop_base::{Moment, Node, Shaped};
 use std::alloc::{AllocError, Global};
 
 /// What a command draws.
 #[derive(Debug, Drop)]
 pub enum Drawn {
     /// A picture.
-    Picture(Picture),
+    Picture {
+        /// The picture.
+        picture: Picture,
+        /// The status that the program ends with: that of the verdict.
+        status: u8,
+    },
     /// A line that says why there is nothing to draw, with its status.
     Line(Answer),
 }
@@ -51,40 +72,251 @@ fn log_drawn(alloc: Global, shaped: &Shaped, log: &[u8]) -> Outcome<Drawn>
 {
     match audit(alloc, shaped, log) {
         Ok(found) => {
-            let visits = run_gantt::drawn_visits(alloc, shaped, found.entries.as_slice())?;
-            let machines = shaped.machine_count();
-            Ok(Drawn::Picture(Picture::new(machines, found.last, visits)))
+            let picture = audit_picture(alloc, shaped, &found)?;
+            let status = GOOD;
+            Ok(Drawn::Picture { picture, status })
         }
         Err(fault) => Ok(Drawn::Line(fault_told(alloc, fault)?)),
     }
 }
 
-/// Draws the exact run of the plan of one file for the instance of another. A plan that isn't accepted has the line of
-/// its check instead.
-pub fn schedule_picture<T: Texts>(alloc: Global, texts: &mut T, pair: &Pair<'_>) -> Outcome<Drawn>
-    ensures { DrawsSchedule T.gives pair.now texts.old result texts.new }
+/// The picture of the run that an audit found.
+fn audit_picture(alloc: Global, shaped: &Shaped, found: &Audit) -> Result<Picture, AllocError>
+    ensures { let run = found.now in let p = shaped.now in IfOk result
+        (IsPicture (log_sheet p run) (drawn_visits p run.entries.items) (late_leavings p (leavings_told (jobs p) run.entries.items))) }
 {
-    let both = read_both(alloc, texts, pair)?;
-    let loaded = judged(alloc, both)?;
-    loaded_drawn(alloc, loaded)
+    let entries = found.entries.as_slice();
+    let visits = run_gantt::drawn_visits(alloc, shaped, entries)?;
+    let leavings = run_gantt::leavings_told(alloc, shaped, entries)?;
+    let late = late_leavings(alloc, shaped, &leavings)?;
+    Ok(Picture::new(log_sheet(shaped, found), visits, late))
 }
 
-/// Draws an accepted plan; what is said of any other is its line.
-fn loaded_drawn(alloc: Global, loaded: Loaded) -> Outcome<Drawn>
-    ensures { IsOrMemory (IsDrawnOf loaded) result }
+/// What the picture of a log's run is of.
+fn log_sheet(shaped: &Shaped, run: &Audit) -> Sheet
+    ensures { result ≡ log_sheet shaped.now run.now }
 {
-    match loaded.accepted() {
-        Ok(verified) => Ok(Drawn::Picture(exact_run(alloc, &verified)?)),
-        Err(other) => Ok(Drawn::Line(loaded_answer(alloc, &other)?)),
+    let (last, complete) = (run.last, run.complete);
+    Sheet {
+        machines: shaped.machine_count(),
+        last,
+        head: Head::Log { last, complete },
+        present: None,
     }
 }
 
-/// The picture of the exact run of an accepted plan.
-fn exact_run(alloc: Global, verified: &Verified) -> Result<Picture, AllocError>
-    ensures { IfOk result (IsPlanPicture verified.now.planned) }
+/// Draws the exact run of the plan of one file for the instance of another, whether it is in time or late. A plan that
+/// isn't well shaped, or has a cycle, has the line of its check instead.
+pub fn schedule_picture<T: Texts>(alloc: Global, texts: &mut T, pair: &Pair<'_>) -> Outcome<Drawn>
+    ensures { DrawsSchedule T.gives pair.now texts.old result texts.new }
 {
-    let visits = plan_schedule::drawn_visits(alloc, verified)?;
-    let machines = verified.shaped().machine_count();
-    let last = last_moment(&visits);
-    Ok(Picture::new(machines, last, visits))
+    match read_both(alloc, texts, pair)?.shaped() {
+        Ok(shaped) => Ok(plan_drawn(alloc, shaped)?),
+        Err(fault) => Ok(Drawn::Line(not_shaped_answer(alloc, fault)?)),
+    }
+}
+
+/// Draws a whole plan: the rest of a run that hasn't begun.
+fn plan_drawn(alloc: Global, shaped: Shaped) -> Result<Drawn, AllocError>
+    ensures { IfOk result (IsRestDrawn shaped (start shaped) 0 None []) }
+{
+    match WorkCell::start(alloc, shaped) {
+        Ok(cell) => rest_drawn(alloc, &cell, 0, None, &[]),
+        Err((error, _)) => Err(error),
+    }
+}
+
+/// Draws the run in the log of a file and its rest, by the plan of another for the instance of a third: from a present
+/// moment on, or from the last one of that run. What comes after the log's last line feed isn't looked at. A plan that
+/// isn't well shaped or has a cycle, a log that records no run of it, or a present moment before the last one has a line
+/// instead.
+pub fn rest_picture<T: Texts>(
+    alloc: Global,
+    texts: &mut T,
+    pair: &Pair<'_>,
+    log: &str,
+    at: Option<Moment>,
+) -> Outcome<Drawn>
+    requires { IfSome at (λ present. present ≤ MAX_MOMENT) }
+    ensures { DrawsRest T.gives at pair.now log.now texts.old result texts.new }
+{
+    match read_both(alloc, texts, pair)?.shaped() {
+        Ok(shaped) => {
+            let text = texts.text(alloc, log)?;
+            rest_of_log(alloc, shaped, &text, at)
+        }
+        Err(fault) => Ok(Drawn::Line(not_shaped_answer(alloc, fault)?)),
+    }
+}
+
+/// Draws the run in a log and its rest.
+fn rest_of_log(alloc: Global, shaped: Shaped, log: &[u8], at: Option<Moment>) -> Outcome<Drawn>
+    requires { IfSome at (λ present. present ≤ MAX_MOMENT) }
+    ensures { IsOrMemory (IsRestDrawing at shaped log.now) result }
+{
+    match run_of_log(alloc, shaped, log) {
+        Ok(run) => Ok(cell_drawn(alloc, &run.cell, at, &run.entries)?),
+        Err(fault) => Ok(Drawn::Line(fault_told(alloc, fault)?)),
+    }
+}
+
+/// Draws the run of these entries and its rest from their cell on, if the present moment isn't before its last one.
+fn cell_drawn(
+    alloc: Global,
+    cell: &WorkCell<Shaped>,
+    at: Option<Moment>,
+    entries: &[Entry],
+) -> Result<Drawn, AllocError>
+    requires { IfSome at (λ present. present ≤ MAX_MOMENT) }
+    ensures { IfOk result (IsCellDrawn at cell.now.plan cell.now.cell entries.now) }
+{
+    // Called for its clause alone: the cell is sound.
+    let shaped = cell.shaped();
+    let last = cell.last();
+    let present = present_at(at, last);
+    if present < last {
+        return Ok(Drawn::Line(past_answer(alloc, last)?));
+    }
+    let told = run_gantt::drawn_visits(alloc, shaped, entries)?;
+    let line = line_at(at, entries, present);
+    rest_drawn(alloc, cell, present, line, &told)
+}
+
+/// The moment that has a line: the present one, unless no moment is given and the log tells nothing.
+fn line_at(at: Option<Moment>, entries: &[Entry], present: Moment) -> Option<Moment>
+    ensures { result ≡ line_at at entries.now present }
+{
+    if at.is_none() && entries.is_empty() {
+        return None;
+    }
+    Some(present)
+}
+
+/// Draws the run that goes on from a cell and a present moment, of which these visits are told so far.
+fn rest_drawn(
+    alloc: Global,
+    cell: &WorkCell<Shaped>,
+    present: Moment,
+    line: Option<Moment>,
+    told: &[DrawnVisit],
+) -> Result<Drawn, AllocError>
+    requires { IsNextMoment cell.now.cell present }
+    ensures { IfOk result (IsRestDrawn cell.now.plan cell.now.cell present line told.now) }
+{
+    let verdict = verify_after(alloc, cell, present)?;
+    verdict_drawn(alloc, cell, present, line, told, &verdict)
+}
+
+/// Draws what the verdict on the rest is about, with its status. Of a cycle there is its line.
+fn verdict_drawn(
+    alloc: Global,
+    cell: &WorkCell<Shaped>,
+    present: Moment,
+    line: Option<Moment>,
+    told: &[DrawnVisit],
+    verdict: &Judged,
+) -> Result<Drawn, AllocError>
+    requires present { IsNextMoment cell.now.cell present }
+    requires judged { IsRestJudged cell.now.plan cell.now.cell present verdict.now }
+    ensures { IfOk result (IsVerdictDrawn cell.now.plan cell.now.cell present line told.now verdict.now) }
+{
+    match verdict {
+        Judged::Accepted(times) => {
+            let picture = run_picture(alloc, cell, present, line, told, times, true)?;
+            let status = GOOD;
+            Ok(Drawn::Picture { picture, status })
+        }
+        Judged::Refused(why) => refused_drawn(alloc, cell, present, line, told, why),
+    }
+}
+
+/// Draws a late run. Of a cycle there is its line.
+fn refused_drawn(
+    alloc: Global,
+    cell: &WorkCell<Shaped>,
+    present: Moment,
+    line: Option<Moment>,
+    told: &[DrawnVisit],
+    why: &Why,
+) -> Result<Drawn, AllocError>
+    requires present { IsNextMoment cell.now.cell present }
+    requires reason { IsReasonAhead cell.now.plan cell.now.cell present (Refused why.now) }
+    ensures { IfOk result (IsVerdictDrawn cell.now.plan cell.now.cell present line told.now (Refused why.now)) }
+{
+    match why {
+        Why::Cycle(nodes) => Ok(Drawn::Line(cycle_answer(alloc, nodes)?)),
+        Why::Late {
+            job: _,
+            leaves: _,
+            chain: _,
+            times,
+        } => {
+            let picture = run_picture(alloc, cell, present, line, told, times, false)?;
+            let status = REFUSED;
+            Ok(Drawn::Picture { picture, status })
+        }
+    }
+}
+
+/// The line of a cycle, which is no run.
+fn cycle_answer(alloc: Global, nodes: &[Node]) -> Result<Answer, AllocError>
+    ensures { IfOk result (λ answer. (answer.text.items ≡ cycle_line nodes.now) × (answer.status ≡ 1)) }
+{
+    let (mut text, status) = (Vec::new(alloc), REFUSED);
+    push_cycle_line(&mut text, nodes)?;
+    Ok(Answer { text, status })
+}
+
+/// The picture of the run that goes on from a cell and a present moment, by its earliest moments.
+fn run_picture(
+    alloc: Global,
+    cell: &WorkCell<Shaped>,
+    present: Moment,
+    line: Option<Moment>,
+    told: &[DrawnVisit],
+    times: &Times,
+    in_time: bool,
+) -> Result<Picture, AllocError>
+    requires present { IsNextMoment cell.now.cell present }
+    requires ordered { AreOrderedAhead cell.now.plan cell.now.cell present times.now }
+    ensures { IfOk result (IsRunPicture cell.now.plan cell.now.cell present line told.now in_time) }
+{
+    let run = drawn_run(alloc, cell, present, times, told)?;
+    let shaped = cell.shaped();
+    let late = late_leavings(alloc, shaped, &run.leavings)?;
+    let sheet = run_sheet(shaped, present, line, in_time, &run);
+    Ok(Picture::new(sheet, run.visits, late))
+}
+
+/// What the picture of such a run is of.
+fn run_sheet(
+    shaped: &Shaped,
+    present: Moment,
+    line: Option<Moment>,
+    in_time: bool,
+    run: &DrawnRun,
+) -> Sheet
+    ensures { result ≡ run_sheet shaped.now present line in_time run.now }
+{
+    Sheet {
+        machines: shaped.machine_count(),
+        last: last_moment(&run.visits).max(present),
+        head: run_head(in_time, shaped, &run.leavings),
+        present: line,
+    }
+}
+
+/// What stands above the rows of such a run.
+fn run_head(in_time: bool, shaped: &Shaped, leavings: &[Option<Moment>]) -> Head
+    ensures { result ≡ run_head in_time shaped.now leavings.now }
+{
+    if in_time {
+        Head::Accepted {
+            makespan: latest(leavings),
+        }
+    } else {
+        Head::Late {
+            by: lateness(shaped, leavings),
+        }
+    }
 }

@@ -95,7 +95,7 @@ fn cell_told(
 }
 
 /// The present moment: the one that is given, or the last one.
-fn present_at(at: Option<Moment>, last: Moment) -> Moment
+pub(crate) fn present_at(at: Option<Moment>, last: Moment) -> Moment
     ensures { result ≡ unwrap_or at last }
 {
     match at {

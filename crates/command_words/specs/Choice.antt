@@ -226,9 +226,9 @@ are_both option switch rows = has_both (first_of option rows) (is_set switch row
 abbrev pub unless_both : Text → Text → List Row → Kinds → Kinds
 unless_both option switch rows reasons = if are_both option switch rows then ArgumentConflict ∷ [] else reasons
 
--- why its matches aren't taken: there is no picture of the rest of a run; or for the moment
+-- why its matches aren't taken for the moment
 abbrev pub misfits_of : List Row → Kinds
-misfits_of rows = unless_both (codes "after") (codes "svg") rows (misfit_of (log_given rows) (first_of (codes "at") rows))
+misfits_of rows = misfit_of (log_given rows) (first_of (codes "at") rows)
 
 -- so of a job: a number of 1 to 9 digits
 abbrev pub job_misfit : List Row → Kinds

@@ -358,23 +358,6 @@ fn are_both(matches: &ArgMatches<'_>, option: &str, switch: &str) -> bool
     }
 }
 
-/// The present moment, if it is given. There is no picture of the rest of a run.
-fn rest_at(
-    alloc: Global,
-    command: &str,
-    matches: &ArgMatches<'_>,
-) -> Result<Option<u64>, WordsFault>
-    ensures exact { IfOk result (λ at. at ≡ at_in (rows_of (found_of matches.now))) }
-    ensures early { IfOk result (λ at. IfSome at (λ n. n ≤ latest_moment)) }
-    ensures fits { IfOk result (λ _. misfits_of (rows_of (found_of matches.now)) ≡ []) }
-    ensures refused { IfErr result (TellsOneOf (misfits_of (rows_of (found_of matches.now)))) }
-{
-    if are_both(matches, "after", "svg") {
-        return Err(no_picture(alloc));
-    }
-    at_of(alloc, command, matches)
-}
-
 /// Whether there is a log: that of whose rest is asked, the file of one, or that which a driven cell keeps.
 fn has_log(matches: &ArgMatches<'_>) -> bool
     ensures { result ≡ is_some (log_given (rows_of (found_of matches.now))) }
@@ -397,13 +380,15 @@ fn has_log_file(matches: &ArgMatches<'_>) -> bool
 }
 
 /// The present moment, if it is given, which goes with a log.
-fn at_of(alloc: Global, command: &str, matches: &ArgMatches<'_>) -> Result<Option<u64>, WordsFault>
+fn rest_at(
+    alloc: Global,
+    command: &str,
+    matches: &ArgMatches<'_>,
+) -> Result<Option<u64>, WordsFault>
     ensures exact { IfOk result (λ at. at ≡ at_in (rows_of (found_of matches.now))) }
     ensures early { IfOk result (λ at. IfSome at (λ n. n ≤ latest_moment)) }
-    ensures fits { let rows = rows_of (found_of matches.now) in
-        IfOk result (λ _. misfit_of (log_given rows) (first_of (codes "at") rows) ≡ []) }
-    ensures refused { let rows = rows_of (found_of matches.now) in
-        IfErr result (TellsOneOf (misfit_of (log_given rows) (first_of (codes "at") rows))) }
+    ensures fits { IfOk result (λ _. misfits_of (rows_of (found_of matches.now)) ≡ []) }
+    ensures refused { IfErr result (TellsOneOf (misfits_of (rows_of (found_of matches.now)))) }
 {
     let Some(word) = matches.get_str("at") else {
         return Ok(None);
@@ -429,14 +414,6 @@ fn moment_of(word: &str) -> Option<u64>
         return None;
     }
     Some(number)
-}
-
-/// The fault of a picture of the rest of a run.
-fn no_picture(alloc: Global) -> WordsFault
-    ensures { TellsReason ErrorKind.ArgumentConflict result }
-{
-    let parts = ["the argument '--after <LOG>' cannot be used with '--svg'"];
-    misfit(alloc, ErrorKind::ArgumentConflict, parts.as_slice())
 }
 
 /// The fault of a moment without a log.

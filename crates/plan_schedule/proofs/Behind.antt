@@ -25,7 +25,7 @@ lines_added p c t times d k (Ok x) old mid new is (told, are, one) (cleaned, goi
 lines_added p c t times d k (Err e) old mid new is one two = tt
 
 -- earliest moments are greatest lengths
-are_moments : (p : PlannedShop) (c : Cell) (t : ℕ) (times : NodeTimes) → AreOrderedAhead p c t times → AreRestMoments p c t (earliest_of times)
+pub are_moments : (p : PlannedShop) (c : Cell) (t : ℕ) (times : NodeTimes) → AreOrderedAhead p c t times → AreRestMoments p c t (earliest_of times)
 are_moments p c t times ordered v is ahead = record { reached = ordered.reached v is ahead; longest = λ nodes k path. ordered.greatest nodes v k path }
 
 pub in_time : {T E : Type 0} (p : PlannedShop) (c : Cell) (t : ℕ) (times : NodeTimes) (d : NodeMoments) (r : Result T E) (old new : List ℕ) → AreOrderedAhead p c t times → AreDeadlines p c (moment_of d)

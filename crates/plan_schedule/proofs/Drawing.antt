@@ -1,42 +1,49 @@
--- The visits of the exact run, one after another.
-use Rattle.std.proofs.Common.{◌≡◌, ℕ, ◌+◌, List, [], ◌∷◌, ◌++◌, Option, None, Some, MatchOption, Result, Ok, Err, IfOk, subst, refl, sym, ap, ◌∙◌, append_assoc, arith}
+-- The visits of a run, one after another.
+use Rattle.std.proofs.Common.{◌≡◌, ℕ, zero, suc, subst, ◌+◌, ◌-◌, ◌<◌, ◌≤◌, List, [], ◌∷◌, ◌++◌, length, map, drop, drop-cons, get_or, Option, None, Some, MatchOption, refl, sym, ap, ◌∙◌, append-nil, append_assoc, add-one, arith}
 use Rattle.std.specs.Prelude.{flat_map}
 use Rattle.std.specs.List.{range_with_len}
-use Rattle.std.proofs.lemmas.List.{map-id, flat_map_more}
+use Rattle.std.proofs.lemmas.List.{map-id, flat_map_more, get_or_past}
 use Rattle.std.proofs.lemmas.List.FromFn.{map-range_with_len_more}
-use Rattle.std.proofs.lemmas.Bool.{eq-eqb, ne_eqb}
+use Rattle.std.proofs.lemmas.Bool.{eq-eqb, ne_eqb, le-leb, lt-leb}
+use Rattle.std.proofs.Math.ListN.{drop_of_length-le}
 use Rattle.shop_base.specs.declared.node.Node.{Node}
-use Rattle.shop_base.specs.Plan.{PlannedShop, jobs, steps, machine_of, clean}
+use Rattle.shop_base.specs.Plan.{PlannedShop, jobs, machines, steps, machine_of, clean}
+use Rattle.shop_base.specs.Cell.{Cell, MachineState, absent, unused, made, start}
+use Rattle.shop_base.specs.declared.job_state.JobState.{JobState}
+use Rattle.shop_base.proofs.Keeping.{start-made}
+use Rattle.plan_explain.proofs.AtStart.{greatest_to}
+use Rattle.shop_base.specs.Sound.{IsSound}
+use Rattle.shop_base.specs.Graph.{leaving}
 use Rattle.run_picture.specs.declared.visit.Cleaned.TheVariants.{By}
 use Rattle.run_picture.specs.declared.visit.DrawnVisit.{DrawnVisit}
-use Rattle.alt_graph.specs.Times.{NodeTimes, earliest_of}
 use Rattle.plan_schedule.specs.declared.lines.Cleaning.{Cleaning}
 use Rattle.plan_schedule.specs.Schedules.{HasNoCleaning, IsCleaning}
+use Rattle.alt_graph.specs.Times.{NodeTimes, earliest_of}
+use Rattle.alt_graph.specs.Latest.{NodeMoments}
 use Rattle.plan_schedule.specs.Calendars.{PlanCalendar, IsCalendarOf}
-use Rattle.plan_schedule.specs.DrawnVisits.{told_cleaning, cleaned_behind, drawn_visit, job_visits, all_visits, AreDrawnVisits}
-use Rattle.plan_schedule.specs.Scheduled.{AreEarliest}
+use Rattle.plan_schedule.specs.DrawnVisits.{told_cleaning, cleaned_behind, drawn_visit, job_visits, place_behind, place_inside, cleaning_end, ended_visit, job_ahead, visits_ahead, leavings_by, TheRunOfTheStartIsDrawnAsThePlan}
 
 range-more : (n : ℕ) → range_with_len 0 (n + 1) ≡ range_with_len 0 n ++ n ∷ []
 range-more n =
     sym (map-id (range_with_len 0 (n + 1))) ∙ map-range_with_len_more (λ x. x) 0 n n (omega arith) ∙ ap (λ (l : List ℕ). l ++ n ∷ []) (map-id (range_with_len 0 n))
 
 module _ (p : PlannedShop) (at : Node → ℕ) where
-  -- one more visit of a job
-  pub one_more_visit : (start now new : List DrawnVisit) (j k : ℕ) → now ≡ start ++ job_visits p at j k → new ≡ now ++ drawn_visit p at j k ∷ []
-      → new ≡ start ++ job_visits p at j (k + 1)
-  one_more_visit start now new j k so_far pushed =
+  -- one more visit of a job, from a place of its route on
+  pub one_more_visit : (start now new : List DrawnVisit) (j first k : ℕ) → first ≤ k → now ≡ start ++ job_visits p at j first (k - first) → new ≡ now ++ drawn_visit p at j k ∷ []
+      → new ≡ start ++ job_visits p at j first (k + 1 - first)
+  one_more_visit start now new j first k from so_far pushed =
+      let more : k + 1 - first ≡ (k - first) + 1 = omega (arith, from) in
       pushed
       ∙ ap (λ (l : List DrawnVisit). l ++ drawn_visit p at j k ∷ []) so_far
-      ∙ append_assoc start (job_visits p at j k) (drawn_visit p at j k ∷ [])
-      ∙ ap (λ (l : List DrawnVisit). start ++ l) (sym (map-range_with_len_more (drawn_visit p at j) 0 k k (omega arith)))
+      ∙ append_assoc start (job_visits p at j first (k - first)) (drawn_visit p at j k ∷ [])
+      ∙ ap (λ (l : List DrawnVisit). start ++ l) (sym (map-range_with_len_more (drawn_visit p at j) first (k - first) k (omega (arith, from))))
+      ∙ ap (λ (n : ℕ). start ++ job_visits p at j first n) (sym more)
 
-  -- the visits of one more job
-  pub one_more_job : (now new : List DrawnVisit) (j : ℕ) → now ≡ all_visits p at j → new ≡ now ++ job_visits p at j (steps p j) → new ≡ all_visits p at (j + 1)
-  one_more_job now new j so_far pushed =
-      pushed
-      ∙ ap (λ (l : List DrawnVisit). l ++ job_visits p at j (steps p j)) so_far
-      ∙ flat_map_more (λ (i : ℕ). job_visits p at i (steps p i)) [] (range_with_len 0 j) j
-      ∙ ap (flat_map (λ (i : ℕ). job_visits p at i (steps p i))) (sym (range-more j))
+  -- at first there is none
+  pub no_visit : (start : List DrawnVisit) (j first : ℕ) → start ≡ start ++ job_visits p at j first (first - first)
+  no_visit start j first =
+      let none : first - first ≡ 0 = omega arith in
+      sym (append-nil start) ∙ ap (λ (n : ℕ). start ++ job_visits p at j first n) (sym none)
 
   -- the cleaning behind a visit
   pub behind : (due : Node → Option ℕ) (j k : ℕ) (found : Option Cleaning) → MatchOption found (HasNoCleaning p j k) (IsCleaning p at due j k)
@@ -45,13 +52,106 @@ module _ (p : PlannedShop) (at : Node → ℕ) where
   behind due j k (Some cleaning) is =
       rw (ne_eqb (clean p (machine_of p j k)) 0 (λ none. absurd (omega (arith, none, is.cleaned)))) (ap By is.ends)
 
--- the visits of a calendar are those of its plan's exact run
-pub drawn_by : {V E : Type 0} (see : V → List DrawnVisit) (p : PlannedShop) (t : NodeTimes) (c : PlanCalendar) → IsCalendarOf p t None c → AreEarliest p (earliest_of t)
-    → (found : Result V E) → IfOk found (λ visits. see visits ≡ all_visits c.plan (earliest_of c.times) (jobs c.plan))
-    → IfOk found (λ visits. AreDrawnVisits p (see visits))
-drawn_by see p t c is earliest (Ok visits) are = record {
-  moments = earliest_of t;
-  earliest = earliest;
-  are = subst (λ (k : PlanCalendar). see visits ≡ all_visits k.plan (earliest_of k.times) (jobs k.plan)) is are;
+  -- the leaving of one more job
+  pub one_more_leaving : (now new : List (Option ℕ)) (j moment : ℕ) → now ≡ leavings_by p at j → moment ≡ at (leaving p j) → new ≡ now ++ Some moment ∷ [] → new ≡ leavings_by p at (j + 1)
+  one_more_leaving now new j moment so_far is pushed =
+      let of : ℕ → Option ℕ = λ i. Some (at (leaving p i)) in
+      pushed
+      ∙ ap (λ (l : List (Option ℕ)). l ++ Some moment ∷ []) so_far
+      ∙ ap (λ (n : ℕ). leavings_by p at j ++ Some n ∷ []) is
+      ∙ sym (map-range_with_len_more of 0 j j (omega arith))
+
+module _ (p : PlannedShop) (c : Cell) (at : Node → ℕ) where
+  -- the visits ahead of one more job
+  pub one_more_job : (start now new : List DrawnVisit) (j : ℕ) → now ≡ start ++ visits_ahead p c at j → new ≡ now ++ job_ahead p c at j → new ≡ start ++ visits_ahead p c at (j + 1)
+  one_more_job start now new j so_far pushed =
+      pushed
+      ∙ ap (λ (l : List DrawnVisit). l ++ job_ahead p c at j) so_far
+      ∙ flat_map_more (job_ahead p c at) start (range_with_len 0 j) j
+      ∙ ap (λ (l : List ℕ). start ++ flat_map (job_ahead p c at) l) (sym (range-more j))
+
+  -- no visit is ahead of a job that is gone
+  pub none_ahead : (visits : List DrawnVisit) (j n : ℕ) → n ≡ made c j → steps p j < n → visits ≡ visits ++ job_ahead p c at j
+  none_ahead visits j n is gone =
+      let none : steps p j - made c j ≡ 0 = omega (arith, is, gone) in
+      sym (append-nil visits) ∙ ap (λ (k : ℕ). visits ++ job_visits p at j (made c j) k) (sym none)
+
+-- one more of the visits that are told
+pub one_more_told : (of : DrawnVisit → DrawnVisit) (start now new told : List DrawnVisit) (i : ℕ) (d : DrawnVisit) → i < length told → now ++ map of (drop i told) ≡ start ++ map of told
+    → new ≡ now ++ of (get_or told i d) ∷ [] → new ++ map of (drop (i + 1) told) ≡ start ++ map of told
+one_more_told of start now new told i d below so_far pushed =
+    let one = of (get_or told i d) in
+    let rest = map of (drop (i + 1) told) in
+    let here : drop i told ≡ get_or told i d ∷ drop (i + 1) told = drop-cons told i d below ∙ ap (λ (n : ℕ). get_or told i d ∷ drop n told) (sym (add-one i)) in
+    ap (λ (l : List DrawnVisit). l ++ rest) pushed ∙ append_assoc now (one ∷ []) rest ∙ ap (λ (l : List DrawnVisit). now ++ map of l) (sym here) ∙ so_far
+
+-- all of them
+pub all_told : (of : DrawnVisit → DrawnVisit) (now whole told : List DrawnVisit) (i : ℕ) → length told ≤ i → now ++ map of (drop i told) ≡ whole → now ≡ whole
+all_told of now whole told i all so_far =
+    sym (append-nil now) ∙ ap (λ (l : List DrawnVisit). now ++ map of l) (sym (drop_of_length-le told all)) ∙ so_far
+
+-- ---- where a job is
+
+-- a job that isn't of the shop is nowhere
+pub past_nowhere : (p : PlannedShop) (c : Cell) (j : ℕ) → IsSound p c → jobs p ≤ j → place_inside p c j ≡ None
+past_nowhere p c j sound past =
+    let one : made c j ≡ 1 = ap (λ (s : JobState). s.made) (get_or_past c.jobs j absent (omega (arith, sound.job_count, past))) in
+    let few : steps p j ≡ 0 = ap length (get_or_past p.shop.routes j [] past) in
+    rw (lt-leb (made c j) (steps p j) (omega (arith, one, few))) refl
+
+-- nor is one outside
+pub outside_nowhere : (p : PlannedShop) (c : Cell) (j : ℕ) → made c j ≡ 0 → place_inside p c j ≡ None
+outside_nowhere p c j none = rw (le-leb (made c j) (steps p j) (omega (arith, none))) (ap place_behind none)
+
+-- nor one that is gone
+pub gone_nowhere : (p : PlannedShop) (c : Cell) (j : ℕ) → steps p j < made c j → place_inside p c j ≡ None
+gone_nowhere p c j gone = rw (lt-leb (made c j) (steps p j) gone) refl
+
+-- any other is behind its last move
+pub inside_behind : (p : PlannedShop) (c : Cell) (j k : ℕ) → made c j ≡ k + 1 → k < steps p j → place_inside p c j ≡ Some k
+inside_behind p c j k is within = rw (le-leb (made c j) (steps p j) (omega (arith, is, within))) (ap place_behind (is ∙ add-one k))
+
+-- a machine that isn't of the shop isn't cleaned
+pub past_uncleaned : (p : PlannedShop) (c : Cell) (t m : ℕ) → IsSound p c → machines p ≤ m → cleaning_end p c t m ≡ None
+past_uncleaned p c t m sound past =
+    let none = ap (λ (x : MachineState). x.cleaning) (get_or_past c.machines m unused (omega (arith, sound.machine_count, past))) in
+    rw none refl
+
+-- the visits of a calendar are those of its run
+pub run_visits : (p : PlannedShop) (c : Cell) (t : ℕ) (times : NodeTimes) (d : Option NodeMoments) (k : PlanCalendar) (start mid new told : List DrawnVisit) → IsCalendarOf p times d k
+    → start ≡ [] → mid ≡ start ++ map (ended_visit k.plan c t (earliest_of k.times)) told → new ≡ mid ++ visits_ahead k.plan c (earliest_of k.times) (jobs k.plan)
+    → new ≡ map (ended_visit p c t (earliest_of times)) told ++ visits_ahead p c (earliest_of times) (jobs p)
+run_visits p c t times d k start mid new told is none ended ahead =
+    let one : mid ≡ map (ended_visit k.plan c t (earliest_of k.times)) told = ended ∙ ap (λ (l : List DrawnVisit). l ++ map (ended_visit k.plan c t (earliest_of k.times)) told) none in
+    subst (λ (y : PlanCalendar). new ≡ map (ended_visit y.plan c t (earliest_of y.times)) told ++ visits_ahead y.plan c (earliest_of y.times) (jobs y.plan)) is
+    (ahead ∙ ap (λ (l : List DrawnVisit). l ++ visits_ahead k.plan c (earliest_of k.times) (jobs k.plan)) one)
+
+-- ---- of a whole plan
+
+-- what one number more adds
+more_of : (of : ℕ → List DrawnVisit) (n : ℕ) → flat_map of (range_with_len 0 (n + 1)) ≡ flat_map of (range_with_len 0 n) ++ of n
+more_of of n = ap (flat_map of) (range-more n) ∙ sym (flat_map_more of [] (range_with_len 0 n) n)
+
+-- what is the same for each number
+same_each : (of other : ℕ → List DrawnVisit) (n : ℕ) → ((j : ℕ) → j < n → of j ≡ other j) → flat_map of (range_with_len 0 n) ≡ flat_map other (range_with_len 0 n)
+same_each of other zero each = refl
+same_each of other (suc n) each =
+    subst (λ (k : ℕ). flat_map of (range_with_len 0 k) ≡ flat_map other (range_with_len 0 k)) (add-one n)
+    (more_of of n
+    ∙ ap (λ (l : List DrawnVisit). l ++ of n) (same_each of other n (λ j below. each j (omega (arith, below))))
+    ∙ ap (λ (l : List DrawnVisit). flat_map other (range_with_len 0 n) ++ l) (each n (omega arith))
+    ∙ sym (more_of other n))
+
+-- at the start all visits of a job are ahead
+all_ahead : (p : PlannedShop) (at : Node → ℕ) (j : ℕ) → j < jobs p → job_ahead p (start p) at j ≡ job_visits p at j 0 (steps p j)
+all_ahead p at j inside =
+    let none : made (start p) j ≡ 0 = start-made p j inside in
+    let count : steps p j - made (start p) j ≡ steps p j = omega (arith, none) in
+    ap (λ (n : ℕ). job_visits p at j n (steps p j - made (start p) j)) none ∙ ap (λ (n : ℕ). job_visits p at j 0 n) count
+
+pub start_drawn : TheRunOfTheStartIsDrawnAsThePlan
+start_drawn p run shaped is = record {
+  moments = is.moments;
+  earliest = λ v node. greatest_to p shaped v (is.moments v) (is.earliest v node (omega (arith, start-made p v.job node.job)));
+  are = is.visits ∙ same_each (job_ahead p (start p) is.moments) (λ j. job_visits p is.moments j 0 (steps p j)) (jobs p) (all_ahead p is.moments);
 }
-drawn_by see p t c is earliest (Err e) are = tt

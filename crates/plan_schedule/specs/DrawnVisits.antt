@@ -1,14 +1,17 @@
--- The visits of the exact run, as a picture draws them.
-use Rattle.std.specs.Prelude.{◌≡◌, ℕ, ◌+◌, ◌==◌, if◌then◌else◌, List, map, flat_map, Option, None, Some}
+-- The visits of a run, as a picture draws them: those that are told so far, and those ahead.
+use Rattle.std.specs.Prelude.{◌≡◌, ℕ, zero, suc, ◌+◌, ◌-◌, ◌<◌, ◌==◌, nat_le, max, if◌then◌else◌, List, [], ◌++◌, map, flat_map, Option, None, Some, unwrap_or}
 use Rattle.std.specs.List.{range_with_len}
 use Rattle.shop_base.specs.declared.node.Node.{Node}
-use Rattle.shop_base.specs.Plan.{PlannedShop, jobs, steps, machine_of, nominal, clean}
-use Rattle.shop_base.specs.Graph.{node}
+use Rattle.shop_base.specs.Plan.{PlannedShop, jobs, steps, machine_of, nominal, clean, IsWellShaped}
+use Rattle.shop_base.specs.Cell.{Cell, made, since, cleaning, start, IsGone}
+use Rattle.shop_base.specs.Graph.{node, leaving}
 use Rattle.run_picture.specs.declared.visit.Cleaned.{Cleaned}
-use Rattle.run_picture.specs.declared.visit.Cleaned.TheVariants.{Never, By}
+use Rattle.run_picture.specs.declared.visit.Cleaned.TheVariants.{Never, NotYet, By}
 use Rattle.run_picture.specs.declared.visit.DrawnVisit.{DrawnVisit}
 use Rattle.plan_schedule.specs.declared.lines.Cleaning.{Cleaning}
+use Rattle.plan_schedule.specs.declared.picture_visits.DrawnRun.{DrawnRun}
 use Rattle.plan_schedule.specs.Scheduled.{AreEarliest}
+use Rattle.plan_schedule.specs.RestScheduled.{AreRestMoments}
 
 -- the end of a cleaning, if there is one
 abbrev pub told_cleaning : Option Cleaning → Cleaned
@@ -31,16 +34,110 @@ module _ (p : PlannedShop) (at : Node → ℕ) where
     cleaned = cleaned_behind j k;
   }
 
-  -- the first visits of job j, in the order of its route
-  abbrev pub job_visits : ℕ → ℕ → List DrawnVisit
-  job_visits j count = map (drawn_visit j) (range_with_len 0 count)
+  -- so many visits of job j, from a place of its route on
+  abbrev pub job_visits : ℕ → ℕ → ℕ → List DrawnVisit
+  job_visits j first count = map (drawn_visit j) (range_with_len first count)
 
-  -- the visits of the first jobs, ascending
-  abbrev pub all_visits : ℕ → List DrawnVisit
-  all_visits count = flat_map (λ j. job_visits j (steps p j)) (range_with_len 0 count)
+-- the place of the step behind so many moves of a job, if there is one
+abbrev pub place_behind : ℕ → Option ℕ
+place_behind zero = None
+place_behind (suc k) = Some k
+
+-- a cleaning whose end isn't told ends so
+abbrev pub ended_cleaning : Cleaned → Option ℕ → Cleaned
+ended_cleaning Never end = Never
+ended_cleaning (By told) end = By told
+ended_cleaning NotYet None = NotYet
+ended_cleaning NotYet (Some end) = By end
+
+module _ (p : PlannedShop) (c : Cell) where
+  -- the place in the route of job j of the step by which it is on a machine, if it is on one
+  abbrev pub place_inside : ℕ → Option ℕ
+  place_inside j = if nat_le (made c j) (steps p j) then place_behind (made c j) else None
+
+module _ (p : PlannedShop) (c : Cell) (t : ℕ) where
+  -- when the operation that job j is in by its step k ends: when it is due, or at the present moment t where it is overdue
+  abbrev pub operation_end : ℕ → ℕ → ℕ
+  operation_end j k = max (since c j + nominal p j k) t
+
+  -- when the cleaning of machine m that goes on since a moment ends: when it is due, or at the present moment where it is overdue
+  abbrev pub end_since : ℕ → Option ℕ → Option ℕ
+  end_since m None = None
+  end_since m (Some s) = Some (max (s + clean p m) t)
+
+  -- when the cleaning of machine m that goes on ends, if one does
+  abbrev pub cleaning_end : ℕ → Option ℕ
+  cleaning_end m = end_since m (cleaning c m)
+
+  -- a visit that is over, with the end of the cleaning behind it
+  abbrev pub left_visit : DrawnVisit → DrawnVisit
+  left_visit visit = record {
+    job = visit.job;
+    machine = visit.machine;
+    enter = visit.enter;
+    finish = visit.finish;
+    leave = visit.leave;
+    cleaned = ended_cleaning visit.cleaned (cleaning_end visit.machine);
+  }
+
+module _ (p : PlannedShop) (c : Cell) (t : ℕ) (at : Node → ℕ) where
+  -- the visit that a job is in by its step k: its operation ends as it is told, or else when it is due; the job leaves with its next move
+  abbrev pub going_visit : DrawnVisit → ℕ → DrawnVisit
+  going_visit visit k = record {
+    job = visit.job;
+    machine = visit.machine;
+    enter = visit.enter;
+    finish = Some (unwrap_or visit.finish (operation_end p c t visit.job k));
+    leave = Some (at (node visit.job (k + 1)));
+    cleaned = cleaned_behind p at visit.job k;
+  }
+
+  -- a visit whose job hasn't left: that which the job is in, if it is on a machine
+  abbrev pub staying_visit : DrawnVisit → Option ℕ → DrawnVisit
+  staying_visit visit None = visit
+  staying_visit visit (Some k) = going_visit visit k
+
+  -- a visit that is told so far, with its ends
+  abbrev pub ended_by : DrawnVisit → Option ℕ → DrawnVisit
+  ended_by visit None = staying_visit visit (place_inside p c visit.job)
+  ended_by visit (Some left) = left_visit p c t visit
+
+  abbrev pub ended_visit : DrawnVisit → DrawnVisit
+  ended_visit visit = ended_by visit visit.leave
+
+module _ (p : PlannedShop) (c : Cell) (at : Node → ℕ) where
+  -- the visits of job j that are ahead, in the order of its route
+  abbrev pub job_ahead : ℕ → List DrawnVisit
+  job_ahead j = job_visits p at j (made c j) (steps p j - made c j)
+
+  -- those of the first jobs, ascending
+  abbrev pub visits_ahead : ℕ → List DrawnVisit
+  visits_ahead count = flat_map job_ahead (range_with_len 0 count)
+
+-- when each of the first jobs leaves, or has left
+abbrev pub leavings_by : PlannedShop → (Node → ℕ) → ℕ → List (Option ℕ)
+leavings_by p at count = map (λ j. Some (at (leaving p j))) (range_with_len 0 count)
+
+-- the run that goes on from a cell c and a present moment t, of which these visits are told so far: they end, and those ahead follow, by the earliest moments; a job that is gone leaves when it left
+pub record IsDrawnRun (p : PlannedShop) (c : Cell) (t : ℕ) (told : List DrawnVisit) (run : DrawnRun) : Type 0 where
+  pub moments : Node → ℕ
+  pub earliest : AreRestMoments p c t moments
+  pub left : (j : ℕ) → j < jobs p → IsGone p c j → moments (leaving p j) ≡ since c j
+  pub visits : run.visits.items ≡ map (ended_visit p c t moments) told ++ visits_ahead p c moments (jobs p)
+  pub leavings : run.leavings.items ≡ leavings_by p moments (jobs p)
+
+-- ---- of a whole plan
+
+-- the visits of the first jobs, ascending
+abbrev pub all_visits : PlannedShop → (Node → ℕ) → ℕ → List DrawnVisit
+all_visits p at count = flat_map (λ j. job_visits p at j 0 (steps p j)) (range_with_len 0 count)
 
 -- the visits of all jobs, by the moments of the exact run
 pub record AreDrawnVisits (p : PlannedShop) (visits : List DrawnVisit) : Type 0 where
   pub moments : Node → ℕ
   pub earliest : AreEarliest p moments
   pub are : visits ≡ all_visits p moments (jobs p)
+
+-- from the start and moment 0 on, with nothing told, the visits are those of the plan
+abbrev pub TheRunOfTheStartIsDrawnAsThePlan : Type 0
+TheRunOfTheStartIsDrawnAsThePlan = (p : PlannedShop) (run : DrawnRun) → IsWellShaped p → IsDrawnRun p (start p) 0 [] run → AreDrawnVisits p run.visits.items

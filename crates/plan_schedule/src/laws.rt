@@ -4,6 +4,7 @@
 // Nothing is done here: a function's contract is the law, so a check of this crate proves it.
 
 ghost use Rattle.plan_schedule.specs.StartSchedule.{TheRestOfTheStartIsScheduledAsThePlan};
+ghost use Rattle.plan_schedule.specs.DrawnVisits.{TheRunOfTheStartIsDrawnAsThePlan};
 ghost use Rattle.plan_schedule.specs.ScheduleLaw.{SchedulesTellTheExactRun, SomeRunIsExact};
 
 /// Let the ranks rise along every arc, and let lines give the greatest length of a path to each node as its moment.
@@ -19,4 +20,10 @@ pub fn schedules_tell_the_exact_run()
 /// From the cell at the start and moment 0 on, the schedules of the rest of a run are those of the plan.
 pub fn the_rest_of_the_start_is_scheduled_as_the_plan()
     ensures { TheRestOfTheStartIsScheduledAsThePlan }
+{}
+
+/// From the cell at the start and moment 0 on, with no visit told, the visits that are drawn are those of the plan's
+/// exact run: the jobs ascending, each job's visits in the order of its route.
+pub fn the_run_of_the_start_is_drawn_as_the_plan()
+    ensures { TheRunOfTheStartIsDrawnAsThePlan }
 {}

@@ -13,6 +13,6 @@ mod rest_schedules;
 mod schedules;
 mod scheduling;
 
-pub use picture_visits::drawn_visits;
+pub use picture_visits::{DrawnRun, drawn_run};
 pub use rest_schedules::schedule_after;
 pub use schedules::schedule;

@@ -1,52 +1,310 @@
-//! The visits of the exact run, as a picture draws them.
+//! The visits of a run, as a picture draws them: those told so far with their ends, and those ahead.
 
-ghost use Rattle.std.specs.Prelude.{◌≡◌, ◌+◌, ◌<◌, ◌++◌, IfOk, OnOk};
+ghost use Rattle.std.specs.Prelude.{◌≡◌, ◌+◌, ◌-◌, ◌<◌, ◌≤◌, ◌++◌, map, IfOk, IfSome, OnOk, unwrap_or};
+ghost use Rattle.shop_base.specs.declared.limits.TheConstants.{MAX_MOMENT};
+ghost use Rattle.shop_base.specs.Report.{IsNextMoment};
 ghost use Rattle.shop_base.specs.Plan.{jobs, steps};
+ghost use Rattle.shop_base.specs.Cell.{made};
 ghost use Rattle.shop_base.specs.Graph.{node};
-ghost use Rattle.alt_graph.specs.Times.{earliest_of};
-ghost use Rattle.plan_schedule.specs.Calendars.{IsSoon, AreSoon};
-ghost use Rattle.plan_schedule.specs.DrawnVisits.{told_cleaning, drawn_visit, job_visits, all_visits, AreDrawnVisits};
+ghost use Rattle.alt_graph.specs.Times.{earliest_of, AreRanks};
+ghost use Rattle.plan_verifier.specs.Rest.{AreOrderedAhead};
+ghost use Rattle.plan_schedule.specs.Calendars.{IsSoon};
+ghost use Rattle.plan_schedule.specs.SoonAhead.{AreSoonAhead, AreSoonFrom};
+ghost use Rattle.plan_schedule.specs.DrawnVisits.{told_cleaning, drawn_visit, job_visits, place_inside, operation_end, cleaning_end, ended_cleaning, left_visit, going_visit, staying_visit, ended_visit, job_ahead, visits_ahead, leavings_by, IsDrawnRun};
 
 use crate::calendar::Calendar;
 use crate::lines::Cleaning;
-use plan_verifier::Verified;
+use alt_graph::Times;
+use cell_tables::WorkCell;
+use plan_verifier::{cleanings_in_range, leave_time};
 use run_picture::{Cleaned, DrawnVisit};
-use shop_base::JobNo;
+use shop_base::{JobNo, MachineNo, Moment, Node, Planned};
 use std::alloc::{AllocError, Global};
 
-/// The visits of the exact run of an accepted plan, as a picture draws them: the jobs in ascending order, each job's
-/// visits in the order of its route, each with the cleaning after it.
-pub fn drawn_visits(alloc: Global, verified: &Verified) -> Result<Vec<DrawnVisit>, AllocError>
-    ensures { IfOk result (λ visits. AreDrawnVisits verified.now.planned visits.items) }
-{
-    let calendar = Calendar::new(alloc, verified.shaped(), verified.times(), None)?;
-    calendar_visits(alloc, &calendar)
+/// The visits of a run, and when each job leaves or has left.
+#[derive(Debug, Drop)]
+pub struct DrawnRun {
+    /// The visits, as a picture draws them.
+    pub visits: Vec<DrawnVisit>,
+    /// The jobs' leavings, by job.
+    pub leavings: Vec<Option<Moment>>,
 }
 
-/// The visits in a calendar.
-fn calendar_visits(alloc: Global, calendar: &Calendar<'_>) -> Result<Vec<DrawnVisit>, AllocError>
-    requires { AreSoon calendar.now }
-    ensures { let c = calendar.now in IfOk result (λ visits. visits.items ≡ all_visits c.plan (earliest_of c.times) (jobs c.plan)) }
+/// The run that goes on from a cell and the present moment, by the earliest moments ahead: first the visits that are
+/// told so far, in their order, with their ends, and then those ahead, the jobs ascending, each job's visits in the order
+/// of its route. What is overdue is taken to end at the present moment. A whole plan is such a run from the start on, of
+/// which nothing is told. Fails only when out of memory.
+pub fn drawn_run<'a, P: Planned>(
+    alloc: Global,
+    cell: &'a WorkCell<P>,
+    present: Moment,
+    times: &'a Times,
+    told: &[DrawnVisit],
+) -> Result<DrawnRun, AllocError>
+    requires present { IsNextMoment cell.now.cell present }
+    requires ordered { AreOrderedAhead cell.now.plan cell.now.cell present times.now }
+    ensures { IfOk result (IsDrawnRun cell.now.plan cell.now.cell present told.now) }
 {
+    // Called for its clause alone: sums with these moments fit.
+    cleanings_in_range(cell);
+    let calendar = Calendar::new(alloc, cell.shaped(), times, None)?;
     let mut visits = Vec::new(alloc);
-    for job in 0..calendar.jobs() {
-        push_job(&mut visits, calendar, job)?;
-    }
-    Ok(visits)
+    push_told(&mut visits, cell, present, &calendar, told)?;
+    push_ahead(&mut visits, cell, &calendar)?;
+    let leavings = leavings_by(alloc, cell, times)?;
+    Ok(DrawnRun { visits, leavings })
 }
 
-/// Adds the visits of a job.
-fn push_job(
+/// When each job leaves, or has left.
+fn leavings_by<P: Planned>(
+    alloc: Global,
+    cell: &WorkCell<P>,
+    times: &Times,
+) -> Result<Vec<Option<Moment>>, AllocError>
+    requires { AreRanks cell.now.plan times.now }
+    ensures { IfOk result (λ leavings. leavings.items ≡ leavings_by cell.now.plan (earliest_of times.now) (jobs cell.now.plan)) }
+{
+    let mut leavings = Vec::new(alloc);
+    for job in 0..cell.job_count() {
+        leavings.push(Some(leave_time(cell, times, job)))?;
+    }
+    Ok(leavings)
+}
+
+/// Adds the visits that are told so far, with their ends.
+fn push_told<P: Planned>(
     visits: &mut Vec<DrawnVisit>,
+    cell: &WorkCell<P>,
+    present: Moment,
+    calendar: &Calendar<'_>,
+    told: &[DrawnVisit],
+) -> Result<(), AllocError>
+    requires plan { calendar.now.plan ≡ cell.now.plan }
+    requires present { present ≤ MAX_MOMENT }
+    requires soon { AreSoonAhead calendar.now cell.now.cell }
+    ensures { let k = calendar.now in OnOk result (visits.new.items ≡ visits.old.items ++ map (ended_visit k.plan cell.now.cell present (earliest_of k.times)) told.now) }
+{
+    for visit in told {
+        visits.push(ended_visit(cell, present, calendar, *visit))?;
+    }
+    Ok(())
+}
+
+/// A visit that is told so far, with its ends.
+fn ended_visit<P: Planned>(
+    cell: &WorkCell<P>,
+    present: Moment,
+    calendar: &Calendar<'_>,
+    visit: DrawnVisit,
+) -> DrawnVisit
+    requires plan { calendar.now.plan ≡ cell.now.plan }
+    requires present { present ≤ MAX_MOMENT }
+    requires soon { AreSoonAhead calendar.now cell.now.cell }
+    ensures { let k = calendar.now in result ≡ ended_visit k.plan cell.now.cell present (earliest_of k.times) visit }
+{
+    match visit.leave {
+        Some(_) => left_visit(cell, present, visit),
+        None => staying_visit(cell, present, calendar, visit),
+    }
+}
+
+/// A visit that is over, with the end of the cleaning after it.
+fn left_visit<P: Planned>(cell: &WorkCell<P>, present: Moment, visit: DrawnVisit) -> DrawnVisit
+    requires { present ≤ MAX_MOMENT }
+    ensures { result ≡ left_visit cell.now.plan cell.now.cell present visit }
+{
+    let end = cleaning_end(cell, present, visit.machine);
+    DrawnVisit {
+        job: visit.job,
+        machine: visit.machine,
+        enter: visit.enter,
+        finish: visit.finish,
+        leave: visit.leave,
+        cleaned: ended_cleaning(visit.cleaned, end),
+    }
+}
+
+/// When the machine's cleaning that goes on ends, if one does.
+fn cleaning_end<P: Planned>(
+    cell: &WorkCell<P>,
+    present: Moment,
+    machine: MachineNo,
+) -> Option<Moment>
+    requires { present ≤ MAX_MOMENT }
+    ensures { result ≡ cleaning_end cell.now.plan cell.now.cell present machine }
+{
+    // Called for its clause alone: the cell is sound.
+    let shaped = cell.shaped();
+    if machine >= cell.machine_count() {
+        return None;
+    }
+    let since = cell.cleaned_since(machine)?;
+    Some((since + shaped.clean_of(machine)).max(present))
+}
+
+/// A cleaning, with this end if its own isn't told.
+fn ended_cleaning(cleaned: Cleaned, end: Option<Moment>) -> Cleaned
+    ensures { result ≡ ended_cleaning cleaned end }
+{
+    match cleaned {
+        Cleaned::Never => Cleaned::Never,
+        Cleaned::By(told) => Cleaned::By(told),
+        Cleaned::NotYet => match end {
+            Some(end) => Cleaned::By(end),
+            None => Cleaned::NotYet,
+        },
+    }
+}
+
+/// A visit whose job hasn't left, with its ends if the job is on a machine.
+fn staying_visit<P: Planned>(
+    cell: &WorkCell<P>,
+    present: Moment,
+    calendar: &Calendar<'_>,
+    visit: DrawnVisit,
+) -> DrawnVisit
+    requires plan { calendar.now.plan ≡ cell.now.plan }
+    requires present { present ≤ MAX_MOMENT }
+    requires soon { AreSoonAhead calendar.now cell.now.cell }
+    ensures { let k = calendar.now in
+        result ≡ staying_visit k.plan cell.now.cell present (earliest_of k.times) visit (place_inside k.plan cell.now.cell visit.job) }
+{
+    match place_inside(cell, visit.job) {
+        Some(place) => going_visit(cell, present, calendar, visit, place),
+        None => visit,
+    }
+}
+
+/// The place in the job's route of the step by which it is on a machine, if it is on one.
+fn place_inside<P: Planned>(cell: &WorkCell<P>, job: JobNo) -> Option<u32>
+    ensures place { result ≡ place_inside cell.now.plan cell.now.cell job }
+    ensures job { IfSome result (λ _. job < jobs cell.now.plan) }
+    ensures within { IfSome result (λ place. place < steps cell.now.plan job) }
+    ensures made { IfSome result (λ place. made cell.now.cell job ≡ place + 1) }
+{
+    // Called for its clause alone: the cell is sound.
+    let _plan = cell.shaped();
+    if job >= cell.job_count() {
+        return None;
+    }
+    let made = cell.job_state(job).made;
+    if made == 0 {
+        return None;
+    }
+    if cell.step_count(job) < made {
+        return None;
+    }
+    Some(made - 1)
+}
+
+/// The visit that the job is in by the step at a place of its route, with its ends.
+fn going_visit<P: Planned>(
+    cell: &WorkCell<P>,
+    present: Moment,
+    calendar: &Calendar<'_>,
+    visit: DrawnVisit,
+    place: u32,
+) -> DrawnVisit
+    requires plan { calendar.now.plan ≡ cell.now.plan }
+    requires present { present ≤ MAX_MOMENT }
+    requires job { visit.job < jobs calendar.now.plan }
+    requires place { place < steps calendar.now.plan visit.job }
+    requires left { IsSoon calendar.now (node visit.job (place + 1)) }
+    ensures { let k = calendar.now in result ≡ going_visit k.plan cell.now.cell present (earliest_of k.times) visit place }
+{
+    // Called for its clause alone: the plan is well shaped.
+    let _plan = cell.shaped();
+    let cleaning = calendar.cleaning(visit.job, place);
+    let finish = told_or(visit.finish, operation_end(cell, present, visit.job, place));
+    let next = Node {
+        job: visit.job,
+        place: place + 1,
+    };
+    DrawnVisit {
+        job: visit.job,
+        machine: visit.machine,
+        enter: visit.enter,
+        finish: Some(finish),
+        leave: Some(calendar.at(next)),
+        cleaned: cleaned(cleaning),
+    }
+}
+
+/// When the operation that the job is in ends, by the step at this place.
+fn operation_end<P: Planned>(cell: &WorkCell<P>, present: Moment, job: JobNo, place: u32) -> Moment
+    requires present { present ≤ MAX_MOMENT }
+    requires job { job < jobs cell.now.plan }
+    requires place { place < steps cell.now.plan job }
+    ensures { result ≡ operation_end cell.now.plan cell.now.cell present job place }
+{
+    let state = cell.job_state(job);
+    let Some(step) = cell.shaped().step_of(job, place) else {
+        unreachable!()
+    };
+    (state.since + step.nominal).max(present)
+}
+
+/// A moment as it is told, else this one.
+fn told_or(told: Option<Moment>, other: Moment) -> Moment
+    ensures { result ≡ unwrap_or told other }
+{
+    match told {
+        Some(moment) => moment,
+        None => other,
+    }
+}
+
+/// Adds the visits that are ahead.
+fn push_ahead<P: Planned>(
+    visits: &mut Vec<DrawnVisit>,
+    cell: &WorkCell<P>,
+    calendar: &Calendar<'_>,
+) -> Result<(), AllocError>
+    requires plan { calendar.now.plan ≡ cell.now.plan }
+    requires soon { AreSoonAhead calendar.now cell.now.cell }
+    ensures { let k = calendar.now in
+        OnOk result (visits.new.items ≡ visits.old.items ++ visits_ahead k.plan cell.now.cell (earliest_of k.times) (jobs k.plan)) }
+{
+    for job in 0..cell.job_count() {
+        push_job(visits, cell, calendar, job)?;
+    }
+    Ok(())
+}
+
+/// Adds the visits of a job that are ahead.
+fn push_job<P: Planned>(
+    visits: &mut Vec<DrawnVisit>,
+    cell: &WorkCell<P>,
     calendar: &Calendar<'_>,
     job: JobNo,
 ) -> Result<(), AllocError>
+    requires plan { calendar.now.plan ≡ cell.now.plan }
     requires job { job < jobs calendar.now.plan }
-    requires soon { AreSoon calendar.now }
-    ensures { let c = calendar.now in
-        OnOk result (visits.new.items ≡ visits.old.items ++ job_visits c.plan (earliest_of c.times) job (steps c.plan job)) }
+    requires soon { AreSoonAhead calendar.now cell.now.cell }
+    ensures { let k = calendar.now in
+        OnOk result (visits.new.items ≡ visits.old.items ++ job_ahead k.plan cell.now.cell (earliest_of k.times) job) }
 {
-    for place in 0..calendar.steps(job) {
+    let made = cell.job_state(job).made;
+    if calendar.steps(job) < made {
+        return Ok(());
+    }
+    push_visits(visits, calendar, job, made)
+}
+
+/// Adds the visits of a job from a place of its route on.
+fn push_visits(
+    visits: &mut Vec<DrawnVisit>,
+    calendar: &Calendar<'_>,
+    job: JobNo,
+    first: u32,
+) -> Result<(), AllocError>
+    requires job { job < jobs calendar.now.plan }
+    requires first { first ≤ steps calendar.now.plan job }
+    requires soon { AreSoonFrom calendar.now job first }
+    ensures { let k = calendar.now in
+        OnOk result (visits.new.items ≡ visits.old.items ++ job_visits k.plan (earliest_of k.times) job first (steps k.plan job - first)) }
+{
+    for place in first..calendar.steps(job) {
         visits.push(drawn_visit(calendar, job, place))?;
     }
     Ok(())

@@ -4,7 +4,7 @@ ghost use Rattle.std.specs.Prelude.{◌≡◌, IfOk};
 ghost use Rattle.plan_verifier.specs.Verdicts.{OnRefused, IsReason};
 
 use crate::plans::{CLEANED, CROSSED, TWO, planned};
-use plan_schedule::{drawn_visits, schedule};
+use plan_schedule::schedule;
 use plan_verifier::{Verdict, verify};
 use shop_base::Shaped;
 use std::alloc::{AllocError, Global};
@@ -61,20 +61,5 @@ fn each_verdict_has_its_schedule(rt: HostRuntime) -> Result<(), Fail> {
     for &(plan, text) in SCHEDULES {
         assert!(rt; tells(rt.alloc(), plan, text)?);
     }
-    Ok(())
-}
-
-/// Whether so many visits of the plan are drawn.
-fn draws(alloc: Global, plan: &[u8], count: usize) -> Result<bool, Fail> {
-    let shaped = planned(alloc, TWO, plan)?;
-    match judged(alloc, shaped)? {
-        Verdict::Accepted(verified) => Ok(drawn_visits(alloc, &verified)?.len() == count),
-        Verdict::Refused(_, _) => Ok(false),
-    }
-}
-
-#[test]
-fn each_visit_of_an_accepted_plan_is_drawn(rt: HostRuntime) -> Result<(), Fail> {
-    assert!(rt; draws(rt.alloc(), CLEANED, 4)?);
     Ok(())
 }

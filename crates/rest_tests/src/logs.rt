@@ -3,10 +3,11 @@
 use super::rests::planned;
 use cell_tables::WorkCell;
 use plan_explain::explain_after;
-use plan_schedule::schedule_after;
-use plan_verifier::verify_after;
-use run_gantt::drawn_visits;
+use plan_schedule::{drawn_run, schedule_after};
+use plan_verifier::{Judged, verify_after};
+use run_gantt::{drawn_visits, leavings_told};
 use run_log::run_of_log;
+use run_picture::DrawnVisit;
 use shop_base::limits::MAX_MOMENT;
 use shop_base::{Moment, Shaped};
 use std::alloc::{AllocError, Global};
@@ -46,6 +47,29 @@ fn is_told(alloc: Global, cell: &WorkCell<Shaped>, present: Moment) -> Result<bo
     Ok(explained.as_slice() == EXPLAINED && scheduled.as_slice() == SCHEDULED)
 }
 
+/// Whether the run from a moment on has so many visits, and as many leavings.
+fn is_drawn(
+    alloc: Global,
+    cell: &WorkCell<Shaped>,
+    present: Moment,
+    told: &[DrawnVisit],
+    counts: (usize, usize),
+) -> Result<bool, AllocError> {
+    if present < cell.last() {
+        return Ok(false);
+    }
+    if present > MAX_MOMENT {
+        return Ok(false);
+    }
+    match verify_after(alloc, cell, present)? {
+        Judged::Accepted(times) => {
+            let run = drawn_run(alloc, cell, present, &times, told)?;
+            Ok((run.visits.len(), run.leavings.len()) == counts)
+        }
+        Judged::Refused(_) => Ok(false),
+    }
+}
+
 #[test]
 fn a_torn_log_tells_the_rest_of_its_run(rt: HostRuntime) -> Result<(), Fail> {
     let run = run_of_log(rt.alloc(), planned(rt.alloc())?, LOG)?;
@@ -53,5 +77,8 @@ fn a_torn_log_tells_the_rest_of_its_run(rt: HostRuntime) -> Result<(), Fail> {
     assert!(rt; is_told(rt.alloc(), &run.cell, 4)?);
     let visits = drawn_visits(rt.alloc(), run.cell.shaped(), &run.entries)?;
     assert!(rt; visits.len() == 2);
+    assert!(rt; is_drawn(rt.alloc(), &run.cell, 4, &visits, (4, 2))?);
+    let leavings = leavings_told(rt.alloc(), run.cell.shaped(), &run.entries)?;
+    assert!(rt; leavings.as_slice() == [None, None]);
     Ok(())
 }

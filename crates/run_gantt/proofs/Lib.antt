@@ -5,3 +5,4 @@ pub mod Bars
 pub mod Lines
 pub mod Showing
 pub mod FirstEntries
+pub mod Leavings

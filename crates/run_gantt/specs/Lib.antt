@@ -2,8 +2,9 @@
 pub mod Visits
 pub mod GanttText
 pub mod DrawnVisits
+pub mod LeavingsTold
 -- Of proofs and private contracts alone.
 pub mod VisitEnds
-pub mod CleaningEnds
+pub mod FirstTold
 pub mod LinkedVisits
 pub mod Pushing

@@ -4,9 +4,9 @@ ghost use Rattle.std.specs.Prelude.{◌≡◌, ◌<◌, ◌++◌, IfOk, OnOk};
 ghost use Rattle.shop_base.specs.Plan.{machines};
 ghost use Rattle.run_gantt.specs.DrawnVisits.{begun_visit, cleaned_by, drawn_visits, if_any};
 ghost use Rattle.run_gantt.specs.VisitEnds.{AreVisitEnds};
-ghost use Rattle.run_gantt.specs.CleaningEnds.{AreCleaningEnds};
+ghost use Rattle.run_gantt.specs.FirstTold.{AreCleaningEnds};
 
-use crate::cleaning_ends::{no_cleaning_ends, note_cleaning_end};
+use crate::first_moments::{no_moments, note_cleaning_end};
 use crate::visit_ends::{VisitEnd, no_visit_ends, note_visit_end, visit_end_at};
 use cell_tables::Entry;
 use run_picture::{Cleaned, DrawnVisit};
@@ -24,7 +24,7 @@ pub fn drawn_visits(
     ensures { IfOk result (λ visits. visits.items ≡ drawn_visits shaped.now entries.now) }
 {
     let mut ends = no_visit_ends(alloc, shaped.job_count())?;
-    let mut cleanings = no_cleaning_ends(alloc, shaped.machine_count())?;
+    let mut cleanings = no_moments(alloc, shaped.machine_count())?;
     let mut visits = Vec::new(alloc);
     let mut place = entries.len();
     while place > 0 {

@@ -1,6 +1,7 @@
 -- The text of a box. Each part stands before what follows it.
 use Rattle.std.specs.Prelude.{ℕ, ◌+◌, ◌*◌, ◌/◌, ◌%◌, nat_le, Bool, true, false, if◌then◌else◌, List, [], ◌∷◌, ◌++◌, length, codes, decimal}
 use Rattle.run_picture.specs.Parts.{before}
+use Rattle.run_picture.specs.Words.{job_word, machine_word, moment_word}
 use Rattle.run_picture.specs.declared.drawn_box.BoxKind.{BoxKind}
 use Rattle.run_picture.specs.declared.drawn_box.BoxKind.TheVariants.{Work, Wait, Clean}
 use Rattle.run_picture.specs.declared.drawn_box.DrawnBox.{DrawnBox}
@@ -18,10 +19,15 @@ edges_of last drawn = record {
   foot = foot_of drawn.machine;
 }
 
--- the class of a box: its kind, and the number of its job's colour, of which there are twelve; a cleaning has none
+-- whether the job of a box is late
+abbrev pub late_onto : Bool → List ℕ → List ℕ
+late_onto true rest = before (codes " late" ∷ []) rest
+late_onto false rest = rest
+
+-- the class of a box: its kind, and the number of its job's colour, of which there are 24; a cleaning has none
 abbrev pub class_onto : BoxKind → ℕ → List ℕ → List ℕ
-class_onto Work job rest = before (codes "work c" ∷ decimal (job % 12) ∷ []) rest
-class_onto Wait job rest = before (codes "wait c" ∷ decimal (job % 12) ∷ []) rest
+class_onto Work job rest = before (codes "work c" ∷ decimal (job % 24) ∷ []) rest
+class_onto Wait job rest = before (codes "wait c" ∷ decimal (job % 24) ∷ []) rest
 class_onto Clean job rest = before (codes "clean" ∷ []) rest
 
 -- the edge on the right, which is left out where what the box shows isn't over
@@ -46,9 +52,9 @@ numbers_onto drawn rest =
 
 -- what a box shows, in words
 abbrev pub name_onto : BoxKind → ℕ → ℕ → List ℕ → List ℕ
-name_onto Work job machine rest = before (codes "job " ∷ decimal job ∷ codes " on machine " ∷ decimal machine ∷ []) rest
-name_onto Wait job machine rest = before (codes "job " ∷ decimal job ∷ codes " waits on machine " ∷ decimal machine ∷ []) rest
-name_onto Clean job machine rest = before (codes "machine " ∷ decimal machine ∷ codes " cleaned after job " ∷ decimal job ∷ []) rest
+name_onto Work job machine rest = before (codes "job " ∷ job_word job ∷ codes " on machine " ∷ machine_word machine ∷ []) rest
+name_onto Wait job machine rest = before (codes "job " ∷ job_word job ∷ codes " waits on machine " ∷ machine_word machine ∷ []) rest
+name_onto Clean job machine rest = before (codes "machine " ∷ machine_word machine ∷ codes " cleaned after job " ∷ job_word job ∷ []) rest
 
 abbrev pub over_onto : Bool → List ℕ → List ℕ
 over_onto true rest = rest
@@ -56,18 +62,18 @@ over_onto false rest = before (codes ", not over" ∷ []) rest
 
 abbrev pub title_onto : DrawnBox → List ℕ → List ℕ
 title_onto drawn rest =
-    name_onto drawn.kind drawn.job drawn.machine (before (codes " from " ∷ decimal drawn.from ∷ codes " to " ∷ decimal drawn.to ∷ []) (over_onto drawn.over rest))
+    name_onto drawn.kind drawn.job drawn.machine (before (codes " from " ∷ moment_word drawn.from ∷ codes " to " ∷ moment_word drawn.to ∷ []) (over_onto drawn.over rest))
 
--- the job's number in the middle of a box, in the ink of its colour
+-- the job in the middle of a box, in the ink of its colour
 abbrev pub label_onto : ℕ → Edges → List ℕ → List ℕ
 label_onto job edges rest =
-    before (codes "<text class=\"t" ∷ decimal (job % 12) ∷ codes "\" x=\"" ∷ decimal ((edges.left + edges.right) / 2) ∷ codes "\" y=\"" ∷ decimal edges.foot ∷ codes "\">" ∷ decimal job ∷ codes "</text>" ∷ []) rest
+    before (codes "<text class=\"t" ∷ decimal (job % 24) ∷ codes "\" x=\"" ∷ decimal ((edges.left + edges.right) / 2) ∷ codes "\" y=\"" ∷ decimal edges.foot ∷ codes "\">" ∷ job_word job ∷ codes "</text>" ∷ []) rest
 
--- whether there is room for the job's number between the edges: 70 for each digit, and 40
+-- whether there is room for the job between the edges: 70 for each byte, and 40
 abbrev pub has_room : ℕ → Edges → Bool
-has_room job edges = nat_le (edges.left + (40 + 70 * length (decimal job))) edges.right
+has_room job edges = nat_le (edges.left + (40 + 70 * length (job_word job))) edges.right
 
--- the job's number in the box of an operation, where there is room
+-- the job in the box of an operation, where there is room
 abbrev pub number_onto : BoxKind → ℕ → Edges → List ℕ → List ℕ
 number_onto Work job edges rest = if has_room job edges then label_onto job edges rest else rest
 number_onto Wait job edges rest = rest
@@ -76,8 +82,8 @@ number_onto Clean job edges rest = rest
 -- the text of a box between these edges
 unfoldable pub box_text_at : Edges → DrawnBox → List ℕ
 box_text_at edges drawn =
-    codes "<path class=\"" ++ class_onto drawn.kind drawn.job (codes "\" d=\"" ++ path_onto edges drawn.over (codes "\"" ++ numbers_onto drawn (
-    codes "><title>" ++ title_onto drawn (codes "</title></path>" ++ number_onto drawn.kind drawn.job edges (codes "\n")))))
+    codes "<path class=\"" ++ class_onto drawn.kind drawn.job (late_onto drawn.late (codes "\" d=\"" ++ path_onto edges drawn.over (codes "\"" ++ numbers_onto drawn (
+    codes "><title>" ++ title_onto drawn (codes "</title></path>" ++ number_onto drawn.kind drawn.job edges (codes "\n"))))))
 
 -- the text of a box
 abbrev pub box_text : ℕ → DrawnBox → List ℕ

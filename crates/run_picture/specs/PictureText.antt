@@ -1,21 +1,26 @@
 -- The text of a picture.
-use Rattle.std.specs.Prelude.{◌≡◌, ℕ, ◌+◌, ◌*◌, ◌/◌, List, [], ◌∷◌, flat_map, codes, decimal}
+use Rattle.std.specs.Prelude.{◌≡◌, ℕ, ◌+◌, ◌*◌, ◌/◌, Bool, true, false, List, [], ◌∷◌, ◌++◌, flat_map, codes, decimal, Option, None, Some}
 use Rattle.std.specs.List.{range_with_len}
 use Rattle.run_picture.specs.Parts.{before}
+use Rattle.run_picture.specs.Words.{machine_word, moment_word}
 use Rattle.run_picture.specs.declared.visit.DrawnVisit.{DrawnVisit}
+use Rattle.run_picture.specs.declared.head.Head.{Head}
+use Rattle.run_picture.specs.declared.head.Head.TheVariants.{Accepted, Late, Log}
+use Rattle.run_picture.specs.declared.head.Sheet.{Sheet}
+use Rattle.run_picture.specs.declared.late_leaving.LateLeaving.{LateLeaving}
 use Rattle.run_picture.specs.Axis.{x_at, IsStep}
 pub use Rattle.run_picture.specs.Axis.{IsStepAbove}
-use Rattle.run_picture.specs.Frame.{foot_of, rows_end, height_for}
+use Rattle.run_picture.specs.Frame.{bottom_of, foot_of, rows_end, height_for}
 use Rattle.run_picture.specs.Boxes.{boxes_of}
 use Rattle.run_picture.specs.BoxText.{box_text}
 
 -- how texts, outlines and kinds of boxes are drawn
 unfoldable pub style_text : List ℕ
-style_text = codes "<style>text{font:110px sans-serif;fill:#222;text-anchor:middle;pointer-events:none}.row{text-anchor:end}path{stroke:#222;stroke-width:5}.paper{fill:#fff;stroke:none}.line{fill:none;stroke:#ccc}.wait{fill-opacity:.35}.clean{fill:#c8c8c8}\n"
+style_text = codes "<style>text{font:110px sans-serif;fill:#222;text-anchor:middle;pointer-events:none}.row{text-anchor:end}.head{text-anchor:start;font-weight:bold}path{stroke:#222;stroke-width:5}.paper{fill:#fff;stroke:none}.line{fill:none;stroke:#ccc}.wait{fill-opacity:.35}.clean{fill:#c8c8c8}.late{stroke:#d00;stroke-width:18}.mark{fill:#d00;stroke:#d00;stroke-width:18}.now{fill:none;stroke:#06c;stroke-width:18}\n"
 
 -- the colours of jobs, and the ink of their numbers
 unfoldable pub colour_text : List ℕ
-colour_text = codes ".c0{fill:#0000ff}.c1{fill:#ffcc00}.c2{fill:#663399}.c3{fill:#33ff99}.c4{fill:#990000}.c5{fill:#9999ff}.c6{fill:#ff3300}.c7{fill:#3366ff}.c8{fill:#669966}.c9{fill:#ccccff}.c10{fill:#663366}.c11{fill:#669999}.t0,.t2,.t4,.t7,.t10{fill:#fff}</style>\n"
+colour_text = codes ".c0{fill:#3399ff}.c1{fill:#bbaa88}.c2{fill:#227722}.c3{fill:#bbeeff}.c4{fill:#775577}.c5{fill:#999922}.c6{fill:#88ffcc}.c7{fill:#3366cc}.c8{fill:#bb99bb}.c9{fill:#446655}.c10{fill:#bbdd66}.c11{fill:#998888}.c12{fill:#ff7766}.c13{fill:#22aa99}.c14{fill:#eebbaa}.c15{fill:#8888cc}.c16{fill:#55aa55}.c17{fill:#ee7799}.c18{fill:#aabbdd}.c19{fill:#996666}.c20{fill:#ffdd99}.c21{fill:#22bbee}.c22{fill:#bb4499}.c23{fill:#bb3355}.t2,.t4,.t7,.t9,.t19,.t22,.t23{fill:#fff}</style>\n"
 
 -- how large the picture of so many machines is
 unfoldable pub head_text : ℕ → List ℕ
@@ -25,20 +30,46 @@ head_text machines =
 -- its ground
 unfoldable pub ground_text : ℕ → List ℕ
 ground_text machines =
-    before (codes "<path class=\"paper\" d=\"M0 0H12000V" ∷ decimal (height_for machines) ∷ []) (codes "H0Z\"/>\n<text class=\"row\" x=\"600\" y=\"260\">machine</text>\n")
+    before (codes "<path class=\"paper\" d=\"M0 0H12000V" ∷ decimal (height_for machines) ∷ []) (codes "H0Z\"/>\n<text class=\"row\" x=\"600\" y=\"290\">machine</text>\n")
 
--- a moment on the axis: a line through all rows, and its number above them
+-- whether the run of a log has ended, in words
+abbrev pub end_word : Bool → List ℕ
+end_word true = codes " complete"
+end_word false = codes " partial"
+
+-- what stands above the rows, in words: `accepted makespan 349`, `late by 15`, `log last 55 complete`
+abbrev pub head_words : Head → List ℕ
+head_words (Accepted makespan) = codes "accepted makespan " ++ decimal makespan
+head_words (Late by) = codes "late by " ++ decimal by
+head_words (Log last complete) = codes "log last " ++ decimal last ++ end_word complete
+
+unfoldable pub words_text : Head → List ℕ
+words_text head = before (codes "<text class=\"head\" x=\"700\" y=\"130\">" ∷ head_words head ∷ []) (codes "</text>\n")
+
+-- a moment on the axis: a line through all rows, and the moment above them
 unfoldable pub moment_text : ℕ → ℕ → ℕ → List ℕ
 moment_text machines last t =
-    before (codes "<path class=\"line\" d=\"M" ∷ decimal (x_at last t) ∷ codes " 320V" ∷ decimal (rows_end machines) ∷ codes "\"/><text x=\"" ∷ decimal (x_at last t) ∷ codes "\" y=\"260\">" ∷ decimal t ∷ []) (codes "</text>\n")
+    before (codes "<path class=\"line\" d=\"M" ∷ decimal (x_at last t) ∷ codes " 330V" ∷ decimal (rows_end machines) ∷ codes "\"/><text x=\"" ∷ decimal (x_at last t) ∷ codes "\" y=\"290\">" ∷ moment_word t ∷ []) (codes "</text>\n")
 
--- the number of machine m before its row
+-- machine m before its row
 unfoldable pub row_text : ℕ → List ℕ
-row_text m = before (codes "<text class=\"row\" x=\"600\" y=\"" ∷ decimal (foot_of m) ∷ codes "\">" ∷ decimal m ∷ []) (codes "</text>\n")
+row_text m = before (codes "<text class=\"row\" x=\"600\" y=\"" ∷ decimal (foot_of m) ∷ codes "\">" ∷ machine_word m ∷ []) (codes "</text>\n")
 
 -- the boxes of a visit
-unfoldable pub visit_text : ℕ → DrawnVisit → List ℕ
-visit_text last visit = flat_map (box_text last) (boxes_of last visit)
+unfoldable pub visit_text : ℕ → List (Option LateLeaving) → DrawnVisit → List ℕ
+visit_text last late visit = flat_map (box_text last) (boxes_of last late visit)
+
+-- the mark of a late leaving: a flag, in the row of the machine that the job leaves
+unfoldable pub mark_text : ℕ → Option LateLeaving → List ℕ
+mark_text last None = []
+mark_text last (Some leaving) =
+    before (codes "<path class=\"mark\" d=\"M" ∷ decimal (x_at last leaving.at) ∷ codes " " ∷ decimal (bottom_of leaving.machine) ∷ []) (codes "v-220l90 45l-90 45\"/>\n")
+
+-- the line through all rows at the present moment, if there is one
+unfoldable pub present_text : ℕ → ℕ → Option ℕ → List ℕ
+present_text machines last None = []
+present_text machines last (Some t) =
+    before (codes "<path class=\"now\" d=\"M" ∷ decimal (x_at last t) ∷ codes " 330V" ∷ decimal (rows_end machines) ∷ []) (codes "\"/>\n")
 
 -- the moments on the axis, by this step
 abbrev pub axis_text : ℕ → ℕ → ℕ → List ℕ
@@ -47,20 +78,23 @@ axis_text machines last step = flat_map (λ i. moment_text machines last (i * st
 abbrev pub rows_text : ℕ → List ℕ
 rows_text machines = flat_map row_text (range_with_len 0 machines)
 
-abbrev pub visits_text : ℕ → List DrawnVisit → List ℕ
-visits_text last visits = flat_map (visit_text last) visits
+abbrev pub visits_text : ℕ → List (Option LateLeaving) → List DrawnVisit → List ℕ
+visits_text last late visits = flat_map (visit_text last late) visits
+
+abbrev pub marks_text : ℕ → List (Option LateLeaving) → List ℕ
+marks_text last late = flat_map (mark_text last) late
 
 -- what stands before the axis
-unfoldable pub frame_text : ℕ → List ℕ
-frame_text machines = before (head_text machines ∷ style_text ∷ colour_text ∷ []) (ground_text machines)
+unfoldable pub frame_text : ℕ → Head → List ℕ
+frame_text machines head = before (head_text machines ∷ style_text ∷ colour_text ∷ ground_text machines ∷ []) (words_text head)
 
--- the picture of visits to so many machines up to the last moment, with moments of its axis by this step
-abbrev pub picture_text : ℕ → ℕ → List DrawnVisit → ℕ → List ℕ
-picture_text machines last visits step =
-    before (frame_text machines ∷ axis_text machines last step ∷ rows_text machines ∷ visits_text last visits ∷ []) (codes "</svg>\n")
+-- the picture of visits, with marks at late leavings, and with moments of its axis by this step
+abbrev pub picture_text : Sheet → List DrawnVisit → List (Option LateLeaving) → ℕ → List ℕ
+picture_text sheet visits late step =
+    before (frame_text sheet.machines sheet.head ∷ axis_text sheet.machines sheet.last step ∷ rows_text sheet.machines ∷ visits_text sheet.last late visits ∷ marks_text sheet.last late ∷ present_text sheet.machines sheet.last sheet.present ∷ []) (codes "</svg>\n")
 
--- the picture of visits to so many machines up to the last moment
-pub record IsPicture (machines last : ℕ) (visits : List DrawnVisit) (text : List ℕ) : Type 0 where
+-- the picture of visits, of which those of late jobs are marked
+pub record IsPicture (sheet : Sheet) (visits : List DrawnVisit) (late : List (Option LateLeaving)) (text : List ℕ) : Type 0 where
   pub step : ℕ
-  pub is_step : IsStep last step
-  pub is : text ≡ picture_text machines last visits step
+  pub is_step : IsStep sheet.last step
+  pub is : text ≡ picture_text sheet visits late step

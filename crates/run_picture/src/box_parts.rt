@@ -1,10 +1,11 @@
 //! The parts of a box's text, each written before what there is.
 
 ghost use Rattle.std.specs.Prelude.{◌≡◌, ◌+◌, ◌≤◌, length};
-ghost use Rattle.run_picture.specs.BoxText.{class_onto, path_onto, edge_onto, numbers_onto, kind_onto, title_onto, name_onto, over_onto, label_onto};
+ghost use Rattle.run_picture.specs.BoxText.{class_onto, late_onto, path_onto, edge_onto, numbers_onto, kind_onto, title_onto, name_onto, over_onto, label_onto};
 ghost use Rattle.run_picture.specs.declared.box_parts.TheConstants.{BOX_ROOM};
 
 use crate::drawn_box::{BoxKind, DrawnBox};
+use crate::words::{put_job, put_machine, put_moment};
 use shop_base::{JobNo, MachineNo};
 use text_lines::LineText;
 
@@ -33,14 +34,25 @@ pub(crate) fn put_class(line: &mut BoxLine, kind: BoxKind, job: JobNo)
 {
     match kind {
         BoxKind::Work => {
-            line.put_short_number(job % 12);
+            line.put_short_number(job % 24);
             line.put_text(b"work c");
         }
         BoxKind::Wait => {
-            line.put_short_number(job % 12);
+            line.put_short_number(job % 24);
             line.put_text(b"wait c");
         }
         BoxKind::Clean => line.put_text(b"clean"),
+    }
+}
+
+/// Writes whether the job of a box is late.
+pub(crate) fn put_late(line: &mut BoxLine, late: bool)
+    requires { length line.old ≤ 690 }
+    ensures written { line.new ≡ late_onto late line.old }
+    ensures length { length line.new ≤ 5 + length line.old }
+{
+    if late {
+        line.put_text(b" late");
     }
 }
 
@@ -111,9 +123,9 @@ pub(crate) fn put_title(line: &mut BoxLine, drawn: DrawnBox)
     ensures length { length line.new ≤ 110 + length line.old }
 {
     put_over(line, drawn.over);
-    line.put_number(drawn.to);
+    put_moment(line, drawn.to);
     line.put_text(b" to ");
-    line.put_number(drawn.from);
+    put_moment(line, drawn.from);
     line.put_text(b" from ");
     put_name(line, drawn.kind, drawn.job, drawn.machine);
 }
@@ -135,27 +147,27 @@ fn put_name(line: &mut BoxLine, kind: BoxKind, job: JobNo, machine: MachineNo)
 {
     match kind {
         BoxKind::Work => {
-            line.put_short_number(machine);
+            put_machine(line, machine);
             line.put_text(b" on machine ");
-            line.put_short_number(job);
+            put_job(line, job);
             line.put_text(b"job ");
         }
         BoxKind::Wait => {
-            line.put_short_number(machine);
+            put_machine(line, machine);
             line.put_text(b" waits on machine ");
-            line.put_short_number(job);
+            put_job(line, job);
             line.put_text(b"job ");
         }
         BoxKind::Clean => {
-            line.put_short_number(job);
+            put_job(line, job);
             line.put_text(b" cleaned after job ");
-            line.put_short_number(machine);
+            put_machine(line, machine);
             line.put_text(b"machine ");
         }
     }
 }
 
-/// Writes the job's number in the middle of a box.
+/// Writes the job in the middle of a box.
 pub(crate) fn put_label(line: &mut BoxLine, job: JobNo, edges: Edges)
     requires left { edges.left ≤ 11_500 }
     requires right { edges.right ≤ 11_500 }
@@ -164,12 +176,12 @@ pub(crate) fn put_label(line: &mut BoxLine, job: JobNo, edges: Edges)
     ensures length { length line.new ≤ 110 + length line.old }
 {
     line.put_text(b"</text>");
-    line.put_short_number(job);
+    put_job(line, job);
     line.put_text(b"\">");
     line.put_number(edges.foot);
     line.put_text(b"\" y=\"");
     line.put_number((edges.left + edges.right) / 2);
     line.put_text(b"\" x=\"");
-    line.put_short_number(job % 12);
+    line.put_short_number(job % 24);
     line.put_text(b"<text class=\"t");
 }

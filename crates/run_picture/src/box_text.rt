@@ -1,13 +1,17 @@
 //! The text of a box.
 
-ghost use Rattle.std.specs.Prelude.{◌≡◌, ◌+◌, ◌≤◌, length, decimal, OnOk};
+ghost use Rattle.std.specs.Prelude.{◌≡◌, ◌+◌, ◌≤◌, length, OnOk};
 ghost use Rattle.run_picture.specs.BoxText.{edges_of, has_room, number_onto, box_text_at, box_text};
+ghost use Rattle.run_picture.specs.Words.{job_word};
 ghost use Rattle.byte_streams.specs.Lent.{WroteTo};
 
 use crate::axis::x_at;
-use crate::box_parts::{BoxLine, Edges, put_class, put_label, put_numbers, put_path, put_title};
+use crate::box_parts::{
+    BoxLine, Edges, put_class, put_label, put_late, put_numbers, put_path, put_title,
+};
 use crate::drawn_box::{BoxKind, DrawnBox};
 use crate::frame::{bottom_of, foot_of, top_of};
+use crate::words::put_job;
 use byte_streams::{Sink, WriteFault, put_all};
 use shop_base::{JobNo, Moment};
 use text_lines::LineText;
@@ -53,12 +57,13 @@ fn box_line(edges: Edges, drawn: DrawnBox) -> BoxLine
     line.put_text(b"\"");
     put_path(&mut line, edges, drawn.over);
     line.put_text(b"\" d=\"");
+    put_late(&mut line, drawn.late);
     put_class(&mut line, drawn.kind, drawn.job);
     line.put_text(b"<path class=\"");
     line
 }
 
-/// Writes the job's number in the box of an operation, if there is room.
+/// Writes the job in the box of an operation, if there is room.
 fn put_number(line: &mut BoxLine, kind: BoxKind, job: JobNo, edges: Edges)
     requires left { edges.left ≤ 11_500 }
     requires right { edges.right ≤ 11_500 }
@@ -80,15 +85,15 @@ fn has_room(job: JobNo, edges: Edges) -> bool
     requires { edges.left ≤ 11_500 }
     ensures { result ≡ has_room job edges }
 {
-    edges.left + (40 + 70 * digits(job)) <= edges.right
+    edges.left + (40 + 70 * word_length(job)) <= edges.right
 }
 
-/// How many digits a number has.
-fn digits(number: u32) -> u64
-    ensures count { result ≡ length (decimal number) }
+/// How many bytes the word of a job has.
+fn word_length(job: JobNo) -> u64
+    ensures count { result ≡ length (job_word job) }
     ensures few { result ≤ 10 }
 {
     let mut word: LineText<10> = LineText::empty();
-    word.put_short_number(number);
+    put_job(&mut word, job);
     word.bytes().len() as u64
 }

@@ -26,11 +26,13 @@ pub(crate) struct DrawnBox {
     pub from: Moment,
     pub to: Moment,
     pub over: bool,
+    /// Whether the job leaves past its budget.
+    pub late: bool,
 }
 
 /// The box of a visit's operation.
-pub(crate) fn work_box(last: Moment, visit: DrawnVisit) -> DrawnBox
-    ensures { result ≡ work_box last visit }
+pub(crate) fn work_box(last: Moment, late: bool, visit: DrawnVisit) -> DrawnBox
+    ensures { result ≡ work_box last late visit }
 {
     DrawnBox {
         kind: BoxKind::Work,
@@ -39,12 +41,13 @@ pub(crate) fn work_box(last: Moment, visit: DrawnVisit) -> DrawnBox
         from: visit.enter,
         to: end_of(last, visit.finish),
         over: is_told(visit.finish),
+        late,
     }
 }
 
 /// The box of a visit's wait, if there is one.
-pub(crate) fn wait_box(last: Moment, visit: DrawnVisit) -> Option<DrawnBox>
-    ensures { result ≡ wait_box last visit }
+pub(crate) fn wait_box(last: Moment, late: bool, visit: DrawnVisit) -> Option<DrawnBox>
+    ensures { result ≡ wait_box last late visit }
 {
     let from = visit.finish?;
     let to = end_of(last, visit.leave);
@@ -58,6 +61,7 @@ pub(crate) fn wait_box(last: Moment, visit: DrawnVisit) -> Option<DrawnBox>
         from,
         to,
         over: is_told(visit.leave),
+        late,
     })
 }
 
@@ -78,6 +82,7 @@ pub(crate) fn clean_box(last: Moment, visit: DrawnVisit) -> Option<DrawnBox>
         from,
         to,
         over,
+        late: false,
     })
 }
 

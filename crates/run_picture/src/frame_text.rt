@@ -1,10 +1,13 @@
 //! What is around the boxes, in text.
 
-ghost use Rattle.std.specs.Prelude.{◌≡◌};
-ghost use Rattle.run_picture.specs.PictureText.{style_text, colour_text, head_text, ground_text, moment_text, row_text};
+ghost use Rattle.std.specs.Prelude.{◌≡◌, ◌+◌, ◌≤◌, ◌++◌, length, Some};
+ghost use Rattle.run_picture.specs.PictureText.{style_text, colour_text, head_text, ground_text, end_word, head_words, words_text, moment_text, row_text, mark_text, present_text};
 
 use crate::axis::x_at;
-use crate::frame::{foot_of, height_for, rows_end};
+use crate::frame::{bottom_of, foot_of, height_for, rows_end};
+use crate::head::Head;
+use crate::late_leaving::LateLeaving;
+use crate::words::{put_machine, put_moment};
 use shop_base::{MachineNo, Moment};
 use text_lines::LineText;
 
@@ -15,14 +18,14 @@ pub(crate) type FrameLine = LineText<250>;
 pub(crate) fn style_text() -> &'static [u8]
     ensures { result.now ≡ style_text }
 {
-    b"<style>text{font:110px sans-serif;fill:#222;text-anchor:middle;pointer-events:none}.row{text-anchor:end}path{stroke:#222;stroke-width:5}.paper{fill:#fff;stroke:none}.line{fill:none;stroke:#ccc}.wait{fill-opacity:.35}.clean{fill:#c8c8c8}\n"
+    b"<style>text{font:110px sans-serif;fill:#222;text-anchor:middle;pointer-events:none}.row{text-anchor:end}.head{text-anchor:start;font-weight:bold}path{stroke:#222;stroke-width:5}.paper{fill:#fff;stroke:none}.line{fill:none;stroke:#ccc}.wait{fill-opacity:.35}.clean{fill:#c8c8c8}.late{stroke:#d00;stroke-width:18}.mark{fill:#d00;stroke:#d00;stroke-width:18}.now{fill:none;stroke:#06c;stroke-width:18}\n"
 }
 
 /// The colours of jobs, and the ink of their numbers.
 pub(crate) fn colour_text() -> &'static [u8]
     ensures { result.now ≡ colour_text }
 {
-    b".c0{fill:#0000ff}.c1{fill:#ffcc00}.c2{fill:#663399}.c3{fill:#33ff99}.c4{fill:#990000}.c5{fill:#9999ff}.c6{fill:#ff3300}.c7{fill:#3366ff}.c8{fill:#669966}.c9{fill:#ccccff}.c10{fill:#663366}.c11{fill:#669999}.t0,.t2,.t4,.t7,.t10{fill:#fff}</style>\n"
+    b".c0{fill:#3399ff}.c1{fill:#bbaa88}.c2{fill:#227722}.c3{fill:#bbeeff}.c4{fill:#775577}.c5{fill:#999922}.c6{fill:#88ffcc}.c7{fill:#3366cc}.c8{fill:#bb99bb}.c9{fill:#446655}.c10{fill:#bbdd66}.c11{fill:#998888}.c12{fill:#ff7766}.c13{fill:#22aa99}.c14{fill:#eebbaa}.c15{fill:#8888cc}.c16{fill:#55aa55}.c17{fill:#ee7799}.c18{fill:#aabbdd}.c19{fill:#996666}.c20{fill:#ffdd99}.c21{fill:#22bbee}.c22{fill:#bb4499}.c23{fill:#bb3355}.t2,.t4,.t7,.t9,.t19,.t22,.t23{fill:#fff}</style>\n"
 }
 
 /// How large the picture is.
@@ -44,10 +47,52 @@ pub(crate) fn ground_line(machines: u32) -> FrameLine
     ensures { result ≡ ground_text machines }
 {
     let mut line = FrameLine::ended();
-    line.put_text(b"H0Z\"/>\n<text class=\"row\" x=\"600\" y=\"260\">machine</text>");
+    line.put_text(b"H0Z\"/>\n<text class=\"row\" x=\"600\" y=\"290\">machine</text>");
     line.put_number(height_for(machines));
     line.put_text(b"<path class=\"paper\" d=\"M0 0H12000V");
     line
+}
+
+/// What stands above the rows.
+pub(crate) fn words_line(head: Head) -> FrameLine
+    ensures { result ≡ words_text head }
+{
+    let mut line = FrameLine::ended();
+    line.put_text(b"</text>");
+    put_head_words(&mut line, head);
+    line.put_text(b"<text class=\"head\" x=\"700\" y=\"130\">");
+    line
+}
+
+/// Writes what stands above the rows, in words.
+fn put_head_words(line: &mut FrameLine, head: Head)
+    requires { length line.old ≤ 20 }
+    ensures written { line.new ≡ head_words head ++ line.old }
+    ensures length { length line.new ≤ 60 + length line.old }
+{
+    match head {
+        Head::Accepted { makespan } => {
+            line.put_number(makespan);
+            line.put_text(b"accepted makespan ");
+        }
+        Head::Late { by } => {
+            line.put_number(by);
+            line.put_text(b"late by ");
+        }
+        Head::Log { last, complete } => {
+            line.put_text(end_word(complete));
+            line.put_number(last);
+            line.put_text(b"log last ");
+        }
+    }
+}
+
+/// Whether the run of a log has ended, in words.
+fn end_word(complete: bool) -> &'static [u8]
+    ensures word { result.now ≡ end_word complete }
+    ensures few { length result.now ≤ 9 }
+{
+    if complete { b" complete" } else { b" partial" }
 }
 
 /// A moment on the axis.
@@ -57,12 +102,12 @@ pub(crate) fn moment_line(machines: u32, last: Moment, moment: Moment) -> FrameL
     let x = x_at(last, moment);
     let mut line = FrameLine::ended();
     line.put_text(b"</text>");
-    line.put_number(moment);
-    line.put_text(b"\" y=\"260\">");
+    put_moment(&mut line, moment);
+    line.put_text(b"\" y=\"290\">");
     line.put_number(x);
     line.put_text(b"\"/><text x=\"");
     line.put_number(rows_end(machines));
-    line.put_text(b" 320V");
+    line.put_text(b" 330V");
     line.put_number(x);
     line.put_text(b"<path class=\"line\" d=\"M");
     line
@@ -74,9 +119,53 @@ pub(crate) fn row_line(machine: MachineNo) -> FrameLine
 {
     let mut line = FrameLine::ended();
     line.put_text(b"</text>");
-    line.put_short_number(machine);
+    put_machine(&mut line, machine);
     line.put_text(b"\">");
     line.put_number(foot_of(machine));
     line.put_text(b"<text class=\"row\" x=\"600\" y=\"");
+    line
+}
+
+/// The mark of a leaving past the job's budget; nothing if there is none.
+pub(crate) fn mark_line(last: Moment, late: Option<LateLeaving>) -> FrameLine
+    ensures { result ≡ mark_text last late }
+{
+    match late {
+        Some(leaving) => flag_line(last, leaving),
+        None => FrameLine::empty(),
+    }
+}
+
+fn flag_line(last: Moment, leaving: LateLeaving) -> FrameLine
+    ensures { result ≡ mark_text last (Some leaving) }
+{
+    let mut line = FrameLine::ended();
+    line.put_text(b"v-220l90 45l-90 45\"/>");
+    line.put_number(bottom_of(leaving.machine));
+    line.put_text(b" ");
+    line.put_number(x_at(last, leaving.at));
+    line.put_text(b"<path class=\"mark\" d=\"M");
+    line
+}
+
+/// The line through all rows at the present moment; nothing if there is none.
+pub(crate) fn present_line(machines: u32, last: Moment, present: Option<Moment>) -> FrameLine
+    ensures { result ≡ present_text machines last present }
+{
+    match present {
+        Some(moment) => now_line(machines, last, moment),
+        None => FrameLine::empty(),
+    }
+}
+
+fn now_line(machines: u32, last: Moment, moment: Moment) -> FrameLine
+    ensures { result ≡ present_text machines last (Some moment) }
+{
+    let mut line = FrameLine::ended();
+    line.put_text(b"\"/>");
+    line.put_number(rows_end(machines));
+    line.put_text(b" 330V");
+    line.put_number(x_at(last, moment));
+    line.put_text(b"<path class=\"now\" d=\"M");
     line
 }

@@ -27,7 +27,7 @@ fn last_of_visit(visit: DrawnVisit) -> Moment
     visit.enter.max(finish.max(leave.max(clean)))
 }
 
-fn moment_or_none(moment: Option<Moment>) -> Moment
+pub(crate) fn moment_or_none(moment: Option<Moment>) -> Moment
     ensures { result ≡ moment_or_none moment }
 {
     match moment {

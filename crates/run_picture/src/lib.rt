@@ -1,4 +1,5 @@
-//! A run as a picture: the visits of jobs to machines as boxes along an axis of time, in one SVG document.
+//! A run as a picture: the visits of jobs to machines as boxes along an axis of time, in one SVG document, with marks of
+//! the jobs that leave past their budgets.
 #![tactic(auto)]
 
 mod axis;
@@ -7,10 +8,15 @@ mod box_text;
 mod drawn_box;
 mod frame;
 mod frame_text;
+mod head;
 mod last_moments;
+mod late_leaving;
 mod picture;
 mod visit;
+mod words;
 
+pub use head::{Head, Sheet};
 pub use last_moments::last_moment;
+pub use late_leaving::{LateLeaving, late_leavings, lateness, latest};
 pub use picture::Picture;
 pub use visit::{Cleaned, DrawnVisit};

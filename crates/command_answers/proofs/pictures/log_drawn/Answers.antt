@@ -1,8 +1,5 @@
-use Rattle.std.proofs.Common.{◌∙◌, List, ℕ, ap, subst}
+use Rattle.std.proofs.Common.{inl, inr, refl}
 use Rattle.text_lines.specs.Lines.{lines_of}
-use Rattle.run_picture.specs.declared.visit.DrawnVisit.{DrawnVisit}
-use Rattle.run_picture.specs.PictureText.{IsPicture}
-use Rattle.run_gantt.specs.DrawnVisits.{drawn_visits}
 use Rattle.command_answers.specs.LogLines.{IsLogRefused}
 use Rattle.command_answers.specs.Pictures.{IsLogDrawn}
 use Rattle.command_answers.specs.Steps.{IsOrMemory}
@@ -10,19 +7,14 @@ use Rattle.command_answers.proofs.Passing.{at_fault}
 use Rattle.command_answers.proofs.LogAnswers.{refused_log}
 use Rattle.command_answers.proofs.pictures.log_drawn.Goals as goal
 
-pub returns-in_ok-visits-in-Ok : goal.returns-in_ok-visits-in-Ok
-returns-in_ok-visits-in-Ok c = (let p = c.args.shaped.now in let run = c.in-Ok.found in record {
-  run = run;
-  is = c.in-Ok.ensures.kept;
-  drawn = subst (λ (n : ℕ). IsPicture n run.last (drawn_visits p run.entries.items) c.new.result) c.machine_count-machines.ensures.count
-      (subst (λ (visits : List DrawnVisit). IsPicture c.machine_count-machines.result run.last visits c.new.result) (c.in_ok-visits-in-Ok.ensures ∙ ap (drawn_visits p) c.as_slice.ensures.value) c.new.ensures);
-})
+pub returns-in_ok-picture-in-Ok : goal.returns-in_ok-picture-in-Ok
+returns-in_ok-picture-in-Ok c = inl (record { run = c.in-Ok.found; is = c.in-Ok.ensures.kept; drawn = c.in_ok-picture-in-Ok.ensures }, refl)
 
 pub returns-in_ok-fault_told-in-Err : goal.returns-in_ok-fault_told-in-Err
 returns-in_ok-fault_told-in-Err c =
     let p = c.args.shaped.now in
     let lines = lines_of c.args.log.now in
-    refused_log p lines (IsLogRefused p lines) (λ answer line. line) c.in-Err.fault _ c.in-Err.ensures.fault c.in_ok-fault_told-in-Err.ensures
+    inr (refused_log p lines (IsLogRefused p lines) (λ answer line. line) c.in-Err.fault _ c.in-Err.ensures.fault c.in_ok-fault_told-in-Err.ensures)
 
 pub returns-in_err-fault_told-in-Err : goal.returns-in_err-fault_told-in-Err
 returns-in_err-fault_told-in-Err c =

@@ -2,9 +2,19 @@ use Rattle.std.proofs.Common.{List, drop, subst, arith}
 use Rattle.std.proofs.lemmas.Grind.{common_steps}
 use Rattle.shop_base.specs.Plan.{machines}
 use Rattle.cell_tables.specs.declared.entry.Entry.{Entry}
-use Rattle.run_gantt.specs.CleaningEnds.{AreCleaningEnds}
+use Rattle.run_gantt.specs.FirstTold.{AreCleaningEnds}
+use Rattle.run_gantt.specs.DrawnVisits.{clean_told}
 use Rattle.run_gantt.proofs.FirstEntries.{entry_first}
+use Rattle.run_gantt.proofs.Leavings.{none_noted}
 use Rattle.run_gantt.proofs.picture_visits.drawn_visits.Goals as goal
+
+pub loop-place-init : goal.loop-place-init
+loop-place-init c = record {
+  within = grind (arith, common_steps);
+  ends = grind (arith, common_steps);
+  cleanings = none_noted clean_told _ (machines c.args.shaped.now) c.in_ok-cleanings.cleanings.items c.args.entries.now c.machine_count.ensures.count c.in_ok-cleanings.ensures;
+  visits = grind (arith, common_steps);
+}
 
 pub loop-place-preserved : goal.loop-place-preserved
 loop-place-preserved c =

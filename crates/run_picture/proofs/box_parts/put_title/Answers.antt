@@ -5,8 +5,8 @@ pub returns-clause-written : goal.returns-clause-written
 returns-clause-written c = rw (
   c.put_name.ensures.written,
   c.put_text-2.ensures.written,
-  c.put_number-2.ensures.written,
+  c.put_moment-2.ensures.written,
   c.put_text.ensures.written,
-  c.put_number.ensures.written,
+  c.put_moment.ensures.written,
   c.put_over.ensures.written,
 ) refl

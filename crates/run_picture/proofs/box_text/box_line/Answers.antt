@@ -7,6 +7,7 @@ unfolding box_text_at
 returns c = rw (
   c.put_text-5.ensures.written,
   c.put_class.ensures.written,
+  c.put_late.ensures.written,
   c.put_text-4.ensures.written,
   c.put_path.ensures.written,
   c.put_text-3.ensures.written,

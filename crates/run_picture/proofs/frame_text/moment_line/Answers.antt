@@ -6,13 +6,13 @@ pub returns : goal.returns
 unfolding moment_text
 returns c = rw (
   c.put_text-5.ensures.written,
-  c.put_number-4.ensures.written,
-  c.put_text-4.ensures.written,
   c.put_number-3.ensures.written,
-  c.put_text-3.ensures.written,
+  c.put_text-4.ensures.written,
   c.put_number-2.ensures.written,
-  c.put_text-2.ensures.written,
+  c.put_text-3.ensures.written,
   c.put_number.ensures.written,
+  c.put_text-2.ensures.written,
+  c.put_moment.ensures.written,
   c.put_text.ensures.written,
   c.ended-line.ensures,
   c.rows_end.ensures,

@@ -8,7 +8,7 @@ returns c = rw (
   c.put_text-3.ensures.written,
   c.put_number.ensures.written,
   c.put_text-2.ensures.written,
-  c.put_short_number.ensures.written,
+  c.put_machine.ensures.written,
   c.put_text.ensures.written,
   c.ended-line.ensures,
   c.foot_of.ensures,

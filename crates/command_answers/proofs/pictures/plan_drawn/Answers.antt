@@ -1,0 +1,8 @@
+use Rattle.plan_schedule.proofs.StartSchedule.{at_once}
+use Rattle.command_answers.proofs.pictures.plan_drawn.Goals as goal
+
+pub rest_drawn-requires : goal.rest_drawn-requires
+rest_drawn-requires c = rw c.in-Ok.ensures.start (at_once c.args.shaped)
+
+pub returns-in-Ok : goal.returns-in-Ok
+returns-in-Ok c = rw c.in-Ok.ensures.start at c.rest_drawn.ensures

@@ -1,0 +1,10 @@
+use Rattle.command_answers.proofs.PictureAnswers.{verdict_shown}
+use Rattle.command_answers.proofs.pictures.rest_drawn.Goals as goal
+
+pub verdict_drawn-requires-clause-judged : goal.verdict_drawn-requires-clause-judged
+verdict_drawn-requires-clause-judged c = record { accepted = c.in_ok-verdict.ensures.accepted; refused = c.in_ok-verdict.ensures.refused }
+
+pub returns : goal.returns
+returns c =
+    verdict_shown c.args.cell.now.plan c.args.cell.now.cell c.args.present c.args.line c.args.told.now c.in_ok-verdict.verdict c.verdict_drawn.result
+    (record { accepted = c.in_ok-verdict.ensures.accepted; refused = c.in_ok-verdict.ensures.refused }) c.verdict_drawn.ensures

@@ -1,7 +1,0 @@
-use Rattle.std.proofs.Common.{◌≡◌, ◌++◌}
-use Rattle.alt_graph.specs.Times.{earliest_of}
-use Rattle.plan_schedule.specs.DrawnVisits.{job_visits}
-use Rattle.plan_schedule.proofs.picture_visits.push_job.Given as goal
-
-abbrev pub invariant-loop-place : goal.invariant-loop-place
-invariant-loop-place l = l.visits.items ≡ l.initial.visits.items ++ job_visits l.calendar.plan (earliest_of l.calendar.times) l.job l.place
