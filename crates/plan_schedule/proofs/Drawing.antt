@@ -11,7 +11,7 @@ use Rattle.shop_base.specs.Plan.{PlannedShop, jobs, machines, steps, machine_of,
 use Rattle.shop_base.specs.Cell.{Cell, MachineState, absent, unused, made, start}
 use Rattle.shop_base.specs.declared.job_state.JobState.{JobState}
 use Rattle.shop_base.proofs.Keeping.{start-made}
-use Rattle.plan_explain.proofs.AtStart.{greatest_to}
+use Rattle.plan_verifier.proofs.AtStart.{greatest_to}
 use Rattle.shop_base.specs.Sound.{IsSound}
 use Rattle.shop_base.specs.Graph.{leaving}
 use Rattle.run_picture.specs.declared.visit.Cleaned.TheVariants.{By}

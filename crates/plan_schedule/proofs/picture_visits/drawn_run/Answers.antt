@@ -3,7 +3,7 @@ use Rattle.shop_base.specs.Plan.{jobs}
 use Rattle.alt_graph.specs.Times.{earliest_of}
 use Rattle.plan_schedule.specs.Calendars.{PlanCalendar}
 use Rattle.plan_schedule.specs.DrawnVisits.{ended_visit, visits_ahead}
-use Rattle.plan_schedule.proofs.SoonAhead.{soon_ahead}
+use Rattle.plan_schedule.proofs.Moments.{soon_ahead}
 use Rattle.plan_schedule.proofs.Behind.{are_moments}
 use Rattle.plan_schedule.proofs.Drawing.{run_visits}
 use Rattle.plan_schedule.proofs.picture_visits.drawn_run.Goals as goal
@@ -17,8 +17,8 @@ push_told-requires-clause-plan g c = ap (λ (k : PlanCalendar). k.plan) c.in_ok-
 pub push_told-requires-clause-soon : goal.push_told-requires-clause-soon
 push_told-requires-clause-soon g c =
     let is = rw c.shaped.ensures.plan at c.in_ok-calendar.ensures in
-    soon_ahead c.args.cell.now.plan c.args.cell.now.cell c.args.present c.shaped.ensures.sound c.requires.ordered.schedule.shaped c.cleanings_in_range.ensures c.requires.present.in_range
-    c.args.times.now _ c.in_ok-calendar.calendar is c.requires.ordered
+    soon_ahead c.args.cell.now.plan c.args.cell.now.cell c.args.present c.args.times.now _ c.in_ok-calendar.calendar c.shaped.ensures.sound c.cleanings_in_range.ensures c.requires.present.in_range
+    is c.requires.ordered
 
 pub push_ahead-requires-clause-plan : goal.push_ahead-requires-clause-plan
 push_ahead-requires-clause-plan g c = ap (λ (k : PlanCalendar). k.plan) c.in_ok-calendar.ensures ∙ c.shaped.ensures.plan
@@ -26,8 +26,8 @@ push_ahead-requires-clause-plan g c = ap (λ (k : PlanCalendar). k.plan) c.in_ok
 pub push_ahead-requires-clause-soon : goal.push_ahead-requires-clause-soon
 push_ahead-requires-clause-soon g c =
     let is = rw c.shaped.ensures.plan at c.in_ok-calendar.ensures in
-    soon_ahead c.args.cell.now.plan c.args.cell.now.cell c.args.present c.shaped.ensures.sound c.requires.ordered.schedule.shaped c.cleanings_in_range.ensures c.requires.present.in_range
-    c.args.times.now _ c.in_ok-calendar.calendar is c.requires.ordered
+    soon_ahead c.args.cell.now.plan c.args.cell.now.cell c.args.present c.args.times.now _ c.in_ok-calendar.calendar c.shaped.ensures.sound c.cleanings_in_range.ensures c.requires.present.in_range
+    is c.requires.ordered
 
 pub returns : goal.returns
 returns g c =
