@@ -1,6 +1,7 @@
 -- Of the report of a cleaning after a job: one that is possible is that of a cleaning that goes on, and there is one first reason at most.
-use Rattle.std.proofs.Common.{ℕ, ◌+◌, ◌-◌, ◌<◌, ◌≤◌, length, refl, ap, sym, ◌∙◌, subst, arith, length-append}
-use Rattle.shop_base.specs.Plan.{PlannedShop, jobs, order, clean, IsWellShaped}
+use Rattle.std.proofs.Common.{◌≡◌, ℕ, ◌+◌, ◌-◌, ◌<◌, ◌≤◌, length, cond, nat_lt, refl, ap, sym, ◌∙◌, subst, arith, length-append, lt-ltb, le-ltb}
+use Rattle.shop_base.specs.declared.limits.TheConstants.{MAX_MOMENT}
+use Rattle.shop_base.specs.Plan.{PlannedShop, jobs, machines, order, clean, IsWellShaped}
 use Rattle.shop_base.specs.Cell.{Cell, entries}
 use Rattle.shop_base.specs.Report.{CanReport}
 use Rattle.shop_base.specs.Sound.{IsSound}
@@ -42,33 +43,20 @@ module _ (p : PlannedShop) (c : Cell) (m j t : ℕ) (shaped : IsWellShaped p) (s
   clean_reason-cannot WrongKind reason can = reason
   clean_reason-cannot (WrongMachine actual) reason can = reason
 
+  -- the reason that is found first
+  abbrev found_first : ReportFault
+  found_first = cond (nat_lt m (machines p)) (cond (nat_lt j (jobs p)) (cond (nat_lt MAX_MOMENT t) MomentTooLarge (cond (nat_lt t c.last) (Backwards c.last) NotExpected)) JobOutOfRange) MachineOutOfRange
+
+  found : (fault : ReportFault) → IsFirstCleanReason p c m j t fault → fault ≡ found_first
+  found MachineOutOfRange first = rw (le-ltb m (machines p) first) refl
+  found JobOutOfRange (machine, past) = rw (lt-ltb m (machines p) machine, le-ltb j (jobs p) past) refl
+  found MomentTooLarge ((machine, job), late) = rw (lt-ltb m (machines p) machine, lt-ltb j (jobs p) job, lt-ltb MAX_MOMENT t late) refl
+  found (Backwards last) ((machine, job), range, back, is) =
+      rw (lt-ltb m (machines p) machine, lt-ltb j (jobs p) job, le-ltb MAX_MOMENT t range, lt-ltb t c.last back) (ap Backwards is)
+  found NotExpected ((machine, job), moment, not_after) =
+      rw (lt-ltb m (machines p) machine, lt-ltb j (jobs p) job, le-ltb MAX_MOMENT t moment.in_range, le-ltb t c.last moment.in_order) refl
+  found WrongKind first = absurd first
+  found (WrongMachine actual) first = absurd first
+
   pub only_clean_reason : (fault : ReportFault) → IsFirstCleanReason p c m j t fault → IsOnlyCleanReason p c m j t fault
-  only_clean_reason MachineOutOfRange first MachineOutOfRange reason = refl
-  only_clean_reason MachineOutOfRange first JobOutOfRange reason = absurd (omega (arith, first, reason.0))
-  only_clean_reason MachineOutOfRange first MomentTooLarge reason = absurd (omega (arith, first, reason.0.0))
-  only_clean_reason MachineOutOfRange first (Backwards last) reason = absurd (omega (arith, first, reason.0.0))
-  only_clean_reason MachineOutOfRange first NotExpected reason = absurd (omega (arith, first, reason.0.0))
-  only_clean_reason JobOutOfRange first MachineOutOfRange reason = absurd (omega (arith, first.0, reason))
-  only_clean_reason JobOutOfRange first JobOutOfRange reason = refl
-  only_clean_reason JobOutOfRange first MomentTooLarge reason = absurd (omega (arith, first.1, reason.0.1))
-  only_clean_reason JobOutOfRange first (Backwards last) reason = absurd (omega (arith, first.1, reason.0.1))
-  only_clean_reason JobOutOfRange first NotExpected reason = absurd (omega (arith, first.1, reason.0.1))
-  only_clean_reason MomentTooLarge first MachineOutOfRange reason = absurd (omega (arith, first.0.0, reason))
-  only_clean_reason MomentTooLarge first JobOutOfRange reason = absurd (omega (arith, first.0.1, reason.1))
-  only_clean_reason MomentTooLarge first MomentTooLarge reason = refl
-  only_clean_reason MomentTooLarge first (Backwards last) reason = absurd (omega (arith, first.1, reason.1))
-  only_clean_reason MomentTooLarge first NotExpected reason = absurd (omega (arith, first.1, reason.1.in_range))
-  only_clean_reason (Backwards last) first MachineOutOfRange reason = absurd (omega (arith, first.0.0, reason))
-  only_clean_reason (Backwards last) first JobOutOfRange reason = absurd (omega (arith, first.0.1, reason.1))
-  only_clean_reason (Backwards last) first MomentTooLarge reason = absurd (omega (arith, first.1, reason.1))
-  only_clean_reason (Backwards last) first (Backwards other) reason = ap Backwards (reason.3 ∙ sym first.3)
-  only_clean_reason (Backwards last) first NotExpected reason = absurd (omega (arith, first.2, reason.1.in_order))
-  only_clean_reason NotExpected first MachineOutOfRange reason = absurd (omega (arith, first.0.0, reason))
-  only_clean_reason NotExpected first JobOutOfRange reason = absurd (omega (arith, first.0.1, reason.1))
-  only_clean_reason NotExpected first MomentTooLarge reason = absurd (omega (arith, first.1.in_range, reason.1))
-  only_clean_reason NotExpected first (Backwards last) reason = absurd (omega (arith, first.1.in_order, reason.2))
-  only_clean_reason NotExpected first NotExpected reason = refl
-  only_clean_reason WrongKind first other reason = absurd first
-  only_clean_reason (WrongMachine actual) first other reason = absurd first
-  only_clean_reason fault first WrongKind reason = absurd reason
-  only_clean_reason fault first (WrongMachine actual) reason = absurd reason
+  only_clean_reason fault first other reason = found other reason ∙ sym (found fault first)

@@ -81,36 +81,3 @@ due_moments-moved p c new dues j k m t inside within due_moments moved on =
     place {n} l here =
         let same : l ≡ k = omega (arith, here.entered, on.entered) in
         sym here.visits.here ∙ ap (machine_of p j) same ∙ on.visits.here
-
--- the keys of the first jobs are tied to the start, and no machine's is set
-pub record IsFilled (p : PlannedShop) (dues : List (Option ℕ)) (n : ℕ) : Type 0 where
-  pub count : length dues ≡ jobs p + machines p
-  pub of_jobs : (j : ℕ) → j < n → due_at dues j ≡ due_of_job p j (job_in (start p) j)
-  pub of_machines : (m : ℕ) → m < machines p → due_at dues (jobs p + m) ≡ None
-
-pub filled_none : (p : PlannedShop) (dues : List (Option ℕ)) (n : ℕ) → dues ≡ replicate n None → n ≡ jobs p + machines p → IsFilled p dues 0
-filled_none p dues n is count = record {
-  count = ap length is ∙ length-replicate n None ∙ count;
-  of_jobs = λ j below. absurd (omega arith);
-  of_machines = λ m below. ap (λ ds. due_at ds (jobs p + m)) is ∙ get_or-replicate n (jobs p + m) None None (omega arith);
-}
-
-pub filled_more : (p : PlannedShop) (dues more : List (Option ℕ)) (j : ℕ) → IsFilled p dues j → j < jobs p
-    → more ≡ set dues j (due_of_job p j (job_in (start p) j)) → IsFilled p more (j + 1)
-filled_more p dues more j filled inside is = record {
-  count = ap length is ∙ length-set dues j due ∙ filled.count;
-  of_jobs = below_more (λ i. due_at more i ≡ due_of_job p i (job_in (start p) i)) j
-      (λ i below. ap (λ ds. due_at ds i) is ∙ get_or-set_other dues j i due None (λ same. absurd (omega (arith, same))) ∙ filled.of_jobs i below)
-      (ap (λ ds. due_at ds j) is ∙ get_or-set_same dues j due None (omega (arith, filled.count)));
-  of_machines = λ m below. ap (λ ds. due_at ds (jobs p + m)) is ∙ get_or-set_other dues j (jobs p + m) due None (λ same. absurd (omega (arith, same))) ∙ filled.of_machines m below;
-}
-  where
-    due : Option ℕ
-    due = due_of_job p j (job_in (start p) j)
-
-pub filled-due_moments : (p : PlannedShop) (dues : List (Option ℕ)) (n : ℕ) → IsFilled p dues n → jobs p ≤ n → AreDueMoments p (start p) dues
-filled-due_moments p dues n filled all = record {
-  count = filled.count;
-  of_jobs = λ j below. filled.of_jobs j (omega arith);
-  of_machines = λ m below. filled.of_machines m below ∙ ap (λ (s : MachineState). due_of_cleaning p m s.cleaning) (sym (start_unused p m));
-}

@@ -1,122 +1,188 @@
--- What holds of a controller holds at the start, and after each step.
-use Rattle.std.proofs.Common.{◌≡◌, ℕ, ◌+◌, ◌-◌, ◌^◌, ◌<◌, max, List, [], Option, Bool, true, false, not, ◌&&◌, refl, sym, ◌∙◌, ap, subst, arith}
+-- What holds of a controller holds where it begins, at the start of a plan or in mid-run, and after each step.
+use Rattle.std.proofs.Common.{◌≡◌, ℕ, ◌+◌, ◌-◌, ◌<◌, ◌≤◌, ◌⊎◌, ◌↔◌, inl, inr, List, [], Option, Bool, true, false, refl, sym, ◌∙◌, ap, subst, arith}
 use Rattle.std.specs.Prelude.{IsTrue}
-use Rattle.smallvec.specs.SmallVec.{SmallVec}
+use Rattle.std.proofs.lemmas.Bool.{cases_lt}
 use Rattle.shop_base.specs.declared.move_order.MoveOrder.{MoveOrder}
+use Rattle.shop_base.specs.declared.node.Node.{Node}
 use Rattle.shop_base.specs.declared.report.Report.{Report}
-use Rattle.shop_base.specs.Plan.{jobs}
-use Rattle.shop_base.specs.Cell.{start}
+use Rattle.shop_base.specs.Plan.{PlannedShop}
+use Rattle.shop_base.specs.Cell.{Cell}
+use Rattle.shop_base.specs.Report.{at, IsNextMoment}
 use Rattle.shop_base.specs.Run.{IsAtRest}
-use Rattle.shop_base.specs.Sound.{IsSound}
-use Rattle.shop_base.specs.Ends.{stated_number}
+use Rattle.shop_base.specs.Controlled.{after_moves, after_step}
+use Rattle.shop_base.specs.Punctual.{IsPunctualFrom}
 use Rattle.shop_base.specs.ReportsLeft.{reports_left}
+use Rattle.shop_base.specs.Sound.{IsSound}
 use Rattle.shop_base.specs.KeptMoments.{KeepsMoments}
+use Rattle.shop_base.specs.Within.{IsWithin}
 use Rattle.shop_base.proofs.Keeping.{start-sound}
-use Rattle.shop_base.proofs.ControlledRuns.{start_at_rest, after_step-sound}
-use Rattle.shop_base.proofs.ReportsLeft.{start-reports_left, after_step-reports_left}
+use Rattle.shop_base.proofs.ControlledRuns.{start_at_rest, after_moves-sound, after_step-sound}
+use Rattle.shop_base.proofs.ReportsLeft.{start-reports_left, after_moves-reports_left, after_step-reports_left}
 use Rattle.shop_base.proofs.StartAhead.{start-keeps_moments}
-use Rattle.shop_base.proofs.InTime.{step-keeps_moments}
+use Rattle.shop_base.proofs.InTime.{settled-fits, step-still_fits, present_left}
+use Rattle.shop_base.proofs.Within.{IsNoneLate, none_late-after, moves_more, step_more, from-within}
+use Rattle.alt_graph.specs.Times.{NodeTimes, rank_of, earliest_of, AreRanks, AreOrdered}
+use Rattle.plan_verifier.specs.Rest.{AreOrderedAhead}
 use Rattle.plan_verifier.specs.Accepted.{VerifiedPlan, IsVerified, kept_at, rank_in}
-use Rattle.cell_control.specs.declared.ack.Ack.{Ack}
 use Rattle.cell_tables.specs.PlannedCell as planned
 use Rattle.cell_tables.specs.PlannedCell.{PlannedCell}
+use Rattle.cell_control.specs.declared.ack.Ack.{Ack}
 use Rattle.cell_control.specs.DueMoments.{AreDueMoments}
 use Rattle.cell_control.specs.Steps.{IsMade}
-use Rattle.cell_control.specs.Control.{at_start, IsAnswered, IsControl}
-use Rattle.cell_control.specs.Fields.{control_of, AreFieldsOf}
+use Rattle.cell_control.specs.Settled.{HasSettled}
+use Rattle.cell_control.specs.Control.{Control, at_start, verified_in, IsAnswered, IsKeptFrom, AreMomentsKept, IsControl}
+use Rattle.cell_control.specs.Begun.{IsBegun}
+use Rattle.cell_control.specs.Fields.{control_of, begun_with, AreFieldsOf}
 
--- both hold where both are told at once
-both : (punctual late : Bool) → (punctual && not late) ≡ true → (punctual ≡ true) × (late ≡ false)
-both true true is = absurd (cc)
-both true false is = (refl, refl)
-both false late is = absurd (cc)
+-- the two ways to say that no node ahead is kept to a moment before t
+to_none_late : (p : PlannedShop) (c : Cell) (t : ℕ) (kept : Node → ℕ) → IsKeptFrom p c t kept → IsNoneLate p c t kept
+to_none_late p c t kept from v left = from v (record { job = left.job; place = left.place }) left.ahead
 
-pub start_control : (v : VerifiedPlan) → IsVerified v → IsControl (at_start v)
-start_control v verified = record {
-  verified = verified;
-  sound = start-sound v.planned verified.schedule.shaped;
-  at_rest = start_at_rest v.planned;
-  counted = omega (arith, start-reports_left v.planned);
-  moments_kept = λ punctual. start-keeps_moments v.planned (rank_in v) (kept_at v) verified.schedule;
+of_none_late : (p : PlannedShop) (c : Cell) (t : ℕ) (kept : Node → ℕ) → IsNoneLate p c t kept → IsKeptFrom p c t kept
+of_none_late p c t kept none v is ahead = none v (record { ahead = ahead; job = is.job; place = is.place })
+
+-- ---- at the start
+
+ranks_of : (p : PlannedShop) (t : NodeTimes) → AreOrdered p t → AreRanks p t
+ranks_of p t ordered = record {
+  shaped = ordered.times.schedule.shaped;
+  nodes = ordered.times.nodes;
+  rise = ordered.times.schedule.ranks;
+  few = ordered.times.few;
+  apart = ordered.times.apart;
 }
 
--- it stands for the start
-pub start_is : (v : VerifiedPlan) (c : PlannedCell VerifiedPlan) (orders : SmallVec MoveOrder) → c ≡ planned.at_start v v.planned → orders.items ≡ []
-    → control_of c orders.items 0 true ≡ at_start v
+start_control : (v : VerifiedPlan) → IsVerified v → IsControl (at_start v)
+start_control v verified = record {
+  ranks = ranks_of v.planned v.times verified.ordered;
+  sound = start-sound v.planned verified.schedule.shaped;
+  at_rest = start_at_rest v.planned;
+  counted = sym (start-reports_left v.planned);
+  moments_kept = λ punctual. record { fit = start-keeps_moments v.planned (rank_in v) (kept_at v) verified.schedule; from = λ w is ahead. omega arith };
+}
+
+-- a cell at the start, with no orders, is the start of a controller
+pub start_is : (v : VerifiedPlan) (c : PlannedCell VerifiedPlan) (orders : List MoveOrder) → c ≡ planned.at_start v v.planned → orders ≡ [] → begun_with c c.basis.times orders 0 ≡ at_start v
 start_is v c orders is none =
-    ap (λ (os : List MoveOrder). control_of c os 0 true) none ∙ ap (λ (x : PlannedCell VerifiedPlan). control_of x [] 0 true) is
+    ap (λ (x : PlannedCell VerifiedPlan). begun_with x x.basis.times orders 0) is
+    ∙ ap (λ (os : List MoveOrder). begun_with (planned.at_start v v.planned) v.times os 0) none
+    ∙ ap (λ n. control_of (planned.at_start v v.planned) v.times [] n 0 true) (start-reports_left v.planned)
 
--- a controller at the start
-pub fields_at_start : (v : VerifiedPlan) (c : PlannedCell VerifiedPlan) (dues : List (Option ℕ)) (orders : SmallVec MoveOrder) (left : ℕ) → IsVerified v
-    → c ≡ planned.at_start v v.planned → AreDueMoments v.planned (start v.planned) dues → orders.items ≡ [] → orders.capacity ≡ max 4 (jobs v.planned)
-    → left ≡ stated_number v.planned → left < 2 ^ 64 → AreFieldsOf c dues orders 0 left true
-fields_at_start v c dues orders left verified is due_moments none room stated fits = rw is (record {
-  plan = refl;
-  control = subst IsControl (sym (start_is v (planned.at_start v v.planned) orders refl none)) (start_control v verified);
-  due_moments = due_moments;
-  counts = omega arith;
-  fits = omega arith;
-  room = room;
-})
+pub started : (v : VerifiedPlan) (c : PlannedCell VerifiedPlan) (orders : List MoveOrder) → IsVerified v → c ≡ planned.at_start v v.planned → orders ≡ [] → IsControl (begun_with c c.basis.times orders 0)
+started v c orders verified is none = subst IsControl (sym (start_is v c orders is none)) (start_control v verified)
 
--- a step makes of a controller what its answer says
-pub answered : (old new : PlannedCell VerifiedPlan) (before more : List MoveOrder) (accepted : ℕ) (punctual : Bool) (r : Report) (ack : Ack)
-    → old.plan ≡ old.basis.planned → new ≡ record old { cell = new.cell } → IsMade old.plan old.cell r ack more new.cell
-    → IsAnswered (control_of old before accepted punctual) r ack (control_of new more (accepted + 1) (punctual && not ack.late))
-answered old new before more accepted punctual r ack is same step =
-    let made : IsMade old.basis.planned old.cell r ack more new.cell = subst (λ p. IsMade p old.cell r ack more new.cell) is step in
-    record {
-      movers = made.movers;
+-- ---- in mid-run
+
+module _ (p : PlannedShop) (c : Cell) (t : ℕ) (times : NodeTimes) (orders : List MoveOrder) (new : Cell)
+    (sound : IsSound p c) (moment : IsNextMoment c t) (ordered : AreOrderedAhead p c t times) (settled : HasSettled p t c orders new) where
+  abbrev begun : Control
+  begun = record { planned = p; times = times; cell = new; orders = orders; left = reports_left p new; began = t; punctual = true }
+
+  abbrev now : Cell
+  now = after_moves p c t settled.movers
+
+  -- what is made of a settled cell begins
+  pub settled-begun : IsBegun p c t begun
+  settled-begun = record {
+    moment = moment;
+    planned = refl;
+    ordered = ordered;
+    began = refl;
+    settled = settled;
+    left = ap (reports_left p) settled.leads ∙ after_moves-reports_left p c t settled.movers ordered.ranks.shaped sound settled.settles.moves;
+    punctual = refl;
+  }
+
+  pub settled-control : IsControl begun
+  settled-control = record {
+    ranks = ordered.ranks;
+    sound = subst (IsSound p) (sym settled.leads) (after_moves-sound p c t settled.movers ordered.ranks.shaped sound settled.settles.moves);
+    at_rest = subst (IsAtRest p) (sym settled.leads) settled.settles.rest;
+    counted = refl;
+    moments_kept = λ punctual. subst (λ x. AreMomentsKept p x t (earliest_of times)) (sym settled.leads) (record {
+      fit = settled-fits p (rank_of times) (earliest_of times) c t settled.movers sound moment.in_order ordered.schedule settled.settles.moves;
+      from = of_none_late p now t (earliest_of times)
+          (none_late-after p c now t (earliest_of times) (λ i. moves_more p c t settled.movers i ordered.ranks.shaped sound settled.settles.moves)
+          (λ v left. present_left p c t (earliest_of times) v ordered.schedule.moments left));
+    });
+  }
+
+-- one that begins with a cell of this plan
+pub begun_is : {P : Type 0} (new : PlannedCell P) (q : PlannedShop) (times t : NodeTimes) (orders : List MoveOrder) (began : ℕ) → new.plan ≡ q → times ≡ t
+    → begun_with new times orders began ≡ record { planned = q; times = t; cell = new.cell; orders = orders; left = reports_left q new.cell; began = began; punctual = true }
+begun_is new q times t orders began one two = rw (one, two) refl
+
+-- ---- after a step
+
+module _ (v : Control) (dues : List (Option ℕ)) (capacity : ℕ) (fields : AreFieldsOf v dues capacity) (r : Report) (ack : Ack) (items : List MoveOrder) (new : Cell)
+    (made : IsMade v.planned v.cell r ack items new) where
+  abbrev p : PlannedShop
+  p = v.planned
+
+  abbrev kept : Node → ℕ
+  kept = earliest_of v.times
+
+  abbrev js : List ℕ
+  js = made.movers
+
+  -- one report less is to come, so there was one
+  fewer : reports_left p new + 1 ≡ v.left
+  fewer = ap (λ c. reports_left p c + 1) made.leads ∙ after_step-reports_left p v.cell r js fields.control.ranks.shaped fields.control.sound made.step ∙ sym fields.control.counted
+
+  pub some_left : 0 < v.left
+  some_left = omega (arith, fewer)
+
+  module _ (still : Bool) (told : IsTrue still ↔ (IsTrue v.punctual × ((ack.late ≡ false) ⊎ (at r ≤ v.began)))) where
+    -- the controller after it
+    abbrev pub stepped : Control
+    stepped = record { planned = p; times = v.times; cell = new; orders = items; left = v.left - 1; began = v.began; punctual = still }
+
+    -- a report counts as punctual only if it is so from the beginning on
+    soon_enough : (ack.late ≡ false) ⊎ (at r ≤ v.began) → IsPunctualFrom p v.began v.cell r
+    soon_enough (inl not_late) a due going = inr (made.late.0 not_late a due going)
+    soon_enough (inr soon) a due going = inl soon
+
+    keeps : IsTrue still → AreMomentsKept p new v.began kept
+    keeps so =
+        let (so_far, now) = told.0 so in
+        let moments = fields.control.moments_kept so_far in
+        let none : IsNoneLate p v.cell v.began kept = to_none_late p v.cell v.began kept moments.from in
+        let within : IsWithin p kept v.cell r = from-within p kept v.cell v.began v.cell.last r fields.control.sound moments.fit none (soon_enough now) in
+        subst (λ x. AreMomentsKept p x v.began kept) (sym made.leads) (record {
+          fit = step-still_fits p (rank_of v.times) kept v.cell r js fields.control.ranks.shaped fields.control.ranks.rise fields.control.sound fields.control.at_rest moments.fit made.step within;
+          from = of_none_late p (after_step p v.cell r js) v.began kept
+              (none_late-after p v.cell (after_step p v.cell r js) v.began kept (λ i. step_more p v.cell r js i fields.control.ranks.shaped fields.control.sound made.step) none);
+        })
+
+    -- a step makes of a controller what its answer says
+    pub answered : IsAnswered v r ack stepped
+    answered = record {
+      movers = js;
       step = made.step;
-      plan = ap (λ (x : PlannedCell VerifiedPlan). x.basis) same;
+      planned = refl;
+      times = refl;
+      began = refl;
       cell = made.leads;
       orders = made.orders_are;
-      accepted = refl;
+      left = omega (arith, some_left);
       late = made.late;
-      punctual = refl;
+      punctual = told;
     }
 
-module _ (old : PlannedCell VerifiedPlan) (dues : List (Option ℕ)) (orders : SmallVec MoveOrder) (accepted left : ℕ) (punctual : Bool) (fields : AreFieldsOf old dues orders accepted left punctual)
-    (new : PlannedCell VerifiedPlan) (r : Report) (ack : Ack) (items : List MoveOrder) (step : IsMade old.plan old.cell r ack items new.cell) where
-  abbrev v : VerifiedPlan
-  v = old.basis
+    -- what holds of it holds after a step
+    pub fields_after : (dues' : List (Option ℕ)) (capacity' : ℕ) → capacity' ≡ capacity → AreDueMoments p new dues' → AreFieldsOf stepped dues' capacity'
+    fields_after dues' capacity' same due_moments = record {
+      control = record {
+        ranks = fields.control.ranks;
+        sound = subst (IsSound p) (sym made.leads) (after_step-sound p v.cell r js fields.control.ranks.shaped fields.control.sound made.step);
+        at_rest = subst (IsAtRest p) (sym made.leads) made.step.rest;
+        counted = omega (arith, fewer);
+        moments_kept = keeps;
+      };
+      due_moments = due_moments;
+      room = same ∙ fields.room;
+    }
 
-  made : IsMade v.planned old.cell r ack items new.cell
-  made = subst (λ p. IsMade p old.cell r ack items new.cell) fields.plan step
-
-  -- one report less is to come
-  fewer : reports_left v.planned new.cell + 1 ≡ reports_left v.planned old.cell
-  fewer = ap (λ c. reports_left v.planned c + 1) made.leads
-      ∙ after_step-reports_left v.planned old.cell r made.movers fields.control.verified.schedule.shaped fields.control.sound made.step
-
-  -- so there was one, and the counts stay within their type
-  pub some_left : 0 < left
-  some_left = omega (arith, fewer, fields.counts, fields.control.counted)
-
-  pub counts_fit : accepted + 1 < 2 ^ 64
-  counts_fit = omega (arith, some_left, fields.counts, fields.fits)
-
-  keeps : IsTrue (punctual && not ack.late) → KeepsMoments v.planned (kept_at v) new.cell
-  keeps still =
-      let (so_far, now) = both punctual ack.late still in
-      subst (KeepsMoments v.planned (kept_at v)) (sym made.leads)
-      (step-keeps_moments v.planned (rank_in v) (kept_at v) old.cell r made.movers fields.control.verified.schedule.shaped fields.control.verified.schedule.ranks
-      fields.control.sound fields.control.at_rest (fields.control.moments_kept so_far) made.step (made.late.0 now))
-
-  -- what holds of a controller holds after a step
-  pub fields_after : (dues' : List (Option ℕ)) (orders' : SmallVec MoveOrder) → orders'.items ≡ items → orders'.capacity ≡ orders.capacity → new ≡ record old { cell = new.cell }
-      → AreDueMoments old.plan new.cell dues' → AreFieldsOf new dues' orders' (accepted + 1) (left - 1) (punctual && not ack.late)
-  fields_after dues' orders' item_same capacity same due_moments = subst (λ (x : PlannedCell VerifiedPlan). AreFieldsOf x dues' orders' (accepted + 1) (left - 1) (punctual && not ack.late)) (sym same) (record {
-    plan = fields.plan;
-    control = record {
-      verified = fields.control.verified;
-      sound = subst (IsSound v.planned) (sym made.leads) (after_step-sound v.planned old.cell r made.movers fields.control.verified.schedule.shaped fields.control.sound made.step);
-      at_rest = subst (IsAtRest v.planned) (sym made.leads) made.step.rest;
-      counted = omega (arith, fewer, fields.control.counted);
-      moments_kept = keeps;
-    };
-    due_moments = due_moments;
-    counts = omega (arith, some_left, fields.counts);
-    fits = fields.fits;
-    room = capacity ∙ fields.room;
-  })
+-- and leaves its plan as it is
+pub plan_stays : (before new : Control) (r : Report) (ack : Ack) → IsAnswered before r ack new → verified_in new ≡ verified_in before
+plan_stays before new r ack is = rw (is.planned, is.times) refl

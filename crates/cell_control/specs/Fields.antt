@@ -1,23 +1,30 @@
 -- What the fields of a controller stand for, and what holds of them.
-use Rattle.std.specs.Prelude.{◌≡◌, ℕ, ◌+◌, ◌^◌, ◌<◌, max, List, Bool, Option}
+use Rattle.std.specs.Prelude.{◌≡◌, ℕ, ◌+◌, [], max, List, length, Bool, true, Option}
 use Rattle.smallvec.specs.SmallVec.{SmallVec}
 use Rattle.shop_base.specs.declared.move_order.MoveOrder.{MoveOrder}
-use Rattle.shop_base.specs.Plan.{jobs}
-use Rattle.shop_base.specs.Ends.{stated_number}
-use Rattle.plan_verifier.specs.Accepted.{VerifiedPlan}
+use Rattle.shop_base.specs.Plan.{PlannedShop, jobs, machines}
+use Rattle.shop_base.specs.ReportsLeft.{reports_left}
+use Rattle.alt_graph.specs.Times.{NodeTimes}
 use Rattle.cell_tables.specs.PlannedCell.{PlannedCell}
 use Rattle.cell_control.specs.Control.{Control, IsControl}
 use Rattle.cell_control.specs.DueMoments.{AreDueMoments}
 
--- what the fields of a controller stand for
-abbrev pub control_of : PlannedCell VerifiedPlan → List MoveOrder → ℕ → Bool → Control
-control_of c orders accepted punctual = record { plan = c.basis; cell = c.cell; orders = orders; accepted = accepted; punctual = punctual }
+-- what they stand for
+abbrev pub control_of : {P : Type 0} → PlannedCell P → NodeTimes → List MoveOrder → ℕ → ℕ → Bool → Control
+control_of c times orders left began punctual =
+    record { planned = c.plan; times = times; cell = c.cell; orders = orders; left = left; began = began; punctual = punctual }
 
--- what holds of the fields of a controller: beside what holds of every controller, the due moments are those of the cell, the two counts add up to the stated number, and the room for orders is for one of each job, or for the four that stand in the value
-pub record AreFieldsOf (c : PlannedCell VerifiedPlan) (dues : List (Option ℕ)) (orders : SmallVec MoveOrder) (accepted left : ℕ) (punctual : Bool) : Type 0 where
-  pub plan : c.plan ≡ c.basis.planned
-  pub control : IsControl (control_of c orders.items accepted punctual)
-  pub due_moments : AreDueMoments c.plan c.cell dues
-  pub counts : accepted + left ≡ stated_number c.basis.planned
-  pub fits : stated_number c.basis.planned < 2 ^ 64
-  pub room : orders.capacity ≡ max 4 (jobs c.plan)
+-- what holds of them: beside what holds of every controller, the due moments are those of the cell, and the room for orders is for one of each job, or for the four that stand in the value
+pub record AreFieldsOf (v : Control) (dues : List (Option ℕ)) (capacity : ℕ) : Type 0 where
+  pub control : IsControl v
+  pub due_moments : AreDueMoments v.planned v.cell dues
+  pub room : capacity ≡ max 4 (jobs v.planned)
+
+-- a controller that begins with a cell at rest, after these orders
+abbrev pub begun_with : {P : Type 0} → PlannedCell P → NodeTimes → List MoveOrder → ℕ → Control
+begun_with c times orders began = control_of c times orders (reports_left c.plan c.cell) began true
+
+-- a key for each job and machine, and room for an order of each job
+pub record IsRoomFor (p : PlannedShop) (dues : List (Option ℕ)) (capacity : ℕ) : Type 0 where
+  pub keys : length dues ≡ jobs p + machines p
+  pub orders : capacity ≡ max 4 (jobs p)

@@ -1,44 +1,59 @@
-//! The control of a cell by an accepted plan: it gets reports of what has ended, and orders the moves that keep the
-//! plan.
+//! The control of a cell, from any cell on: it gets reports of what has ended, and orders the moves that keep the plan.
 //!
-//! A [`Controller`] is made of a `Verified` plan and takes one [`Report`] at a time. It accepts exactly the
-//! reports that are possible, and answers each with the moves that it releases.
+//! A controller takes one [`Report`] at a time. It accepts exactly the reports that are possible, and answers each with the
+//! moves that it releases. All its calls are those of [`Core`]. A [`Controller`] is made of a `Verified` plan, and begins with
+//! it. A [`RestController`] is begun from a cell in mid-run and a present moment, by a plan without a cycle, or made of a
+//! `Controller`: first it moves all jobs that can move then. It can be handed over, at a moment, to another plan that the run
+//! so far keeps, of the same shop or of another one.
 //!
-//! Controllers of other plans are made of the same functions: [`check_report`], [`check_cleaning_after`], [`is_past_due`],
-//! [`make_step`], [`renew_job`] and [`renew_machine`].
+//! A `RestController` asks for no budgets: a cell that has begun has to go on, however late. What holds of moments is what
+//! `verify_after` of `plan_verifier` says of the same cell and moment.
 //!
-//! Moments are whole time units, counted from moment 0. Only [`Controller::new`] and [`Dues::sized`] take memory.
+//! Moments are whole time units, counted from moment 0. Only [`Controller::new`], [`RestController::begin`],
+//! [`RestController::hand_over`] and [`Dues::sized`] take memory.
 #![tactic(auto)]
 
 mod ack;
+mod carrying;
 mod checking;
 mod controller;
+mod core_controller;
+mod counting;
 mod due_moments;
 mod due_row;
 mod dues;
 mod ending;
+mod handing;
+mod keeping;
 pub mod laws;
-mod parts;
+mod noting;
 mod phase;
+mod preparing;
 mod readings;
 mod releasing;
 mod report_fault;
-mod reserved;
+mod rest_controller;
+mod rest_fault;
+mod room;
 mod scan_dues;
+mod settling;
 mod step;
+mod timed;
 mod tourney_dues;
 
 pub use ack::Ack;
 pub use checking::{check_cleaning_after, check_report};
 pub use controller::Controller;
+pub use core_controller::Core;
 pub use due_moments::{renew_job, renew_machine};
 pub use dues::Dues;
-pub use parts::Parts;
+pub use noting::note_all;
 pub use phase::Phase;
-pub use readings::phase_of;
-pub use releasing::Orders;
 pub use report_fault::ReportFault;
+pub use rest_controller::RestController;
+pub use rest_fault::RestFault;
 pub use scan_dues::ScanDues;
 pub use shop_base::{MoveOrder, Report, Spot};
-pub use step::{is_past_due, make_step};
+pub use step::is_past_due;
+pub use timed::{Held, Timed};
 pub use tourney_dues::TourneyDues;

@@ -9,7 +9,7 @@ use cell_tables::WorkCell;
 use shop_base::{JobNo, Planned};
 
 /// Where the job is.
-pub fn phase_of<P: Planned>(cell: &WorkCell<P>, job: JobNo) -> Phase
+pub(crate) fn phase_of<P: Planned>(cell: &WorkCell<P>, job: JobNo) -> Phase
     requires job { job < jobs cell.now.plan }
     ensures { IsPhase cell.now.plan cell.now.cell job result }
 {

@@ -1,6 +1,6 @@
 //! One step of the controlled run: a possible report, and the moves that it releases.
 
-ghost use Rattle.std.specs.Prelude.{◌≡◌, ◌≤◌, ◌↔◌, ◌&&◌, not, [], false};
+ghost use Rattle.std.specs.Prelude.{◌≡◌, ◌≤◌, ◌↔◌, ◌⊎◌, IsTrue, [], false};
 ghost use Rattle.shop_base.specs.Plan.{jobs};
 ghost use Rattle.shop_base.specs.Report.{at, CanReport};
 ghost use Rattle.shop_base.specs.Run.{IsAtRest};
@@ -15,7 +15,7 @@ use cell_tables::WorkCell;
 use shop_base::{Moment, Planned, Report};
 
 /// Makes the step of a possible report. The orders of the last one are dropped.
-pub fn make_step<P: Planned, D: Dues>(
+pub(crate) fn make_step<P: Planned, D: Dues>(
     cell: &mut WorkCell<P>,
     dues: &mut D,
     orders: &mut Orders,
@@ -57,11 +57,12 @@ pub fn is_past_due<D: Dues>(dues: &D, at: Moment) -> bool
     }
 }
 
-/// Whether all reports so far and this one were punctual.
-pub(crate) fn still_punctual(punctual: bool, ack: Ack) -> bool
-    ensures { result ≡ (punctual && not ack.late) }
+/// Whether all reports so far and this one were punctual: one that isn't late, or comes at the moment of beginning or before, so
+/// that what was overdue then ends then.
+pub(crate) fn still_punctual(punctual: bool, ack: Ack, at: Moment, began: Moment) -> bool
+    ensures { IsTrue result ↔ (IsTrue punctual × ((ack.late ≡ false) ⊎ (at ≤ began))) }
 {
-    punctual && !ack.late
+    punctual && (!ack.late || at <= began)
 }
 
 /// Drops the orders of the last report. The memory stays reserved.

@@ -31,6 +31,5 @@ pub mod RetoldFaults
 pub mod OneStated
 pub mod StatedTold
 pub mod OnTime
-pub mod StillLeft
 pub mod OneStatedCells
 pub mod StatedHubs

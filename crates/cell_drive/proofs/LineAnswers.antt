@@ -8,9 +8,10 @@ use Rattle.plan_verifier.specs.Accepted.{VerifiedPlan}
 use Rattle.cell_tables.specs.declared.entry.Entry.TheVariants.{Report as ReportEntry, Order as OrderEntry}
 use Rattle.cell_control.specs.declared.ack.Ack.{Ack}
 use Rattle.cell_control.specs.declared.report_fault.ReportFault.{ReportFault}
-use Rattle.cell_control.specs.Control.{Control, IsAnswered}
+use Rattle.cell_control.specs.Control.{Control, IsAnswered, verified_in}
 use Rattle.cell_control.specs.ReasonNames.{reason_name}
 use Rattle.cell_control.specs.Reports.{IsFirstReason}
+use Rattle.cell_control.proofs.Fields.{plan_stays}
 use Rattle.cell_hub.specs.declared.ticket.Ticket.{Ticket}
 use Rattle.cell_hub.specs.Hub.{HubState, cell_at}
 use Rattle.cell_hub.specs.Calls.{IsReported, IsNotReported}
@@ -64,7 +65,7 @@ set_same (d ∷ cells) (suc k) c found = ap (λ (xs : List PlannedCell). d ∷ x
 
 -- a report that a controller accepts
 pub accepts : (prefix : List ℕ) (before after : Control) (report : Report) (ack : Ack) (orders : List MoveOrder) → orders ≡ after.orders → IsAnswered before report ack after
-    → IsAccepted before.plan.planned prefix before.cell report (accepted_lines prefix report ack.late orders) (ReportEntry report ∷ map OrderEntry after.orders) after.cell
+    → IsAccepted before.planned prefix before.cell report (accepted_lines prefix report ack.late orders) (ReportEntry report ∷ map OrderEntry after.orders) after.cell
 accepts prefix before after report ack orders are is = record {
   movers = is.movers;
   step = is.step;
@@ -77,21 +78,21 @@ accepts prefix before after report ack orders are is = record {
 
 -- ---- one cell
 
-pub unchanged : (s : DriveState) (number : ℕ) (line : Option (List ℕ)) (text : List ℕ) → LineAnswer IsReportLine (CellReports s.control.plan.planned) (seen s) number line text (seen s)
+pub unchanged : (s : DriveState) (number : ℕ) (line : Option (List ℕ)) (text : List ℕ) → LineAnswer IsReportLine (CellReports s.control.planned) (seen s) number line text (seen s)
     → DriveAnswer s number line text s
 unchanged s number line text answer = record { answer = answer; plan = refl; reserved = refl }
 
 -- to a report that isn't possible
 pub drive_refuses : (s e : DriveState) (number : ℕ) (line : List ℕ) (report : Report) (reason : ReportFault) → (line ≡ [] → ⊥) → IsReportLine line report
-    → IsFirstReason s.control.plan.planned s.control.cell report reason → e.control ≡ s.control → e.log ≡ s.log
+    → IsFirstReason s.control.planned s.control.cell report reason → e.control ≡ s.control → e.log ≡ s.log
     → DriveAnswer s number (Some line) (refused_line number (reason_name reason)) e
 drive_refuses s e number line report reason some is_line first same_control same_log = record {
-  answer = asked_line IsReportLine (CellReports s.control.plan.planned) (seen s) number line _ report (seen e) some is_line (record {
+  answer = asked_line IsReportLine (CellReports s.control.planned) (seen s) number line _ report (seen e) some is_line (record {
     more = [];
     answer = inl (record { reason = reason; first = first; text_is = refl; events_are = refl; next_is = ap (λ (v : Control). v.cell) same_control });
     entries = ap (λ (l : Noted). l.entries) same_log ∙ sym (append-nil s.log.entries);
   });
-  plan = ap (λ (v : Control). v.plan) same_control;
+  plan = ap verified_in same_control;
   reserved = ap (λ (l : Noted). l.reserved) same_log;
 }
 
@@ -100,12 +101,12 @@ pub drive_accepts : (s e : DriveState) (number : ℕ) (line : List ℕ) (report 
     → IsAnswered s.control report ack e.control → Notes s.log e.log (ReportEntry report ∷ map OrderEntry e.control.orders)
     → DriveAnswer s number (Some line) (accepted_lines [] report ack.late orders) e
 drive_accepts s e number line report ack orders some is_line are answered notes = record {
-  answer = asked_line IsReportLine (CellReports s.control.plan.planned) (seen s) number line _ report (seen e) some is_line (record {
+  answer = asked_line IsReportLine (CellReports s.control.planned) (seen s) number line _ report (seen e) some is_line (record {
     more = ReportEntry report ∷ map OrderEntry e.control.orders;
     answer = inr (accepts [] s.control e.control report ack orders are answered);
     entries = notes.entries;
   });
-  plan = answered.plan;
+  plan = plan_stays s.control e.control report ack answered;
   reserved = notes.reserved;
 }
 
@@ -143,7 +144,7 @@ module _ (h : HubState) (tickets : List Ticket) (number : ℕ) (on : OnCell) (nu
       next = is.after.cell;
       answer = inr (accepts (cell_prefix on.cell) is.before is.after on.report ack orders are is.answered);
       end_is = (put h new 0 tickets on.cell t is.after is.cells numbered found).1
-          ∙ ap (λ (plan : VerifiedPlan). set (cells_of h tickets) on.cell (record { plan = plan; cell = is.after.cell })) is.answered.plan;
+          ∙ ap (λ (plan : VerifiedPlan). set (cells_of h tickets) on.cell (record { plan = plan; cell = is.after.cell })) (plan_stays is.before is.after _ ack is.answered);
     })
 
     pub still_row : (new : HubState) (ack : Ack) → AreInRun (cells_of h tickets) → IsReported h t on.report ack new → IsRow new tickets

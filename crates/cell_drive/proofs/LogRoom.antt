@@ -12,9 +12,10 @@ use Rattle.shop_base.proofs.Appending.{leads_more}
 use Rattle.shop_base.proofs.StatedNumber.{ends_on_the_stated_number-holds, orders_never_outnumber_reports-holds}
 use Rattle.cell_control.specs.declared.ack.Ack.{Ack}
 use Rattle.plan_verifier.specs.Accepted.{VerifiedPlan, IsVerified}
-use Rattle.cell_control.specs.Control.{Control, at_start, IsAnswered}
+use Rattle.cell_control.specs.Control.{Control, at_start, IsAnswered, verified_in}
 use Rattle.cell_tables.specs.declared.entry.Entry.{Entry}
 use Rattle.cell_tables.specs.declared.entry.Entry.TheVariants.{Report as ReportEntry, Order as OrderEntry}
+use Rattle.cell_control.proofs.Fields.{plan_stays}
 use Rattle.run_log.specs.Log.{Noted, Notes}
 use Rattle.cell_tables.specs.Events.{events_of}
 use Rattle.run_log.proofs.Audits.{events-join}
@@ -49,14 +50,14 @@ reports_in-moved (o ∷ os) = reports_in-moved os
 pub starts_driven : (v : VerifiedPlan) (control : Control) (log : Noted) → IsVerified v → control ≡ at_start v → log ≡ record { entries = []; reserved = 2 * stated_number v.planned }
     → IsDriven (record { control = control; log = log })
 starts_driven v control log verified at_first none =
-    let nothing : IsDriven (drive_start v) = record { verified = verified; reports = []; run = done (start v.planned); accepted = refl; reserved = refl } in
+    let nothing : IsDriven (drive_start v) = record { verified = verified; reports = []; run = done (start v.planned); left = omega arith; reserved = refl } in
     subst (λ (l : Noted). IsDriven (record { control = control; log = l })) (sym none)
     (subst (λ (k : Control). IsDriven (record { control = k; log = record { entries = []; reserved = 2 * stated_number v.planned } })) (sym at_first) nothing)
 
 -- its log has room
-pub driven-never_full : (s : DriveState) → IsDriven s → IsNeverFull s.control.plan.planned s.log
+pub driven-never_full : (s : DriveState) → IsDriven s → IsNeverFull s.control.planned s.log
 driven-never_full s driven =
-    let p = s.control.plan.planned in
+    let p = s.control.planned in
     let shaped = driven.verified.schedule.shaped in
     let reports = (ends_on_the_stated_number-holds p driven.reports (events_of s.log.entries) s.control.cell shaped driven.run).0 in
     let moves = orders_never_outnumber_reports-holds p driven.reports (events_of s.log.entries) s.control.cell shaped driven.run in
@@ -65,7 +66,7 @@ driven-never_full s driven =
 
 module _ (s : DriveState) (report : Report) (ack : Ack) (after : Control) (driven : IsDriven s) (answered : IsAnswered s.control report ack after) where
   abbrev p : PlannedShop
-  p = s.control.plan.planned
+  p = s.control.planned
 
   abbrev new_entries : List Entry
   new_entries = ReportEntry report ∷ map OrderEntry after.orders
@@ -98,23 +99,23 @@ module _ (s : DriveState) (report : Report) (ack : Ack) (after : Control) (drive
   pub driven_more : (log : Noted) → Notes s.log log new_entries → IsDriven (record { control = after; log = log })
   driven_more log notes =
       let entries : events_of log.entries ≡ new_events = ap events_of notes.entries ∙ events_are in
-      let accepted = driven.accepted in
-      let counted = answered.accepted in
-      let count : reports_in new_events ≡ after.accepted =
+      let before = driven.left in
+      let one_less = answered.left in
+      let count : reports_in new_events + after.left ≡ stated_number p =
       omega (
         arith,
         reports_in-append (events_of s.log.entries) (Reported report ∷ moved (step_orders p s.control.cell report answered.movers)),
         reports_in-moved (step_orders p s.control.cell report answered.movers),
-        accepted,
-        counted,
+        before,
+        one_less,
       ) in
-      let same_plan : after.plan ≡ s.control.plan = answered.plan in
+      let same_plan : verified_in after ≡ verified_in s.control = plan_stays s.control after report ack answered in
       record {
         verified = subst (λ (v : VerifiedPlan). IsVerified v) (sym same_plan) driven.verified;
         reports = driven.reports ++ report ∷ [];
         run = subst (λ (v : VerifiedPlan). IsControlledRun v.planned (driven.reports ++ report ∷ []) (events_of log.entries) after.cell) (sym same_plan)
             (subst (λ c. IsControlledRun p (driven.reports ++ report ∷ []) (events_of log.entries) c) (sym answered.cell)
             (subst (λ es. IsControlledRun p (driven.reports ++ report ∷ []) es (after_step p s.control.cell report answered.movers)) (sym entries) longer_run));
-        accepted = ap reports_in entries ∙ count;
+        left = ap (λ (es : List Event). reports_in es + after.left) entries ∙ count ∙ ap (λ (v : VerifiedPlan). stated_number v.planned) (sym same_plan);
         reserved = notes.reserved ∙ driven.reserved ∙ ap (λ (v : VerifiedPlan). 2 * stated_number v.planned) (sym same_plan);
       }

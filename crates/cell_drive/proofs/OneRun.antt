@@ -9,6 +9,7 @@ use Rattle.shop_base.proofs.ControlledRuns.{controlled_to_run}
 use Rattle.shop_base.proofs.StatedNumber.{ends_on_the_stated_number-holds}
 use Rattle.plan_verifier.specs.Accepted.{VerifiedPlan}
 use Rattle.cell_tables.specs.Events.{events_of}
+use Rattle.cell_control.specs.Control.{verified_in}
 use Rattle.run_log.specs.Log.{Noted}
 use Rattle.byte_streams.specs.declared.drive_fault.DriveFault.{DriveFault}
 use Rattle.byte_streams.specs.declared.drive_fault.DriveFault.TheVariants.{Memory}
@@ -25,22 +26,22 @@ use Rattle.cell_drive.proofs.LogRoom.{driven-never_full}
 use Rattle.cell_drive.proofs.PromisesKept.{stays_as_promised}
 
 -- its answers are those of the cell, and the plan stays
-pub seen_answers : (p : PlannedShop) (lines : List (Option (List ℕ))) (s e : DriveState) (number : ℕ) (text : List ℕ) → s.control.plan.planned ≡ p
-    → AnswerAll DriveAnswer s number lines text e → AnswerAll (CellAnswers p) (seen s) number lines text (seen e) × (e.control.plan ≡ s.control.plan)
-seen_answers p [] s e number text of_plan all = ((all.0, ap seen all.1), ap (λ (d : DriveState). d.control.plan) all.1)
+pub seen_answers : (p : PlannedShop) (lines : List (Option (List ℕ))) (s e : DriveState) (number : ℕ) (text : List ℕ) → s.control.planned ≡ p
+    → AnswerAll DriveAnswer s number lines text e → AnswerAll (CellAnswers p) (seen s) number lines text (seen e) × (verified_in e.control ≡ verified_in s.control)
+seen_answers p [] s e number text of_plan all = ((all.0, ap seen all.1), ap (λ (d : DriveState). verified_in d.control) all.1)
 seen_answers p (line ∷ lines) s e number text of_plan all =
     let next = all.2 in
     let plan_is = all.3.plan in
     let rest = seen_answers p lines next e (number + 1) all.1 (ap (λ (v : VerifiedPlan). v.planned) plan_is ∙ of_plan) all.4 in
     ((all.0, all.1, seen next, subst (λ (q : PlannedShop). CellAnswers q (seen s) number line all.0 (seen next)) of_plan all.3.answer, rest.0, all.5), rest.1 ∙ plan_is)
 
-pub seen_closes : (p : PlannedShop) (s : DriveState) (text : List ℕ) → s.control.plan.planned ≡ p → DriveCloses s text → CellCloses p (seen s) text
+pub seen_closes : (p : PlannedShop) (s : DriveState) (text : List ℕ) → s.control.planned ≡ p → DriveCloses s text → CellCloses p (seen s) text
 seen_closes p s text of_plan closes = subst (λ q. CellCloses q (seen s) text) of_plan closes
 
 -- the cell of a driven cell is that after its log
 module _ (s : DriveState) (driven : IsDriven s) where
   abbrev p : PlannedShop
-  p = s.control.plan.planned
+  p = s.control.planned
 
   pub cell_is : s.control.cell ≡ cell_after p s.log.entries
   cell_is = (controlled_to_run p driven.reports (events_of s.log.entries) s.control.cell driven.verified.schedule.shaped driven.run).1
@@ -53,11 +54,11 @@ module _ (s : DriveState) (driven : IsDriven s) where
   pub run_of : IsRunOf p s.log.entries
   run_of = (driven.reports, subst (λ c. IsControlledRun p driven.reports (events_of s.log.entries) c) cell_is driven.run)
 
-  so_far : (is_done : Bool) (last left : ℕ) → IsTrue is_done ↔ HasEnded p s.control.cell → last ≡ s.control.cell.last → s.control.accepted + left ≡ stated_number p
+  so_far : (is_done : Bool) (last left : ℕ) → IsTrue is_done ↔ HasEnded p s.control.cell → last ≡ s.control.cell.last → left ≡ s.control.left
       → IsSoFar p s.log.entries is_done last left
   so_far is_done last left ended moment count =
       let law = (ends_on_the_stated_number-holds p driven.reports (events_of s.log.entries) s.control.cell driven.verified.schedule.shaped driven.run).1 in
-      let counted = driven.accepted in
+      let counted = driven.left in
       record {
         ended = ((λ is. subst (HasEnded p) cell_is (ended.0 is)), λ has. ended.1 (subst (HasEnded p) (sym cell_is) has));
         counted = ((λ is. law.0 (ended.0 is)), λ all. ended.1 (law.1 all));
@@ -66,8 +67,8 @@ module _ (s : DriveState) (driven : IsDriven s) where
       }
 
   -- what is told of it at its end
-  pub end_of : (end : DriveEnd) → end.log ≡ s.log → end.verified ≡ s.control.plan → IsTrue end.done ↔ HasEnded p s.control.cell → end.last ≡ s.control.cell.last
-      → s.control.accepted + end.left ≡ stated_number p → IsEndOf s.control.plan s end
+  pub end_of : (end : DriveEnd) → end.log ≡ s.log → end.verified ≡ verified_in s.control → IsTrue end.done ↔ HasEnded p s.control.cell → end.last ≡ s.control.cell.last
+      → end.left ≡ s.control.left → IsEndOf (verified_in s.control) s end
   end_of end log plan ended moment count = record {
     log = log;
     plan = plan;
@@ -75,19 +76,19 @@ module _ (s : DriveState) (driven : IsDriven s) where
     cell = subst (λ (l : Noted). s.control.cell ≡ cell_after p l.entries) (sym log) cell_is;
     so_far = subst (λ (l : Noted). IsSoFar p l.entries end.done end.last end.left) (sym log) (so_far end.done end.last end.left ended moment count);
     never_full = subst (IsNeverFull p) (sym log) (driven-never_full s driven);
-    promised = subst (λ (l : Noted). NeverWentWrong s.control.plan l.entries) (sym log)
-        (stays_as_promised s.control.plan driven.reports (events_of s.log.entries) s.control.cell driven.verified driven.run);
+    promised = subst (λ (l : Noted). NeverWentWrong (verified_in s.control) l.entries) (sym log)
+        (stays_as_promised (verified_in s.control) driven.reports (events_of s.log.entries) s.control.cell driven.verified driven.run);
   }
 
 -- it answers as its cell does
 pub a_driven_cell_answers_so : ADrivenCellAnswersSo
-a_driven_cell_answers_so s e number lines text all = seen_answers s.control.plan.planned lines s e number text refl all
+a_driven_cell_answers_so s e number lines text all = seen_answers s.control.planned lines s e number text refl all
 
 -- by the plan that it was made of
 pub end_from : (s e : DriveState) (lines : List (Option (List ℕ))) (number : ℕ) (text : List ℕ) (end : DriveEnd) → AnswerAll DriveAnswer s number lines text e
-    → IsEndOf e.control.plan e end → IsEndOf s.control.plan e end
+    → IsEndOf (verified_in e.control) e end → IsEndOf (verified_in s.control) e end
 end_from s e lines number text end all is =
-    subst (λ (v : VerifiedPlan). IsEndOf v e end) (seen_answers s.control.plan.planned lines s e number text refl all).1 is
+    subst (λ (v : VerifiedPlan). IsEndOf v e end) (seen_answers s.control.planned lines s e number text refl all).1 is
 
 -- what was written is the answer text of what was read
 pub driven_text : (v : VerifiedPlan) (end : DriveEnd) (before after : Streams) (is : IsDrive v before after (Ok end))

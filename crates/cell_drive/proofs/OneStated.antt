@@ -14,6 +14,7 @@ use Rattle.byte_streams.specs.declared.drive_fault.DriveFault.TheVariants.{Memor
 use Rattle.byte_streams.specs.Lent.{Streams}
 use Rattle.byte_streams.specs.Lines.{input_lines}
 use Rattle.byte_streams.specs.Answering.{AnswerAll}
+use Rattle.cell_control.specs.Control.{verified_in}
 use Rattle.event_lines.specs.StandingLines.{refused_detail_line}
 use Rattle.event_lines.specs.declared.requests.Claim.{Claim}
 use Rattle.event_lines.specs.declared.requests.Claim.TheVariants.{Report, CleanAfter}
@@ -121,9 +122,9 @@ one_stated_text p manner input text other end last shaped is also =
 
 -- ---- the cell of a controller
 
-stated_answers : (p : PlannedShop) (manner : Manner) (lines : List (Option (List ℕ))) (s e : StatedState) (number : ℕ) (text : List ℕ) → s.driven.control.plan.planned ≡ p → s.manner ≡ manner
-    → AnswerAll StatedAnswer s number lines text e → AnswerAll (StatedAnswers p manner) (seen s.driven) number lines text (seen e.driven) × (e.driven.control.plan ≡ s.driven.control.plan)
-stated_answers p manner [] s e number text of_plan of_manner all = ((all.0, ap (λ (d : StatedState). seen d.driven) all.1), ap (λ (d : StatedState). d.driven.control.plan) all.1)
+stated_answers : (p : PlannedShop) (manner : Manner) (lines : List (Option (List ℕ))) (s e : StatedState) (number : ℕ) (text : List ℕ) → s.driven.control.planned ≡ p → s.manner ≡ manner
+    → AnswerAll StatedAnswer s number lines text e → AnswerAll (StatedAnswers p manner) (seen s.driven) number lines text (seen e.driven) × (verified_in e.driven.control ≡ verified_in s.driven.control)
+stated_answers p manner [] s e number text of_plan of_manner all = ((all.0, ap (λ (d : StatedState). seen d.driven) all.1), ap (λ (d : StatedState). verified_in d.driven.control) all.1)
 stated_answers p manner (line ∷ lines) s e number text of_plan of_manner all =
     let next = all.2 in
     let plan_is = all.3.plan in
@@ -134,11 +135,11 @@ stated_answers p manner (line ∷ lines) s e number text of_plan of_manner all =
     ((all.0, all.1, seen next.driven, answer, rest.0, all.5), rest.1 ∙ plan_is)
 
 pub a_stated_cell_answers_so : AStatedCellAnswersSo
-a_stated_cell_answers_so s e number lines text all = stated_answers s.driven.control.plan.planned s.manner lines s e number text refl refl all
+a_stated_cell_answers_so s e number lines text all = stated_answers s.driven.control.planned s.manner lines s e number text refl refl all
 
 -- what driving comes to is of the plan that the cell was made of
 pub stated_end : (s e : StatedState) (lines : List (Option (List ℕ))) (number : ℕ) (text : List ℕ) (end : DriveEnd) → AnswerAll StatedAnswer s number lines text e
-    → IsEndOf e.driven.control.plan e.driven end → IsEndOf s.driven.control.plan e.driven end
+    → IsEndOf (verified_in e.driven.control) e.driven end → IsEndOf (verified_in s.driven.control) e.driven end
 stated_end s e lines number text end all is = subst (λ (v : VerifiedPlan). IsEndOf v e.driven end) (a_stated_cell_answers_so s e number lines text all).1 is
 
 -- where memory ran out before the first byte was read

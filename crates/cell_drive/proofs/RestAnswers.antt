@@ -8,7 +8,7 @@ use Rattle.cell_control.specs.declared.ack.Ack.{Ack}
 use Rattle.cell_control.specs.declared.report_fault.ReportFault.{ReportFault}
 use Rattle.cell_control.specs.ReasonNames.{reason_name}
 use Rattle.cell_control.specs.Reports.{IsFirstReason}
-use Rattle.rest_control.specs.RestControl.{RestControl, IsRestAnswered}
+use Rattle.cell_control.specs.Control.{Control, IsAnswered}
 use Rattle.run_log.specs.Log.{Noted, Notes}
 use Rattle.byte_streams.specs.Answering.{AnswerAll}
 use Rattle.event_lines.specs.AnswerLines.{refused_line}
@@ -31,16 +31,16 @@ pub rest_refuses : (s e : RestState) (number : ℕ) (line : List ℕ) (report : 
 rest_refuses s e number line report reason some is_line first same_control same_log = record {
   answer = asked_line IsReportLine (CellReports s.control.planned) (rest_seen s) number line _ report (rest_seen e) some is_line (record {
     more = [];
-    answer = inl (record { reason = reason; first = first; text_is = refl; events_are = refl; next_is = ap (λ (v : RestControl). v.cell) same_control });
+    answer = inl (record { reason = reason; first = first; text_is = refl; events_are = refl; next_is = ap (λ (v : Control). v.cell) same_control });
     entries = ap (λ (l : Noted). l.entries) same_log ∙ sym (append-nil s.log.entries);
   });
-  planned = ap (λ (v : RestControl). v.planned) same_control;
+  planned = ap (λ (v : Control). v.planned) same_control;
   reserved = ap (λ (l : Noted). l.reserved) same_log;
 }
 
 -- to one that is
 pub rest_accepts : (s e : RestState) (number : ℕ) (line : List ℕ) (report : Report) (ack : Ack) (orders : List MoveOrder) → (line ≡ [] → ⊥) → IsReportLine line report → orders ≡ e.control.orders
-    → IsRestAnswered s.control report ack e.control → Notes s.log e.log (ReportEntry report ∷ map OrderEntry e.control.orders)
+    → IsAnswered s.control report ack e.control → Notes s.log e.log (ReportEntry report ∷ map OrderEntry e.control.orders)
     → RestAnswer s number (Some line) (accepted_lines [] report ack.late orders) e
 rest_accepts s e number line report ack orders some is_line are answered notes = record {
   answer = asked_line IsReportLine (CellReports s.control.planned) (rest_seen s) number line _ report (rest_seen e) some is_line (record {

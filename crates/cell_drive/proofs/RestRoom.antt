@@ -21,7 +21,7 @@ use Rattle.cell_tables.specs.Events.{events_of}
 use Rattle.run_log.specs.Log.{Noted, Notes}
 use Rattle.run_log.specs.Audits.{IsTold}
 use Rattle.run_log.proofs.Audits.{events-join, run-few}
-use Rattle.rest_control.specs.RestControl.{RestControl, IsRestControl, IsRestAnswered}
+use Rattle.cell_control.specs.Control.{Control, IsControl, IsAnswered}
 use Rattle.cell_drive.specs.OneRun.{cell_after, IsSoFar, IsNeverFull}
 use Rattle.cell_drive.specs.RestCell.{RestState, IsRestDriven, IsRestEndOf}
 use Rattle.cell_drive.specs.declared.rest_run.RestEnd.{RestEnd}
@@ -45,7 +45,7 @@ told_moves p c t js entries orders told events are =
     subst (λ (d : Cell). IsTold p d (entries ++ map OrderEntry orders)) (ap (after_all p c) same ∙ after_all-moves p c t js)
     (told_on p c entries (map OrderEntry orders) told (subst (AreEvents p c) (sym same) events))
 
-module _ (s : RestState) (report : Report) (ack : Ack) (after : RestControl) (driven : IsRestDriven s) (answered : IsRestAnswered s.control report ack after) where
+module _ (s : RestState) (report : Report) (ack : Ack) (after : Control) (driven : IsRestDriven s) (answered : IsAnswered s.control report ack after) where
   abbrev p : PlannedShop
   p = s.control.planned
 
@@ -70,7 +70,7 @@ module _ (s : RestState) (report : Report) (ack : Ack) (after : RestControl) (dr
       omega (arith, few, reserved, length-append s.log.entries new_entries, length-map after.orders OrderEntry)
 
   -- and the log with it is again that of a driven cell
-  pub rest_more : (log : Noted) → Notes s.log log new_entries → IsRestControl after → IsRestDriven (record { control = after; log = log })
+  pub rest_more : (log : Noted) → Notes s.log log new_entries → IsControl after → IsRestDriven (record { control = after; log = log })
   rest_more log notes control =
       let same_plan : after.planned ≡ s.control.planned = answered.planned in
       record {

@@ -5,7 +5,7 @@ use Rattle.shop_base.specs.declared.report.Report.{Report}
 use Rattle.shop_base.specs.Plan.{PlannedShop}
 use Rattle.cell_tables.specs.declared.entry.Entry.TheVariants.{Report as ReportEntry, Order as OrderEntry}
 use Rattle.cell_control.specs.declared.ack.Ack.{Ack}
-use Rattle.rest_control.specs.RestControl.{IsRestAnswered}
+use Rattle.cell_control.specs.Control.{IsAnswered}
 use Rattle.run_log.specs.Log.{Notes}
 use Rattle.byte_streams.specs.Answering.{AnswerAll}
 use Rattle.event_lines.specs.StandingLines.{refused_detail_line}
@@ -54,7 +54,7 @@ module _ (manner : Manner) (s : RestState) (number : ℕ) where
   -- to one that is taken
   takes : (e : RestState) (claim : Claim) (ack : Ack) (orders : List MoveOrder) (overdue : Option Overdue) (ended : Bool) → IsTaken manner p s.control.cell claim
       → orders ≡ e.control.orders → overdue ≡ told_overdue manner p s.control.cell (claimed claim) → ended ≡ tells_end manner e.control.planned e.control.cell
-      → IsRestAnswered s.control (claimed claim) ack e.control → Notes s.log e.log (ReportEntry (claimed claim) ∷ map OrderEntry e.control.orders)
+      → IsAnswered s.control (claimed claim) ack e.control → Notes s.log e.log (ReportEntry (claimed claim) ∷ map OrderEntry e.control.orders)
       → RestAnswersRequest manner s number (ClaimRequest claim) e (taken_lines [] (claimed claim) ack.late overdue orders ended)
   takes e claim ack orders overdue ended taken are overdue_is ended_is answered notes =
       let told = told_overdue manner p s.control.cell (claimed claim) in
@@ -82,10 +82,10 @@ module _ (manner : Manner) (s : RestState) (number : ℕ) where
   -- whose report this is
   pub takes_as : (e : RestState) (claim : Claim) (ack : Ack) (orders : List MoveOrder) (overdue : Option Overdue) (ended : Bool) (report : Report) → claimed claim ≡ report
       → IsTaken manner p s.control.cell claim → ended ≡ tells_end manner e.control.planned e.control.cell
-      → orders ≡ e.control.orders → overdue ≡ told_overdue manner p s.control.cell report → IsRestAnswered s.control report ack e.control
+      → orders ≡ e.control.orders → overdue ≡ told_overdue manner p s.control.cell report → IsAnswered s.control report ack e.control
       → Notes s.log e.log (ReportEntry report ∷ map OrderEntry e.control.orders) → RestAnswersRequest manner s number (ClaimRequest claim) e (taken_lines [] report ack.late overdue orders ended)
   takes_as e claim ack orders overdue ended report same taken ended_is =
-      subst (λ (r : Report). orders ≡ e.control.orders → overdue ≡ told_overdue manner p s.control.cell r → IsRestAnswered s.control r ack e.control
+      subst (λ (r : Report). orders ≡ e.control.orders → overdue ≡ told_overdue manner p s.control.cell r → IsAnswered s.control r ack e.control
       → Notes s.log e.log (ReportEntry r ∷ map OrderEntry e.control.orders) → RestAnswersRequest manner s number (ClaimRequest claim) e (taken_lines [] r ack.late overdue orders ended)) same
       (λ are overdue_is answered notes. takes e claim ack orders overdue ended taken are overdue_is ended_is answered notes)
 

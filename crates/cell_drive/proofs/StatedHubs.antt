@@ -9,6 +9,7 @@ use Rattle.plan_verifier.specs.Accepted.{VerifiedPlan}
 use Rattle.cell_tables.specs.declared.entry.Entry.{Entry}
 use Rattle.cell_tables.specs.declared.entry.Entry.TheVariants.{Report as ReportEntry, Order as OrderEntry}
 use Rattle.cell_control.specs.declared.ack.Ack.{Ack}
+use Rattle.cell_control.proofs.Fields.{plan_stays}
 use Rattle.cell_control.specs.Control.{Control}
 use Rattle.cell_hub.specs.declared.ticket.Ticket.{Ticket}
 use Rattle.cell_hub.specs.declared.hub_fault.HubFault.{HubFault}
@@ -82,11 +83,11 @@ of_its_cell cells k c P found holds other is = let same : c ≡ other = cc in su
 -- ---- what is taken
 
 -- a report that is possible in the ticket's cell is accepted
-pub is_accepted : (o : Option Control) (outcome : Result Ack HubFault) (report : reports.Report) → (v : Control) × (o ≡ Some v) × CanReport v.plan.planned v.cell report
-    → IfSome o (λ c. IsOk outcome ↔ CanReport c.plan.planned c.cell report) → IsOk outcome
+pub is_accepted : (o : Option Control) (outcome : Result Ack HubFault) (report : reports.Report) → (v : Control) × (o ≡ Some v) × CanReport v.planned v.cell report
+    → IfSome o (λ c. IsOk outcome ↔ CanReport c.planned c.cell report) → IsOk outcome
 is_accepted None outcome report (v, there, can) possible = absurd (cc)
 is_accepted (Some w) outcome report (v, there, can) possible =
-    let same : v ≡ w = cc in possible.1 (subst (λ (c : Control). CanReport c.plan.planned c.cell report) same can)
+    let same : v ≡ w = cc in possible.1 (subst (λ (c : Control). CanReport c.planned c.cell report) same can)
 
 module _ (h : HubState) (tickets : List Ticket) (k : ℕ) (numbered : AreNumbered h 0 tickets) where
   -- where there is a cell, there is a ticket
@@ -95,16 +96,16 @@ module _ (h : HubState) (tickets : List Ticket) (k : ℕ) (numbered : AreNumbere
   has_ticket c (Some t) is found = refl
 
   module _ (t : Ticket) (found : slice_get tickets k ≡ Some t) (manner : Manner) (claim : Claim) (taken : IfCell (cells_of h tickets) k (λ c. IsTaken manner c.plan.planned c.cell claim)) where
-    pub can_take : (report : reports.Report) → claimed claim ≡ report → (c : Control) × (cell_at h t ≡ Some c) × CanReport c.plan.planned c.cell report
+    pub can_take : (report : reports.Report) → claimed claim ≡ report → (c : Control) × (cell_at h t ≡ Some c) × CanReport c.planned c.cell report
     can_take report same =
         let at = is_at h 0 tickets k t numbered found in
         let v = at.content in
-        (v, at.there, subst (CanReport v.plan.planned v.cell) same (can_report v.plan.planned v.cell claim (taken (planned_cell v) at.cell_is).0))
+        (v, at.there, subst (CanReport v.planned v.cell) same (can_report v.planned v.cell claim (taken (planned_cell v) at.cell_is).0))
 
     module _ (new : HubState) (ack : Ack) (orders : List MoveOrder) (overdue : Option Overdue) (ended : Bool)
         (orders_are : (content : Control) → cell_at new t ≡ Some content → orders ≡ content.orders)
         (overdue_is : IfCell (cells_of h tickets) k (λ c. overdue ≡ told_overdue manner c.plan.planned c.cell (claimed claim)))
-        (ended_is : (content : Control) → cell_at new t ≡ Some content → ended ≡ tells_end manner content.plan.planned content.cell) where
+        (ended_is : (content : Control) → cell_at new t ≡ Some content → ended ≡ tells_end manner content.planned content.cell) where
       takes_its : (number : ℕ) → IsReported h t (claimed claim) ack new → ToldByHub manner h tickets number k (ClaimRequest claim) new (taken_lines (cell_prefix k) (claimed claim) ack.late overdue orders ended)
       takes_its number is =
           let there = cell_there h tickets k t is.before numbered found is.cell in
@@ -114,7 +115,7 @@ module _ (h : HubState) (tickets : List Ticket) (k : ℕ) (numbered : AreNumbere
           (inr (claim_taken manner (cell_prefix k) is.before is.after claim ack orders overdue ended (taken (planned_cell is.before) there) (orders_are is.after now) (overdue_is (planned_cell is.before) there)
           (ended_is is.after now) is.answered))
           ((put h new 0 tickets k t is.after is.cells numbered found).1
-          ∙ ap (λ (plan : VerifiedPlan). set (cells_of h tickets) k (record { plan = plan; cell = is.after.cell })) is.answered.plan)
+          ∙ ap (λ (plan : VerifiedPlan). set (cells_of h tickets) k (record { plan = plan; cell = is.after.cell })) (plan_stays is.before is.after (claimed claim) ack is.answered))
 
       -- whose report this is
       pub takes : (report : reports.Report) → claimed claim ≡ report → IsReported h t report ack new

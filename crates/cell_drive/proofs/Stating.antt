@@ -11,6 +11,7 @@ use Rattle.plan_verifier.specs.Accepted.{VerifiedPlan}
 use Rattle.cell_tables.specs.declared.entry.Entry.TheVariants.{Report as ReportEntry, Order as OrderEntry}
 use Rattle.cell_tables.specs.Events.{events_of}
 use Rattle.cell_control.specs.declared.ack.Ack.{Ack}
+use Rattle.cell_control.proofs.Fields.{plan_stays}
 use Rattle.cell_control.specs.declared.report_fault.ReportFault.{ReportFault}
 use Rattle.cell_control.specs.Control.{Control, IsAnswered}
 use Rattle.cell_control.specs.Reports.{IsFirstReason}
@@ -41,9 +42,9 @@ pub answered_as : {T E : Type 0} (texts others : List ℕ → Type 0) (outcome :
 answered_as texts others outcome before after each is = record { text = is.text; is_text = each is.text is.is_text; wrote = is.wrote; unfailed = is.unfailed }
 
 -- the cell of a driven cell is sound
-pub driven_sound : (s : DriveState) → IsDriven s → IsSound s.control.plan.planned s.control.cell
+pub driven_sound : (s : DriveState) → IsDriven s → IsSound s.control.planned s.control.cell
 driven_sound s driven =
-    let (run, leads, sound, rest) = controlled_to_run s.control.plan.planned driven.reports (events_of s.log.entries) s.control.cell driven.verified.schedule.shaped driven.run in sound
+    let (run, leads, sound, rest) = controlled_to_run s.control.planned driven.reports (events_of s.log.entries) s.control.cell driven.verified.schedule.shaped driven.run in sound
 
 -- a report that is possible isn't refused
 pub is_taken : (p : PlannedShop) (c : Cell) (report : reports.Report) (outcome : Result Ack ReportFault) → IsSound p c → CanReport p c report
@@ -67,11 +68,11 @@ no_report line none Status asked = asked
 
 -- a claim that a controller takes
 pub claim_taken : (manner : Manner) (prefix : List ℕ) (before after : Control) (claim : Claim) (ack : Ack) (orders : List MoveOrder) (overdue : Option Overdue) (ended : Bool)
-    → IsTaken manner before.plan.planned before.cell claim → orders ≡ after.orders → overdue ≡ told_overdue manner before.plan.planned before.cell (claimed claim)
-    → ended ≡ tells_end manner after.plan.planned after.cell → IsAnswered before (claimed claim) ack after
-    → IsClaimTaken before.plan.planned manner prefix before.cell claim (taken_lines prefix (claimed claim) ack.late overdue orders ended) (ReportEntry (claimed claim) ∷ map OrderEntry after.orders) after.cell
+    → IsTaken manner before.planned before.cell claim → orders ≡ after.orders → overdue ≡ told_overdue manner before.planned before.cell (claimed claim)
+    → ended ≡ tells_end manner after.planned after.cell → IsAnswered before (claimed claim) ack after
+    → IsClaimTaken before.planned manner prefix before.cell claim (taken_lines prefix (claimed claim) ack.late overdue orders ended) (ReportEntry (claimed claim) ∷ map OrderEntry after.orders) after.cell
 claim_taken manner prefix before after claim ack orders overdue ended taken are overdue_is ended_is answered =
-    let told = told_overdue manner before.plan.planned before.cell (claimed claim) in
+    let told = told_overdue manner before.planned before.cell (claimed claim) in
     record {
       taken = taken;
       movers = answered.movers;
@@ -80,14 +81,14 @@ claim_taken manner prefix before after claim ack orders overdue ended taken are 
       late_is = answered.late;
       text_is = ap (λ (o : Option Overdue). taken_lines prefix (claimed claim) ack.late o orders ended) overdue_is
           ∙ ap (λ (os : List MoveOrder). taken_lines prefix (claimed claim) ack.late told os ended) (are ∙ answered.orders)
-          ∙ ap (taken_lines prefix (claimed claim) ack.late told _) (ended_is ∙ ap (λ (v : VerifiedPlan). tells_end manner v.planned after.cell) answered.plan);
+          ∙ ap (taken_lines prefix (claimed claim) ack.late told _) (ended_is ∙ ap (λ (p : PlannedShop). tells_end manner p after.cell) answered.planned);
       events_are = ap (λ (os : List MoveOrder). ReportEntry (claimed claim) ∷ map OrderEntry os) answered.orders;
       next_is = answered.cell;
     }
 
 module _ (manner : Manner) (s : DriveState) (number : ℕ) where
   abbrev p : PlannedShop
-  p = s.control.plan.planned
+  p = s.control.planned
 
   -- to a claim that is refused
   pub refuses : (claim : Claim) (refusal : Refusal) (detail : Detail) → IsRefusal manner p s.control.cell claim refusal → detail ≡ refusal_detail manner p s.control.cell (claimed claim) refusal
@@ -104,7 +105,7 @@ module _ (manner : Manner) (s : DriveState) (number : ℕ) where
 
   -- to one that is taken
   pub takes : (e : DriveState) (claim : Claim) (ack : Ack) (orders : List MoveOrder) (overdue : Option Overdue) (ended : Bool) → IsTaken manner p s.control.cell claim
-      → orders ≡ e.control.orders → overdue ≡ told_overdue manner p s.control.cell (claimed claim) → ended ≡ tells_end manner e.control.plan.planned e.control.cell
+      → orders ≡ e.control.orders → overdue ≡ told_overdue manner p s.control.cell (claimed claim) → ended ≡ tells_end manner e.control.planned e.control.cell
       → IsAnswered s.control (claimed claim) ack e.control → Notes s.log e.log (ReportEntry (claimed claim) ∷ map OrderEntry e.control.orders)
       → AnswersRequest manner s number (ClaimRequest claim) e (taken_lines [] (claimed claim) ack.late overdue orders ended)
   takes e claim ack orders overdue ended taken are overdue_is ended_is answered notes = record {
@@ -113,13 +114,13 @@ module _ (manner : Manner) (s : DriveState) (number : ℕ) where
       answer = inr (claim_taken manner [] s.control e.control claim ack orders overdue ended taken are overdue_is ended_is answered);
       entries = notes.entries;
     };
-    plan = answered.plan;
+    plan = plan_stays s.control e.control (claimed claim) ack answered;
     reserved = notes.reserved;
   }
 
   -- whose report this is
   pub takes_as : (e : DriveState) (claim : Claim) (ack : Ack) (orders : List MoveOrder) (overdue : Option Overdue) (ended : Bool) (report : reports.Report) → claimed claim ≡ report
-      → IsTaken manner p s.control.cell claim → ended ≡ tells_end manner e.control.plan.planned e.control.cell
+      → IsTaken manner p s.control.cell claim → ended ≡ tells_end manner e.control.planned e.control.cell
       → orders ≡ e.control.orders → overdue ≡ told_overdue manner p s.control.cell report → IsAnswered s.control report ack e.control
       → Notes s.log e.log (ReportEntry report ∷ map OrderEntry e.control.orders) → AnswersRequest manner s number (ClaimRequest claim) e (taken_lines [] report ack.late overdue orders ended)
   takes_as e claim ack orders overdue ended report same taken ended_is =
@@ -147,5 +148,5 @@ module _ (manner : Manner) (s : DriveState) (number : ℕ) where
 
 -- to a line by which nothing changes
 pub unchanged : (s : StatedState) (number : ℕ) (line : Option (List ℕ)) (text : List ℕ)
-    → LineAnswer (AsksFor s.manner.tells) (CellRequests s.driven.control.plan.planned s.manner) (seen s.driven) number line text (seen s.driven) → StatedAnswer s number line text s
+    → LineAnswer (AsksFor s.manner.tells) (CellRequests s.driven.control.planned s.manner) (seen s.driven) number line text (seen s.driven) → StatedAnswer s number line text s
 unchanged s number line text answer = record { answer = answer; plan = refl; reserved = refl; manner = refl }

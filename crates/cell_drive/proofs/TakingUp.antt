@@ -20,7 +20,8 @@ use Rattle.run_log.specs.Audits.{IsTold, IsAuditFault}
 use Rattle.run_log.specs.declared.audit_fault.AuditFault.{AuditFault}
 use Rattle.run_log.specs.declared.audit_fault.AuditFault.TheVariants.{BadLine, NotExpected, Backwards, NotReady, Occupied, OutOfOrder, WrongPlace, NotClean, Memory as WantOfMemory}
 use Rattle.run_log.proofs.Audits.{run-few, first_bad-no_run}
-use Rattle.rest_control.specs.RestControl.{RestControl, IsBegun, IsRestControl}
+use Rattle.cell_control.specs.Control.{Control, IsControl}
+use Rattle.cell_control.specs.Begun.{IsBegun}
 use Rattle.cell_drive.specs.OneRun.{cell_after}
 use Rattle.cell_drive.specs.LateEvents.{AreLate}
 use Rattle.cell_drive.specs.TakenUp.{IsTakenRun, CanBeTakenUp, taken_by}
@@ -42,7 +43,7 @@ done_unless (Err e) never = absurd (never refl)
 
 -- ---- the orders that are due, noted behind the events of a log
 
-module _ (control : RestControl) (entries : List Entry) (late : List Bool) (run : IsRun control.planned (events_of entries))
+module _ (control : Control) (entries : List Entry) (late : List Bool) (run : IsRun control.planned (events_of entries))
     (begun : IsBegun control.planned (cell_after control.planned entries) control.began control) where
   abbrev p : PlannedShop
   p = control.planned
@@ -66,7 +67,7 @@ module _ (control : RestControl) (entries : List Entry) (late : List Bool) (run 
   pub told_first : AreLate p (start p) entries late → take (length late) with_orders ≡ entries
   told_first are = ap (λ n. take n with_orders) (late_length p (start p) entries late are) ∙ take-append_seam entries (map OrderEntry control.orders)
 
-  pub taken_run : (log : Noted) → IsWellShaped p → IsRestControl control → log.entries ≡ with_orders → log.reserved ≡ 2 * stated_number p → AreLate p (start p) entries late
+  pub taken_run : (log : Noted) → IsWellShaped p → IsControl control → log.entries ≡ with_orders → log.reserved ≡ 2 * stated_number p → AreLate p (start p) entries late
       → IsTakenRun (taken_by (record { control = control; log = log }) late)
   taken_run log shaped is_control noted reserved are =
       let told : take (length late) log.entries ≡ entries = ap (take (length late)) noted ∙ told_first are in

@@ -2,6 +2,7 @@
 use Rattle.std.specs.Prelude.{◌≡◌, ℕ, List, Option}
 use Rattle.shop_base.specs.Plan.{PlannedShop, IsWellShaped}
 use Rattle.byte_streams.specs.Answering.{AnswerAll}
+use Rattle.cell_control.specs.Control.{verified_in}
 use Rattle.cell_drive.specs.OneCell.{DriveState, DriveAnswer, seen}
 use Rattle.cell_drive.specs.AnswerText.{DrivenCell, CellAnswers, AreAnswersTo, IsAnswerText}
 
@@ -18,4 +19,4 @@ OneTextForLines = (p : PlannedShop) (lines : List (Option (List ℕ))) (text oth
 -- what a driven cell answers to lines is what its cell answers to them by its plan, which stays
 abbrev pub ADrivenCellAnswersSo : Type 0
 ADrivenCellAnswersSo = (s end : DriveState) (number : ℕ) (lines : List (Option (List ℕ))) (text : List ℕ) → AnswerAll DriveAnswer s number lines text end
-    → AnswerAll (CellAnswers s.control.plan.planned) (seen s) number lines text (seen end) × (end.control.plan ≡ s.control.plan)
+    → AnswerAll (CellAnswers s.control.planned) (seen s) number lines text (seen end) × (verified_in end.control ≡ verified_in s.control)

@@ -6,7 +6,7 @@ use Rattle.shop_base.specs.Ends.{stated_number}
 use Rattle.cell_tables.specs.Events.{events_of}
 use Rattle.run_log.specs.Log.{Noted}
 use Rattle.run_log.specs.Audits.{IsTold}
-use Rattle.rest_control.specs.RestControl.{RestControl, IsRestControl}
+use Rattle.cell_control.specs.Control.{Control, IsControl}
 use Rattle.cell_drive.specs.LineAnswers.{IsClosingLine}
 use Rattle.cell_drive.specs.AnswerText.{DrivenCell, CellAnswers}
 use Rattle.cell_drive.specs.OneRun.{cell_after, IsSoFar, IsNeverFull}
@@ -14,17 +14,17 @@ use Rattle.cell_drive.specs.declared.rest_run.RestEnd.{RestEnd}
 
 -- its controller, and the log of the whole run
 pub record RestState : Type 0 where
-  pub control : RestControl
+  pub control : Control
   pub log : Noted
 
 -- a controller and a log, as one cell
-abbrev pub rest_by : RestControl → Noted → RestState
+abbrev pub rest_by : Control → Noted → RestState
 rest_by control log = record { control = control; log = log }
 
 -- the log has a run of the plan, which leads to the controller's cell, and room for the rest of it
 pub record IsRestDriven (s : RestState) : Type 0 where
   pub shaped : IsWellShaped s.control.planned
-  pub control : IsRestControl s.control
+  pub control : IsControl s.control
   pub told : IsTold s.control.planned s.control.cell s.log.entries
   pub reserved : s.log.reserved ≡ 2 * stated_number s.control.planned
 
@@ -39,7 +39,7 @@ pub record RestAnswer (start : RestState) (number : ℕ) (line : Option (List �
   pub reserved : end.log.reserved ≡ start.log.reserved
 
 -- the texts that answer a line of this number that isn't too long, by a controller and its log before and after it
-abbrev pub RestAnswersBy : RestControl → Noted → ℕ → List ℕ → RestControl → Noted → List ℕ → Type 0
+abbrev pub RestAnswersBy : Control → Noted → ℕ → List ℕ → Control → Noted → List ℕ → Type 0
 RestAnswersBy control log number line control_then log_then text = RestAnswer (rest_by control log) number (Some line) text (rest_by control_then log_then)
 
 -- the closing line

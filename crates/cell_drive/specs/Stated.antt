@@ -12,7 +12,7 @@ use Rattle.shop_base.specs.declared.report.Report as reports
 use Rattle.plan_verifier.specs.Accepted.{VerifiedPlan}
 use Rattle.cell_tables.specs.declared.entry.Entry.{Entry}
 use Rattle.cell_tables.specs.declared.entry.Entry.TheVariants.{Report as ReportEntry, Order as OrderEntry}
-use Rattle.cell_control.specs.Control.{Control}
+use Rattle.cell_control.specs.Control.{Control, verified_in}
 use Rattle.run_log.specs.Log.{Noted}
 use Rattle.byte_streams.specs.declared.drive_fault.DriveFault.{DriveFault}
 use Rattle.byte_streams.specs.Lent.{Streams}
@@ -145,8 +145,8 @@ stated_start manner v = record { manner = manner; driven = drive_start v }
 
 -- a request by the line of this number is answered by this text, by the cell and into the log
 pub record AnswersRequest (manner : Manner) (start : DriveState) (number : ℕ) (request : Request) (end : DriveState) (text : List ℕ) : Type 0 where
-  pub answer : CellRequests start.control.plan.planned manner (seen start) number request text (seen end)
-  pub plan : end.control.plan ≡ start.control.plan
+  pub answer : CellRequests start.control.planned manner (seen start) number request text (seen end)
+  pub plan : verified_in end.control ≡ verified_in start.control
   pub reserved : end.log.reserved ≡ start.log.reserved
 
 -- the texts that answer a request by the line of this number, by a controller and its log before and after it
@@ -155,8 +155,8 @@ RequestedBy manner control log number request control_then log_then text = Answe
 
 -- the line of this number is answered by this text
 pub record StatedAnswer (start : StatedState) (number : ℕ) (line : Option (List ℕ)) (text : List ℕ) (end : StatedState) : Type 0 where
-  pub answer : StatedAnswers start.driven.control.plan.planned start.manner (seen start.driven) number line text (seen end.driven)
-  pub plan : end.driven.control.plan ≡ start.driven.control.plan
+  pub answer : StatedAnswers start.driven.control.planned start.manner (seen start.driven) number line text (seen end.driven)
+  pub plan : verified_in end.driven.control ≡ verified_in start.driven.control
   pub reserved : end.driven.log.reserved ≡ start.driven.log.reserved
   pub manner : end.manner ≡ start.manner
 

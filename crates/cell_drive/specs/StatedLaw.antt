@@ -14,6 +14,7 @@ use Rattle.cell_tables.specs.declared.entry.Entry.{Entry}
 use Rattle.cell_tables.specs.declared.entry.Entry.TheVariants.{Report as ReportEntry}
 use Rattle.cell_tables.specs.Events.{events_of}
 use Rattle.cell_control.specs.OnceLaw.{NamedEnd, Arrived, Finished, Cleaned, Tells}
+use Rattle.cell_control.specs.Control.{verified_in}
 use Rattle.run_log.specs.declared.audit_result.Audit.{Audit}
 use Rattle.run_log.specs.declared.audit_fault.AuditFault.{AuditFault}
 use Rattle.run_log.specs.declared.audit_fault.AuditFault.TheVariants.{Memory}
@@ -42,7 +43,7 @@ OneStatedText = (p : PlannedShop) (manner : Manner) (input text other : List ℕ
 -- what a cell that is driven in a manner answers to lines is what its cell answers to them by its plan, which stays
 abbrev pub AStatedCellAnswersSo : Type 0
 AStatedCellAnswersSo = (s end : StatedState) (number : ℕ) (lines : List (Option (List ℕ))) (text : List ℕ) → AnswerAll StatedAnswer s number lines text end
-    → AnswerAll (StatedAnswers s.driven.control.plan.planned s.manner) (seen s.driven) number lines text (seen end.driven) × (end.driven.control.plan ≡ s.driven.control.plan)
+    → AnswerAll (StatedAnswers s.driven.control.planned s.manner) (seen s.driven) number lines text (seen end.driven) × (verified_in end.driven.control ≡ verified_in s.driven.control)
 
 -- the answer text is a log of what was accepted and ordered
 abbrev pub AStatedTextIsALog : Type 0

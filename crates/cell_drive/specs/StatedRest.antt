@@ -1,6 +1,6 @@
 -- A cell that is driven on from a log in a manner.
 use Rattle.std.specs.Prelude.{◌≡◌, ℕ, List, Option, Some}
-use Rattle.rest_control.specs.RestControl.{RestControl}
+use Rattle.cell_control.specs.Control.{Control}
 use Rattle.run_log.specs.Log.{Noted}
 use Rattle.event_lines.specs.declared.requests.Request.{Request}
 use Rattle.cell_drive.specs.declared.manner.Manner.{Manner}
@@ -13,7 +13,7 @@ pub record StatedRest : Type 0 where
   pub driven : RestState
 
 -- a manner, a controller and a log, as one cell
-abbrev pub rest_stated_by : Manner → RestControl → Noted → StatedRest
+abbrev pub rest_stated_by : Manner → Control → Noted → StatedRest
 rest_stated_by manner control log = record { manner = manner; driven = rest_by control log }
 
 -- a request by the line of this number is answered by this text, by the cell and into the log
@@ -23,7 +23,7 @@ pub record RestAnswersRequest (manner : Manner) (start : RestState) (number : �
   pub reserved : end.log.reserved ≡ start.log.reserved
 
 -- the texts that answer a request by the line of this number, by a controller and its log before and after it
-abbrev pub RestRequestedBy : Manner → RestControl → Noted → ℕ → Request → RestControl → Noted → List ℕ → Type 0
+abbrev pub RestRequestedBy : Manner → Control → Noted → ℕ → Request → Control → Noted → List ℕ → Type 0
 RestRequestedBy manner control log number request control_then log_then text = RestAnswersRequest manner (rest_by control log) number request (rest_by control_then log_then) text
 
 -- the line of this number is answered by this text
@@ -34,7 +34,7 @@ pub record StatedRestAnswer (start : StatedRest) (number : ℕ) (line : Option (
   pub manner : end.manner ≡ start.manner
 
 -- the texts that answer a line of this number that isn't too long, by a controller and its log before and after it
-abbrev pub RestStatedBy : Manner → RestControl → Noted → ℕ → List ℕ → RestControl → Noted → List ℕ → Type 0
+abbrev pub RestStatedBy : Manner → Control → Noted → ℕ → List ℕ → Control → Noted → List ℕ → Type 0
 RestStatedBy manner control log number line control_then log_then text = StatedRestAnswer (rest_stated_by manner control log) number (Some line) text (rest_stated_by manner control_then log_then)
 
 -- the closing line

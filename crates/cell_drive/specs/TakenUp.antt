@@ -8,7 +8,7 @@ use Rattle.cell_tables.specs.declared.entry.Entry.{Entry}
 use Rattle.cell_tables.specs.declared.entry.Entry.TheVariants.{Order as OrderEntry}
 use Rattle.cell_tables.specs.Events.{events_of}
 use Rattle.event_lines.specs.LogLines.{LinesTell}
-use Rattle.rest_control.specs.RestControl.{IsBegun}
+use Rattle.cell_control.specs.Begun.{IsBegun}
 use Rattle.cell_drive.specs.OneRun.{cell_after}
 use Rattle.cell_drive.specs.LateEvents.{AreLate}
 use Rattle.cell_drive.specs.RestCell.{RestState, IsRestDriven}

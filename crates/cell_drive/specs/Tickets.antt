@@ -3,7 +3,7 @@ use Rattle.std.specs.Prelude.{◌≡◌, ℕ, suc, List, [], ◌∷◌, ◌++◌
 use Rattle.shop_base.specs.Run.{IsAtRest}
 use Rattle.shop_base.specs.Sound.{IsSound}
 use Rattle.plan_verifier.specs.Accepted.{IsVerified}
-use Rattle.cell_control.specs.Control.{Control}
+use Rattle.cell_control.specs.Control.{Control, verified_in}
 use Rattle.cell_hub.specs.declared.ticket.Ticket.{Ticket}
 use Rattle.cell_hub.specs.Hub.{HubState, cell_at}
 use Rattle.cell_drive.specs.LineAnswers.{closing_line}
@@ -15,7 +15,7 @@ use Rattle.cell_drive.specs.StatedCells.{CellsTell, StatedHubAnswer, hub_stated}
 
 -- a controller's cell
 abbrev pub planned_cell : Control → PlannedCell
-planned_cell v = record { plan = v.plan; cell = v.cell }
+planned_cell v = record { plan = verified_in v; cell = v.cell }
 
 abbrev pub with_cell : Option Control → List PlannedCell → List PlannedCell
 with_cell None cells = cells

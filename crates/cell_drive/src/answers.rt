@@ -9,7 +9,7 @@ ghost use Rattle.event_lines.specs.AnswerLines.{late_line};
 ghost use Rattle.cell_drive.specs.LineAnswers.{accepted_lines, closing_line};
 
 use byte_streams::{Sink, WriteFault, put_all};
-use cell_control::{Controller, Dues, Report};
+use cell_control::{Core, Dues, Report, Timed};
 use event_lines::{LineText, done_line, late_line, put_order, put_report, unfinished_line};
 use shop_base::MoveOrder;
 
@@ -95,13 +95,13 @@ pub(crate) fn put_accepted<W: Sink>(
 }
 
 /// Writes the closing line: whether the run is done, and when, or how many reports are left.
-pub(crate) fn put_closing<D: Dues, W: Sink>(
+pub(crate) fn put_closing<P: Timed, D: Dues, W: Sink>(
     prefix: &[u8],
-    controller: &Controller<D>,
+    controller: &Core<P, D>,
     writer: &mut W,
 ) -> Result<(), WriteFault>
     ensures wrote { WroteTo W.Sink result writer.old writer.new
-        (prefix.now ++ closing_line controller.now.plan.planned controller.now.cell) }
+        (prefix.now ++ closing_line controller.now.planned controller.now.cell) }
     ensures unfailed { OnOk result (W.failed writer.new ≡ W.failed writer.old) }
 {
     let left = controller.reports_left();

@@ -15,11 +15,10 @@ use crate::manner::Manner;
 use crate::refusals::{Refusal, refusal_detail, refusal_of, standing_of};
 use crate::states::overdue_in;
 use byte_streams::{Sink, WriteFault};
-use cell_control::{Controller, Dues, Report};
+use cell_control::{Core, Dues, Report, Timed};
 use cell_tables::WorkCell;
 use event_lines::{Claim, Detail, Overdue, refused_detail_line};
-use rest_control::RestController;
-use shop_base::{Moment, Planned};
+use shop_base::Planned;
 
 /// What comes of a claim.
 #[derive(Clone, Copy)]
@@ -73,17 +72,9 @@ pub(crate) fn judge_in<P: Planned>(
 }
 
 /// What comes of the claim. Nothing changes.
-pub(crate) fn judge<D: Dues>(manner: Manner, controller: &Controller<D>, claim: Claim) -> Judged
-    ensures { IsJudged manner controller.now.plan.planned controller.now.cell claim result }
-{
-    let late = controller.is_late(claim.report().at());
-    judge_in(manner, controller.work_cell(), late, claim)
-}
-
-/// What comes of the claim in a run that was taken up. Nothing changes.
-pub(crate) fn judge_rest<D: Dues>(
+pub(crate) fn judge<P: Timed, D: Dues>(
     manner: Manner,
-    controller: &RestController<D>,
+    controller: &Core<P, D>,
     claim: Claim,
 ) -> Judged
     ensures { IsJudged manner controller.now.planned controller.now.cell claim result }
@@ -110,22 +101,8 @@ pub(crate) fn put_refusal<W: Sink>(
 }
 
 /// Whether the end of the run is written at once.
-pub(crate) fn tells_end<D: Dues>(manner: Manner, controller: &Controller<D>) -> bool
-    ensures { result ≡ tells_end manner controller.now.plan.planned controller.now.cell }
-{
-    manner.tells && controller.reports_left() == 0
-}
-
-/// Whether the end of a run that was taken up is told at once. Only where nothing goes on are the reports that are left counted.
-pub(crate) fn tells_end_rest<D: Dues>(manner: Manner, controller: &RestController<D>) -> bool
+pub(crate) fn tells_end<P: Timed, D: Dues>(manner: Manner, controller: &Core<P, D>) -> bool
     ensures { result ≡ tells_end manner controller.now.planned controller.now.cell }
 {
-    if !manner.tells {
-        return false;
-    }
-    let _plan = controller.shaped();
-    if controller.is_late(Moment::MAX) {
-        return false;
-    }
-    controller.reports_left() == 0
+    manner.tells && controller.reports_left() == 0
 }

@@ -10,7 +10,7 @@ ghost use Rattle.cell_tables.specs.Events.{event_of, events_of};
 ghost use Rattle.cell_control.specs.DueMoments.{AreDueMoments};
 ghost use Rattle.cell_drive.specs.LateEvents.{IsLateEvent, AreLate};
 
-use cell_control::{Dues, Report, TourneyDues, is_past_due, renew_job, renew_machine};
+use cell_control::{Dues, Report, TourneyDues, is_past_due, note_all, renew_job, renew_machine};
 use cell_tables::{Entry, WorkCell};
 use shop_base::{MoveOrder, Planned, Shaped, Spot};
 use std::alloc::{AllocError, Global};
@@ -49,11 +49,8 @@ fn start_dues<P: Planned, D: Dues>(alloc: Global, cell: &WorkCell<P>) -> Result<
     requires start { cell.now.cell ≡ start cell.now.plan }
     ensures { IfOk result (λ dues. AreDueMoments cell.now.plan (start cell.now.plan) (D.dues dues)) }
 {
-    let jobs = cell.job_count();
-    let mut dues = D::sized(alloc, (jobs + cell.machine_count()) as usize)?;
-    for job in 0..jobs {
-        renew_job(cell, &mut dues, job);
-    }
+    let mut dues = D::sized(alloc, (cell.job_count() + cell.machine_count()) as usize)?;
+    note_all(cell, &mut dues);
     Ok(dues)
 }
 

@@ -54,7 +54,7 @@ pub fn take_report<D: Dues>(
     ensures driven { IsDriven (driven_by controller.new log.new) }
     ensures accepted { IfOk result (λ ack. IsAnswered controller.old report ack controller.new) }
     ensures noted { OnOk result (Notes log.old log.new (Entry.Report report ∷ map Entry.Order controller.new.orders)) }
-    ensures refused { IfErr result (IsFirstReason controller.old.plan.planned controller.old.cell report) }
+    ensures refused { IfErr result (IsFirstReason controller.old.planned controller.old.cell report) }
     ensures unchanged { OnErr result ((controller.new ≡ controller.old) × (log.new ≡ log.old)) }
 {
     let ack = controller.report(report)?;

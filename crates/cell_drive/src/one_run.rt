@@ -2,6 +2,7 @@
 
 ghost use Rattle.std.specs.Prelude.{◌≡◌, Err, IfOk};
 ghost use Rattle.byte_streams.specs.Lent.{streams_of};
+ghost use Rattle.cell_control.specs.Control.{verified_in};
 ghost use Rattle.cell_drive.specs.OneCell.{drive_start};
 ghost use Rattle.cell_drive.specs.OneRun.{IsDrive, IsEndOf};
 
@@ -41,7 +42,7 @@ pub fn start_driven(alloc: Global, verified: Verified) -> Result<Driven<TourneyD
 
 /// What the run has come to.
 pub fn end_driven(driven: Driven<TourneyDues>) -> DriveEnd
-    ensures { IsEndOf driven.control.plan driven result }
+    ensures { IsEndOf (verified_in driven.control) driven result }
 {
     let Driven { controller, log } = driven;
     DriveEnd {

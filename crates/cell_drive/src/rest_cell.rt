@@ -2,19 +2,18 @@
 
 ghost use Rattle.std.specs.Prelude.{◌≡◌, ◌≢◌, [], ◌∷◌, map, IfOk, IfErr, OnOk, OnErr};
 ghost use Rattle.cell_control.specs.Reports.{IsFirstReason};
-ghost use Rattle.rest_control.specs.RestControl.{IsRestAnswered};
+ghost use Rattle.cell_control.specs.Control.{IsAnswered};
 ghost use Rattle.run_log.specs.Log.{Notes};
 ghost use Rattle.byte_streams.specs.Lent.{WroteTo, WroteOneTo};
 ghost use Rattle.cell_drive.specs.LineAnswers.{closing_line};
 ghost use Rattle.cell_drive.specs.RestCell.{IsRestDriven, RestAnswersBy, rest_by};
 
-use crate::answers::put_accepted;
+use crate::answers::{put_accepted, put_closing};
 use crate::one_cell::{note, put_refused};
-use byte_streams::{LineHandler, Sink, WriteFault, put_all};
-use cell_control::{Ack, Dues, Report, ReportFault};
+use byte_streams::{LineHandler, Sink, WriteFault};
+use cell_control::{Ack, Dues, Report, ReportFault, RestController};
 use cell_tables::Entry;
-use event_lines::{done_line, report_of, unfinished_line};
-use rest_control::RestController;
+use event_lines::report_of;
 use run_log::RunLog;
 use std::marker::Model;
 
@@ -43,7 +42,7 @@ pub(crate) fn take_report<D: Dues>(
 ) -> Result<Ack, ReportFault>
     requires { IsRestDriven (rest_by controller.old log.old) }
     ensures driven { IsRestDriven (rest_by controller.new log.new) }
-    ensures accepted { IfOk result (λ ack. IsRestAnswered controller.old report ack controller.new) }
+    ensures accepted { IfOk result (λ ack. IsAnswered controller.old report ack controller.new) }
     ensures noted { OnOk result (Notes log.old log.new (Entry.Report report ∷ map Entry.Order controller.new.orders)) }
     ensures refused { IfErr result (IsFirstReason controller.old.planned controller.old.cell report) }
     ensures unchanged { OnErr result ((controller.new ≡ controller.old) × (log.new ≡ log.old)) }
@@ -95,22 +94,6 @@ fn answer_line<D: Dues, W: Sink>(
     answer_told(controller, log, number, line, writer)
 }
 
-/// Writes the closing line of the run.
-pub(crate) fn put_closing_line<D: Dues, W: Sink>(
-    controller: &RestController<D>,
-    writer: &mut W,
-) -> Result<(), WriteFault>
-    ensures wrote { WroteTo W.Sink result writer.old writer.new (closing_line controller.now.planned controller.now.cell) }
-    ensures unfailed { OnOk result (W.failed writer.new ≡ W.failed writer.old) }
-{
-    let left = controller.reports_left();
-    if left == 0 {
-        put_all(writer, done_line(controller.now()).bytes())
-    } else {
-        put_all(writer, unfinished_line(left).bytes())
-    }
-}
-
 impl<D: Dues> LineHandler for RestDriven<D> {
     ghost use Rattle.cell_drive.specs.RestCell.{RestAnswer, RestCloses};
 
@@ -132,6 +115,6 @@ impl<D: Dues> LineHandler for RestDriven<D> {
     }
 
     fn put_closing<W: Sink>(&self, writer: &mut W) -> Result<(), WriteFault> {
-        put_closing_line(&self.controller, writer)
+        put_closing(b"", &self.controller, writer)
     }
 }

@@ -1,5 +1,5 @@
+use cell_control::RestFault;
 use plan_verifier::Why;
-use rest_control::RestFault;
 use run_log::AuditFault;
 use shop_base::{Moment, Shaped};
 use std::alloc::AllocError;
@@ -56,8 +56,8 @@ pub(crate) struct WantForRest {
 
 impl Model for WantForRest {
     ghost use Rattle.std.specs.Prelude.{◌≡◌};
-    ghost use Rattle.rest_control.specs.declared.rest_fault.RestFault.{RestFault};
-    ghost use Rattle.rest_control.specs.declared.rest_fault.RestFault.TheVariants.{Memory};
+    ghost use Rattle.cell_control.specs.declared.rest_fault.RestFault.{RestFault};
+    ghost use Rattle.cell_control.specs.declared.rest_fault.RestFault.TheVariants.{Memory};
 
     ghost Value = { RestFault };
 

@@ -81,7 +81,7 @@ pub(crate) fn asked_of(tells: bool, line: &[u8]) -> Option<Request>
 /// Takes a report that is possible, and notes it with the moves that it releases.
 fn take_possible<D: Dues>(controller: &mut Controller<D>, log: &mut RunLog, report: Report) -> Ack
     requires driven { IsDriven (driven_by controller.old log.old) }
-    requires possible { CanReport controller.old.plan.planned controller.old.cell report }
+    requires possible { CanReport controller.old.planned controller.old.cell report }
     ensures driven { IsDriven (driven_by controller.new log.new) }
     ensures accepted { IsAnswered controller.old report result controller.new }
     ensures noted { Notes log.old log.new (Entry.Report report ∷ map Entry.Order controller.new.orders) }
@@ -99,8 +99,8 @@ fn take_claim<D: Dues, W: Sink>(
     writer: &mut W,
 ) -> Result<(), WriteFault>
     requires driven { IsDriven (driven_by controller.old log.old) }
-    requires taken { IsTaken manner controller.old.plan.planned controller.old.cell claim }
-    requires overdue { overdue ≡ told_overdue manner controller.old.plan.planned controller.old.cell (claimed claim) }
+    requires taken { IsTaken manner controller.old.planned controller.old.cell claim }
+    requires overdue { overdue ≡ told_overdue manner controller.old.planned controller.old.cell (claimed claim) }
     ensures driven { IsDriven (driven_by controller.new log.new) }
     ensures answered { (number : ℕ) → WroteOneTo W.Sink result writer.old writer.new
         (RequestedBy manner controller.old log.old number (Request.Claim claim) controller.new log.new) }

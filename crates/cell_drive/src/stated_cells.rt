@@ -77,7 +77,7 @@ fn before_refusal(manner: Manner, prefix: &[u8]) -> &[u8]
 
 /// Whether the end of the run of the ticket's cell is told at once.
 fn tells_end_of<D: Dues>(manner: Manner, hub: &Hub<D>, ticket: Ticket) -> bool
-    ensures { (content : Control) → cell_at hub.now ticket ≡ Some content → result ≡ tells_end manner content.plan.planned content.cell }
+    ensures { (content : Control) → cell_at hub.now ticket ≡ Some content → result ≡ tells_end manner content.planned content.cell }
 {
     match hub.cell(ticket) {
         Some(controller) => tells_end(manner, controller),
@@ -87,7 +87,7 @@ fn tells_end_of<D: Dues>(manner: Manner, hub: &Hub<D>, ticket: Ticket) -> bool
 
 /// Takes a report on the ticket's cell that is possible there.
 fn take_possible<D: Dues>(hub: &mut Hub<D>, ticket: Ticket, report: Report) -> Ack
-    requires { (content : Control) × (cell_at hub.old ticket ≡ Some content) × CanReport content.plan.planned content.cell report }
+    requires { (content : Control) × (cell_at hub.old ticket ≡ Some content) × CanReport content.planned content.cell report }
     ensures { IsReported hub.old ticket report result hub.new }
 {
     hub.report(ticket, report).unwrap()

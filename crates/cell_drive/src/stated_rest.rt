@@ -2,7 +2,7 @@
 
 ghost use Rattle.std.specs.Prelude.{◌≡◌, ◌≢◌, ℕ, [], ◌∷◌, map};
 ghost use Rattle.shop_base.specs.Report.{CanReport};
-ghost use Rattle.rest_control.specs.RestControl.{IsRestAnswered};
+ghost use Rattle.cell_control.specs.Control.{IsAnswered};
 ghost use Rattle.run_log.specs.Log.{Notes};
 ghost use Rattle.byte_streams.specs.Lent.{WroteOneTo};
 ghost use Rattle.event_lines.specs.Requests.{claimed};
@@ -11,18 +11,18 @@ ghost use Rattle.cell_drive.specs.Refusals.{IsTaken};
 ghost use Rattle.cell_drive.specs.Stated.{told_overdue};
 ghost use Rattle.cell_drive.specs.StatedRest.{RestRequestedBy, RestStatedBy, rest_stated_by};
 
-use crate::judging::{Judged, judge_rest, put_refusal, tells_end_rest};
+use crate::answers::put_closing;
+use crate::judging::{Judged, judge, put_refusal, tells_end};
 use crate::manner::Manner;
 use crate::one_cell::put_refused;
-use crate::rest_cell::{RestDriven, put_closing_line, take_report};
+use crate::rest_cell::{RestDriven, take_report};
 use crate::stated_cell::asked_of;
-use crate::states::put_state_of_rest;
+use crate::states::put_state;
 use crate::taken_lines::put_taken;
 use byte_streams::{LineHandler, Sink, WriteFault};
-use cell_control::{Ack, Dues, Report};
+use cell_control::{Ack, Dues, Report, RestController};
 use cell_tables::Entry;
 use event_lines::{Claim, Overdue, Request};
-use rest_control::RestController;
 use run_log::RunLog;
 use std::marker::Model;
 
@@ -78,7 +78,7 @@ fn take_possible<D: Dues>(
     requires driven { IsRestDriven (rest_by controller.old log.old) }
     requires possible { CanReport controller.old.planned controller.old.cell report }
     ensures driven { IsRestDriven (rest_by controller.new log.new) }
-    ensures accepted { IsRestAnswered controller.old report result controller.new }
+    ensures accepted { IsAnswered controller.old report result controller.new }
     ensures noted { Notes log.old log.new (Entry.Report report ∷ map Entry.Order controller.new.orders) }
 {
     take_report(controller, log, report).unwrap()
@@ -102,7 +102,7 @@ fn take_claim<D: Dues, W: Sink>(
 {
     let report = claim.report();
     let ack = take_possible(controller, log, report);
-    let ended = tells_end_rest(manner, controller);
+    let ended = tells_end(manner, controller);
     put_taken(
         b"",
         report,
@@ -128,7 +128,7 @@ fn answer_claim<D: Dues, W: Sink>(
     ensures answered { WroteOneTo W.Sink result writer.old writer.new
         (RestRequestedBy manner controller.old log.old number (Request.Claim claim) controller.new log.new) }
 {
-    match judge_rest(manner, controller, claim) {
+    match judge(manner, controller, claim) {
         Judged::Refused { refusal, detail } => put_refusal(b"", number, refusal, detail, writer),
         Judged::Taken { overdue } => take_claim(manner, controller, log, claim, overdue, writer),
     }
@@ -150,7 +150,7 @@ fn answer_request<D: Dues, W: Sink>(
 {
     match request {
         Request::Claim(claim) => answer_claim(manner, controller, log, number, claim, writer),
-        Request::Status => put_state_of_rest(controller, writer),
+        Request::Status => put_state(b"", controller, writer),
     }
 }
 
@@ -223,6 +223,6 @@ impl<D: Dues> LineHandler for StatedRestCell<D> {
     }
 
     fn put_closing<W: Sink>(&self, writer: &mut W) -> Result<(), WriteFault> {
-        put_closing_line(&self.controller, writer)
+        put_closing(b"", &self.controller, writer)
     }
 }

@@ -1,18 +1,16 @@
 //! The state of a cell, line by line, and what is overdue in it.
 
-ghost use Rattle.std.specs.Prelude.{◌≡◌, ◌+◌, ◌<◌, ◌≤◌, [], ◌++◌, OnOk};
+ghost use Rattle.std.specs.Prelude.{◌≡◌, ◌+◌, ◌<◌, ◌≤◌, ◌++◌, OnOk};
 ghost use Rattle.shop_base.specs.declared.limits.TheConstants.{MAX_JOBS};
 ghost use Rattle.byte_streams.specs.Lent.{WroteTo};
 ghost use Rattle.event_lines.specs.StandingLines.{unfinished_standing_line};
 ghost use Rattle.cell_drive.specs.States.{is_over, standing_part, jobs_text, machines_text, state_text, count_of, one_more, with_one, with_jobs, with_machines, own_first, overdue_in};
 
 use crate::answers::{put_behind, put_closing};
-use crate::rest_cell::put_closing_line;
 use byte_streams::{Sink, WriteFault};
-use cell_control::{Controller, Dues};
+use cell_control::{Core, Dues, Timed};
 use cell_tables::{Standing, WorkCell};
 use event_lines::{DetailText, Overdue, put_unfinished_standing};
-use rest_control::RestController;
 use shop_base::{Moment, Planned};
 
 /// Whether nothing is under way.
@@ -117,29 +115,17 @@ fn put_under_way<P: Planned, W: Sink>(
 }
 
 /// Writes the state of the cell.
-pub(crate) fn put_state<D: Dues, W: Sink>(
+pub(crate) fn put_state<P: Timed, D: Dues, W: Sink>(
     prefix: &[u8],
-    controller: &Controller<D>,
+    controller: &Core<P, D>,
     writer: &mut W,
 ) -> Result<(), WriteFault>
     ensures wrote { WroteTo W.Sink result writer.old writer.new
-        (state_text prefix.now controller.now.plan.planned controller.now.cell) }
+        (state_text prefix.now controller.now.planned controller.now.cell) }
     ensures unfailed { OnOk result (W.failed writer.new ≡ W.failed writer.old) }
 {
     put_under_way(prefix, controller.work_cell(), writer)?;
     put_closing(prefix, controller, writer)
-}
-
-/// Writes the state of the cell of a run that was taken up.
-pub(crate) fn put_state_of_rest<D: Dues, W: Sink>(
-    controller: &RestController<D>,
-    writer: &mut W,
-) -> Result<(), WriteFault>
-    ensures wrote { WroteTo W.Sink result writer.old writer.new (state_text [] controller.now.planned controller.now.cell) }
-    ensures unfailed { OnOk result (W.failed writer.new ≡ W.failed writer.old) }
-{
-    put_under_way(b"", controller.work_cell(), writer)?;
-    put_closing_line(controller, writer)
 }
 
 /// What is overdue, with one more.

@@ -73,7 +73,7 @@ only_refusal h t r (Cell reason) first (Cell another) other =
     let e = first.1 in
     let f = other.1 in
     let same : other.0 ≡ first.0 = cc in
-    ap Cell (only_reason first.0.plan.planned first.0.cell r reason first.2 another (subst (λ (c : Control). IsFirstReason c.plan.planned c.cell r another) same other.2))
+    ap Cell (only_reason first.0.planned first.0.cell r reason first.2 another (subst (λ (c : Control). IsFirstReason c.planned c.cell r another) same other.2))
 
 pub report_only : (old new : HubState) (t : Ticket) (r : Report) (result : Result Ack HubFault) → IsCall old (Reported t r result) new → IfErr result (IsOnlyRefusal old t r)
 report_only old new t r (Ok ack) is = tt

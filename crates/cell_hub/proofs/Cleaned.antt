@@ -18,20 +18,20 @@ use Rattle.cell_hub.specs.Calls.{Reported, IsCall, IsOnlyCleanRefusal, cleaning_
 
 module _ (o : Option Control) (v : Control) (there : o ≡ Some v) (m j t : ℕ) where
   -- where its controller refuses it, it isn't possible
-  pub not_cleaned : (CanCleanAfter v.plan.planned v.cell m j t → ⊥) → IfSome o (λ c. false ≡ true ↔ CanCleanAfter c.plan.planned c.cell m j t)
+  pub not_cleaned : (CanCleanAfter v.planned v.cell m j t → ⊥) → IfSome o (λ c. false ≡ true ↔ CanCleanAfter c.planned c.cell m j t)
   not_cleaned cannot =
-      subst (λ (x : Option Control). IfSome x (λ c. false ≡ true ↔ CanCleanAfter c.plan.planned c.cell m j t)) (sym there) ((λ wrong. absurd (false≢true wrong)), λ can. absurd (cannot can))
+      subst (λ (x : Option Control). IfSome x (λ c. false ≡ true ↔ CanCleanAfter c.planned c.cell m j t)) (sym there) ((λ wrong. absurd (false≢true wrong)), λ can. absurd (cannot can))
 
-  module _ (result : Result Ack HubFault) (can : CanCleanAfter v.plan.planned v.cell m j t)
-      (possible : IfSome o (λ c. IsOk result ↔ CanReport c.plan.planned c.cell (Clean m t))) where
+  module _ (result : Result Ack HubFault) (can : CanCleanAfter v.planned v.cell m j t)
+      (possible : IfSome o (λ c. IsOk result ↔ CanReport c.planned c.cell (Clean m t))) where
     pub accepted : IsOk result
     accepted =
-        (subst (λ (x : Option Control). IfSome x (λ c. IsOk result ↔ CanReport c.plan.planned c.cell (Clean m t))) there possible).1
-        (can_clean v.plan.planned v.cell m j t can)
+        (subst (λ (x : Option Control). IfSome x (λ c. IsOk result ↔ CanReport c.planned c.cell (Clean m t))) there possible).1
+        (can_clean v.planned v.cell m j t can)
 
     -- where it is possible, its controller takes the end of the cleaning
-    pub cleaned : IfSome o (λ c. IsOk result ↔ CanCleanAfter c.plan.planned c.cell m j t)
-    cleaned = subst (λ (x : Option Control). IfSome x (λ c. IsOk result ↔ CanCleanAfter c.plan.planned c.cell m j t)) (sym there) ((λ ok. can), λ again. accepted)
+    pub cleaned : IfSome o (λ c. IsOk result ↔ CanCleanAfter c.planned c.cell m j t)
+    cleaned = subst (λ (x : Option Control). IfSome x (λ c. IsOk result ↔ CanCleanAfter c.planned c.cell m j t)) (sym there) ((λ ok. can), λ again. accepted)
 
     pub never_refused : (Why : HubFault → Type 0) → IfErr result Why
     never_refused Why = go result accepted
@@ -48,7 +48,7 @@ only_no_cell h t m j at none Memory other = absurd other
 only_no_cell h t m j at none (Cell reason) other = let e = other.1 in absurd (cc)
 
 -- or its controller's first one
-pub only_cell_reason : (h : HubState) (t : Ticket) (m j at : ℕ) (v : Control) (reason : ReportFault) → cell_at h t ≡ Some v → IsControl v → IsFirstCleanReason v.plan.planned v.cell m j at reason
+pub only_cell_reason : (h : HubState) (t : Ticket) (m j at : ℕ) (v : Control) (reason : ReportFault) → cell_at h t ≡ Some v → IsControl v → IsFirstCleanReason v.planned v.cell m j at reason
     → IsOnlyCleanRefusal h t m j at (Cell reason)
 only_cell_reason h t m j at v reason there control first NoSuchCell other = absurd (cc)
 only_cell_reason h t m j at v reason there control first SerialsSpent other = absurd other
@@ -56,8 +56,8 @@ only_cell_reason h t m j at v reason there control first Memory other = absurd o
 only_cell_reason h t m j at v reason there control first (Cell another) other =
     let e = other.1 in
     let same : other.0 ≡ v = cc in
-    ap Cell (only_clean_reason v.plan.planned v.cell m j at control.verified.schedule.shaped control.sound reason first another
-    (subst (λ (c : Control). IsFirstCleanReason c.plan.planned c.cell m j at another) same other.2))
+    ap Cell (only_clean_reason v.planned v.cell m j at control.ranks.shaped control.sound reason first another
+    (subst (λ (c : Control). IsFirstCleanReason c.planned c.cell m j at another) same other.2))
 
 -- where it is taken, that is a call of the definition
 pub cleaning_called : (old new : HubState) (t : Ticket) (m at : ℕ) (result : Result Ack HubFault) → IsOk result → IsCall old (Reported t (Clean m at) result) new

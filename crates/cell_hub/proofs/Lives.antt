@@ -94,7 +94,7 @@ refused_on old t r (Cell reason) (stands c) is fits =
     let e = fits.content in
     let f = is.1 in
     let same : is.0 ≡ c = cc in
-    law.refused c r reason (subst (λ (x : Control). IsFirstReason x.plan.planned x.cell r reason) same is.2)
+    law.refused c r reason (subst (λ (x : Control). IsFirstReason x.planned x.cell r reason) same is.2)
 refused_on old t r (Cell reason) dismissed is fits = let e = fits.content in let f = is.1 in absurd (cc)
 
 shown_on : (old : HubState) (t : Ticket) (content : Option Control) (life : Life) → content ≡ cell_at old t → Fits old t life → Lives t life (Shown t content) life

@@ -57,15 +57,15 @@ record AreItsCalls (c : Control) (rs : List Report) (content : Control) : Type 0
   calls : AreCalled c rs events content
 
 module _ (p : PlannedShop) (shaped : IsWellShaped p) (t : Ticket) where
-  answered_sound : (c new : Control) (r : Report) (ack : Ack) → c.plan.planned ≡ p → IsSound p c.cell → IsAnswered c r ack new → (new.plan.planned ≡ p) × IsSound p new.cell
+  answered_sound : (c new : Control) (r : Report) (ack : Ack) → c.planned ≡ p → IsSound p c.cell → IsAnswered c r ack new → (new.planned ≡ p) × IsSound p new.cell
   answered_sound c new r ack of_plan sound is = (
-    ap (λ (v : VerifiedPlan). v.planned) is.plan ∙ of_plan,
+    is.planned ∙ of_plan,
     subst (λ q. IsSound q new.cell) of_plan
-        (subst (IsSound c.plan.planned) (sym is.cell)
-        (after_step-sound c.plan.planned c.cell r is.movers (subst IsWellShaped (sym of_plan) shaped) (subst (λ q. IsSound q c.cell) (sym of_plan) sound) is.step)),
+        (subst (IsSound c.planned) (sym is.cell)
+        (after_step-sound c.planned c.cell r is.movers (subst IsWellShaped (sym of_plan) shaped) (subst (λ q. IsSound q c.cell) (sym of_plan) sound) is.step)),
   )
 
-  stand : (c : Control) (calls : List HubCall) (last : Life) (content : Control) → c.plan.planned ≡ p → IsSound p c.cell → AreLived t (stands c) calls last → content_in last ≡ Some content
+  stand : (c : Control) (calls : List HubCall) (last : Life) (content : Control) → c.planned ≡ p → IsSound p c.cell → AreLived t (stands c) calls last → content_in last ≡ Some content
       → AreItsCalls c (reports_on t calls) content
   stand c _ _ content of_plan sound (law.none_yet same) there =
       let same : c ≡ content = cc in
@@ -81,7 +81,7 @@ module _ (p : PlannedShop) (shaped : IsWellShaped p) (t : Ticket) where
       (record {
         events = _;
         calls = promise.once_more c c content r (reports_on t calls) [] more.events
-            (promise.refused c r (reason-cannot c.plan.planned c.cell r reason (subst (λ q. IsSound q c.cell) (sym of_plan) sound) first)) more.calls;
+            (promise.refused c r (reason-cannot c.planned c.cell r reason (subst (λ q. IsSound q c.cell) (sym of_plan) sound) first)) more.calls;
       })
   stand _ _ _ content of_plan sound (law.once_more _ _ end _ calls (law.shown c) rest) there = stand c calls end content of_plan sound rest there
   stand _ _ _ content of_plan sound (law.once_more _ _ end _ calls (law.taken c) rest) there = let none = stays_dismissed t calls end rest in absurd (cc)
@@ -108,4 +108,4 @@ calls_make_the_controlled_runs first before after end t plan content verified ar
     let (life, lived, same) = cells_are_apart first (before ++ Admitted plan (Ok t) ∷ after) end t are in
     let shaped = verified.schedule.shaped in
     let its = stand plan.planned shaped t (at_start plan) after life content refl (start-sound plan.planned shaped) (from_start t plan not_given life before after lived) (sym same ∙ there) in
-    (its.events, calls_make_the_controlled_run plan (reports_on t after) its.events content verified its.calls)
+    (its.events, calls_make_the_controlled_run plan (reports_on t after) its.events content its.calls)

@@ -47,7 +47,7 @@ abbrev pub IsNotReported : HubState → Ticket → Report → HubFault → Type 
 IsNotReported h t r NoSuchCell = cell_at h t ≡ None
 IsNotReported h t r SerialsSpent = ⊥
 IsNotReported h t r Memory = ⊥
-IsNotReported h t r (Cell reason) = (c : Control) × (cell_at h t ≡ Some c) × IsFirstReason c.plan.planned c.cell r reason
+IsNotReported h t r (Cell reason) = (c : Control) × (cell_at h t ≡ Some c) × IsFirstReason c.planned c.cell r reason
 
 -- no fault but this one is a reason why the report isn't taken, the fields of a first reason included
 abbrev pub IsOnlyRefusal : HubState → Ticket → Report → HubFault → Type 0
@@ -58,7 +58,7 @@ abbrev pub IsNotCleaned : HubState → Ticket → ℕ → ℕ → ℕ → HubFau
 IsNotCleaned h t m j at NoSuchCell = cell_at h t ≡ None
 IsNotCleaned h t m j at SerialsSpent = ⊥
 IsNotCleaned h t m j at Memory = ⊥
-IsNotCleaned h t m j at (Cell reason) = (c : Control) × (cell_at h t ≡ Some c) × IsFirstCleanReason c.plan.planned c.cell m j at reason
+IsNotCleaned h t m j at (Cell reason) = (c : Control) × (cell_at h t ≡ Some c) × IsFirstCleanReason c.planned c.cell m j at reason
 
 -- no fault but this one is a reason why that report isn't taken, the fields of a first reason included
 abbrev pub IsOnlyCleanRefusal : HubState → Ticket → ℕ → ℕ → ℕ → HubFault → Type 0
@@ -67,7 +67,7 @@ IsOnlyCleanRefusal h t m j at fault = (other : HubFault) → IsNotCleaned h t m 
 -- what the report says to have ended goes on in the cell, and the report's moment is the last one
 pub record EndsNow (c : Control) (r : Report) : Type 0 where
   pub due : ℕ
-  pub going : GoesOn c.plan.planned c.cell (ended r) due
+  pub going : GoesOn c.planned c.cell (ended r) due
   pub now : at r ≡ c.cell.last
 
 -- the ticket's cell is taken out with this content

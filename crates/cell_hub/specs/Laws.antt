@@ -49,7 +49,7 @@ content_in dismissed = None
 pub data Lives (t : Ticket) : Life → HubCall → Life → Type 0 where
   given : (plan : VerifiedPlan) → Lives t not_given (Admitted plan (Ok t)) (stands (at_start plan))
   answered : (c new : Control) (r : Report) (ack : Ack) → IsAnswered c r ack new → Lives t (stands c) (Reported t r (Ok ack)) (stands new)
-  refused : (c : Control) (r : Report) (reason : ReportFault) → IsFirstReason c.plan.planned c.cell r reason → Lives t (stands c) (Reported t r (Err (Cell reason))) (stands c)
+  refused : (c : Control) (r : Report) (reason : ReportFault) → IsFirstReason c.planned c.cell r reason → Lives t (stands c) (Reported t r (Err (Cell reason))) (stands c)
   shown : (c : Control) → Lives t (stands c) (Shown t (Some c)) (stands c)
   taken : (c : Control) → Lives t (stands c) (Dismissed t (Ok c)) dismissed
   elsewhere : (c : Control) (call : HubCall) → (IsOnTicket t call → ⊥) → Lives t (stands c) call (stands c)

@@ -89,7 +89,7 @@ impl<D: Dues> Hub<D> {
     /// is possible in that cell.
     pub fn report(&mut self, ticket: Ticket, report: Report) -> Result<Ack, HubFault>
         ensures reported { IfOk result (λ ack. IsReported self.old ticket report ack self.new) }
-        ensures possible { IfSome (cell_at self.old ticket) (λ c. IsOk result ↔ CanReport c.plan.planned c.cell report) }
+        ensures possible { IfSome (cell_at self.old ticket) (λ c. IsOk result ↔ CanReport c.planned c.cell report) }
         ensures never_refused { IfSome (cell_at self.old ticket) (λ c. EndsNow c report → IsOk result) }
         ensures refused { IfErr result (IsNotReported self.old ticket report) }
         ensures only_reason { IfErr result (IsOnlyRefusal self.old ticket report) }
@@ -110,7 +110,7 @@ impl<D: Dues> Hub<D> {
         at: Moment,
     ) -> Result<Ack, HubFault>
         ensures reported { IfOk result (λ ack. IsReported self.old ticket (Report.Clean machine at) ack self.new) }
-        ensures possible { IfSome (cell_at self.old ticket) (λ c. IsOk result ↔ CanCleanAfter c.plan.planned c.cell machine job at) }
+        ensures possible { IfSome (cell_at self.old ticket) (λ c. IsOk result ↔ CanCleanAfter c.planned c.cell machine job at) }
         ensures refused { IfErr result (IsNotCleaned self.old ticket machine job at) }
         ensures only_reason { IfErr result (IsOnlyCleanRefusal self.old ticket machine job at) }
         ensures unchanged { OnErr result (self.new ≡ self.old) }

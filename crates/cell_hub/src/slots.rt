@@ -47,7 +47,7 @@ pub(crate) fn report_in<D: Dues>(
 ) -> Result<Ack, HubFault>
     ensures reported { IfOk result (λ ack. IsReportedIn cells.old ticket report ack cells.new) }
     ensures refused { IfErr result (λ fault. (next : ℕ) → IsNotReported (hub_of cells.old next) ticket report fault) }
-    ensures possible { IfCell cells.old ticket (λ c. IsOk result ↔ CanReport c.plan.planned c.cell report) }
+    ensures possible { IfCell cells.old ticket (λ c. IsOk result ↔ CanReport c.planned c.cell report) }
     ensures never_refused { IfCell cells.old ticket (λ c. EndsNow c report → IsOk result) }
     ensures unchanged { OnErr result (cells.new ≡ cells.old) }
 {

@@ -4,12 +4,12 @@ use Rattle.shop_base.specs.declared.limits.TheConstants.{MAX_MOMENT}
 use Rattle.command_answers.specs.declared.answer.Answer.{Answer}
 use Rattle.command_answers.specs.declared.rests.PlanTelling.{PlanTelling}
 use Rattle.command_answers.specs.Rests.{IsRestTold}
-use Rattle.rest_control.specs.RestControl.{RestControl}
+use Rattle.cell_control.specs.Control.{Control}
 use Rattle.cellplan_c.specs.Calls.{IsPut}
 use Rattle.cellplan_c.specs.RestsAsked.{IsRestAsked}
 use Rattle.cellplan_c.proofs.Judging.{told_bound}
 
-pub rest_put : (telling : PlanTelling) (t result : ℕ) (before after : List ℕ) (needed : ℕ) (held : RestControl) (answer : Answer) → t ≤ MAX_MOMENT → held.cell.last ≤ t
+pub rest_put : (telling : PlanTelling) (t result : ℕ) (before after : List ℕ) (needed : ℕ) (held : Control) (answer : Answer) → t ≤ MAX_MOMENT → held.cell.last ≤ t
     → IsRestTold telling held.planned held.cell t answer → IsPut answer.text.items answer.status result before after needed → IsRestAsked telling t result before after needed held
 rest_put telling t result before after needed held answer in_range later told put =
     let low : answer.status ≤ 1 = told_bound telling held.planned held.cell t answer told in

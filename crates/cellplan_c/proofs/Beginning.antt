@@ -7,8 +7,7 @@ use Rattle.shop_base.proofs.ReportsLeft.{start-reports_left}
 use Rattle.plan_verifier.specs.declared.verdict.Verdict.TheVariants.{Accepted, Refused}
 use Rattle.plan_verifier.specs.Accepted.{VerifiedPlan, IsVerified, IsAcceptable}
 use Rattle.plan_verifier.proofs.Reasons.{verified_greatest, verified_never_before, verified_no_later, verified_just_in_time}
-use Rattle.cell_control.specs.Control.{at_start}
-use Rattle.rest_control.specs.RestControl.{RestControl, rest_of}
+use Rattle.cell_control.specs.Control.{at_start, Control}
 use Rattle.command_answers.specs.declared.command_fault.CommandFault.{CommandFault}
 use Rattle.command_answers.specs.declared.loading.Loaded.{Loaded}
 use Rattle.command_answers.specs.declared.loading.Loaded.TheVariants.{NotShaped, Judged}
@@ -31,7 +30,7 @@ held_so P Q None more is = tt
 held_so P Q (Some inner) more is = more inner is
 
 -- each job keeps to its earliest leaving by an accepted plan
-leavings_kept : (v : VerifiedPlan) → IsVerified v → (j : ℕ) → j < jobs v.planned → IsEarliestLeaving (rest_of (at_start v)) j
+leavings_kept : (v : VerifiedPlan) → IsVerified v → (j : ℕ) → j < jobs v.planned → IsEarliestLeaving (at_start v) j
 leavings_kept v sound j inside = record {
   greatest = verified_greatest v sound j inside;
   in_budget = sound.budgets j inside;
@@ -46,7 +45,7 @@ module _ (instance : List ℕ) (name : Option (List ℕ)) (plan : List ℕ) wher
       → AreTextsAnswered instance other plan IsLoaded outcome → AreTextsAnswered instance name plan IsLoaded outcome
   under other outcome same are = subst (λ (n : Option (List ℕ)). AreTextsAnswered instance n plan IsLoaded outcome) same are
 
-  pub started : (loaded : Loaded) → AreTextsAnswered instance name plan IsLoaded (Ok loaded) → (control : RestControl)
+  pub started : (loaded : Loaded) → AreTextsAnswered instance name plan IsLoaded (Ok loaded) → (control : Control)
       → IsControllerOf loaded control → IsStarted instance name plan control
   started (NotShaped fault) are control is = absurd is
   started (Judged (Refused back why)) are control is = absurd is
@@ -59,9 +58,9 @@ module _ (instance : List ℕ) (name : Option (List ℕ)) (plan : List ℕ) wher
         acceptable = subst IsAcceptable (sym judged.0) judged.1;
         verified = is.0;
         start = is.1;
-        same = λ p told. ap (λ (c : RestControl). c.planned) is.1 ∙ (are.only p told).accepted.0;
-        left = subst (λ (c : RestControl). reports_left c.planned c.cell ≡ stated_number c.planned) (sym is.1) (start-reports_left verified.planned);
-        leavings = subst (λ (c : RestControl). (j : ℕ) → j < jobs c.planned → IsEarliestLeaving c j) (sym is.1) (leavings_kept verified is.0);
+        same = λ p told. ap (λ (c : Control). c.planned) is.1 ∙ (are.only p told).accepted.0;
+        left = subst (λ (c : Control). reports_left c.planned c.cell ≡ stated_number c.planned) (sym is.1) (start-reports_left verified.planned);
+        leavings = subst (λ (c : Control). (j : ℕ) → j < jobs c.planned → IsEarliestLeaving c j) (sym is.1) (leavings_kept verified is.0);
       }
 
   module _ (loaded : Loaded) (are : AreTextsAnswered instance name plan IsLoaded (Ok loaded)) (result : ℕ)

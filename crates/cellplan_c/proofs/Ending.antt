@@ -7,8 +7,8 @@ use Rattle.cell_control.specs.declared.ack.Ack.{Ack}
 use Rattle.cell_control.specs.declared.report_fault.ReportFault.{ReportFault}
 use Rattle.cell_control.specs.declared.report_fault.ReportFault.TheVariants.{JobOutOfRange, MachineOutOfRange, MomentTooLarge, Backwards, NotExpected, WrongKind, WrongMachine}
 use Rattle.cell_control.specs.Reports.{CanCleanAfter}
-use Rattle.rest_control.specs.RestControl.{RestControl, IsRestAnswered}
-use Rattle.rest_control.specs.RestPromises as promise
+use Rattle.cell_control.specs.Control.{Control, IsAnswered}
+use Rattle.cell_control.specs.Promises as promise
 use Rattle.cellplan_c.specs.declared.told.Ended.{Ended}
 use Rattle.cellplan_c.specs.declared.told.Ended.TheVariants.{Reported, CleanedAfter}
 use Rattle.cellplan_c.specs.Told.{fault_number, fault_detail}
@@ -16,16 +16,16 @@ use Rattle.cellplan_c.specs.Ended.{CanEnd, IsFirstFor, IsOnlyFor, IfGoesOnNow, C
 use Rattle.cellplan_c.specs.Cells.{IsReportTold}
 
 -- what holds holds if something goes on
-pub goes_anyway : (v : RestControl) (ended : Ended) (Holds : Type 0) → Holds → IfGoesOnNow v ended Holds
+pub goes_anyway : (v : Control) (ended : Ended) (Holds : Type 0) → Holds → IfGoesOnNow v ended Holds
 goes_anyway v (Reported report) Holds holds = λ due goes now. holds
 goes_anyway v (CleanedAfter machine job at) Holds holds = λ after now. holds
 
 -- and so does what follows from it
-goes_further : (v : RestControl) (ended : Ended) (Holds More : Type 0) → (Holds → More) → IfGoesOnNow v ended Holds → IfGoesOnNow v ended More
+goes_further : (v : Control) (ended : Ended) (Holds More : Type 0) → (Holds → More) → IfGoesOnNow v ended Holds → IfGoesOnNow v ended More
 goes_further v (Reported report) Holds More more goes = λ due going now. more (goes due going now)
 goes_further v (CleanedAfter machine job at) Holds More more goes = λ after now. more (goes after now)
 
-module _ (v : RestControl) (machine job at : ℕ) where
+module _ (v : Control) (machine job at : ℕ) where
   -- a cleaning after a job that goes on can end at the last moment
   pub clean_now : (Holds : Type 0) → IsSound v.planned v.cell → (CanCleanAfter v.planned v.cell machine job at → Holds) → IfGoesOnNow v (CleanedAfter machine job at) Holds
   clean_now Holds sound holds after now = holds (record {
@@ -37,7 +37,7 @@ module _ (v : RestControl) (machine job at : ℕ) where
   })
 
   -- the report of a cleaning after a job calls for that of the cleaning, or changes nothing
-  pub clean_called : (told : Result Ack ReportFault) (new : RestControl) → IfOk told (λ ack. IsRestAnswered v (Clean machine at) ack new) → IfErr told (λ fault. new ≡ v)
+  pub clean_called : (told : Result Ack ReportFault) (new : Control) → IfOk told (λ ack. IsAnswered v (Clean machine at) ack new) → IfErr told (λ fault. new ≡ v)
       → Calls v (CleanedAfter machine job at) new
   clean_called (Ok ack) new answered same = inl (_, promise.answered v (Clean machine at) ack new answered)
   clean_called (Err fault) new answered same = inr same
@@ -52,7 +52,7 @@ number_high WrongKind = omega arith
 number_high (WrongMachine actual) = omega arith
 
 -- what a refusal comes to
-pub refused_told : (old : RestControl) (ended : Ended) (fault : ReportFault) (number detail : ℕ) (late : Bool) (new : RestControl) (Taken : Type 0) → (Taken → ⊥) → Taken ↔ CanEnd old ended
+pub refused_told : (old : Control) (ended : Ended) (fault : ReportFault) (number detail : ℕ) (late : Bool) (new : Control) (Taken : Type 0) → (Taken → ⊥) → Taken ↔ CanEnd old ended
     → IsFirstFor old ended fault → IsOnlyFor old ended fault → Calls old ended new → IfGoesOnNow old ended Taken → number ≡ fault_number fault → detail ≡ fault_detail fault
     → IsReportTold number late detail old ended new
 refused_told old ended fault number detail late new Taken refused possible first only called goes number_is detail_is = record {

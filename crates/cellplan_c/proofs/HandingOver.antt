@@ -11,15 +11,15 @@ use Rattle.command_answers.specs.declared.command_fault.CommandFault.{CommandFau
 use Rattle.command_answers.specs.Readings.{AreTextsAnswered}
 use Rattle.command_answers.specs.Shapes.{IsShapedOrNot}
 use Rattle.command_answers.specs.Statuses.{status_of}
-use Rattle.rest_control.specs.declared.rest_fault.RestFault.{RestFault}
-use Rattle.rest_control.specs.declared.rest_fault.RestFault.TheVariants.{MomentTooLarge, KeepsNot, Backwards, Cycle, Memory}
-use Rattle.rest_control.specs.HandedOver.{IsHandedOver, IsHandOverFault}
-use Rattle.rest_control.specs.RestControl.{RestControl}
+use Rattle.cell_control.specs.declared.rest_fault.RestFault.{RestFault}
+use Rattle.cell_control.specs.declared.rest_fault.RestFault.TheVariants.{MomentTooLarge, KeepsNot, Backwards, Cycle, Memory}
+use Rattle.cell_control.specs.HandedOver.{IsHandedOver, IsHandOverFault}
+use Rattle.cell_control.specs.Control.{Control}
 use Rattle.cellplan_c.specs.HandOvers.{MayTakeOver, IsHandOverStatus, takes_over, not_shaped, keeps_not, backwards, has_cycle, no_memory, rest_fault_status, IsHandOver}
 use Rattle.cellplan_c.proofs.Judging.{fault_bounds}
 
-module _ (old : RestControl) (t : ℕ) where
-  may_take_over : (q : PlannedShop) (new : RestControl) → IsWellShaped q → IsHandedOver old q t new → MayTakeOver old q t
+module _ (old : Control) (t : ℕ) where
+  may_take_over : (q : PlannedShop) (new : Control) → IsWellShaped q → IsHandedOver old q t new → MayTakeOver old q t
   may_take_over q new shaped handed = record {
     well_shaped = shaped;
     kept = handed.kept;
@@ -29,16 +29,16 @@ module _ (old : RestControl) (t : ℕ) where
     };
   }
 
-  acyclic : (q : PlannedShop) (new : RestControl) → IsHandedOver old q t new → HasCycle q → ⊥
+  acyclic : (q : PlannedShop) (new : Control) → IsHandedOver old q t new → HasCycle q → ⊥
   acyclic q new handed cycle = ranks_exclude_cycle q (rank_of new.times) cycle.0 handed.begun.ordered.ranks.rise cycle.1
 
   -- the plan that is told has taken over
-  pub taken_status : (shaped : PlannedShop) (new : RestControl) → IsHandedOver old shaped t new → (q : PlannedShop) → IsShapedOrNot q (Ok shaped) → IsHandOverStatus old q t 0
+  pub taken_status : (shaped : PlannedShop) (new : Control) → IsHandedOver old shaped t new → (q : PlannedShop) → IsShapedOrNot q (Ok shaped) → IsHandOverStatus old q t 0
   taken_status shaped new handed q is =
       let by : IsHandedOver old q t new = subst (λ (p : PlannedShop). IsHandedOver old p t new) is.0 handed in
       takes_over refl (may_take_over q new is.1 by) (acyclic q new by)
 
-  pub taken_by : (shaped : PlannedShop) (new : RestControl) → IsHandedOver old shaped t new → (q : PlannedShop) → IsShapedOrNot q (Ok shaped) → IsHandedOver old q t new
+  pub taken_by : (shaped : PlannedShop) (new : Control) → IsHandedOver old shaped t new → (q : PlannedShop) → IsShapedOrNot q (Ok shaped) → IsHandedOver old q t new
   taken_by shaped new handed q is = subst (λ (p : PlannedShop). IsHandedOver old p t new) is.0 handed
 
   -- it isn't well shaped
@@ -67,7 +67,7 @@ module _ (instance : List ℕ) (name : Option (List ℕ)) (plan : List ℕ) (t :
   named_so other outcome same are = subst (λ (n : Option (List ℕ)). AreTextsAnswered instance n plan IsShapedOrNot outcome) same are
 
   -- the moment is over the limit
-  pub too_late : (old new : RestControl) → MAX_MOMENT < t → IsHandOver instance name plan t 18 old new
+  pub too_late : (old new : Control) → MAX_MOMENT < t → IsHandOver instance name plan t 18 old new
   too_late old new over = record {
     too_large = ((λ _. over), λ _. refl);
     taken_over = λ good. absurd (omega (arith, good));
@@ -79,7 +79,7 @@ module _ (instance : List ℕ) (name : Option (List ℕ)) (plan : List ℕ) (t :
   }
 
   -- a text is refused, or memory ran out
-  pub texts_refused : (fault : CommandFault) (status : ℕ) (old new : RestControl) → t ≤ MAX_MOMENT → AreTextsAnswered instance name plan IsShapedOrNot (Err fault) → status ≡ status_of fault
+  pub texts_refused : (fault : CommandFault) (status : ℕ) (old new : Control) → t ≤ MAX_MOMENT → AreTextsAnswered instance name plan IsShapedOrNot (Err fault) → status ≡ status_of fault
       → IsHandOver instance name plan t status old new
   texts_refused fault status old new low are is =
       let bounds = fault_bounds instance name plan fault are.fault in
@@ -95,7 +95,7 @@ module _ (instance : List ℕ) (name : Option (List ℕ)) (plan : List ℕ) (t :
       }
 
   -- a plan is told, and this came of it
-  pub plan_told : (told : Result PlannedShop ShapeFault) (status : ℕ) (old new : RestControl) → t ≤ MAX_MOMENT → AreTextsAnswered instance name plan IsShapedOrNot (Ok told)
+  pub plan_told : (told : Result PlannedShop ShapeFault) (status : ℕ) (old new : Control) → t ≤ MAX_MOMENT → AreTextsAnswered instance name plan IsShapedOrNot (Ok told)
       → ((q : PlannedShop) → IsShapedOrNot q told → IsHandOverStatus old q t status)
       → ((q : PlannedShop) → IsShapedOrNot q told → status ≡ 0 → IsHandedOver old q t new)
       → status ≢ 3 → status ≢ 18 → IsHandOver instance name plan t status old new

@@ -1,6 +1,6 @@
 -- A call that reads a cell, by what the cell holds. It has looked at what was taken out and then put back.
 use Rattle.std.proofs.Common.{◌≡◌, ◌≢◌, ℕ, ◌⊎◌, Option, Some, IfSome, inl, inr, sym, ◌∙◌, subst, arith}
-use Rattle.rest_control.specs.RestControl.{RestControl}
+use Rattle.cell_control.specs.Control.{Control}
 use Rattle.cellplan_c.specs.declared.cell.Cell.{Cell}
 use Rattle.cellplan_c.specs.Told.{answer_of}
 use Rattle.cellplan_c.specs.Readings.{Finds, Tells}
@@ -9,7 +9,7 @@ use Rattle.cellplan_c.specs.contracts.inner.Inner as Inner
 
 module _ {A : Type 0} (old new : Cell) (status : ℕ) (before after : A) (inner : Inner.the_row.Denot)
     (held : old.slot.held ≡ Some inner) (kept : new.slot.held ≡ Some inner) where
-  pub finds : (Is : RestControl → Option A → Type 0) → ((status ≡ 0) ⊎ (status ≡ 7)) → (status ≢ 0 → after ≡ before)
+  pub finds : (Is : Control → Option A → Type 0) → ((status ≡ 0) ⊎ (status ≡ 7)) → (status ≢ 0 → after ≡ before)
       → Is inner.controller (answer_of status after) → Finds old new status before after Is
   finds Is statuses unwritten is = record {
     found = subst (λ (h : Held). IfSome h (λ held. Is held.controller (answer_of status after))) (sym held) is;
@@ -19,7 +19,7 @@ module _ {A : Type 0} (old new : Cell) (status : ℕ) (before after : A) (inner 
     unwritten = unwritten;
   }
 
-  pub tells : (Is : RestControl → A → Type 0) → status ≡ 0 → Is inner.controller after → Tells old new status before after Is
+  pub tells : (Is : Control → A → Type 0) → status ≡ 0 → Is inner.controller after → Tells old new status before after Is
   tells Is good is = record {
     told = subst (λ (h : Held). IfSome h (λ held. (status ≡ 0) × Is held.controller after)) (sym held) (good, is);
     no_cell = (λ none. absurd (cc (none, held)), λ eight. absurd (omega (arith, good, eight)));

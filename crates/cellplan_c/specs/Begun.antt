@@ -2,13 +2,12 @@
 use Rattle.std.specs.Prelude.{◌≡◌}
 use Rattle.plan_verifier.specs.declared.verdict.Verdict.TheVariants.{Accepted, Refused}
 use Rattle.plan_verifier.specs.Accepted.{IsVerified}
-use Rattle.cell_control.specs.Control.{at_start}
-use Rattle.rest_control.specs.RestControl.{RestControl, rest_of}
+use Rattle.cell_control.specs.Control.{at_start, Control}
 use Rattle.command_answers.specs.declared.loading.Loaded.{Loaded}
 use Rattle.command_answers.specs.declared.loading.Loaded.TheVariants.{NotShaped, Judged}
 
 -- the plan is accepted, and this is its controller before the first report
-abbrev pub IsControllerOf : Loaded → RestControl → Type 0
+abbrev pub IsControllerOf : Loaded → Control → Type 0
 IsControllerOf (NotShaped fault) control = ⊥
 IsControllerOf (Judged (Refused back why)) control = ⊥
-IsControllerOf (Judged (Accepted verified)) control = IsVerified verified × (control ≡ rest_of (at_start verified))
+IsControllerOf (Judged (Accepted verified)) control = IsVerified verified × (control ≡ at_start verified)

@@ -10,8 +10,7 @@ use Rattle.orlib_read.specs.declared.or_fault.OrFault.{OrFault}
 use Rattle.plan_text.specs.declared.plan_fault.PlanFault.{PlanFault}
 use Rattle.plan_text.specs.Documents.{IsFirstPlanFault}
 use Rattle.plan_verifier.specs.Accepted.{VerifiedPlan, IsVerified, IsAcceptable, IsGreatest, IsNeverGoneAfter, IsGoneJustAt}
-use Rattle.cell_control.specs.Control.{at_start}
-use Rattle.rest_control.specs.RestControl.{RestControl, rest_of}
+use Rattle.cell_control.specs.Control.{at_start, Control}
 use Rattle.command_answers.specs.declared.answer.Answer.{Answer}
 use Rattle.command_answers.specs.declared.command_fault.CommandFault.{CommandFault}
 use Rattle.command_answers.specs.declared.command_fault.CommandFault.TheVariants.{Instance, Plan}
@@ -74,11 +73,11 @@ pub record AreTextsTold (instance : List ℕ) (name : Option (List ℕ)) (plan :
   pub second : (fault : PlanFault) → TellsAShop instance name → IsFirstPlanFault plan fault → Tells (IsTextFaultTold (Plan fault))
 
 -- the moment kept for the leaving of job j
-abbrev pub kept_leaving : RestControl → ℕ → ℕ
+abbrev pub kept_leaving : Control → ℕ → ℕ
 kept_leaving v j = earliest_of v.times (leaving v.planned j)
 
 -- it is the job's earliest leaving by the plan, and within its budget
-pub record IsEarliestLeaving (v : RestControl) (j : ℕ) : Type 0 where
+pub record IsEarliestLeaving (v : Control) (j : ℕ) : Type 0 where
   pub greatest : IsGreatest v.planned (leaving v.planned j) (kept_leaving v j)
   pub in_budget : kept_leaving v j ≤ budget v.planned j
   pub no_faster : IsNeverGoneBefore v.planned j (kept_leaving v j)
@@ -86,13 +85,13 @@ pub record IsEarliestLeaving (v : RestControl) (j : ℕ) : Type 0 where
   pub just_in_time : IsGoneJustAt v.planned j (kept_leaving v j)
 
 -- the controller of the accepted plan that the two texts tell, before the first report
-pub record IsStarted (instance : List ℕ) (name : Option (List ℕ)) (plan : List ℕ) (control : RestControl) : Type 0 where
+pub record IsStarted (instance : List ℕ) (name : Option (List ℕ)) (plan : List ℕ) (control : Control) : Type 0 where
   pub accepted : VerifiedPlan
   pub tell : TellBoth instance name plan accepted.planned
   pub well_shaped : IsWellShaped accepted.planned
   pub acceptable : IsAcceptable accepted.planned
   pub verified : IsVerified accepted
-  pub start : control ≡ rest_of (at_start accepted)
+  pub start : control ≡ at_start accepted
   pub same : (p : PlannedShop) → TellBoth instance name plan p → control.planned ≡ p
   -- as many reports are left as the stated number, and each job keeps to its earliest leaving
   pub left : reports_left control.planned control.cell ≡ stated_number control.planned

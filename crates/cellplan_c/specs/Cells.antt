@@ -2,7 +2,8 @@
 use Rattle.std.specs.Prelude.{◌≡◌, ◌≢◌, ℕ, ◌+◌, ◌<◌, ◌≤◌, ◌↔◌, Bool, List, IfSome, length, slice_get, option_map}
 use Rattle.shop_base.specs.declared.move_order.MoveOrder.{MoveOrder}
 use Rattle.cell_control.specs.declared.report_fault.ReportFault.{ReportFault}
-use Rattle.rest_control.specs.RestControl.{RestControl, IsRestAnswered}
+use Rattle.cell_control.specs.Control.{Control, IsAnswered}
+use Rattle.cell_control.specs.Promises.{NeverGoesWrong, KeepsLeavings}
 use Rattle.cellplan_c.specs.declared.cell.Cell.{Cell}
 use Rattle.cellplan_c.specs.declared.told.Order.{Order}
 use Rattle.cellplan_c.specs.declared.told.Ended.{Ended}
@@ -10,27 +11,31 @@ use Rattle.cellplan_c.specs.Told.{report_by, order_told, fault_number, fault_det
 use Rattle.cellplan_c.specs.Ended.{ended_by, CanEnd, IsFirstFor, IsOnlyFor, IfGoesOnNow, Calls}
 
 -- of the controller that the cell holds, if it holds one
-abbrev pub Holding : Cell → (RestControl → Type 0) → Type 0
+abbrev pub Holding : Cell → (Control → Type 0) → Type 0
 Holding cell Is = IfSome cell.slot.held (λ held. Is held.controller)
 
+-- what is promised of a controller, whatever was reported: that it never goes wrong, and that each job keeps to the moment kept for its leaving while no report was late
+abbrev pub GoesAsPromised : Control → Type 0
+GoesAsPromised v = NeverGoesWrong v × KeepsLeavings v
+
 -- of the controllers before and after, if both are there
-abbrev pub Handing : Cell → Cell → (RestControl → RestControl → Type 0) → Type 0
+abbrev pub Handing : Cell → Cell → (Control → Control → Type 0) → Type 0
 Handing old new Is = Holding old (λ before. Holding new (λ after. Is before after))
 
 -- of the controller before, what has ended by this kind and these numbers, and the controller after, if there are all three
-abbrev pub Reporting : Cell → Cell → ℕ → ℕ → ℕ → ℕ → (RestControl → Ended → RestControl → Type 0) → Type 0
+abbrev pub Reporting : Cell → Cell → ℕ → ℕ → ℕ → ℕ → (Control → Ended → Control → Type 0) → Type 0
 Reporting old new kind job machine at Is =
     Holding old (λ before. Holding new (λ after. IfSome (report_by kind job machine at) (λ ended. Is before ended after)))
 
 -- the report is refused for its first reason, which is the only one: its number is answered, and what it names is told
-abbrev pub IsReasonTold : RestControl → Ended → ℕ → ℕ → Type 0
+abbrev pub IsReasonTold : Control → Ended → ℕ → ℕ → Type 0
 IsReasonTold control ended number detail = (fault : ReportFault) × (number ≡ fault_number fault) × (detail ≡ fault_detail fault)
     × IsFirstFor control ended fault × IsOnlyFor control ended fault
 
 -- what a report comes to, by its status, whether it was late, and what is told of its reason
-pub record IsReportTold (status : ℕ) (late : Bool) (detail : ℕ) (old : RestControl) (ended : Ended) (new : RestControl) : Type 0 where
+pub record IsReportTold (status : ℕ) (late : Bool) (detail : ℕ) (old : Control) (ended : Ended) (new : Control) : Type 0 where
   pub possible : (status ≡ 0) ↔ CanEnd old ended
-  pub answered : status ≡ 0 → IsRestAnswered old (ended_by ended) (record { late = late }) new
+  pub answered : status ≡ 0 → IsAnswered old (ended_by ended) (record { late = late }) new
   pub reason : status ≢ 0 → IsReasonTold old ended status detail
   pub called : Calls old ended new
   pub never_refused : IfGoesOnNow old ended (status ≡ 0)

@@ -14,11 +14,11 @@ use Rattle.plan_text.specs.Documents.{IsFirstPlanFault}
 use Rattle.command_answers.specs.declared.command_fault.CommandFault.{CommandFault}
 use Rattle.command_answers.specs.Instances.{IsFirstInstanceFault}
 use Rattle.command_answers.specs.Plans.{TellBoth, TellsAShop}
-use Rattle.rest_control.specs.declared.rest_fault.RestFault.{RestFault}
-use Rattle.rest_control.specs.declared.rest_fault.RestFault.TheVariants.{MomentTooLarge, KeepsNot, Backwards, Cycle, Memory}
-use Rattle.rest_control.specs.Kept.{KeepsSoFar}
-use Rattle.rest_control.specs.HandedOver.{IsHandedOver}
-use Rattle.rest_control.specs.RestControl.{RestControl}
+use Rattle.cell_control.specs.declared.rest_fault.RestFault.{RestFault}
+use Rattle.cell_control.specs.declared.rest_fault.RestFault.TheVariants.{MomentTooLarge, KeepsNot, Backwards, Cycle, Memory}
+use Rattle.cell_control.specs.Kept.{KeepsSoFar}
+use Rattle.cell_control.specs.HandedOver.{IsHandedOver}
+use Rattle.cell_control.specs.Control.{Control}
 use Rattle.cellplan_c.specs.Calls.{IsTextFault}
 
 -- the status of each reason for which another plan doesn't take over
@@ -30,13 +30,13 @@ rest_fault_status (Cycle nodes) = 1
 rest_fault_status Memory = 4
 
 -- all but a cycle lets plan q take over at moment t: it is well shaped, the run so far keeps it, and the moment can be the next
-pub record MayTakeOver (v : RestControl) (q : PlannedShop) (t : ℕ) : Type 0 where
+pub record MayTakeOver (v : Control) (q : PlannedShop) (t : ℕ) : Type 0 where
   pub well_shaped : IsWellShaped q
   pub kept : KeepsSoFar v.planned v.cell q
   pub moment : IsNextMoment v.cell t
 
 -- the status of handing over to plan q: that it has taken over, or else the first reason why not, or that memory ran out
-pub data IsHandOverStatus (v : RestControl) (q : PlannedShop) (t status : ℕ) : Type 0 where
+pub data IsHandOverStatus (v : Control) (q : PlannedShop) (t status : ℕ) : Type 0 where
   takes_over : status ≡ 0 → MayTakeOver v q t → (HasCycle q → ⊥) → IsHandOverStatus v q t status
   not_shaped : (fault : ShapeFault) → status ≡ 1 → IsFirstShapeFault q fault → IsHandOverStatus v q t status
   keeps_not : status ≡ 10 → IsWellShaped q → (KeepsSoFar v.planned v.cell q → ⊥) → IsHandOverStatus v q t status
@@ -46,20 +46,20 @@ pub data IsHandOverStatus (v : RestControl) (q : PlannedShop) (t status : ℕ) :
 
 module _ (instance : List ℕ) (name : Option (List ℕ)) (plan : List ℕ) (t : ℕ) where
   -- the plan that the two texts tell has taken over
-  pub record HasTakenOver (old new : RestControl) : Type 0 where
+  pub record HasTakenOver (old new : Control) : Type 0 where
     pub planned : PlannedShop
     pub tell : TellBoth instance name plan planned
     pub handed_over : IsHandedOver old planned t new
     pub same : (p : PlannedShop) → TellBoth instance name plan p → new.planned ≡ p
 
   -- the status is of a plan that the two texts tell
-  pub record IsStatusOfTold (old : RestControl) (status : ℕ) : Type 0 where
+  pub record IsStatusOfTold (old : Control) (status : ℕ) : Type 0 where
     pub planned : PlannedShop
     pub tell : TellBoth instance name plan planned
     pub is : IsHandOverStatus old planned t status
 
   -- what handing over to the plan of the two texts comes to, by its status: the moment is judged first, then the texts, and then the plan that they tell
-  pub record IsHandOver (status : ℕ) (old new : RestControl) : Type 0 where
+  pub record IsHandOver (status : ℕ) (old new : Control) : Type 0 where
     pub too_large : (status ≡ 18) ↔ (MAX_MOMENT < t)
     pub taken_over : status ≡ 0 → HasTakenOver old new
     pub fault : status ≡ 3 → (fault : CommandFault) × IsTextFault instance name plan fault

@@ -4,11 +4,11 @@ use Rattle.shop_base.specs.declared.limits.TheConstants.{MAX_MOMENT}
 use Rattle.shop_base.specs.Report.{IsNextMoment}
 use Rattle.command_answers.specs.declared.rests.PlanTelling.{PlanTelling}
 use Rattle.command_answers.specs.Rests.{IsRestTold}
-use Rattle.rest_control.specs.RestControl.{RestControl}
+use Rattle.cell_control.specs.Control.{Control}
 use Rattle.cellplan_c.specs.Calls.{Answers}
 
 -- what is told of the rest from moment t on, by this plan: the text of the verdict, in the caller's room, or that the moment is too large or past
-pub record IsRestAsked (telling : PlanTelling) (t status : ℕ) (before after : List ℕ) (needed : ℕ) (held : RestControl) : Type 0 where
+pub record IsRestAsked (telling : PlanTelling) (t status : ℕ) (before after : List ℕ) (needed : ℕ) (held : Control) : Type 0 where
   pub too_large : (status ≡ 18) ↔ (MAX_MOMENT < t)
   pub backwards : (status ≡ 19) ↔ ((t ≤ MAX_MOMENT) × (t < held.cell.last))
   pub told : IsNextMoment held.cell t → Answers status before after needed (IsRestTold telling held.planned held.cell t)

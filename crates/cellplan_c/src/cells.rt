@@ -7,25 +7,22 @@ ghost use Rattle.plan_text.specs.declared.plan_fault.PlanFault.{PlanFault};
 ghost use Rattle.plan_text.specs.Documents.{IsFirstPlanFault};
 ghost use Rattle.plan_verifier.specs.Accepted.{IsVerified};
 ghost use Rattle.cell_control.specs.Control.{at_start};
-ghost use Rattle.rest_control.specs.RestControl.{rest_of};
-ghost use Rattle.rest_control.specs.RestPromises.{RestNeverGoesWrong};
 ghost use Rattle.command_answers.specs.declared.command_fault.CommandFault.{CommandFault};
 ghost use Rattle.command_answers.specs.Instances.{IsFirstInstanceFault};
 ghost use Rattle.command_answers.specs.Plans.{TellBoth, TellsAShop};
 ghost use Rattle.cellplan_c.specs.Told.{named};
 ghost use Rattle.cellplan_c.specs.Calls.{IsTextFault, IsStarted, loaded_status, IsStatusOfBoth, IsStatusOfPlan};
-ghost use Rattle.cellplan_c.specs.Cells.{Holding};
+ghost use Rattle.cellplan_c.specs.Cells.{Holding, GoesAsPromised};
 ghost use Rattle.cellplan_c.specs.Begun.{IsControllerOf};
 
 use crate::cell::Cell;
 use crate::inner::Inner;
 use crate::instances::name_in;
 use crate::statuses::{GOOD, REFUSED, status_of_refused};
-use cell_control::Controller;
+use cell_control::laws::never_goes_wrong;
+use cell_control::{Controller, RestController};
 use command_answers::{Loaded, load};
 use plan_verifier::{Verdict, Verified};
-use rest_control::RestController;
-use rest_control::laws::never_goes_wrong;
 use std::alloc::{AllocError, Global};
 
 /// Makes the controller of an accepted plan, and puts it in the place of what the cell held. For the line of a plan
@@ -40,7 +37,7 @@ pub extern "C" fn cellplan_cell_new(
 ) -> u32
     ensures started { result ≡ 0 → Holding cell.new (IsStarted instance.now (named name.now) plan.now) }
     ensures full { result ≡ 0 → IsSome cell.new.slot.held }
-    ensures never_wrong { result ≡ 0 → Holding cell.new RestNeverGoesWrong }
+    ensures never_wrong { result ≡ 0 → Holding cell.new GoesAsPromised }
     ensures judged { result ≤ 1 → IsStatusOfBoth instance.now (named name.now) plan.now result }
     ensures fault { result ≡ 3 → (fault : CommandFault) × IsTextFault instance.now (named name.now) plan.now fault }
     ensures only { (p : PlannedShop) → TellBoth instance.now (named name.now) plan.now p → IsStatusOfPlan p result }
@@ -69,7 +66,7 @@ fn begun(alloc: Global, loaded: Loaded, cell: &mut Cell) -> u32
     ensures status { (result ≡ 4) ⊎ (result ≡ loaded_status loaded) }
     ensures started { result ≡ 0 → Holding cell.new (IsControllerOf loaded) }
     ensures full { result ≡ 0 → IsSome cell.new.slot.held }
-    ensures never_wrong { result ≡ 0 → Holding cell.new RestNeverGoesWrong }
+    ensures never_wrong { result ≡ 0 → Holding cell.new GoesAsPromised }
     ensures unchanged { result ≢ 0 → cell.new.slot.held ≡ cell.old.slot.held }
 {
     match loaded {
@@ -88,8 +85,8 @@ fn begun(alloc: Global, loaded: Loaded, cell: &mut Cell) -> u32
 /// The box of the controller of an accepted plan, or the error of the request for memory that was refused.
 fn boxed(alloc: Global, verified: Verified) -> Result<Box<Inner>, AllocError>
     ensures verified { IsVerified verified }
-    ensures start { IfOk result (λ inner. inner.value.controller ≡ rest_of (at_start verified)) }
-    ensures never_wrong { IfOk result (λ inner. RestNeverGoesWrong inner.value.controller) }
+    ensures start { IfOk result (λ inner. inner.value.controller ≡ at_start verified) }
+    ensures never_wrong { IfOk result (λ inner. GoesAsPromised inner.value.controller) }
 {
     let _plan = verified.shaped();
     match Controller::new(alloc, verified) {

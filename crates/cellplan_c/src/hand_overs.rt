@@ -4,10 +4,9 @@ ghost use Rattle.std.specs.Prelude.{◌≡◌, ◌≢◌, ◌≤◌, ◌↔◌, 
 ghost use Rattle.shop_base.specs.declared.limits.TheConstants.{MAX_MOMENT};
 ghost use Rattle.shop_base.specs.Plan.{PlannedShop};
 ghost use Rattle.command_answers.specs.Shapes.{IsShapedOrNot};
-ghost use Rattle.rest_control.specs.RestPromises.{RestNeverGoesWrong};
-ghost use Rattle.rest_control.specs.HandedOver.{IsHandedOver};
+ghost use Rattle.cell_control.specs.HandedOver.{IsHandedOver};
 ghost use Rattle.cellplan_c.specs.Told.{named};
-ghost use Rattle.cellplan_c.specs.Cells.{Holding, Handing, AreOrdersPut, IsKeptBehind};
+ghost use Rattle.cellplan_c.specs.Cells.{Holding, GoesAsPromised, Handing, AreOrdersPut, IsKeptBehind};
 ghost use Rattle.cellplan_c.specs.HandOvers.{IsHandOver, IsHandOverStatus, rest_fault_status};
 
 use crate::cell::Cell;
@@ -16,9 +15,9 @@ use crate::instances::name_in;
 use crate::rooms::put_orders;
 use crate::statuses::{BACKWARDS, GOOD, KEEPS_NOT, MOMENT_TOO_LARGE, NO_CELL, REFUSED};
 use crate::told::Order;
+use cell_control::RestFault;
+use cell_control::laws::never_goes_wrong;
 use command_answers::load_shaped;
-use rest_control::RestFault;
-use rest_control::laws::never_goes_wrong;
 use shop_base::limits::MAX_MOMENT;
 use shop_base::{ShapeFault, Shaped};
 use std::alloc::Global;
@@ -41,7 +40,7 @@ pub extern "C" fn cellplan_cell_hand_over(
     ensures no_cell { (cell.old.slot.held ≡ None) ↔ (result ≡ 8) }
     ensures handed_over { Handing cell.old cell.new (IsHandOver instance.now (named name.now) plan.now at result) }
     ensures unchanged { result ≢ 0 → cell.new.slot.held ≡ cell.old.slot.held }
-    ensures never_wrong { Holding cell.new RestNeverGoesWrong }
+    ensures never_wrong { Holding cell.new GoesAsPromised }
     ensures no_orders { result ≢ 0 → (count.new ≡ 0) × (orders.new ≡ orders.old) }
     ensures count { Holding cell.new (λ new. result ≡ 0 → count.new ≡ length new.orders) }
     ensures orders { Holding cell.new (λ new. result ≡ 0 → AreOrdersPut new.orders 0 orders.old orders.new) }

@@ -1,7 +1,7 @@
 //! The controller of a cell as a library for C.
 //!
 //! `include/cellplan.h` declares the calls, and says what no clause can: how a cell begins, that buffers are apart,
-//! and that one call at a time is in a cell. Each call that works a cell takes its controller out, calls rest_control,
+//! and that one call at a time is in a cell. Each call that works a cell takes its controller out, calls cell_control,
 //! and puts it back; so the clauses of that library are repeated here.
 #![tactic(auto)]
 

@@ -1,20 +1,18 @@
 //! Reports and their orders, called from C.
 
 ghost use Rattle.std.specs.Prelude.{◌≡◌, ◌≢◌, ◌<◌, ◌≤◌, ◌↔◌, None, IsSome, IfSome, IfOk, IfErr, IsOk, length, false};
-ghost use Rattle.rest_control.specs.RestControl.{IsRestAnswered};
-ghost use Rattle.rest_control.specs.RestPromises.{RestNeverGoesWrong};
+ghost use Rattle.cell_control.specs.Control.{IsAnswered};
 ghost use Rattle.cellplan_c.specs.Told.{report_by};
 ghost use Rattle.cellplan_c.specs.Ended.{ended_by, CanEnd, IsFirstFor, IsOnlyFor, IfGoesOnNow, Calls};
-ghost use Rattle.cellplan_c.specs.Cells.{Holding, Reporting, IsReportTold, AreOrdersPut, IsKeptBehind};
+ghost use Rattle.cellplan_c.specs.Cells.{Holding, GoesAsPromised, Reporting, IsReportTold, AreOrdersPut, IsKeptBehind};
 
 use crate::cell::Cell;
 use crate::inner::Inner;
 use crate::rooms::put_orders;
 use crate::statuses::{GOOD, NO_CELL, NO_KIND};
 use crate::told::{Ended, Order, fault_detail, fault_number, report_by};
-use cell_control::{Ack, ReportFault, TourneyDues};
-use rest_control::RestController;
-use rest_control::laws::never_goes_wrong;
+use cell_control::laws::never_goes_wrong;
+use cell_control::{Ack, ReportFault, RestController, TourneyDues};
 use std::alloc::Global;
 
 /// Takes a report: of kind 0, that the job has arrived, 1, that its operation on the machine has ended, 2, that the
@@ -39,7 +37,7 @@ pub extern "C" fn cellplan_cell_report(
     ensures no_cell { IfSome (report_by kind job machine at) (λ ended. (cell.old.slot.held ≡ None) ↔ (result ≡ 8)) }
     ensures reported { Reporting cell.old cell.new kind job machine at (IsReportTold result late.new detail.new) }
     ensures unchanged { result ≢ 0 → cell.new.slot.held ≡ cell.old.slot.held }
-    ensures never_wrong { result ≢ 9 → Holding cell.new RestNeverGoesWrong }
+    ensures never_wrong { result ≢ 9 → Holding cell.new GoesAsPromised }
     ensures not_late { result ≢ 0 → late.new ≡ false }
     ensures no_detail { result < 16 → detail.new ≡ 0 }
     ensures no_orders { result ≢ 0 → (count.new ≡ 0) × (orders.new ≡ orders.old) }
@@ -102,7 +100,7 @@ fn report_to(inner: &mut Inner, ended: Ended, late: &mut bool, detail: &mut u64)
     ensures numbers { result ≢ 0 → 16 ≤ result }
     ensures not_late { result ≢ 0 → late.new ≡ late.old }
     ensures no_detail { result ≡ 0 → detail.new ≡ detail.old }
-    ensures never_wrong { RestNeverGoesWrong inner.new.controller }
+    ensures never_wrong { GoesAsPromised inner.new.controller }
 {
     let told = take(&mut inner.controller, ended);
     never_goes_wrong(&inner.controller);
@@ -121,7 +119,7 @@ fn report_to(inner: &mut Inner, ended: Ended, late: &mut bool, detail: &mut u64)
 /// Takes what has ended, or tells the first reason for which it isn't possible.
 fn take(controller: &mut RestController<TourneyDues>, ended: Ended) -> Result<Ack, ReportFault>
     ensures possible { IsOk result ↔ CanEnd controller.old ended }
-    ensures answered { IfOk result (λ ack. IsRestAnswered controller.old (ended_by ended) ack controller.new) }
+    ensures answered { IfOk result (λ ack. IsAnswered controller.old (ended_by ended) ack controller.new) }
     ensures first_reason { IfErr result (IsFirstFor controller.old ended) }
     ensures only_reason { IfErr result (IsOnlyFor controller.old ended) }
     ensures unchanged { IfErr result (λ fault. controller.new ≡ controller.old) }

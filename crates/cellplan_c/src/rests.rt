@@ -8,9 +8,8 @@ ghost use Rattle.cellplan_c.specs.RestsAsked.{IsRestAsked};
 use crate::cell::Cell;
 use crate::rooms::put_text;
 use crate::statuses::{BACKWARDS, MOMENT_TOO_LARGE, NO_CELL, status_of_refused};
-use cell_control::TourneyDues;
+use cell_control::{RestController, TourneyDues};
 use command_answers::{PlanTelling, rest_told};
-use rest_control::RestController;
 use shop_base::limits::MAX_MOMENT;
 use std::alloc::Global;
 

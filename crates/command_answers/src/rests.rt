@@ -20,7 +20,7 @@ use plan_explain::{explain_after, first_line_after};
 use plan_schedule::schedule_after;
 use plan_verifier::{Judged, Seen, verify_after};
 use run_log::run_of_log;
-use shop_base::{Moment, Shaped};
+use shop_base::{Moment, Planned, Shaped};
 use std::alloc::{AllocError, Global};
 
 /// What is answered for a plan, or for the rest of a run of it.
@@ -115,9 +115,9 @@ pub fn past_answer(alloc: Global, last: Moment) -> Result<Answer, AllocError>
 }
 
 /// What is answered for the rest from a cell and a present moment on: the text of the verdict on it, with its status.
-pub fn rest_told(
+pub fn rest_told<P: Planned>(
     alloc: Global,
-    cell: &WorkCell<Shaped>,
+    cell: &WorkCell<P>,
     present: Moment,
     telling: PlanTelling,
 ) -> Result<Answer, AllocError>
@@ -131,9 +131,9 @@ pub fn rest_told(
 }
 
 /// The text of a verdict on the rest.
-fn verdict_text(
+fn verdict_text<P: Planned>(
     alloc: Global,
-    cell: &WorkCell<Shaped>,
+    cell: &WorkCell<P>,
     present: Moment,
     verdict: Seen<'_>,
     telling: PlanTelling,

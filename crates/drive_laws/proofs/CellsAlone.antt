@@ -1,15 +1,18 @@
 -- Each of several driven cells is as with a controller alone.
-use Rattle.std.proofs.Common.{◌≡◌, ◌==◌, ℕ, zero, suc, ◌+◌, List, [], ◌∷◌, ◌++◌, set, not, ◌&&◌, Option, Some, None, refl, sym, ap, ◌∙◌, subst, inl, inr, ◌⊎◌}
-use Rattle.std.proofs.lemmas.Bool.{eqb-true, eqb-false, cases_Bool}
-use Rattle.std.specs.Prelude.{slice_get}
+use Rattle.std.proofs.Common.{◌≡◌, ◌==◌, ℕ, zero, suc, ◌+◌, ◌≤◌, List, [], ◌∷◌, ◌++◌, set, Bool, true, false, Option, Some, None, refl, sym, ap, ◌∙◌, subst, arith, inl, inr, ◌⊎◌, ◌↔◌}
+use Rattle.std.proofs.lemmas.Bool.{eqb-true, eqb-false, cases_Bool, cases_lt}
+use Rattle.std.specs.Prelude.{slice_get, IsTrue}
 use Rattle.shop_base.specs.declared.report.Report.{Report}
 use Rattle.shop_base.specs.Cell.{Cell}
+use Rattle.shop_base.specs.Report.{at}
 use Rattle.shop_base.specs.Run.{Event, Reported}
 use Rattle.shop_base.specs.Controlled.{moved, step_orders}
+use Rattle.shop_base.specs.ReportsLeft.{reports_left}
+use Rattle.shop_base.proofs.ReportsLeft.{start-reports_left, after_step-reports_left}
 use Rattle.shop_base.proofs.StatedNumber.{ends_on_the_stated_number-holds}
 use Rattle.plan_verifier.specs.Accepted.{VerifiedPlan, IsVerified}
 use Rattle.cell_tables.specs.declared.entry.Entry.{Entry}
-use Rattle.cell_control.specs.Control.{Control, at_start}
+use Rattle.cell_control.specs.Control.{Control, at_start, verified_in}
 use Rattle.cell_control.specs.Promises as promise
 use Rattle.cell_control.specs.Promises.{IsCalled, AreCalled, not_yet, once_more, IsControllerAfter}
 use Rattle.cell_control.proofs.Promises.{calls_make_the_controlled_run}
@@ -69,6 +72,28 @@ verified_at (w ∷ plans) (suc k) v verified found = verified_at plans k v verif
 
 -- ---- one line
 
+-- whether all reports are punctual, with one more
+still_punctual : (so_far late : Bool) (t began : ℕ) → (now : Bool) × (IsTrue now ↔ (IsTrue so_far × ((late ≡ false) ⊎ (t ≤ began))))
+still_punctual false late t began = (false, ((λ wrong. let no : false ≡ true = wrong in absurd (cc)), λ both. both.0))
+still_punctual true false t began = (true, ((λ so. (refl, inl refl)), λ both. refl))
+still_punctual true true t began = elim (cases_lt began t) [
+  | inl later ↦ (
+    false,
+    (
+      (λ wrong. let no : false ≡ true = wrong in absurd (cc)),
+      λ both. elim both.1 [
+        | inl punctual ↦ (let no : true ≡ false = punctual in absurd (cc))
+        | inr soon ↦ absurd (omega (arith, soon, later))
+      ],
+    ),
+  )
+  | inr soon ↦ (true, ((λ so. (refl, inr soon)), λ both. refl))
+]
+
+-- a controller that knows how many reports are still to come
+abbrev IsCounted : Control → Type 0
+IsCounted v = v.left ≡ reports_left v.planned v.cell
+
 -- the line is a report on the cell, and a controller alone is called with it
 record IsCall (k : ℕ) (v : Control) (line : Option (List ℕ)) (next : List PlannedCell) : Type 0 where
   words : List ℕ
@@ -78,6 +103,7 @@ record IsCall (k : ℕ) (v : Control) (line : Option (List ℕ)) (next : List Pl
   events : List Event
   after : Control
   called : IsCalled v report events after
+  counted : IsCounted after
   there : slice_get next k ≡ Some (planned_cell after)
 
 -- the line is none, and the cell stays
@@ -85,7 +111,7 @@ record IsPassed (k : ℕ) (v : Control) (line : Option (List ℕ)) (next : List 
   not_on : IsNotOn k line
   there : slice_get next k ≡ Some (planned_cell v)
 
-module _ (cells : List PlannedCell) (number k : ℕ) (v : Control) (in_run : IsInRun (planned_cell v)) (found : slice_get cells k ≡ Some (planned_cell v)) where
+module _ (cells : List PlannedCell) (number k : ℕ) (v : Control) (in_run : IsInRun (planned_cell v)) (counted : IsCounted v) (found : slice_get cells k ≡ Some (planned_cell v)) where
   abbrev Goes : Option (List ℕ) → List PlannedCell → Type 0
   Goes line next = IsCall k v line next ⊎ IsPassed k v line next
 
@@ -96,7 +122,7 @@ module _ (cells : List PlannedCell) (number k : ℕ) (v : Control) (in_run : IsI
   there_is on x next same is = ap (λ (cs : List PlannedCell). slice_get cs k) is ∙ ap (λ (n : ℕ). slice_get (set cells n x) k) same ∙ set_same cells k (planned_cell v) x found
 
   called_by : (line : List ℕ) (on : OnCell) (text : List ℕ) (events : List Entry) (cell : Cell) (next : List PlannedCell) → on.cell ≡ k → IsOnCell line on
-      → ReportAnswer v.plan.planned (cell_prefix on.cell) v.cell number on.report text events cell → next ≡ set cells on.cell (record { plan = v.plan; cell = cell }) → IsCall k v (Some line) next
+      → ReportAnswer v.planned (cell_prefix on.cell) v.cell number on.report text events cell → next ≡ set cells on.cell (record { plan = verified_in v; cell = cell }) → IsCall k v (Some line) next
   called_by line on text events cell next same is_line (inl is) end_is = record {
     words = line;
     is_it = refl;
@@ -104,17 +130,24 @@ module _ (cells : List PlannedCell) (number k : ℕ) (v : Control) (in_run : IsI
     is_report = subst (λ (n : ℕ). IsCellReport line n on.report) same is_line;
     events = [];
     after = v;
-    called = promise.refused v on.report (reason-cannot v.plan.planned v.cell on.report is.reason in_run.sound is.first);
-    there = there_is on (planned_cell v) next same (end_is ∙ ap (λ (c : Cell). set cells on.cell (record { plan = v.plan; cell = c })) is.next_is);
+    called = promise.refused v on.report (reason-cannot v.planned v.cell on.report is.reason in_run.sound is.first);
+    there = there_is on (planned_cell v) next same (end_is ∙ ap (λ (c : Cell). set cells on.cell (record { plan = verified_in v; cell = c })) is.next_is);
+    counted = counted;
   }
   called_by line on text events cell next same is_line (inr is) end_is =
+      let (still, judged) = still_punctual v.punctual is.late (at on.report) v.began in
       let after : Control = record {
-        plan = v.plan;
+        planned = v.planned;
+        times = v.times;
         cell = cell;
-        orders = step_orders v.plan.planned v.cell on.report is.movers;
-        accepted = v.accepted + 1;
-        punctual = v.punctual && not is.late;
+        orders = step_orders v.planned v.cell on.report is.movers;
+        left = reports_left v.planned cell;
+        began = v.began;
+        punctual = still;
       } in
+      let fewer : reports_left v.planned cell + 1 ≡ v.left =
+      ap (λ c. reports_left v.planned c + 1) is.next_is
+      ∙ after_step-reports_left v.planned v.cell on.report is.movers in_run.verified.schedule.shaped in_run.sound is.step ∙ sym counted in
       record {
         words = line;
         is_it = refl;
@@ -123,7 +156,8 @@ module _ (cells : List PlannedCell) (number k : ℕ) (v : Control) (in_run : IsI
         events = Reported on.report ∷ moved after.orders;
         after = after;
         called = promise.answered v on.report (record { late = is.late }) after
-            (record { movers = is.movers; step = is.step; plan = refl; cell = is.next_is; orders = refl; accepted = refl; late = is.late_is; punctual = refl });
+            (record { movers = is.movers; step = is.step; planned = refl; times = refl; began = refl; cell = is.next_is; orders = refl; left = fewer; late = is.late_is; punctual = judged });
+        counted = refl;
         there = there_is on (planned_cell after) next same end_is;
       }
 
@@ -161,15 +195,15 @@ record AreCalls (k : ℕ) (v : Control) (lines : List (Option (List ℕ))) (end 
   called : AreCalled v reports events last
   there : slice_get end k ≡ Some (planned_cell last)
 
-calls : (k : ℕ) (lines : List (Option (List ℕ))) (cells end : List PlannedCell) (number : ℕ) (text : List ℕ) (v : Control) → AreInRun cells → slice_get cells k ≡ Some (planned_cell v)
+calls : (k : ℕ) (lines : List (Option (List ℕ))) (cells end : List PlannedCell) (number : ℕ) (text : List ℕ) (v : Control) → AreInRun cells → IsCounted v → slice_get cells k ≡ Some (planned_cell v)
     → AnswerAll CellsAnswer cells number lines text end → AreCalls k v lines end
-calls k [] cells end number text v in_run found all =
+calls k [] cells end number text v in_run counted found all =
     record { reports = []; have = none_left; events = []; last = v; called = not_yet v; there = ap (λ (cs : List PlannedCell). slice_get cs k) all.1 ∙ found }
-calls k (line ∷ lines) cells end number text v in_run found all =
+calls k (line ∷ lines) cells end number text v in_run counted found all =
     let kept = lines_keep cells number line all.0 all.2 in_run all.3 in
-    elim (goes cells number k v (one_in_run cells k (planned_cell v) in_run found) found line all.0 all.2 all.3) [
+    elim (goes cells number k v (one_in_run cells k (planned_cell v) in_run found) counted found line all.0 all.2 all.3) [
       | inl call ↦
-          let rest = calls k lines all.2 end (number + 1) all.1 call.after kept call.there all.4 in
+          let rest = calls k lines all.2 end (number + 1) all.1 call.after kept call.counted call.there all.4 in
           record {
             reports = call.report ∷ rest.reports;
             have = subst (λ (l : Option (List ℕ)). HaveReports k (l ∷ lines) (call.report ∷ rest.reports)) call.is_it (on_it call.words call.report lines rest.reports call.is_report rest.have);
@@ -179,7 +213,7 @@ calls k (line ∷ lines) cells end number text v in_run found all =
             there = rest.there;
           }
       | inr passed ↦
-          let rest = calls k lines all.2 end (number + 1) all.1 v kept passed.there all.4 in
+          let rest = calls k lines all.2 end (number + 1) all.1 v kept counted passed.there all.4 in
           record { reports = rest.reports; have = passed_over line lines rest.reports passed.not_on rest.have; events = rest.events; last = rest.last; called = rest.called; there = rest.there }
     ]
 
@@ -187,8 +221,8 @@ calls k (line ∷ lines) cells end number text v in_run found all =
 pub as_alone : EachCellIsAsAlone
 as_alone plans lines text end verified all k v found =
     let is_verified = verified_at plans k v verified found in
-    let made = calls k lines (hub_start plans) end 1 text (at_start v) (start_in_run plans verified) (starts_at plans k v found) all in
-    let after : IsControllerAfter v made.reports made.events made.last = calls_make_the_controlled_run v made.reports made.events made.last is_verified made.called in (
+    let made = calls k lines (hub_start plans) end 1 text (at_start v) (start_in_run plans verified) (sym (start-reports_left v.planned)) (starts_at plans k v found) all in
+    let after : IsControllerAfter v made.reports made.events made.last = calls_make_the_controlled_run v made.reports made.events made.last made.called in (
       planned_cell made.last,
       made.there,
       record {

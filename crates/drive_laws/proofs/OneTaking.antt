@@ -13,7 +13,7 @@ use Rattle.cell_tables.specs.declared.entry.Entry.TheVariants.{Report as ReportE
 use Rattle.cell_tables.specs.Events.{event_of}
 use Rattle.event_lines.specs.LogLines.{LinesTell}
 use Rattle.event_lines.proofs.Readings.{one_reading}
-use Rattle.rest_control.specs.Settled.{SettlesInOrder, HasSettled}
+use Rattle.cell_control.specs.Settled.{SettlesInOrder, HasSettled}
 use Rattle.cell_drive.specs.AnswerText.{DrivenCell}
 use Rattle.cell_drive.specs.OneRun.{cell_after}
 use Rattle.cell_drive.specs.LateEvents.{IsLateEvent, AreLate}

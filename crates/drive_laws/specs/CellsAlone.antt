@@ -4,7 +4,7 @@ use Rattle.shop_base.specs.declared.report.Report.{Report}
 use Rattle.shop_base.specs.Run.{Event}
 use Rattle.shop_base.specs.Ends.{stated_number, reports_in, HasEnded}
 use Rattle.plan_verifier.specs.Accepted.{VerifiedPlan}
-use Rattle.cell_control.specs.Control.{Control}
+use Rattle.cell_control.specs.Control.{Control, verified_in}
 use Rattle.cell_control.specs.Promises.{IsControllerAfter}
 use Rattle.event_lines.specs.SentLines.{IsCellReport}
 use Rattle.cell_drive.specs.ManyCells.{PlannedCell}
@@ -30,7 +30,7 @@ pub record IsAsAlone (v : VerifiedPlan) (cell : ℕ) (lines : List (Option (List
   pub events : List Event
   pub alone : Control
   pub after : IsControllerAfter v reports events alone
-  pub same : end ≡ record { plan = alone.plan; cell = alone.cell }
+  pub same : end ≡ record { plan = verified_in alone; cell = alone.cell }
   pub counted : HasEnded v.planned end.cell ↔ (reports_in events ≡ stated_number v.planned)
   pub promised : StaysAsPromised v events
 

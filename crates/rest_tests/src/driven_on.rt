@@ -1,9 +1,8 @@
 //! A run that is driven on from a cell, and handed over to a plan, where there is memory enough.
 
 use crate::rests::{begun, planned};
-use cell_control::{Report, TourneyDues};
+use cell_control::{Report, RestController, TourneyDues};
 use cell_tables::WorkCell;
-use rest_control::RestController;
 use shop_base::Shaped;
 use std::alloc::Global;
 use std::test::Fail;

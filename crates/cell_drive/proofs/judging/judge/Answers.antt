@@ -13,8 +13,8 @@ judge_in-requires g c not_late =
     let w = c.work_cell.result.now in
     let moment : c.at.result ≡ at (claimed c.args.claim) = c.at.ensures ∙ ap at c.report.ensures in
     subst (λ (q : PlannedShop). IsOnTime q w.cell (at (claimed c.args.claim))) (sym c.work_cell.ensures.plan)
-    (subst (λ (x : Cell). IsOnTime v.plan.planned x (at (claimed c.args.claim))) (sym c.work_cell.ensures.cell)
-    (subst (λ (t : ℕ). IsOnTime v.plan.planned v.cell t) moment (c.is_late-late.ensures.0 not_late)))
+    (subst (λ (x : Cell). IsOnTime v.planned x (at (claimed c.args.claim))) (sym c.work_cell.ensures.cell)
+    (subst (λ (t : ℕ). IsOnTime v.planned v.cell t) moment (c.is_late-late.ensures.0 not_late)))
 
 pub returns : goal.returns
 returns g c =

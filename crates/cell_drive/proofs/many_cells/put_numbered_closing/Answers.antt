@@ -11,5 +11,5 @@ returns-in-Some-clause-wrote g c content found =
     let e = c.in-Some.ensures in
     let same : planned_cell c.in-Some.controller.now ≡ content = cc in
     subst (λ (x : PlannedCell). Wrote c.put_closing.result (g.W.Sink.failed c.put_closing.new.writer) (g.W.Sink.taken c.args.writer.now) (g.W.Sink.taken c.put_closing.new.writer) (cell_prefix c.args.cell ++ closing_line x.plan.planned x.cell)) same
-    (subst (λ (prefix : List ℕ). Wrote c.put_closing.result (g.W.Sink.failed c.put_closing.new.writer) (g.W.Sink.taken c.args.writer.now) (g.W.Sink.taken c.put_closing.new.writer) (prefix ++ closing_line c.in-Some.controller.now.plan.planned c.in-Some.controller.now.cell))
+    (subst (λ (prefix : List ℕ). Wrote c.put_closing.result (g.W.Sink.failed c.put_closing.new.writer) (g.W.Sink.taken c.args.writer.now) (g.W.Sink.taken c.put_closing.new.writer) (prefix ++ closing_line c.in-Some.controller.now.planned c.in-Some.controller.now.cell))
     (c.bytes.ensures ∙ c.cell_prefix.ensures) c.put_closing.ensures.wrote)

@@ -11,7 +11,7 @@ pub returns-then-is_empty-clause-answered : goal.returns-then-is_empty-clause-an
 returns-then-is_empty-clause-answered g c =
     let s = driven_by c.args.controller.now c.args.log.now in
     was_answered _ _ _ (taker_of g.W.Sink c.args.writer.now) (taker_of g.W.Sink c.args.writer.now)
-    (unchanged s c.args.number _ _ (empty_line IsReportLine (CellReports s.control.plan.planned) (seen s) c.args.number _ (no_bytes _ _ c.is_empty.ensures c.if-is_empty.true))) (Appends-nil _) refl
+    (unchanged s c.args.number _ _ (empty_line IsReportLine (CellReports s.control.planned) (seen s) c.args.number _ (no_bytes _ _ c.is_empty.ensures c.if-is_empty.true))) (Appends-nil _) refl
 
 pub answer_told-requires-clause-told : goal.answer_told-requires-clause-told
 answer_told-requires-clause-told g c = some_bytes _ _ c.is_empty.ensures c.if-is_empty.false

@@ -11,7 +11,7 @@ pub returns-in_default-clause-answered : goal.returns-in_default-clause-answered
 returns-in_default-clause-answered g c =
     let s = driven_by c.args.controller.now c.args.log.now in
     was_answered _ _ _ (taker_of g.W.Sink c.args.writer.now) (taker_of g.W.Sink c.put_refused.new.writer)
-    (unchanged s c.args.number _ _ (bad_line IsReportLine (CellReports s.control.plan.planned) (seen s) c.args.number _ c.requires.told c.in_default.ensures)) c.put_refused.ensures.wrote c.put_refused.ensures.unfailed
+    (unchanged s c.args.number _ _ (bad_line IsReportLine (CellReports s.control.planned) (seen s) c.args.number _ c.requires.told c.in_default.ensures)) c.put_refused.ensures.wrote c.put_refused.ensures.unfailed
 
 pub returns-in-Ok-clause-answered : goal.returns-in-Ok-clause-answered
 returns-in-Ok-clause-answered g c =

@@ -1,6 +1,7 @@
 use Rattle.std.proofs.Common.{◌≡◌, arith, vec_len, subst, ap, ◌∙◌, Err}
 use Rattle.std.proofs.lemmas.Result.{err_from_is_err_and}
 use Rattle.byte_streams.specs.Lent.{streams_of}
+use Rattle.cell_control.specs.Control.{verified_in}
 use Rattle.cell_drive.specs.declared.one_run.DriveEnd.{DriveEnd}
 use Rattle.cell_drive.specs.OneCell.{DriveState, DriveAnswer, DriveCloses, drive_start}
 use Rattle.cell_drive.specs.OneRun.{IsEndOf}
@@ -13,7 +14,7 @@ returns-in-Ok-clause-driven g c = record {
   end = c.stream.new.handler;
   streamed = streamed_to_end DriveAnswer DriveCloses c.in_ok-driven.driven c.stream.new.handler
       (streams_of g.R.Source g.W.Sink g.W.Outlet.pending c.args.reader.now c.args.writer.now) (streams_of g.R.Source g.W.Sink g.W.Outlet.pending c.stream.new.reader c.stream.new.writer) _ c.end_driven.result (drive_start c.args.verified) c.in_ok-driven.ensures c.in-Ok.ensures;
-  came_to = subst (λ (s : DriveState). IsEndOf s.control.plan c.stream.new.handler c.end_driven.result) c.in_ok-driven.ensures
+  came_to = subst (λ (s : DriveState). IsEndOf (verified_in s.control) c.stream.new.handler c.end_driven.result) c.in_ok-driven.ensures
       (end_from c.in_ok-driven.driven c.stream.new.handler _ 1 _ c.end_driven.result c.in-Ok.ensures.comes_to.are_answers c.end_driven.ensures);
 }
 

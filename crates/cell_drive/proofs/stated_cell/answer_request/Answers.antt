@@ -11,6 +11,6 @@ use Rattle.cell_drive.proofs.stated_cell.answer_request.Goals as goal
 pub returns-in-Status-clause-answered : goal.returns-in-Status-clause-answered
 returns-in-Status-clause-answered g c =
     let s = driven_by c.args.controller.now c.args.log.now in
-    let text = state_text [] s.control.plan.planned s.control.cell in
+    let text = state_text [] s.control.planned s.control.cell in
     was_answered _ text _ (taker_of g.W.Sink c.args.writer.now) (taker_of g.W.Sink c.put_state.new.writer)
     (subst (λ (r : Request). AnswersRequest c.args.manner s c.args.number r s text) (sym c.in-Status.is) (tells_state c.args.manner s c.args.number)) c.put_state.ensures.wrote c.put_state.ensures.unfailed

@@ -15,4 +15,4 @@ pub returns-in-None-clause-answered : goal.returns-in-None-clause-answered
 returns-in-None-clause-answered g c =
     let s = stated_by c.args.manner c.args.controller.now c.args.log.now in
     was_answered _ _ _ (taker_of g.W.Sink c.args.writer.now) (taker_of g.W.Sink c.put_refused.new.writer)
-    (unchanged s c.args.number _ _ (bad_line (AsksFor s.manner.tells) (CellRequests s.driven.control.plan.planned s.manner) (seen s.driven) c.args.number _ c.requires.told c.in-None.ensures)) c.put_refused.ensures.wrote c.put_refused.ensures.unfailed
+    (unchanged s c.args.number _ _ (bad_line (AsksFor s.manner.tells) (CellRequests s.driven.control.planned s.manner) (seen s.driven) c.args.number _ c.requires.told c.in-None.ensures)) c.put_refused.ensures.wrote c.put_refused.ensures.unfailed

@@ -5,4 +5,4 @@ use Rattle.cell_drive.proofs.stated_cell.take_possible.Goals as goal
 pub unwrap-requires : goal.unwrap-requires
 unwrap-requires g c =
     let s = driven_by c.args.controller.now c.args.log.now in
-    is_taken s.control.plan.planned s.control.cell c.args.report c.take_report.result (driven_sound s c.requires.driven) c.requires.possible c.take_report.ensures.refused
+    is_taken s.control.planned s.control.cell c.args.report c.take_report.result (driven_sound s c.requires.driven) c.requires.possible c.take_report.ensures.refused

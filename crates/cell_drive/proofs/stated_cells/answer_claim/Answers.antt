@@ -24,8 +24,8 @@ pub returns-in-Refused-clause-answered : goal.returns-in-Refused-clause-answered
 returns-in-Refused-clause-answered g c =
     let v = c.in-Some.controller.now in
     let claim = c.args.claim in
-    let judged : IsRefusal c.args.manner v.plan.planned v.cell claim c.in-Refused.refusal × (c.in-Refused.detail ≡ refusal_detail c.args.manner v.plan.planned v.cell (claimed claim) c.in-Refused.refusal) =
-    subst (λ (j : Judged). IsJudged c.args.manner v.plan.planned v.cell claim j) c.in-Refused.is c.judge.ensures in
+    let judged : IsRefusal c.args.manner v.planned v.cell claim c.in-Refused.refusal × (c.in-Refused.detail ≡ refusal_detail c.args.manner v.planned v.cell (claimed claim) c.in-Refused.refusal) =
+    subst (λ (j : Judged). IsJudged c.args.manner v.planned v.cell claim j) c.in-Refused.is c.judge.ensures in
     was_answered _ _ _ (taker_of g.W.Sink c.args.writer.now) (taker_of g.W.Sink c.put_refusal.new.writer)
     (told_refusal c.args.manner (cells_of c.args.hub.now c.args.tickets.now) c.args.number c.args.cell (planned_cell v) (sym c.in-Some.ensures) claim c.in-Refused.refusal c.in-Refused.detail judged.0 judged.1)
     (subst (λ (prefix : List ℕ). Wrote c.put_refusal.result (g.W.Sink.failed c.put_refusal.new.writer) (g.W.Sink.taken c.args.writer.now) (g.W.Sink.taken c.put_refusal.new.writer) (prefix ++ refused_detail_line c.args.number (refusal_word c.in-Refused.refusal) c.in-Refused.detail))
@@ -37,15 +37,15 @@ take_claim-requires-clause-there g c = (planned_cell c.in-Some.controller.now, s
 pub take_claim-requires-clause-taken : goal.take_claim-requires-clause-taken
 take_claim-requires-clause-taken g c =
     let v = c.in-Some.controller.now in
-    let judged : IsTaken c.args.manner v.plan.planned v.cell c.args.claim × (c.in-Taken.overdue ≡ told_overdue c.args.manner v.plan.planned v.cell (claimed c.args.claim)) =
-    subst (λ (j : Judged). IsJudged c.args.manner v.plan.planned v.cell c.args.claim j) c.in-Taken.is c.judge.ensures in
+    let judged : IsTaken c.args.manner v.planned v.cell c.args.claim × (c.in-Taken.overdue ≡ told_overdue c.args.manner v.planned v.cell (claimed c.args.claim)) =
+    subst (λ (j : Judged). IsJudged c.args.manner v.planned v.cell c.args.claim j) c.in-Taken.is c.judge.ensures in
     of_its_cell (cells_of c.args.hub.now c.args.tickets.now) c.args.cell (planned_cell v) (λ (x : PlannedCell). IsTaken c.args.manner x.plan.planned x.cell c.args.claim) c.in-Some.ensures judged.0
 
 pub take_claim-requires-clause-overdue : goal.take_claim-requires-clause-overdue
 take_claim-requires-clause-overdue g c =
     let v = c.in-Some.controller.now in
-    let judged : IsTaken c.args.manner v.plan.planned v.cell c.args.claim × (c.in-Taken.overdue ≡ told_overdue c.args.manner v.plan.planned v.cell (claimed c.args.claim)) =
-    subst (λ (j : Judged). IsJudged c.args.manner v.plan.planned v.cell c.args.claim j) c.in-Taken.is c.judge.ensures in
+    let judged : IsTaken c.args.manner v.planned v.cell c.args.claim × (c.in-Taken.overdue ≡ told_overdue c.args.manner v.planned v.cell (claimed c.args.claim)) =
+    subst (λ (j : Judged). IsJudged c.args.manner v.planned v.cell c.args.claim j) c.in-Taken.is c.judge.ensures in
     of_its_cell (cells_of c.args.hub.now c.args.tickets.now) c.args.cell (planned_cell v) (λ (x : PlannedCell). c.in-Taken.overdue ≡ told_overdue c.args.manner x.plan.planned x.cell (claimed c.args.claim)) c.in-Some.ensures judged.1
 
 pub returns-in-Taken-clause-answered : goal.returns-in-Taken-clause-answered

@@ -14,7 +14,7 @@ returns-in-Some g c manner =
     let v = c.in-Some.controller.now in
     was_answered _ _ _ (taker_of g.W.Sink c.args.writer.now) (taker_of g.W.Sink c.put_state.new.writer)
     (told_state manner (cells_of c.args.hub.now c.args.tickets.now) c.args.number c.args.cell (planned_cell v) (sym c.in-Some.ensures))
-    (subst (λ (prefix : List ℕ). Wrote c.put_state.result (g.W.Sink.failed c.put_state.new.writer) (g.W.Sink.taken c.args.writer.now) (g.W.Sink.taken c.put_state.new.writer) (state_text prefix v.plan.planned v.cell))
+    (subst (λ (prefix : List ℕ). Wrote c.put_state.result (g.W.Sink.failed c.put_state.new.writer) (g.W.Sink.taken c.args.writer.now) (g.W.Sink.taken c.put_state.new.writer) (state_text prefix v.planned v.cell))
     (c.bytes.ensures ∙ c.cell_prefix.ensures ∙ ap cell_prefix c.from.ensures) c.put_state.ensures.wrote) c.put_state.ensures.unfailed
 
 pub returns-in-None : goal.returns-in-None

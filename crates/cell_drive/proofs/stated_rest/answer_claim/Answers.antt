@@ -14,7 +14,7 @@ pub returns-in-Refused-clause-answered : goal.returns-in-Refused-clause-answered
 returns-in-Refused-clause-answered g c =
     let v = c.args.controller.now in
     let judged : IsRefusal c.args.manner v.planned v.cell c.args.claim c.in-Refused.refusal × (c.in-Refused.detail ≡ refusal_detail c.args.manner v.planned v.cell (claimed c.args.claim) c.in-Refused.refusal) =
-    subst (λ (j : Judged). IsJudged c.args.manner v.planned v.cell c.args.claim j) c.in-Refused.is c.judge_rest.ensures in
+    subst (λ (j : Judged). IsJudged c.args.manner v.planned v.cell c.args.claim j) c.in-Refused.is c.judge.ensures in
     was_answered _ _ _ (taker_of g.W.Sink c.args.writer.now) (taker_of g.W.Sink c.put_refusal.new.writer)
     (refuses c.args.manner (rest_by v c.args.log.now) c.args.number c.args.claim c.in-Refused.refusal c.in-Refused.detail judged.0 judged.1) c.put_refusal.ensures.wrote c.put_refusal.ensures.unfailed
 
@@ -22,13 +22,13 @@ pub take_claim-requires-clause-taken : goal.take_claim-requires-clause-taken
 take_claim-requires-clause-taken g c =
     let v = c.args.controller.now in
     let judged : IsTaken c.args.manner v.planned v.cell c.args.claim × (c.in-Taken.overdue ≡ told_overdue c.args.manner v.planned v.cell (claimed c.args.claim)) =
-    subst (λ (j : Judged). IsJudged c.args.manner v.planned v.cell c.args.claim j) c.in-Taken.is c.judge_rest.ensures in judged.0
+    subst (λ (j : Judged). IsJudged c.args.manner v.planned v.cell c.args.claim j) c.in-Taken.is c.judge.ensures in judged.0
 
 pub take_claim-requires-clause-overdue : goal.take_claim-requires-clause-overdue
 take_claim-requires-clause-overdue g c =
     let v = c.args.controller.now in
     let judged : IsTaken c.args.manner v.planned v.cell c.args.claim × (c.in-Taken.overdue ≡ told_overdue c.args.manner v.planned v.cell (claimed c.args.claim)) =
-    subst (λ (j : Judged). IsJudged c.args.manner v.planned v.cell c.args.claim j) c.in-Taken.is c.judge_rest.ensures in judged.1
+    subst (λ (j : Judged). IsJudged c.args.manner v.planned v.cell c.args.claim j) c.in-Taken.is c.judge.ensures in judged.1
 
 pub returns-in-Taken-clause-answered : goal.returns-in-Taken-clause-answered
 returns-in-Taken-clause-answered g c = c.take_claim.ensures.answered c.args.number

@@ -12,5 +12,5 @@ pub returns-in-Status-clause-answered : goal.returns-in-Status-clause-answered
 returns-in-Status-clause-answered g c =
     let s = rest_by c.args.controller.now c.args.log.now in
     let text = state_text [] s.control.planned s.control.cell in
-    was_answered _ text _ (taker_of g.W.Sink c.args.writer.now) (taker_of g.W.Sink c.put_state_of_rest.new.writer)
-    (subst (λ (r : Request). RestAnswersRequest c.args.manner s c.args.number r s text) (sym c.in-Status.is) (tells_state c.args.manner s c.args.number)) c.put_state_of_rest.ensures.wrote c.put_state_of_rest.ensures.unfailed
+    was_answered _ text _ (taker_of g.W.Sink c.args.writer.now) (taker_of g.W.Sink c.put_state.new.writer)
+    (subst (λ (r : Request). RestAnswersRequest c.args.manner s c.args.number r s text) (sym c.in-Status.is) (tells_state c.args.manner s c.args.number)) c.put_state.ensures.wrote c.put_state.ensures.unfailed

@@ -1,6 +1,7 @@
 use Rattle.std.proofs.Common.{◌≡◌, arith, vec_len, subst, ap, ◌∙◌, Err}
 use Rattle.std.proofs.lemmas.Result.{err_from_is_err_and}
 use Rattle.byte_streams.specs.Lent.{streams_of}
+use Rattle.cell_control.specs.Control.{verified_in}
 use Rattle.cell_drive.specs.declared.one_run.DriveEnd.{DriveEnd}
 use Rattle.cell_drive.specs.OneCell.{DriveState}
 use Rattle.cell_drive.specs.OneRun.{IsEndOf}
@@ -17,9 +18,9 @@ returns-in-Ok-clause-driven g c =
       end = end;
       streamed = streamed_to_end StatedAnswer StatedCloses c.stated-cell.result end
           (streams_of g.R.Source g.W.Sink g.W.Outlet.pending c.args.reader.now c.args.writer.now) (streams_of g.R.Source g.W.Sink g.W.Outlet.pending c.stream.new.reader c.stream.new.writer) _ c.end_driven.result (stated_start c.args.manner c.args.verified) begun c.in-Ok.ensures;
-      came_to = subst (λ (s : StatedState). IsEndOf s.driven.control.plan end.driven c.end_driven.result) begun
+      came_to = subst (λ (s : StatedState). IsEndOf (verified_in s.driven.control) end.driven c.end_driven.result) begun
           (stated_end c.stated-cell.result end _ 1 _ c.end_driven.result c.in-Ok.ensures.comes_to.are_answers
-          (subst (λ (d : DriveState). IsEndOf d.control.plan d c.end_driven.result) c.unstated.ensures c.end_driven.ensures));
+          (subst (λ (d : DriveState). IsEndOf (verified_in d.control) d c.end_driven.result) c.unstated.ensures c.end_driven.ensures));
     }
 
 pub returns-clause-driven : goal.returns-clause-driven

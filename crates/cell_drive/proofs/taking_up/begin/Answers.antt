@@ -3,7 +3,7 @@ use Rattle.shop_base.specs.Cell.{Cell}
 use Rattle.shop_base.specs.Plan.{PlannedShop}
 use Rattle.shop_base.specs.Report.{IsNextMoment}
 use Rattle.cell_tables.specs.PlannedCell.{PlannedCell}
-use Rattle.rest_control.specs.RestFaults.{IsRestFault}
+use Rattle.cell_control.specs.Begun.{IsRestFault}
 use Rattle.cell_drive.specs.ResumeFaults.{IsRefusal}
 use Rattle.cell_drive.proofs.taking_up.begin.Goals as goal
 

@@ -9,7 +9,7 @@ pub returns : goal.returns
 returns g c =
     subst (λ (s : DriveState). WroteOneTo g.W.Sink c.put_closing.result c.args.writer.now c.put_closing.new.writer (DriveCloses s)) c.self.view_is
     (record {
-      text = closing_line c.self.inside.controller.plan.planned c.self.inside.controller.cell;
+      text = closing_line c.self.inside.controller.planned c.self.inside.controller.cell;
       is_text = closes (record { control = c.self.inside.controller; log = c.self.inside.log }) c.self.invariant;
       wrote = c.put_closing.ensures.wrote;
       unfailed = c.put_closing.ensures.unfailed;

@@ -10,7 +10,7 @@ pub returns : goal.returns
 returns g c =
     subst (λ (s : StatedState). WroteOneTo g.W.Sink c.put_closing.result c.args.writer.now c.put_closing.new.writer (StatedCloses s)) c.self.view_is
     (record {
-      text = closing_line c.self.inside.controller.plan.planned c.self.inside.controller.cell;
+      text = closing_line c.self.inside.controller.planned c.self.inside.controller.cell;
       is_text = closes (driven_by c.self.inside.controller c.self.inside.log) c.self.invariant;
       wrote = c.put_closing.ensures.wrote;
       unfailed = c.put_closing.ensures.unfailed;

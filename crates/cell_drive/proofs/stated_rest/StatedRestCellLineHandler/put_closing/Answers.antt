@@ -7,10 +7,10 @@ use Rattle.cell_drive.proofs.stated_rest.StatedRestCellLineHandler.put_closing.G
 
 pub returns : goal.returns
 returns g c =
-    subst (λ (s : StatedRest). WroteOneTo g.W.Sink c.put_closing_line.result c.args.writer.now c.put_closing_line.new.writer (StatedRestCloses s)) c.self.view_is
+    subst (λ (s : StatedRest). WroteOneTo g.W.Sink c.put_closing.result c.args.writer.now c.put_closing.new.writer (StatedRestCloses s)) c.self.view_is
     (record {
       text = closing_line c.self.inside.controller.planned c.self.inside.controller.cell;
       is_text = rest_closes (record { control = c.self.inside.controller; log = c.self.inside.log }) c.self.invariant;
-      wrote = c.put_closing_line.ensures.wrote;
-      unfailed = c.put_closing_line.ensures.unfailed;
+      wrote = c.put_closing.ensures.wrote;
+      unfailed = c.put_closing.ensures.unfailed;
     })

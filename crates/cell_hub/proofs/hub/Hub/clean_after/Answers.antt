@@ -10,7 +10,7 @@ returns-in-Err-clause-possible g c =
     let v = c.in-Some.cell.now in
     let control = c.verified-plan.ensures.control in
     not_cleaned (cell_at c.args.self.now c.args.ticket) v (sym c.in-Some.ensures.cell) c.args.machine c.args.job c.args.at
-    (clean_reason-cannot v.plan.planned v.cell c.args.machine c.args.job c.args.at control.verified.schedule.shaped control.sound c.in-Err.reason c.in-Err.ensures.first_reason)
+    (clean_reason-cannot v.planned v.cell c.args.machine c.args.job c.args.at control.ranks.shaped control.sound c.in-Err.reason c.in-Err.ensures.first_reason)
 
 pub returns-clause-possible : goal.returns-clause-possible
 returns-clause-possible g c =

@@ -23,7 +23,7 @@ pub returns-clause-only_reason : goal.returns-clause-only_reason
 returns-clause-only_reason g c = report_only c.args.self.now _ c.args.ticket c.args.report c.report_in.result (called g c)
 
 pub returns-clause-possible : goal.returns-clause-possible
-returns-clause-possible g c = subst (λ (h : HubState). IfSome (cell_at h c.args.ticket) (λ x. IsOk c.report_in.result ↔ CanReport x.plan.planned x.cell c.args.report)) c.self.view_is (c.report_in.ensures.possible c.self.inside.next_serial)
+returns-clause-possible g c = subst (λ (h : HubState). IfSome (cell_at h c.args.ticket) (λ x. IsOk c.report_in.result ↔ CanReport x.planned x.cell c.args.report)) c.self.view_is (c.report_in.ensures.possible c.self.inside.next_serial)
 
 pub returns-clause-never_refused : goal.returns-clause-never_refused
 returns-clause-never_refused g c = subst (λ (h : HubState). IfSome (cell_at h c.args.ticket) (λ x. EndsNow x c.args.report → IsOk c.report_in.result)) c.self.view_is (c.report_in.ensures.never_refused c.self.inside.next_serial)

@@ -1,0 +1,276 @@
+ghost use Rattle.std.specs.Prelude.{◌≡◌, ◌<◌, ◌≤◌, ◌↔◌, false, [], List, OnOk, IfOk, IfErr, IsOk, IsTrue, MatchOption};
+ghost use Rattle.shop_base.specs.Plan.{jobs};
+ghost use Rattle.shop_base.specs.Report.{CanReport};
+ghost use Rattle.shop_base.specs.Run.{Event, IsAtRest};
+ghost use Rattle.shop_base.specs.Ends.{HasEnded};
+ghost use Rattle.shop_base.specs.ReportsLeft.{reports_left};
+ghost use Rattle.shop_base.specs.Graph.{leaving};
+ghost use Rattle.alt_graph.specs.Times.{earliest_of};
+ghost use Rattle.cell_tables.specs.Readings.{IsCleanedFor};
+ghost use Rattle.cell_control.specs.Control.{IsAnswered, IfEndsNow, IsControl};
+ghost use Rattle.cell_control.specs.Fields.{begun_with, IsRoomFor};
+ghost use Rattle.cell_control.specs.Reports.{IsFirstReason, IsOnlyReason, CanCleanAfter, IsFirstCleanReason, IsOnlyCleanReason};
+ghost use Rattle.cell_control.specs.Promises.{IsCalled};
+ghost use Rattle.cell_control.specs.Readings.{IsPhaseOf, IsJobOn, IsDueOf, IsDueOfCleaning, IsOnTime};
+
+use crate::ack::Ack;
+use crate::checking::{check_cleaning_after, check_report};
+use crate::counting::count_left;
+use crate::due_moments::cleaning_key;
+use crate::dues::Dues;
+use crate::noting::note_all;
+use crate::phase::Phase;
+use crate::readings::phase_of;
+use crate::releasing::Orders;
+use crate::report_fault::ReportFault;
+use crate::room::Room;
+use crate::step::{is_past_due, make_step, still_punctual};
+use crate::timed::Timed;
+use cell_tables::WorkCell;
+use plan_verifier::leave_time;
+use shop_base::{JobNo, MachineNo, Moment, MoveOrder, Report, Shaped};
+use std::marker::Model;
+
+/// Runs a cell by a plan without a cycle, from any cell on: it gets reports of what has ended, and orders the moves that then
+/// keep the plan.
+///
+/// It keeps the ranks of the plan, and a moment for each node that was ahead where it began, the earliest. After each
+/// report the cell is at rest, and until the run has ended something goes on that can be reported; so the cell never
+/// locks, whatever ends first. While no report is late each job is out by the moment kept for it.
+///
+/// A [`crate::Controller`] has an accepted plan, and began with it; a [`crate::RestController`] began in mid-run, or was
+/// handed over. None of the calls here takes memory.
+#[derive(Debug, Drop)]
+pub struct Core<P: Timed, D: Dues> {
+    pub(crate) cell: WorkCell<P>,
+    pub(crate) dues: D,
+    pub(crate) orders: Orders,
+    pub(crate) left: u64,
+    pub(crate) began: Moment,
+    pub(crate) punctual: bool,
+}
+
+impl<P: Timed, D: Dues> Model for Core<P, D> {
+    ghost use Rattle.cell_control.specs.Control.{Control};
+    ghost use Rattle.cell_control.specs.Fields.{control_of, AreFieldsOf};
+
+    ghost Value = { Control };
+
+    ghost view = { λ c. control_of c.cell (P.times c.cell.basis) c.orders.items c.left c.began c.punctual };
+
+    ghost invariant = { λ c.
+        AreFieldsOf (control_of c.cell (P.times c.cell.basis) c.orders.items c.left c.began c.punctual) (D.dues c.dues) c.orders.capacity };
+}
+
+impl<P: Timed, D: Dues> Core<P, D> {
+    /// The controller of a cell at rest, from this moment on, after these orders.
+    pub(crate) fn begin_at_rest(cell: WorkCell<P>, room: Room<D>, began: Moment) -> Core<P, D>
+        requires room { IsRoomFor cell.plan (D.dues room.dues) room.orders.capacity }
+        requires control { IsControl (begun_with cell (P.times cell.basis) room.orders.items began) }
+        ensures { result ≡ begun_with cell (P.times cell.basis) room.orders.items began }
+    {
+        let Room { mut dues, orders } = room;
+        note_all(&cell, &mut dues);
+        let left = count_left(&cell);
+        Core {
+            cell,
+            dues,
+            orders,
+            left,
+            began,
+            punctual: true,
+        }
+    }
+
+    /// Takes a report. If it is possible, its activity has ended, and the moves are made that then keep
+    /// the plan, until no further one can be made: they are in [`Core::orders`]. If it isn't
+    /// possible, the call returns the first reason, which is unique, and nothing changes.
+    pub fn report(&mut self, report: Report) -> Result<Ack, ReportFault>
+        ensures possible { IsOk result ↔ CanReport self.old.planned self.old.cell report }
+        ensures answered { IfOk result (λ ack. IsAnswered self.old report ack self.new) }
+        ensures first_reason { IfErr result (IsFirstReason self.old.planned self.old.cell report) }
+        ensures only_reason { IfErr result (IsOnlyReason self.old.planned self.old.cell report) }
+        ensures unchanged { IfErr result (λ fault. self.new ≡ self.old) }
+        ensures called { (es : List Event) × IsCalled self.old report es self.new }
+        ensures never_refused { IfEndsNow self.old report (IsOk result) }
+    {
+        check_report(&self.cell, report)?;
+        let ack = make_step(&mut self.cell, &mut self.dues, &mut self.orders, report);
+        self.left -= 1;
+        self.punctual = still_punctual(self.punctual, ack, report.at(), self.began);
+        Ok(ack)
+    }
+
+    /// Whether a report is possible, or the first reason for which it isn't. Nothing changes.
+    pub fn check(&self, report: Report) -> Result<(), ReportFault>
+        ensures possible { OnOk result (CanReport self.now.planned self.now.cell report) }
+        ensures first_reason { IfErr result (IsFirstReason self.now.planned self.now.cell report) }
+    {
+        let cell = &self.cell;
+        check_report(cell, report)
+    }
+
+    /// Whether the report of a cleaning after this job is possible, or the first reason for which it isn't. Nothing changes.
+    pub fn check_clean_after(
+        &self,
+        machine: MachineNo,
+        job: JobNo,
+        at: Moment,
+    ) -> Result<(), ReportFault>
+        ensures possible { OnOk result (CanCleanAfter self.now.planned self.now.cell machine job at) }
+        ensures first_reason { IfErr result (IsFirstCleanReason self.now.planned self.now.cell machine job at) }
+    {
+        check_cleaning_after(&self.cell, machine, job, at)
+    }
+
+    /// Takes the report that the machine has been cleaned after this job, as [`Core::report`] takes the report of
+    /// a cleaning. It is expected only while the machine is being cleaned after just that job. So none is accepted
+    /// twice in a run, at whatever moments.
+    pub fn clean_after(
+        &mut self,
+        machine: MachineNo,
+        job: JobNo,
+        at: Moment,
+    ) -> Result<Ack, ReportFault>
+        ensures possible { IsOk result ↔ CanCleanAfter self.old.planned self.old.cell machine job at }
+        ensures answered { IfOk result (λ ack. IsAnswered self.old (Report.Clean machine at) ack self.new) }
+        ensures first_reason { IfErr result (IsFirstCleanReason self.old.planned self.old.cell machine job at) }
+        ensures only_reason { IfErr result (IsOnlyCleanReason self.old.planned self.old.cell machine job at) }
+        ensures unchanged { IfErr result (λ fault. self.new ≡ self.old) }
+    {
+        // Called for its clause alone: the cell is sound.
+        let _plan = self.shaped();
+        self.check_clean_after(machine, job, at)?;
+        self.report(Report::Clean { machine, at })
+    }
+
+    /// The moves that it ordered last, in the order in which they are made: those that the last accepted report has released,
+    /// or else those at its beginning.
+    pub fn orders(&self) -> &[MoveOrder]
+        ensures { result.now ≡ self.now.orders }
+    {
+        self.orders.as_slice()
+    }
+
+    /// The cell, for its own readers, and for the verdict on what is left of the run.
+    pub fn work_cell(&self) -> &WorkCell<P>
+        ensures plan { result.now.plan ≡ self.now.planned }
+        ensures cell { result.now.cell ≡ self.now.cell }
+    {
+        &self.cell
+    }
+
+    /// Where the job is; `None` for a number that is no job's.
+    pub fn phase(&self, job: JobNo) -> Option<Phase>
+        ensures { IsPhaseOf self.now.planned self.now.cell job result }
+    {
+        if job < self.cell.job_count() {
+            Some(phase_of(&self.cell, job))
+        } else {
+            None
+        }
+    }
+
+    /// The job that is on the machine, if one is; `None` for a number that is no machine's.
+    pub fn holder(&self, machine: MachineNo) -> Option<JobNo>
+        ensures { IsJobOn self.now.planned self.now.cell machine result }
+    {
+        if machine < self.cell.machine_count() {
+            self.cell.holder(machine)
+        } else {
+            None
+        }
+    }
+
+    /// When the job's activity is due; `None` if it has none, since it is ready or gone or no job.
+    pub fn due(&self, job: JobNo) -> Option<Moment>
+        ensures { IsDueOf self.now.planned self.now.cell job result }
+    {
+        if job < self.cell.job_count() {
+            self.dues.get(job)
+        } else {
+            None
+        }
+    }
+
+    /// When the machine's cleaning is due; `None` if it isn't being cleaned.
+    pub fn clean_due(&self, machine: MachineNo) -> Option<Moment>
+        ensures { IsDueOfCleaning self.now.planned self.now.cell machine result }
+    {
+        if machine < self.cell.machine_count() {
+            self.dues.get(cleaning_key(&self.cell, machine))
+        } else {
+            None
+        }
+    }
+
+    /// The job after which the machine is being cleaned, the last that was on it; `None` if it isn't being cleaned.
+    pub fn cleaned_after(&self, machine: MachineNo) -> Option<JobNo>
+        ensures { IsCleanedFor self.now.planned self.now.cell machine result }
+    {
+        if machine < self.cell.machine_count() {
+            self.cell.cleaned_after(machine)
+        } else {
+            None
+        }
+    }
+
+    /// Whether something that is going on should have ended before this moment, so that any report would be late.
+    pub fn is_late(&self, at: Moment) -> bool
+        ensures { (result ≡ false) ↔ IsOnTime self.now.planned self.now.cell at }
+    {
+        is_past_due(&self.dues, at)
+    }
+
+    /// The moment of the last event, 0 before the first.
+    pub fn now(&self) -> Moment
+        ensures { result ≡ self.now.cell.last }
+    {
+        self.cell.last()
+    }
+
+    /// Whether no report was late since it began, but that what was overdue then has ended then.
+    pub fn punctual(&self) -> bool
+        ensures { result ≡ self.now.punctual }
+    {
+        self.punctual
+    }
+
+    /// The moment kept for the job's leaving: while no report is late it is out by then. Of a job that was gone where the
+    /// controller began it is that at which it left. `None` for a number that is no job's.
+    pub fn leave_by(&self, job: JobNo) -> Option<Moment>
+        ensures { let p = self.now.planned in
+            MatchOption result (jobs p ≤ job) (λ n. (job < jobs p) × (n ≡ earliest_of self.now.times (leaving p job))) }
+    {
+        if job < self.cell.job_count() {
+            Some(leave_time(&self.cell, self.cell.basis().times(), job))
+        } else {
+            None
+        }
+    }
+
+    /// How many reports are still to come: an arrival of each job, an end of each operation, and an end
+    /// of each cleaning.
+    pub fn reports_left(&self) -> u64
+        ensures kept { result ≡ self.now.left }
+        ensures left { result ≡ reports_left self.now.planned self.now.cell }
+        ensures ended { HasEnded self.now.planned self.now.cell ↔ (result ≡ 0) }
+    {
+        self.left
+    }
+
+    /// Whether the run has ended: all jobs are gone, and no machine is being cleaned.
+    pub fn is_done(&self) -> bool
+        ensures { IsTrue result ↔ HasEnded self.now.planned self.now.cell }
+    {
+        self.left == 0
+    }
+
+    /// The plan.
+    pub fn shaped(&self) -> &Shaped
+        ensures plan { result.now ≡ self.now.planned }
+        ensures control { IsControl self.now }
+    {
+        self.cell.shaped()
+    }
+}

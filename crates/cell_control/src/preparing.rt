@@ -1,0 +1,72 @@
+//! What is found and taken before anything of a cell is changed.
+
+ghost use Rattle.std.specs.Prelude.{◌≡◌, [], OnOk, IfOk, IfErr};
+ghost use Rattle.shop_base.specs.Report.{IsNextMoment};
+ghost use Rattle.plan_verifier.specs.Rest.{AreOrderedAhead};
+ghost use Rattle.cell_control.specs.Begun.{IsRestFault};
+ghost use Rattle.cell_control.specs.Fields.{IsRoomFor};
+
+use crate::dues::Dues;
+use crate::rest_fault::RestFault;
+use crate::room::{Room, take_room};
+use alt_graph::{Solved, Times};
+use cell_tables::WorkCell;
+use plan_verifier::solve_after;
+use shop_base::limits::MAX_MOMENT;
+use shop_base::{Moment, Planned};
+use std::alloc::Global;
+
+/// What a controller needs besides its cell: the ranks and the moments of the nodes ahead, and room for due moments and orders.
+#[derive(Drop)]
+pub(crate) struct Prepared<D: Dues> {
+    pub times: Times,
+    pub room: Room<D>,
+}
+
+/// Finds the ranks and the moments, and takes all memory.
+pub(crate) fn prepare<P: Planned, D: Dues>(
+    alloc: Global,
+    cell: &WorkCell<P>,
+    present: Moment,
+) -> Result<Prepared<D>, RestFault>
+    ensures moment { OnOk result (IsNextMoment cell.now.cell present) }
+    ensures ordered { IfOk result (λ new. AreOrderedAhead cell.now.plan cell.now.cell present new.times) }
+    ensures room { IfOk result (λ new. IsRoomFor cell.now.plan (D.dues new.room.dues) new.room.orders.capacity) }
+    ensures no_orders { IfOk result (λ new. new.room.orders.items ≡ []) }
+    ensures fault { IfErr result (IsRestFault cell.now.plan cell.now.cell present) }
+{
+    check_moment(cell, present)?;
+    let times = find_times(alloc, cell, present)?;
+    let room = take_room(alloc, cell)?;
+    Ok(Prepared { times, room })
+}
+
+/// Checks that the moment isn't past the latest, nor before the last one.
+fn check_moment<P: Planned>(cell: &WorkCell<P>, present: Moment) -> Result<(), RestFault>
+    ensures moment { OnOk result (IsNextMoment cell.now.cell present) }
+    ensures fault { IfErr result (IsRestFault cell.now.plan cell.now.cell present) }
+{
+    if present > MAX_MOMENT {
+        return Err(RestFault::MomentTooLarge);
+    }
+    if present < cell.last() {
+        return Err(RestFault::Backwards { last: cell.last() });
+    }
+    Ok(())
+}
+
+/// The ranks, and the earliest moments of what is ahead.
+fn find_times<P: Planned>(
+    alloc: Global,
+    cell: &WorkCell<P>,
+    present: Moment,
+) -> Result<Times, RestFault>
+    requires { IsNextMoment cell.now.cell present }
+    ensures ordered { IfOk result (AreOrderedAhead cell.now.plan cell.now.cell present) }
+    ensures fault { IfErr result (IsRestFault cell.now.plan cell.now.cell present) }
+{
+    match solve_after(alloc, cell, present)? {
+        Solved::Ordered(times) => Ok(times),
+        Solved::Cyclic(nodes) => Err(RestFault::Cycle(nodes)),
+    }
+}

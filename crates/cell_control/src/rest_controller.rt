@@ -1,0 +1,122 @@
+ghost use Rattle.std.specs.Prelude.{◌≡◌, [], OnOk, IfOk, IfErr};
+ghost use Rattle.shop_base.specs.Report.{IsNextMoment};
+ghost use Rattle.plan_verifier.specs.Rest.{AreOrderedAhead};
+ghost use Rattle.cell_control.specs.Begun.{IsBegun, IsRestFault};
+ghost use Rattle.cell_control.specs.Fields.{IsRoomFor};
+ghost use Rattle.cell_control.specs.HandedOver.{IsHandedOver, IsHandOverFault};
+
+use crate::controller::Controller;
+use crate::core_controller::Core;
+use crate::dues::Dues;
+use crate::handing::{Taken, take_over};
+use crate::preparing::{Prepared, prepare};
+use crate::rest_fault::RestFault;
+use crate::room::Room;
+use crate::settling::settle;
+use crate::timed::Held;
+use alt_graph::Times;
+use cell_tables::WorkCell;
+use shop_base::{Moment, Shaped};
+use std::alloc::Global;
+
+/// Runs the rest of a run by a plan without a cycle: a [`Core`] that was begun in mid-run or handed over, with its plan and the
+/// moments kept. No budgets are asked for.
+///
+/// Only [`RestController::begin`] and [`RestController::hand_over`] take memory.
+pub type RestController<D> = Core<Held, D>;
+
+/// The cell, with what is known of the nodes of its plan.
+fn hold(cell: WorkCell<Shaped>, times: Times) -> WorkCell<Held>
+    ensures plan { result.plan ≡ cell.plan }
+    ensures cell { result.cell ≡ cell.cell }
+    ensures times { result.basis.times ≡ times }
+{
+    let (shaped, tables) = cell.into_parts();
+    WorkCell::of_parts(Held { shaped, times }, tables)
+}
+
+impl<D: Dues> Core<Held, D> {
+    /// Begins with a cell in mid-run and a present moment, which isn't before the last one. All jobs that can move are
+    /// moved at that moment, always the first of them, until the cell is at rest: these moves are in
+    /// [`Core::orders`]. If the call is refused, the cell comes back as it was.
+    pub fn begin(
+        alloc: Global,
+        cell: WorkCell<Shaped>,
+        present: Moment,
+    ) -> Result<RestController<D>, (RestFault, WorkCell<Shaped>)>
+        ensures begun { IfOk result (IsBegun cell.plan cell.cell present) }
+        ensures fault { IfErr result (λ refused. IsRestFault cell.plan cell.cell present refused.0) }
+        ensures handed_back { IfErr result (λ refused. refused.1 ≡ cell) }
+    {
+        match prepare(alloc, &cell, present) {
+            Ok(prepared) => Ok(RestController::settled(cell, prepared, present)),
+            Err(fault) => Err((fault, cell)),
+        }
+    }
+
+    /// Settles the cell, and begins.
+    fn settled(cell: WorkCell<Shaped>, prepared: Prepared<D>, present: Moment) -> RestController<D>
+        requires moment { IsNextMoment cell.cell present }
+        requires ordered { AreOrderedAhead cell.plan cell.cell present prepared.times }
+        requires room { IsRoomFor cell.plan (D.dues prepared.room.dues) prepared.room.orders.capacity }
+        requires no_orders { prepared.room.orders.items ≡ [] }
+        ensures { IsBegun cell.plan cell.cell present result }
+    {
+        // Called for its clause alone: the cell is sound.
+        let _plan = cell.shaped();
+        let Prepared { times, room } = prepared;
+        let Room { dues, mut orders } = room;
+        let mut cell = hold(cell, times);
+        settle(&mut cell, &mut orders, present);
+        Core::begin_at_rest(cell, Room { dues, orders }, present)
+    }
+
+    /// A controller of an accepted plan, from where it is. Takes no memory.
+    pub fn of(controller: Controller<D>) -> RestController<D>
+        ensures { result ≡ controller }
+    {
+        let Core {
+            cell,
+            dues,
+            orders,
+            left,
+            began,
+            punctual,
+        } = controller;
+        let (verified, tables) = cell.into_parts();
+        let (shaped, times) = verified.into_parts();
+        Core {
+            cell: WorkCell::of_parts(Held { shaped, times }, tables),
+            dues,
+            orders,
+            left,
+            began,
+            punctual,
+        }
+    }
+
+    /// Changes to another plan, of the same shop or of another one, at a moment that isn't before the last one. The
+    /// cell is as it was, as one of that plan, and settles as when a controller begins. The run so far has to keep the
+    /// plan, as far as the cell shows, and the plan must have no cycle; budgets aren't asked for. If the call is
+    /// refused, the controller is as it was, and the plan comes back.
+    pub fn hand_over(
+        &mut self,
+        alloc: Global,
+        shaped: Shaped,
+        present: Moment,
+    ) -> Result<(), (RestFault, Shaped)>
+        ensures handed_over { OnOk result (IsHandedOver self.old shaped present self.new) }
+        ensures fault { IfErr result (λ refused. IsHandOverFault self.old.planned self.old.cell shaped present refused.0) }
+        ensures unchanged { IfErr result (λ refused. self.new ≡ self.old) }
+        ensures handed_back { IfErr result (λ refused. refused.1 ≡ shaped) }
+    {
+        match take_over(alloc, &self.cell, shaped, present) {
+            Ok(taken) => {
+                let Taken { cell, prepared } = taken;
+                *self = RestController::settled(cell, prepared, present);
+                Ok(())
+            }
+            Err(refused) => Err(refused),
+        }
+    }
+}

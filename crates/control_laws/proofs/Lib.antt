@@ -1,0 +1,4 @@
+pub mod KeptBefore
+pub mod KeptRuns
+pub mod KeptByBoth
+pub mod HandOverLaws

@@ -1,5 +1,0 @@
-use Rattle.rest_control.proofs.HandOverLaws.{a_handed_over_run_is_one_run}
-use Rattle.rest_control.proofs.laws.a_handed_over_run_is_one_run.Goals as goal
-
-pub returns : goal.returns
-returns c = a_handed_over_run_is_one_run

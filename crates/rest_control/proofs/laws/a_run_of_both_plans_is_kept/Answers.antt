@@ -1,5 +1,0 @@
-use Rattle.rest_control.proofs.KeptByBoth.{a_run_of_both_plans_is_kept}
-use Rattle.rest_control.proofs.laws.a_run_of_both_plans_is_kept.Goals as goal
-
-pub returns : goal.returns
-returns c = a_run_of_both_plans_is_kept
