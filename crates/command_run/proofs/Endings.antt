@@ -40,17 +40,17 @@ use Rattle.command_answers.specs.Texts.{Asks}
 use Rattle.command_answers.specs.declared.pictures.Drawn.{Drawn}
 use Rattle.command_answers.specs.declared.pictures.Drawn.TheVariants.{Picture, Line as LineDrawn}
 use Rattle.command_answers.specs.Commands.{Loads, Shapes}
-use Rattle.command_answers.specs.Pictures.{DrawsLog, DrawsSchedule}
+use Rattle.command_answers.specs.Pictures.{DrawsLog}
 use Rattle.command_answers.specs.Cells.{LoadsCells}
 use Rattle.command_run.specs.Streams.{Streams, Output, Errors, Devices}
-use Rattle.command_run.specs.Pictures.{Draws, IsPictureOut, RunsTimetable, RunsDrawing}
+use Rattle.command_run.specs.Pictures.{Draws, DrawsTimetable, IsPictureOut, RunsTimetable, RunsDrawing}
 use Rattle.command_run.specs.Drives.{Drives, DrivesBy, is_plain}
 use Rattle.command_run.specs.Resumes.{IsTaking, ResumesTaken, ResumesText, Resumes}
 use Rattle.command_run.specs.Hubs.{DriveBy, DrivesAll}
-use Rattle.command_run.specs.Ending.{Ends, IsPrinted, IsTold, IsToldAfter, IsOfText, IsLineOut}
+use Rattle.command_run.specs.Ending.{Ends, EndsBy, EndsAside, IsPrinted, IsTold, IsToldAfter, IsOfText, IsLineOut, WasTold}
 use Rattle.command_run.specs.Logs.{LogEnd, step_of}
-use Rattle.command_run.specs.Program.{AreWordsRead, RunsCommand, RunsChosen, Follows, file_at, kept_log_in, log_in, manner_in, name_in, pair_in, plans_in}
-use Rattle.command_run.specs.Laws.{IsOutcomeOfWords, IsFailureOf, EndsAsTold, HoldsNothing, WereDriven, WereRefused, IsUnanswered, Ran, WroteNoMore}
+use Rattle.command_run.specs.Program.{AreWordsRead, RunsCommand, RunsChosen, Follows, draws_in, file_at, kept_log_in, log_in, manner_in, name_in, pair_in, plans_in}
+use Rattle.command_run.specs.Laws.{IsOutcomeOfWords, IsFailureOf, EndsAsTold, HoldsNothing, WereDriven, WereRefused, IsUnanswered, Ran, RanCommand, WroteNoMore}
 use Rattle.command_run.proofs.LowStatuses.{IsLow, low}
 use Rattle.command_run.proofs.Keepers.{keeper}
 use Rattle.command_run.proofs.LoggedEndings.{logged_shown, logged_written, low_logged}
@@ -100,6 +100,23 @@ outcome_ends (Ok answer) output_before output_after before after status low ends
     printed_ends answer ends.printed output_before output_after before after status low ends.is ends.told
 outcome_ends (Err fault) output_before output_after before after status low ends = inl (fault_ends fault output_after before after status ends.1)
 
+-- the same where a picture is asked for: what is answered in its place was told
+abbrev EndsWellBy : Bool → Result Answer CommandFault → Output → Errors → Errors → ℕ → Type 0
+EndsWellBy drawing outcome output before after status =
+    EndsWell outcome output before after status
+    ⊎ ((status ≤ 1) × ((answer : Answer) × (outcome ≡ Ok answer) × (drawing ≡ true) × WasTold answer.text.items before after × (status ≡ answer.status)))
+
+aside_ends : (outcome : Result Answer CommandFault) (output_before output_after : Output) (before after : Errors) (status : ℕ) → IsLow outcome
+    → EndsAside outcome output_before output_after before after status → EndsWellBy true outcome output_after before after status
+aside_ends (Ok answer) output_before output_after before after status low ends =
+    inr (subst (λ n. n ≤ 1) (sym ends.2) low, (answer, refl, refl, ends.1, ends.2))
+aside_ends (Err fault) output_before output_after before after status low ends = inl (inl (fault_ends fault output_after before after status ends.1))
+
+by_ends : (drawing : Bool) (outcome : Result Answer CommandFault) (output_before output_after : Output) (before after : Errors) (status : ℕ) → IsLow outcome
+    → EndsBy drawing outcome output_before output_after before after status → EndsWellBy drawing outcome output_after before after status
+by_ends true outcome output_before output_after before after status low ends = aside_ends outcome output_before output_after before after status low ends
+by_ends false outcome output_before output_after before after status low ends = inl (outcome_ends outcome output_before output_after before after status low ends)
+
 -- ---- what is written
 
 module _ {W : Type 0} (gives : W → List ℕ → Result (List ℕ) CommandFault → W → Type 0) (chosen : Chosen) (texts : W) (before after : Streams) where
@@ -138,19 +155,19 @@ module _ {W : Type 0} (gives : W → List ℕ → Result (List ℕ) CommandFault
   resumes_written (Ok (Err fault)) mid later outcome shapes is = kept Resume is.1
   resumes_written (Ok (Ok p)) mid later outcome shapes is = text_written p mid shapes later outcome is.text is.asks is.resumes
 
-  schedule_drawn : (drawn : Result Drawn CommandFault) (later : W) (outcome : Result Answer CommandFault) → DrawsSchedule gives (pair_in chosen) texts drawn later
+  schedule_drawn : (drawn : Result Drawn CommandFault) (later : W) (outcome : Result Answer CommandFault) → DrawsTimetable gives chosen.at (pair_in chosen) (log_in chosen) texts drawn later
       → Draws drawn before after outcome → WereDriven gives Schedule chosen texts before after
   schedule_drawn (Err fault) later outcome came is = kept Schedule is.1
   schedule_drawn (Ok (LineDrawn answer)) later outcome came is = kept Schedule is.1
-  schedule_drawn (Ok (Picture picture)) later outcome came is =
-      inr (inr (inr (inr (inl (refl, record { picture = picture; later = later; came = came; outcome = outcome; out = is.1 })))))
+  schedule_drawn (Ok (Picture picture status)) later outcome came is =
+      inr (inr (inr (inr (inl (refl, record { picture = picture; status = status; later = later; came = came; outcome = outcome; out = is.1 })))))
 
   log_drawn : (drawn : Result Drawn CommandFault) (later : W) (outcome : Result Answer CommandFault) → DrawsLog gives (pair_in chosen) (file_at chosen 2) texts drawn later
       → Draws drawn before after outcome → WereDriven gives Gantt chosen texts before after
   log_drawn (Err fault) later outcome came is = kept Gantt is.1
   log_drawn (Ok (LineDrawn answer)) later outcome came is = kept Gantt is.1
-  log_drawn (Ok (Picture picture)) later outcome came is =
-      inr (inr (inr (inr (inr (refl, record { picture = picture; later = later; came = came; outcome = outcome; out = is.1 })))))
+  log_drawn (Ok (Picture picture status)) later outcome came is =
+      inr (inr (inr (inr (inr (refl, record { picture = picture; status = status; later = later; came = came; outcome = outcome; out = is.1 })))))
 
   timetable_written : (svg : Bool) (later : W) (outcome : Result Answer CommandFault) → RunsTimetable gives svg chosen.at (pair_in chosen) (log_in chosen) texts before outcome later after
       → WereDriven gives Schedule chosen texts before after
@@ -218,9 +235,9 @@ hub_shown : (plain : Bool) (manner : Manner) (cells : List VerifiedPlan) (before
 hub_shown true manner cells before after end is none = streamed_from_shown CellsAnswer (CellsClose 0) (hub_start cells) is.end before after end is.streamed none
 hub_shown false manner cells before after end is none = streamed_from_shown StatedHubAnswer StatedHubCloses (stated_hub_start manner cells) is.end before after end is.streamed none
 
-picture_shown : (picture : List ℕ) (before after : Output) (outcome : Result Answer CommandFault) → IsPictureOut picture before after outcome → HoldsNothing after
-picture_shown picture before after (Ok answer) out = inl out.4
-picture_shown picture before after (Err fault) out = inr out.2
+picture_shown : (picture : List ℕ) (status : ℕ) (before after : Output) (outcome : Result Answer CommandFault) → IsPictureOut picture status before after outcome → HoldsNothing after
+picture_shown picture status before after (Ok answer) out = inl out.4
+picture_shown picture status before after (Err fault) out = inr out.2
 
 driven_shown : {W : Type 0} (gives : W → List ℕ → Result (List ℕ) CommandFault → W → Type 0) (chosen : Chosen) (texts : W) (before after : Streams) (name : CommandName)
     → WereDriven gives name chosen texts before after → before.output.pending ≡ [] → HoldsNothing after.output
@@ -231,8 +248,8 @@ driven_shown gives chosen texts before after name (inr (inl (is, inl drove))) no
 driven_shown gives chosen texts before after name (inr (inr (inl (is, drove)))) none = resume_shown (is_plain (manner_in chosen)) (manner_in chosen) drove.taken before after drove.end drove.is none
 driven_shown gives chosen texts before after name (inr (inr (inr (inl (is, drove))))) none =
     hub_shown (is_plain (manner_in chosen)) (manner_in chosen) drove.cells before after drove.end drove.are none
-driven_shown gives chosen texts before after name (inr (inr (inr (inr (inl (is, drew)))))) none = picture_shown drew.picture before.output after.output drew.outcome drew.out
-driven_shown gives chosen texts before after name (inr (inr (inr (inr (inr (is, drew)))))) none = picture_shown drew.picture before.output after.output drew.outcome drew.out
+driven_shown gives chosen texts before after name (inr (inr (inr (inr (inl (is, drew)))))) none = picture_shown drew.picture drew.status before.output after.output drew.outcome drew.out
+driven_shown gives chosen texts before after name (inr (inr (inr (inr (inr (is, drew)))))) none = picture_shown drew.picture drew.status before.output after.output drew.outcome drew.out
 
 printed_shown : (answer : Answer) (printed : Result ℕ CommandFault) (before after : Output) → IsPrinted answer before after printed → HoldsNothing after
 printed_shown answer (Ok status) before after is = inl is.3
@@ -242,6 +259,12 @@ ended_shown : (outcome : Result Answer CommandFault) (before after : Output) (to
     → Ends outcome before after told_before told_after status → HoldsNothing after
 ended_shown (Ok answer) before after told_before told_after status shown ends = printed_shown answer ends.printed before after ends.is
 ended_shown (Err fault) before after told_before told_after status shown ends = subst HoldsNothing (sym ends.0) shown
+
+aside_shown : (drawing : Bool) (outcome : Result Answer CommandFault) (before after : Output) (told_before told_after : Errors) (status : ℕ) → HoldsNothing before
+    → EndsBy drawing outcome before after told_before told_after status → HoldsNothing after
+aside_shown false outcome before after told_before told_after status shown ends = ended_shown outcome before after told_before told_after status shown ends
+aside_shown true (Ok answer) before after told_before told_after status shown ends = subst HoldsNothing (sym ends.0) shown
+aside_shown true (Err fault) before after told_before told_after status shown ends = subst HoldsNothing (sym ends.0) shown
 
 -- ---- what isn't answered
 
@@ -255,6 +278,12 @@ ended_no_more : (outcome : Result Answer CommandFault) (before after : Output) (
 ended_no_more (Ok answer) before after told_before told_after status low high ends =
     printed_no_more answer ends.printed before after told_before told_after status low high ends.is ends.told
 ended_no_more (Err fault) before after told_before told_after status low high ends = ends.0
+
+aside_no_more : (drawing : Bool) (outcome : Result Answer CommandFault) (before after : Output) (told_before told_after : Errors) (status : ℕ) → IsLow outcome → 2 ≤ status
+    → EndsBy drawing outcome before after told_before told_after status → IsUnanswered outcome before after
+aside_no_more false outcome before after told_before told_after status low high ends = ended_no_more outcome before after told_before told_after status low high ends
+aside_no_more true (Ok answer) before after told_before told_after status low high ends = absurd (omega (arith, low, high, ends.2))
+aside_no_more true (Err fault) before after told_before told_after status low high ends = ends.0
 
 -- ---- each run of the program
 
@@ -289,12 +318,29 @@ module _ {W : Type 0} (gives : W → List ℕ → Result (List ℕ) CommandFault
       → EndsWell outcome after.streams.output before.errors after.errors status → EndsAsTold gives words before status after end
   ends_told outcome mid ran (inl failure) =
       inl (failure.high, inr (record { outcome = outcome; mid = mid; ran = ran; fault = failure.fault; failed = failure.failed; told = failure.told }))
-  ends_told outcome mid ran (inr good) = inr good
+  ends_told outcome mid ran (inr good) = inr (good.0, inl good.1)
+
+  -- of a command
+  command_told : (chosen : Chosen) (taken : reasons_in words ≡ []) (is : IsChoiceOf (found_in words) chosen) (outcome : Result Answer CommandFault) (mid : Streams)
+      → RunsChosen gives (kept_log_in chosen) chosen before outcome mid after end
+      → EndsWellBy (draws_in chosen) outcome after.streams.output before.errors after.errors status → EndsAsTold gives words before status after end
+  command_told chosen taken is outcome mid runs (inl well) = ends_told outcome mid (ran chosen taken is outcome mid runs) well
+  command_told chosen taken is outcome mid runs (inr (low, (answer, same, draws, told, own))) =
+      let run : RunsChosen gives (kept_log_in chosen) chosen before (Ok answer) mid after end =
+      subst (λ (o : Result Answer CommandFault). RunsChosen gives (kept_log_in chosen) chosen before o mid after end) same runs in
+      let here : RanCommand gives words before (Ok answer) mid after end = record {
+        chosen = chosen;
+        taken = taken;
+        is = is;
+        runs = run;
+        driven = chosen_written gives chosen before after (Ok answer) mid end (kept_log_in chosen) refl run;
+      } in
+      inr (low, inr (record { answer = answer; mid = mid; ran = here; draws = draws; told = told; own = own }))
 
   pub follows_ends : (read : Result Chosen WordsFault) → AreWordsRead words read → Follows gives read before status after end → EndsAsTold gives words before status after end
   follows_ends (Ok chosen) are is =
-      ends_told is.outcome is.mid (ran chosen are.taken are.chosen is.outcome is.mid is.runs)
-      (outcome_ends is.outcome is.mid.output after.streams.output before.errors after.errors status (chosen_low gives chosen before after is.outcome is.mid end (kept_log_in chosen) is.runs) is.ends)
+      command_told chosen are.taken are.chosen is.outcome is.mid is.runs
+      (by_ends (draws_in chosen) is.outcome is.mid.output after.streams.output before.errors after.errors status (chosen_low gives chosen before after is.outcome is.mid end (kept_log_in chosen) is.runs) is.ends)
   follows_ends (Err (Usage true text)) are is =
       ends_told (Ok is.help) before.streams (chose_none (Usage true text) are.refused (Ok is.help) (is.help, refl, is.text_is.0))
       (outcome_ends (Ok is.help) before.streams.output after.streams.output before.errors after.errors status (omega (arith, is.text_is.1)) is.ends)
@@ -306,7 +352,7 @@ module _ {W : Type 0} (gives : W → List ℕ → Result (List ℕ) CommandFault
 
   pub follows_shown : (read : Result Chosen WordsFault) → before.streams.output.pending ≡ [] → Follows gives read before status after end → HoldsNothing after.streams.output
   follows_shown (Ok chosen) none is =
-      ended_shown is.outcome is.mid.output after.streams.output before.errors after.errors status
+      aside_shown (draws_in chosen) is.outcome is.mid.output after.streams.output before.errors after.errors status
       (driven_shown gives chosen before.texts before.streams is.mid chosen.name (chosen_written gives chosen before after is.outcome is.mid end (kept_log_in chosen) refl is.runs) none) is.ends
   follows_shown (Err (Usage true text)) none is = printed_shown is.help is.ends.printed before.streams.output after.streams.output is.ends.is
   follows_shown (Err (Usage false text)) none is = inl (ap (λ (s : Streams). s.output.pending) is.3 ∙ none)
@@ -319,7 +365,7 @@ module _ {W : Type 0} (gives : W → List ℕ → Result (List ℕ) CommandFault
         outcome = is.outcome;
         mid = is.mid;
         ran = ran chosen are.taken are.chosen is.outcome is.mid is.runs;
-        unanswered = ended_no_more is.outcome is.mid.output after.streams.output before.errors after.errors status
+        unanswered = aside_no_more (draws_in chosen) is.outcome is.mid.output after.streams.output before.errors after.errors status
             (chosen_low gives chosen before after is.outcome is.mid end (kept_log_in chosen) is.runs) high is.ends;
       })
   follows_no_more (Err (Usage true text)) are high is =

@@ -1,10 +1,14 @@
 -- Which commands keep a log of their own.
-use Rattle.std.proofs.Common.{◌≡◌, ◌<◌, ℕ, List, Option, Some, length, option_map, string_bytes, subst, arith, refl}
+use Rattle.std.proofs.Common.{◌≡◌, ◌<◌, ℕ, List, Option, Some, length, option_map, string_bytes, Result, subst, sym, arith, refl}
 use Rattle.command_words.specs.Choice.{IsWithin, TakesFiles}
 use Rattle.command_words.specs.declared.words.Chosen.{Chosen}
 use Rattle.command_words.specs.declared.words.CommandName.{CommandName}
 use Rattle.command_words.specs.declared.words.CommandName.TheVariants.{Input as NoWords, Facts, Shape, Check, Explain, Schedule, Bounds, Plan as Search, Improve, Decide, Drive, Resume, Hub, Audit, Gantt}
-use Rattle.command_run.specs.Program.{keeps_log, kept_log_in, log_kept_by}
+use Rattle.command_answers.specs.declared.answer.Answer.{Answer}
+use Rattle.command_answers.specs.declared.command_fault.CommandFault.{CommandFault}
+use Rattle.command_run.specs.Streams.{Output, Errors}
+use Rattle.command_run.specs.Ending.{Ends, EndsBy}
+use Rattle.command_run.specs.Program.{draws, draws_in, keeps_log, kept_log_in, log_kept_by}
 
 -- only `drive` keeps a log
 pub keeper : (name : CommandName) (log : Option (List ℕ)) (path : List ℕ) → log_kept_by (keeps_log name) log ≡ Some path → name ≡ Drive
@@ -30,3 +34,9 @@ keepers_files chosen path within keeps =
     let two : length chosen.files.items ≡ 2 =
     subst (λ (name : CommandName). TakesFiles name (length chosen.files.items)) (keeper chosen.name (option_map string_bytes chosen.log) path keeps) within.files in
     omega (arith, two)
+
+-- and which draws nothing
+pub kept_ends : (chosen : Chosen) (path : List ℕ) (outcome : Result Answer CommandFault) (before after : Output) (told_before told_after : Errors) (status : ℕ) → kept_log_in chosen ≡ Some path
+    → Ends outcome before after told_before told_after status → EndsBy (draws_in chosen) outcome before after told_before told_after status
+kept_ends chosen path outcome before after told_before told_after status keeps ends =
+    subst (λ (name : CommandName). EndsBy (draws name chosen.svg) outcome before after told_before told_after status) (sym (keeper chosen.name (option_map string_bytes chosen.log) path keeps)) ends

@@ -3,6 +3,12 @@ use Rattle.std.proofs.Common.{◌≡◌, ℕ, ◌≤◌, List, [], ◌∷◌, Bo
 use Rattle.plan_verifier.specs.Accepted.{VerifiedPlan}
 use Rattle.plan_verifier.specs.declared.verdict.Verdict.{Verdict}
 use Rattle.plan_verifier.specs.declared.verdict.Verdict.TheVariants.{Accepted, Refused}
+use Rattle.plan_verifier.specs.declared.verdict.Judged.{Judged as JudgedRest}
+use Rattle.plan_verifier.specs.declared.verdict.Judged.TheVariants.{Accepted as InTime, Refused as NotInTime}
+use Rattle.plan_verifier.specs.declared.verdict.Why.TheVariants.{Cycle, Late}
+use Rattle.shop_base.specs.Cell.{Cell}
+use Rattle.cell_tables.specs.declared.entry.Entry.{Entry}
+use Rattle.run_picture.specs.declared.visit.DrawnVisit.{DrawnVisit}
 use Rattle.plan_seek.specs.Tasks.{PlanTask, task_in}
 use Rattle.plan_seek.specs.Turns.{PlanSearch}
 use Rattle.plan_seek.specs.declared.seek_fault.SeekFault.{SeekFault}
@@ -45,12 +51,12 @@ use Rattle.command_answers.specs.declared.rests.PlanTelling.TheVariants.{Verdict
 use Rattle.command_answers.specs.Rests.{IsPastLine, IsRestLine}
 use Rattle.command_answers.specs.declared.pictures.Drawn.{Drawn}
 use Rattle.command_answers.specs.declared.pictures.Drawn.TheVariants.{Picture, Line as LineDrawn}
-use Rattle.command_answers.specs.Pictures.{IsLogDrawn, IsPlanDrawn, IsUnshapedDrawn, WithDrawnLog, DrawsLog, DrawsSchedule}
+use Rattle.command_answers.specs.Pictures.{IsCellDrawn, IsLogDrawn, IsPlanDrawn, IsRestDrawing, IsRestDrawn, IsUnshapedDrawn, IsVerdictDrawn, WithDrawnLog, DrawsLog, DrawsRest, DrawsSchedule}
 use Rattle.command_answers.specs.Commands.{PairOfFiles, WithBoth, WithLog, WithRest}
 use Rattle.command_answers.specs.Cells.{IsCellLine, AfterPlan, LoadsEach}
 use Rattle.command_answers.proofs.RestAnswers.{low_rest}
 use Rattle.command_run.specs.Streams.{Streams, Output}
-use Rattle.command_run.specs.Pictures.{Draws, IsPictureOut, RunsTimetable, RunsDrawing}
+use Rattle.command_run.specs.Pictures.{Draws, DrawsTimetable, IsPictureOut, RunsTimetable, RunsDrawing}
 use Rattle.command_run.specs.Drives.{IsEnded, IsEndAnswer, Drives, status_at, end_of_drive}
 use Rattle.command_run.specs.Resumes.{IsUntakenTold, ResumesTaken, ResumesText, Resumes, end_of_rest}
 use Rattle.command_run.specs.Hubs.{DrivesAll, end_of_hub}
@@ -196,34 +202,61 @@ low_line_of (Judged verdict) answer is = low_verdict verdict answer.status is.1
 -- the line in place of a picture
 abbrev IsLowDrawn : Result Drawn CommandFault → Type 0
 IsLowDrawn (Ok (LineDrawn answer)) = answer.status ≤ 1
-IsLowDrawn (Ok (Picture picture)) = Unit {0}
+IsLowDrawn (Ok (Picture picture status)) = status ≤ 1
 IsLowDrawn (Err fault) = Unit {0}
 
 low_drawn_failed : (fault : CommandFault) → IsLowDrawn (Err fault)
 low_drawn_failed fault = tt
 
+low_verdict_drawn : (p : PlannedShop) (c : Cell) (t : ℕ) (line : Option ℕ) (told : List DrawnVisit) (verdict : JudgedRest) (drawn : Drawn) → IsVerdictDrawn p c t line told verdict drawn → IsLowDrawn (Ok drawn)
+low_verdict_drawn p c t line told (InTime times) (Picture picture status) is = zero_low status is.1
+low_verdict_drawn p c t line told (InTime times) (LineDrawn answer) none = absurd none
+low_verdict_drawn p c t line told (NotInTime (Late job leaves chain times)) (Picture picture status) is = one_low status is.1
+low_verdict_drawn p c t line told (NotInTime (Late job leaves chain times)) (LineDrawn answer) none = absurd none
+low_verdict_drawn p c t line told (NotInTime (Cycle nodes)) (Picture picture status) none = absurd none
+low_verdict_drawn p c t line told (NotInTime (Cycle nodes)) (LineDrawn answer) is = one_low answer.status is.1
+
+low_rest_drawn : (p : PlannedShop) (c : Cell) (t : ℕ) (line : Option ℕ) (told : List DrawnVisit) (drawn : Drawn) → IsRestDrawn p c t line told drawn → IsLowDrawn (Ok drawn)
+low_rest_drawn p c t line told drawn is = low_verdict_drawn p c t line told is.verdict drawn is.is
+
+low_cell_drawn : (at : Option ℕ) (p : PlannedShop) (c : Cell) (entries : List Entry) (drawn : Drawn) → IsCellDrawn at p c entries drawn → IsLowDrawn (Ok drawn)
+low_cell_drawn at p c entries (LineDrawn answer) (inl past) = one_low answer.status past.1.1
+low_cell_drawn at p c entries (Picture picture status) (inl past) = absurd past.1
+low_cell_drawn at p c entries drawn (inr rest) = low_rest_drawn p c _ _ _ drawn rest.1
+
+low_rest_drawing : (at : Option ℕ) (p : PlannedShop) (log : List ℕ) (drawn : Result Drawn CommandFault) → IsOrMemory (IsRestDrawing at p log) drawn → IsLowDrawn drawn
+low_rest_drawing at p log (Ok (LineDrawn answer)) (inl run) = low_cell_drawn at p _ _ (LineDrawn answer) run.is
+low_rest_drawing at p log (Ok (LineDrawn answer)) (inr refused) = one_low answer.status refused.line.1
+low_rest_drawing at p log (Ok (Picture picture status)) (inl run) = low_cell_drawn at p _ _ (Picture picture status) run.is
+low_rest_drawing at p log (Ok (Picture picture status)) (inr none) = absurd none
+low_rest_drawing at p log (Err fault) is = tt
+
 low_plan_drawn : (p : PlannedShop) (drawn : Result Drawn CommandFault) → IsOrMemory (IsPlanDrawn p) drawn → IsLowDrawn drawn
-low_plan_drawn p (Ok (LineDrawn answer)) is = one_low answer.status is.1
-low_plan_drawn p (Ok (Picture picture)) is = tt
+low_plan_drawn p (Ok (LineDrawn answer)) (inl rest) = low_rest_drawn p _ 0 None [] (LineDrawn answer) rest
+low_plan_drawn p (Ok (LineDrawn answer)) (inr not_shaped) = low_not_shaped p answer not_shaped
+low_plan_drawn p (Ok (Picture picture status)) (inl rest) = low_rest_drawn p _ 0 None [] (Picture picture status) rest
+low_plan_drawn p (Ok (Picture picture status)) (inr none) = absurd none
 low_plan_drawn p (Err fault) is = tt
 
 low_log_drawn : (p : PlannedShop) (log : List ℕ) (drawn : Result Drawn CommandFault) → IsOrMemory (IsLogDrawn p log) drawn → IsLowDrawn drawn
-low_log_drawn p log (Ok (LineDrawn answer)) is = one_low answer.status is.line.1
-low_log_drawn p log (Ok (Picture picture)) is = tt
+low_log_drawn p log (Ok (LineDrawn answer)) (inl none) = absurd none
+low_log_drawn p log (Ok (LineDrawn answer)) (inr refused) = one_low answer.status refused.line.1
+low_log_drawn p log (Ok (Picture picture status)) (inl is) = zero_low status is.1
+low_log_drawn p log (Ok (Picture picture status)) (inr none) = absurd none
 low_log_drawn p log (Err fault) is = tt
 
 low_unshaped_drawn : (p : PlannedShop) (drawn : Result Drawn CommandFault) → IsOrMemory (IsUnshapedDrawn p) drawn → IsLowDrawn drawn
 low_unshaped_drawn p (Ok (LineDrawn answer)) is = low_not_shaped p answer is
-low_unshaped_drawn p (Ok (Picture picture)) is = tt
+low_unshaped_drawn p (Ok (Picture picture status)) none = absurd none
 low_unshaped_drawn p (Err fault) is = tt
 
-low_picture : (picture : List ℕ) (before after : Output) (outcome : Result Answer CommandFault) → IsPictureOut picture before after outcome → IsLow outcome
-low_picture picture before after (Ok answer) is = zero_low answer.status is.1
-low_picture picture before after (Err fault) is = tt
+low_picture : (picture : List ℕ) (status : ℕ) (before after : Output) (outcome : Result Answer CommandFault) → status ≤ 1 → IsPictureOut picture status before after outcome → IsLow outcome
+low_picture picture status before after (Ok answer) low is = subst (λ n. n ≤ 1) (sym is.1) low
+low_picture picture status before after (Err fault) low is = tt
 
 low_draws : (drawn : Result Drawn CommandFault) (before after : Streams) (outcome : Result Answer CommandFault) → IsLowDrawn drawn → Draws drawn before after outcome → IsLow outcome
 low_draws (Ok (LineDrawn answer)) before after outcome low is = subst IsLow (sym is.0) low
-low_draws (Ok (Picture picture)) before after outcome low is = low_picture picture before.output after.output outcome is.1
+low_draws (Ok (Picture picture status)) before after outcome low is = low_picture picture status before.output after.output outcome low is.1
 low_draws (Err fault) before after outcome low is = subst IsLow (sym is.0) tt
 
 -- ---- driving
@@ -333,24 +366,34 @@ module _ {W : Type 0} (gives : W → List ℕ → Result (List ℕ) CommandFault
   low_telling Moments at pair None texts outcome after run =
       low_both pair (λ p. Told (IsOrMemory (IsTimetable p))) texts outcome after (λ p mid on. low_or (IsTimetable p) outcome (low_scheduled p) on.0) run
 
-  low_with_drawn_log : (log : List ℕ) (p : PlannedShop) (mid : W) (drawn : Result Drawn CommandFault) (after : W) → WithDrawnLog gives log p mid drawn after → IsLowDrawn drawn
-  low_with_drawn_log log p mid drawn after (inl (shaped, run)) =
-      held IsLowDrawn _ (λ text. Told (IsOrMemory (IsLogDrawn p text))) mid drawn after low_drawn_failed (λ text later on. low_log_drawn p text drawn on.0) run
-  low_with_drawn_log log p mid drawn after (inr told) = low_unshaped_drawn p drawn told.0
+  low_with_drawn_log : (IsDrawing : PlannedShop → List ℕ → Drawn → Type 0) → ((p : PlannedShop) (text : List ℕ) (drawn : Result Drawn CommandFault) → IsOrMemory (IsDrawing p text) drawn → IsLowDrawn drawn)
+      → (log : List ℕ) (p : PlannedShop) (mid : W) (drawn : Result Drawn CommandFault) (after : W) → WithDrawnLog gives IsDrawing log p mid drawn after → IsLowDrawn drawn
+  low_with_drawn_log IsDrawing each log p mid drawn after (inl (shaped, run)) =
+      held IsLowDrawn _ (λ text. Told (IsOrMemory (IsDrawing p text))) mid drawn after low_drawn_failed (λ text later on. each p text drawn on.0) run
+  low_with_drawn_log IsDrawing each log p mid drawn after (inr told) = low_unshaped_drawn p drawn told.0
 
   low_schedule_picture : (pair : PairOfFiles) (texts : W) (drawn : Result Drawn CommandFault) (after : W) → DrawsSchedule gives pair texts drawn after → IsLowDrawn drawn
   low_schedule_picture pair texts drawn after came =
       held IsLowDrawn _ (λ p. Told (IsOrMemory (IsPlanDrawn p))) texts drawn after low_drawn_failed (λ p mid on. low_plan_drawn p drawn on.0) came
 
+  low_rest_picture : (at : Option ℕ) (pair : PairOfFiles) (log : List ℕ) (texts : W) (drawn : Result Drawn CommandFault) (after : W) → DrawsRest gives at pair log texts drawn after → IsLowDrawn drawn
+  low_rest_picture at pair log texts drawn after came =
+      held IsLowDrawn _ (WithDrawnLog gives (IsRestDrawing at) log) texts drawn after low_drawn_failed
+      (λ p mid on. low_with_drawn_log (IsRestDrawing at) (low_rest_drawing at) log p mid drawn after on) came
+
+  low_timetable_picture : (at : Option ℕ) (pair : PairOfFiles) (log : Option (List ℕ)) (texts : W) (drawn : Result Drawn CommandFault) (after : W) → DrawsTimetable gives at pair log texts drawn after → IsLowDrawn drawn
+  low_timetable_picture at pair None texts drawn after came = low_schedule_picture pair texts drawn after came
+  low_timetable_picture at pair (Some log) texts drawn after came = low_rest_picture at pair log texts drawn after came
+
   low_log_picture : (pair : PairOfFiles) (log : List ℕ) (texts : W) (drawn : Result Drawn CommandFault) (after : W) → DrawsLog gives pair log texts drawn after → IsLowDrawn drawn
   low_log_picture pair log texts drawn after came =
-      held IsLowDrawn _ (WithDrawnLog gives log) texts drawn after low_drawn_failed (λ p mid on. low_with_drawn_log log p mid drawn after on) came
+      held IsLowDrawn _ (WithDrawnLog gives IsLogDrawn log) texts drawn after low_drawn_failed (λ p mid on. low_with_drawn_log IsLogDrawn low_log_drawn log p mid drawn after on) came
 
   low_timetable : (svg : Bool) (at : Option ℕ) (pair : PairOfFiles) (log : Option (List ℕ)) (texts : W) (before : Streams) (outcome : Result Answer CommandFault) (texts_after : W) (after : Streams)
       → RunsTimetable gives svg at pair log texts before outcome texts_after after → IsLow outcome
   low_timetable false at pair log texts before outcome texts_after after run = low_telling Moments at pair log texts outcome texts_after run.0
   low_timetable true at pair log texts before outcome texts_after after run =
-      low_draws run.drawn before after outcome (low_schedule_picture pair texts run.drawn texts_after run.came) run.draws
+      low_draws run.drawn before after outcome (low_timetable_picture at pair log texts run.drawn texts_after run.came) run.draws
 
   low_drawing : (svg : Bool) (pair : PairOfFiles) (log : List ℕ) (texts : W) (before : Streams) (outcome : Result Answer CommandFault) (texts_after : W) (after : Streams)
       → RunsDrawing gives svg pair log texts before outcome texts_after after → IsLow outcome

@@ -1,5 +1,5 @@
 -- How the program ends: the answer on the standard output, or what went wrong on the standard error, and the status.
-use Rattle.std.specs.Prelude.{◌≡◌, ℕ, List, [], ◌++◌, ◌⊎◌, true, Result, Ok, Err, codes}
+use Rattle.std.specs.Prelude.{◌≡◌, ℕ, List, [], ◌++◌, ◌⊎◌, Bool, true, false, Result, Ok, Err, codes}
 use Rattle.std.specs.Io.KnownBytes.{Appends}
 use Rattle.byte_streams.specs.Sinks.{TookPart}
 use Rattle.command_answers.specs.declared.answer.Answer.{Answer}
@@ -71,3 +71,13 @@ pub record IsAnswerEnd (answer : Answer) (before after : Output) (told_before to
 abbrev pub Ends : Result Answer CommandFault → Output → Output → Errors → Errors → ℕ → Type 0
 Ends (Ok answer) before after told_before told_after status = IsAnswerEnd answer before after told_before told_after status
 Ends (Err fault) before after told_before told_after status = (after ≡ before) × IsTold fault told_before told_after status
+
+-- where a picture is asked for: what is answered in its place is told on the standard error
+abbrev pub EndsAside : Result Answer CommandFault → Output → Output → Errors → Errors → ℕ → Type 0
+EndsAside (Ok answer) before after told_before told_after status = (after ≡ before) × WasTold answer.text.items told_before told_after × (status ≡ answer.status)
+EndsAside (Err fault) before after told_before told_after status = (after ≡ before) × IsTold fault told_before told_after status
+
+-- how a command ends, by whether a picture is asked for
+abbrev pub EndsBy : Bool → Result Answer CommandFault → Output → Output → Errors → Errors → ℕ → Type 0
+EndsBy false = Ends
+EndsBy true = EndsAside

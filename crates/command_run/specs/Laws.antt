@@ -50,7 +50,7 @@ use Rattle.command_answers.specs.declared.rests.PlanTelling.{PlanTelling}
 use Rattle.command_answers.specs.Rests.{IsRestLine}
 use Rattle.command_answers.specs.ImprovingRests.{IsRestAnswer}
 use Rattle.command_answers.specs.Commands.{PairOfFiles, RunsFacts, RunsShape, RunsCheck, RunsExplain, RunsSchedule, RunsBounds, RunsLog, RunsRest, Loads, Shapes}
-use Rattle.command_answers.specs.Pictures.{IsLogDrawn, IsPlanDrawn, DrawsLog, DrawsSchedule}
+use Rattle.command_answers.specs.Pictures.{IsLogDrawn, IsPlanDrawn, IsRestDrawing, DrawsLog, DrawsRest, DrawsSchedule}
 use Rattle.command_answers.specs.declared.loading.Loaded.TheVariants.{Judged}
 use Rattle.command_answers.specs.declared.cells.Cells.{Cells}
 use Rattle.command_answers.specs.Cells.{AreAccepted, LoadsCells}
@@ -58,13 +58,13 @@ use Rattle.command_run.specs.Streams.{Streams, Input, Output, Errors, Devices}
 use Rattle.command_run.specs.Inputs.{RunsInput}
 use Rattle.command_run.specs.Planners.{search_by_two, SeeksPlan}
 use Rattle.command_run.specs.Improvers.{AsksOne, ImprovesPlan, AsksOneForRest, ImprovesRest}
-use Rattle.command_run.specs.Pictures.{IsPictureOut, Draws, RunsPicture}
+use Rattle.command_run.specs.Pictures.{IsPictureOut, Draws, DrawsTimetable, RunsPicture}
 use Rattle.command_run.specs.Drives.{IsDriveIn, DrivesCell, end_of_drive}
 use Rattle.command_run.specs.Logs.{DrivesWithLog, GoesOnWithLog, LogEnd, step_of}
 use Rattle.command_run.specs.Resumes.{ResumesText, IsTaking}
 use Rattle.command_run.specs.Hubs.{AreDrivesIn, DrivesCells}
 use Rattle.command_run.specs.Ending.{WasTold, IsLineOut, IsOfText}
-use Rattle.command_run.specs.Program.{RunsDrive, RunsResume, RunsHub, RunsChosen, RunsProgram, file_at, kept_log_in, manner_in, name_in, pair_in, plans_in}
+use Rattle.command_run.specs.Program.{RunsDrive, RunsResume, RunsHub, RunsChosen, RunsProgram, draws_in, file_at, kept_log_in, log_in, manner_in, name_in, pair_in, plans_in}
 
 -- ---- what is told first where the files don't change
 
@@ -142,6 +142,9 @@ ResumeTellsInstanceFirst = (manner : Manner) (at : Option ℕ) (log : List ℕ) 
 abbrev pub ScheduleDrawsInstanceFirst : Type 0
 ScheduleDrawsInstanceFirst = TellsInstanceFirstUnread (λ gives pair. RunsPicture (DrawsSchedule gives pair))
 
+abbrev pub RestDrawsInstanceFirst : Type 0
+RestDrawsInstanceFirst = (at : Option ℕ) (log : List ℕ) → TellsInstanceFirstUnread (λ gives pair. RunsPicture (DrawsRest gives at pair log))
+
 abbrev pub LogDrawsInstanceFirst : Type 0
 LogDrawsInstanceFirst = (log : List ℕ) → TellsInstanceFirstUnread (λ gives pair. RunsPicture (DrawsLog gives pair log))
 
@@ -212,6 +215,12 @@ abbrev pub ScheduleIsDrawn : Type 0
 ScheduleIsDrawn = (before after : Streams) (content : List ℕ → Result (List ℕ) CommandFault) (pair : PairOfFiles) (p : PlannedShop) (outcome : Result Answer CommandFault) (asked : List (List ℕ))
     → TellPlan content pair p → RunsPicture (DrawsSchedule (Shelf content) pair) [] before outcome asked after
     → IsDrawn (IsPlanDrawn p) (pair.path ∷ pair.plan ∷ []) before outcome asked after
+
+-- `schedule --svg` of the rest of a run: where the plan is well shaped, what comes of the log is drawn
+abbrev pub RestIsDrawn : Type 0
+RestIsDrawn = (at : Option ℕ) (before after : Streams) (content : List ℕ → Result (List ℕ) CommandFault) (pair : PairOfFiles) (log text : List ℕ) (p : PlannedShop) (outcome : Result Answer CommandFault) (asked : List (List ℕ))
+    → TellPlan content pair p → content log ≡ Ok text → IsWellShaped p → RunsPicture (DrawsRest (Shelf content) at pair log) [] before outcome asked after
+    → IsDrawn (IsRestDrawing at p text) (pair.path ∷ pair.plan ∷ log ∷ []) before outcome asked after
 
 -- `gantt --svg`: where the plan is well shaped, what comes of the log is drawn
 abbrev pub LogIsDrawn : Type 0
@@ -452,10 +461,11 @@ module _ {W : Type 0} (gives : W → List ℕ → Result (List ℕ) CommandFault
   -- a picture was written, or its first bytes up to a write that failed
   pub record DrewPicture (comes : W → Result Drawn CommandFault → W → Type 0) (texts : W) (before after : Streams) : Type 0 where
     pub picture : List ℕ
+    pub status : ℕ
     pub later : W
-    pub came : comes texts (Ok (Picture picture)) later
+    pub came : comes texts (Ok (Picture picture status)) later
     pub outcome : Result Answer CommandFault
-    pub out : IsPictureOut picture before.output after.output outcome
+    pub out : IsPictureOut picture status before.output after.output outcome
 
   -- nothing was written; or the command drives cells, and those of its files were driven; or its files were drawn
   abbrev pub WereDriven : CommandName → Chosen → W → Streams → Streams → Type 0
@@ -463,7 +473,7 @@ module _ {W : Type 0} (gives : W → List ℕ → Result (List ℕ) CommandFault
       ⊎ (((name ≡ Drive) × (DroveCell (manner_in chosen) (pair_in chosen) texts before after ⊎ DroveWithLog (manner_in chosen) (pair_in chosen) texts before after))
       ⊎ (((name ≡ Resume) × DroveOn (manner_in chosen) chosen.at (pair_in chosen) (file_at chosen 2) texts before after)
       ⊎ (((name ≡ Hub) × DroveCells (manner_in chosen) (file_at chosen 0) (name_in chosen) (plans_in chosen) texts before after)
-      ⊎ (((name ≡ Schedule) × DrewPicture (DrawsSchedule gives (pair_in chosen)) texts before after)
+      ⊎ (((name ≡ Schedule) × DrewPicture (DrawsTimetable gives chosen.at (pair_in chosen) (log_in chosen)) texts before after)
       ⊎ ((name ≡ Gantt) × DrewPicture (DrawsLog gives (pair_in chosen) (file_at chosen 2)) texts before after)))))
 
   -- the command that the words choose was run to an outcome
@@ -487,6 +497,15 @@ module _ {W : Type 0} (gives : W → List ℕ → Result (List ℕ) CommandFault
     pub failed : IsFailureOf outcome after.streams.output fault
     pub told : IsLineOut fault before.errors after.errors status
 
+  -- a command that draws said on the standard error what is answered in place of a picture: nothing, where there is one
+  pub record WasToldAside (words : List (List ℕ)) (before : Devices W) (status : ℕ) (after : Devices W) (log : Option LogEnd) : Type 0 where
+    pub answer : Answer
+    pub mid : Streams
+    pub ran : RanCommand words before (Ok answer) mid after log
+    pub draws : draws_in ran.chosen ≡ true
+    pub told : WasTold answer.text.items before.errors after.errors
+    pub own : status ≡ answer.status
+
   -- nothing was written but what driven cells answered, or a picture, and after it at most the first bytes of an answer whose write failed
   pub record WroteNoMore (words : List (List ℕ)) (before after : Devices W) (log : Option LogEnd) : Type 0 where
     pub outcome : Result Answer CommandFault
@@ -494,12 +513,12 @@ module _ {W : Type 0} (gives : W → List ℕ → Result (List ℕ) CommandFault
     pub ran : Ran words before outcome mid after log
     pub unanswered : IsUnanswered outcome mid.output after.streams.output
 
-  -- the status is 2 or more, and what failed was told; or it is 0 or 1, and nothing was told
+  -- the status is 2 or more, and what failed was told; or it is 0 or 1, and nothing was told but what is answered in place of a picture
   abbrev pub EndsAsTold : List (List ℕ) → Devices W → ℕ → Devices W → Option LogEnd → Type 0
   EndsAsTold words before status after log =
-      ((2 ≤ status) × (WereRefused words before status after ⊎ WasFailureTold words before status after log)) ⊎ ((status ≤ 1) × (after.errors ≡ before.errors))
+      ((2 ≤ status) × (WereRefused words before status after ⊎ WasFailureTold words before status after log)) ⊎ ((status ≤ 1) × ((after.errors ≡ before.errors) ⊎ WasToldAside words before status after log))
 
-  -- in each run of the program what fails is told on the error output with its status, and nothing else is told
+  -- in each run of the program what fails is told on the error output with its status, and nothing else is told but what is answered in place of a picture
   abbrev pub WhatFailsIsTold : Type 0
   WhatFailsIsTold = (words : List (List ℕ)) (before : Devices W) (status : ℕ) (after : Devices W) (log : Option LogEnd) → RunsProgram gives words before status after log → EndsAsTold words before status after log
 

@@ -1,5 +1,5 @@
 -- What drawing a picture comes to.
-use Rattle.std.specs.Prelude.{◌≡◌, ℕ, List, [], Bool, true, false, Option, Result, Ok, Err}
+use Rattle.std.specs.Prelude.{◌≡◌, ℕ, List, [], Bool, true, false, Option, None, Some, Result, Ok, Err}
 use Rattle.std.specs.Io.KnownBytes.{Appends}
 use Rattle.byte_streams.specs.Sinks.{TookPart}
 use Rattle.command_answers.specs.declared.answer.Answer.{Answer}
@@ -10,21 +10,21 @@ use Rattle.command_answers.specs.declared.pictures.Drawn.{Drawn}
 use Rattle.command_answers.specs.declared.pictures.Drawn.TheVariants.{Picture, Line}
 use Rattle.command_answers.specs.declared.rests.PlanTelling.TheVariants.{Moments}
 use Rattle.command_answers.specs.Commands.{PairOfFiles, RunsLog}
-use Rattle.command_answers.specs.Pictures.{DrawsLog, DrawsSchedule}
+use Rattle.command_answers.specs.Pictures.{DrawsLog, DrawsRest, DrawsSchedule}
 use Rattle.command_run.specs.Streams.{Streams, Output}
 use Rattle.command_run.specs.Tellings.{RunsTelling}
 
--- the picture was written and shown, so that no more is answered; or its first bytes were, up to a write that failed
-abbrev pub IsPictureOut : List ℕ → Output → Output → Result Answer CommandFault → Type 0
-IsPictureOut picture before after (Ok answer) =
-    (answer.text.items ≡ []) × (answer.status ≡ 0) × Appends before.taken after.taken picture × (after.failed ≡ before.failed) × (after.pending ≡ [])
-IsPictureOut picture before after (Err fault) = (fault ≡ Write) × TookPart before.taken after.taken picture × (after.failed ≡ true)
+-- the picture was written and shown, so that no more is answered, with this status; or its first bytes were, up to a write that failed
+abbrev pub IsPictureOut : List ℕ → ℕ → Output → Output → Result Answer CommandFault → Type 0
+IsPictureOut picture status before after (Ok answer) =
+    (answer.text.items ≡ []) × (answer.status ≡ status) × Appends before.taken after.taken picture × (after.failed ≡ before.failed) × (after.pending ≡ [])
+IsPictureOut picture status before after (Err fault) = (fault ≡ Write) × TookPart before.taken after.taken picture × (after.failed ≡ true)
 
 -- what follows what came to be drawn: a picture is written; a line is answered, and a fault is told, with no byte read or written
 abbrev pub Draws : Result Drawn CommandFault → Streams → Streams → Result Answer CommandFault → Type 0
 Draws (Err fault) before after outcome = (outcome ≡ Err fault) × (after ≡ before)
 Draws (Ok (Line answer)) before after outcome = (outcome ≡ Ok answer) × (after ≡ before)
-Draws (Ok (Picture picture)) before after outcome = (after.input ≡ before.input) × IsPictureOut picture before.output after.output outcome
+Draws (Ok (Picture picture status)) before after outcome = (after.input ≡ before.input) × IsPictureOut picture status before.output after.output outcome
 
 -- what is to be drawn comes by this, and is drawn
 pub record RunsPicture {W : Type 0} (comes : W → Result Drawn CommandFault → W → Type 0) (texts : W) (before : Streams) (outcome : Result Answer CommandFault) (texts_after : W) (after : Streams) : Type 0 where
@@ -33,10 +33,15 @@ pub record RunsPicture {W : Type 0} (comes : W → Result Drawn CommandFault →
   pub draws : Draws drawn before after outcome
 
 module _ {W : Type 0} (gives : W → List ℕ → Result (List ℕ) CommandFault → W → Type 0) where
-  -- `schedule`: the schedule of the plan is told, or that of the rest of the run in a log; or with `--svg` its exact run is drawn
+  -- the exact run of the plan comes to be drawn, or the run in a log and its rest, if there is one
+  abbrev pub DrawsTimetable : Option ℕ → PairOfFiles → Option (List ℕ) → W → Result Drawn CommandFault → W → Type 0
+  DrawsTimetable at pair None = DrawsSchedule gives pair
+  DrawsTimetable at pair (Some log) = DrawsRest gives at pair log
+
+  -- `schedule`: the schedule of the plan is told, or that of the rest of the run in a log; or with `--svg` it is drawn
   abbrev pub RunsTimetable : Bool → Option ℕ → PairOfFiles → Option (List ℕ) → W → Streams → Result Answer CommandFault → W → Streams → Type 0
   RunsTimetable false at pair log texts before outcome texts_after after = RunsTelling gives Moments at pair log texts outcome texts_after × (after ≡ before)
-  RunsTimetable true at pair log texts before outcome texts_after after = RunsPicture (DrawsSchedule gives pair) texts before outcome texts_after after
+  RunsTimetable true at pair log texts before outcome texts_after after = RunsPicture (DrawsTimetable at pair log) texts before outcome texts_after after
 
   -- `gantt`: the log is drawn in text, or with `--svg` as a picture
   abbrev pub RunsDrawing : Bool → PairOfFiles → List ℕ → W → Streams → Result Answer CommandFault → W → Streams → Type 0

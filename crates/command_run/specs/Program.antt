@@ -35,7 +35,7 @@ use Rattle.command_run.specs.Drives.{Drives}
 use Rattle.command_run.specs.Resumes.{Resumes}
 use Rattle.command_run.specs.Logs.{DrivesShaped, IsToldOfLog, LogEnd, Step, step_of}
 use Rattle.command_run.specs.Hubs.{DrivesAll}
-use Rattle.command_run.specs.Ending.{Ends, IsAnswerEnd, WasTold}
+use Rattle.command_run.specs.Ending.{Ends, EndsBy, IsAnswerEnd, WasTold}
 
 -- what the words of the command line are read as
 pub record AreWordsRead (words : List (List ℕ)) (read : Result Chosen WordsFault) : Type 0 where
@@ -72,6 +72,15 @@ aim_of None least = overall_aim least
 
 abbrev pub aim_in : Chosen → Aim
 aim_in chosen = aim_of chosen.job chosen.least
+
+-- whether a command draws a picture, where it is asked for one
+abbrev pub draws : CommandName → Bool → Bool
+draws Schedule svg = svg
+draws Gantt svg = svg
+draws other svg = false
+
+abbrev pub draws_in : Chosen → Bool
+draws_in chosen = draws chosen.name chosen.svg
 
 -- whether a command may keep a log of its own
 abbrev pub keeps_log : CommandName → Bool
@@ -170,13 +179,13 @@ module _ {W : Type 0} (gives : W → List ℕ → Result (List ℕ) CommandFault
   RunsChosen (Some path) chosen before outcome mid after log =
       RunsLoggedDrive before.folder after.folder path (manner_in chosen) chosen.at (pair_in chosen) before.texts (step_of before.streams outcome mid log) after.texts
 
-  -- the command is run, and then its answer printed, or its fault told
+  -- the command is run, and then its answer printed, or its fault told; what is answered in place of a picture is told too
   pub record Commands (chosen : Chosen) (before : Devices W) (status : ℕ) (after : Devices W) (log : Option LogEnd) : Type 0 where
     pub outcome : Result Answer CommandFault
     pub mid : Streams
     pub runs : RunsChosen (kept_log_in chosen) chosen before outcome mid after log
     pub input : after.streams.input ≡ mid.input
-    pub ends : Ends outcome mid.output after.streams.output before.errors after.errors status
+    pub ends : EndsBy (draws_in chosen) outcome mid.output after.streams.output before.errors after.errors status
 
   -- help or the version that was asked for is a good answer
   pub record Helps (text : List ℕ) (before : Devices W) (status : ℕ) (after : Devices W) (log : Option LogEnd) : Type 0 where

@@ -1,8 +1,8 @@
 //! How the program ends.
 
 ghost use Rattle.std.specs.Prelude.{◌≡◌, IfOk, IfErr};
-ghost use Rattle.command_run.specs.Streams.{errors_of, output_of};
-ghost use Rattle.command_run.specs.Ending.{WasTold, IsRefusalLine, IsErrorLine, IsOfText, IsTextLine, IsTold, IsPrinted, Ends};
+ghost use Rattle.command_run.specs.Streams.{Output, errors_of, output_of};
+ghost use Rattle.command_run.specs.Ending.{WasTold, IsRefusalLine, IsErrorLine, IsOfText, IsTextLine, IsTold, IsPrinted, Ends, EndsAside};
 
 use crate::devices::Streams;
 use cell_drive::{Outlet, Source};
@@ -25,6 +25,16 @@ pub(crate) fn end<R: Source, W: Outlet, E: Sink>(
             Ok(status) => status,
             Err(fault) => tell(alloc, &fault, errors),
         },
+        Err(fault) => tell(alloc, &fault, errors),
+    }
+}
+
+/// The same where a picture is asked for: what is answered in its place is told on the standard error.
+pub(crate) fn end_aside<E: Sink>(alloc: Global, outcome: Answered, errors: &mut E) -> u8
+    ensures { (output : Output) → EndsAside outcome output output (errors_of E.Sink errors.old) (errors_of E.Sink errors.new) result }
+{
+    match outcome {
+        Ok(answer) => tell_line(errors, &answer.text, answer.status),
         Err(fault) => tell(alloc, &fault, errors),
     }
 }

@@ -4,21 +4,20 @@ ghost use Rattle.std.specs.Prelude.{◌≤◌, IfSome};
 ghost use Rattle.std.specs.Option.{option_copied};
 ghost use Rattle.shop_base.specs.declared.limits.TheConstants.{MAX_MOMENT};
 ghost use Rattle.command_run.specs.Streams.{output_of};
-ghost use Rattle.command_run.specs.Pictures.{Draws, IsPictureOut, RunsDrawing, RunsTimetable};
+ghost use Rattle.command_run.specs.Pictures.{Draws, DrawsTimetable, IsPictureOut, RunsDrawing, RunsTimetable};
 
 use crate::devices::Streams;
-use crate::drives::ended;
 use crate::tellings::telling_answer;
 use cell_drive::{Outlet, Source};
 use command_answers::{
-    Answered, CommandFault, Drawn, Outcome, Pair, PlanTelling, Telling, Texts, log_answer,
-    log_picture, schedule_picture,
+    Answer, Answered, CommandFault, Drawn, Outcome, Pair, PlanTelling, Telling, Texts, log_answer,
+    log_picture, rest_picture, schedule_picture,
 };
 use run_picture::Picture;
 use shop_base::Moment;
 use std::alloc::Global;
 
-/// The schedule of a plan, or of the rest of the run in a log, or a picture of the plan's exact run.
+/// The schedule of a plan, or of the rest of the run in a log, in text or as a picture.
 pub(crate) fn timetable_answer<T: Texts, R: Source, W: Outlet>(
     alloc: Global,
     texts: &mut T,
@@ -32,10 +31,27 @@ pub(crate) fn timetable_answer<T: Texts, R: Source, W: Outlet>(
     ensures { RunsTimetable T.gives svg at pair.now (option_copied log.entry) texts.old streams.old result texts.new streams.new }
 {
     if svg {
-        let drawn = schedule_picture(alloc, texts, pair);
+        let drawn = timetable_drawn(alloc, texts, pair, log, at);
         drawn_answer(alloc, drawn, streams)
     } else {
         telling_answer(alloc, texts, pair, log, at, PlanTelling::Moments)
+    }
+}
+
+/// The picture of a plan's exact run, or of the run in a log and its rest.
+fn timetable_drawn<T: Texts>(
+    alloc: Global,
+    texts: &mut T,
+    pair: &Pair<'_>,
+    log: Option<&str>,
+    at: Option<Moment>,
+) -> Outcome<Drawn>
+    requires { IfSome at (λ present. present ≤ MAX_MOMENT) }
+    ensures { DrawsTimetable T.gives at pair.now (option_copied log.entry) texts.old result texts.new }
+{
+    match log {
+        Some(log) => rest_picture(alloc, texts, pair, log, at),
+        None => schedule_picture(alloc, texts, pair),
     }
 }
 
@@ -58,7 +74,7 @@ pub(crate) fn drawing_answer<T: Texts, R: Source, W: Outlet>(
     }
 }
 
-/// Draws a picture. A line in its place is the answer.
+/// Draws a picture. A line in its place is what is answered.
 fn drawn_answer<R: Source, W: Outlet>(
     alloc: Global,
     drawn: Outcome<Drawn>,
@@ -67,19 +83,24 @@ fn drawn_answer<R: Source, W: Outlet>(
     ensures { Draws drawn streams.old streams.new result }
 {
     match drawn {
-        Ok(Drawn::Picture(picture)) => put_picture(alloc, &picture, &mut streams.output),
+        Ok(Drawn::Picture { picture, status }) => {
+            put_picture(alloc, &picture, status, &mut streams.output)
+        }
         Ok(Drawn::Line(answer)) => Ok(answer),
         Err(fault) => Err(fault),
     }
 }
 
-/// Writes a picture, and shows it.
-fn put_picture<W: Outlet>(alloc: Global, picture: &Picture, output: &mut W) -> Answered
-    ensures { IsPictureOut picture.now (output_of W.Sink W.pending output.old) (output_of W.Sink W.pending output.new) result }
+/// Writes a picture, and shows it. The command ends with this status.
+fn put_picture<W: Outlet>(alloc: Global, picture: &Picture, status: u8, output: &mut W) -> Answered
+    ensures { IsPictureOut picture.now status (output_of W.Sink W.pending output.old) (output_of W.Sink W.pending output.new) result }
 {
     match picture.put(output) {
         Ok(()) => match output.show() {
-            Ok(()) => Ok(ended(alloc, true)),
+            Ok(()) => {
+                let text = Vec::new(alloc);
+                Ok(Answer { text, status })
+            }
             Err(_) => Err(CommandFault::Write),
         },
         Err(_) => Err(CommandFault::Write),

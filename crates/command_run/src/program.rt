@@ -3,16 +3,18 @@
 ghost use Rattle.std.specs.Prelude.{◌≡◌, ◌≤◌, [], map, None, Some, Err, IfSome};
 ghost use Rattle.command_words.specs.Choice.{IsWithin};
 ghost use Rattle.command_run.specs.Logs.{WithLog};
-ghost use Rattle.command_run.specs.Program.{Commands, Follows, IsToldOfChosen, IsToldOfWords, RunsProgram, kept_log_in};
+ghost use Rattle.command_run.specs.Streams.{errors_of};
+ghost use Rattle.command_run.specs.Ending.{EndsBy};
+ghost use Rattle.command_run.specs.Program.{Commands, Follows, IsToldOfChosen, IsToldOfWords, RunsProgram, draws_in, kept_log_in};
 
 use crate::command::{command, kept_log, manner, pair};
-use crate::devices::{Devices, Screen};
-use crate::ending::{end, tell_line};
+use crate::devices::{Devices, Screen, Streams};
+use crate::ending::{end, end_aside, tell_line};
 use crate::logs::{LoggedRun, logged_answer};
 use crate::unchosen::Unchosen;
 use cell_drive::{Outlet, Source};
-use command_answers::Texts;
-use command_words::{Chosen, WordsFault, read_words};
+use command_answers::{Answered, Texts};
+use command_words::{Chosen, CommandName, WordsFault, read_words};
 use run_journal::{Before, Logs};
 use run_log::Sink;
 use std::alloc::Global;
@@ -126,7 +128,34 @@ fn unlogged<T: Texts, R: Source, W: Outlet, E: Sink, S: Screen, L: Logs>(
         logs: _,
     } = devices;
     let outcome = command(alloc, chosen, texts, streams, screen);
+    end_chosen(alloc, chosen, outcome, streams, errors)
+}
+
+/// Prints the answer of the command that was chosen, or tells it where it stands in place of a picture.
+fn end_chosen<R: Source, W: Outlet, E: Sink>(
+    alloc: Global,
+    chosen: &Chosen,
+    outcome: Answered,
+    streams: &mut Streams<R, W>,
+    errors: &mut E,
+) -> u8
+    ensures ends { EndsBy (draws_in chosen.now) outcome streams.old.output streams.new.output (errors_of E.Sink errors.old) (errors_of E.Sink errors.new) result }
+    ensures input { streams.new.input ≡ streams.old.input }
+{
+    if draws(chosen) {
+        return end_aside(alloc, outcome, errors);
+    }
     end(alloc, outcome, streams, errors)
+}
+
+/// Whether the command draws a picture.
+fn draws(chosen: &Chosen) -> bool
+    ensures { result ≡ draws_in chosen.now }
+{
+    match chosen.name {
+        CommandName::Schedule | CommandName::Gantt => chosen.svg,
+        _ => false,
+    }
 }
 
 /// What follows words that choose no command.

@@ -46,7 +46,7 @@ use Rattle.command_answers.specs.Search.{IsSearchAnswer}
 use Rattle.command_answers.specs.Improving.{IsImproveAnswer, ordered}
 use Rattle.command_answers.specs.ImprovingRests.{IsRestAnswer}
 use Rattle.command_answers.specs.Commands.{PairOfFiles, ReadsPlan, ReadsBoth, WithBoth, WithLog, WithRest, RunsFacts}
-use Rattle.command_answers.specs.Pictures.{IsLogDrawn, IsPlanDrawn, IsUnshapedDrawn, WithDrawnLog, DrawsLog, DrawsSchedule}
+use Rattle.command_answers.specs.Pictures.{IsLogDrawn, IsPlanDrawn, IsRestDrawing, IsUnshapedDrawn, WithDrawnLog, DrawsLog, DrawsRest, DrawsSchedule}
 use Rattle.command_answers.proofs.CheckLines.{line_of_loaded}
 use Rattle.command_run.specs.Streams.{Streams}
 use Rattle.command_run.specs.Planners.{search_by_two, SeeksPlan}
@@ -159,22 +159,28 @@ module _ (content : List ℕ → Result (List ℕ) CommandFault) (pair : PairOfF
       came_drawn (IsPlanDrawn p) _ run.drawn before after outcome asked (good_plan IsPlanDrawn run.drawn asked run.came) run.draws
 
   drawn_after_all : (drawn : Result Drawn CommandFault) → IsWellShaped p → IsOrMemory (IsUnshapedDrawn p) drawn → drawn ≡ Err Memory
-  drawn_after_all (Ok (Picture picture)) shaped is = absurd is
+  drawn_after_all (Ok (Picture picture status)) shaped is = absurd is
   drawn_after_all (Ok (Line answer)) shaped is = absurd (shape_fault_refutes p is.fault is.first shaped)
   drawn_after_all (Err fault) shaped is = ap Err is
 
-  drawn_log_came : (log text : List ℕ) (drawn : Result Drawn CommandFault) (asked : List (List ℕ)) → content log ≡ Ok text → IsWellShaped p
-      → WithDrawnLog (Shelf content) log p (pair.path ∷ pair.plan ∷ []) drawn asked ⊎ (drawn ≡ Err Memory) → IsAnswered (IsLogDrawn p text) (pair.path ∷ pair.plan ∷ log ∷ []) drawn asked
-  drawn_log_came log text drawn asked is shaped (inl (inl (also, run))) =
-      let read = asked_and_read content (λ t. IsOrMemory (IsLogDrawn p t)) log text is (pair.path ∷ pair.plan ∷ []) run.came run.mid drawn asked run.is run.goes_on in
+  drawn_log_came : (IsDrawing : PlannedShop → List ℕ → Drawn → Type 0) (log text : List ℕ) (drawn : Result Drawn CommandFault) (asked : List (List ℕ)) → content log ≡ Ok text → IsWellShaped p
+      → WithDrawnLog (Shelf content) IsDrawing log p (pair.path ∷ pair.plan ∷ []) drawn asked ⊎ (drawn ≡ Err Memory) → IsAnswered (IsDrawing p text) (pair.path ∷ pair.plan ∷ log ∷ []) drawn asked
+  drawn_log_came IsDrawing log text drawn asked is shaped (inl (inl (also, run))) =
+      let read = asked_and_read content (λ t. IsOrMemory (IsDrawing p t)) log text is (pair.path ∷ pair.plan ∷ []) run.came run.mid drawn asked run.is run.goes_on in
       answered _ _ drawn asked read.0 read.1
-  drawn_log_came log text drawn asked is shaped (inl (inr told)) = wanting _ _ drawn asked (drawn_after_all drawn shaped told.0)
-  drawn_log_came log text drawn asked is shaped (inr none) = wanting _ _ drawn asked none
+  drawn_log_came IsDrawing log text drawn asked is shaped (inl (inr told)) = wanting _ _ drawn asked (drawn_after_all drawn shaped told.0)
+  drawn_log_came IsDrawing log text drawn asked is shaped (inr none) = wanting _ _ drawn asked none
+
+  pub good_rest_picture : (at : Option ℕ) (before after : Streams) (log text : List ℕ) (outcome : Result Answer CommandFault) (asked : List (List ℕ)) → content log ≡ Ok text → IsWellShaped p
+      → RunsPicture (DrawsRest (Shelf content) at pair log) [] before outcome asked after → IsDrawn (IsRestDrawing at p text) (pair.path ∷ pair.plan ∷ log ∷ []) before outcome asked after
+  good_rest_picture at before after log text outcome asked is shaped run =
+      came_drawn (IsRestDrawing at p text) _ run.drawn before after outcome asked
+      (drawn_log_came (IsRestDrawing at) log text run.drawn asked is shaped (with_both (WithDrawnLog (Shelf content) (IsRestDrawing at) log) run.drawn asked run.came)) run.draws
 
   pub good_log_picture : (before after : Streams) (log text : List ℕ) (outcome : Result Answer CommandFault) (asked : List (List ℕ)) → content log ≡ Ok text → IsWellShaped p
       → RunsPicture (DrawsLog (Shelf content) pair log) [] before outcome asked after → IsDrawn (IsLogDrawn p text) (pair.path ∷ pair.plan ∷ log ∷ []) before outcome asked after
   good_log_picture before after log text outcome asked is shaped run =
-      came_drawn (IsLogDrawn p text) _ run.drawn before after outcome asked (drawn_log_came log text run.drawn asked is shaped (with_both (WithDrawnLog (Shelf content) log) run.drawn asked run.came)) run.draws
+      came_drawn (IsLogDrawn p text) _ run.drawn before after outcome asked (drawn_log_came IsLogDrawn log text run.drawn asked is shaped (with_both (WithDrawnLog (Shelf content) IsLogDrawn log) run.drawn asked run.came)) run.draws
 
   pub good_search : (rounds : ℕ) (outcome : Result Answer CommandFault) (asked : List (List ℕ)) → SeeksPlan (Shelf content) rounds pair [] outcome asked
       → (IsSearchAnswer (search_by_two (task_in p)) rounds outcome × (asked ≡ pair.path ∷ pair.plan ∷ [])) ⊎ (outcome ≡ Err Memory)

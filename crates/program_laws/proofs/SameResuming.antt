@@ -41,8 +41,8 @@ use Rattle.command_answers.specs.Commands.{PairOfFiles}
 use Rattle.command_run.specs.Streams.{Streams, Output}
 use Rattle.command_run.specs.Drives.{IsEndAnswer, is_plain, status_at}
 use Rattle.command_run.specs.Resumes.{IsTaking, IsUntakenTold, ResumesTaken, end_of_rest}
-use Rattle.command_run.specs.Ending.{Ends}
-use Rattle.command_run.specs.Program.{AreWordsRead, RunsResume, RunsCommand, RunsChosen, Follows, file_at, is_second, keeps_log, kept_log_in, log_kept_by, manner_in, pair_in}
+use Rattle.command_run.specs.Ending.{Ends, EndsBy}
+use Rattle.command_run.specs.Program.{AreWordsRead, RunsResume, RunsCommand, RunsChosen, Follows, draws, file_at, is_second, keeps_log, kept_log_in, log_kept_by, manner_in, pair_in}
 use Rattle.command_run.specs.Laws.{Shelf, TellPlan, RunsWell}
 use Rattle.program_laws.specs.ResumeLaw.{AskForResume, AskForOneManner, moment_given, ResumeWritesTheSame, ResumeWritesAsDrive}
 use Rattle.program_laws.specs.ToldLaw.{manner_of}
@@ -217,9 +217,11 @@ module _ (content : List ℕ → Result (List ℕ) CommandFault) (words : List (
       (subst (λ (a : Option ℕ). RunsResume (Shelf content) (manner_of words) a (pair_in chosen) (file_at chosen 2) [] well.before.streams follows.outcome well.after.texts follows.mid) are.chosen.at
       (subst (λ (m : Manner). RunsResume (Shelf content) m chosen.at (pair_in chosen) (file_at chosen 2) [] well.before.streams follows.outcome well.after.texts follows.mid) (same_manner words chosen are.chosen)
       (subst (λ (asked : List (List ℕ)). RunsResume (Shelf content) (manner_in chosen) chosen.at (pair_in chosen) (file_at chosen 2) asked well.before.streams follows.outcome well.after.texts follows.mid) well.unasked runs)))) in
+      let ends : Ends follows.outcome follows.mid.output well.after.streams.output well.before.errors well.after.errors status =
+      subst (λ (n : CommandName). EndsBy (draws n chosen.svg) follows.outcome follows.mid.output well.after.streams.output well.before.errors well.after.errors status) name follows.ends in
       elim (good_resume content pair p good (manner_of words) (moment_given words) well.before.streams follows.mid log text follows.outcome well.after.texts shaped came resume) [
-        | inl resumes ↦ log_resumed follows.mid follows.outcome follows.input follows.ends (manner_of words) (moment_given words) text can resumes.1.0 resumes.1.1 resumes.1.2
-        | inr none ↦ absurd (not_wanting follows.mid follows.outcome follows.input follows.ends none.0)
+        | inl resumes ↦ log_resumed follows.mid follows.outcome follows.input ends (manner_of words) (moment_given words) text can resumes.1.0 resumes.1.1 resumes.1.2
+        | inr none ↦ absurd (not_wanting follows.mid follows.outcome follows.input ends none.0)
       ]
   follows_resumed pair log text (Err (Usage help message)) ask good shaped came can are follows =
       absurd (let told = subst (λ kinds. TellsOneOf kinds (Usage help message)) ask.taken are.refused in told.1)

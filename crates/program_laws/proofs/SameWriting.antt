@@ -38,8 +38,8 @@ use Rattle.command_answers.specs.declared.command_fault.CommandFault.TheVariants
 use Rattle.command_answers.specs.Commands.{PairOfFiles}
 use Rattle.command_run.specs.Streams.{Streams, Output, Errors}
 use Rattle.command_run.specs.Drives.{IsEnded, IsEndAnswer, DrivesBy, DrivesCell, is_plain, status_at, end_of_drive}
-use Rattle.command_run.specs.Ending.{IsTold, IsPrinted, IsToldAfter, Ends}
-use Rattle.command_run.specs.Program.{AreWordsRead, RunsDrive, RunsCommand, RunsChosen, Follows, is_second, keeps_log, kept_log_in, log_kept_by, manner_in, pair_in}
+use Rattle.command_run.specs.Ending.{IsTold, IsPrinted, IsToldAfter, Ends, EndsBy}
+use Rattle.command_run.specs.Program.{AreWordsRead, RunsDrive, RunsCommand, RunsChosen, Follows, draws, is_second, keeps_log, kept_log_in, log_kept_by, manner_in, pair_in}
 use Rattle.command_run.specs.Laws.{Shelf, TellPlan, AskForDrive, RunsWell}
 use Rattle.program_laws.specs.ToldLaw.{manner_of}
 use Rattle.program_laws.proofs.GoodFiles.{good_drive}
@@ -261,7 +261,8 @@ module _ (content : List ℕ → Result (List ℕ) CommandFault) (words : List (
       subst (λ (q : PairOfFiles). RunsDrive (Shelf content) manner q [] well.before.streams follows.outcome well.after.texts follows.mid) (same_pair words pair chosen ask are.chosen)
       (subst (λ (m : Manner). RunsDrive (Shelf content) m (pair_in chosen) [] well.before.streams follows.outcome well.after.texts follows.mid) (same_manner words chosen are.chosen)
       (subst (λ (asked : List (List ℕ)). RunsDrive (Shelf content) (manner_in chosen) (pair_in chosen) asked well.before.streams follows.outcome well.after.texts follows.mid) well.unasked runs)) in
-      cell_wrote manner follows.mid follows.outcome (driven_or_not (good_drive content pair p good manner well.before.streams follows.mid follows.outcome well.after.texts shaped acceptable drive)) follows.input follows.ends
+      cell_wrote manner follows.mid follows.outcome (driven_or_not (good_drive content pair p good manner well.before.streams follows.mid follows.outcome well.after.texts shaped acceptable drive)) follows.input
+      (subst (λ (n : CommandName). EndsBy (draws n chosen.svg) follows.outcome follows.mid.output well.after.streams.output well.before.errors well.after.errors status) name follows.ends)
   follows_wrote pair (Err (Usage help text)) ask good shaped acceptable are follows =
       absurd (let told = subst (λ kinds. TellsOneOf kinds (Usage help text)) ask.taken are.refused in told.1)
   follows_wrote pair (Err NoWordsMemory) ask good shaped acceptable are follows = absurd (well.no_want (memory_status well.before.errors well.after.errors status follows.0.1))

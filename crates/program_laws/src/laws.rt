@@ -10,7 +10,7 @@
 ghost use Rattle.command_run.specs.Laws.{FactsTellInstanceFirst, ShapeTellsInstanceFirst, CheckTellsInstanceFirst, ExplainTellsInstanceFirst, ScheduleTellsInstanceFirst, BoundsTellInstanceFirst};
 ghost use Rattle.command_run.specs.Laws.{LogTellsInstanceFirst, RestTellsInstanceFirst, PlanTellsInstanceFirst, ImproveTellsInstanceFirst, ImproveRestTellsInstanceFirst};
 ghost use Rattle.command_run.specs.Laws.{DriveTellsInstanceFirst, ResumeTellsInstanceFirst, HubTellsInstanceFirst};
-ghost use Rattle.command_run.specs.Laws.{ScheduleDrawsInstanceFirst, LogDrawsInstanceFirst, ScheduleIsDrawn, LogIsDrawn};
+ghost use Rattle.command_run.specs.Laws.{ScheduleDrawsInstanceFirst, RestDrawsInstanceFirst, LogDrawsInstanceFirst, ScheduleIsDrawn, RestIsDrawn, LogIsDrawn};
 ghost use Rattle.command_run.specs.Laws.{FactsAnswerShop, ShapeAnswersPlan, CheckAnswersPlan, ExplainAnswersPlan, ScheduleAnswersPlan, BoundsAnswerPlan, LogIsAnswered, RestIsAnswered};
 ghost use Rattle.command_run.specs.Laws.{PlanAnswersPlan, ImproveAnswersPlan, ImproveAnswersRest, DriveDrivesPlan, ResumeGoesOn};
 ghost use Rattle.command_run.specs.Laws.{HubDrivesPlans, InputAnswersShop};
@@ -36,6 +36,7 @@ pub fn instance_first()
     ensures log { LogTellsInstanceFirst }
     ensures rest { RestTellsInstanceFirst }
     ensures schedule_picture { ScheduleDrawsInstanceFirst }
+    ensures rest_picture { RestDrawsInstanceFirst }
     ensures log_picture { LogDrawsInstanceFirst }
     ensures plan { PlanTellsInstanceFirst }
     ensures improve { ImproveTellsInstanceFirst }
@@ -48,9 +49,10 @@ pub fn instance_first()
 /// Files that give a shop and a plan are answered, unless memory runs out, and exactly they are asked for. `plan` and
 /// `improve` answer what their search allows. An accepted plan has its cell driven by `drive` without `--log`. By
 /// `resume` a well-shaped plan has its cell driven on from its log, or the answer is why not. `hub` drives the cells of
-/// its plans, if all are accepted. With `--svg` an accepted plan is drawn by `schedule`, and a log that isn't refused by
-/// `gantt`. If memory runs out before a cell is driven or a picture drawn, no byte is read or written. Without words an
-/// input within the limit that gives a shop is answered by its facts, unless a read fails or memory runs out.
+/// its plans, if all are accepted. With `--svg` a plan without a cycle is drawn by `schedule`, also the run in a log
+/// with its rest, and a log that isn't refused by `gantt`. If memory runs out before a cell is driven or a picture
+/// drawn, no byte is read or written. Without words an input within the limit that gives a shop is answered by its
+/// facts, unless a read fails or memory runs out.
 pub fn good_files_are_answered()
     ensures facts { FactsAnswerShop }
     ensures shape { ShapeAnswersPlan }
@@ -61,6 +63,7 @@ pub fn good_files_are_answered()
     ensures log { LogIsAnswered }
     ensures rest { RestIsAnswered }
     ensures schedule_picture { ScheduleIsDrawn }
+    ensures rest_picture { RestIsDrawn }
     ensures log_picture { LogIsDrawn }
     ensures plan { PlanAnswersPlan }
     ensures improve { ImproveAnswersPlan }
@@ -98,10 +101,11 @@ pub fn resume_writes_the_same()
     ensures as_drive { ResumeWritesAsDrive }
 {}
 
-/// A run ends with 0 or 1 and writes nothing on the error output. (The line of progress on a terminal goes to another
-/// device.) Or it ends with 2 or more, and what failed is written there: with 2 what is wrong with the words, else the
-/// line of the fault in which the command ended. In place of a refused text it may be that memory ran out, and if
-/// an answer couldn't be written, that. This is written whole, unless a write of the error output has failed.
+/// A run ends with 0 or 1 and writes nothing on the error output, but by a command with `--svg` the line that is
+/// answered in place of a picture. (The line of progress on a terminal goes to another device.) Or it ends with 2 or
+/// more, and what failed is written there: with 2 what is wrong with the words, else the line of the fault in which the
+/// command ended. In place of a refused text it may be that memory ran out, and if an answer couldn't be written, that.
+/// This is written whole, unless a write of the error output has failed.
 pub fn what_fails_is_told<T: Texts>()
     ensures { WhatFailsIsTold T.gives }
 {}

@@ -3,6 +3,7 @@ use Rattle.command_run.specs.Streams.{Devices}
 use Rattle.command_run.specs.Logs.{IsToldOfLog}
 use Rattle.command_run.specs.Program.{manner_in, pair_in}
 use Rattle.command_run.proofs.Choosing.{told_of_path, logged}
+use Rattle.command_run.proofs.Keepers.{kept_ends}
 use Rattle.command_run.proofs.LoggedEndings.{silent_logged}
 use Rattle.command_run.proofs.LogsAtEnd.{held_at_end}
 use Rattle.command_run.proofs.program.drive_logged.Goals as goal
@@ -26,7 +27,7 @@ returns g c =
           runs = logged g.T.Texts.gives c.args.chosen.now _ _ c.logged_answer-outcome.result.outcome c.logged_answer-outcome.result.streams run.end c.args.path.now c.pair-pair.result c.manner-manner.result c.requires.kept
               c.pair-pair.ensures c.manner-manner.ensures run.is;
           input = c.end-status.ensures.input;
-          ends = c.end-status.ensures.ends;
+          ends = kept_ends c.args.chosen.now c.args.path.now c.logged_answer-outcome.result.outcome _ _ _ _ c.end-status.result c.requires.kept c.end-status.ensures.ends;
         };
         held = held_at_end g.L.Log.LogFile.seen g.L.Log.LogFile.may_leave g.L.Log.LogFile.failed g.B.Before.before c.logged_answer-outcome.result.outcome _ _ _ _ c.end-status.result c.logged_answer-outcome.result.log run.end
             (λ driven. silent_logged _ _ _ _ _ run.is.shaped _ run.is.drives driven) c.end-status.ensures.ends run.held;

@@ -5,7 +5,7 @@ use Rattle.command_answers.specs.Timetables.{IsTimetable}
 use Rattle.command_answers.specs.BoundLines.{AreBounds}
 use Rattle.command_answers.specs.LogLines.{IsLogLine}
 use Rattle.command_answers.specs.Rests.{IsRestLine}
-use Rattle.program_laws.proofs.GoodFiles.{good_facts, good_plan, good_log, good_schedule_picture, good_log_picture, good_search, good_improvement, good_rest_improvement, good_drive, good_resume}
+use Rattle.program_laws.proofs.GoodFiles.{good_facts, good_plan, good_log, good_schedule_picture, good_rest_picture, good_log_picture, good_search, good_improvement, good_rest_improvement, good_drive, good_resume}
 use Rattle.program_laws.proofs.GoodHubs.{good_hub}
 use Rattle.program_laws.proofs.GoodInputs.{good_input}
 use Rattle.program_laws.proofs.laws.good_files_are_answered.Goals as goal
@@ -36,6 +36,9 @@ returns-clause-rest c = λ telling at content pair log text p outcome asked good
 
 pub returns-clause-schedule_picture : goal.returns-clause-schedule_picture
 returns-clause-schedule_picture c = λ before after content pair p outcome asked good run. good_schedule_picture content pair p good before after outcome asked run
+
+pub returns-clause-rest_picture : goal.returns-clause-rest_picture
+returns-clause-rest_picture c = λ at before after content pair log text p outcome asked good is shaped run. good_rest_picture content pair p good at before after log text outcome asked is shaped run
 
 pub returns-clause-log_picture : goal.returns-clause-log_picture
 returns-clause-log_picture c = λ before after content pair log text p outcome asked good is shaped run. good_log_picture content pair p good before after log text outcome asked is shaped run

@@ -28,6 +28,9 @@ returns-clause-rest c = λ telling at log content pair text fault outcome asked 
 pub returns-clause-schedule_picture : goal.returns-clause-schedule_picture
 returns-clause-schedule_picture c = λ before after content pair text fault outcome asked is first run. picture_first content pair text fault is first _ before after outcome asked run
 
+pub returns-clause-rest_picture : goal.returns-clause-rest_picture
+returns-clause-rest_picture c = λ at log before after content pair text fault outcome asked is first run. picture_first content pair text fault is first _ before after outcome asked run
+
 pub returns-clause-log_picture : goal.returns-clause-log_picture
 returns-clause-log_picture c = λ log before after content pair text fault outcome asked is first run. picture_first content pair text fault is first _ before after outcome asked run
 
