@@ -1,0 +1,13 @@
+pub mod Places
+pub mod Fitting
+pub mod EndedParts
+pub mod PlacedParts
+pub mod Keeping
+pub mod Revisions
+pub mod ClosedWalks
+pub mod EndedArcs
+pub mod PlacedArcs
+pub mod RevisedLaws
+pub mod Outcomes
+pub mod Written
+pub mod Downs

@@ -1,0 +1,164 @@
+-- The arcs where a job is placed: no arc leads from it to another job, and the others are as they were.
+use Rattle.std.proofs.Common.{◌≡◌, ◌≢◌, ℕ, zero, suc, ◌+◌, ◌<◌, ◌≤◌, ◌⊎◌, inl, inr, List, [], ◌∷◌, ◌++◌, length, get_or, sym, ap, ◌∙◌, subst, refl, arith, length-append}
+use Rattle.std.proofs.lemmas.Bool.{cases_lt, cases_eq}
+use Rattle.std.proofs.lemmas.List.{get_or_past}
+use Rattle.std.proofs.Math.ListN.{get_or-append}
+use Rattle.std.proofs.Math.Seq.{get_or-append_seam}
+use Rattle.shop_base.specs.declared.shop.Step.{Step}
+use Rattle.shop_base.specs.declared.node.Node.{Node}
+use Rattle.shop_base.specs.Shop.{step_at}
+use Rattle.shop_base.specs.Plan.{PlannedShop, jobs, machines, steps, route, nominal, clean, order, job_at, Visits, Stands}
+use Rattle.shop_base.specs.Cell.{Cell, made, since, entries, IsOn}
+use Rattle.shop_base.specs.Activity.{Activity, Arrival, Operation, Cleaning, GoesOn}
+use Rattle.shop_base.specs.Graph.{node, Arc, job_arc, blocking_arc, HasArc, ArcsLead, IsNode, IsSimpleCycle}
+use Rattle.shop_base.specs.Ahead.{PathAhead, now, held, onward, HoldsUp}
+use Rattle.plan_verifier.specs.Accepted.{HasNoCycle}
+use Rattle.plan_revise.specs.Fits.{IsFit}
+use Rattle.plan_revise.specs.Parts.{IsOnRoute, Places}
+use Rattle.plan_revise.specs.Paths.{HasLonger}
+use Rattle.plan_revise.proofs.Fitting.{fit-machine}
+use Rattle.plan_revise.proofs.PlacedParts.{on_or_off}
+use Rattle.plan_revise.proofs.ClosedWalks.{no_way_back}
+
+module _ (p : PlannedShop) (j : ℕ) (r : List Step) (first last : ℕ) (q : PlannedShop) (fit : IsFit p) (places : Places p j r first last q) where
+  visits_others : (i k m : ℕ) → i ≢ j → Visits q i k m → Visits p i k m
+  visits_others i k m other visits = record {
+    within = omega (arith, ap length (places.others i other), visits.within);
+    here = sym (ap (λ (s : List Step). (step_at s k).machine) (places.others i other)) ∙ visits.here;
+  }
+
+  -- another job stands where it stood
+  stands_others : (m a i k : ℕ) → i ≢ j → Stands q m a i k → Stands p m a i k
+  stands_others m a i k other stands = elim (on_or_off r m) [
+    | inr off ↦ record {
+      within = omega (arith, ap length (places.elsewhere m off), stands.within);
+      job = sym (ap (λ (xs : List ℕ). get_or xs a 0) (places.elsewhere m off)) ∙ stands.job;
+      visits = visits_others i k m other stands.visits;
+    }
+    | inl on ↦ elim (cases_lt a (length (order p m))) [
+      | inl less ↦ record {
+        within = less;
+        job = sym (ap (λ (xs : List ℕ). get_or xs a 0) (places.last m on) ∙ get_or-append (order p m) (j ∷ []) 0 a less) ∙ stands.job;
+        visits = visits_others i k m other stands.visits;
+      }
+      | inr more ↦ absurd (other (sym stands.job ∙ ap (job_at q m) (at on more) ∙ ap (λ (xs : List ℕ). get_or xs (length (order p m)) 0) (places.last m on) ∙ get_or-append_seam (order p m) j [] 0))
+    ]
+  ]
+    where
+      at : IsOnRoute r m → length (order p m) ≤ a → a ≡ length (order p m)
+      at on more = omega (arith, stands.within, ap length (places.last m on), length-append (order p m) (j ∷ []))
+
+  -- the job that is placed is in no order of before
+  not_before : (m a : ℕ) → m < machines p → a < length (order p m) → job_at p m a ≢ j
+  not_before m a inside within same =
+      let found = (fit.orders m inside).on_route a within in
+      omega (arith, found.1.within, ap length (ap (route p) same ∙ places.none))
+
+  -- it stands last
+  stands_last : (m a k l g : ℕ) → l ≢ j → Stands q m a j k → Stands q m (a + 1) l g → ⊥
+  stands_last m a k l g other one next = elim (on_or_off r m) [
+    | inr off ↦ off (k, omega (arith, one.visits.within, ap length places.route_is), sym (ap (λ (s : List Step). (step_at s k).machine) places.route_is) ∙ one.visits.here)
+    | inl on ↦ not_before m a (fit-machine p fit l g m (visits_others l g m other next.visits)) (less on)
+        (sym (ap (λ (xs : List ℕ). get_or xs a 0) (places.last m on) ∙ get_or-append (order p m) (j ∷ []) 0 a (less on)) ∙ one.job)
+  ]
+    where
+      less : IsOnRoute r m → a < length (order p m)
+      less on = omega (arith, next.within, ap length (places.last m on), length-append (order p m) (j ∷ []))
+
+  -- an arc to another job comes from another job, and is one of before
+  pub placed-arc : (u v : Node) (d : ℕ) → Arc q u v d → v.job ≢ j → (u.job ≢ j) × Arc p u v d
+  placed-arc _ _ _ (job_arc i k within) other =
+      (other, subst (λ d. Arc p (node i k) (node i (k + 1)) d) (sym (ap (λ (s : List Step). (step_at s k).nominal) (places.others i other))) (job_arc i k (omega (arith, ap length (places.others i other)))))
+  placed-arc _ _ _ (blocking_arc m a i k l g one next) other = elim (cases_eq i j) [
+    | inl same ↦ absurd (stands_last m a k l g other (subst (λ i. Stands q m a i k) same one) next)
+    | inr apart ↦ (
+      apart,
+      subst (λ d. Arc p (node i (k + 1)) (node l g) d) (sym (places.cleans m))
+          (blocking_arc m a i k l g (stands_others m a i k apart one) (stands_others m (a + 1) l g other next)),
+    )
+  ]
+
+  -- an arc from it leads to its next place
+  placed-own : (u v : Node) (d : ℕ) → Arc q u v d → u.job ≡ j → (v.job ≡ j) × (u.place < v.place)
+  placed-own _ _ _ (job_arc i k within) same = (same, omega arith)
+  placed-own _ _ _ (blocking_arc m a i k l g one next) same = elim (cases_eq l j) [
+    | inr other ↦ absurd (stands_last m a k l g other (subst (λ i. Stands q m a i k) same one) next)
+    | inl mine ↦ absurd (twice (subst (λ i. Stands q m a i k) same one) (subst (λ l. Stands q m (a + 1) l g) mine next))
+  ]
+    where
+      twice : Stands q m a j k → Stands q m (a + 1) j g → ⊥
+      twice one next = elim (on_or_off r m) [
+        | inr off ↦ off (k, omega (arith, one.visits.within, ap length places.route_is), sym (ap (λ (s : List Step). (step_at s k).machine) places.route_is) ∙ one.visits.here)
+        | inl on ↦ (let less : a < length (order p m) = omega (arith, next.within, ap length (places.last m on), length-append (order p m) (j ∷ [])) in
+            not_before m a (on_machine on) less (sym (ap (λ (xs : List ℕ). get_or xs a 0) (places.last m on) ∙ get_or-append (order p m) (j ∷ []) 0 a less) ∙ one.job))
+      ]
+        where
+          on_machine : IsOnRoute r m → m < machines p
+          on_machine on = elim (cases_lt m (machines p)) [
+            | inl inside ↦ inside
+            | inr past ↦ absurd (omega (arith, next.within, ap length (places.last m on), length-append (order p m) (j ∷ []), ap length (get_or_past p.plan.order m [] (omega (arith, fit.counts.orders)))))
+          ]
+
+  own_rise : (u : Node) (ws : List Node) (v : Node) → ArcsLead q u ws v → u.job ≡ j → (v.job ≡ j) × (u.place < v.place)
+  own_rise u [] v (d, arc) same = placed-own u v d arc same
+  own_rise u (w ∷ ws) v ((d, arc), rest) same =
+      let one = placed-own u w d arc same in
+      let more = own_rise w ws v rest one.0 in
+      (more.0, omega (arith, one.1, more.1))
+
+  others_lead : (u : Node) (ws : List Node) (v : Node) → ArcsLead q u ws v → v.job ≢ j → ArcsLead p u ws v
+  others_lead u [] v (d, arc) other = (d, (placed-arc u v d arc other).1)
+  others_lead u (w ∷ ws) v ((d, arc), rest) other = elim (cases_eq w.job j) [
+    | inl same ↦ absurd (other (own_rise w ws v rest same).0)
+    | inr apart ↦ ((d, (placed-arc u w d arc apart).1), others_lead w ws v rest other)
+  ]
+
+  -- no cycle where there was none
+  pub placed-no_cycle : HasNoCycle p → HasNoCycle q
+  placed-no_cycle acyclic [] cycle = cycle
+  placed-no_cycle acyclic (u ∷ us) (distinct, leads) = elim (cases_eq u.job j) [
+    | inl same ↦ omega (arith, (own_rise u us u leads same).1)
+    | inr other ↦ no_way_back p u us acyclic (others_lead u us u leads other)
+  ]
+
+  -- each path to another job's node is as long as one of before
+  module _ (c : Cell) (t : ℕ) where
+    pub placed-path : (nodes : List Node) (v : Node) (size : ℕ) → PathAhead q c t nodes v size → v.job ≢ j → HasLonger p c t v size
+    placed-path _ _ _ (now v is ahead) other = record {
+      nodes = v ∷ [];
+      size = t;
+      path = now v (record { job = places.jobs_but v.job is.job other; place = omega (arith, is.place, ap length (places.others v.job other)) }) ahead;
+      longer = omega arith;
+    }
+    placed-path _ _ _ (held (Arrival i) due v goes holds) other = record {
+      nodes = v ∷ [];
+      size = due;
+      path = held (Arrival i) due v (record { outside = goes.outside; not_ready = goes.not_ready; is_due = goes.is_due ∙ places.releases i (λ same. other (ap (λ (w : Node). w.job) holds ∙ same)) }) holds;
+      longer = omega arith;
+    }
+    placed-path _ _ _ (held (Operation i m) due v (k, goes) holds) other = record {
+      nodes = v ∷ [];
+      size = due;
+      path = held (Operation i m) due v (
+        k,
+        record {
+          on = record { entered = goes.on.entered; visits = visits_others i k m apart goes.on.visits };
+          not_ready = goes.not_ready;
+          is_due = goes.is_due ∙ ap (λ x. since c i + x) (ap (λ (s : List Step). (step_at s k).nominal) (places.others i apart));
+        },
+      ) holds;
+      longer = omega arith;
+    }
+      where
+        apart : i ≢ j
+        apart same = other (ap (λ (w : Node). w.job) holds ∙ same)
+    placed-path _ _ _ (held (Cleaning m) due v (from, goes) holds) other = record {
+      nodes = v ∷ [];
+      size = due;
+      path = held (Cleaning m) due v (from, record { is_cleaned = goes.is_cleaned; is_due = goes.is_due ∙ ap (λ x. from + x) (places.cleans m) }) (stands_others m (length (entries c m)) v.job v.place other holds);
+      longer = omega arith;
+    }
+    placed-path _ _ _ (onward nodes u v size d path arc) other =
+        let one = placed-arc u v d arc other in
+        let l = placed-path nodes u size path one.0 in
+        record { nodes = l.nodes ++ v ∷ []; size = l.size + d; path = onward l.nodes u v l.size d l.path one.1; longer = omega (arith, l.longer) }

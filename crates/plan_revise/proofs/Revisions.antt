@@ -1,0 +1,335 @@
+-- What a change makes fits again, and keeps the run so far.
+use Rattle.std.proofs.Common.{◌≡◌, ◌≢◌, ℕ, zero, suc, ◌+◌, ◌<◌, ◌≤◌, ◌⊎◌, inl, inr, List, [], ◌∷◌, ◌++◌, length, take, get_or, min, max, Option, None, Some, Bool, true, false, cond, nat_lt, eqb, refl, sym, ap, ◌∙◌, subst, arith, length-append, add-one, ◌-◌}
+use Rattle.std.proofs.lemmas.Bool.{cases_eq, cases_lt, cases_Bool, eqb-true, eq-eqb, ne_eqb, ltb-true, ltb-false, lt-ltb}
+use Rattle.std.proofs.lemmas.List.{get_or-set_other, length-set, get_or_past, length-take}
+use Rattle.std.proofs.lemmas.List.Quantifiers.{position-Some}
+use Rattle.shop_base.specs.declared.shop.Step.{Step}
+use Rattle.shop_base.specs.declared.limits.TheConstants.{MAX_JOBS, MAX_MACHINES, MAX_NOMINAL, MAX_RELEASE, MAX_MOMENT}
+use Rattle.shop_base.specs.Shop.{IsRoute, IsSoundStep, step_at, no_step}
+use Rattle.shop_base.specs.Plan.{PlannedShop, jobs, machines, route, steps, clean, Visits, IsWellShaped}
+use Rattle.shop_base.specs.Cell.{Cell, made, since, IsGone}
+use Rattle.shop_base.proofs.Visits.{visits_job}
+use Rattle.plan_revise.specs.declared.change.Change.{Change}
+use Rattle.plan_revise.specs.declared.change.Change.TheVariants.{Until, Add, Scrap, Down}
+use Rattle.plan_revise.specs.Promises.{no_promise}
+use Rattle.plan_revise.specs.Ended.{ended}
+use Rattle.plan_revise.specs.Placed.{placed, with_job, with_machine, added}
+use Rattle.plan_revise.specs.Settings.{Setting, moves_made, HasLeft}
+use Rattle.plan_revise.specs.Aside.{IsAside, IsPlant, aside_route, with_aside, HasRoom, put_aside}
+use Rattle.plan_revise.specs.Stopped.{place_on, stopped, stopped_at, without_machine}
+use Rattle.plan_revise.specs.Changes.{lasting, given_or, IsProlonged, IsAdded, IsScrapped, IsWithout, Becomes}
+use Rattle.plan_revise.specs.Fits.{IsFit, IsKept, IsRevision, IsSetting}
+use Rattle.plan_revise.specs.Parts.{Ends, Places}
+use Rattle.plan_revise.specs.Stages.{IsStage}
+use Rattle.plan_revise.proofs.Fitting.{shaped_fits}
+use Rattle.plan_revise.proofs.EndedParts.{ended-ends, ended-fit}
+use Rattle.plan_revise.proofs.PlacedParts.{default_more, placed-places, placed-fit, SameVisits, with_job-same, with_job-fit, with_machine-same, with_machine-fit, with_machine-clean, lasting-lasts, lasting-same, lasting-fit}
+use Rattle.plan_revise.proofs.Keeping.{moves_given, given_kept, ends_keep, places_keep, same_keep}
+
+-- what is given is a revision of itself
+pub given_revision : (s : Setting) → IsSetting s → IsRevision s s.given
+given_revision s is = record {
+  fit = shaped_fits s.given is.shaped;
+  some_step = λ j inside. (is.shaped.shop.routes j inside).visits_some;
+  kept = given_kept s is;
+  no_fewer = omega arith;
+  plant = elim is.plant [
+    | inl aside ↦ inr (sym aside.last)
+    | inr whole ↦ inl (sym whole.0)
+  ];
+}
+
+-- ---- a job that is put aside
+
+-- the machine of the jobs that are put aside is there
+pub record HasAside (s : Setting) (p q : PlannedShop) : Type 0 where
+  pub fit : IsFit q
+  pub same : SameVisits p q
+  pub kept : IsKept s q
+  pub cleans : (m : ℕ) → clean q m ≡ clean p m
+  pub routes : q.shop.routes ≡ p.shop.routes
+  pub releases : q.plan.release ≡ p.plan.release
+  pub budgets : q.plan.budget ≡ p.plan.budget
+  pub count : machines q ≡ s.plant + 1
+
+pub has_aside : (s : Setting) (p : PlannedShop) → IsRevision s p → HasRoom s p → HasAside s p (with_aside s p)
+has_aside s p revision room = elim (cases_eq (machines p) s.plant) [
+  | inl same ↦ subst (HasAside s p) (sym (brought same)) (more same)
+  | inr other ↦ subst (HasAside s p) (sym (there other)) (as_is other)
+]
+  where
+    brought : machines p ≡ s.plant → with_aside s p ≡ with_machine p
+    brought same = rw (eq-eqb (machines p) s.plant same) refl
+
+    there : machines p ≢ s.plant → with_aside s p ≡ p
+    there other = rw (ne_eqb (machines p) s.plant other) refl
+
+    more : machines p ≡ s.plant → HasAside s p (with_machine p)
+    more same = record {
+      fit = with_machine-fit p revision.fit (omega (arith, room same));
+      same = with_machine-same p;
+      kept = same_keep s p (with_machine p) revision.kept (with_machine-same p) (omega arith) (with_machine-clean p);
+      cleans = with_machine-clean p;
+      routes = refl;
+      releases = refl;
+      budgets = refl;
+      count = omega arith;
+    }
+
+    as_is : machines p ≢ s.plant → HasAside s p p
+    as_is other = record {
+      fit = revision.fit;
+      same = record { lengths = λ j. refl; machines_same = λ j k. refl; orders = λ m. refl };
+      kept = revision.kept;
+      cleans = λ m. refl;
+      routes = refl;
+      releases = refl;
+      budgets = refl;
+      count = elim revision.plant [ inl same ↦ absurd (other same) | inr behind ↦ behind ];
+    }
+
+pub aside_sound : (plant count : ℕ) → plant < count → (k : ℕ) → k < length (aside_route plant) → IsSoundStep count (aside_route plant) k
+aside_sound plant count less zero within = record { in_range = less; first_visit = λ i before same. absurd (omega arith); nominal = omega arith }
+aside_sound plant count less (suc k) within = absurd (omega arith)
+
+module _ (s : Setting) (p : PlannedShop) (j : ℕ) (is : IsSetting s) (revision : IsRevision s p) (inside : j < jobs p) (outside : moves_made s j ≡ 0) (room : HasRoom s p) where
+  -- the parts by which it is put aside
+  pub aside_first : HasAside s p (with_aside s p)
+  aside_first = has_aside s p revision room
+
+  pub aside_inside : j < jobs (with_aside s p)
+  aside_inside = omega (arith, ap length aside_first.routes)
+
+  pub aside_ends : Ends (with_aside s p) j 0 (ended (with_aside s p) j 0)
+  aside_ends = ended-ends (with_aside s p) j 0 aside_first.fit aside_inside
+
+  pub aside_fit : IsFit (ended (with_aside s p) j 0)
+  aside_fit = ended-fit (with_aside s p) j 0 aside_first.fit aside_inside
+
+  pub aside_places : Places (ended (with_aside s p) j 0) j (aside_route s.plant) (min s.present MAX_RELEASE) no_promise (put_aside s p j)
+  aside_places = placed-places (ended (with_aside s p) j 0) j (aside_route s.plant) (min s.present MAX_RELEASE) no_promise aside_fit
+      (omega (arith, aside_inside, aside_ends.jobs_same)) aside_ends.mine (aside_sound s.plant (machines (with_aside s p)) (omega (arith, aside_first.count)))
+
+  not_moved : j < jobs s.given → made s.cell j ≡ 0
+  not_moved given = sym (moves_given s j given) ∙ outside
+
+  pub aside_jobs : jobs (put_aside s p j) ≡ jobs p
+  aside_jobs = length-set (ended (with_aside s p) j 0).shop.routes j (aside_route s.plant) ∙ aside_ends.jobs_same ∙ ap length aside_first.routes
+
+  pub aside_others : (i : ℕ) → i ≢ j → route (put_aside s p j) i ≡ route p i
+  aside_others i other = aside_places.others i other ∙ aside_ends.others i other ∙ ap (λ (rs : List (List Step)). get_or rs i []) aside_first.routes
+
+  pub aside_revision : IsRevision s (put_aside s p j)
+  aside_revision = record {
+    fit = placed-fit (ended (with_aside s p) j 0) j (aside_route s.plant) (min s.present MAX_RELEASE) no_promise aside_fit
+        (omega (arith, aside_inside, aside_ends.jobs_same)) aside_ends.mine (aside_sound s.plant (machines (with_aside s p)) (omega (arith, aside_first.count))) (omega arith) (omega arith);
+    some_step = λ i within. elim (cases_eq i j) [
+      | inl same ↦ omega (arith, ap (steps (put_aside s p j)) same, ap length aside_places.route_is)
+      | inr other ↦ omega (arith, ap length (aside_others i other), revision.some_step i (omega (arith, aside_jobs)))
+    ];
+    kept = places_keep s (ended (with_aside s p) j 0) j (aside_route s.plant) (min s.present MAX_RELEASE) no_promise (put_aside s p j)
+        (ends_keep s (with_aside s p) j 0 (ended (with_aside s p) j 0) is aside_first.fit aside_first.kept aside_ends (λ given. omega (arith, not_moved given)) (λ given gone. omega (arith, not_moved given)))
+        aside_places (omega (arith, aside_jobs, aside_ends.jobs_same, ap length aside_first.routes)) not_moved;
+    no_fewer = elim (given_revision s is).plant [ inl whole ↦ omega (arith, aside_first.count) | inr more ↦ omega (arith, aside_first.count) ];
+    plant = inr aside_first.count;
+  }
+
+-- ---- a job that is stopped
+
+pub stopped_outside : (s : Setting) (p : PlannedShop) (j n : ℕ) → moves_made s j ≡ 0 → stopped s p j n ≡ put_aside s p j
+stopped_outside s p j n outside = rw (eq-eqb (moves_made s j) 0 outside) refl
+
+pub stopped_inside : (s : Setting) (p : PlannedShop) (j n : ℕ) → moves_made s j ≢ 0 → stopped s p j n ≡ ended p j n
+stopped_inside s p j n moved = rw (ne_eqb (moves_made s j) 0 moved) refl
+
+-- what stopping one job leaves
+pub record IsOneStopped (s : Setting) (p : PlannedShop) (j : ℕ) (q : PlannedShop) : Type 0 where
+  pub revision : IsRevision s q
+  pub jobs_same : jobs q ≡ jobs p
+  pub others : (i : ℕ) → i ≢ j → route q i ≡ route p i
+  pub more_machines : machines p ≤ machines q
+
+pub stopped-one : (s : Setting) (p : PlannedShop) (j n : ℕ) → IsSetting s → IsRevision s p → j < jobs p → (HasLeft s p j → ⊥) → moves_made s j ≤ n → (moves_made s j ≡ 0 → HasRoom s p) → IsOneStopped s p j (stopped s p j n)
+stopped-one s p j n is revision inside here behind room = elim (cases_eq (moves_made s j) 0) [
+  | inl outside ↦ subst (IsOneStopped s p j) (sym (stopped_outside s p j n outside)) (record {
+    revision = aside_revision s p j is revision inside outside (room outside);
+    jobs_same = aside_jobs s p j is revision inside outside (room outside);
+    others = aside_others s p j is revision inside outside (room outside);
+    more_machines = omega (arith, (has_aside s p revision (room outside)).count, count revision.plant);
+  })
+  | inr moved ↦ subst (IsOneStopped s p j) (sym (stopped_inside s p j n moved)) (record {
+    revision = cut moved;
+    jobs_same = ends.jobs_same;
+    others = ends.others;
+    more_machines = omega arith;
+  })
+]
+  where
+    count : (machines p ≡ s.plant) ⊎ (machines p ≡ s.plant + 1) → machines p ≤ s.plant + 1
+    count (inl same) = omega arith
+    count (inr more) = omega arith
+
+    ends : Ends p j n (ended p j n)
+    ends = ended-ends p j n revision.fit inside
+
+    cut : moves_made s j ≢ 0 → IsRevision s (ended p j n)
+    cut moved = record {
+      fit = ended-fit p j n revision.fit inside;
+      some_step = λ i within. elim (cases_eq i j) [
+        | inl same ↦ omega (arith, ap (steps (ended p j n)) same, ap length ends.mine, length-take n (route p j), revision.some_step j inside)
+        | inr other ↦ omega (arith, ap length (ends.others i other), revision.some_step i (omega (arith, ends.jobs_same)))
+      ];
+      kept = ends_keep s p j n (ended p j n) is revision.fit revision.kept ends (λ given. omega (arith, moves_given s j given)) (λ given gone. here (omega (arith, moves_given s j given, revision.kept.left j given gone)));
+      no_fewer = revision.no_fewer;
+      plant = revision.plant;
+    }
+
+-- a job that has left the machine isn't stopped, and one that is there or has it ahead is
+pub stopped_at_past : (s : Setting) (p : PlannedShop) (j k : ℕ) → nat_lt (k + 1) (moves_made s j) ≡ true → stopped_at s p j (Some k) ≡ p
+stopped_at_past s p j k past = rw past refl
+
+pub stopped_at_ahead : (s : Setting) (p : PlannedShop) (j k : ℕ) → nat_lt (k + 1) (moves_made s j) ≡ false → stopped_at s p j (Some k) ≡ stopped s p j (max k (moves_made s j))
+stopped_at_ahead s p j k ahead = rw ahead refl
+
+-- ---- all jobs but some stopped at a machine
+
+pub place_within : (m : ℕ) (r : List Step) (k : ℕ) → place_on m r ≡ Some k → (k < length r) × ((step_at r k).machine ≡ m)
+place_within m r k found =
+    let at = position-Some (λ (step : Step). eqb step.machine m) r k no_step found in
+    (at.0, eqb-true (step_at r k).machine m at.1)
+
+pub stage_first : (s : Setting) (p : PlannedShop) (m : ℕ) → IsRevision s p → IsStage s p m 0 p
+stage_first s p m revision = record {
+  is = refl;
+  revision = revision;
+  jobs_same = refl;
+  others = λ j more. refl;
+  more_machines = omega arith;
+  room = λ j k less. absurd (omega arith);
+}
+
+module _ (s : Setting) (is : IsSetting s) where
+  -- one more job stopped at the machine
+  pub stopped_at-one : (p : PlannedShop) (m j : ℕ) (found : Option ℕ) → place_on m (route p j) ≡ found → IsRevision s p → j < jobs p → ((k : ℕ) → moves_made s j ≡ 0 → Visits p j k m → HasRoom s p) → IsOneStopped s p j (stopped_at s p j found)
+  stopped_at-one p m j None is_none revision inside room = record { revision = revision; jobs_same = refl; others = λ i other. refl; more_machines = omega arith }
+  stopped_at-one p m j (Some k) is_there revision inside room = elim (cases_Bool (nat_lt (k + 1) (moves_made s j))) [
+    | inl past ↦ subst (IsOneStopped s p j) (sym (stopped_at_past s p j k past)) (record { revision = revision; jobs_same = refl; others = λ i other. refl; more_machines = omega arith })
+    | inr ahead ↦ subst (IsOneStopped s p j) (sym (stopped_at_ahead s p j k ahead)) (stopped-one s p j (max k (moves_made s j)) is revision inside
+        (λ left. omega (arith, (place_within m (route p j) k is_there).0, ltb-false (k + 1) (moves_made s j) ahead)) (omega arith)
+        (λ outside. room k outside (record { within = (place_within m (route p j) k is_there).0; here = (place_within m (route p j) k is_there).1 })))
+  ]
+
+  pub stage_next : (p : PlannedShop) (m j : ℕ) (q r : PlannedShop) → IsStage s p m j q → j < jobs p → r ≡ stopped_at s q j (place_on m (route q j)) → ((k : ℕ) → moves_made s j ≡ 0 → Visits q j k m → HasRoom s q) → IsStage s p m (j + 1) r
+  stage_next p m j q r stage inside is_next room = subst (IsStage s p m (j + 1)) (sym is_next) (record {
+    is = ap (λ (x : PlannedShop). stopped_at s x j (place_on m (route x j))) stage.is ∙ ap (without_machine s p m) (sym (add-one j));
+    revision = one.revision;
+    jobs_same = one.jobs_same ∙ stage.jobs_same;
+    others = λ i more. one.others i (omega arith) ∙ stage.others i (omega arith);
+    more_machines = omega (arith, one.more_machines, stage.more_machines);
+    room = λ i k less outside visits. elim (cases_eq i j) [
+      | inl same ↦ room_before (room k (ap (moves_made s) (sym same) ∙ outside) (there k (subst (λ i. Visits p i k m) same visits)))
+      | inr other ↦ stage.room i k (omega arith) outside visits
+    ];
+  })
+    where
+      one : IsOneStopped s q j (stopped_at s q j (place_on m (route q j)))
+      one = stopped_at-one q m j (place_on m (route q j)) refl stage.revision (omega (arith, stage.jobs_same)) room
+
+      there : (k : ℕ) → Visits p j k m → Visits q j k m
+      there k visits = record {
+        within = omega (arith, ap length (stage.others j (omega arith)), visits.within);
+        here = ap (λ (r : List Step). (step_at r k).machine) (stage.others j (omega arith)) ∙ visits.here;
+      }
+
+      room_before : HasRoom s q → HasRoom s p
+      room_before room same = elim stage.revision.plant [
+        | inl whole ↦ room whole
+        | inr more ↦ omega (arith, stage.revision.fit.size.few_machines)
+      ]
+
+  -- ---- each change
+
+  module _ (p : PlannedShop) (machine to : ℕ) (q : PlannedShop) (revision : IsRevision s p) (made : IsProlonged s p machine to q) where
+    prolonged_inside : made.job < jobs p
+    prolonged_inside = omega (arith, visits_job s.given made.job made.step machine made.at_work.on.visits, revision.kept.jobs_there)
+
+    prolonged_within : made.step < steps p made.job
+    prolonged_within = (revision.kept.entered made.job made.step (omega (arith, made.at_work.on.entered)) (record { within = made.at_work.on.visits.within; here = refl })).within
+
+    pub prolonged_same : SameVisits p (lasting p made.job made.step (to - since s.cell made.job))
+    prolonged_same = lasting-same p made.job made.step (to - since s.cell made.job) prolonged_inside prolonged_within
+
+    pub prolonged_jobs : jobs (lasting p made.job made.step (to - since s.cell made.job)) ≡ jobs p
+    prolonged_jobs = (lasting-lasts p made.job made.step (to - since s.cell made.job) prolonged_inside prolonged_within).jobs_same
+
+    pub prolonged-revision : IsRevision s q
+    prolonged-revision = subst (IsRevision s) (sym made.is) (record {
+      fit = lasting-fit p made.job made.step (to - since s.cell made.job) prolonged_inside prolonged_within revision.fit made.short;
+      some_step = λ j there. omega (arith, prolonged_same.lengths j, revision.some_step j (omega (arith, prolonged_jobs)));
+      kept = same_keep s p (lasting p made.job made.step (to - since s.cell made.job)) revision.kept prolonged_same (omega (arith, prolonged_jobs)) (λ m. refl);
+      no_fewer = revision.no_fewer;
+      plant = revision.plant;
+    })
+
+  module _ (p : PlannedShop) (r : List Step) (release budget : ℕ) (revision : IsRevision s p) (few : jobs p < MAX_JOBS) (sound : IsRoute s.plant r) where
+    pub added_inside : jobs p < jobs (with_job p)
+    added_inside = omega (arith, length-append p.shop.routes ([] ∷ []))
+
+    pub added_none : route (with_job p) (jobs p) ≡ []
+    added_none = default_more p.shop.routes [] (jobs p) ∙ get_or_past p.shop.routes (jobs p) [] (omega arith)
+
+    pub added_sound : (k : ℕ) → k < length r → IsSoundStep (machines p) r k
+    added_sound k less = let one = sound.steps k less in record { in_range = elim revision.plant [ inl same ↦ omega (arith, one.in_range) | inr more ↦ omega (arith, one.in_range) ]; first_visit = one.first_visit; nominal = one.nominal }
+
+    pub added_fit : IsFit (with_job p)
+    added_fit = with_job-fit p revision.fit few
+
+    pub added_places : Places (with_job p) (jobs p) r release budget (added p r release budget)
+    added_places = placed-places (with_job p) (jobs p) r release budget added_fit added_inside added_none added_sound
+
+    pub added-revision : release ≤ MAX_RELEASE → budget ≤ MAX_MOMENT → IsRevision s (added p r release budget)
+    added-revision early in_range = record {
+      fit = placed-fit (with_job p) (jobs p) r release budget added_fit added_inside added_none added_sound early in_range;
+      some_step = λ j there. elim (cases_eq j (jobs p)) [
+        | inl same ↦ omega (arith, ap (steps (added p r release budget)) same, ap length added_places.route_is, sound.visits_some)
+        | inr other ↦ omega (arith, ap length (added_places.others j other), (with_job-same p).lengths j, revision.some_step j (omega (arith, added_places.jobs_but j there other, length-append p.shop.routes ([] ∷ []), other)))
+      ];
+      kept = places_keep s (with_job p) (jobs p) r release budget (added p r release budget)
+          (same_keep s p (with_job p) revision.kept (with_job-same p) (omega (arith, added_inside)) (λ m. refl)) added_places
+          (omega (arith, length-set (with_job p).shop.routes (jobs p) r)) (λ given. absurd (omega (arith, revision.kept.jobs_there)));
+      no_fewer = revision.no_fewer;
+      plant = revision.plant;
+    }
+
+  pub scrapped-revision : (p : PlannedShop) (j : ℕ) (q : PlannedShop) → IsRevision s p → IsScrapped s p j q → IsRevision s q
+  scrapped-revision p j q revision made = subst (IsRevision s) (sym made.is) (stopped-one s p j (moves_made s j) is revision made.in_shop made.here (omega arith) made.room).revision
+
+  pub stage_room : (p : PlannedShop) (m n : ℕ) (q : PlannedShop) (k : ℕ) → IsRevision s p → IsStage s p m n q → ((j k : ℕ) → moves_made s j ≡ 0 → Visits p j k m → HasRoom s p) → moves_made s n ≡ 0 → Visits q n k m → HasRoom s q
+  stage_room p m n q k revision stage room outside visits same = elim revision.plant [
+    | inl whole ↦ room n k outside before whole
+    | inr more ↦ absurd (omega (arith, stage.more_machines))
+  ]
+    where
+      before : Visits p n k m
+      before = record {
+        within = omega (arith, ap length (stage.others n (omega arith)), visits.within);
+        here = sym (ap (λ (r : List Step). (step_at r k).machine) (stage.others n (omega arith))) ∙ visits.here;
+      }
+
+  pub stage_upto : (p : PlannedShop) (m n : ℕ) → IsRevision s p → n ≤ jobs p → ((j k : ℕ) → moves_made s j ≡ 0 → Visits p j k m → HasRoom s p) → IsStage s p m n (without_machine s p m n)
+  stage_upto p m zero revision few room = stage_first s p m revision
+  stage_upto p m (suc n) revision few room =
+      let before = stage_upto p m n revision (omega arith) room in
+      subst (λ i. IsStage s p m i (without_machine s p m (suc n))) (add-one n)
+      (stage_next p m n (without_machine s p m n) (without_machine s p m (suc n)) before (omega arith) refl (λ k outside visits. stage_room p m n (without_machine s p m n) k revision before room outside visits))
+
+  pub without-revision : (p : PlannedShop) (m : ℕ) (q : PlannedShop) → IsRevision s p → IsWithout s p m q → IsRevision s q
+  without-revision p m q revision made = subst (IsRevision s) (sym made.is) (stage_upto p m (jobs p) revision (omega arith) made.room).revision
+
+  -- each change keeps all this
+  pub becomes-revision : (p : PlannedShop) (change : Change) (q : PlannedShop) → IsRevision s p → Becomes s p change q → IsRevision s q
+  becomes-revision p (Until machine to) q revision made = prolonged-revision p machine to q revision made
+  becomes-revision p (Add words release budget) q revision made =
+      subst (IsRevision s) (sym made.is) (added-revision p made.steps (given_or release s.present) (given_or budget no_promise) revision made.few_jobs made.sound made.release_in_range made.budget_in_range)
+  becomes-revision p (Scrap j) q revision made = scrapped-revision p j q revision made
+  becomes-revision p (Down machine) q revision made = without-revision p machine q revision made

@@ -1,0 +1,199 @@
+-- What writes to the rows of a draft make of its plan.
+use Rattle.std.proofs.Common.{◌≡◌, ◌≢◌, ℕ, zero, suc, ◌+◌, ◌-◌, ◌<◌, ◌≤◌, ◌⊎◌, inl, inr, List, [], ◌∷◌, ◌++◌, length, take, drop, get_or, set, Vec, Global, Option, None, Some, Result, Ok, Err, Bool, true, false, eqb, refl, sym, ap, ◌∙◌, subst, arith, add-one, drop-cons}
+use Rattle.std.specs.Prelude.{IfOk, IfErr, IsTrue, ◌↔◌, slice_get}
+use Rattle.std.specs.List.{position_or_len}
+use Rattle.std.proofs.lemmas.Bool.{eq-eqb, eqb-true, cases_Bool, cases_lt, lt-ltb}
+use Rattle.std.proofs.lemmas.List.{get_or-map, get_or_default, map-set, length-map}
+use Rattle.std.proofs.lemmas.List.Quantifiers.{position-Some}
+use Rattle.std.proofs.lemmas.Option.{same_Some}
+use Rattle.shop_base.specs.declared.job_state.JobState.{JobState}
+use Rattle.shop_base.specs.declared.shop.Step.{Step}
+use Rattle.shop_base.specs.Vectors.{lists_of}
+use Rattle.shop_base.specs.Shop.{step_at, no_step}
+use Rattle.shop_base.specs.Plan.{PlannedShop, jobs, machines, route, machine_of, steps, order, job_at, clean, Visits, IsWellShaped}
+use Rattle.shop_base.specs.Cell.{Cell, job_in, made, ready, IsOn}
+use Rattle.shop_base.proofs.Visits.{visits_job, visits-stands}
+use Rattle.shop_base.proofs.Keeping.{alone_on}
+use Rattle.plan_revise.specs.declared.change.Change.{Change}
+use Rattle.plan_revise.specs.declared.change_fault.ChangeFault.{ChangeFault}
+use Rattle.plan_revise.specs.declared.not_revised.NotRevised.{NotRevised}
+use Rattle.plan_revise.specs.declared.not_revised.NotRevised.TheVariants.{Refused, Memory as NoMemory}
+use Rattle.plan_revise.specs.declared.refusal.Refusal.{Refusal}
+use Rattle.plan_revise.specs.declared.refusal.Refusal.TheVariants.{Fault, Memory}
+use Rattle.plan_revise.specs.Orders.{changed_at, taken_out, put_last}
+use Rattle.plan_revise.specs.Promises.{no_promise}
+use Rattle.plan_revise.specs.Ended.{ended}
+use Rattle.plan_revise.specs.Placed.{placed}
+use Rattle.plan_revise.specs.Aside.{IsAside, IsAsideJob, IsPlant}
+use Rattle.plan_revise.specs.Changes.{lasting, Becomes}
+use Rattle.plan_revise.specs.Refusals.{IsRefused}
+use Rattle.plan_revise.specs.Revised.{AreMade, IsFirstRefused, IsRevised, IsReason}
+use Rattle.plan_revise.specs.Settings.{Setting, setting, IsAtWork}
+use Rattle.plan_revise.specs.Stopped.{place_on}
+use Rattle.plan_revise.specs.Fits.{IsSetting}
+use Rattle.plan_revise.specs.Answers.{Tells, TellsFirst, told_at}
+
+differ : false ≡ true → ⊥
+differ e = cc
+
+-- one row is written
+pub row_set : {X : Type 0} (rows : List (Vec X Global)) (i : ℕ) (old new : Vec X Global) (f : List X → List X) → i < length rows → old ≡ get_or rows i old → new.items ≡ f old.items
+    → lists_of (set rows i new) ≡ set (lists_of rows) i (f (get_or (lists_of rows) i []))
+row_set {X} rows i old new f within read written =
+    map-set (λ (r : Vec X Global). r.items) rows i new
+    ∙ ap (set (lists_of rows) i) (written ∙ ap f (ap (λ (r : Vec X Global). r.items) read ∙ sym (get_or-map (λ (r : Vec X Global). r.items) rows i old [] within)))
+
+pub row_read : {X : Type 0} (rows : List (Vec X Global)) (i : ℕ) (old : Vec X Global) → i < length rows → old ≡ get_or rows i old → old.items ≡ get_or (lists_of rows) i []
+row_read {X} rows i old within read = ap (λ (r : Vec X Global). r.items) read ∙ sym (get_or-map (λ (r : Vec X Global). r.items) rows i old [] within)
+
+pub length_lists : {X : Type 0} (rows : List (Vec X Global)) → length (lists_of rows) ≡ length rows
+length_lists {X} rows = length-map rows (λ (r : Vec X Global). r.items)
+
+-- the order at one more step is changed
+pub changed_step : (f : List ℕ → List ℕ) (steps : List Step) (rows : List (Vec ℕ Global)) (i m : ℕ) (old new : Vec ℕ Global) (total : List (List ℕ))
+    → i < length steps → (step_at steps i).machine ≡ m → m < length rows → old ≡ get_or rows m old → new.items ≡ f old.items
+    → changed_at f (drop i steps) (lists_of rows) ≡ total → changed_at f (drop (i + 1) steps) (lists_of (set rows m new)) ≡ total
+changed_step f steps rows i m old new total within here inside read written so_far =
+    ap (λ n. changed_at f (drop n steps) (lists_of (set rows m new))) (add-one i)
+    ∙ ap (changed_at f (drop (suc i) steps)) (row_set rows m old new f inside read written ∙ ap (λ n. set (lists_of rows) n (f (get_or (lists_of rows) n []))) (sym here))
+    ∙ sym (ap (λ (ss : List Step). changed_at f ss (lists_of rows)) (drop-cons steps i no_step within))
+    ∙ so_far
+
+pub draft_ended : (p : PlannedShop) (j n : ℕ) (routes : List (List Step)) (orders : List (List ℕ)) → routes ≡ set p.shop.routes j (take n (route p j)) → orders ≡ taken_out j (drop n (route p j)) p.plan.order
+    → record p { shop = record p.shop { routes = routes }; plan = record p.plan { budget = set p.plan.budget j no_promise; order = orders } } ≡ ended p j n
+draft_ended p j n routes orders cut out = rw (cut, out) refl
+
+pub draft_placed : (p : PlannedShop) (j : ℕ) (mine : List Step) (first last : ℕ) (routes : List (List Step)) (orders : List (List ℕ)) → routes ≡ set p.shop.routes j mine → orders ≡ put_last j mine p.plan.order
+    → record p { shop = record p.shop { routes = routes }; plan = record p.plan { release = set p.plan.release j first; budget = set p.plan.budget j last; order = orders } } ≡ placed p j mine first last
+draft_placed p j mine first last routes orders one other = rw (one, other) refl
+
+pub draft_lasting : (p : PlannedShop) (j k time : ℕ) (routes : List (List Step)) → routes ≡ set p.shop.routes j (set (route p j) k (record { machine = machine_of p j k; nominal = time }))
+    → record p { shop = record p.shop { routes = routes } } ≡ lasting p j k time
+draft_lasting p j k time routes one = rw one refl
+
+-- a step that is written in its row
+pub step_written : (row : List Step) (k time : ℕ) (read : Step) → k < length row → read ≡ get_or row k read → set row k (record { machine = read.machine; nominal = time }) ≡ set row k (record { machine = (step_at row k).machine; nominal = time })
+step_written row k time read within is = ap (λ (s : Step). set row k (record { machine = s.machine; nominal = time })) (is ∙ get_or_default row k read no_step within)
+
+-- where no element passes, all of them don't
+none_pass : {X : Type 0} (p : X → Bool) (xs : List X) (d : X) → length xs ≤ position_or_len p xs → (k : ℕ) → k < length xs → p (get_or xs k d) ≡ true → ⊥
+none_pass p [] d all k within pass = omega arith
+none_pass p (x ∷ xs) d all zero within pass = let none : suc (length xs) ≤ 0 = rw pass at all in omega (arith, none)
+none_pass p (x ∷ xs) d all (suc k) within pass = elim (cases_Bool (p x)) [
+  | inl here ↦ (let none : suc (length xs) ≤ 0 = rw here at all in absurd (omega (arith, none)))
+  | inr not_here ↦ (let more : suc (length xs) ≤ 1 + position_or_len p xs = rw not_here at all in none_pass p xs d (omega (arith, more)) k (omega arith) pass)
+]
+
+-- where the machine isn't on the route, no step is on it
+pub not_on : (m : ℕ) (r : List Step) → place_on m r ≡ None → (k : ℕ) → k < length r → (step_at r k).machine ≡ m → ⊥
+not_on m r none k within here = go (cases_lt (position_or_len (λ (step : Step). eqb step.machine m) r) (length r))
+  where
+    found : Some (position_or_len (λ (step : Step). eqb step.machine m) r) ≡ None → ⊥
+    found same = cc
+
+    go : (position_or_len (λ (step : Step). eqb step.machine m) r < length r) ⊎ (length r ≤ position_or_len (λ (step : Step). eqb step.machine m) r) → ⊥
+    go (inl less) = let some = rw (lt-ltb (position_or_len (λ (step : Step). eqb step.machine m) r) (length r) less) at none in found some
+    go (inr all) = none_pass (λ (step : Step). eqb step.machine m) r no_step all k within (eq-eqb (step_at r k).machine m here)
+
+-- what is told of one kind is of another
+pub tells_more : {X : Type 0} (One Other : ChangeFault → Type 0) → ((fault : ChangeFault) → One fault → Other fault) → (answer : Result X Refusal) → IfErr answer (Tells One) → IfErr answer (Tells Other)
+tells_more One Other more (Ok x) told = tt
+tells_more One Other more (Err (Fault fault)) told = more fault told
+tells_more One Other more (Err Memory) told = tt
+
+-- a job in an order is of the shop
+pub listed_job : (p : PlannedShop) (m a : ℕ) → IsWellShaped p → m < machines p → a < length (order p m) → job_at p m a < jobs p
+listed_job p m a shaped inside within = let found = (shaped.orders m inside).on_route a within in visits_job p (job_at p m a) found.0 m found.1
+
+-- ---- who is at work on a machine
+
+-- where the job on a machine is ready, none is at work there
+pub none_at_work : (s r : Setting) (m j : ℕ) (state : JobState) → s ≡ r → IsSetting s → IsOn s.given s.cell j (made s.cell j - 1) m → state ≡ job_in s.cell j → state.ready ≡ true → (i k : ℕ) → IsAtWork r i k m → ⊥
+none_at_work s r m j state same is on read done i k work_there =
+    let work : IsAtWork s i k m = subst (λ (s : Setting). IsAtWork s i k m) (sym same) work_there in
+    let one : i ≡ j = alone_on s.given s.cell i k j (made s.cell j - 1) m is.shaped is.sound work.on on in
+    differ (sym work.not_ready ∙ ap (ready s.cell) one ∙ sym (ap (λ (x : JobState). x.ready) read) ∙ done)
+
+-- where it isn't, it is at work
+pub one_at_work : (s r : Setting) (m j : ℕ) (state : JobState) → s ≡ r → IsOn s.given s.cell j (made s.cell j - 1) m → state ≡ job_in s.cell j → state.ready ≡ false → (k : ℕ) × IsAtWork r j k m
+one_at_work s r m j state same on read working =
+    (made s.cell j - 1, subst (λ (x : Setting). IsAtWork x j (made s.cell j - 1) m) same (record { on = on; not_ready = sym (ap (λ (x : JobState). x.ready) read) ∙ working }))
+
+-- ---- visits by the place of a machine on a route
+
+pub no_visit : (p : PlannedShop) (j m : ℕ) (row : List Step) → row ≡ route p j → place_on m row ≡ None → (k : ℕ) → Visits p j k m → ⊥
+no_visit p j m row read none k visits = not_on m row none k (omega (arith, visits.within, ap length read)) (ap (λ (r : List Step). (step_at r k).machine) read ∙ visits.here)
+
+pub found_visit : (p : PlannedShop) (j m k : ℕ) (row : List Step) → row ≡ route p j → place_on m row ≡ Some k → Visits p j k m
+found_visit p j m k row read found =
+    let at = position-Some (λ (step : Step). eqb step.machine m) row k no_step found in
+    record {
+      within = omega (arith, at.0, ap length read);
+      here = sym (ap (λ (r : List Step). (step_at r k).machine) read) ∙ eqb-true (step_at row k).machine m at.1;
+    }
+
+-- ---- the machine of the jobs that are put aside
+
+pub aside_by_places : (p : PlannedShop) (m : ℕ) (b : Bool) → IsWellShaped p → m + 1 ≡ machines p → 0 < length (order p m) → clean p m ≡ 0
+    → IsTrue b ↔ ((a : ℕ) → a < length (order p m) → IsAsideJob p (job_at p m a)) → IsTrue b ↔ IsAside p m
+aside_by_places p m b shaped last visited uncleaned says = (
+  λ pass. record {
+    last = last;
+    visited = visited;
+    uncleaned = uncleaned;
+    visitors = λ j k visits. (let found = visits-stands p j k m shaped visits in subst (IsAsideJob p) found.1.job (says.0 pass found.0 found.1.within));
+  },
+  λ aside. says.1 (λ a within. (let found = (shaped.orders m (omega arith)).on_route a within in aside.visitors (job_at p m a) found.0 found.1)),
+)
+
+pub plant_without : (p : PlannedShop) (last : ℕ) → last + 1 ≡ machines p → (IsAside p last → ⊥) → IsPlant p (last + 1)
+plant_without p last is none = inr (is, λ m aside. none (subst (IsAside p) (same m aside.last) aside))
+  where
+    same : (m : ℕ) → m + 1 ≡ machines p → m ≡ last
+    same m there = omega arith
+
+-- ---- changes one after another
+
+made_more : (s : Setting) (p : PlannedShop) (changes : List Change) (n : ℕ) (q r : PlannedShop) (change : Change) → slice_get changes n ≡ Some change → AreMade s p (take n changes) q → Becomes s q change r → AreMade s p (take (suc n) changes) r
+made_more s p [] n q r change there made one = absurd (no_some there)
+  where
+    no_some : None ≡ Some change → ⊥
+    no_some same = cc
+made_more s p (first ∷ changes) zero q r change there made one = (r, subst (λ (x : PlannedShop). Becomes s x first r) made (subst (λ (x : Change). Becomes s q x r) (sym (same_Some first change there)) one), refl)
+made_more s p (first ∷ changes) (suc n) q r change there (next, begun, rest) one = (next, begun, made_more s next changes n q r change there rest one)
+
+pub changes_more : (s : Setting) (p : PlannedShop) (changes : List Change) (n : ℕ) (q r : PlannedShop) (change : Change) → slice_get changes n ≡ Some change → AreMade s p (take n changes) q → Becomes s q change r → AreMade s p (take (n + 1) changes) r
+changes_more s p changes n q r change there made one = subst (λ k. AreMade s p (take k changes) r) (sym (add-one n)) (made_more s p changes n q r change there made one)
+
+-- the refusal of a change is told at its place
+pub tells_first : (s : Setting) (p : PlannedShop) (changes : List Change) (n : ℕ) (q : PlannedShop) (change : Change) (refusal : Refusal) → slice_get changes n ≡ Some change → AreMade s p (take n changes) q → Tells (IsRefused s q change) refusal
+    → TellsFirst s p changes (told_at n refusal)
+tells_first s p changes n q change (Fault fault) there made refused = record { reached = q; before = made; change = change; there = there; refused = refused }
+tells_first s p changes n q change Memory there made refused = tt
+
+-- what is told first of the changes that are given
+pub first_reason : (p : PlannedShop) (c : Cell) (t : ℕ) (changes : List Change) (plant : ℕ) (answer : NotRevised) → IsPlant p plant → TellsFirst (setting p c t plant) p changes answer → IsReason p c t changes answer
+first_reason p c t changes plant (Refused n fault) is_plant first = record { plant = plant; is_plant = is_plant; first = first }
+first_reason p c t changes plant NoMemory is_plant first = tt
+
+-- ---- the whole
+
+module _ (run : Setting) (p : PlannedShop) (c : Cell) (t : ℕ) (changes : List Change) (draft : PlannedShop) (is : run ≡ setting p c t run.plant) (sound : IsSetting run) (same : draft ≡ p) where
+  plant_of : IsPlant p run.plant
+  plant_of = subst (λ (x : PlannedShop). IsPlant x run.plant) (ap (λ (s : Setting). s.given) is) sound.plant
+
+  pub revised_answer : (answer : Result PlannedShop NotRevised) → IfOk answer (AreMade run draft changes) → IfOk answer (IsRevised p c t changes)
+  revised_answer (Ok q) made = record {
+    plant = run.plant;
+    is_plant = plant_of;
+    made = subst (λ (x : PlannedShop). AreMade (setting p c t run.plant) x changes q) same (subst (λ (s : Setting). AreMade s draft changes q) is made);
+  }
+  revised_answer (Err answer) made = tt
+
+  pub refused_answer : (answer : Result PlannedShop NotRevised) → IfErr answer (TellsFirst run draft changes) → IfErr answer (IsReason p c t changes)
+  refused_answer (Ok q) told = tt
+  refused_answer (Err answer) told = first_reason p c t changes run.plant answer plant_of
+      (subst (λ (x : PlannedShop). TellsFirst (setting p c t run.plant) x changes answer) same (subst (λ (s : Setting). TellsFirst s draft changes answer) is told))
+
+  pub draft_given : run.given ≡ draft
+  draft_given = ap (λ (s : Setting). s.given) is ∙ sym same

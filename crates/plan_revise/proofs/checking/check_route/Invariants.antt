@@ -1,0 +1,7 @@
+use Rattle.std.proofs.Common.{◌<◌}
+use Rattle.shop_base.specs.ShopFault.{AreSoundSteps}
+use Rattle.plan_revise.proofs.checking.check_route.Given as goal
+
+-- the steps before this one are sound
+abbrev pub invariant-loop-place : goal.invariant-loop-place
+invariant-loop-place l = AreSoundSteps l.machines l.route l.place

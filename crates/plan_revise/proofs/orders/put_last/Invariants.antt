@@ -1,0 +1,11 @@
+use Rattle.std.proofs.Common.{◌≡◌, drop, length}
+use Rattle.shop_base.specs.Vectors.{lists_of}
+use Rattle.plan_revise.specs.Orders.{put_last}
+use Rattle.plan_revise.proofs.orders.put_last.Given as goal
+
+-- the steps that are left give the whole
+abbrev pub invariant-loop-step : goal.invariant-loop-step
+invariant-loop-step l = record {
+  so_far : put_last l.job (drop l.step-index l.steps) (lists_of l.orders.items) ≡ put_last l.job l.steps (lists_of l.initial.orders.items);
+  size : length l.orders.items ≡ length l.initial.orders.items;
+}

@@ -1,0 +1,50 @@
+-- What the parts of a change answer.
+use Rattle.std.specs.Prelude.{◌≡◌, ℕ, ◌<◌, ◌≤◌, List, Option, None, Some, MatchOption, Result, Ok, Err}
+use Rattle.shop_base.specs.declared.limits.TheConstants.{MAX_JOBS, MAX_RELEASE, MAX_MOMENT}
+use Rattle.shop_base.specs.declared.shop.Step.{Step}
+use Rattle.shop_base.specs.Shop.{IsRoute}
+use Rattle.shop_base.specs.Plan.{PlannedShop, jobs, Visits}
+use Rattle.plan_revise.specs.declared.change_fault.ChangeFault.{ChangeFault}
+use Rattle.plan_revise.specs.declared.change_fault.ChangeFault.TheVariants.{TooManyMachines}
+use Rattle.plan_revise.specs.declared.refusal.Refusal.{Refusal}
+use Rattle.plan_revise.specs.declared.refusal.Refusal.TheVariants.{Fault, Memory}
+use Rattle.plan_revise.specs.declared.change.Change.{Change}
+use Rattle.plan_revise.specs.declared.not_revised.NotRevised.{NotRevised}
+use Rattle.plan_revise.specs.declared.not_revised.NotRevised.TheVariants.{Refused, Memory as NoMemory}
+use Rattle.plan_revise.specs.Revised.{IsFirstRefused}
+use Rattle.plan_revise.specs.Settings.{Setting, moves_made, IsAtWork}
+use Rattle.plan_revise.specs.Aside.{HasRoom}
+
+-- the fault that is told, unless memory ran out, is one of these
+abbrev pub Tells : (ChangeFault → Type 0) → Refusal → Type 0
+Tells Is (Fault fault) = Is fault
+Tells Is Memory = Unit {0}
+
+-- job j is outside, and there is no room for a machine more
+abbrev pub IsNoRoom : Setting → PlannedShop → ℕ → ChangeFault → Type 0
+IsNoRoom s p j fault = (fault ≡ TooManyMachines) × (moves_made s j ≡ 0) × (HasRoom s p → ⊥)
+
+-- job j is outside and has machine m ahead, and there is no room for a machine more
+abbrev pub IsNoRoomFor : Setting → PlannedShop → ℕ → ℕ → ChangeFault → Type 0
+IsNoRoomFor s p j m fault = IsNoRoom s p j fault × (k : ℕ) × Visits p j k m
+
+-- this is the job whose operation goes on on machine m
+abbrev pub IsWorker : Setting → ℕ → Option ℕ → Type 0
+IsWorker s m job = MatchOption job ((j k : ℕ) → IsAtWork s j k m → ⊥) (λ j. (k : ℕ) × IsAtWork s j k m)
+
+-- a job with these steps, this release and this budget can be added
+pub record AreFitFor (s : Setting) (p : PlannedShop) (steps : List Step) (release budget : ℕ) : Type 0 where
+  pub few_jobs : jobs p < MAX_JOBS
+  pub sound : IsRoute s.plant steps
+  pub release_in_range : release ≤ MAX_RELEASE
+  pub budget_in_range : budget ≤ MAX_MOMENT
+
+-- what is told of a refusal of the change at place n
+abbrev pub told_at : ℕ → Refusal → NotRevised
+told_at n (Fault fault) = Refused n fault
+told_at n Memory = NoMemory
+
+-- the answer tells the first of the changes that can't be, unless memory ran out
+abbrev pub TellsFirst : Setting → PlannedShop → List Change → NotRevised → Type 0
+TellsFirst s p changes (Refused n fault) = IsFirstRefused s p changes n fault
+TellsFirst s p changes NoMemory = Unit {0}

@@ -1,0 +1,43 @@
+-- Changes one after another.
+use Rattle.std.specs.Prelude.{◌≡◌, ℕ, List, [], ◌∷◌, take, slice_get, Some}
+use Rattle.shop_base.specs.Plan.{PlannedShop}
+use Rattle.shop_base.specs.Cell.{Cell}
+use Rattle.plan_revise.specs.declared.change.Change.{Change}
+use Rattle.plan_revise.specs.declared.change_fault.ChangeFault.{ChangeFault}
+use Rattle.plan_revise.specs.declared.not_revised.NotRevised.{NotRevised}
+use Rattle.plan_revise.specs.declared.not_revised.NotRevised.TheVariants.{Refused, Memory}
+use Rattle.plan_revise.specs.Settings.{Setting, setting}
+use Rattle.plan_revise.specs.Aside.{IsPlant}
+use Rattle.plan_revise.specs.Changes.{Becomes}
+use Rattle.plan_revise.specs.Refusals.{IsRefused}
+
+-- the changes, each of what those before it made, make this of the shop and its plan
+abbrev pub AreMade : Setting → PlannedShop → List Change → PlannedShop → Type 0
+AreMade s p [] q = q ≡ p
+AreMade s p (change ∷ changes) q = (next : PlannedShop) × Becomes s p change next × AreMade s next changes q
+
+-- the change at place n is the first that can't be, for this reason
+pub record IsFirstRefused (s : Setting) (p : PlannedShop) (changes : List Change) (n : ℕ) (fault : ChangeFault) : Type 0 where
+  pub reached : PlannedShop
+  pub before : AreMade s p (take n changes) reached
+  pub change : Change
+  pub there : slice_get changes n ≡ Some change
+  pub refused : IsRefused s reached change fault
+
+module _ (p : PlannedShop) (c : Cell) (t : ℕ) (changes : List Change) where
+  -- all changes are made, by the run so far, the present moment and the machines of the plant
+  pub record IsRevised (q : PlannedShop) : Type 0 where
+    pub plant : ℕ
+    pub is_plant : IsPlant p plant
+    pub made : AreMade (setting p c t plant) p changes q
+
+  -- one of them can't be
+  pub record IsRefusedAt (n : ℕ) (fault : ChangeFault) : Type 0 where
+    pub plant : ℕ
+    pub is_plant : IsPlant p plant
+    pub first : IsFirstRefused (setting p c t plant) p changes n fault
+
+  -- the answer tells which, unless memory ran out
+  abbrev pub IsReason : NotRevised → Type 0
+  IsReason (Refused n fault) = IsRefusedAt n fault
+  IsReason Memory = Unit {0}

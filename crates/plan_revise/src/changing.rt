@@ -1,0 +1,107 @@
+//! One change.
+
+ghost use Rattle.std.specs.Prelude.{◌≡◌, OnOk, IfErr};
+ghost use Rattle.plan_revise.specs.Changes.{Becomes, IsProlonged, IsScrapped, IsWithout};
+ghost use Rattle.plan_revise.specs.Refusals.{IsRefused, IsUntilFault, IsScrapFault, IsDownFault};
+ghost use Rattle.plan_revise.specs.Fits.{IsRevision};
+ghost use Rattle.plan_revise.specs.Answers.{Tells};
+
+use crate::change::Change;
+use crate::change_fault::ChangeFault;
+use crate::draft::Draft;
+use crate::refusal::Refusal;
+use crate::run_so_far::RunSoFar;
+use shop_base::limits::MAX_NOMINAL;
+use shop_base::{JobNo, MachineNo, Moment, Planned};
+use std::alloc::Global;
+
+impl Draft {
+    /// Makes a change. Where it can't be made, or memory runs out, what is left is for nobody.
+    pub(crate) fn make<P: Planned>(
+        &mut self,
+        alloc: Global,
+        run: &RunSoFar<P>,
+        change: Change,
+    ) -> Result<(), Refusal>
+        requires { IsRevision run.now self.old }
+        ensures made { OnOk result (Becomes run.now self.old change.entry self.new) }
+        ensures refused { IfErr result (Tells (IsRefused run.now self.old change.entry)) }
+    {
+        match change {
+            Change::Until { machine, to } => self.prolong(run, machine, to),
+            Change::Add {
+                route,
+                release,
+                budget,
+            } => self.add(alloc, run, route, release, budget),
+            Change::Scrap { job } => self.scrap(alloc, run, job),
+            Change::Down { machine } => self.shut_down(alloc, run, machine),
+        }
+    }
+
+    /// Lets the operation that goes on on the machine last until a moment.
+    fn prolong<P: Planned>(
+        &mut self,
+        run: &RunSoFar<P>,
+        machine: MachineNo,
+        to: Moment,
+    ) -> Result<(), Refusal>
+        requires { IsRevision run.now self.old }
+        ensures made { OnOk result (IsProlonged run.now self.old machine to self.new) }
+        ensures refused { IfErr result (Tells (IsUntilFault run.now self.old machine to)) }
+    {
+        if machine >= run.plant() {
+            return Err(Refusal::Fault(ChangeFault::MachineOutOfRange));
+        }
+        let Some(job) = run.worker(machine) else {
+            return Err(Refusal::Fault(ChangeFault::Idle));
+        };
+        if to < run.present() {
+            return Err(Refusal::Fault(ChangeFault::TooSoon));
+        }
+        let time = to - run.entry_of(job);
+        if time > MAX_NOMINAL {
+            return Err(Refusal::Fault(ChangeFault::NominalTooLarge));
+        }
+        self.last_for(job, run.moves_made(job) as usize - 1, time);
+        Ok(())
+    }
+
+    /// Stops the job where it is.
+    fn scrap<P: Planned>(
+        &mut self,
+        alloc: Global,
+        run: &RunSoFar<P>,
+        job: JobNo,
+    ) -> Result<(), Refusal>
+        requires { IsRevision run.now self.old }
+        ensures made { OnOk result (IsScrapped run.now self.old job self.new) }
+        ensures refused { IfErr result (Tells (IsScrapFault run.now self.old job)) }
+    {
+        if job as usize >= self.routes.len() {
+            return Err(Refusal::Fault(ChangeFault::JobOutOfRange));
+        }
+        let made = run.moves_made(job) as usize;
+        if made > self.routes[job as usize].len() {
+            return Err(Refusal::Fault(ChangeFault::JobGone));
+        }
+        self.stop(alloc, run, job, made)
+    }
+
+    /// Lets all jobs do without the machine.
+    fn shut_down<P: Planned>(
+        &mut self,
+        alloc: Global,
+        run: &RunSoFar<P>,
+        machine: MachineNo,
+    ) -> Result<(), Refusal>
+        requires { IsRevision run.now self.old }
+        ensures made { OnOk result (IsWithout run.now self.old machine self.new) }
+        ensures refused { IfErr result (Tells (IsDownFault run.now self.old machine)) }
+    {
+        if machine >= run.plant() {
+            return Err(Refusal::Fault(ChangeFault::MachineOutOfRange));
+        }
+        self.do_without(alloc, run, machine)
+    }
+}

@@ -1,0 +1,35 @@
+//! The laws of revised plans, of every run and of every list of changes that aren't refused.
+
+// Nothing is done here: a function's contract is the law, so a check of this crate proves it.
+
+ghost use Rattle.plan_revise.specs.RevisedLaw.{TheRunSoFarStays, NoCycleComes, NobodyElseIsLater, NoPartComesToAMachineThatIsDown};
+
+use control_laws::laws::a_kept_run_is_one_of_the_other_plan;
+
+/// The run so far is a run of the revised plan in the revised shop, and ends there in the same cell but for what is
+/// ahead.
+pub fn the_run_so_far_stays()
+    ensures { TheRunSoFarStays }
+{
+    a_kept_run_is_one_of_the_other_plan();
+}
+
+/// Where the plan has no cycle, the revised plan has none. So a run that goes on by it never sticks.
+pub fn no_cycle_comes()
+    ensures { NoCycleComes }
+{}
+
+/// Where no operation is said to last longer, no job that was there and isn't put aside is later for the changes: its
+/// earliest leaving is at most what it was, and so is each of its moves that both plans have.
+pub fn nobody_else_is_later()
+    ensures { NobodyElseIsLater }
+{
+    a_kept_run_is_one_of_the_other_plan();
+}
+
+/// No job has a machine ahead that is down. So no order brings a part there.
+pub fn no_part_comes_to_a_machine_that_is_down()
+    ensures { NoPartComesToAMachineThatIsDown }
+{
+    a_kept_run_is_one_of_the_other_plan();
+}

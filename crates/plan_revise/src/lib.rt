@@ -1,0 +1,26 @@
+//! A plan and its shop changed in mid-run: an operation that is known to last longer, one more job, a job that is scrapped
+//! or won't come, a machine that does no more. What is ahead is changed, and the run so far stays a run.
+//!
+//! Jobs, machines and places are numbered from 0. Moments are whole time units, counted from moment 0.
+#![tactic(auto)]
+
+mod adding;
+mod aside;
+mod change;
+mod change_fault;
+mod changing;
+mod checking;
+mod draft;
+mod ending;
+pub mod laws;
+mod not_revised;
+mod orders;
+mod refusal;
+mod revising;
+mod run_so_far;
+mod stopping;
+
+pub use change::Change;
+pub use change_fault::ChangeFault;
+pub use not_revised::NotRevised;
+pub use revising::revise;

@@ -1,0 +1,13 @@
+use crate::change_fault::ChangeFault;
+use thiserror::Error;
+
+/// Why a run isn't revised. What was given is as it was.
+#[derive(Clone, Copy, Debug, PartialEq, Eq, Error)]
+pub enum NotRevised {
+    /// The change at this place of the list, from 0, is the first that can't be.
+    #[error("change {change} {fault}")]
+    Refused { change: usize, fault: ChangeFault },
+    /// Out of memory.
+    #[error("Memory")]
+    Memory,
+}

@@ -1,0 +1,103 @@
+//! Changes one after another.
+
+ghost use Rattle.std.specs.Prelude.{◌≡◌, ◌<◌, ◌≤◌, IfOk, OnOk, IfErr, length, slice_get, Some};
+ghost use Rattle.plan_revise.specs.Revised.{AreMade, IsRevised, IsReason};
+ghost use Rattle.plan_revise.specs.Fits.{IsRevision};
+ghost use Rattle.plan_revise.specs.Answers.{told_at, TellsFirst};
+
+use crate::change::Change;
+use crate::draft::Draft;
+use crate::not_revised::NotRevised;
+use crate::refusal::Refusal;
+use crate::run_so_far::RunSoFar;
+use cell_tables::WorkCell;
+use shop_base::{Moment, Planned, Shaped};
+use std::alloc::Global;
+
+/// The shop and its plan after these changes, each of what those before it made: by the cell at the end of the run so
+/// far, and the present moment, which isn't before the last one of that run. What is given stays as it is. With no
+/// change the answer is a copy of it.
+///
+/// Whoever has changes of several kinds gives all [`Change::Until`] first, then all [`Change::Add`], all
+/// [`Change::Scrap`] and all [`Change::Down`].
+pub fn revise<P: Planned>(
+    alloc: Global,
+    cell: &WorkCell<P>,
+    present: Moment,
+    changes: &[Change],
+) -> Result<Shaped, NotRevised>
+    requires { cell.now.cell.last ≤ present }
+    ensures revised { IfOk result (IsRevised cell.now.plan cell.now.cell present changes.now) }
+    ensures refused { IfErr result (IsReason cell.now.plan cell.now.cell present changes.now) }
+{
+    let run = RunSoFar::of(cell, present);
+    match Draft::of(alloc, cell.shaped()) {
+        Ok(draft) => draft.revised_by(alloc, &run, changes),
+        Err(_) => Err(NotRevised::Memory),
+    }
+}
+
+impl Draft {
+    /// The shop and its plan after these changes.
+    fn revised_by<P: Planned>(
+        self,
+        alloc: Global,
+        run: &RunSoFar<P>,
+        changes: &[Change],
+    ) -> Result<Shaped, NotRevised>
+        requires { IsRevision run.now self }
+        ensures revised { IfOk result (AreMade run.now self changes.now) }
+        ensures refused { IfErr result (TellsFirst run.now self changes.now) }
+    {
+        let mut draft = self;
+        match draft.make_all(alloc, run, changes) {
+            Ok(()) => Ok(draft.into_shaped()),
+            Err(answer) => Err(answer),
+        }
+    }
+
+    /// Makes these changes, one after another.
+    fn make_all<P: Planned>(
+        &mut self,
+        alloc: Global,
+        run: &RunSoFar<P>,
+        changes: &[Change],
+    ) -> Result<(), NotRevised>
+        requires { IsRevision run.now self.old }
+        ensures made { OnOk result (AreMade run.now self.old changes.now self.new) }
+        ensures revision { OnOk result (IsRevision run.now self.new) }
+        ensures refused { IfErr result (TellsFirst run.now self.old changes.now) }
+    {
+        // Called for its clause alone: what changes are judged by is sound.
+        let _plant = run.plant();
+        for place in 0..changes.len() {
+            let change = change_at(changes, place);
+            match self.make(alloc, run, change) {
+                Ok(()) => {}
+                Err(refusal) => return Err(told_at(place, refusal)),
+            }
+        }
+        Ok(())
+    }
+}
+
+/// What is told of a refusal of the change at this place.
+fn told_at(place: usize, refusal: Refusal) -> NotRevised
+    ensures { result ≡ told_at place refusal }
+{
+    match refusal {
+        Refusal::Fault(fault) => NotRevised::Refused {
+            change: place,
+            fault,
+        },
+        Refusal::Memory => NotRevised::Memory,
+    }
+}
+
+/// The change at this place.
+fn change_at<'a>(changes: &[Change<'a>], place: usize) -> Change<'a>
+    requires { place < length changes.now }
+    ensures { slice_get changes.now place ≡ Some result }
+{
+    changes[place]
+}
