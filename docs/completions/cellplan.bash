@@ -12,7 +12,7 @@ _cellplan() {
   case $command in
     plan) options='--instance --rounds --help' ;;
     improve) options='--instance --after --at --rounds --seed --help' ;;
-    decide) options='--instance --least --job --choices --help' ;;
+    decide) options='--instance --after --at --least --job --choices --help' ;;
     check | explain) options='--instance --after --at --help' ;;
     schedule) options='--instance --after --at --svg --help' ;;
     drive) options='--instance --log --at --lines --leap --help' ;;

@@ -311,18 +311,24 @@ improvement_fits = fits_leaf (as_built (described Improve)) Improve one one none
 )
     (_, refl, refl, refl, refl, refl) (_, refl, refl, refl, refl, refl) refl refl refl tt (λ x y z p q r. omega arith)
 
-decision_fits : FitsLeaf (as_built (plan_command (codes "decide") decision_rules))
-decision_fits = fits_leaf (as_built (plan_command (codes "decide") decision_rules)) Decide one one none refl refl refl (
+decision_fits : FitsLeaf (as_built (rest_command (codes "decide") decision_rules))
+decision_fits = fits_leaf (as_built (rest_command (codes "decide") decision_rules)) Decide one one none refl refl refl (
   set_plain _ _ refl refl refl refl,
   (
     set_plain _ _ refl refl refl refl,
     (
       set_plain _ _ refl refl refl refl,
       (
-        switch_plain _ _ refl refl refl,
+        set_plain _ _ refl refl refl refl,
         (
           set_plain _ _ refl refl refl refl,
-          (number_plain _ _ refl refl refl (omega arith) (omega arith), (help_plain _ _ refl refl refl refl, tt)),
+          (
+            switch_plain _ _ refl refl refl,
+            (
+              set_plain _ _ refl refl refl refl,
+              (number_plain _ _ refl refl refl (omega arith) (omega arith), (help_plain _ _ refl refl refl refl, tt)),
+            ),
+          ),
         ),
       ),
     ),

@@ -248,7 +248,7 @@ fn decision<'a>(alloc: Global) -> Result<Command<'a>, AllocError>
     ensures { IfOk result (Describes (leaf (described CommandName.Decide))) }
 {
     let about = "Says whether any plan can keep the budgets of PLAN";
-    let asked = on_plan(alloc, "decide", about)?.arg(least(alloc))?;
+    let asked = on_rest(alloc, "decide", about)?.arg(least(alloc))?;
     let aimed = asked.arg(job(alloc))?;
     aimed.arg(choices(alloc))
 }
