@@ -3,11 +3,11 @@ _cellplan() {
   local word=${COMP_WORDS[COMP_CWORD]} before=${COMP_WORDS[COMP_CWORD - 1]} command=${COMP_WORDS[1]} options
   COMPREPLY=()
   if [ "$COMP_CWORD" -eq 1 ]; then
-    mapfile -t COMPREPLY < <(compgen -W 'facts shape check explain schedule bounds plan improve decide drive resume hub audit gantt --help --version' -- "$word")
+    mapfile -t COMPREPLY < <(compgen -W 'facts shape check explain schedule bounds plan improve decide revise drive resume hub audit gantt --help --version' -- "$word")
     return
   fi
   case $before in
-    --instance | --at | --lines | --leap | --rounds | --seed | --job | --choices) return ;;
+    --instance | --at | --lines | --leap | --rounds | --seed | --job | --choices | --until | --add | --release | --budget | --scrap | --down) return ;;
   esac
   case $command in
     plan) options='--instance --rounds --help' ;;
@@ -19,6 +19,7 @@ _cellplan() {
     hub) options='--instance --lines --leap --help' ;;
     gantt) options='--instance --svg --help' ;;
     facts | shape | bounds | audit) options='--instance --help' ;;
+    revise) options='--instance --at --until --add --release --budget --scrap --down --file --help' ;;
     resume) options='--instance --at --lines --leap --help' ;;
     *) return ;;
   esac

@@ -1,4 +1,5 @@
 pub mod Apart
+pub mod Asking
 pub mod Described
 pub mod Fits
 pub mod Getters

@@ -10,10 +10,12 @@ use Rattle.clap.specs.Kinds.{or_else}
 use Rattle.clap.specs.Words.{IsAmong, IsSignedIn, Kinds, Row, Text, all_of, fault_of, first_of, one_of, subcommand_of, without_minus}
 use Rattle.clap.specs.declared.error.kind.ErrorKind.{ErrorKind}
 use Rattle.clap.specs.declared.error.kind.ErrorKind.TheVariants.{ArgumentConflict, DisplayHelp, DisplayVersion, MissingRequiredArgument, OutOfMemory, ValueValidation}
+use Rattle.command_words.specs.Given.{is_moment, is_number, values_of}
+use Rattle.command_words.specs.Changes.{change_seen, changes_in, revision_misfit}
 use Rattle.command_words.specs.CommandLine.{command_line, most_rounds, greatest_seed, most_choices, latest_moment}
 use Rattle.command_words.specs.declared.words.Chosen.{Chosen}
 use Rattle.command_words.specs.declared.words.CommandName.{CommandName}
-use Rattle.command_words.specs.declared.words.CommandName.TheVariants.{Input, Facts, Shape, Check, Explain, Schedule, Bounds, Plan, Improve, Decide, Drive, Resume, Hub, Audit, Gantt}
+use Rattle.command_words.specs.declared.words.CommandName.TheVariants.{Input, Facts, Shape, Check, Explain, Schedule, Bounds, Plan, Improve, Decide, Revise, Drive, Resume, Hub, Audit, Gantt}
 use Rattle.command_words.specs.declared.words.Lines.{Lines}
 use Rattle.command_words.specs.declared.words.Lines.TheVariants.{One, Two}
 use Rattle.command_words.specs.declared.words.WordsFault.{WordsFault}
@@ -31,6 +33,7 @@ word_of Bounds = Some (codes "bounds")
 word_of Plan = Some (codes "plan")
 word_of Improve = Some (codes "improve")
 word_of Decide = Some (codes "decide")
+word_of Revise = Some (codes "revise")
 word_of Drive = Some (codes "drive")
 word_of Resume = Some (codes "resume")
 word_of Hub = Some (codes "hub")
@@ -49,6 +52,7 @@ TakesFiles Bounds n = n ≡ 2
 TakesFiles Plan n = n ≡ 2
 TakesFiles Improve n = n ≡ 2
 TakesFiles Decide n = n ≡ 2
+TakesFiles Revise n = n ≡ 3
 TakesFiles Drive n = n ≡ 2
 TakesFiles Resume n = n ≡ 3
 TakesFiles Hub n = 2 ≤ n
@@ -70,10 +74,6 @@ word_found = option_map (λ p. p.0)
 -- the matches of the command that was found
 abbrev pub rows_found : Found → List Row
 rows_found found = option_map_or (λ p. p.1) found []
-
--- the values of an argument; none where it was not used
-abbrev pub values_of : Text → List Row → List Text
-values_of name rows = unwrap_or (all_of name rows) []
 
 -- the bytes of each text
 abbrev pub texts_of : List (String Global) → List Text
@@ -146,8 +146,12 @@ svg_in = is_set (codes "svg")
 abbrev pub least_in : List Row → Bool
 least_in = is_set (codes "least")
 
--- the choice holds the command, the files, the instance's name, the rounds, the seed, the choices, the job, the log of whose rest is asked, the log that is kept, the moment, the version of the lines, the longest time and the switches that were found
-pub record IsChoiceOf (found : Found) (chosen : Chosen) : Type 0 where
+-- whether the instance is asked for in place of the plan
+abbrev pub file_in : List Row → Bool
+file_in = is_set (codes "file")
+
+-- the choice holds the command, the files, the instance's name, the rounds, the seed, the choices, the job, the log of whose rest is asked, the log that is kept, the moment, the version of the lines, the longest time, the changes and the switches that were found in these words
+pub record IsChoiceOf (words : List Text) (found : Found) (chosen : Chosen) : Type 0 where
   pub name : word_of chosen.name ≡ word_found found
   pub files : texts_of chosen.files.items ≡ files_in (rows_found found)
   pub instance : option_map string_bytes chosen.instance ≡ instance_in (rows_found found)
@@ -162,6 +166,8 @@ pub record IsChoiceOf (found : Found) (chosen : Chosen) : Type 0 where
   pub lines : chosen.lines ≡ lines_in (rows_found found)
   pub leap : chosen.leap ≡ leap_in (rows_found found)
   pub svg : chosen.svg ≡ svg_in (rows_found found)
+  pub changes : map change_seen chosen.changes.items ≡ changes_in words (rows_found found)
+  pub file : chosen.file ≡ file_in (rows_found found)
 
 -- the choice has as many files as its command takes, no more rounds than a search may have, no greater seed than it takes, a choice at least and no more than a search may have, no moment past the latest, and no longer time than that
 pub record IsWithin (chosen : Chosen) : Type 0 where
@@ -177,10 +183,6 @@ pub record IsWithin (chosen : Chosen) : Type 0 where
 abbrev pub parse_reasons_in : List Text → Kinds
 parse_reasons_in words = fault_of command_line words
 
--- a number of 1 to 13 digits, up to the latest moment
-abbrev pub is_moment : Text → Bool
-is_moment word = (nat_lt 0 (length word) && nat_le (length word) 13) && (list_all is_digit word && nat_le (value_of word) latest_moment)
-
 -- the first that is given
 abbrev pub first_given : Option Text → Option Text → Option Text
 first_given None other = other
@@ -195,10 +197,6 @@ abbrev pub misfit_of : Option Text → Option Text → Kinds
 misfit_of log None = []
 misfit_of None (Some word) = MissingRequiredArgument ∷ []
 misfit_of (Some log) (Some word) = if is_moment word then [] else ValueValidation ∷ []
-
--- a number of so many digits at most, from the least to the most
-abbrev pub is_number : ℕ → ℕ → ℕ → Text → Bool
-is_number digits least most word = (nat_lt 0 (length word) && nat_le (length word) digits) && (list_all is_digit word && (nat_le least (value_of word) && nat_le (value_of word) most))
 
 -- why a word isn't taken for such a number, or nothing
 abbrev pub number_misfit : ℕ → ℕ → ℕ → Option Text → Kinds
@@ -238,15 +236,16 @@ job_misfit rows = number_misfit 9 0 999999999 (first_of (codes "job") rows)
 abbrev pub decision_misfit : List Row → Kinds
 decision_misfit rows = unless_both (codes "job") (codes "least") rows (job_misfit rows)
 
--- so of what was found
-abbrev pub misfit_in : Found → Kinds
-misfit_in found = or_else (misfits_of (rows_found found))
+-- so of what was found in these words
+abbrev pub misfit_in : List Text → Found → Kinds
+misfit_in words found = or_else (misfits_of (rows_found found))
     (or_else (lines_misfit (rows_found found))
-    (or_else (leap_misfit (rows_found found)) (decision_misfit (rows_found found))))
+    (or_else (leap_misfit (rows_found found))
+    (or_else (decision_misfit (rows_found found)) (revision_misfit words (rows_found found)))))
 
 -- why the words are refused, or nothing where they are taken: `clap`'s reasons, or else that what they ask for doesn't fit together
 abbrev pub reasons_in : List Text → Kinds
-reasons_in words = or_else (parse_reasons_in words) (misfit_in (found_in words))
+reasons_in words = or_else (parse_reasons_in words) (misfit_in words (found_in words))
 
 -- a reason that asks for a text, as `--help` and `--version` do, and is no mistake
 abbrev pub asks_for_help : ErrorKind → Bool

@@ -6,9 +6,9 @@ use Rattle.clap.specs.Simple.{new_shape, with_subcommand}
 use Rattle.clap.specs.declared.builder.command.Command.{Command}
 use Rattle.clap.specs.declared.builder.command.Command.TheViews.{out-Command}
 use Rattle.command_words.specs.declared.words.CommandName.{CommandName}
-use Rattle.command_words.specs.declared.words.CommandName.TheVariants.{Input, Facts, Shape as ShapeName, Check, Explain, Schedule, Bounds, Plan, Improve, Decide, Drive, Resume, Hub, Audit, Gantt}
+use Rattle.command_words.specs.declared.words.CommandName.TheVariants.{Input, Facts, Shape as ShapeName, Check, Explain, Schedule, Bounds, Plan, Improve, Decide, Revise, Drive, Resume, Hub, Audit, Gantt}
 use Rattle.clap.specs.declared.builder.value_parser.ValueParser.TheVariants.{Signed}
-use Rattle.clap.specs.declared.builder.action.ArgAction.TheVariants.{SetTrue}
+use Rattle.clap.specs.declared.builder.action.ArgAction.TheVariants.{Append, SetTrue}
 
 -- a file that has to be named, under the name that help gives it
 abbrev pub file_rule : Text → Rule
@@ -17,6 +17,10 @@ file_rule name = record (new_rule name) { required = true }
 -- an option with one value, as `--instance NAME`
 abbrev pub option_rule : Text → Rule
 option_rule name = record (new_rule name) { long = Some name; value_names = 1 }
+
+-- an option with one value that may be used more than once, as `--scrap J`
+abbrev pub repeated_rule : Text → Rule
+repeated_rule name = record (option_rule name) { action = Some Append }
 
 -- one plan file or more
 abbrev pub plans_rule : Rule
@@ -83,6 +87,21 @@ latest_moment = 1000000000000
 abbrev pub rest_command : Text → List Rule → Shape
 rest_command name more = plan_command name (option_rule (codes "after") ∷ option_rule (codes "at") ∷ more)
 
+-- `--at N`, `--until M=T` and `--add ROUTE`: the present moment, how long what goes on lasts, and the jobs that are added
+abbrev pub lengthening_rules : List Rule
+lengthening_rules = option_rule (codes "at") ∷ repeated_rule (codes "until") ∷ repeated_rule (codes "add") ∷ []
+
+-- these, and `--release R` and `--budget B`, which go with the `--add` before them
+abbrev pub adding_rules : List Rule
+adding_rules = option_rule (codes "at") ∷ repeated_rule (codes "until") ∷ repeated_rule (codes "add")
+    ∷ repeated_rule (codes "release") ∷ repeated_rule (codes "budget") ∷ []
+
+-- these, and `--scrap J`, `--down M` and `--file`: all that is changed in mid-run, and whether the instance is printed
+abbrev pub revising_rules : List Rule
+revising_rules = option_rule (codes "at") ∷ repeated_rule (codes "until") ∷ repeated_rule (codes "add")
+    ∷ repeated_rule (codes "release") ∷ repeated_rule (codes "budget")
+    ∷ repeated_rule (codes "scrap") ∷ repeated_rule (codes "down") ∷ switch_rule (codes "file") ∷ []
+
 -- `--lines V` and `--leap S`: the version of the lines of a driven cell, and the longest time from one report to the next
 abbrev pub driven_rules : List Rule
 driven_rules = option_rule (codes "lines") ∷ option_rule (codes "leap") ∷ []
@@ -115,6 +134,7 @@ described Bounds = plan_command (codes "bounds") []
 described Plan = plan_command (codes "plan") (rounds_rule ∷ [])
 described Improve = plan_command (codes "improve") (option_rule (codes "after") ∷ option_rule (codes "at") ∷ rounds_rule ∷ seed_rule ∷ [])
 described Decide = rest_command (codes "decide") decision_rules
+described Revise = log_command (codes "revise") revising_rules
 described Drive = plan_command (codes "drive") kept_rules
 described Resume = log_command (codes "resume") (option_rule (codes "at") ∷ driven_rules)
 described Hub = command (codes "hub") hub_rules
@@ -133,7 +153,7 @@ program_with names = fold with_subcommand (leaf bare_program) (map described nam
 abbrev pub command_line : App
 command_line = program_with
     (Facts ∷ ShapeName ∷ Check ∷ Explain ∷ Schedule ∷ Bounds ∷ Plan ∷ Improve
-    ∷ Decide ∷ Drive ∷ Resume ∷ Hub ∷ Audit ∷ Gantt ∷ [])
+    ∷ Decide ∷ Revise ∷ Drive ∷ Resume ∷ Hub ∷ Audit ∷ Gantt ∷ [])
 
 -- the command that the code builds is the described one
 pub record Describes (a : App) (c : Command) : Type 0 where

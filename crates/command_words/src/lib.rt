@@ -3,4 +3,4 @@
 
 mod words;
 
-pub use words::{Chosen, CommandName, Lines, WordsFault, read_words};
+pub use words::{AskedChange, ChangeKind, Chosen, CommandName, Lines, WordsFault, read_words};

@@ -6,10 +6,14 @@ ghost use Rattle.text_lines.specs.Numbers.{value_of};
 ghost use Rattle.clap.specs.Words.{first_of, found_of, kind_of, one_of, rows_of, subcommand_rows_of};
 ghost use Rattle.command_words.specs.declared.words.CommandName.{CommandName};
 ghost use Rattle.command_words.specs.CommandLine.{most_rounds, greatest_seed, most_choices, latest_moment};
-ghost use Rattle.command_words.specs.Choice.{FitsBetween, IsChoiceOf, IsFit, IsWithin, TellsOneOf, TellsReason, are_both, at_in, choices_in, decision_misfit, files_in, first_given, found_in, is_moment, is_number, is_set, job_in, job_misfit, kept_in, leap_in, leap_misfit, lines_in, lines_misfit, log_given, misfit_in, misfit_of, misfits_of, number_misfit, reasons_in, rounds_in, seed_in, texts_of, values_of, version_of, word_of};
+ghost use Rattle.command_words.specs.Given.{is_moment, is_number, values_of};
+ghost use Rattle.command_words.specs.Choice.{FitsBetween, IsChoiceOf, IsFit, IsWithin, TellsOneOf, TellsReason, are_both, at_in, choices_in, decision_misfit, files_in, first_given, found_in, is_set, job_in, job_misfit, kept_in, leap_in, leap_misfit, lines_in, lines_misfit, log_given, misfit_in, misfit_of, misfits_of, number_misfit, reasons_in, rounds_in, seed_in, texts_of, version_of, word_of};
 
+mod changes;
 mod command_line;
 
+use changes::changes_of;
+pub use changes::{AskedChange, ChangeKind};
 use clap::ArgMatches;
 use clap::error::ErrorKind;
 use std::alloc::{AllocError, Global};
@@ -53,6 +57,8 @@ pub enum CommandName {
     Improve,
     /// Whether any plan keeps the budgets.
     Decide,
+    /// A plan, or its instance, with changes in mid-run.
+    Revise,
     /// One cell, driven by reports on the standard input.
     Drive,
     /// One cell, driven on from the log of a run that was cut off.
@@ -105,6 +111,10 @@ pub struct Chosen {
     pub leap: Option<u64>,
     /// Whether a picture is drawn in place of the text.
     pub svg: bool,
+    /// The changes of a plan in mid-run, in the order in which they are made.
+    pub changes: Vec<AskedChange>,
+    /// Whether the changed instance is printed in place of the changed plan.
+    pub file: bool,
 }
 
 /// Why the words choose nothing.
@@ -162,17 +172,18 @@ impl From<Refusal> for WordsFault {
 /// answer. The number of files is one that the command takes, the rounds are at most 1000, the seed at most 1,000,000,
 /// the choices from 1 to 1,000,000,000, and the moment, a number of 1 to 13 digits, at most 1,000,000,000,000. Exactly
 /// these are refused: what `clap` refuses, a moment that isn't one, or that comes without a log, a picture of the rest
-/// of a run, a version of the lines or a longest time that isn't one, and a job that isn't a number of 1 to 9 digits, or
-/// that comes with the least makespan.
+/// of a run, a version of the lines or a longest time that isn't one, a job that isn't a number of 1 to 9 digits, or that
+/// comes with the least makespan, a change that isn't one, and a release or a budget that goes with no job that is added,
+/// or with one that has it.
 pub fn read_words(alloc: Global, words: &[&str]) -> Result<Chosen, WordsFault>
-    ensures chosen { IfOk result (IsChoiceOf (found_in (map (λ word. word.now) words.now))) }
+    ensures chosen { let given = map (λ word. word.now) words.now in IfOk result (IsChoiceOf given (found_in given)) }
     ensures within { IfOk result IsWithin }
     ensures taken { IfOk result (λ _. reasons_in (map (λ word. word.now) words.now) ≡ []) }
     ensures refused { IfErr result (TellsOneOf (reasons_in (map (λ word. word.now) words.now))) }
 {
     let program = command_line::whole(alloc)?;
     match program.try_get_matches_from(words) {
-        Ok(matches) => chosen_by(alloc, &matches),
+        Ok(matches) => chosen_by(alloc, words, &matches),
         Err(error) => Err(fault_of(alloc, &error)),
     }
 }
@@ -189,15 +200,15 @@ fn fault_of(alloc: Global, error: &clap::Error) -> WordsFault
 }
 
 /// The choice that the matches of the whole command line make.
-fn chosen_by(alloc: Global, matches: &ArgMatches<'_>) -> Result<Chosen, WordsFault>
+fn chosen_by(alloc: Global, words: &[&str], matches: &ArgMatches<'_>) -> Result<Chosen, WordsFault>
     requires { IsFit (subcommand_rows_of matches.now) }
-    ensures holds { IfOk result (IsChoiceOf (subcommand_rows_of matches.now)) }
+    ensures holds { IfOk result (IsChoiceOf (map (λ word. word.now) words.now) (subcommand_rows_of matches.now)) }
     ensures within { IfOk result IsWithin }
-    ensures fits { IfOk result (λ _. misfit_in (subcommand_rows_of matches.now) ≡ []) }
-    ensures refused { IfErr result (TellsOneOf (misfit_in (subcommand_rows_of matches.now))) }
+    ensures fits { IfOk result (λ _. misfit_in (map (λ word. word.now) words.now) (subcommand_rows_of matches.now) ≡ []) }
+    ensures refused { IfErr result (TellsOneOf (misfit_in (map (λ word. word.now) words.now) (subcommand_rows_of matches.now))) }
 {
     match matches.subcommand() {
-        Some((word, matches)) => chosen_of(alloc, word, matches),
+        Some((word, matches)) => chosen_of(alloc, words, word, matches),
         None => Ok(Chosen {
             name: CommandName::Input,
             files: Vec::new(alloc),
@@ -213,17 +224,24 @@ fn chosen_by(alloc: Global, matches: &ArgMatches<'_>) -> Result<Chosen, WordsFau
             lines: None,
             leap: None,
             svg: false,
+            changes: Vec::new(alloc),
+            file: false,
         }),
     }
 }
 
 /// The choice that the matches of one command make.
-fn chosen_of(alloc: Global, word: &str, matches: &ArgMatches<'_>) -> Result<Chosen, WordsFault>
+fn chosen_of(
+    alloc: Global,
+    words: &[&str],
+    word: &str,
+    matches: &ArgMatches<'_>,
+) -> Result<Chosen, WordsFault>
     requires { IsFit (Some (word.now, rows_of (found_of matches.now))) }
-    ensures holds { IfOk result (IsChoiceOf (Some (word.now, rows_of (found_of matches.now)))) }
+    ensures holds { IfOk result (IsChoiceOf (map (λ given. given.now) words.now) (Some (word.now, rows_of (found_of matches.now)))) }
     ensures within { IfOk result IsWithin }
-    ensures fits { IfOk result (λ _. misfit_in (Some (word.now, rows_of (found_of matches.now))) ≡ []) }
-    ensures refused { IfErr result (TellsOneOf (misfit_in (Some (word.now, rows_of (found_of matches.now))))) }
+    ensures fits { IfOk result (λ _. misfit_in (map (λ given. given.now) words.now) (Some (word.now, rows_of (found_of matches.now))) ≡ []) }
+    ensures refused { IfErr result (TellsOneOf (misfit_in (map (λ given. given.now) words.now) (Some (word.now, rows_of (found_of matches.now))))) }
 {
     Ok(Chosen {
         name: name_of(word),
@@ -240,6 +258,8 @@ fn chosen_of(alloc: Global, word: &str, matches: &ArgMatches<'_>) -> Result<Chos
         job: job_of(alloc, matches)?,
         least: is_set(matches, "least"),
         svg: is_set(matches, "svg"),
+        changes: changes_of(alloc, words, matches)?,
+        file: is_set(matches, "file"),
     })
 }
 
@@ -258,6 +278,7 @@ fn name_of(word: &str) -> CommandName
         "plan" => CommandName::Plan,
         "improve" => CommandName::Improve,
         "decide" => CommandName::Decide,
+        "revise" => CommandName::Revise,
         "drive" => CommandName::Drive,
         "resume" => CommandName::Resume,
         "hub" => CommandName::Hub,

@@ -11,7 +11,8 @@ use Rattle.clap.proofs.WalkLemmas.{first_value-rows, raw_values-rows}
 use Rattle.clap.proofs.CallerReads.{signed_reads}
 use Rattle.clap.specs.Words.{ReadsOne, one_of, one_text, without_minus}
 use Rattle.clap.proofs.WalkLemmas.{one_text-rows}
-use Rattle.command_words.specs.Choice.{FitsBetween, number_in, values_of}
+use Rattle.command_words.specs.Given.{values_of}
+use Rattle.command_words.specs.Choice.{FitsBetween, number_in}
 
 pub text_given : (f : Found) (id bytes : Text) (o : Option (Bor Text)) (s : Bor Text) → option_map (λ t. t.now) o ≡ first_value f id → o ≡ Some s → bytes ≡ s.now
     → Some bytes ≡ first_of id (rows_of f)

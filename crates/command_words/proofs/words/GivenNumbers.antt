@@ -5,7 +5,8 @@ use Rattle.std.proofs.lemmas.Bool.{and_from, and_parts, false_from_ne_true, lt-l
 use Rattle.text_lines.specs.Numbers.{IsNumeral, is_digit, value_of}
 use Rattle.clap.specs.Words.{Text}
 use Rattle.clap.specs.declared.error.kind.ErrorKind.TheVariants.{ValueValidation}
-use Rattle.command_words.specs.Choice.{is_number, number_misfit}
+use Rattle.command_words.specs.Given.{is_number}
+use Rattle.command_words.specs.Choice.{number_misfit}
 
 module _ (digits least most : ℕ) (word : Text) where
   pub number_from : (n : ℕ) → IsNumeral digits word n → least ≤ n → n ≤ most → is_number digits least most word ≡ true

@@ -7,7 +7,8 @@ use Rattle.text_lines.specs.Numbers.{IsNumeral, is_digit, value_of}
 use Rattle.clap.specs.Words.{Text}
 use Rattle.clap.specs.declared.error.kind.ErrorKind.TheVariants.{MissingRequiredArgument, ValueValidation}
 use Rattle.command_words.specs.CommandLine.{latest_moment}
-use Rattle.command_words.specs.Choice.{is_moment, misfit_of}
+use Rattle.command_words.specs.Given.{is_moment}
+use Rattle.command_words.specs.Choice.{misfit_of}
 
 -- a number of 1 to 13 digits that isn't past the latest moment is one
 pub moment_from : (word : Text) (n : ℕ) → IsNumeral 13 word n → n ≤ latest_moment → is_moment word ≡ true

@@ -1,9 +1,9 @@
 -- Which reasons a fault tells of.
-use Rattle.std.proofs.Common.{◌≡◌, ◌∙◌, [], ◌∷◌, Result, Ok, Err, IfOk, IfErr, IsErrAnd, ap, subst, sym, refl, inl}
-use Rattle.clap.specs.Words.{IsAmong, Kinds}
+use Rattle.std.proofs.Common.{◌≡◌, ◌∙◌, [], ◌∷◌, List, Option, Some, None, option_map, Result, Ok, Err, IfOk, IfErr, IsErrAnd, ap, subst, sym, refl, inl}
+use Rattle.clap.specs.Words.{IsAmong, Kinds, Row, Text}
 use Rattle.clap.specs.Kinds.{or_else}
 use Rattle.clap.specs.declared.error.kind.ErrorKind.{ErrorKind}
-use Rattle.command_words.specs.Choice.{IsFaultOf, TellsOneOf, TellsReason}
+use Rattle.command_words.specs.Choice.{Found, IsFaultOf, TellsOneOf, TellsReason, rows_found}
 use Rattle.command_words.specs.declared.words.Chosen.{Chosen}
 use Rattle.command_words.specs.declared.words.WordsFault.{WordsFault}
 use Rattle.command_words.specs.declared.words.WordsFault.TheVariants.{Usage, Memory}
@@ -47,6 +47,11 @@ pub tells_later : (first next : Kinds) (fault : WordsFault) → first ≡ [] →
 tells_later first next fault none is = subst (λ (ks : Kinds). TellsOneOf (or_else ks next) fault) (sym none) is
 
 -- the fault is passed on
-pub passed_on : (kinds : Kinds) (read : Result Chosen WordsFault) (fault : WordsFault) → IsErrAnd read (λ passed. passed ≡ fault) → TellsOneOf kinds fault → IfErr read (TellsOneOf kinds)
+pub passed_on : {A : Type 0} (kinds : Kinds) (read : Result A WordsFault) (fault : WordsFault) → IsErrAnd read (λ passed. passed ≡ fault) → TellsOneOf kinds fault → IfErr read (TellsOneOf kinds)
 passed_on kinds (Ok chosen) fault passed is = tt
 passed_on kinds (Err told) fault passed is = subst (λ (f : WordsFault). TellsOneOf kinds f) (sym passed) is
+
+-- the matches of a command that was found
+pub rows_same : (found : Found) (rows : List Row) → Some rows ≡ option_map (λ (p : Text × List Row). p.1) found → rows_found found ≡ rows
+rows_same None rows is = absurd (cc)
+rows_same (Some p) rows is = (let same : p.1 ≡ rows = cc in same)

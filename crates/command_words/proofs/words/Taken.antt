@@ -12,14 +12,15 @@ use Rattle.clap.specs.Kinds.{value_kinds}
 use Rattle.clap.specs.Faults.{built_fault, entered_fault, fault_of, is_simple_and_free, level_fault, walk_fault, values_fault}
 use Rattle.clap.specs.Words.{HasKind, IsAmong, kind_of}
 use Rattle.clap.specs.declared.error.Error.{Error}
-use Rattle.clap.specs.declared.builder.action.ArgAction.TheVariants.{Set, SetTrue, Help}
+use Rattle.clap.specs.declared.builder.action.ArgAction.TheVariants.{Append, Set, SetTrue, Help}
 use Rattle.clap.specs.declared.builder.value_parser.ValueParser.{ValueParser}
 use Rattle.clap.specs.declared.builder.value_parser.ValueParser.TheVariants.{Signed}
 use Rattle.clap.proofs.ValueTestLemmas.{accepts-Accepts}
-use Rattle.command_words.specs.CommandLine.{option_rule, command, command_line, driven_rules, hub_rules, kept_rules, log_command, plan_command, rest_command, decision_rules, described, most_rounds, greatest_seed, most_choices, rounds_rule, switch_rule}
-use Rattle.command_words.specs.Choice.{FitsBetween, Found, IsFit, TakesFiles, TellsOneOf, TellsReason, files_in, found_in, parse_reasons_in, values_of, word_of}
+use Rattle.command_words.specs.CommandLine.{option_rule, command, command_line, driven_rules, hub_rules, kept_rules, log_command, plan_command, rest_command, decision_rules, described, revising_rules, most_rounds, greatest_seed, most_choices, rounds_rule, switch_rule}
+use Rattle.command_words.specs.Given.{values_of}
+use Rattle.command_words.specs.Choice.{FitsBetween, Found, IsFit, TakesFiles, TellsOneOf, TellsReason, files_in, found_in, parse_reasons_in, word_of}
 use Rattle.command_words.specs.declared.words.CommandName.{CommandName}
-use Rattle.command_words.specs.declared.words.CommandName.TheVariants.{Facts, Shape as ShapeName, Check, Explain, Schedule, Bounds, Plan, Improve, Decide, Drive, Resume, Hub, Audit, Gantt}
+use Rattle.command_words.specs.declared.words.CommandName.TheVariants.{Facts, Shape as ShapeName, Check, Explain, Schedule, Bounds, Plan, Improve, Decide, Revise, Drive, Resume, Hub, Audit, Gantt}
 use Rattle.command_words.specs.declared.words.WordsFault.{WordsFault}
 use Rattle.command_words.specs.declared.words.WordsFault.TheVariants.{Usage, Memory}
 use Rattle.command_words.proofs.words.Fits.{FitFound, PlainRule, PlainRules, both_none, found_fits, least_of}
@@ -130,6 +131,9 @@ as_built s = built_leaf (inherited (with_leaf_noted (marked_built command_line.t
 
 set_plain : (c : List Rule) (a : Rule) → arg_by_id c a.id ≡ Some a → a.missing ≡ [] → action_of a ≡ Set → is_empty a.defaults ≡ true → PlainRule c a
 set_plain c a own missing sets defaults = record { own = own; kind = inl (record { missing = missing; action = inl sets; defaults = inl defaults }) }
+
+append_plain : (c : List Rule) (a : Rule) → arg_by_id c a.id ≡ Some a → a.missing ≡ [] → action_of a ≡ Append → is_empty a.defaults ≡ true → PlainRule c a
+append_plain c a own missing appends defaults = record { own = own; kind = inl (record { missing = missing; action = inr (inl appends); defaults = inl defaults }) }
 
 number_plain : (c : List Rule) (a : Rule) → arg_by_id c a.id ≡ Some a → a.missing ≡ [] → action_of a ≡ Set → least_of a ≤ length a.defaults → length a.defaults ≤ most_values a → PlainRule c a
 number_plain c a own missing sets least most = record { own = own; kind = inl (record { missing = missing; action = inl sets; defaults = inr (least, most) }) }
@@ -336,13 +340,50 @@ decision_fits = fits_leaf (as_built (rest_command (codes "decide") decision_rule
 )
     (_, refl, refl, refl, refl, refl) (_, refl, refl, refl, refl, refl) refl tt tt refl (λ x y z p q r. omega arith)
 
+revised_fits : FitsLeaf (as_built (log_command (codes "revise") revising_rules))
+revised_fits = fits_leaf (as_built (log_command (codes "revise") revising_rules)) Revise one one one refl refl refl (
+  set_plain _ _ refl refl refl refl,
+  (
+    set_plain _ _ refl refl refl refl,
+    (
+      set_plain _ _ refl refl refl refl,
+      (
+        set_plain _ _ refl refl refl refl,
+        (
+          set_plain _ _ refl refl refl refl,
+          (
+            append_plain _ _ refl refl refl refl,
+            (
+              append_plain _ _ refl refl refl refl,
+              (
+                append_plain _ _ refl refl refl refl,
+                (
+                  append_plain _ _ refl refl refl refl,
+                  (
+                    append_plain _ _ refl refl refl refl,
+                    (
+                      append_plain _ _ refl refl refl refl,
+                      (switch_plain _ _ refl refl refl, (help_plain _ _ refl refl refl refl, tt)),
+                    ),
+                  ),
+                ),
+              ),
+            ),
+          ),
+        ),
+      ),
+    ),
+  ),
+)
+    (_, refl, refl, refl, refl, refl) (_, refl, refl, refl, refl, refl) (_, refl, refl, refl, refl, refl) tt tt tt (λ x y z p q r. omega arith)
+
 hub_fits : FitsLeaf (as_built (command (codes "hub") hub_rules))
 hub_fits = fits_leaf (as_built (command (codes "hub") hub_rules)) Hub one several none refl refl refl (
   set_plain _ _ refl refl refl refl,
   (
     set_plain _ _ refl refl refl refl,
     (
-      record { own = refl; kind = inl (record { missing = refl; action = inr (inl refl); defaults = inl refl }) },
+      append_plain _ _ refl refl refl refl,
       (
         set_plain _ _ refl refl refl refl,
         (
@@ -404,14 +445,17 @@ leaves = (
                 (
                   decision_fits,
                   (
-                    drive_fits,
+                    revised_fits,
                     (
-                      resumed_fits,
+                      drive_fits,
                       (
-                        hub_fits,
+                        resumed_fits,
                         (
-                          log_fits (codes "audit") Audit refl (λ x y z p q r. omega arith),
-                          (drawing_fits, tt),
+                          hub_fits,
+                          (
+                            log_fits (codes "audit") Audit refl (λ x y z p q r. omega arith),
+                            (drawing_fits, tt),
+                          ),
                         ),
                       ),
                     ),

@@ -2,7 +2,7 @@
 
 ghost use Rattle.std.specs.Prelude.{◌≡◌, IfOk, [], ◌∷◌, false, codes};
 ghost use Rattle.clap.specs.Words.{rule_of};
-ghost use Rattle.command_words.specs.CommandLine.{Describes, bare_program, choices_rule, command, command_line, described, file_rule, leaf, log_command, option_rule, plan_command, plans_rule, program_with, rest_command, rounds_rule, seed_rule, switch_rule};
+ghost use Rattle.command_words.specs.CommandLine.{Describes, adding_rules, bare_program, choices_rule, command, command_line, described, file_rule, leaf, lengthening_rules, log_command, option_rule, plan_command, plans_rule, program_with, repeated_rule, rest_command, rounds_rule, seed_rule, switch_rule};
 
 use crate::words::CommandName;
 use clap::builder::ValueParser;
@@ -29,6 +29,14 @@ fn option<'a>(alloc: Global, name: &'a str, value: &'a str, help: &'a str) -> Ar
         .long(name)
         .value_name(value)
         .help(help)
+}
+
+/// An option with one value that may be used more than once.
+fn repeated<'a>(alloc: Global, name: &'a str, value: &'a str, help: &'a str) -> Arg<'a>
+    ensures rule { rule_of result ≡ repeated_rule name.entry.now }
+    ensures local { result.global ≡ false }
+{
+    option(alloc, name, value, help).action(ArgAction::Append)
 }
 
 /// The plan files of a hub, one or more.
@@ -253,6 +261,40 @@ fn decision<'a>(alloc: Global) -> Result<Command<'a>, AllocError>
     aimed.arg(choices(alloc))
 }
 
+/// Until when what goes on lasts, and the jobs that are added.
+fn lengthened<'a>(alloc: Global) -> Result<Command<'a>, AllocError>
+    ensures { IfOk result (Describes (leaf (log_command (codes "revise") lengthening_rules))) }
+{
+    let about = "Changes a plan in mid-run: a part is scrapped, a job added, a machine down";
+    let until = "Take what goes on on machine M to last until T";
+    let add = "Add a job, ROUTE as a line of the instance";
+    let log = on_log(alloc, "revise", about)?.arg(at(alloc))?;
+    let lasting = log.arg(repeated(alloc, "until", "M=T", until))?;
+    lasting.arg(repeated(alloc, "add", "ROUTE", add))
+}
+
+/// The numbers of the jobs that are added, behind those.
+fn added<'a>(alloc: Global) -> Result<Command<'a>, AllocError>
+    ensures { IfOk result (Describes (leaf (log_command (codes "revise") adding_rules))) }
+{
+    let release = "The release of the job added before, by default N";
+    let budget = "The budget of the job added before, by default none";
+    let released = lengthened(alloc)?.arg(repeated(alloc, "release", "R", release))?;
+    released.arg(repeated(alloc, "budget", "B", budget))
+}
+
+/// A plan that is changed in mid-run.
+fn revised<'a>(alloc: Global) -> Result<Command<'a>, AllocError>
+    ensures { IfOk result (Describes (leaf (described CommandName.Revise))) }
+{
+    let scrap = "Take job J out of the line by hand, or out of the plan";
+    let down = "Let machine M do no more for the rest of the run";
+    let file = "Print the instance in place of the plan";
+    let fewer = added(alloc)?.arg(repeated(alloc, "scrap", "J", scrap))?;
+    let changed = fewer.arg(repeated(alloc, "down", "M", down))?;
+    changed.arg(switch(alloc, "file", file))
+}
+
 /// A command on an instance and several plans.
 fn on_plans<'a>(alloc: Global, name: &'a str, about: &'a str) -> Result<Command<'a>, AllocError>
     ensures { IfOk result (Describes (leaf (command name.entry.now (plans_rule ∷ [])))) }
@@ -322,6 +364,7 @@ fn command_of<'a>(alloc: Global, name: CommandName) -> Result<Command<'a>, Alloc
         CommandName::Plan => search(alloc),
         CommandName::Improve => improvement(alloc),
         CommandName::Decide => decision(alloc),
+        CommandName::Revise => revised(alloc),
         CommandName::Drive => driven(alloc),
         CommandName::Resume => resumed(alloc),
         CommandName::Hub => hub(alloc),
@@ -355,6 +398,7 @@ pub fn whole<'a>(alloc: Global) -> Result<Command<'a>, AllocError>
         CommandName::Plan,
         CommandName::Improve,
         CommandName::Decide,
+        CommandName::Revise,
         CommandName::Drive,
         CommandName::Resume,
         CommandName::Hub,

@@ -1,7 +1,7 @@
 use Rattle.std.proofs.Common.{◌≡◌, ◌≤◌, List, ℕ, true, false, subst}
 use Rattle.text_lines.specs.Numbers.{value_of}
 use Rattle.command_words.specs.CommandLine.{latest_moment}
-use Rattle.command_words.specs.Choice.{is_moment}
+use Rattle.command_words.specs.Given.{is_moment}
 use Rattle.command_words.proofs.words.Moments.{moment_from, no_numeral, past_latest}
 use Rattle.command_words.proofs.words.moment_of.Goals as goal
 

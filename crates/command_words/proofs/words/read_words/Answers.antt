@@ -13,19 +13,19 @@ chosen_by-requires c =
 pub returns-in-Ok-clause-chosen : goal.returns-in-Ok-clause-chosen
 returns-in-Ok-clause-chosen c =
     let words = map (λ word. word.now) c.args.words.now in
-    subst (λ (f : Found). IfOk c.chosen_by.result (IsChoiceOf f)) (met _ words _ _ c.in_ok-program.ensures.app c.in-Ok.ensures.matches) c.chosen_by.ensures.holds
+    subst (λ (f : Found). IfOk c.chosen_by.result (IsChoiceOf words f)) (met _ words _ _ c.in_ok-program.ensures.app c.in-Ok.ensures.matches) c.chosen_by.ensures.holds
 
 pub returns-in-Ok-clause-taken : goal.returns-in-Ok-clause-taken
 returns-in-Ok-clause-taken c =
     let is = c.in_ok-program.ensures.app in
     let words = map (λ word. word.now) c.args.words.now in
-    no_reasons _ _ _ c.chosen_by.result (taken _ words is c.in-Ok.ensures.kinds) (ap misfit_in (met _ words _ _ is c.in-Ok.ensures.matches)) c.chosen_by.ensures.fits
+    no_reasons _ _ _ c.chosen_by.result (taken _ words is c.in-Ok.ensures.kinds) (ap (misfit_in words) (met _ words _ _ is c.in-Ok.ensures.matches)) c.chosen_by.ensures.fits
 
 pub returns-in-Ok-clause-refused : goal.returns-in-Ok-clause-refused
 returns-in-Ok-clause-refused c =
     let is = c.in_ok-program.ensures.app in
     let words = map (λ word. word.now) c.args.words.now in
-    tells_next _ _ _ c.chosen_by.result (taken _ words is c.in-Ok.ensures.kinds) (ap misfit_in (met _ words _ _ is c.in-Ok.ensures.matches)) c.chosen_by.ensures.refused
+    tells_next _ _ _ c.chosen_by.result (taken _ words is c.in-Ok.ensures.kinds) (ap (misfit_in words) (met _ words _ _ is c.in-Ok.ensures.matches)) c.chosen_by.ensures.refused
 
 pub returns-in-Err-clause-refused : goal.returns-in-Err-clause-refused
 returns-in-Err-clause-refused c =

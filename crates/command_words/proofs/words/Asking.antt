@@ -1,0 +1,117 @@
+-- Steps through words and values from the front.
+use Rattle.std.proofs.Common.{◌≡◌, ◌∙◌, ◌++◌, ◌+◌, ◌<◌, ◌≤◌, ◌&&◌, ℕ, Bool, true, false, List, [], ◌∷◌, Option, Some, None, ap, sym, refl, length, map, drop, get_or, add-one}
+use Rattle.std.specs.Prelude.{MatchOption, bytes_eq, codes, is_some, option_and_then, unwrap_or}
+use Rattle.std.specs.Option.{option_map, option_map_or}
+use Rattle.std.specs.List.{list_all}
+use Rattle.std.specs.Borrow.{Bor}
+use Rattle.std.proofs.Math.Seq.{drop-cons}
+use Rattle.std.proofs.lemmas.Bool.{cond-true, cond-false}
+use Rattle.std.proofs.lemmas.List.{drop_all}
+use Rattle.std.proofs.lemmas.Option.{slice_get-map, slice_get_past, slice_get-get_or}
+use Rattle.text_lines.specs.Numbers.{value_of}
+use Rattle.clap.specs.Words.{Kinds, Row, Text, all_of, matched_of, raw_values, rows_of}
+use Rattle.clap.specs.declared.error.kind.ErrorKind.TheVariants.{ArgumentConflict, ValueValidation}
+use Rattle.clap.specs.declared.parser.matches.Found.{Found}
+use Rattle.clap.proofs.WalkLemmas.{raw_values-rows}
+use Rattle.command_words.specs.CommandLine.{latest_moment}
+use Rattle.command_words.specs.Given.{is_moment}
+use Rattle.command_words.specs.Changes.{attached_misfit, moment_at, moment_told, owners_in, owners_used, placed_misfit, places_misfit, rises, values_misfit}
+
+-- the text of each
+abbrev pub texts : List (Bor Text) → List Text
+texts = map (λ (v : Bor Text). v.now)
+
+-- those from a place on: the one there, and those behind it
+pub from_place : (vals : List (Bor Text)) (i : ℕ) (d : Bor Text) → i < length vals → texts (drop i vals) ≡ (get_or vals i d).now ∷ texts (drop (i + 1) vals)
+from_place vals i d inside = rw add-one (ap texts (drop-cons vals i d inside))
+
+-- behind the last one there are none
+pub from_end : (vals : List (Bor Text)) (i : ℕ) → length vals ≤ i → texts (drop i vals) ≡ []
+from_end vals i outside = ap texts (drop_all i vals outside)
+
+-- ---- whether all are such
+
+such_so_far : (is_such : Text → Bool) (word : Text) (rest all : List Text) → list_all is_such all ≡ list_all is_such (word ∷ rest) → is_such word ≡ false → list_all is_such all ≡ false
+such_so_far is_such word rest all so_far isnt = so_far ∙ ap (λ (b : Bool). b && list_all is_such rest) isnt
+
+module _ (is_such : Text → Bool) (vals : List (Bor Text)) (values : List Text) (i : ℕ) (same : texts vals ≡ values)
+    (so_far : list_all is_such (texts vals) ≡ list_all is_such (texts (drop i vals))) where
+  -- one isn't
+  pub not_all : (d : Bor Text) → i < length vals → is_such (get_or vals i d).now ≡ false → list_all is_such values ≡ false
+  not_all d inside isnt =
+      sym (ap (list_all is_such) same)
+      ∙ such_so_far is_such (get_or vals i d).now (texts (drop (i + 1) vals)) (texts vals) (so_far ∙ ap (list_all is_such) (from_place vals i d inside)) isnt
+
+  -- all are
+  pub all_such : length vals ≤ i → list_all is_such values ≡ true
+  all_such outside = sym (ap (list_all is_such) same) ∙ so_far ∙ ap (list_all is_such) (from_end vals i outside)
+
+-- ---- the moment that is the value at a place
+
+-- what is told of a word is the moment that it is
+told_is : (word : Text) (told : Option ℕ) → MatchOption told (is_moment word ≡ false) (λ n. (is_moment word ≡ true) × (n ≡ value_of word) × (n ≤ latest_moment)) → told ≡ moment_told word
+told_is word None isnt = sym (cond-false (is_moment word) (Some (value_of word)) None isnt)
+told_is word (Some n) is = ap (λ k. Some k) is.1 ∙ sym (cond-true (is_moment word) (Some (value_of word)) None is.0)
+
+module _ (vals : List (Bor Text)) (values : List Text) (place : ℕ) (same : texts vals ≡ values) where
+  pub past_values : length vals ≤ place → None ≡ moment_at values place
+  past_values outside =
+      sym (ap (λ (o : Option Text). option_and_then moment_told o) (slice_get-map (λ (v : Bor Text). v.now) vals place ∙ ap (option_map (λ (v : Bor Text). v.now)) (slice_get_past vals place outside)))
+      ∙ ap (λ (vs : List Text). moment_at vs place) same
+
+  pub at_value : (d : Bor Text) (told : Option ℕ) → place < length vals
+      → MatchOption told (is_moment (get_or vals place d).now ≡ false) (λ n. (is_moment (get_or vals place d).now ≡ true) × (n ≡ value_of (get_or vals place d).now) × (n ≤ latest_moment))
+      → told ≡ moment_at values place
+  at_value d told inside is =
+      told_is (get_or vals place d).now told is
+      ∙ sym (ap (λ (o : Option Text). option_and_then moment_told o) (slice_get-map (λ (v : Bor Text). v.now) vals place ∙ ap (option_map (λ (v : Bor Text). v.now)) (slice_get-get_or vals place d inside)))
+      ∙ ap (λ (vs : List Text). moment_at vs place) same
+
+-- a word of which none is told
+pub not_all_told : (vals : List (Bor Text)) (values : List Text) (i : ℕ) (d : Bor Text) (told : Option ℕ) → texts vals ≡ values → list_all is_moment (texts vals) ≡ list_all is_moment (texts (drop i vals)) → i < length vals
+    → MatchOption told (is_moment (get_or vals i d).now ≡ false) (λ n. (is_moment (get_or vals i d).now ≡ true) × (n ≡ value_of (get_or vals i d).now) × (n ≤ latest_moment))
+    → is_some told ≡ false → list_all is_moment values ≡ false
+not_all_told vals values i d None same so_far inside isnt none = not_all is_moment vals values i same so_far d inside isnt
+not_all_told vals values i d (Some n) same so_far inside is none = absurd (cc)
+
+-- ---- an option that isn't used, and one that is
+
+none_left : {A B : Type 0} (g : A → B) (o : Option A) → is_some o ≡ false → option_map g o ≡ None
+none_left g None none = refl
+none_left g (Some x) none = absurd (cc)
+
+pub not_used : (f : Found) (id : Text) → is_some (matched_of f id) ≡ false → all_of id (rows_of f) ≡ None
+not_used f id none = sym (raw_values-rows f id) ∙ none_left raw_values (matched_of f id) none
+
+one_left : {A B : Type 0} (g : A → B) (o : Option A) → is_some (option_map g o) ≡ is_some o
+one_left g None = refl
+one_left g (Some x) = refl
+
+pub is_used : (f : Found) (id : Text) → is_some (matched_of f id) ≡ true → is_some (all_of id (rows_of f)) ≡ true
+is_used f id some = ap (λ (o : Option (List Text)). is_some o) (sym (raw_values-rows f id)) ∙ one_left raw_values (matched_of f id) ∙ some
+
+module _ (name flag : Text) (words : List Text) (rows : List Row) where
+  pub none_owned : all_of name rows ≡ None → [] ≡ owners_used name flag words rows
+  none_owned none = sym (ap (λ (o : Option (List Text)). option_map_or (λ _. owners_in flag words) o []) none)
+
+  pub none_misfit : all_of name rows ≡ None → attached_misfit name flag words rows ≡ []
+  none_misfit none = ap (λ (o : Option (List Text)). placed_misfit (unwrap_or o []) (option_map_or (λ _. owners_in flag words) o [])) none
+
+  pub all_owned : is_some (all_of name rows) ≡ true → owners_in flag words ≡ owners_used name flag words rows
+  all_owned = go (all_of name rows)
+    where
+      go : (o : Option (List Text)) → is_some o ≡ true → owners_in flag words ≡ option_map_or (λ _. owners_in flag words) o []
+      go None some = absurd (cc)
+      go (Some values) some = refl
+
+-- ---- what is said of values and of places
+
+module _ (is_such : Text → Bool) (values : List Text) where
+  pub such_fits : list_all is_such values ≡ true → values_misfit is_such values ≡ []
+  such_fits is = cond-true (list_all is_such values) [] (ValueValidation ∷ []) is
+
+  pub such_misfit : list_all is_such values ≡ false → values_misfit is_such values ≡ ValueValidation ∷ []
+  such_misfit isnt = cond-false (list_all is_such values) [] (ValueValidation ∷ []) isnt
+
+pub places_clash : (owners : List ℕ) → rises 0 owners ≡ false → places_misfit owners ≡ ArgumentConflict ∷ []
+places_clash owners isnt = cond-false (rises 0 owners) [] (ArgumentConflict ∷ []) isnt
