@@ -4,6 +4,7 @@ pub mod SearchLines
 pub mod ImproveLines
 pub mod LogAnswers
 pub mod RestAnswers
+pub mod RevisedAnswers
 pub mod ImproveRestLines
 pub mod PictureAnswers
 pub mod CellPlans

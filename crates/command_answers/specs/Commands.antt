@@ -29,6 +29,9 @@ use Rattle.command_answers.specs.declared.rests.PlanTelling.{PlanTelling}
 use Rattle.command_answers.specs.Rests.{IsRestLine}
 use Rattle.command_answers.specs.ImprovingRests.{RestAsked, IsRestAnswer}
 use Rattle.text_lines.specs.Lines.{ended_lines}
+use Rattle.plan_revise.specs.declared.change.Change.{Change}
+use Rattle.command_answers.specs.declared.revises.Revised.{Revised}
+use Rattle.command_answers.specs.Revising.{IsReviseAnswer}
 
 -- the file of an instance, the instance's name where that is a collection, and the file of a plan for it
 pub record PairOfFiles : Type 0 where
@@ -101,11 +104,15 @@ module _ {W : Type 0} (gives : W → List ℕ → Result (List ℕ) CommandFault
   abbrev pub RunsDecide : Aim → PairOfFiles → W → Result Answer CommandFault → W → Type 0
   RunsDecide aim pair = WithBoth pair (λ p. Told (IsDecideAnswer p aim))
 
-  -- the log of a well-shaped plan is asked for, and then answered by a line of this kind; any other plan is answered by its first fault
-  abbrev pub WithLog : (PlannedShop → List ℕ → Answer → Type 0) → List ℕ → PlannedShop → W → Result Answer CommandFault → W → Type 0
-  WithLog IsLine path p before outcome after =
-      (IsWellShaped p × Then (Asks gives path) (λ log. Told (IsOrMemory (IsLine p log))) before outcome after)
+  -- the log of a well-shaped plan is asked for, and then this comes of it; any other plan is answered by its first fault
+  abbrev pub WithLogOf : (PlannedShop → List ℕ → Result Answer CommandFault → Type 0) → List ℕ → PlannedShop → W → Result Answer CommandFault → W → Type 0
+  WithLogOf Comes path p before outcome after =
+      (IsWellShaped p × Then (Asks gives path) (λ log. Told (Comes p log)) before outcome after)
       ⊎ Told (IsOrMemory (IsNotShapedLine p)) before outcome after
+
+  -- so of a line of this kind
+  abbrev pub WithLog : (PlannedShop → List ℕ → Answer → Type 0) → List ℕ → PlannedShop → W → Result Answer CommandFault → W → Type 0
+  WithLog IsLine = WithLogOf (λ p log. IsOrMemory (IsLine p log))
 
   -- `audit` and `gantt`: both are read, and then the log
   abbrev pub RunsLog : Telling → PairOfFiles → List ℕ → W → Result Answer CommandFault → W → Type 0
@@ -117,9 +124,13 @@ module _ {W : Type 0} (gives : W → List ℕ → Result (List ℕ) CommandFault
 
   -- `improve` of the rest of a run: both are read, then its log where the plan is well shaped, and what the search from this plan comes to is answered, or from the serial plan where it has no orders at all
   abbrev pub WithRest : RestAsked → Option ℕ → ℕ → List ℕ → PlannedShop → W → Result Answer CommandFault → W → Type 0
-  WithRest made at rounds path p before outcome after =
-      (IsWellShaped p × Then (Asks gives path) (λ log. Told (IsRestAnswer made at rounds (ended_lines log) p)) before outcome after)
-      ⊎ Told (IsOrMemory (IsNotShapedLine p)) before outcome after
+  WithRest made at rounds = WithLogOf (λ p log. IsRestAnswer made at rounds (ended_lines log) p)
 
   abbrev pub RunsImproveRest : RestAsked → Option ℕ → ℕ → PairOfFiles → List ℕ → W → Result Answer CommandFault → W → Type 0
   RunsImproveRest made at rounds pair log = WithBoth pair (λ p. WithRest made at rounds log (ordered p))
+
+  -- `revise`: both are read, then the log where the plan is well shaped, and what the changes make of them is answered
+  abbrev pub RunsRevise : Revised → Option ℕ → List Change → List (List ℕ) → PairOfFiles → List ℕ → W → Result Answer CommandFault → W → Type 0
+  RunsRevise prints at changes values pair log =
+      Then (ReadsInstance pair.path pair.name) (λ named. Then (ReadsPlan pair.plan)
+      (λ plan. WithLogOf (λ p. IsReviseAnswer prints named.description.items at changes values p) log (record { shop = named.shop; plan = plan })))

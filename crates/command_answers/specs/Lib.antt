@@ -21,6 +21,7 @@ pub mod Deciding
 pub mod LogLines
 pub mod Rests
 pub mod ImprovingRests
+pub mod Revising
 pub mod Commands
 pub mod Pictures
 pub mod Cells

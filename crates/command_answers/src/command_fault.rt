@@ -7,11 +7,13 @@ ghost use Rattle.command_answers.specs.Search.{search_command_fault};
 ghost use Rattle.command_answers.specs.ImprovingRests.{improve_command_fault};
 ghost use Rattle.command_answers.specs.Deciding.{decide_command_fault};
 ghost use Rattle.command_answers.specs.LogLines.{audit_command_fault};
+ghost use Rattle.command_answers.specs.Revising.{unrevised_of, unwritten_fault};
 ghost use Rattle.command_answers.specs.Statuses.{status_of};
 
-use orlib_read::OrFault;
+use orlib_read::{NotWritten, OrFault};
 use plan_decide::DecideFault;
 use plan_improve::ImproveFault;
+use plan_revise::{ChangeFault, NotRevised};
 use plan_seek::SeekFault;
 use plan_text::PlanFault;
 use run_log::AuditFault;
@@ -85,6 +87,35 @@ impl From<PlanFault> for CommandFault {
         match told {
             PlanFault::Memory => CommandFault::Memory,
             _ => CommandFault::Plan(told),
+        }
+    }
+}
+
+impl From<NotWritten> for CommandFault {
+    ghost from_gives = { λ told fault. fault ≡ unwritten_fault told };
+
+    fn from(told: NotWritten) -> CommandFault {
+        match told {
+            NotWritten::Memory => CommandFault::Memory,
+            NotWritten::NotReadBack => CommandFault::Plan(PlanFault::NotReadBack),
+        }
+    }
+}
+
+/// Why nothing is changed: a change that can't be, by its place, or the fault of the command.
+#[derive(Drop)]
+pub(crate) enum Unrevised {
+    Refused { change: usize, fault: ChangeFault },
+    Ends(CommandFault),
+}
+
+impl From<NotRevised> for Unrevised {
+    ghost from_gives = { λ told unrevised. unrevised ≡ unrevised_of told };
+
+    fn from(told: NotRevised) -> Unrevised {
+        match told {
+            NotRevised::Memory => Unrevised::Ends(CommandFault::Memory),
+            NotRevised::Refused { change, fault } => Unrevised::Refused { change, fault },
         }
     }
 }

@@ -106,7 +106,7 @@ fn judged_answer(alloc: Global, found: &Improved) -> Answered
 }
 
 /// The line of a cycle.
-fn cycle_answer(alloc: Global, nodes: &[Node]) -> Result<Answer, AllocError>
+pub(crate) fn cycle_answer(alloc: Global, nodes: &[Node]) -> Result<Answer, AllocError>
     ensures { IfOk result (IsCycleLine nodes.now) }
 {
     let (mut text, status) = (Vec::new(alloc), REFUSED);

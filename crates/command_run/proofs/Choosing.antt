@@ -29,7 +29,7 @@ module _ {W : Type 0} (gives : W → List ℕ → Result (List ℕ) CommandFault
   told_of_path chosen before path None keeps is = tt
   told_of_path chosen before path (Some t) keeps is = is path keeps
 
-  pub told_of_chosen : (words : List (List ℕ)) (chosen : Chosen) (before : Devices W) (told : Option (List ℕ × List ℕ)) → IsChoiceOf (found_in words) chosen → IfSome told (IsToldOfWords gives words before)
+  pub told_of_chosen : (words : List (List ℕ)) (chosen : Chosen) (before : Devices W) (told : Option (List ℕ × List ℕ)) → IsChoiceOf words (found_in words) chosen → IfSome told (IsToldOfWords gives words before)
       → IfSome told (IsToldOfChosen gives chosen before)
   told_of_chosen words chosen before None choice is = tt
   told_of_chosen words chosen before (Some t) choice is = is chosen choice

@@ -24,7 +24,7 @@ use Rattle.cell_drive.specs.StatedResume.{stated_from}
 use Rattle.cell_drive.specs.InManner.{ResumesBy}
 use Rattle.command_words.specs.declared.words.Chosen.{Chosen}
 use Rattle.command_words.specs.declared.words.CommandName.{CommandName}
-use Rattle.command_words.specs.declared.words.CommandName.TheVariants.{Input as NoWords, Facts, Shape, Check, Explain, Schedule, Bounds, Plan as Search, Improve, Decide, Drive, Resume, Hub, Audit, Gantt}
+use Rattle.command_words.specs.declared.words.CommandName.TheVariants.{Input as NoWords, Facts, Shape, Check, Explain, Schedule, Bounds, Plan as Search, Improve, Decide, Revise, Drive, Resume, Hub, Audit, Gantt}
 use Rattle.command_words.specs.declared.words.WordsFault.{WordsFault}
 use Rattle.command_words.specs.declared.words.WordsFault.TheVariants.{Usage, Memory as NoWordsMemory}
 use Rattle.command_words.specs.Choice.{IsChoiceOf, TellsOneOf, reasons_in, found_in}
@@ -191,6 +191,7 @@ module _ {W : Type 0} (gives : W → List ℕ → Result (List ℕ) CommandFault
   written Search later outcome run = kept Search run.1
   written Improve later outcome run = kept Improve run.1
   written Decide later outcome run = kept Decide run.1
+  written Revise later outcome run = kept Revise run.1
   written Drive later outcome run = drives_written run.loaded later outcome run.loads run.drives
   written Resume later outcome run = resumes_written run.shaped run.texts_mid later outcome run.shapes run.resumes
   written Hub later outcome run = hub_written run.loaded later outcome run.loads run.drives
@@ -304,7 +305,7 @@ module _ {W : Type 0} (gives : W → List ℕ → Result (List ℕ) CommandFault
 
 module _ {W : Type 0} (gives : W → List ℕ → Result (List ℕ) CommandFault → W → Type 0) (words : List (List ℕ)) (before : Devices W) (status : ℕ) (after : Devices W) (end : Option LogEnd) where
   -- a command that was run, as a part of the program's run
-  ran : (chosen : Chosen) → reasons_in words ≡ [] → IsChoiceOf (found_in words) chosen → (outcome : Result Answer CommandFault) (mid : Streams)
+  ran : (chosen : Chosen) → reasons_in words ≡ [] → IsChoiceOf words (found_in words) chosen → (outcome : Result Answer CommandFault) (mid : Streams)
       → RunsChosen gives (kept_log_in chosen) chosen before outcome mid after end → Ran gives words before outcome mid after end
   ran chosen taken is outcome mid runs =
       inl (record { chosen = chosen; taken = taken; is = is; runs = runs; driven = chosen_written gives chosen before after outcome mid end (kept_log_in chosen) refl runs })

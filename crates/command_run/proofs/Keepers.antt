@@ -3,7 +3,7 @@ use Rattle.std.proofs.Common.{◌≡◌, ◌<◌, ℕ, List, Option, Some, lengt
 use Rattle.command_words.specs.Choice.{IsWithin, TakesFiles}
 use Rattle.command_words.specs.declared.words.Chosen.{Chosen}
 use Rattle.command_words.specs.declared.words.CommandName.{CommandName}
-use Rattle.command_words.specs.declared.words.CommandName.TheVariants.{Input as NoWords, Facts, Shape, Check, Explain, Schedule, Bounds, Plan as Search, Improve, Decide, Drive, Resume, Hub, Audit, Gantt}
+use Rattle.command_words.specs.declared.words.CommandName.TheVariants.{Input as NoWords, Facts, Shape, Check, Explain, Schedule, Bounds, Plan as Search, Improve, Decide, Revise, Drive, Resume, Hub, Audit, Gantt}
 use Rattle.command_answers.specs.declared.answer.Answer.{Answer}
 use Rattle.command_answers.specs.declared.command_fault.CommandFault.{CommandFault}
 use Rattle.command_run.specs.Streams.{Output, Errors}
@@ -22,6 +22,7 @@ keeper Bounds log path is = absurd (cc is)
 keeper Search log path is = absurd (cc is)
 keeper Improve log path is = absurd (cc is)
 keeper Decide log path is = absurd (cc is)
+keeper Revise log path is = absurd (cc is)
 keeper Drive log path is = refl
 keeper Resume log path is = absurd (cc is)
 keeper Hub log path is = absurd (cc is)

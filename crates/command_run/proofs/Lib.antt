@@ -4,6 +4,7 @@ pub mod ImprovingRests
 pub mod Telling
 pub mod Accepting
 pub mod Refusing
+pub mod Revising
 pub mod LowStatuses
 pub mod KnownLogs
 pub mod HeldLogs

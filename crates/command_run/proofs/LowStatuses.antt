@@ -16,7 +16,17 @@ use Rattle.plan_seek.specs.declared.seek_fault.SeekFault.TheVariants.{BadNumbers
 use Rattle.plan_improve.specs.Runs.{Asked}
 use Rattle.plan_decide.specs.declared.aim.Aim.{Aim}
 use Rattle.shop_base.specs.declared.shape_fault.ShapeFault.{ShapeFault}
-use Rattle.shop_base.specs.Plan.{PlannedShop}
+use Rattle.shop_base.specs.Shop.{JobShop}
+use Rattle.shop_base.specs.Plan.{PlannedShop, ShopPlan}
+use Rattle.shop_base.specs.Run.{ends_in}
+use Rattle.cell_tables.specs.Events.{events_of}
+use Rattle.plan_revise.specs.declared.change.Change.{Change}
+use Rattle.command_words.specs.declared.words.changes.AskedChange.{AskedChange}
+use Rattle.command_answers.specs.declared.revises.Revised.{Revised}
+use Rattle.command_answers.specs.declared.revises.Revised.TheVariants.{PlanText, InstanceText}
+use Rattle.command_answers.specs.Documents.{IsDocumentAnswer}
+use Rattle.command_answers.specs.Revising.{IsInstanceAnswer, IsPrinted, IsReviseAnswer, IsRevisedFrom}
+use Rattle.command_run.specs.Revisions.{Revises, printed_for, values_asked}
 use Rattle.byte_streams.specs.declared.drive_fault.DriveFault.{DriveFault}
 use Rattle.cell_drive.specs.declared.manner.Manner.{Manner}
 use Rattle.cell_drive.specs.declared.resume_fault.ResumeFault.{ResumeFault}
@@ -26,7 +36,7 @@ use Rattle.run_log.specs.declared.audit_fault.AuditFault.{AuditFault}
 use Rattle.run_log.specs.declared.audit_fault.AuditFault.TheVariants.{BadLine, NotExpected, Backwards, NotReady, Occupied, OutOfOrder, WrongPlace, NotClean, Memory as NoMemoryToAudit}
 use Rattle.command_words.specs.declared.words.Chosen.{Chosen}
 use Rattle.command_words.specs.declared.words.CommandName.{CommandName}
-use Rattle.command_words.specs.declared.words.CommandName.TheVariants.{Input as NoWords, Facts, Shape, Check, Explain, Schedule, Bounds, Plan, Improve, Decide, Drive, Resume, Hub, Audit, Gantt}
+use Rattle.command_words.specs.declared.words.CommandName.TheVariants.{Input as NoWords, Facts, Shape, Check, Explain, Schedule, Bounds, Plan, Improve, Decide, Revise, Drive, Resume, Hub, Audit, Gantt}
 use Rattle.command_answers.specs.declared.answer.Answer.{Answer}
 use Rattle.command_answers.specs.declared.cells.Cells.{Cells}
 use Rattle.command_answers.specs.declared.cells.Cells.TheVariants.{Accepted as AllAccepted, Line}
@@ -45,14 +55,14 @@ use Rattle.command_answers.specs.Improving.{IsStatusOf, IsBestAnswer, IsImproveA
 use Rattle.command_answers.specs.Search.{IsSearchLine, IsSearchAnswer, IsNoPlanLine}
 use Rattle.command_answers.specs.declared.logs.Telling.{Telling}
 use Rattle.command_answers.specs.declared.logs.Telling.TheVariants.{Numbers, Drawing}
-use Rattle.command_answers.specs.LogLines.{IsFaultLine, IsFaultTold, IsLogLine}
+use Rattle.command_answers.specs.LogLines.{IsFaultLine, IsFaultTold, IsLogLine, IsLogRefused}
 use Rattle.command_answers.specs.declared.rests.PlanTelling.{PlanTelling}
 use Rattle.command_answers.specs.declared.rests.PlanTelling.TheVariants.{Verdict as OfVerdict, Reasons, Moments}
 use Rattle.command_answers.specs.Rests.{IsPastLine, IsRestLine}
 use Rattle.command_answers.specs.declared.pictures.Drawn.{Drawn}
 use Rattle.command_answers.specs.declared.pictures.Drawn.TheVariants.{Picture, Line as LineDrawn}
 use Rattle.command_answers.specs.Pictures.{IsCellDrawn, IsLogDrawn, IsPlanDrawn, IsRestDrawing, IsRestDrawn, IsUnshapedDrawn, IsVerdictDrawn, WithDrawnLog, DrawsLog, DrawsRest, DrawsSchedule}
-use Rattle.command_answers.specs.Commands.{PairOfFiles, WithBoth, WithLog, WithRest}
+use Rattle.command_answers.specs.Commands.{PairOfFiles, WithBoth, WithLog, WithLogOf, WithRest}
 use Rattle.command_answers.specs.Cells.{IsCellLine, AfterPlan, LoadsEach}
 use Rattle.command_answers.proofs.RestAnswers.{low_rest}
 use Rattle.command_run.specs.Streams.{Streams, Output}
@@ -188,6 +198,30 @@ low_rest_answer made at rounds lines start (Ok answer) (inl (few, inr (inr (inl 
 low_rest_answer made at rounds lines start (Ok answer) (inl (few, inr (inr (inr past)))) = one_low answer.status past.line.1
 low_rest_answer made at rounds lines start (Ok answer) (inr many) = one_low answer.status many.refused
 low_rest_answer made at rounds lines start (Err fault) is = tt
+
+low_instance : (description : List ℕ) (shop : JobShop) (outcome : Result Answer CommandFault) → IsInstanceAnswer description shop outcome → IsLow outcome
+low_instance description shop (Ok answer) (inl text) = zero_low answer.status text.good
+low_instance description shop (Ok answer) (inr text) = zero_low answer.status text.1.good
+low_instance description shop (Err fault) is = tt
+
+low_document : (plan : ShopPlan) (outcome : Result Answer CommandFault) → IsDocumentAnswer plan 0 outcome → IsLow outcome
+low_document plan (Ok answer) text = zero_low answer.status text.ends
+low_document plan (Err fault) is = tt
+
+low_printed : (prints : Revised) (description : List ℕ) (q : PlannedShop) (outcome : Result Answer CommandFault) → IsPrinted prints description q outcome → IsLow outcome
+low_printed PlanText description q outcome is = low_document q.plan outcome is
+low_printed InstanceText description q outcome is = low_instance description q.shop outcome is
+
+low_revised : (prints : Revised) (description : List ℕ) (at : Option ℕ) (changes : List Change) (values : List (List ℕ)) (p : PlannedShop) (log : List ℕ) (outcome : Result Answer CommandFault)
+    → IsReviseAnswer prints description at changes values p log outcome → IsLow outcome
+low_revised prints description at changes values p log outcome (inr refused) = low_or (IsLogRefused p (ended_lines log)) outcome (λ answer line. one_low answer.status line.line.1) refused
+low_revised prints description at changes values p log outcome (inl told) = go told.revised
+  where
+    go : IsRevisedFrom prints description at changes values p (ends_in p (events_of told.run.0)) outcome → IsLow outcome
+    go (inl (before, past)) = low_or _ outcome (λ answer line. one_low answer.status line.1) past
+    go (inr (later, inl cycle)) = low_or _ outcome (λ answer line. one_low answer.status line.line.1) cycle
+    go (inr (later, inr (none, inl text))) = low_printed prints description text.revised outcome text.printed
+    go (inr (later, inr (none, inr refused))) = low_or _ outcome (λ answer line. one_low answer.status line.refused) refused
 
 low_improved : (made : Asked) (rounds : ℕ) (start : PlannedShop) (outcome : Result Answer CommandFault) → IsImproveAnswer made rounds start outcome → IsLow outcome
 low_improved made rounds start outcome (inl best) = low_best made rounds start outcome best.1
@@ -349,11 +383,15 @@ module _ {W : Type 0} (gives : W → List ℕ → Result (List ℕ) CommandFault
       → ((p : PlannedShop) (mid : W) → next p mid outcome after → IsLow outcome) → WithBoth gives pair next texts outcome after → IsLow outcome
   low_both pair next texts outcome after each run = held IsLow _ next texts outcome after low_failed each run
 
+  low_with_log_of : (Comes : PlannedShop → List ℕ → Result Answer CommandFault → Type 0) → ((p : PlannedShop) (text : List ℕ) (outcome : Result Answer CommandFault) → Comes p text outcome → IsLow outcome)
+      → (log : List ℕ) (p : PlannedShop) (mid : W) (outcome : Result Answer CommandFault) (after : W) → WithLogOf gives Comes log p mid outcome after → IsLow outcome
+  low_with_log_of Comes each log p mid outcome after (inl (shaped, run)) =
+      held IsLow _ (λ text. Told (Comes p text)) mid outcome after low_failed (λ text later on. each p text outcome on.0) run
+  low_with_log_of Comes each log p mid outcome after (inr told) = low_or (IsNotShapedLine p) outcome (low_not_shaped p) told.0
+
   low_with_log : (IsLine : PlannedShop → List ℕ → Answer → Type 0) → ((p : PlannedShop) (text : List ℕ) (answer : Answer) → IsLine p text answer → answer.status ≤ 1)
       → (log : List ℕ) (p : PlannedShop) (mid : W) (outcome : Result Answer CommandFault) (after : W) → WithLog gives IsLine log p mid outcome after → IsLow outcome
-  low_with_log IsLine each log p mid outcome after (inl (shaped, run)) =
-      held IsLow _ (λ text. Told (IsOrMemory (IsLine p text))) mid outcome after low_failed (λ text later on. low_or (IsLine p text) outcome (each p text) on.0) run
-  low_with_log IsLine each log p mid outcome after (inr told) = low_or (IsNotShapedLine p) outcome (low_not_shaped p) told.0
+  low_with_log IsLine each = low_with_log_of (λ p text. IsOrMemory (IsLine p text)) (λ p text outcome. low_or (IsLine p text) outcome (each p text))
 
   low_telling : (telling : PlanTelling) (at : Option ℕ) (pair : PairOfFiles) (log : Option (List ℕ)) (texts : W) (outcome : Result Answer CommandFault) (after : W)
       → RunsTelling gives telling at pair log texts outcome after → IsLow outcome
@@ -416,10 +454,8 @@ module _ {W : Type 0} (gives : W → List ℕ → Result (List ℕ) CommandFault
 
   low_with_rest : (at : Option ℕ) (rounds : ℕ) (log : List ℕ) (p : PlannedShop) (mid : W) (outcome : Result Answer CommandFault) (after : W)
       → WithRest gives (AsksOneForRest rounds) at rounds log p mid outcome after → IsLow outcome
-  low_with_rest at rounds log p mid outcome after (inl (shaped, is)) =
-      held IsLow _ (λ text. Told (IsRestAnswer (AsksOneForRest rounds) at rounds (ended_lines text) p)) mid outcome after low_failed
-      (λ text later on. low_rest_answer (AsksOneForRest rounds) at rounds (ended_lines text) p outcome on.0) is
-  low_with_rest at rounds log p mid outcome after (inr told) = low_or (IsNotShapedLine p) outcome (low_not_shaped p) told.0
+  low_with_rest at rounds =
+      low_with_log_of (λ p text. IsRestAnswer (AsksOneForRest rounds) at rounds (ended_lines text) p) (λ p text. low_rest_answer (AsksOneForRest rounds) at rounds (ended_lines text) p)
 
   low_rest_improves : (at : Option ℕ) (rounds : ℕ) (pair : PairOfFiles) (log : List ℕ) (texts : W) (outcome : Result Answer CommandFault) (after : W)
       → ImprovesRest gives at rounds pair log texts outcome after → IsLow outcome
@@ -431,6 +467,15 @@ module _ {W : Type 0} (gives : W → List ℕ → Result (List ℕ) CommandFault
       → Improves gives at rounds pair log texts outcome after → IsLow outcome
   low_bettered at rounds pair None texts outcome after run = low_improves rounds pair texts outcome after run
   low_bettered at rounds pair (Some log) texts outcome after run = low_rest_improves at rounds pair log texts outcome after run
+
+  low_revises : (file : Bool) (at : Option ℕ) (asked : List AskedChange) (pair : PairOfFiles) (log : List ℕ) (texts : W) (outcome : Result Answer CommandFault) (after : W)
+      → Revises gives file at asked pair log texts outcome after → IsLow outcome
+  low_revises file at asked pair log texts outcome after (inl run) =
+      held IsLow _ _ texts outcome after low_failed
+      (λ named mid on. held IsLow _ _ mid outcome after low_failed
+      (λ plan later goes. low_with_log_of (λ p. IsReviseAnswer (printed_for file) named.description.items at run.changes (values_asked asked) p)
+      (λ p. low_revised (printed_for file) named.description.items at run.changes (values_asked asked) p) log (record { shop = named.shop; plan = plan }) later outcome after goes) on) run.runs
+  low_revises file at asked pair log texts outcome after (inr wanting) = subst IsLow (sym wanting.0) tt
 
   low_resumes : (manner : Manner) (at : Option ℕ) (log : List ℕ) (shaped : Result (Result PlannedShop ShapeFault) CommandFault) (texts : W) (before : Streams) (outcome : Result Answer CommandFault) (texts_after : W) (after : Streams)
       → Resumes gives manner at log shaped texts before outcome texts_after after → IsLow outcome
@@ -459,6 +504,7 @@ module _ {W : Type 0} (gives : W → List ℕ → Result (List ℕ) CommandFault
   low Decide chosen texts before outcome texts_after after run =
       low_both (pair_in chosen) (λ p. Told (IsDecideAnswer p (aim_in chosen))) texts outcome texts_after (λ p mid on. low_decides p (aim_in chosen) outcome on.0) run.0
   low Improve chosen texts before outcome texts_after after run = low_bettered chosen.at chosen.rounds (pair_in chosen) (log_in chosen) texts outcome texts_after run.0
+  low Revise chosen texts before outcome texts_after after run = low_revises chosen.file chosen.at chosen.changes.items (pair_in chosen) (file_at chosen 2) texts outcome texts_after run.0
   low Drive chosen texts before outcome texts_after after run = low_drives (manner_in chosen) run.loaded before after outcome run.drives
   low Resume chosen texts before outcome texts_after after run = low_resumes (manner_in chosen) chosen.at _ run.shaped run.texts_mid before outcome texts_after after run.resumes
   low Hub chosen texts before outcome texts_after after run =

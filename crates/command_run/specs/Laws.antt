@@ -480,7 +480,7 @@ module _ {W : Type 0} (gives : W → List ℕ → Result (List ℕ) CommandFault
   pub record RanCommand (words : List (List ℕ)) (before : Devices W) (outcome : Result Answer CommandFault) (mid : Streams) (after : Devices W) (log : Option LogEnd) : Type 0 where
     pub chosen : Chosen
     pub taken : reasons_in words ≡ []
-    pub is : IsChoiceOf (found_in words) chosen
+    pub is : IsChoiceOf words (found_in words) chosen
     pub runs : RunsChosen gives (kept_log_in chosen) chosen before outcome mid after log
     pub driven : WereDriven chosen.name chosen before.texts before.streams mid
 

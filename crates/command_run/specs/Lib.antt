@@ -6,6 +6,7 @@ pub mod Planners
 pub mod Improvers
 pub mod Drives
 pub mod Resumes
+pub mod Revisions
 pub mod Logs
 pub mod Hubs
 pub mod Ending

@@ -10,7 +10,7 @@ use Rattle.plan_decide.specs.declared.aim.Aim.TheVariants.{Promises, Least}
 use Rattle.plan_decide.specs.declared.aim.Objective.TheVariants.{Makespan, Leaving}
 use Rattle.command_words.specs.declared.words.Chosen.{Chosen}
 use Rattle.command_words.specs.declared.words.CommandName.{CommandName}
-use Rattle.command_words.specs.declared.words.CommandName.TheVariants.{Input as NoWords, Facts, Shape, Check, Explain, Schedule, Bounds, Plan, Improve, Decide, Drive, Resume, Hub, Audit, Gantt}
+use Rattle.command_words.specs.declared.words.CommandName.TheVariants.{Input as NoWords, Facts, Shape, Check, Explain, Schedule, Bounds, Plan, Improve, Decide, Revise, Drive, Resume, Hub, Audit, Gantt}
 use Rattle.command_words.specs.declared.words.Lines.{Lines}
 use Rattle.command_words.specs.declared.words.Lines.TheVariants.{One, Two}
 use Rattle.command_words.specs.declared.words.WordsFault.{WordsFault}
@@ -33,13 +33,14 @@ use Rattle.command_run.specs.Planners.{SeeksPlan}
 use Rattle.command_run.specs.Improvers.{Improves}
 use Rattle.command_run.specs.Drives.{Drives}
 use Rattle.command_run.specs.Resumes.{Resumes}
+use Rattle.command_run.specs.Revisions.{Revises}
 use Rattle.command_run.specs.Logs.{DrivesShaped, IsToldOfLog, LogEnd, Step, step_of}
 use Rattle.command_run.specs.Hubs.{DrivesAll}
 use Rattle.command_run.specs.Ending.{Ends, EndsBy, IsAnswerEnd, WasTold}
 
 -- what the words of the command line are read as
 pub record AreWordsRead (words : List (List ℕ)) (read : Result Chosen WordsFault) : Type 0 where
-  pub chosen : IfOk read (IsChoiceOf (found_in words))
+  pub chosen : IfOk read (IsChoiceOf words (found_in words))
   pub within : IfOk read IsWithin
   pub taken : IfOk read (λ _. reasons_in words ≡ [])
   pub refused : IfErr read (TellsOneOf (reasons_in words))
@@ -161,6 +162,8 @@ module _ {W : Type 0} (gives : W → List ℕ → Result (List ℕ) CommandFault
       Improves gives chosen.at chosen.rounds (pair_in chosen) (log_in chosen) texts outcome texts_after × (after ≡ before)
   RunsCommand Decide chosen texts before outcome texts_after after =
       RunsDecide gives (aim_in chosen) (pair_in chosen) texts outcome texts_after × (after ≡ before)
+  RunsCommand Revise chosen texts before outcome texts_after after =
+      Revises gives chosen.file chosen.at chosen.changes.items (pair_in chosen) (file_at chosen 2) texts outcome texts_after × (after ≡ before)
   RunsCommand Drive chosen texts before outcome texts_after after =
       RunsDrive (manner_in chosen) (pair_in chosen) texts before outcome texts_after after
   RunsCommand Resume chosen texts before outcome texts_after after =
@@ -218,4 +221,4 @@ IsToldOfChosen gives chosen before told = (path : List ℕ) → kept_log_in chos
 
 -- what is told of the log that the words ask for, and of what the output has taken once the events in that are told again
 abbrev pub IsToldOfWords : {W : Type 0} → (W → List ℕ → Result (List ℕ) CommandFault → W → Type 0) → List (List ℕ) → Devices W → List ℕ × List ℕ → Type 0
-IsToldOfWords gives words before told = (chosen : Chosen) → IsChoiceOf (found_in words) chosen → IsToldOfChosen gives chosen before told
+IsToldOfWords gives words before told = (chosen : Chosen) → IsChoiceOf words (found_in words) chosen → IsToldOfChosen gives chosen before told

@@ -18,6 +18,7 @@ use crate::input::input_answer;
 use crate::pictures::{drawing_answer, timetable_answer};
 use crate::planners::seek_answer;
 use crate::resumes::resume_answer;
+use crate::revisions::revision_answer;
 use crate::tellings::telling_answer;
 use cell_drive::{Manner, Outlet, Source};
 use command_answers::{
@@ -197,6 +198,11 @@ pub(crate) fn command<T: Texts, R: Source, W: Outlet, S: Screen>(
         CommandName::Decide => {
             let (aim, choices) = (aim(chosen), chosen.choices);
             decision_answer(alloc, texts, &pair(chosen), aim, choices, screen)
+        }
+        CommandName::Revise => {
+            let (pair, log) = (pair(chosen), file(chosen, 2));
+            let changes = chosen.changes.as_slice();
+            revision_answer(alloc, texts, &pair, log, chosen.at, changes, chosen.file)
         }
         CommandName::Drive => { drive_answer(alloc, texts, &pair(chosen), manner(chosen), streams) }
         CommandName::Resume => {

@@ -16,6 +16,7 @@ mod planners;
 mod program;
 mod progress;
 mod resumes;
+mod revisions;
 mod tellings;
 mod unchosen;
 

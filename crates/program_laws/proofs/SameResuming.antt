@@ -1,5 +1,5 @@
 -- A run that is taken up writes the same, and behind a log without events what `drive` writes.
-use Rattle.std.proofs.Common.{◌≡◌, ℕ, ◌≤◌, ◌++◌, List, [], ◌∷◌, Bool, true, false, Option, None, Result, Ok, Err, length, get_or, map, option_map, inl, inr, ap, sym, ◌∙◌, subst, arith, refl}
+use Rattle.std.proofs.Common.{◌≡◌, ℕ, ◌≤◌, ◌++◌, List, [], ◌∷◌, Bool, true, false, Option, None, Some, Result, Ok, Err, length, get_or, map, option_map, inl, inr, ap, sym, ◌∙◌, subst, arith, refl}
 use Rattle.std.specs.Prelude.{unwrap_or}
 use Rattle.std.specs.Io.KnownBytes.{Appends}
 use Rattle.std.specs.String.{string_bytes}
@@ -30,7 +30,7 @@ use Rattle.drive_laws.proofs.StatedResumes.{stated_on_text}
 use Rattle.drive_laws.proofs.OneTaking.{one_text_from_a_log, one_stated_text_from_a_log, a_log_without_events_is_driven, a_log_without_events_is_driven_so}
 use Rattle.command_words.specs.declared.words.Chosen.{Chosen}
 use Rattle.command_words.specs.declared.words.CommandName.{CommandName}
-use Rattle.command_words.specs.declared.words.CommandName.TheVariants.{Input, Facts, Shape, Check, Explain, Schedule, Bounds, Plan, Improve, Decide, Drive, Resume, Hub, Audit, Gantt}
+use Rattle.command_words.specs.declared.words.CommandName.TheVariants.{Input, Facts, Shape, Check, Explain, Schedule, Bounds, Plan, Improve, Decide, Revise, Drive, Resume, Hub, Audit, Gantt}
 use Rattle.command_words.specs.declared.words.Lines.{Lines}
 use Rattle.command_words.specs.declared.words.WordsFault.{WordsFault}
 use Rattle.command_words.specs.declared.words.WordsFault.TheVariants.{Usage, Memory as NoWordsMemory}
@@ -51,6 +51,10 @@ use Rattle.program_laws.proofs.SameWriting.{Wrote, IsTextBy, same_manner, first,
 
 -- ---- the words
 
+abbrev third : Option (List ℕ) → ℕ
+third None = 0
+third (Some word) = get_or word 2 0
+
 is_resume : (name : CommandName) → word_of name ≡ word_of Resume → name ≡ Resume
 is_resume Input word = absurd (cc word)
 is_resume Resume word = refl
@@ -62,20 +66,21 @@ is_resume Schedule word = (let differ : 115 ≡ 114 = ap first word in absurd (o
 is_resume Bounds word = (let differ : 98 ≡ 114 = ap first word in absurd (omega (arith, differ)))
 is_resume Plan word = (let differ : 112 ≡ 114 = ap first word in absurd (omega (arith, differ)))
 is_resume Improve word = (let differ : 105 ≡ 114 = ap first word in absurd (omega (arith, differ)))
+is_resume Revise word = (let differ : 118 ≡ 115 = ap third word in absurd (omega (arith, differ)))
 is_resume Decide word = (let differ : 100 ≡ 114 = ap first word in absurd (omega (arith, differ)))
 is_resume Drive word = (let differ : 100 ≡ 114 = ap first word in absurd (omega (arith, differ)))
 is_resume Hub word = (let differ : 104 ≡ 114 = ap first word in absurd (omega (arith, differ)))
 is_resume Audit word = (let differ : 97 ≡ 114 = ap first word in absurd (omega (arith, differ)))
 is_resume Gantt word = (let differ : 103 ≡ 114 = ap first word in absurd (omega (arith, differ)))
 
-asked_pair : (words : List (List ℕ)) (pair : PairOfFiles) (log : List ℕ) (chosen : Chosen) → AskForResume words pair log → IsChoiceOf (found_in words) chosen → pair_in chosen ≡ pair
+asked_pair : (words : List (List ℕ)) (pair : PairOfFiles) (log : List ℕ) (chosen : Chosen) → AskForResume words pair log → IsChoiceOf words (found_in words) chosen → pair_in chosen ≡ pair
 asked_pair words pair log chosen ask is =
     let of : List ℕ → Option (List ℕ) → List ℕ → PairOfFiles = λ a b c. record { path = a; name = b; plan = c } in
     let files : List (List ℕ) = map string_bytes chosen.files.items in
     ap (λ a. of a (option_map string_bytes chosen.instance) (get_or files 1 [])) (ap (λ (fs : List (List ℕ)). get_or fs 0 []) is.files ∙ sym ask.path)
     ∙ ap (λ b. of pair.path b (get_or files 1 [])) (is.instance ∙ sym ask.name) ∙ ap (λ c. of pair.path pair.name c) (ap (λ (fs : List (List ℕ)). get_or fs 1 []) is.files ∙ sym ask.plan)
 
-asked_log : (words : List (List ℕ)) (pair : PairOfFiles) (log : List ℕ) (chosen : Chosen) → AskForResume words pair log → IsChoiceOf (found_in words) chosen → file_at chosen 2 ≡ log
+asked_log : (words : List (List ℕ)) (pair : PairOfFiles) (log : List ℕ) (chosen : Chosen) → AskForResume words pair log → IsChoiceOf words (found_in words) chosen → file_at chosen 2 ≡ log
 asked_log words pair log chosen ask is = ap (λ (fs : List (List ℕ)). get_or fs 2 []) is.files ∙ sym ask.log_is
 
 -- ---- what a good run wrote

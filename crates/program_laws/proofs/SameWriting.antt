@@ -27,7 +27,7 @@ use Rattle.cell_drive.proofs.OneText.{one_answer_text}
 use Rattle.cell_drive.proofs.OneStated.{one_stated_text, a_stated_cell_answers_so}
 use Rattle.command_words.specs.declared.words.Chosen.{Chosen}
 use Rattle.command_words.specs.declared.words.CommandName.{CommandName}
-use Rattle.command_words.specs.declared.words.CommandName.TheVariants.{Input, Facts, Shape, Check, Explain, Schedule, Bounds, Plan, Improve, Decide, Drive, Resume, Hub, Audit, Gantt}
+use Rattle.command_words.specs.declared.words.CommandName.TheVariants.{Input, Facts, Shape, Check, Explain, Schedule, Bounds, Plan, Improve, Decide, Revise, Drive, Resume, Hub, Audit, Gantt}
 use Rattle.command_words.specs.declared.words.Lines.{Lines}
 use Rattle.command_words.specs.declared.words.WordsFault.{WordsFault}
 use Rattle.command_words.specs.declared.words.WordsFault.TheVariants.{Usage, Memory as NoWordsMemory}
@@ -69,13 +69,14 @@ is_drive Schedule word = (let differ : 115 ≡ 100 = ap first word in absurd (om
 is_drive Bounds word = (let differ : 98 ≡ 100 = ap first word in absurd (omega (arith, differ)))
 is_drive Plan word = (let differ : 112 ≡ 100 = ap first word in absurd (omega (arith, differ)))
 is_drive Improve word = (let differ : 105 ≡ 100 = ap first word in absurd (omega (arith, differ)))
+is_drive Revise word = (let differ : 114 ≡ 100 = ap first word in absurd (omega (arith, differ)))
 is_drive Decide word = (let differ : 101 ≡ 114 = ap second word in absurd (omega (arith, differ)))
 is_drive Resume word = (let differ : 114 ≡ 100 = ap first word in absurd (omega (arith, differ)))
 is_drive Hub word = (let differ : 104 ≡ 100 = ap first word in absurd (omega (arith, differ)))
 is_drive Audit word = (let differ : 97 ≡ 100 = ap first word in absurd (omega (arith, differ)))
 is_drive Gantt word = (let differ : 103 ≡ 100 = ap first word in absurd (omega (arith, differ)))
 
-same_pair : (words : List (List ℕ)) (pair : PairOfFiles) (chosen : Chosen) → AskForDrive words pair → IsChoiceOf (found_in words) chosen → pair_in chosen ≡ pair
+same_pair : (words : List (List ℕ)) (pair : PairOfFiles) (chosen : Chosen) → AskForDrive words pair → IsChoiceOf words (found_in words) chosen → pair_in chosen ≡ pair
 same_pair words pair chosen ask is =
     let path : get_or (map string_bytes chosen.files.items) 0 [] ≡ pair.path = ap (λ (fs : List (List ℕ)). get_or fs 0 []) is.files ∙ sym ask.path in
     let plan : get_or (map string_bytes chosen.files.items) 1 [] ≡ pair.plan = ap (λ (fs : List (List ℕ)). get_or fs 1 []) is.files ∙ sym ask.plan in
@@ -84,7 +85,7 @@ same_pair words pair chosen ask is =
     ap (λ a. of a (option_map string_bytes chosen.instance) (get_or (map string_bytes chosen.files.items) 1 [])) path
     ∙ ap (λ b. of pair.path b (get_or (map string_bytes chosen.files.items) 1 [])) name ∙ ap (λ c. of pair.path pair.name c) plan
 
-pub same_manner : (words : List (List ℕ)) (chosen : Chosen) → IsChoiceOf (found_in words) chosen → manner_in chosen ≡ manner_of words
+pub same_manner : (words : List (List ℕ)) (chosen : Chosen) → IsChoiceOf words (found_in words) chosen → manner_in chosen ≡ manner_of words
 same_manner words chosen is =
     ap (λ (v : Option Lines). record { tells = is_second v; longest = chosen.leap; from = unwrap_or chosen.at 0 }) is.lines
     ∙ ap (λ (l : Option ℕ). record { tells = is_second (lines_in (rows_found (found_in words))); longest = l; from = unwrap_or chosen.at 0 }) is.leap
@@ -95,7 +96,7 @@ none_kept : (keeps : Bool) (log : Option (List ℕ)) → log ≡ None → log_ke
 none_kept true log none = none
 none_kept false log none = refl
 
-no_log : (words : List (List ℕ)) (pair : PairOfFiles) (chosen : Chosen) → AskForDrive words pair → IsChoiceOf (found_in words) chosen → kept_log_in chosen ≡ None
+no_log : (words : List (List ℕ)) (pair : PairOfFiles) (chosen : Chosen) → AskForDrive words pair → IsChoiceOf words (found_in words) chosen → kept_log_in chosen ≡ None
 no_log words pair chosen ask is = none_kept (keeps_log chosen.name) (option_map string_bytes chosen.log) (is.log ∙ ask.log)
 
 -- ---- the bytes

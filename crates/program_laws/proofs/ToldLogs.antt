@@ -33,10 +33,10 @@ kept_some : (keeps : Bool) (log : Option (List ℕ)) (path : List ℕ) → log_k
 kept_some true log path is = is
 kept_some false log path is = absurd (cc is)
 
-asked_path : (words : List (List ℕ)) (chosen : Chosen) (path : List ℕ) → IsChoiceOf (found_in words) chosen → kept_log_in chosen ≡ Some path → kept_in (rows_found (found_in words)) ≡ Some path
+asked_path : (words : List (List ℕ)) (chosen : Chosen) (path : List ℕ) → IsChoiceOf words (found_in words) chosen → kept_log_in chosen ≡ Some path → kept_in (rows_found (found_in words)) ≡ Some path
 asked_path words chosen path choice kept = sym choice.log ∙ kept_some (keeps_log chosen.name) (option_map string_bytes chosen.log) path kept
 
-asked_pair : (words : List (List ℕ)) (pair : PairOfFiles) (log : List ℕ) (chosen : Chosen) → AskForLog words pair log → IsChoiceOf (found_in words) chosen → pair_in chosen ≡ pair
+asked_pair : (words : List (List ℕ)) (pair : PairOfFiles) (log : List ℕ) (chosen : Chosen) → AskForLog words pair log → IsChoiceOf words (found_in words) chosen → pair_in chosen ≡ pair
 asked_pair words pair log chosen ask is =
     let of : List ℕ → Option (List ℕ) → List ℕ → PairOfFiles = λ a b c. record { path = a; name = b; plan = c } in
     let files : List (List ℕ) = map string_bytes chosen.files.items in

@@ -1,0 +1,74 @@
+-- The answers of the command `revise`.
+use Rattle.std.proofs.Common.{◌≡◌, ◌∙◌, ◌<◌, ◌≤◌, ℕ, List, [], Option, Result, Ok, Err, refl, sym, subst, inl, inr}
+use Rattle.std.specs.Prelude.{slice_get}
+use Rattle.std.proofs.lemmas.Option.{slice_get_within}
+use Rattle.shop_base.specs.Shop.{JobShop}
+use Rattle.shop_base.specs.Plan.{PlannedShop}
+use Rattle.shop_base.specs.Cell.{Cell}
+use Rattle.shop_base.specs.Run.{ends_in}
+use Rattle.text_lines.specs.Lines.{ended_lines}
+use Rattle.cell_tables.specs.Events.{events_of}
+use Rattle.run_log.specs.Audits.{TellRun}
+use Rattle.orlib_read.specs.declared.not_written.NotWritten.{NotWritten}
+use Rattle.orlib_read.specs.declared.not_written.NotWritten.TheVariants.{NotReadBack as NotRead, Memory as WantOfMemory}
+use Rattle.plan_revise.specs.declared.change.Change.{Change}
+use Rattle.plan_revise.specs.declared.not_revised.NotRevised.{NotRevised}
+use Rattle.plan_revise.specs.declared.not_revised.NotRevised.TheVariants.{Refused, Memory as NoMemory}
+use Rattle.plan_revise.specs.Revised.{IsReason}
+use Rattle.command_answers.specs.declared.answer.Answer.{Answer}
+use Rattle.command_answers.specs.declared.command_fault.CommandFault.{CommandFault}
+use Rattle.command_answers.specs.declared.command_fault.CommandFault.TheVariants.{Instance, Plan, Read, Write, InputTooLong, Log, LogInUse, Memory}
+use Rattle.command_answers.specs.declared.command_fault.Unrevised.{Unrevised}
+use Rattle.command_answers.specs.declared.revises.Revised.{Revised}
+use Rattle.command_answers.specs.Revising.{IsChangeRefused, IsInstanceAnswer, IsReviseAnswer, IsRevisedFrom, IsPlaced, IsUnread, IsUnrevised, unrevised_of, unwritten_fault}
+use Rattle.command_answers.specs.Steps.{IsOrMemory}
+
+-- ---- a change that can't be
+
+module _ (p : PlannedShop) (c : Cell) (t : ℕ) (changes : List Change) where
+  -- its place is that of one of the changes
+  pub placed : (told : NotRevised) (why : Unrevised) → IsReason p c t changes told → why ≡ unrevised_of told → IsPlaced changes why
+  placed (Refused n fault) why is same = subst (IsPlaced changes) (sym same) (slice_get_within changes n is.first.change is.first.there)
+  placed NoMemory why is same = subst (IsPlaced changes) (sym same) tt
+
+  module _ (prints : Revised) (description : List ℕ) (values : List (List ℕ)) where
+    refused_at : (told : NotRevised) (outcome : Result Answer CommandFault) → IsReason p c t changes told → IsUnrevised changes values (unrevised_of told) outcome
+        → IsOrMemory (IsChangeRefused prints description changes values p c t) outcome
+    refused_at (Refused n fault) (Ok answer) is line = record { place = n; fault = fault; first = is; change = line.0; there = line.1; line = line.2.0; refused = line.2.1 }
+    refused_at (Refused n fault) (Err wanting) is line = line.2
+    refused_at NoMemory outcome is wanting = rw wanting refl
+
+    -- what is answered where nothing is changed
+    pub refused_told : (told : NotRevised) (why : Unrevised) (outcome : Result Answer CommandFault) → IsReason p c t changes told → why ≡ unrevised_of told → IsUnrevised changes values why outcome
+        → IsOrMemory (IsChangeRefused prints description changes values p c t) outcome
+    refused_told told why outcome is same answered = refused_at told outcome is (subst (λ (x : Unrevised). IsUnrevised changes values x outcome) same answered)
+
+-- what is answered of the cell at the end of the run that a log tells
+pub of_run : (prints : Revised) (description : List ℕ) (at : Option ℕ) (changes : List Change) (values : List (List ℕ)) (p : PlannedShop) (log : List ℕ) (run : TellRun p (ended_lines log))
+    (q : PlannedShop) (c : Cell) (outcome : Result Answer CommandFault) → q ≡ p → c ≡ ends_in p (events_of run.0)
+    → IsRevisedFrom prints description at changes values q c outcome → IsReviseAnswer prints description at changes values p log outcome
+of_run prints description at changes values p log run q c outcome plan cell told =
+    let at_end : IsRevisedFrom prints description at changes values q (ends_in p (events_of run.0)) outcome = subst (λ (d : Cell). IsRevisedFrom prints description at changes values q d outcome) cell told in
+    inl (record { run = run; revised = subst (λ (x : PlannedShop). IsRevisedFrom prints description at changes values x (ends_in p (events_of run.0)) outcome) plan at_end })
+
+-- ---- the text of an instance
+
+module _ (shop : JobShop) where
+  -- without its description
+  pub undescribed : (description : List ℕ) (outcome : Result Answer CommandFault) → IsUnread description shop → IsInstanceAnswer [] shop outcome → IsInstanceAnswer description shop outcome
+  undescribed description (Ok answer) unread (inl text) = inr (unread, text)
+  undescribed description (Ok answer) unread (inr text) = inr (unread, text.1)
+  undescribed description (Err Memory) unread is = tt
+  undescribed description (Err (Plan fault)) unread is = (is.0, unread, is.2)
+  undescribed description (Err (Instance fault)) unread is = is
+  undescribed description (Err Read) unread is = is
+  undescribed description (Err Write) unread is = is
+  undescribed description (Err InputTooLong) unread is = is
+  undescribed description (Err Log) unread is = is
+  undescribed description (Err LogInUse) unread is = is
+
+  -- where none is written
+  pub unwritten : (told : NotWritten) (description : List ℕ) (fault : CommandFault) → fault ≡ unwritten_fault told → (told ≡ NotRead → IsUnread description shop × IsUnread [] shop)
+      → IsInstanceAnswer description shop (Err fault)
+  unwritten WantOfMemory description fault same unread = rw same tt
+  unwritten NotRead description fault same unread = (let both = unread refl in rw same (refl, both.0, both.1))

@@ -1,0 +1,281 @@
+//! The command `revise`.
+
+ghost use Rattle.std.specs.Prelude.{◌≡◌, ◌≤◌, ◌++◌, [], IfOk, IfSome, OnOk, map, get_or};
+ghost use Rattle.shop_base.specs.declared.limits.TheConstants.{MAX_MOMENT};
+ghost use Rattle.shop_base.specs.Report.{IsNextMoment};
+ghost use Rattle.command_answers.specs.Commands.{RunsRevise, WithLogOf};
+ghost use Rattle.command_answers.specs.Revising.{IsChanged, IsInstanceAnswer, IsPrinted, IsReviseAnswer, IsPlaced, IsRevisedFrom, IsRevisedRest, IsUnrevised, change_refused_line, flag_of, is_printable, printable_part};
+ghost use Rattle.command_answers.specs.Steps.{IsOrMemory};
+
+use crate::answer::{Answer, Answered, GOOD, REFUSED};
+use crate::both::{Both, Pair};
+use crate::command_fault::{CommandFault, Unrevised};
+use crate::lines::document_answer;
+use crate::logs::fault_told;
+use crate::readings::{instance, plan};
+use crate::rest_improves::cycle_answer;
+use crate::rests::{past_answer, present_at};
+use crate::shapes::not_shaped_answer;
+use crate::texts::Texts;
+use cell_tables::WorkCell;
+use orlib_read::{Named, NotWritten, instance_document};
+use plan_revise::{Change, ChangeFault, revise};
+use plan_verifier::{Judged, Why, verify_after};
+use run_log::run_of_log;
+use shop_base::{Moment, Shaped, Shop};
+use std::alloc::{AllocError, Global};
+
+/// What is printed of a shop and its plan that are changed.
+#[derive(Clone, Copy, Debug, PartialEq, Eq)]
+pub enum Revised {
+    /// The text of the plan.
+    PlanText,
+    /// The text of the instance.
+    InstanceText,
+}
+
+/// What is asked for: the present moment, if another one than the log's last is given, the changes in the order in which
+/// they are made, the value of each one's word, and what is printed.
+#[derive(Clone, Copy)]
+pub struct Revision<'a> {
+    pub at: Option<Moment>,
+    pub changes: &'a [Change<'a>],
+    pub values: &'a [&'a str],
+    pub prints: Revised,
+}
+
+/// The text of the plan of a file, or of the instance of another, as it has to be for the rest of the run in the log of a
+/// third, where something has changed. What comes after the log's last line feed isn't looked at. A log that records no
+/// run of the plan is answered by its first bad line, a present moment before the log's last one by `log past L`, a plan
+/// with a cycle by the line of `check`, and a change that can't be by `change refused WORD NAME`.
+pub fn revise_answer<T: Texts>(
+    alloc: Global,
+    texts: &mut T,
+    pair: &Pair<'_>,
+    log: &str,
+    wanted: Revision<'_>,
+) -> Answered
+    requires { IfSome wanted.at (λ present. present ≤ MAX_MOMENT) }
+    ensures { RunsRevise T.gives wanted.entry.prints wanted.entry.at wanted.entry.changes.now (map (λ value. value.now) wanted.entry.values.now) pair.now log.now
+        texts.old result texts.new }
+{
+    let named = instance(alloc, texts, pair.instance, pair.name)?;
+    let plan = plan(alloc, texts, pair.plan)?;
+    let Named { description, shop } = named;
+    both_revised(alloc, texts, Both { shop, plan }, &description, log, wanted)
+}
+
+/// What is answered of a shop and a plan, if it is well shaped, else its first fault.
+fn both_revised<T: Texts>(
+    alloc: Global,
+    texts: &mut T,
+    both: Both,
+    description: &[u8],
+    log: &str,
+    wanted: Revision<'_>,
+) -> Answered
+    requires { IfSome wanted.at (λ present. present ≤ MAX_MOMENT) }
+    ensures { WithLogOf T.gives (IsReviseAnswer wanted.entry.prints description.now wanted.entry.at wanted.entry.changes.now (map (λ value. value.now) wanted.entry.values.now))
+        log.now both texts.old result texts.new }
+{
+    match both.shaped() {
+        Ok(shaped) => {
+            let text = texts.text(alloc, log)?;
+            log_revised(alloc, shaped, description, &text, wanted)
+        }
+        Err(fault) => Ok(not_shaped_answer(alloc, fault)?),
+    }
+}
+
+/// What is answered for the rest of the run in a log.
+fn log_revised(
+    alloc: Global,
+    shaped: Shaped,
+    description: &[u8],
+    log: &[u8],
+    wanted: Revision<'_>,
+) -> Answered
+    requires { IfSome wanted.at (λ present. present ≤ MAX_MOMENT) }
+    ensures { IsReviseAnswer wanted.entry.prints description.now wanted.entry.at wanted.entry.changes.now (map (λ value. value.now) wanted.entry.values.now) shaped log.now result }
+{
+    match run_of_log(alloc, shaped, log) {
+        Ok(run) => cell_revised(alloc, &run.cell, description, wanted),
+        Err(fault) => fault_told(alloc, fault),
+    }
+}
+
+/// What is answered from a cell on, if the present moment isn't before its last one.
+fn cell_revised(
+    alloc: Global,
+    cell: &WorkCell<Shaped>,
+    description: &[u8],
+    wanted: Revision<'_>,
+) -> Answered
+    requires { IfSome wanted.at (λ present. present ≤ MAX_MOMENT) }
+    ensures { IsRevisedFrom wanted.entry.prints description.now wanted.entry.at wanted.entry.changes.now (map (λ value. value.now) wanted.entry.values.now)
+        cell.now.plan cell.now.cell result }
+{
+    // Called for its clause alone: the cell is sound.
+    let _plan = cell.shaped();
+    let last = cell.last();
+    let present = present_at(wanted.at, last);
+    if present < last {
+        return Ok(past_answer(alloc, last)?);
+    }
+    rest_revised(alloc, cell, present, description, wanted)
+}
+
+/// What is answered from a cell and a present moment on, if the plan has no cycle.
+fn rest_revised(
+    alloc: Global,
+    cell: &WorkCell<Shaped>,
+    present: Moment,
+    description: &[u8],
+    wanted: Revision<'_>,
+) -> Answered
+    requires { IsNextMoment cell.now.cell present }
+    ensures { IsRevisedRest wanted.entry.prints description.now wanted.entry.changes.now (map (λ value. value.now) wanted.entry.values.now)
+        cell.now.plan cell.now.cell present result }
+{
+    let verdict = verify_after(alloc, cell, present)?;
+    match &verdict {
+        Judged::Refused(Why::Cycle(nodes)) => Ok(cycle_answer(alloc, nodes)?),
+        Judged::Refused(
+            Why::Late {
+                job: _,
+                leaves: _,
+                chain: _,
+                times: _,
+            },
+        ) => changed(alloc, cell, present, description, wanted),
+        Judged::Accepted(_) => changed(alloc, cell, present, description, wanted),
+    }
+}
+
+/// What is printed once the changes are made, or the line of the first that can't be.
+fn changed(
+    alloc: Global,
+    cell: &WorkCell<Shaped>,
+    present: Moment,
+    description: &[u8],
+    wanted: Revision<'_>,
+) -> Answered
+    requires { cell.now.cell.last ≤ present }
+    ensures { IsChanged wanted.entry.prints description.now wanted.entry.changes.now (map (λ value. value.now) wanted.entry.values.now)
+        cell.now.plan cell.now.cell present result }
+{
+    match revise(alloc, cell, present, wanted.changes) {
+        Ok(shaped) => printed(alloc, &shaped, description, wanted.prints),
+        Err(told) => unrevised(alloc, Unrevised::from(told), wanted),
+    }
+}
+
+/// What is answered where nothing is changed.
+fn unrevised(alloc: Global, why: Unrevised, wanted: Revision<'_>) -> Answered
+    requires { IsPlaced wanted.changes.now why }
+    ensures { IsUnrevised wanted.entry.changes.now (map (λ value. value.now) wanted.entry.values.now) why result }
+{
+    match why {
+        Unrevised::Refused { change, fault } => {
+            let value = value_at(wanted.values, change);
+            Ok(refused_answer(alloc, wanted.changes[change], value, fault)?)
+        }
+        Unrevised::Ends(fault) => Err(fault),
+    }
+}
+
+/// What is printed of a shop and its plan.
+fn printed(alloc: Global, shaped: &Shaped, description: &[u8], prints: Revised) -> Answered
+    ensures { IsPrinted prints description.now shaped.now result }
+{
+    match prints {
+        Revised::PlanText => document_answer(alloc, shaped.plan(), GOOD),
+        Revised::InstanceText => instance_answer(alloc, description, shaped.shop()),
+    }
+}
+
+/// The text of an instance, without its description where that isn't read back.
+fn instance_answer(alloc: Global, description: &[u8], shop: &Shop) -> Answered
+    ensures { IsInstanceAnswer description.now shop.now result }
+{
+    match instance_document(alloc, description, shop) {
+        Ok(text) => Ok(Answer { text, status: GOOD }),
+        Err(NotWritten::NotReadBack) => undescribed_answer(alloc, shop),
+        Err(fault) => Err(CommandFault::from(fault)),
+    }
+}
+
+/// The text of an instance without a description.
+fn undescribed_answer(alloc: Global, shop: &Shop) -> Answered
+    ensures { IsInstanceAnswer [] shop.now result }
+{
+    match instance_document(alloc, b"", shop) {
+        Ok(text) => Ok(Answer { text, status: GOOD }),
+        Err(fault) => Err(CommandFault::from(fault)),
+    }
+}
+
+/// The value of the word of a change.
+fn value_at<'a>(values: &[&'a str], place: usize) -> &'a str
+    ensures { result.now ≡ get_or (map (λ value. value.now) values.now) place [] }
+{
+    match values.get(place) {
+        Some(value) => value,
+        None => "",
+    }
+}
+
+/// The line of a change that can't be.
+fn refused_answer(
+    alloc: Global,
+    change: Change<'_>,
+    value: &str,
+    fault: ChangeFault,
+) -> Result<Answer, AllocError>
+    ensures { IfOk result (λ answer. (answer.text.items ≡ change_refused_line change.entry value.now fault) × (answer.status ≡ 1)) }
+{
+    let (mut text, status) = (Vec::new(alloc), REFUSED);
+    text.extend_from_slice(b"change refused ")?;
+    text.extend_from_slice(flag_of(change).as_bytes())?;
+    push_printable(&mut text, value.as_bytes())?;
+    text.push(b' ')?;
+    text.extend_from_slice(fault.name().as_bytes())?;
+    text.push(b'\n')?;
+    Ok(Answer { text, status })
+}
+
+/// The option that asks for a change, and a blank.
+fn flag_of(change: Change<'_>) -> &'static str
+    ensures { result.now ≡ flag_of change.entry }
+{
+    match change {
+        Change::Until { machine: _, to: _ } => "--until ",
+        Change::Add {
+            route: _,
+            release: _,
+            budget: _,
+        } => "--add ",
+        Change::Scrap { job: _ } => "--scrap ",
+        Change::Down { machine: _ } => "--down ",
+    }
+}
+
+/// Adds the bytes before the first that isn't printable.
+fn push_printable(text: &mut Vec<u8>, value: &[u8]) -> Result<(), AllocError>
+    ensures { OnOk result (text.new.items ≡ text.old.items ++ printable_part value.now) }
+{
+    for byte in value {
+        if !is_printable(*byte) {
+            return Ok(());
+        }
+        text.push(*byte)?;
+    }
+    Ok(())
+}
+
+/// A blank, or any other printable character of ASCII.
+fn is_printable(byte: u8) -> bool
+    ensures { result ≡ is_printable byte }
+{
+    32 <= byte && byte <= 126
+}

@@ -1,0 +1,49 @@
+-- What `revise` is asked for by the words of a command line.
+use Rattle.std.specs.Prelude.{◌≡◌, ◌⊎◌, ℕ, Bool, true, false, List, [], ◌∷◌, Option, Result, Err, map}
+use Rattle.std.specs.String.{string_bytes}
+use Rattle.plan_revise.specs.declared.change.Change.{Change}
+use Rattle.plan_revise.specs.declared.change.Change.TheVariants.{Until, Add, Scrap, Down}
+use Rattle.command_words.specs.declared.words.changes.AskedChange.{AskedChange}
+use Rattle.command_words.specs.declared.words.changes.ChangeKind.{ChangeKind}
+use Rattle.command_words.specs.declared.words.changes.ChangeKind.TheVariants.{Until as Lasts, Add as Adds, Scrap as Scraps, Down as Stops}
+use Rattle.command_answers.specs.declared.answer.Answer.{Answer}
+use Rattle.command_answers.specs.declared.command_fault.CommandFault.{CommandFault}
+use Rattle.command_answers.specs.declared.command_fault.CommandFault.TheVariants.{Memory}
+use Rattle.command_answers.specs.declared.revises.Revised.{Revised}
+use Rattle.command_answers.specs.declared.revises.Revised.TheVariants.{PlanText, InstanceText}
+use Rattle.command_answers.specs.Commands.{PairOfFiles, RunsRevise}
+
+-- the change that a value and what it asks for stand for; the value of a job that is added is its route
+abbrev pub IsChangeOf : List ℕ → ChangeKind → Change → Type 0
+IsChangeOf value (Lasts machine moment) (Until m to) = (m ≡ machine) × (to ≡ moment)
+IsChangeOf value (Adds release budget) (Add route r b) = (route.now ≡ value) × (r ≡ release) × (b ≡ budget)
+IsChangeOf value (Scraps job) (Scrap j) = j ≡ job
+IsChangeOf value (Stops machine) (Down m) = m ≡ machine
+IsChangeOf value kind change = ⊥
+
+-- the changes that are asked for, one for one
+abbrev pub AreChangesOf : List AskedChange → List Change → Type 0
+AreChangesOf [] [] = Unit {0}
+AreChangesOf (asked ∷ more) (change ∷ changes) = IsChangeOf (string_bytes asked.value) asked.kind change × AreChangesOf more changes
+AreChangesOf asked changes = ⊥
+
+-- the values that were given for them
+abbrev pub values_asked : List AskedChange → List (List ℕ)
+values_asked = map (λ asked. string_bytes asked.value)
+
+-- what is printed: the instance's text if that is asked for, else the plan's
+abbrev pub printed_for : Bool → Revised
+printed_for true = InstanceText
+printed_for false = PlanText
+
+module _ {W : Type 0} (gives : W → List ℕ → Result (List ℕ) CommandFault → W → Type 0) where
+  -- these changes are made of what the files hold
+  pub record IsRevised (file : Bool) (at : Option ℕ) (asked : List AskedChange) (pair : PairOfFiles) (log : List ℕ) (before : W) (outcome : Result Answer CommandFault) (after : W) : Type 0 where
+    pub changes : List Change
+    pub are : AreChangesOf asked changes
+    pub runs : RunsRevise gives (printed_for file) at changes (values_asked asked) pair log before outcome after
+
+  -- so, unless memory runs out before any file is asked for
+  abbrev pub Revises : Bool → Option ℕ → List AskedChange → PairOfFiles → List ℕ → W → Result Answer CommandFault → W → Type 0
+  Revises file at asked pair log before outcome after =
+      IsRevised file at asked pair log before outcome after ⊎ ((outcome ≡ Err Memory) × (after ≡ before))

@@ -1,0 +1,86 @@
+//! The command `revise`.
+
+ghost use Rattle.std.specs.Prelude.{◌≡◌, ◌≤◌, ◌++◌, ◌∷◌, [], IfSome, OnOk, map};
+ghost use Rattle.std.specs.String.{string_bytes};
+ghost use Rattle.shop_base.specs.declared.limits.TheConstants.{MAX_MOMENT};
+ghost use Rattle.command_run.specs.Revisions.{AreChangesOf, IsChangeOf, Revises, printed_for, values_asked};
+
+use command_answers::{Answered, Pair, Revised, Revision, Texts, revise_answer};
+use command_words::{AskedChange, ChangeKind};
+use plan_revise::Change;
+use shop_base::Moment;
+use std::alloc::{AllocError, Global};
+
+/// The plan, or the instance, with the changes that are asked for, for the rest of the run in a log.
+pub(crate) fn revision_answer<T: Texts>(
+    alloc: Global,
+    texts: &mut T,
+    pair: &Pair<'_>,
+    log: &str,
+    at: Option<Moment>,
+    asked: &[AskedChange],
+    file: bool,
+) -> Answered
+    requires { IfSome at (λ present. present ≤ MAX_MOMENT) }
+    ensures { Revises T.gives file at asked.now pair.now log.now texts.old result texts.new }
+{
+    let (mut changes, mut values) = (Vec::new(alloc), Vec::new(alloc));
+    add_changes(&mut changes, &mut values, asked)?;
+    let (changes, values) = (changes.as_slice(), values.as_slice());
+    let prints = printed_for(file);
+    let wanted = Revision {
+        at,
+        changes,
+        values,
+        prints,
+    };
+    revise_answer(alloc, texts, pair, log, wanted)
+}
+
+/// What is printed: the instance's text if that is asked for, else the plan's.
+fn printed_for(file: bool) -> Revised
+    ensures { result ≡ printed_for file }
+{
+    if file {
+        Revised::InstanceText
+    } else {
+        Revised::PlanText
+    }
+}
+
+/// Adds the changes that are asked for, and the values that were given for them, to lists without any.
+fn add_changes<'a>(
+    changes: &mut Vec<Change<'a>>,
+    values: &mut Vec<&'a str>,
+    asked: &'a [AskedChange],
+) -> Result<(), AllocError>
+    requires changes { changes.old.items ≡ [] }
+    requires values { values.old.items ≡ [] }
+    ensures are { OnOk result (AreChangesOf asked.entry.now changes.new.items) }
+    ensures values { OnOk result (map (λ value. value.now) values.new.items ≡ values_asked asked.entry.now) }
+{
+    for one in asked {
+        changes.push(change_of(one))?;
+        values.push(one.value.as_str())?;
+    }
+    Ok(())
+}
+
+/// The change that is asked for.
+fn change_of(asked: &AskedChange) -> Change<'_>
+    ensures { IsChangeOf (string_bytes asked.now.value) asked.now.kind result }
+{
+    match asked.kind {
+        ChangeKind::Until { machine, moment } => Change::Until {
+            machine,
+            to: moment,
+        },
+        ChangeKind::Add { release, budget } => Change::Add {
+            route: asked.value.as_bytes(),
+            release,
+            budget,
+        },
+        ChangeKind::Scrap { job } => Change::Scrap { job },
+        ChangeKind::Down { machine } => Change::Down { machine },
+    }
+}
