@@ -1,7 +1,8 @@
 #!/usr/bin/env python3
 """A simulated floor that is driven by cellplan, and that goes on after its cellplan was killed.
 
-floor.py [FILE PLAN] [--runs N] [--seed S] [--log] [--bad-line] [--break M UNTIL] [--program CELLPLAN]
+floor.py [FILE PLAN] [--runs N] [--seed S] [--log] [--bad-line] [--break M UNTIL] [--scrap J@T].. [--down M@T].. [--add ROUTE@T]..
+         [--program CELLPLAN]
 
 FILE is an instance and PLAN a plan for it that `cellplan check` accepts; without them it is `examples/ft06.txt` with
 `examples/ft06-cleaned.toml`. Each run is one pass of all parts through the cell, with random times of which some are too long:
@@ -23,8 +24,12 @@ the end `cellplan audit` has to find the whole run in the last log. What is wron
 With `--bad-line` the line to cellplan loses, doubles, delays and swaps what is sent, also over a restart. Without it no report may be
 refused.
 
-With `--break M UNTIL` machine M stands still until moment UNTIL, from the first part on that it gets before. Then the floor asks for a
-better plan for the rest, and hands the run over to it (`Run.hand_over`). A time unit lasts longer here, as the search takes some time.
+With `--scrap J@T` part J is scrapped at moment T, or cancelled where it is still outside; with `--down M@T` machine M does no more from then
+on; with `--add ROUTE@T` one more job comes, whose machines and times are ROUTE. Then cellplan is killed, `cellplan revise` tells the shop and
+the plan for the rest, the floor asks for a better one, and hands the run over to it (`Run.hand_over`). A part that is scrapped in the cell,
+or is on the machine, is taken off by hand some time later. In between the run is killed and taken up at random. With `--break M UNTIL` machine
+M stands still until moment UNTIL, from the first part on that it gets before, and the run is handed over in the same way. A time unit lasts
+longer with these, as the search takes some time.
 
 What a floor of one's own needs is in two places: `Told` follows what cellplan has said, and `Floor.serve` is the loop that carries out
 orders, reports what has ended, and sends again what cellplan still waits for.
@@ -167,23 +172,28 @@ class Told:
 class Floor:
     """Parts, machines, one carrier that makes the moves, and a clock that never stops."""
 
-    def __init__(self, rng, shop, broken=None):
+    def __init__(self, rng, shop, broken, is_disturbed):
         self.rng, self.shop = rng, shop
         self.broken, self.until = broken or (None, 0)  # a machine that stands still, and until when
-        self.unit = LONG_UNIT if broken else UNIT
+        self.down = set()  # the machines that do no more
+        self.unit = LONG_UNIT if is_disturbed else UNIT
         self.begun = time.monotonic()
         self.places = [OUTSIDE] * len(shop.routes)
         self.finished = [False] * len(shop.routes)  # has arrived, or its operation has ended
         self.cleaning = set()
         self.ends = []  # a heap of (moment, kind, number): what goes on and when it ends
         for job, release in enumerate(shop.release):
-            heapq.heappush(self.ends, (rng.uniform(0, release + 3), "part", job))
+            self.awaits(job, rng.uniform(0, release + 3))
         self.moments = {}  # when what was reported has ended; lost where the floor forgets
 
     def now(self):
         return (time.monotonic() - self.begun) / self.unit
 
     # --- the parts and machines
+
+    def awaits(self, job, moment):
+        """What the part does now ends at this moment."""
+        heapq.heappush(self.ends, (moment, "part", job))
 
     def pass_time(self):
         """Ends what is due by now."""
@@ -213,15 +223,42 @@ class Floor:
         self.places[job], self.finished[job] = place + 1, False
         if target != "out":
             end = self.lasts(route[place + 1][1])
-            heapq.heappush(self.ends, (max(end, self.until) if int(target) == self.broken else end, "part", job))
+            self.awaits(job, max(end, self.until) if int(target) == self.broken else end)
         if source != "out" and self.shop.clean[int(source)] > 0:
             self.cleaning.add(int(source))
             heapq.heappush(self.ends, (self.lasts(self.shop.clean[int(source)]), "machine", int(source)))
 
-    def stuck_part(self):
-        """The part on the machine that stands still, if there is one."""
-        parts = [job for job, place in enumerate(self.places) if self.shop.spot(job, place) == str(self.broken)]
-        return parts[0] if parts and self.now() < self.until else None
+    def part_on(self, machine):
+        """The part on a machine, if there is one."""
+        return next((job for job, place in enumerate(self.places) if self.shop.spot(job, place) == str(machine)), None)
+
+    def is_stuck(self):
+        """Whether a part is on the machine that stands still."""
+        return self.part_on(self.broken) is not None and self.now() < self.until
+
+    def revise(self, shop, kind, number):
+        """Goes on with the shop that a change has made. A part that was put aside has come, as far as cellplan is to know; one that is scrapped
+        in the cell, or is on a machine that is down, is taken off by hand some time later."""
+        before, self.shop = self.shop, shop
+        for job, route in enumerate(shop.routes[len(before.routes):], len(before.routes)):
+            self.places.append(OUTSIDE)
+            self.finished.append(False)
+            self.awaits(job, self.now() + self.rng.uniform(0, 5))
+        for job, route in enumerate(before.routes):
+            if self.places[job] == OUTSIDE and shop.routes[job] != route:
+                self.ends_at(job, self.now())
+        if kind == "down":
+            self.down.add(number)
+        taken_off = {"scrap": number, "down": self.part_on(number) if kind == "down" else None}.get(kind)
+        if taken_off is not None and OUTSIDE < self.places[taken_off] < len(shop.routes[taken_off]):
+            self.ends_at(taken_off, self.now() + self.rng.uniform(0, 5))
+
+    def ends_at(self, job, moment):
+        """What the part does ends at this moment, unless it has."""
+        self.ends = [each for each in self.ends if each[1:] != ("part", job)]
+        heapq.heapify(self.ends)
+        if not self.finished[job]:
+            self.awaits(job, moment)
 
     def is_carried_out(self, job, target):
         """Whether a part stands where an order puts it, or further on."""
@@ -233,6 +270,8 @@ class Floor:
             raise Wrong("the order %s, but a part is on machine %d" % (order, machine))
         if machine in self.cleaning:
             raise Wrong("the order %s, but machine %d is being cleaned" % (order, machine))
+        if machine in self.down:
+            raise Wrong("the order %s, but machine %d is down" % (order, machine))
 
     # --- what is reported
 
@@ -389,6 +428,27 @@ class BadLine(Cell):
         super().send(come)
 
 
+class Change:
+    """Something that disturbs the run: `--scrap J`, `--down M` or `--add ROUTE` of `cellplan revise` at a moment, or a machine that stands still."""
+
+    def __init__(self, kind, value, moment):
+        self.kind, self.value, self.moment = kind, value, moment
+        self.number = int(value) if kind != "add" else None
+
+    def __str__(self):
+        return "--%s %s" % (self.kind, self.value)
+
+    def is_due(self, floor, told):
+        """Whether it has come in a run that has begun, and of which the log has all that was carried out."""
+        has_come = floor.is_stuck() if self.kind == "break" else floor.now() >= self.moment
+        return has_come and told.reports > 0 and all(place <= known for place, known in zip(floor.places, told.places))
+
+    def words(self, floor):
+        """What it is for `cellplan revise`, to which the machines that are down are said again."""
+        down = [word for machine in sorted(floor.down) for word in ("--down", str(machine))]
+        return (["--until", "%d=%d" % (self.number, floor.until)] if self.kind == "break" else ["--" + self.kind, self.value]) + down
+
+
 class Run:
     """One pass of all parts through the cell, by three processes one after the other."""
 
@@ -396,7 +456,7 @@ class Run:
         self.options, self.rng, self.work = options, rng, work
         self.files = [options.instance, options.plan]
         self.shop = Shop(*self.files)
-        self.floor = Floor(rng, self.shop, options.broken)
+        self.floor = Floor(rng, self.shop, options.broken, options.broken or options.changes)
         self.log = os.path.join(work, "run.log") if options.log else None  # the log that counts
         self.delayed = []  # what a bad line hasn't brought yet
 
@@ -433,18 +493,28 @@ class Run:
                 self.cut(cell)
         self.end(cell, told)
 
-    def go_over_a_break(self):
+    def go_disturbed(self):
+        """The run, handed over to another plan at each change, and killed and taken up at random in between."""
         cell, told = self.start(1)
-        self.floor.serve(cell, told, lambda: self.floor.stuck_part() is not None)
-        if not self.floor.is_done(told):
+        for number, change in enumerate(self.options.changes, 1):
+            if self.rng.random() < 0.5:
+                enough = told.reports + self.rng.randint(0, 6)
+                self.floor.serve(cell, told, lambda: told.reports >= enough or change.is_due(self.floor, told))
+                cell.kill()
+                self.cut(cell)
+                cell, told = self.start(2 * number)
+            self.floor.serve(cell, told, lambda: change.is_due(self.floor, told))
+            if self.floor.is_done(told):
+                break
             cell.kill()
-            now = self.hand_over(cell.log)
-            cell, told = self.start(2, "--at", now)
-            self.floor.serve(cell, told)
+            now = self.hand_over(cell.log, change)
+            cell, told = self.start(2 * number + 1, "--at", now)
+        self.floor.serve(cell, told)
         self.end(cell, told)
 
-    def hand_over(self, log):
-        """Looks for a better plan for the rest, by which the run is taken up at the moment that is given."""
+    def hand_over(self, log, change):
+        """Revises the instance and the plan for a change, and looks for a better plan for the rest, by which the run is taken up at the moment
+        that is given."""
         # 1. the log is made whole by the instance and plan that wrote it, and each part is where its last order put it
         self.log = log
         whole = self.ask(*self.words()[0])
@@ -455,15 +525,19 @@ class Run:
             self.floor.carry(order, True)
         if self.floor.places != told.places:
             raise Wrong("the parts are at %s, and by the whole log at %s" % (self.floor.places, told.places))
-        # 2. a plan for the rest, which knows how long the machine stands still; nothing is reported meanwhile
-        part, now = self.floor.stuck_part(), str(int(self.floor.now()))
-        if part is not None:
-            machine, nominal = self.shop.routes[part][told.places[part]]
-            self.shop.routes[part][told.places[part]] = machine, max(nominal, self.options.broken[1] - told.moved[part])
-        self.files[0] = self.written("rest.txt", self.shop.text())
+        # 2. the instance and a plan for the rest, of which nothing is reported meanwhile
+        now = str(int(self.floor.now()))
+        words = ["revise", *self.files, self.log, "--at", now, *change.words(self.floor)]
+        plan, file = self.ask(*words), self.ask(*words, "--file")
+        if plan.startswith("change refused"):
+            print("at %s: %s" % (now, plan.strip()))
+            return now
+        self.files = [self.written("rest.txt", file), self.written("revised.toml", plan)]
         before = self.outlook(now)
         self.files[1] = self.written("rest.toml", self.ask("improve", *self.files, "--after", self.log, "--at", now, "--rounds", "2"))
-        print("at %s: by the old orders parts are %s, by the new ones %s" % (now, before, self.outlook(now)))
+        print("at %s, %s: by the old orders parts are %s, by the new ones %s" % (now, change, before, self.outlook(now)))
+        self.shop = Shop(*self.files)
+        self.floor.revise(self.shop, change.kind, change.number)
         # 3. the run is taken up by the new plan. What has ended and isn't in the log is sent again
         return now
 
@@ -518,10 +592,21 @@ def words():
     parser.add_argument("--bad-line", action="store_true", help="a line that loses, doubles, delays and swaps reports")
     parser.add_argument("--break", dest="broken", nargs=2, type=int, metavar=("M", "UNTIL"), help="machine M stands still until UNTIL")
     parser.add_argument("--program", default=found_program(), help="cellplan (of the path, else of this clone)")
+    for kind, value in (("scrap", "J"), ("down", "M"), ("add", "ROUTE")):
+        parser.add_argument("--" + kind, action="append", default=[], metavar=value + "@T", help="`cellplan revise --%s %s` at moment T" % (kind, value))
     options = parser.parse_args()
     if options.program is None:
         parser.error("there is no command cellplan: put it on the path, or name it with --program")
+    options.changes = sorted((change(kind, text) for kind in ("scrap", "down", "add") for text in getattr(options, kind)), key=lambda each: each.moment)
+    if options.broken:
+        options.changes.insert(0, Change("break", options.broken[0], 0))
     return options
+
+
+def change(kind, text):
+    """The change of a word J@T, M@T or ROUTE@T."""
+    value, _, moment = text.rpartition("@")
+    return Change(kind, value, float(moment))
 
 
 def main():
@@ -531,7 +616,7 @@ def main():
         with tempfile.TemporaryDirectory() as work:
             try:
                 run = Run(options, random.Random(seed), work)
-                run.go_over_a_break() if options.broken else run.go()
+                run.go_disturbed() if options.changes else run.go()
             except (Wrong, OSError) as wrong:
                 print("run with seed %d: %s" % (seed, wrong))
                 return 1
