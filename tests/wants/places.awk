@@ -27,7 +27,7 @@ function of_crate(path, name) {
 BEGIN {
   asks = "^((with|within)_capacity(_and_hasher)?|(try_)?reserve(_exact)?|(try_)?grow|(try_)?resize(_with)?|insert_many|splice|write_repeated|from_elem|from_fn|repeat(_n)?|cycle|(try_)?collect|from_iter|extend(_from_within)?|allocate)$"
   drops = "^(ok|err|or|ok_or|ok_or_else|unwrap_or_else|unwrap_or_default|map_or|map_or_else|is_ok_and|is_err_and|flatten|flat_map|filter_map|last_os_error)$"
-  gives_option = "^(get|get_mut|get_one|copied|checked_[a-z]+|strip_prefix|strip_suffix|met)$"
+  gives_option = "^(get|get_mut|get_one|copied|checked_[a-z]+|strip_prefix|strip_suffix|met|bound)$"
   derives = "^([(),]|::|thiserror|Clone|Copy|Debug|Default|Drop|Eq|Error|Hash|Ord|PartialEq|PartialOrd)$"
   wide = "[{][^{}]*:[^{}]*[0-9$*]"
   computing = "^((wrapping|saturating|checked|overflowing|unchecked)_[a-z]+|pow|abs_diff|count_ones|count_zeros|leading_zeros|trailing_zeros|min|max|clamp|ilog2|ilog10|isqrt|rotate_left|rotate_right|swap_bytes|reverse_bits|div_ceil|sum|product|count|fold|parse)$"
