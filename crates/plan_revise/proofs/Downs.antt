@@ -1,14 +1,14 @@
 -- No job has a machine ahead that is down.
-use Rattle.std.proofs.Common.{◌≡◌, ◌≢◌, ℕ, zero, suc, ◌+◌, ◌<◌, ◌≤◌, ◌⊎◌, inl, inr, List, [], ◌∷◌, ◌++◌, length, max, Option, None, Some, Bool, true, false, nat_lt, refl, sym, ap, ◌∙◌, subst, arith}
-use Rattle.std.proofs.lemmas.Bool.{cases_eq, cases_lt, cases_Bool, ltb-false, ltb-true, lt-ltb, le-ltb}
+use Rattle.std.proofs.Common.{◌≡◌, ◌≢◌, ℕ, zero, suc, ◌+◌, ◌<◌, ◌≤◌, ◌⊎◌, inl, inr, List, [], ◌∷◌, ◌++◌, length, max, Option, None, Some, nat_lt, refl, sym, ap, ◌∙◌, subst, arith}
+use Rattle.std.proofs.lemmas.Bool.{cases_eq, cases_lt, cases_Bool, ltb-true, lt-ltb, le-ltb}
 use Rattle.shop_base.specs.declared.job_state.JobState.{JobState}
 use Rattle.shop_base.specs.declared.shop.Step.{Step}
 use Rattle.shop_base.specs.Shop.{step_at}
-use Rattle.shop_base.specs.Plan.{PlannedShop, jobs, route, Visits, IsWellShaped}
-use Rattle.shop_base.specs.Cell.{Cell, made, job_in}
-use Rattle.shop_base.specs.Run.{Event, IsRun, ends_in}
+use Rattle.shop_base.specs.Plan.{PlannedShop, jobs, route, Visits}
+use Rattle.shop_base.specs.Cell.{made, job_in}
+use Rattle.shop_base.specs.Run.{ends_in}
 use Rattle.shop_base.proofs.Visits.{visits_job}
-use Rattle.cell_control.specs.Carried.{IsCarried, carried_job, awaited}
+use Rattle.cell_control.specs.Carried.{carried_job}
 use Rattle.control_laws.specs.KeptLaw.{AKeptRunIsOneOfTheOtherPlan}
 use Rattle.plan_revise.specs.declared.change.Change.{Change}
 use Rattle.plan_revise.specs.declared.change.Change.TheVariants.{Until, Add, Scrap, Down}
@@ -16,16 +16,15 @@ use Rattle.plan_revise.specs.Ended.{ended}
 use Rattle.plan_revise.specs.Settings.{Setting, setting, moves_made}
 use Rattle.plan_revise.specs.Aside.{HasRoom, put_aside}
 use Rattle.plan_revise.specs.Stopped.{place_on, stopped, stopped_at, without_machine}
-use Rattle.plan_revise.specs.Changes.{Becomes}
 use Rattle.plan_revise.specs.Revised.{AreMade}
 use Rattle.plan_revise.specs.Fits.{IsRevision, IsSetting}
 use Rattle.plan_revise.specs.Stages.{IsStage}
-use Rattle.plan_revise.specs.RevisedLaw.{IsRevisedRun, AreDowns, NoPartComesToAMachineThatIsDown}
+use Rattle.plan_revise.specs.RevisedLaw.{AreDowns, NoPartComesToAMachineThatIsDown}
 use Rattle.plan_revise.proofs.Fitting.{fit-once}
 use Rattle.plan_revise.proofs.EndedParts.{ended-ends, visits_before, mine_below}
 use Rattle.plan_revise.proofs.Written.{not_on}
 use Rattle.plan_revise.proofs.Revisions.{given_revision, becomes-revision, aside_places, stopped_outside, stopped_inside, stopped_at-one, stage_upto, stage_room, stopped_at_past, stopped_at_ahead, place_within}
-use Rattle.plan_revise.proofs.Outcomes.{made-revision, run_setting, run_stays}
+use Rattle.plan_revise.proofs.Outcomes.{run_setting, run_stays}
 
 module _ (s : Setting) (is : IsSetting s) where
   -- job j has no step ahead on machine m

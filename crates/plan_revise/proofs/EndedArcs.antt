@@ -1,12 +1,11 @@
 -- The arcs that are left where a job ends: each is one of before, or joins two over the job that is taken out, and is no longer.
-use Rattle.std.proofs.Common.{◌≡◌, ◌≢◌, ℕ, zero, suc, ◌+◌, ◌<◌, ◌≤◌, ◌⊎◌, inl, inr, List, [], ◌∷◌, ◌++◌, length, Some, sym, ap, ◌∙◌, subst, refl, arith}
-use Rattle.std.proofs.lemmas.Bool.{cases_lt, cases_eq, cases_order}
+use Rattle.std.proofs.Common.{◌≡◌, ℕ, ◌+◌, ◌<◌, ◌≤◌, ◌⊎◌, inl, inr, List, [], ◌∷◌, ◌++◌, length, sym, ap, ◌∙◌, subst, arith}
+use Rattle.std.proofs.lemmas.Bool.{cases_eq, cases_order}
 use Rattle.shop_base.specs.declared.shop.Step.{Step}
 use Rattle.shop_base.specs.declared.node.Node.{Node}
-use Rattle.shop_base.specs.Shop.{step_at}
-use Rattle.shop_base.specs.Plan.{PlannedShop, jobs, steps, nominal, clean, release, Stands}
-use Rattle.shop_base.specs.Cell.{Cell, made, since, entries, IsOn}
-use Rattle.shop_base.specs.Activity.{Activity, Arrival, Operation, Cleaning, GoesOn}
+use Rattle.shop_base.specs.Plan.{PlannedShop, nominal, clean, Stands}
+use Rattle.shop_base.specs.Cell.{Cell, since, entries, IsOn}
+use Rattle.shop_base.specs.Activity.{Arrival, Operation, Cleaning, GoesOn}
 use Rattle.shop_base.specs.Graph.{node, Arc, job_arc, blocking_arc, HasArc, ArcsLead, IsNode}
 use Rattle.shop_base.specs.Ahead.{PathAhead, now, held, onward, HoldsUp}
 use Rattle.plan_verifier.specs.Accepted.{HasNoCycle}

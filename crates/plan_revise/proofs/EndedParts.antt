@@ -1,16 +1,16 @@
 -- A job that ends behind its first steps: what is left and changed, and that the plan still fits.
-use Rattle.std.proofs.Common.{◌≡◌, ◌≢◌, ℕ, zero, suc, ◌+◌, ◌-◌, ◌<◌, ◌≤◌, ◌⊎◌, inl, inr, List, [], length, take, drop, get_or, set, min, refl, sym, ap, ◌∙◌, subst, arith}
+use Rattle.std.proofs.Common.{◌≡◌, ◌≢◌, ℕ, ◌+◌, ◌-◌, ◌<◌, ◌≤◌, ◌⊎◌, inl, inr, List, [], length, take, drop, get_or, min, refl, sym, ap, ◌∙◌, subst, arith}
 use Rattle.std.proofs.lemmas.Bool.{cases_eq, cases_lt}
 use Rattle.std.proofs.lemmas.List.{get_or-set_same, get_or-set_other, length-set, get_or-take, get_or-drop, length-take, length-drop}
 use Rattle.shop_base.specs.declared.shop.Step.{Step}
-use Rattle.shop_base.specs.Shop.{IsSoundStep, IsFirstVisit, step_at, no_step}
+use Rattle.shop_base.specs.Shop.{IsSoundStep, step_at, no_step}
 use Rattle.shop_base.specs.Plan.{PlannedShop, jobs, machines, route, steps, machine_of, order, job_at, budget, Visits, Stands, IsOrder}
 use Rattle.plan_revise.specs.Orders.{without}
 use Rattle.plan_revise.specs.Promises.{no_promise}
 use Rattle.plan_revise.specs.Ended.{ended}
 use Rattle.plan_revise.specs.Fits.{IsFit}
 use Rattle.plan_revise.specs.Parts.{IsBehind, IsOnRoute, Ends}
-use Rattle.plan_revise.proofs.Places.{AreOnce, IsTaken, without_taken, taken_once, AreApart, changed-length, changed-off, changed-on}
+use Rattle.plan_revise.proofs.Places.{IsTaken, without_taken, taken_once, AreApart, changed-length, changed-off, changed-on}
 use Rattle.plan_revise.proofs.Fitting.{fit-machine, fit-once, fit-stands, fit-order_once, behind_or_not}
 
 -- a step of the rest of a route

@@ -1,11 +1,10 @@
 -- Visits and places of a plan that fits.
-use Rattle.std.proofs.Common.{◌≡◌, ◌≢◌, ℕ, zero, suc, ◌+◌, ◌<◌, ◌≤◌, ◌⊎◌, inl, inr, List, length, ap, sym, ◌∙◌, arith, subst}
+use Rattle.std.proofs.Common.{◌≡◌, ℕ, ◌<◌, ◌≤◌, ◌⊎◌, inl, inr, sym, ◌∙◌, arith}
 use Rattle.std.proofs.lemmas.Bool.{cases_order, cases_lt}
-use Rattle.shop_base.specs.Shop.{IsSoundStep}
-use Rattle.shop_base.specs.Plan.{PlannedShop, jobs, machines, route, steps, machine_of, order, job_at, Visits, Stands, IsOrder, IsWellShaped}
+use Rattle.shop_base.specs.Plan.{PlannedShop, jobs, machines, steps, order, Visits, Stands, IsWellShaped}
 use Rattle.shop_base.proofs.Visits.{steps_job, visits_or_not}
 use Rattle.plan_revise.specs.Fits.{IsFit}
-use Rattle.plan_revise.specs.Parts.{IsBehind, IsOnRoute}
+use Rattle.plan_revise.specs.Parts.{IsBehind}
 use Rattle.plan_revise.proofs.Places.{AreOnce, search_below}
 
 -- a well-shaped plan fits

@@ -1,19 +1,19 @@
 -- The run so far is kept where a job ends behind what it has entered, where one that is outside is placed, and where a step lasts.
-use Rattle.std.proofs.Common.{◌≡◌, ◌≢◌, ℕ, zero, suc, ◌+◌, ◌<◌, ◌≤◌, ◌⊎◌, inl, inr, List, [], ◌∷◌, ◌++◌, length, get_or, refl, sym, ap, ◌∙◌, subst, arith, append_assoc, length-append, lt_of_not-le, nat_lt, cond}
+use Rattle.std.proofs.Common.{◌≡◌, ◌≢◌, ℕ, ◌<◌, ◌≤◌, inl, inr, List, [], ◌∷◌, ◌++◌, length, get_or, refl, sym, ap, ◌∙◌, subst, arith, append_assoc, length-append}
 use Rattle.std.proofs.lemmas.Bool.{cases_eq, cases_lt, lt-ltb}
 use Rattle.std.proofs.lemmas.List.{get_or_past}
 use Rattle.std.proofs.lemmas.List.Elements.{filter-append}
 use Rattle.std.proofs.Math.ListN.{get_or-append}
 use Rattle.shop_base.specs.declared.shop.Step.{Step}
 use Rattle.shop_base.specs.Shop.{step_at}
-use Rattle.shop_base.specs.Plan.{PlannedShop, jobs, machines, route, steps, machine_of, order, clean, Visits, Stands}
-use Rattle.shop_base.specs.Cell.{Cell, MachineState, unused, made, entries, IsGone}
+use Rattle.shop_base.specs.Plan.{PlannedShop, jobs, machines, machine_of, order, clean, Visits, Stands}
+use Rattle.shop_base.specs.Cell.{MachineState, unused, made, entries, IsGone}
 use Rattle.shop_base.specs.Move.{IsPrefix}
 use Rattle.shop_base.proofs.Visits.{visits_job}
 use Rattle.plan_revise.specs.Orders.{without}
 use Rattle.plan_revise.specs.Settings.{Setting, moves_made}
 use Rattle.plan_revise.specs.Fits.{IsFit, IsKept, IsSetting}
-use Rattle.plan_revise.specs.Parts.{IsBehind, IsOnRoute, Ends, Places}
+use Rattle.plan_revise.specs.Parts.{IsBehind, Ends, Places}
 use Rattle.plan_revise.proofs.Places.{without_none}
 use Rattle.plan_revise.proofs.Fitting.{fit-once, behind_or_not}
 use Rattle.plan_revise.proofs.EndedParts.{visits_others, visits_mine}

@@ -1,30 +1,28 @@
 -- What all changes together come to: the run so far stays one, no cycle comes, and nobody else is later.
-use Rattle.std.proofs.Common.{◌≡◌, ℕ, zero, suc, ◌+◌, ◌<◌, ◌≤◌, ◌⊎◌, inl, inr, List, [], ◌∷◌, ◌++◌, length, get_or, Option, None, Some, Bool, true, false, nat_lt, refl, sym, ap, ◌∙◌, subst, arith, add-one, ◌-◌}
+use Rattle.std.proofs.Common.{◌≡◌, ℕ, zero, suc, ◌+◌, ◌<◌, ◌≤◌, ◌⊎◌, inl, inr, List, [], ◌∷◌, ◌++◌, length, Option, None, Some, true, false, nat_lt, refl, sym, ap, ◌∙◌, subst, arith, ◌-◌}
 use Rattle.std.proofs.lemmas.Bool.{cases_lt, cases_Bool, lt-ltb}
 use Rattle.std.proofs.lemmas.List.{get_or_past}
 use Rattle.shop_base.specs.declared.node.Node.{Node}
 use Rattle.shop_base.specs.declared.job_state.JobState.{JobState}
 use Rattle.shop_base.specs.Plan.{PlannedShop, jobs, machines, steps, nominal, clean, Visits, Stands, IsWellShaped}
-use Rattle.shop_base.specs.Cell.{Cell, MachineState, unused, job_in, made, ready, since, entries, cleaning, IsOn}
-use Rattle.shop_base.specs.Activity.{Activity, Arrival, Operation, Cleaning, GoesOn}
-use Rattle.shop_base.specs.Run.{Event, IsRun, ends_in}
-use Rattle.shop_base.specs.Graph.{node, leaving, Arc, job_arc, blocking_arc, IsNode}
-use Rattle.shop_base.specs.Ahead.{PathAhead, now, held, onward, HoldsUp, next_node}
+use Rattle.shop_base.specs.Cell.{Cell, MachineState, unused, job_in, made, entries, cleaning}
+use Rattle.shop_base.specs.Activity.{Arrival, Operation, Cleaning}
+use Rattle.shop_base.specs.Run.{Event, ends_in}
+use Rattle.shop_base.specs.Graph.{node, leaving, Arc, job_arc, blocking_arc}
+use Rattle.shop_base.specs.Ahead.{PathAhead, now, held, onward}
 use Rattle.shop_base.proofs.Keeping.{run-sound}
 use Rattle.shop_base.proofs.Cycles.{source_node}
-use Rattle.shop_base.proofs.Visits.{visits_job, visits_machine}
 use Rattle.plan_verifier.specs.Accepted.{HasNoCycle}
 use Rattle.cell_control.specs.Kept.{KeepsSoFar}
-use Rattle.cell_control.specs.Carried.{IsCarried, carried_job, carried_cleaning}
+use Rattle.cell_control.specs.Carried.{IsCarried, carried_cleaning}
 use Rattle.control_laws.specs.KeptLaw.{AKeptRunIsOneOfTheOtherPlan}
 use Rattle.plan_revise.specs.declared.change.Change.{Change}
 use Rattle.plan_revise.specs.declared.change.Change.TheVariants.{Until, Add, Scrap, Down}
 use Rattle.plan_revise.specs.Settings.{Setting, setting}
-use Rattle.plan_revise.specs.Aside.{IsPlant, IsAside}
-use Rattle.plan_revise.specs.Changes.{Becomes}
-use Rattle.plan_revise.specs.Revised.{AreMade, IsRevised}
+use Rattle.plan_revise.specs.Aside.{IsPlant}
+use Rattle.plan_revise.specs.Revised.{AreMade}
 use Rattle.plan_revise.specs.Paths.{HasLonger}
-use Rattle.plan_revise.specs.RevisedLaw.{IsRevisedRun, TheRunSoFarStays, NoCycleComes, AreOthers, IsNoLater, NobodyElseIsLater}
+use Rattle.plan_revise.specs.RevisedLaw.{IsRevisedRun, TheRunSoFarStays, NoCycleComes, AreOthers, NobodyElseIsLater}
 use Rattle.plan_revise.specs.Fits.{IsRevision, IsSetting}
 use Rattle.plan_revise.proofs.Fitting.{fits_shaped}
 use Rattle.plan_revise.proofs.Revisions.{given_revision, becomes-revision}

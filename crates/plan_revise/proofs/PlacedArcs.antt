@@ -1,5 +1,5 @@
 -- The arcs where a job is placed: no arc leads from it to another job, and the others are as they were.
-use Rattle.std.proofs.Common.{◌≡◌, ◌≢◌, ℕ, zero, suc, ◌+◌, ◌<◌, ◌≤◌, ◌⊎◌, inl, inr, List, [], ◌∷◌, ◌++◌, length, get_or, sym, ap, ◌∙◌, subst, refl, arith, length-append}
+use Rattle.std.proofs.Common.{◌≡◌, ◌≢◌, ℕ, ◌+◌, ◌<◌, ◌≤◌, inl, inr, List, [], ◌∷◌, ◌++◌, length, get_or, sym, ap, ◌∙◌, subst, arith, length-append}
 use Rattle.std.proofs.lemmas.Bool.{cases_lt, cases_eq}
 use Rattle.std.proofs.lemmas.List.{get_or_past}
 use Rattle.std.proofs.Math.ListN.{get_or-append}
@@ -7,11 +7,11 @@ use Rattle.std.proofs.Math.Seq.{get_or-append_seam}
 use Rattle.shop_base.specs.declared.shop.Step.{Step}
 use Rattle.shop_base.specs.declared.node.Node.{Node}
 use Rattle.shop_base.specs.Shop.{step_at}
-use Rattle.shop_base.specs.Plan.{PlannedShop, jobs, machines, steps, route, nominal, clean, order, job_at, Visits, Stands}
-use Rattle.shop_base.specs.Cell.{Cell, made, since, entries, IsOn}
-use Rattle.shop_base.specs.Activity.{Activity, Arrival, Operation, Cleaning, GoesOn}
-use Rattle.shop_base.specs.Graph.{node, Arc, job_arc, blocking_arc, HasArc, ArcsLead, IsNode, IsSimpleCycle}
-use Rattle.shop_base.specs.Ahead.{PathAhead, now, held, onward, HoldsUp}
+use Rattle.shop_base.specs.Plan.{PlannedShop, machines, route, order, job_at, Visits, Stands}
+use Rattle.shop_base.specs.Cell.{Cell, since, entries}
+use Rattle.shop_base.specs.Activity.{Arrival, Operation, Cleaning}
+use Rattle.shop_base.specs.Graph.{node, Arc, job_arc, blocking_arc, ArcsLead}
+use Rattle.shop_base.specs.Ahead.{PathAhead, now, held, onward}
 use Rattle.plan_verifier.specs.Accepted.{HasNoCycle}
 use Rattle.plan_revise.specs.Fits.{IsFit}
 use Rattle.plan_revise.specs.Parts.{IsOnRoute, Places}

@@ -1,41 +1,39 @@
 -- The laws of revised plans: each change keeps the run, brings no cycle, and makes nobody else later.
-use Rattle.std.proofs.Common.{◌≡◌, ◌≢◌, ℕ, zero, suc, ◌+◌, ◌<◌, ◌≤◌, ◌⊎◌, inl, inr, List, [], ◌∷◌, ◌++◌, length, take, get_or, min, max, Option, None, Some, Bool, true, false, nat_lt, eqb, refl, sym, ap, ◌∙◌, subst, arith, add-one, length-append, ◌-◌}
-use Rattle.std.proofs.lemmas.Bool.{cases_eq, cases_lt, cases_Bool, ltb-false}
+use Rattle.std.proofs.Common.{◌≡◌, ◌≢◌, ℕ, zero, suc, ◌+◌, ◌<◌, ◌≤◌, inl, inr, List, [], ◌∷◌, ◌++◌, length, get_or, min, max, Option, None, Some, nat_lt, refl, sym, ap, ◌∙◌, subst, arith, length-append, ◌-◌}
+use Rattle.std.proofs.lemmas.Bool.{cases_eq, cases_Bool}
 use Rattle.std.proofs.lemmas.List.{get_or-set_other, length-set}
 use Rattle.shop_base.specs.declared.node.Node.{Node}
-use Rattle.shop_base.specs.declared.job_state.JobState.{JobState}
 use Rattle.shop_base.specs.declared.limits.TheConstants.{MAX_RELEASE}
 use Rattle.shop_base.specs.declared.shop.Step.{Step}
 use Rattle.shop_base.specs.Shop.{step_at}
-use Rattle.shop_base.specs.Plan.{PlannedShop, jobs, machines, route, steps, nominal, order, clean, release, Visits, Stands, IsWellShaped}
-use Rattle.shop_base.specs.Cell.{Cell, MachineState, unused, made, ready, since, entries, cleaning, job_in, IsOn}
-use Rattle.shop_base.specs.Activity.{Activity, Arrival, Operation, Cleaning, GoesOn}
-use Rattle.shop_base.specs.Run.{Event, IsRun, ends_in}
-use Rattle.shop_base.specs.Graph.{node, leaving, Arc, job_arc, blocking_arc, HasArc, ArcsLead, IsNode}
-use Rattle.shop_base.specs.Ahead.{PathAhead, now, held, onward, HoldsUp, next_node}
+use Rattle.shop_base.specs.Plan.{PlannedShop, jobs, route, nominal, clean, release, Visits}
+use Rattle.shop_base.specs.Cell.{Cell, made, since, entries}
+use Rattle.shop_base.specs.Activity.{Arrival, Operation, Cleaning}
+use Rattle.shop_base.specs.Graph.{node, Arc, job_arc, blocking_arc, HasArc, ArcsLead}
+use Rattle.shop_base.specs.Ahead.{PathAhead, now, held, onward}
 use Rattle.shop_base.proofs.Cycles.{source_node}
 use Rattle.plan_verifier.specs.Accepted.{HasNoCycle}
 use Rattle.plan_revise.specs.declared.change.Change.{Change}
 use Rattle.plan_revise.specs.declared.change.Change.TheVariants.{Until, Add, Scrap, Down}
 use Rattle.plan_revise.specs.Promises.{no_promise}
 use Rattle.plan_revise.specs.Ended.{ended}
-use Rattle.plan_revise.specs.Placed.{placed, with_job, added}
-use Rattle.plan_revise.specs.Settings.{Setting, moves_made, HasLeft}
-use Rattle.plan_revise.specs.Aside.{IsPlant, aside_route, with_aside, HasRoom, put_aside}
+use Rattle.plan_revise.specs.Placed.{with_job, added}
+use Rattle.plan_revise.specs.Settings.{Setting, moves_made}
+use Rattle.plan_revise.specs.Aside.{aside_route, with_aside, HasRoom, put_aside}
 use Rattle.plan_revise.specs.Stopped.{place_on, stopped, stopped_at, without_machine}
-use Rattle.plan_revise.specs.Changes.{lasting, given_or, IsProlonged, IsAdded, IsScrapped, IsWithout, Becomes}
+use Rattle.plan_revise.specs.Changes.{lasting, given_or, Becomes}
 use Rattle.plan_revise.specs.Fits.{IsFit, IsKept, IsRevision, IsSetting}
-use Rattle.plan_revise.specs.Parts.{Ends, Places}
+use Rattle.plan_revise.specs.Parts.{Ends}
 use Rattle.plan_revise.specs.Paths.{HasLonger}
 use Rattle.plan_revise.specs.RevisedLaw.{AreOthers}
 use Rattle.plan_revise.specs.Stages.{IsStage}
 use Rattle.plan_revise.proofs.EndedParts.{ended-ends, visits_mine, visits_others}
-use Rattle.plan_revise.proofs.PlacedParts.{SameVisits, same-stands_back, same-visits_back, default_more, with_job-same, lasting-same}
+use Rattle.plan_revise.proofs.PlacedParts.{SameVisits, same-stands_back, same-visits_back, default_more, with_job-same}
 use Rattle.plan_revise.proofs.Keeping.{moves_given, unentered}
 use Rattle.plan_revise.proofs.ClosedWalks.{no_cycle_by_ways}
 use Rattle.plan_revise.proofs.EndedArcs.{ended-no_cycle, ended-path}
 use Rattle.plan_revise.proofs.PlacedArcs.{placed-no_cycle, placed-path}
-use Rattle.plan_revise.proofs.Revisions.{HasAside, has_aside, aside_ends, aside_fit, aside_places, aside_others, aside_first, stopped_outside, stopped_inside, stage_upto, stage_room, stopped_at_past, stopped_at_ahead, place_within, added_fit, added_places, prolonged_same, prolonged_jobs, stopped-one, becomes-revision}
+use Rattle.plan_revise.proofs.Revisions.{HasAside, has_aside, aside_ends, aside_fit, aside_places, aside_others, stopped_outside, stopped_inside, stage_upto, stage_room, stopped_at_past, stopped_at_ahead, place_within, added_fit, added_places, prolonged_same, prolonged_jobs, stopped-one}
 
 -- ---- what is read the same has the same ways and paths
 

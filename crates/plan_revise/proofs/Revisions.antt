@@ -1,23 +1,23 @@
 -- What a change makes fits again, and keeps the run so far.
-use Rattle.std.proofs.Common.{◌≡◌, ◌≢◌, ℕ, zero, suc, ◌+◌, ◌<◌, ◌≤◌, ◌⊎◌, inl, inr, List, [], ◌∷◌, ◌++◌, length, take, get_or, min, max, Option, None, Some, Bool, true, false, cond, nat_lt, eqb, refl, sym, ap, ◌∙◌, subst, arith, length-append, add-one, ◌-◌}
-use Rattle.std.proofs.lemmas.Bool.{cases_eq, cases_lt, cases_Bool, eqb-true, eq-eqb, ne_eqb, ltb-true, ltb-false, lt-ltb}
-use Rattle.std.proofs.lemmas.List.{get_or-set_other, length-set, get_or_past, length-take}
+use Rattle.std.proofs.Common.{◌≡◌, ◌≢◌, ℕ, zero, suc, ◌+◌, ◌<◌, ◌≤◌, ◌⊎◌, inl, inr, List, [], ◌∷◌, length, get_or, min, max, Option, None, Some, true, false, nat_lt, eqb, refl, sym, ap, ◌∙◌, subst, arith, length-append, add-one, ◌-◌}
+use Rattle.std.proofs.lemmas.Bool.{cases_eq, cases_Bool, eqb-true, eq-eqb, ne_eqb, ltb-false}
+use Rattle.std.proofs.lemmas.List.{length-set, get_or_past, length-take}
 use Rattle.std.proofs.lemmas.List.Quantifiers.{position-Some}
 use Rattle.shop_base.specs.declared.shop.Step.{Step}
-use Rattle.shop_base.specs.declared.limits.TheConstants.{MAX_JOBS, MAX_MACHINES, MAX_NOMINAL, MAX_RELEASE, MAX_MOMENT}
+use Rattle.shop_base.specs.declared.limits.TheConstants.{MAX_JOBS, MAX_RELEASE, MAX_MOMENT}
 use Rattle.shop_base.specs.Shop.{IsRoute, IsSoundStep, step_at, no_step}
-use Rattle.shop_base.specs.Plan.{PlannedShop, jobs, machines, route, steps, clean, Visits, IsWellShaped}
-use Rattle.shop_base.specs.Cell.{Cell, made, since, IsGone}
+use Rattle.shop_base.specs.Plan.{PlannedShop, jobs, machines, route, steps, clean, Visits}
+use Rattle.shop_base.specs.Cell.{made, since}
 use Rattle.shop_base.proofs.Visits.{visits_job}
 use Rattle.plan_revise.specs.declared.change.Change.{Change}
 use Rattle.plan_revise.specs.declared.change.Change.TheVariants.{Until, Add, Scrap, Down}
 use Rattle.plan_revise.specs.Promises.{no_promise}
 use Rattle.plan_revise.specs.Ended.{ended}
-use Rattle.plan_revise.specs.Placed.{placed, with_job, with_machine, added}
+use Rattle.plan_revise.specs.Placed.{with_job, with_machine, added}
 use Rattle.plan_revise.specs.Settings.{Setting, moves_made, HasLeft}
-use Rattle.plan_revise.specs.Aside.{IsAside, IsPlant, aside_route, with_aside, HasRoom, put_aside}
+use Rattle.plan_revise.specs.Aside.{aside_route, with_aside, HasRoom, put_aside}
 use Rattle.plan_revise.specs.Stopped.{place_on, stopped, stopped_at, without_machine}
-use Rattle.plan_revise.specs.Changes.{lasting, given_or, IsProlonged, IsAdded, IsScrapped, IsWithout, Becomes}
+use Rattle.plan_revise.specs.Changes.{lasting, given_or, IsProlonged, IsScrapped, IsWithout, Becomes}
 use Rattle.plan_revise.specs.Fits.{IsFit, IsKept, IsRevision, IsSetting}
 use Rattle.plan_revise.specs.Parts.{Ends, Places}
 use Rattle.plan_revise.specs.Stages.{IsStage}

@@ -1,5 +1,5 @@
 -- What writes to the rows of a draft make of its plan.
-use Rattle.std.proofs.Common.{◌≡◌, ◌≢◌, ℕ, zero, suc, ◌+◌, ◌-◌, ◌<◌, ◌≤◌, ◌⊎◌, inl, inr, List, [], ◌∷◌, ◌++◌, length, take, drop, get_or, set, Vec, Global, Option, None, Some, Result, Ok, Err, Bool, true, false, eqb, refl, sym, ap, ◌∙◌, subst, arith, add-one, drop-cons}
+use Rattle.std.proofs.Common.{◌≡◌, ℕ, zero, suc, ◌+◌, ◌-◌, ◌<◌, ◌≤◌, ◌⊎◌, inl, inr, List, [], ◌∷◌, length, take, drop, get_or, set, Vec, Global, None, Some, Result, Ok, Err, Bool, true, false, eqb, refl, sym, ap, ◌∙◌, subst, arith, add-one, drop-cons}
 use Rattle.std.specs.Prelude.{IfOk, IfErr, IsTrue, ◌↔◌, slice_get}
 use Rattle.std.specs.List.{position_or_len}
 use Rattle.std.proofs.lemmas.Bool.{eq-eqb, eqb-true, cases_Bool, cases_lt, lt-ltb}
@@ -27,7 +27,7 @@ use Rattle.plan_revise.specs.Placed.{placed}
 use Rattle.plan_revise.specs.Aside.{IsAside, IsAsideJob, IsPlant}
 use Rattle.plan_revise.specs.Changes.{lasting, Becomes}
 use Rattle.plan_revise.specs.Refusals.{IsRefused}
-use Rattle.plan_revise.specs.Revised.{AreMade, IsFirstRefused, IsRevised, IsReason}
+use Rattle.plan_revise.specs.Revised.{AreMade, IsRevised, IsReason}
 use Rattle.plan_revise.specs.Settings.{Setting, setting, IsAtWork}
 use Rattle.plan_revise.specs.Stopped.{place_on}
 use Rattle.plan_revise.specs.Fits.{IsSetting}

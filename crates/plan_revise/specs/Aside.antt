@@ -2,7 +2,7 @@
 use Rattle.std.specs.Prelude.{◌≡◌, ℕ, ◌+◌, ◌<◌, ◌⊎◌, List, [], ◌∷◌, min, ◌==◌, if◌then◌else◌, length}
 use Rattle.shop_base.specs.declared.limits.TheConstants.{MAX_RELEASE, MAX_MACHINES}
 use Rattle.shop_base.specs.declared.shop.Step.{Step}
-use Rattle.shop_base.specs.Plan.{PlannedShop, jobs, machines, steps, nominal, clean, order, Visits}
+use Rattle.shop_base.specs.Plan.{PlannedShop, machines, steps, nominal, clean, order, Visits}
 use Rattle.plan_revise.specs.Promises.{no_promise, HasNoPromise}
 use Rattle.plan_revise.specs.Ended.{ended}
 use Rattle.plan_revise.specs.Placed.{placed, with_machine}

@@ -1,5 +1,5 @@
 -- A shop and its plan between two parts of a change: all but that each route has a step.
-use Rattle.std.specs.Prelude.{◌≡◌, ℕ, ◌+◌, ◌<◌, ◌≤◌, ◌⊎◌, length}
+use Rattle.std.specs.Prelude.{◌≡◌, ℕ, ◌+◌, ◌<◌, ◌≤◌, ◌⊎◌}
 use Rattle.shop_base.specs.Shop.{AreCounts, IsSoundStep}
 use Rattle.shop_base.specs.Plan.{PlannedShop, jobs, machines, route, steps, machine_of, order, clean, Visits, HasCounts, IsWithinLimits, IsOrder, IsWellShaped}
 use Rattle.shop_base.specs.Cell.{made, entries, IsGone}

@@ -1,5 +1,5 @@
 -- The laws of revised plans: the run so far stays a run, no cycle comes, and nobody else is later.
-use Rattle.std.specs.Prelude.{◌≡◌, ℕ, ◌<◌, ◌≤◌, List, [], ◌∷◌, ◌++◌}
+use Rattle.std.specs.Prelude.{ℕ, ◌<◌, ◌≤◌, List, [], ◌∷◌, ◌++◌}
 use Rattle.shop_base.specs.declared.node.Node.{Node}
 use Rattle.shop_base.specs.Plan.{PlannedShop, jobs, Visits, IsWellShaped}
 use Rattle.shop_base.specs.Cell.{made}

@@ -1,5 +1,5 @@
-use Rattle.std.proofs.Common.{◌≡◌, ◌<◌, ◌∙◌, List, ℕ, length, get_or, ap, subst, sym, arith}
-use Rattle.shop_base.specs.Plan.{order, job_at, jobs}
+use Rattle.std.proofs.Common.{◌<◌, List, ℕ, length, get_or, ap, arith}
+use Rattle.shop_base.specs.Plan.{order}
 use Rattle.plan_revise.proofs.Written.{listed_job}
 use Rattle.plan_revise.proofs.aside.are_aside.Goals as goal
 

@@ -1,4 +1,3 @@
-use Rattle.std.proofs.Common.{◌<◌}
 use Rattle.shop_base.specs.ShopFault.{AreSoundSteps}
 use Rattle.plan_revise.proofs.checking.check_route.Given as goal
 

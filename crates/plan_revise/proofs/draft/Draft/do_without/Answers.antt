@@ -1,4 +1,4 @@
-use Rattle.std.proofs.Common.{◌≡◌, ◌<◌, length, ap, arith}
+use Rattle.std.proofs.Common.{◌<◌, length, ap, arith}
 use Rattle.shop_base.specs.Plan.{PlannedShop, jobs}
 use Rattle.plan_revise.proofs.Written.{length_lists}
 use Rattle.plan_revise.proofs.Revisions.{stage_first, stage_next}

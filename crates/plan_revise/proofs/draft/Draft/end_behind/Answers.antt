@@ -1,7 +1,7 @@
-use Rattle.std.proofs.Common.{◌≡◌, ◌<◌, ◌∙◌, List, length, get_or, set, take, drop, ap, sym, arith}
+use Rattle.std.proofs.Common.{◌<◌, ◌∙◌, List, length, take, drop, ap, arith}
 use Rattle.shop_base.specs.declared.shop.Step.{Step}
 use Rattle.shop_base.specs.Vectors.{lists_of, plan_of}
-use Rattle.shop_base.specs.Plan.{PlannedShop, route}
+use Rattle.shop_base.specs.Plan.{PlannedShop}
 use Rattle.plan_revise.specs.Orders.{taken_out}
 use Rattle.plan_revise.specs.Ended.{ended}
 use Rattle.plan_revise.proofs.Written.{row_set, row_read, length_lists, draft_ended}

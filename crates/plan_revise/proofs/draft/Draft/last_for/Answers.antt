@@ -1,4 +1,4 @@
-use Rattle.std.proofs.Common.{◌≡◌, ◌<◌, ◌∙◌, List, length, get_or, set, ap, sym, arith}
+use Rattle.std.proofs.Common.{◌<◌, ◌∙◌, List, length, set, ap, arith}
 use Rattle.shop_base.specs.declared.shop.Step.{Step}
 use Rattle.shop_base.specs.Shop.{step_at}
 use Rattle.shop_base.specs.Vectors.{lists_of, plan_of}

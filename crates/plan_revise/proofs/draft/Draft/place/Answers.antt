@@ -1,4 +1,4 @@
-use Rattle.std.proofs.Common.{◌≡◌, ◌<◌, ◌∙◌, List, length, get_or, set, ap, sym, arith}
+use Rattle.std.proofs.Common.{◌∙◌, List, ap}
 use Rattle.std.proofs.lemmas.List.{map-set}
 use Rattle.shop_base.specs.declared.shop.Step.{Step}
 use Rattle.std.proofs.Common.{Vec, Global}

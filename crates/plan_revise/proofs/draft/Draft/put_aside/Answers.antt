@@ -1,4 +1,4 @@
-use Rattle.std.proofs.Common.{◌≡◌, ◌<◌, length, sym, subst, ap, ◌∙◌, arith}
+use Rattle.std.proofs.Common.{◌<◌, length, sym, subst, ap, ◌∙◌, arith}
 use Rattle.shop_base.specs.Plan.{PlannedShop, jobs}
 use Rattle.plan_revise.specs.Ended.{ended}
 use Rattle.plan_revise.specs.Aside.{with_aside}

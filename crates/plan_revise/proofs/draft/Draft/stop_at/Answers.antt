@@ -1,5 +1,4 @@
-use Rattle.std.proofs.Common.{◌≡◌, ◌<◌, ◌∙◌, List, length, ap, sym, arith}
-use Rattle.shop_base.specs.declared.shop.Step.{Step}
+use Rattle.std.proofs.Common.{◌≡◌, ◌<◌, ◌∙◌, length, ap, sym, arith}
 use Rattle.shop_base.specs.Plan.{PlannedShop, route}
 use Rattle.plan_revise.specs.Answers.{IsNoRoom, IsNoRoomFor}
 use Rattle.plan_revise.proofs.Written.{row_read, length_lists, no_visit, found_visit, tells_more}
