@@ -1,5 +1,5 @@
 -- The arcs that are left where a job ends: each is one of before, or joins two over the job that is taken out, and is no longer.
-use Rattle.std.proofs.Common.{◌≡◌, ℕ, ◌+◌, ◌<◌, ◌≤◌, ◌⊎◌, inl, inr, List, [], ◌∷◌, ◌++◌, length, sym, ap, ◌∙◌, subst, arith}
+use Rattle.std.proofs.Common.{◌≡◌, ℕ, ◌+◌, ◌<◌, ◌≤◌, ◌⊎◌, inl, inr, List, [], ◌∷◌, ◌++◌, length, sym, ap, ◌∙◌, subst, refl, arith}
 use Rattle.std.proofs.lemmas.Bool.{cases_eq, cases_order}
 use Rattle.shop_base.specs.declared.shop.Step.{Step}
 use Rattle.shop_base.specs.declared.node.Node.{Node}
@@ -15,21 +15,25 @@ use Rattle.plan_revise.specs.Paths.{HasLonger}
 use Rattle.plan_revise.proofs.EndedParts.{IsTakenAt, IsLeft, order_cases, step_before, steps_few, visits_before, stands_before, stands_front, stands_back}
 use Rattle.plan_revise.proofs.ClosedWalks.{no_cycle_by_ways}
 
--- arcs lead from u over w and x to v, and the first and the last are each as long as the arc that joins them
-pub record IsJoined (p : PlannedShop) (u v : Node) (d : ℕ) : Type 0 where
+-- arcs lead from u over two nodes of job j, behind its first n steps, to v, and the first and the last are each as long as the arc that joins them
+pub record IsJoined (p : PlannedShop) (j n : ℕ) (u v : Node) (d : ℕ) : Type 0 where
   pub to : Node
   pub from : Node
   pub between : ℕ
   pub first : Arc p u to d
   pub second : Arc p to from between
   pub third : Arc p from v d
+  pub mine : to.job ≡ j
+  pub behind : n ≤ to.place
+  pub mine_too : from.job ≡ j
+  pub behind_too : n ≤ from.place
 
 module _ (p : PlannedShop) (j n : ℕ) (q : PlannedShop) (fit : IsFit p) (ends : Ends p j n q) where
   arc_of : (u v : Node) (d e : ℕ) → e ≡ d → Arc p u v e → Arc p u v d
   arc_of u v d e same arc = subst (λ x. Arc p u v x) same arc
 
   blocking : (m a i k l g : ℕ) → Stands q m a i k → Stands q m (a + 1) l g → IsLeft p j n q m ⊎ IsTakenAt p j n q m
-      → Arc p (node i (k + 1)) (node l g) (clean q m) ⊎ IsJoined p (node i (k + 1)) (node l g) (clean q m)
+      → Arc p (node i (k + 1)) (node l g) (clean q m) ⊎ IsJoined p j n (node i (k + 1)) (node l g) (clean q m)
   blocking m a i k l g one other (inl left) =
       inl (arc_of (node i (k + 1)) (node l g) (clean q m) (clean p m) (sym (ends.cleans m))
       (blocking_arc m a i k l g (stands_before p j n q fit ends m a i k one left) (stands_before p j n q fit ends m (a + 1) l g other left)))
@@ -38,7 +42,7 @@ module _ (p : PlannedShop) (j n : ℕ) (q : PlannedShop) (fit : IsFit p) (ends :
       same : clean p m ≡ clean q m
       same = sym (ends.cleans m)
 
-      go : (a + 1 ≡ t.place) ⊎ ((a + 1 < t.place) ⊎ (t.place < a + 1)) → Arc p (node i (k + 1)) (node l g) (clean q m) ⊎ IsJoined p (node i (k + 1)) (node l g) (clean q m)
+      go : (a + 1 ≡ t.place) ⊎ ((a + 1 < t.place) ⊎ (t.place < a + 1)) → Arc p (node i (k + 1)) (node l g) (clean q m) ⊎ IsJoined p j n (node i (k + 1)) (node l g) (clean q m)
       go (inl at) = inr (record {
         to = node j t.step;
         from = node j (t.step + 1);
@@ -48,6 +52,10 @@ module _ (p : PlannedShop) (j n : ℕ) (q : PlannedShop) (fit : IsFit p) (ends :
         second = job_arc j t.step t.stands.visits.within;
         third = arc_of (node j (t.step + 1)) (node l g) (clean q m) (clean p m) same
             (blocking_arc m t.place j t.step l g t.stands (subst (λ b. Stands p m (b + 1) l g) at (stands_back p j n q fit ends m (a + 1) l g other t (omega arith))));
+        mine = refl;
+        behind = t.behind;
+        mine_too = refl;
+        behind_too = omega (arith, t.behind);
       })
       go (inr (inl less)) =
           inl (arc_of (node i (k + 1)) (node l g) (clean q m) (clean p m) same
@@ -57,7 +65,7 @@ module _ (p : PlannedShop) (j n : ℕ) (q : PlannedShop) (fit : IsFit p) (ends :
           (blocking_arc m (a + 1) i k l g (stands_back p j n q fit ends m a i k one t (omega arith)) (stands_back p j n q fit ends m (a + 1) l g other t (omega arith))))
 
   -- each arc is one of before, or joins two
-  pub ended-arc : (u v : Node) (d : ℕ) → Arc q u v d → Arc p u v d ⊎ IsJoined p u v d
+  pub ended-arc : (u v : Node) (d : ℕ) → Arc q u v d → Arc p u v d ⊎ IsJoined p j n u v d
   ended-arc _ _ _ (job_arc i k within) =
       let b = step_before p j n q fit ends i k within in
       inl (arc_of (node i k) (node i (k + 1)) (nominal q i k) (nominal p i k) (sym (ap (λ (s : Step). s.nominal) b.1)) (job_arc i k b.0))
@@ -136,7 +144,7 @@ module _ (p : PlannedShop) (j n : ℕ) (q : PlannedShop) (fit : IsFit p) (ends :
     ended-path _ _ _ (held (Cleaning m) due v goes holds) = held_by m due v goes holds (order_cases p j n q fit ends m)
     ended-path _ _ _ (onward nodes u v size d path arc) = go (ended-path nodes u size path) (ended-arc u v d arc)
       where
-        go : HasLonger p c t u size → Arc p u v d ⊎ IsJoined p u v d → HasLonger p c t v (size + d)
+        go : HasLonger p c t u size → Arc p u v d ⊎ IsJoined p j n u v d → HasLonger p c t v (size + d)
         go l (inl same) = record { nodes = l.nodes ++ v ∷ []; size = l.size + d; path = onward l.nodes u v l.size d l.path same; longer = omega (arith, l.longer) }
         go l (inr joined) = record {
           nodes = ((l.nodes ++ joined.to ∷ []) ++ joined.from ∷ []) ++ v ∷ [];

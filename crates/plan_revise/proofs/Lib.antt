@@ -11,3 +11,5 @@ pub mod RevisedLaws
 pub mod Outcomes
 pub mod Written
 pub mod Downs
+pub mod Lifted
+pub mod Sooner

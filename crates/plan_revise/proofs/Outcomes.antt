@@ -46,11 +46,16 @@ module _ (s : Setting) (is : IsSetting s) where
   first_other (Scrap j) changes others = (tt, others)
   first_other (Down machine) changes others = (tt, others)
 
-  made-stays : (p : PlannedShop) (changes : List Change) (q : PlannedShop) (i : ℕ) → AreOthers changes → IsRevision s p → AreMade s p changes q → i < jobs p → Visits p i 0 s.plant → Visits q i 0 s.plant
+  pub made-stays : (p : PlannedShop) (changes : List Change) (q : PlannedShop) (i : ℕ) → AreOthers changes → IsRevision s p → AreMade s p changes q → i < jobs p → Visits p i 0 s.plant → Visits q i 0 s.plant
   made-stays p [] q i others revision made inside visits = subst (λ (q : PlannedShop). Visits q i 0 s.plant) (sym made) visits
   made-stays p (change ∷ changes) q i others revision (next, one, rest) inside visits =
       let parts = first_other change changes others in
       made-stays next changes q i parts.1 (becomes-revision s is p change next revision one) rest (omega (arith, becomes-more_jobs s is p change next revision one)) (becomes-stays s is p change next i parts.0 revision one inside visits)
+
+  pub made-more_jobs : (p : PlannedShop) (changes : List Change) (q : PlannedShop) → IsRevision s p → AreMade s p changes q → jobs p ≤ jobs q
+  made-more_jobs p [] q revision made = omega (arith, ap jobs made)
+  made-more_jobs p (change ∷ changes) q revision (next, one, rest) =
+      omega (arith, becomes-more_jobs s is p change next revision one, made-more_jobs next changes q (becomes-revision s is p change next revision one) rest)
 
   made_path : (c : Cell) (t : ℕ) → ((m : ℕ) → entries c m ≡ entries s.cell m) → (p : PlannedShop) (changes : List Change) (q : PlannedShop) → AreOthers changes → IsRevision s p → AreMade s p changes q
       → (nodes : List Node) (v : Node) (size : ℕ) → PathAhead q c t nodes v size → (Visits q v.job 0 s.plant → ⊥) → v.job < jobs p → HasLonger p c t v size
@@ -188,7 +193,7 @@ to_leaving p c t j k size l =
 -- ---- nobody else is later
 
 -- there is one number of machines of the plant
-plant_once : (p : PlannedShop) (a b : ℕ) → IsPlant p a → IsPlant p b → a ≡ b
+pub plant_once : (p : PlannedShop) (a b : ℕ) → IsPlant p a → IsPlant p b → a ≡ b
 plant_once p a b (inl one) (inl other) = omega (arith, one.last, other.last)
 plant_once p a b (inl one) (inr other) = absurd (other.1 a one)
 plant_once p a b (inr one) (inl other) = absurd (one.1 b other)
@@ -224,7 +229,7 @@ module _ (kept : AKeptRunIsOneOfTheOtherPlan) (p q : PlannedShop) (es : List Eve
       timed (inl is_timed) is = sym (timed_same is_timed) ∙ is
       timed (inr untimed) is = absurd (never (carried_cleaning (ends_in p es) q m) (untimed_none untimed) is)
 
-  jobs_there : (j : ℕ) → j < jobs p → job_in (ends_in q es) j ≡ job_in (ends_in p es) j
+  pub jobs_there : (j : ℕ) → j < jobs p → job_in (ends_in q es) j ≡ job_in (ends_in p es) j
   jobs_there j inside = carried.jobs_same j (omega (arith, (run_revision p q es t changes r).kept.jobs_there)) ∙ rw (lt-ltb j (jobs p) inside) refl
 
   path_there : (plant j : ℕ) → IsPlant p plant → j < jobs p → (Visits q j 0 plant → ⊥) → (k : ℕ) (nodes : List Node) (n : ℕ) → PathAhead q (ends_in q es) t nodes (node j k) n → HasLonger p (ends_in p es) t (node j k) n

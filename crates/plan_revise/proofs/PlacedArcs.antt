@@ -21,7 +21,7 @@ use Rattle.plan_revise.proofs.PlacedParts.{on_or_off}
 use Rattle.plan_revise.proofs.ClosedWalks.{no_way_back}
 
 module _ (p : PlannedShop) (j : ℕ) (r : List Step) (first last : ℕ) (q : PlannedShop) (fit : IsFit p) (places : Places p j r first last q) where
-  visits_others : (i k m : ℕ) → i ≢ j → Visits q i k m → Visits p i k m
+  pub visits_others : (i k m : ℕ) → i ≢ j → Visits q i k m → Visits p i k m
   visits_others i k m other visits = record {
     within = omega (arith, ap length (places.others i other), visits.within);
     here = sym (ap (λ (s : List Step). (step_at s k).machine) (places.others i other)) ∙ visits.here;

@@ -50,7 +50,7 @@ module _ (p q : PlannedShop) (same : SameVisits p q) where
 
   -- with the same times too
   module _ (times : (j k : ℕ) → nominal q j k ≡ nominal p j k) (cleans : (m : ℕ) → clean q m ≡ clean p m) (releases : (j : ℕ) → release q j ≡ release p j) (c : Cell) (t : ℕ) where
-    same_arc : (u v : Node) (d : ℕ) → Arc q u v d → Arc p u v d
+    pub same_arc : (u v : Node) (d : ℕ) → Arc q u v d → Arc p u v d
     same_arc _ _ _ (job_arc j k within) = subst (λ d. Arc p (node j k) (node j (k + 1)) d) (sym (times j k)) (job_arc j k (omega (arith, same.lengths j)))
     same_arc _ _ _ (blocking_arc m a i k l g one other) =
         subst (λ d. Arc p (node i (k + 1)) (node l g) d) (sym (cleans m)) (blocking_arc m a i k l g (same-stands_back p q same m a i k one) (same-stands_back p q same m (a + 1) l g other))
@@ -138,7 +138,7 @@ module _ (s : Setting) (is : IsSetting s) where
   abbrev IsFree : PlannedShop → ℕ → Type 0
   IsFree p j = Visits p j 0 s.plant → ⊥
 
-  aside_visits : (p : PlannedShop) (j : ℕ) → IsRevision s p → j < jobs p → moves_made s j ≡ 0 → HasRoom s p → Visits (put_aside s p j) j 0 s.plant
+  pub aside_visits : (p : PlannedShop) (j : ℕ) → IsRevision s p → j < jobs p → moves_made s j ≡ 0 → HasRoom s p → Visits (put_aside s p j) j 0 s.plant
   aside_visits p j revision inside outside room =
       let is_route = (aside_places s p j is revision inside outside room).route_is in
       record { within = omega (arith, ap length is_route); here = ap (λ (r : List Step). (step_at r 0).machine) is_route }
@@ -163,7 +163,7 @@ module _ (s : Setting) (is : IsSetting s) where
         | inr other ↦ visits_others p j n (ended p j n) revision.fit (ended-ends p j n revision.fit inside) i 0 s.plant other visits
       ]
 
-  stopped_at-stays : (p : PlannedShop) (m j : ℕ) (found : Option ℕ) (i : ℕ) → place_on m (route p j) ≡ found → IsRevision s p → j < jobs p → ((k : ℕ) → moves_made s j ≡ 0 → Visits p j k m → HasRoom s p)
+  pub stopped_at-stays : (p : PlannedShop) (m j : ℕ) (found : Option ℕ) (i : ℕ) → place_on m (route p j) ≡ found → IsRevision s p → j < jobs p → ((k : ℕ) → moves_made s j ≡ 0 → Visits p j k m → HasRoom s p)
       → Visits p i 0 s.plant → Visits (stopped_at s p j found) i 0 s.plant
   stopped_at-stays p m j None i is_none revision inside room visits = visits
   stopped_at-stays p m j (Some k) i is_there revision inside room visits = elim (cases_Bool (nat_lt (k + 1) (moves_made s j))) [

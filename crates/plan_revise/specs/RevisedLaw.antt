@@ -4,8 +4,9 @@ use Rattle.shop_base.specs.declared.node.Node.{Node}
 use Rattle.shop_base.specs.Plan.{PlannedShop, jobs, Visits, IsWellShaped}
 use Rattle.shop_base.specs.Cell.{made}
 use Rattle.shop_base.specs.Run.{Event, IsRun, ends_in}
-use Rattle.shop_base.specs.Graph.{node, leaving}
-use Rattle.shop_base.specs.Ahead.{PathAhead}
+use Rattle.shop_base.specs.Graph.{node, leaving, IsNode, RanksRise}
+use Rattle.shop_base.specs.Ahead.{PathAhead, IsAhead}
+use Rattle.shop_base.specs.Deadlines.{AreDeadlines}
 use Rattle.plan_verifier.specs.Accepted.{HasNoCycle}
 use Rattle.cell_control.specs.Carried.{IsCarried}
 use Rattle.plan_revise.specs.declared.change.Change.{Change}
@@ -63,3 +64,17 @@ AreDowns (Down machine ∷ changes) = AreDowns changes
 abbrev pub NoPartComesToAMachineThatIsDown : Type 0
 NoPartComesToAMachineThatIsDown = (p q : PlannedShop) (es : List Event) (t : ℕ) (before after : List Change) (machine : ℕ) → IsRevisedRun p es t (before ++ Down machine ∷ after) q → AreDowns after
     → (j k : ℕ) → Visits q j k machine → k < made (ends_in q es) j
+
+-- each of the changes scraps a job, or is a machine that is down
+abbrev pub AreStops : List Change → Type 0
+AreStops [] = Unit {0}
+AreStops (Until machine to ∷ changes) = ⊥
+AreStops (Add words release budget ∷ changes) = ⊥
+AreStops (Scrap j ∷ changes) = AreStops changes
+AreStops (Down machine ∷ changes) = AreStops changes
+
+-- where jobs are scrapped and machines are down, no deadline of a job that isn't put aside comes sooner (of a plan without a cycle ranks are known that rise along its arcs)
+abbrev pub NoDeadlineComesSooner : Type 0
+NoDeadlineComesSooner = (p q : PlannedShop) (es : List Event) (t : ℕ) (changes : List Change) → IsRevisedRun p es t changes q → AreStops changes
+    → (plant : ℕ) (rank kept later : Node → ℕ) → IsPlant p plant → RanksRise q rank → AreDeadlines p (ends_in p es) kept → AreDeadlines q (ends_in q es) later
+    → (v : Node) → IsNode p v → IsNode q v → IsAhead (ends_in q es) v → (IsPutAside plant q v.job → ⊥) → kept v ≤ later v

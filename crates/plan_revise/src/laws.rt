@@ -2,7 +2,7 @@
 
 // Nothing is done here: a function's contract is the law, so a check of this crate proves it.
 
-ghost use Rattle.plan_revise.specs.RevisedLaw.{TheRunSoFarStays, NoCycleComes, NobodyElseIsLater, NoPartComesToAMachineThatIsDown};
+ghost use Rattle.plan_revise.specs.RevisedLaw.{TheRunSoFarStays, NoCycleComes, NobodyElseIsLater, NoPartComesToAMachineThatIsDown, NoDeadlineComesSooner};
 
 use control_laws::laws::a_kept_run_is_one_of_the_other_plan;
 
@@ -30,6 +30,13 @@ pub fn nobody_else_is_later()
 /// No job has a machine ahead that is down. So no order brings a part there.
 pub fn no_part_comes_to_a_machine_that_is_down()
     ensures { NoPartComesToAMachineThatIsDown }
+{
+    a_kept_run_is_one_of_the_other_plan();
+}
+
+/// Where jobs are scrapped and machines are down alone, no deadline of a job that isn't put aside comes sooner.
+pub fn no_deadline_comes_sooner()
+    ensures { NoDeadlineComesSooner }
 {
     a_kept_run_is_one_of_the_other_plan();
 }
