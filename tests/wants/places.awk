@@ -277,8 +277,10 @@ function type_of(i, end, depth, name) {
   return name
 }
 
-# whether want of memory may be made here: from an AllocError, or from a fault of ours or of a library that says so
+# whether want of memory may be made here: from an AllocError, in the arm of a fault of ours that says so, or where a fault is made of one of a
+# library that does
 function may_want(i, m) {
+  if (may_tell()) return 1
   if (from[open] == "") return 0
   if (from[open] == "AllocError") return token[i - 2] == into[open] || token[i - 2] == "Self"
   for (m = open; m > 0 && kind[m] != "match"; m--) continue
@@ -287,7 +289,7 @@ function may_want(i, m) {
   return pattern[m] ~ /^([A-Za-z]+::Memory|ErrorKind::OutOfMemory)$/
 }
 
-# whether the line of want of memory may be told here: in the arm of a fault that says so
+# whether want of memory may be told here: in the arm of a fault that says so
 function may_tell(m) {
   for (m = open; m > 0 && kind[m] != "match"; m--) continue
   return m > 0 && state[m] == "body" && guard[m] == "" && pattern[m] ~ /^[A-Za-z]+::Memory$/
