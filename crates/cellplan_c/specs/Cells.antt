@@ -15,8 +15,9 @@ abbrev pub Holding : Cell → (Control → Type 0) → Type 0
 Holding cell Is = IfSome cell.slot.held (λ held. Is held.controller)
 
 -- what is promised of a controller, whatever was reported: that it never goes wrong, and that each job keeps to the moment kept for its leaving while no report was late
-abbrev pub GoesAsPromised : Control → Type 0
-GoesAsPromised v = NeverGoesWrong v × KeepsLeavings v
+pub record GoesAsPromised (v : Control) : Type 0 where
+  pub never_wrong : NeverGoesWrong v
+  pub moments : KeepsLeavings v
 
 -- of the controllers before and after, if both are there
 abbrev pub Handing : Cell → Cell → (Control → Control → Type 0) → Type 0

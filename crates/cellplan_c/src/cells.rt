@@ -18,8 +18,8 @@ ghost use Rattle.cellplan_c.specs.Begun.{IsControllerOf};
 use crate::cell::Cell;
 use crate::inner::Inner;
 use crate::instances::name_in;
+use crate::promised::is_as_promised;
 use crate::statuses::{GOOD, REFUSED, status_of_refused};
-use cell_control::laws::never_goes_wrong;
 use cell_control::{Controller, RestController};
 use command_answers::{Loaded, load};
 use plan_verifier::{Verdict, Verified};
@@ -92,7 +92,7 @@ fn boxed(alloc: Global, verified: Verified) -> Result<Box<Inner>, AllocError>
     match Controller::new(alloc, verified) {
         Ok(controller) => {
             let controller = RestController::of(controller);
-            never_goes_wrong(&controller);
+            is_as_promised(&controller);
             Ok(Box::new(alloc, Inner { controller })?)
         }
         Err((error, _verified)) => Err(error),

@@ -12,11 +12,11 @@ ghost use Rattle.cellplan_c.specs.HandOvers.{IsHandOver, IsHandOverStatus, rest_
 use crate::cell::Cell;
 use crate::inner::Inner;
 use crate::instances::name_in;
+use crate::promised::is_as_promised;
 use crate::rooms::put_orders;
 use crate::statuses::{BACKWARDS, GOOD, KEEPS_NOT, MOMENT_TOO_LARGE, NO_CELL, REFUSED};
 use crate::told::Order;
 use cell_control::RestFault;
-use cell_control::laws::never_goes_wrong;
 use command_answers::load_shaped;
 use shop_base::limits::MAX_MOMENT;
 use shop_base::{ShapeFault, Shaped};
@@ -51,7 +51,7 @@ pub extern "C" fn cellplan_cell_hand_over(
         return NO_CELL;
     };
     let status = hand_over_to(alloc, &mut inner, instance, name, plan, at);
-    never_goes_wrong(&inner.controller);
+    is_as_promised(&inner.controller);
     if status == GOOD {
         let released = inner.controller.orders();
         *count = released.len();

@@ -14,6 +14,7 @@ mod inner;
 mod instances;
 mod lain;
 mod names;
+mod promised;
 mod readers;
 mod reports;
 mod rests;

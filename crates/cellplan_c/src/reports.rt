@@ -8,10 +8,10 @@ ghost use Rattle.cellplan_c.specs.Cells.{Holding, GoesAsPromised, Reporting, IsR
 
 use crate::cell::Cell;
 use crate::inner::Inner;
+use crate::promised::is_as_promised;
 use crate::rooms::put_orders;
 use crate::statuses::{GOOD, NO_CELL, NO_KIND};
 use crate::told::{Ended, Order, fault_detail, fault_number, report_by};
-use cell_control::laws::never_goes_wrong;
 use cell_control::{Ack, ReportFault, RestController, TourneyDues};
 use std::alloc::Global;
 
@@ -103,7 +103,7 @@ fn report_to(inner: &mut Inner, ended: Ended, late: &mut bool, detail: &mut u64)
     ensures never_wrong { GoesAsPromised inner.new.controller }
 {
     let told = take(&mut inner.controller, ended);
-    never_goes_wrong(&inner.controller);
+    is_as_promised(&inner.controller);
     match told {
         Ok(ack) => {
             *late = ack.late;

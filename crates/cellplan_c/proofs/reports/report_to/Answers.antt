@@ -17,7 +17,7 @@ returns-in-Ok c =
       numbers = λ bad. absurd (bad refl);
       not_late = λ bad. absurd (bad refl);
       no_detail = λ good. refl;
-      never_wrong = c.never_goes_wrong.ensures;
+      never_wrong = c.is_as_promised.ensures;
     }
 
 pub returns-in-Err-clause-reported : goal.returns-in-Err-clause-reported
