@@ -3,16 +3,17 @@ use Rattle.std.proofs.Common.{◌≡◌, ℕ, ◌≤◌, ◌↔◌, nat_lt, lt-l
 use Rattle.shop_base.specs.Plan.{PlannedShop}
 use Rattle.shop_base.specs.Cell.{Cell}
 use Rattle.shop_base.specs.Report.{IsNextMoment}
-use Rattle.cell_tables.specs.Tables.{cell_of}
+use Rattle.cell_tables.specs.Tables.{cell_of, AreSound}
 use Rattle.cell_tables.specs.declared.entry.Entry.{Entry}
 use Rattle.plan_improve.specs.declared.begun.Begun.{Begun}
 use Rattle.event_lines.specs.LogLines.{LinesTell}
 use Rattle.event_lines.proofs.Readings.{one_reading}
-use Rattle.run_log.specs.Audits.{IsAuditFault}
+use Rattle.run_log.specs.Audits.{IsTold, IsAuditFault}
 use Rattle.run_log.specs.declared.audit_fault.AuditFault.{AuditFault}
 use Rattle.run_log.specs.declared.audit_fault.AuditFault.TheVariants.{BadLine, NotExpected, Backwards, NotReady, Occupied, NotClean, OutOfOrder, WrongPlace, Memory}
 use Rattle.plan_seek.specs.declared.search.TheConstants.{MAX_ROUNDS}
 use Rattle.plan_improve.specs.RestCosts.{IsCellOf}
+use Rattle.plan_improve.specs.RestOf.{IsRestOf}
 use Rattle.plan_improve.specs.Improved.{present_of}
 use Rattle.plan_improve.specs.Faults.{log_fault, IsBeginFault, IsImproveRestFault}
 use Rattle.plan_improve.specs.declared.not_improved.NotImproved.{NotImproved}
@@ -37,6 +38,20 @@ memory_rest lines at rounds p (Err refused) few is = subst (IsImproveRestFault l
 pub few_rounds : {A E : Type 0} (r : Result A E) (rounds : ℕ) → rounds ≤ MAX_ROUNDS → OnOk r (rounds ≤ MAX_ROUNDS)
 few_rounds (Ok found) rounds few = few
 few_rounds (Err e) rounds few = tt
+
+-- the run of a log, as it is taken up
+pub begun_is : (lines : List (List ℕ)) (p q r : PlannedShop) (c : Cell) (told : List Entry) (begun : Begun) → q ≡ p → r ≡ p → LinesTell p lines told → IsTold p c told
+    → cell_of q begun.tables ≡ c → AreSound q begun.tables → IsNextMoment c begun.present → IsRestOf r c begun.present begun.rest → ((begun.has_event ≡ false) ↔ LinesTell p lines []) → IsBegun lines p begun
+begun_is lines p q r c told begun same also tells run cell sound next rest event = record {
+  sound = subst (λ (x : PlannedShop). AreSound x begun.tables) same sound;
+  cell = record { told = told; tells = tells; run = subst (λ (x : Cell). IsTold p x told) (sym here) run };
+  next = subst (λ (x : Cell). IsNextMoment x begun.present) (sym here) next;
+  rest = subst (λ (x : Cell). IsRestOf p x begun.present begun.rest) (sym here) (subst (λ (x : PlannedShop). IsRestOf x c begun.present begun.rest) also rest);
+  event = event;
+}
+  where
+    here : cell_of p begun.tables ≡ c
+    here = subst (λ (x : PlannedShop). cell_of x begun.tables ≡ c) same cell
 
 -- the present moment can be the next after each cell of the log
 pub present_next : (lines : List (List ℕ)) (at : Option ℕ) (p : PlannedShop) (begun : Begun) → IsBegun lines p begun → begun.present ≡ present_of at (cell_of p begun.tables).last

@@ -9,6 +9,7 @@ use Rattle.shop_base.specs.Cell.{Cell, MachineState, since, entries, cleaning}
 use Rattle.shop_base.specs.Move.{IsPrefix}
 use Rattle.shop_base.specs.Sound.{IsSound}
 use Rattle.shop_base.proofs.Keeping.{run-sound}
+use Rattle.cell_tables.specs.PlannedCell.{PlannedCell}
 use Rattle.cell_tables.specs.Tables.{cell_of, no_row, state_of, states_from, entered_at, AreTables, AreSound}
 use Rattle.cell_tables.specs.declared.tables.MachineRow.{MachineRow}
 use Rattle.cell_tables.specs.declared.tables.Tables.{Tables}
@@ -95,3 +96,42 @@ module _ (p : PlannedShop) (orders : List (List ℕ)) (t : Tables) (are : AreSou
             (get_or_past p.plan.order m [] (omega (arith, past, are.tables.shaped.counts.orders)) ∙ sym (get_or_past orders m [] (omega (arith, past, fits.counts.orders))))
             (are.sound.in_order m)
       ]
+
+-- what is taken out of a cell, and put together again
+module _ (x : PlannedCell PlannedShop) (t : Tables) (plan : x.plan ≡ x.basis) (cell : cell_of x.basis t ≡ x.cell) (sound : AreSound x.basis t) where
+  out_sound : AreSound x.plan t
+  out_sound = subst (λ (p : PlannedShop). AreSound p t) (sym plan) sound
+
+  out_cell : cell_of x.plan t ≡ x.cell
+  out_cell = ap (λ (p : PlannedShop). cell_of p t) plan ∙ cell
+
+  pub again_sound : (p : PlannedShop) → p ≡ x.plan → AreSound p t
+  again_sound p same = subst (λ (q : PlannedShop). AreSound q t) (sym same) out_sound
+
+  pub again_cell : (p : PlannedShop) → p ≡ x.plan → cell_of p t ≡ x.cell
+  again_cell p same = ap (λ (q : PlannedShop). cell_of q t) same ∙ out_cell
+
+  -- the entries of the cell are those that the rows tell
+  pub begins_of : (orders : List (List ℕ)) → IsWellShaped (reordered x.plan orders) → Begin t.machines.items x.plan.plan.order orders ↔ BeginsWithEntries x.cell (reordered x.plan orders)
+  begins_of orders fits = (
+    λ begin. subst (λ (c : Cell). BeginsWithEntries c (reordered x.plan orders)) out_cell ((begins_told x.plan orders t out_sound fits).0 begin),
+    λ begins. (begins_told x.plan orders t out_sound fits).1 (subst (λ (c : Cell). BeginsWithEntries c (reordered x.plan orders)) (sym out_cell) begins),
+  )
+
+  -- by the other plan it is the same cell
+  module _ (orders : List (List ℕ)) (p : PlannedShop) (same : p ≡ reordered x.plan orders) (fits : IsWellShaped p) (reached : IsReached x.plan x.cell)
+      (begins : BeginsWithEntries x.cell (reordered x.plan orders)) where
+    fits_there : IsWellShaped (reordered x.plan orders)
+    fits_there = subst IsWellShaped same fits
+
+    reached_there : IsReached x.plan (cell_of x.plan t)
+    reached_there = subst (IsReached x.plan) (sym out_cell) reached
+
+    begins_there : BeginsWithEntries (cell_of x.plan t) (reordered x.plan orders)
+    begins_there = subst (λ (c : Cell). BeginsWithEntries c (reordered x.plan orders)) (sym out_cell) begins
+
+    pub sound_by : AreSound p t
+    sound_by = subst (λ (q : PlannedShop). AreSound q t) (sym same) (other_sound x.plan orders t out_sound fits_there reached_there begins_there)
+
+    pub cell_by : cell_of p t ≡ x.cell
+    cell_by = ap (λ (q : PlannedShop). cell_of q t) same ∙ cell_same x.plan orders t out_sound fits_there reached_there begins_there ∙ out_cell

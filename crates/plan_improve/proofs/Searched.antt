@@ -31,7 +31,7 @@ module _ (s : Setting) where
   module _ (before after : Option (List Told)) (made : List Told → Asked) (start : PlannedShop) where
     -- a search that has begun
     pub searched : (p : PlannedShop) (first : Cost) (kept : Best) → IsBegin s start p → s.costs p first → IsLastTold s before after made p first kept
-        → IsSearched s before after made start kept.shaped
+        → IsSearched s before after made start kept.cell.plan
     searched p first kept begins cost last = record {
       begin = p;
       begins_at = begins;

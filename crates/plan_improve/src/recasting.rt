@@ -4,13 +4,13 @@ ghost use Rattle.std.specs.Prelude.{◌≡◌, ℕ, ◌<◌, ◌≤◌, ◌↔�
 ghost use Rattle.shop_base.specs.Plan.{IsWellShaped};
 ghost use Rattle.shop_base.specs.Move.{IsPrefix};
 ghost use Rattle.shop_base.specs.Vectors.{lists_of};
-ghost use Rattle.cell_tables.specs.Tables.{no_row};
+ghost use Rattle.cell_tables.specs.Tables.{no_row, AreTables};
 ghost use Rattle.plan_improve.specs.Laws.{BeginsWithEntries};
 ghost use Rattle.plan_improve.specs.Reordered.{reordered};
 ghost use Rattle.plan_improve.specs.Keeping.{IsReached, IsRecast, Begin};
 
 use crate::reordering::{Replaced, put_back, replace};
-use cell_tables::{MachineRow, WorkCell};
+use cell_tables::{MachineRow, Tables, WorkCell};
 use shop_base::{JobNo, Shaped};
 
 /// What came of replacing the orders of a cell's plan.
@@ -29,7 +29,7 @@ pub(crate) fn reorder(cell: WorkCell<Shaped>, order: Vec<Vec<JobNo>>) -> Recast
     ensures { IsRecast cell (lists_of order.items) result }
 {
     let (shaped, tables) = cell.into_parts();
-    if !begin(&tables.machines, &shaped.plan().order, &order) {
+    if !begin_with(&shaped, &tables, &order) {
         return Recast::Stays(WorkCell::of_parts(shaped, tables));
     }
     match replace(shaped, order) {
@@ -56,6 +56,14 @@ pub(crate) fn plan_of(cell: WorkCell<Shaped>) -> Shaped
 {
     let (shaped, _) = cell.into_parts();
     shaped
+}
+
+/// Whether these orders begin with the entries that the tables tell of a plan.
+fn begin_with(shaped: &Shaped, tables: &Tables, order: &[Vec<JobNo>]) -> bool
+    requires { AreTables shaped.now tables.now }
+    ensures { IsTrue result ↔ Begin tables.now.machines.items shaped.now.plan.order (lists_of order.now) }
+{
+    begin(&tables.machines, &shaped.plan().order, order)
 }
 
 /// Whether there is a new order for each machine, which begins with those jobs of the old one that have entered it.

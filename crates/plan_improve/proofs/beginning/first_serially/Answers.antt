@@ -5,15 +5,38 @@ use Rattle.alt_graph.specs.Solved.{HasCycle}
 use Rattle.plan_seek.specs.Orders.{serial_order}
 use Rattle.plan_improve.specs.Reordered.{reordered}
 use Rattle.plan_improve.proofs.Serially.{serial_fits, serial_acyclic}
-use Rattle.plan_improve.proofs.Standing.{stands_reached, stands_on, fresh_begins}
+use Rattle.plan_improve.proofs.Standing.{stands_reached, stands_by, fresh_begins}
 use Rattle.plan_improve.proofs.beginning.first_serially.Goals as goal
 
 pub reorder_by-serial-requires-clause-reached : goal.reorder_by-serial-requires-clause-reached
 reorder_by-serial-requires-clause-reached c = stands_reached c.args.fixed.now c.args.start.plan c.args.start.cell c.requires.stands
 
 pub reorder_by-serial-requires-clause-shaped : goal.reorder_by-serial-requires-clause-shaped
-reorder_by-serial-requires-clause-shaped c = ?
+reorder_by-serial-requires-clause-shaped c =
+    serial_fits c.args.start.plan c.shop.result.now (lists_of c.in-Ok.order.items) c.shaped.ensures.well_shaped (c.shop.ensures.same ∙ ap (λ (p : PlannedShop). p.shop) c.shaped.ensures.plan) c.in-Ok.ensures
 
 pub reorder_by-serial-requires-clause-begins : goal.reorder_by-serial-requires-clause-begins
 reorder_by-serial-requires-clause-begins c =
     fresh_begins c.args.fixed.now c.args.start.plan (reordered c.args.start.plan (lists_of c.in-Ok.order.items)) c.args.start.cell c.requires.stands (c.requires.event.0 c.if-has_event.false)
+
+pub cost-requires-clause-stands : goal.cost-requires-clause-stands
+cost-requires-clause-stands c =
+    stands_by c.args.fixed.now c.args.start c.reorder_by-serial.result (lists_of c.in-Ok.order.items) c.shaped.ensures.well_shaped c.requires.stands c.reorder_by-serial.ensures.plan c.reorder_by-serial.ensures.cell
+    (fresh_begins c.args.fixed.now c.args.start.plan (reordered c.args.start.plan (lists_of c.in-Ok.order.items)) c.args.start.cell c.requires.stands (c.requires.event.0 c.if-has_event.false))
+
+pub unreachable-requires : goal.unreachable-requires
+unreachable-requires c =
+    let serial : c.reorder_by-serial.result.plan ≡ reordered c.args.start.plan (serial_order c.args.start.plan.shop) = c.reorder_by-serial.ensures.plan
+    ∙ ap (reordered c.args.start.plan) (c.in-Ok.ensures ∙ ap serial_order (c.shop.ensures.same ∙ ap (λ (p : PlannedShop). p.shop) c.shaped.ensures.plan)) in
+    serial_acyclic c.args.start.plan c.shaped.ensures.well_shaped (subst HasCycle serial (rw c.in-Ok-None.field-0-is at c.in-Ok-None.ensures))
+
+pub returns-in-Ok-Some-clause-first : goal.returns-in-Ok-Some-clause-first
+returns-in-Ok-Some-clause-first c =
+    let serial : c.reorder_by-serial.result.plan ≡ reordered c.args.start.plan (serial_order c.args.start.plan.shop) = c.reorder_by-serial.ensures.plan
+    ∙ ap (reordered c.args.start.plan) (c.in-Ok.ensures ∙ ap serial_order (c.shop.ensures.same ∙ ap (λ (p : PlannedShop). p.shop) c.shaped.ensures.plan)) in (
+      inr (c.requires.cycle, c.requires.event.0 c.if-has_event.false, serial),
+      stands_by c.args.fixed.now c.args.start c.reorder_by-serial.result (lists_of c.in-Ok.order.items) c.shaped.ensures.well_shaped c.requires.stands c.reorder_by-serial.ensures.plan
+          c.reorder_by-serial.ensures.cell
+          (fresh_begins c.args.fixed.now c.args.start.plan (reordered c.args.start.plan (lists_of c.in-Ok.order.items)) c.args.start.cell c.requires.stands (c.requires.event.0 c.if-has_event.false)),
+      rw c.in-Ok-Some.field-0-is at c.in-Ok-Some.ensures,
+    )

@@ -1,6 +1,9 @@
-use Rattle.std.proofs.Common.{sym, ◌∙◌}
+use Rattle.std.proofs.Common.{sym, subst, ◌∙◌}
+use Rattle.shop_base.specs.Plan.{PlannedShop}
+use Rattle.shop_base.specs.Cell.{Cell}
 use Rattle.shop_base.specs.Vectors.{lists_of}
 use Rattle.plan_improve.specs.Keeping.{setting_of}
+use Rattle.plan_improve.specs.Laws.{BeginsWithEntries}
 use Rattle.plan_improve.proofs.Once.{fixed_once}
 use Rattle.plan_improve.proofs.Keeping.{next_unfit, next_better, next_worse}
 use Rattle.plan_improve.proofs.Standing.{stands_reached, stands_by, costs_begin}
@@ -26,16 +29,23 @@ pub returns-in-Ok-Some-clause-judged : goal.returns-in-Ok-Some-clause-judged
 returns-in-Ok-Some-clause-judged c =
     let below = rw c.in-Ok-Some.field-0-is at c.in-Ok-Some.ensures in
     next_better (setting_of c.args.fixed.now) c.args.best.cell c.in-Fits.cell c.args.best.cost c.in-Ok-Some.cost (lists_of c.args.order.items) c.requires.cost
-    c.in-Fits.ensures.0 c.in-Fits.ensures.3 ? below.0 below.1
+    c.in-Fits.ensures.0 c.in-Fits.ensures.3
+    (stands_by c.args.fixed.now c.args.best.cell c.in-Fits.cell (lists_of c.args.order.items) c.shaped-plan.ensures.well_shaped c.requires.stands c.in-Fits.ensures.0 c.in-Fits.ensures.1
+    (rw c.in-Fits.ensures.0 at c.in-Fits.ensures.4))
+    below.0 below.1
 
 pub reorder_by-requires-clause-reached : goal.reorder_by-requires-clause-reached
-reorder_by-requires-clause-reached c = ?
+reorder_by-requires-clause-reached c = stands_reached c.args.fixed.now c.in-Fits.cell.plan c.in-Fits.cell.cell
+    (stands_by c.args.fixed.now c.args.best.cell c.in-Fits.cell (lists_of c.args.order.items) c.shaped-plan.ensures.well_shaped c.requires.stands c.in-Fits.ensures.0 c.in-Fits.ensures.1
+    (rw c.in-Fits.ensures.0 at c.in-Fits.ensures.4))
 
 pub reorder_by-requires-clause-shaped : goal.reorder_by-requires-clause-shaped
 reorder_by-requires-clause-shaped c = rw (← c.in-Fits.ensures.2) c.shaped-plan.ensures.well_shaped
 
 pub reorder_by-requires-clause-begins : goal.reorder_by-requires-clause-begins
-reorder_by-requires-clause-begins c = rw (← c.in-Fits.ensures.2, c.in-Fits.ensures.1) c.shaped-plan.ensures.sound.in_order
+reorder_by-requires-clause-begins c =
+    subst (λ (p : PlannedShop). BeginsWithEntries c.in-Fits.cell.cell p) c.in-Fits.ensures.2
+    (subst (λ (d : Cell). BeginsWithEntries d c.args.best.cell.plan) (sym c.in-Fits.ensures.1) c.shaped-plan.ensures.sound.in_order)
 
 pub returns-in-Ok-None-clause-judged : goal.returns-in-Ok-None-clause-judged
 returns-in-Ok-None-clause-judged c =

@@ -1,21 +1,39 @@
 use Rattle.text_lines.specs.Lines.{ended_lines}
+use Rattle.cell_tables.specs.Tables.{cell_of}
 use Rattle.plan_improve.specs.Settings.{rest_after}
+use Rattle.plan_improve.specs.Keeping.{IsComeTo}
 use Rattle.plan_improve.specs.Runs.{RoundsTold}
 use Rattle.plan_improve.proofs.Once.{run_fixed}
 use Rattle.plan_improve.proofs.RestEnded.{come_next, improved_answer, back_answer}
 use Rattle.plan_improve.proofs.rest_improving.improve_from.Goals as goal
 
-pub of_parts-cell-requires : goal.of_parts-cell-requires
-of_parts-cell-requires g c = c.requires.sound
-
 pub search-requires-clause-fixed : goal.search-requires-clause-fixed
-search-requires-clause-fixed g c = ?
+search-requires-clause-fixed g c =
+    rw c.of_parts-cell.ensures (run_fixed _ c.args.start (c.requires.next.in_range, (cell_of c.args.start c.args.begun.tables, c.requires.cell, c.requires.rest)))
 
 pub search-requires-clause-stands : goal.search-requires-clause-stands
-search-requires-clause-stands g c = ?
+search-requires-clause-stands g c = rw c.of_parts-cell.ensures c.requires.cell
+
+pub search-requires-clause-event : goal.search-requires-clause-event
+search-requires-clause-event g c = rw c.of_parts-cell.ensures c.requires.event
 
 pub judged-requires : goal.judged-requires
-judged-requires g c = ?
+judged-requires g c =
+    let lines = ended_lines c.args.log.now in
+    let t = c.args.begun.present in
+    let made = RoundsTold (rest_after lines t) (λ b. (goal.Improver-dyn g (b.vtable, b.value)).may b.value) c.args.improvers.now c.args.rounds in
+    come_next lines t (g.W.Watch.told c.args.watch.now) (g.W.Watch.told c.search.new.watch) made c.args.start c.in_ok-best.best (cell_of c.args.start c.args.begun.tables) c.requires.cell c.requires.next
+    (rw c.of_parts-cell.ensures at c.in_ok-best.ensures.comes)
 
 pub returns : goal.returns
-returns g c = ?
+returns g c =
+    let lines = ended_lines c.args.log.now in
+    let t = c.args.begun.present in
+    let before = g.W.Watch.told c.args.watch.now in
+    let after = g.W.Watch.told c.search.new.watch in
+    let made = RoundsTold (rest_after lines t) (λ b. (goal.Improver-dyn g (b.vtable, b.value)).may b.value) c.args.improvers.now c.args.rounds in
+    let come : IsComeTo (rest_after lines t) before after made c.args.start c.in_ok-best.best = rw c.of_parts-cell.ensures at c.in_ok-best.ensures.comes in
+    record {
+      improved = improved_answer lines t before after made c.args.start c.in_ok-best.best c.judged.result come c.judged.ensures.plan c.judged.ensures.verdict;
+      handed_back = back_answer lines t before after made c.args.start c.in_ok-best.best c.judged.result come c.judged.ensures.handed_back;
+    }
