@@ -1,16 +1,16 @@
 -- The answers of the command `decide`.
 use Rattle.std.proofs.Common.{ℕ, ◌<◌, ◌≤◌, Result, Ok, Err, refl, inl, inr, arith}
-use Rattle.plan_verifier.specs.Accepted.{VerifiedPlan}
-use Rattle.plan_seek.specs.Tasks.{PlanTask}
+use Rattle.shop_base.specs.Plan.{PlannedShop}
 use Rattle.plan_decide.specs.declared.aim.Aim.{Aim}
 use Rattle.plan_decide.specs.declared.aim.Aim.TheVariants.{Promises, Least}
 use Rattle.plan_decide.specs.declared.aim.Objective.TheVariants.{Makespan, Leaving}
 use Rattle.plan_decide.specs.declared.decide_fault.DecideFault.{DecideFault}
-use Rattle.plan_decide.specs.declared.decide_fault.DecideFault.TheVariants.{JobOutOfRange, Memory as WantOfMemory}
+use Rattle.plan_decide.specs.declared.decide_fault.DecideFault.TheVariants.{JobOutOfRange, Log as LogFault, Past as EarlierMoment, MomentTooLarge, Memory as WantOfMemory}
 use Rattle.plan_decide.specs.declared.decided.Decided.{Decided}
 use Rattle.plan_decide.specs.declared.decided.Decided.TheVariants.{Kept, Best, Never, Open}
 use Rattle.plan_decide.specs.declared.decided.Within.{Within}
-use Rattle.plan_decide.specs.Promises.{asked_for, job_count}
+use Rattle.plan_decide.specs.Cases.{Case, job_count}
+use Rattle.plan_decide.specs.Promises.{asked_for}
 use Rattle.plan_decide.specs.Excluding.{AreExclusions, NoneIsAlone}
 use Rattle.plan_decide.specs.Decisions.{IsBest, IsDecideFault, IsKept, OnBest, OnKept, OnNever, OnOpen}
 use Rattle.command_answers.specs.declared.answer.Answer.{Answer}
@@ -20,56 +20,59 @@ use Rattle.command_answers.specs.DecisionLines.{within_line}
 use Rattle.command_answers.specs.Deciding.{CanBeTold, IsDecidedAnswer, IsDecisionAnswer, IsUndecidedAnswer}
 use Rattle.command_answers.specs.Documents.{IsDocumentAnswer, IsHeadedAnswer}
 
-module _ (t : PlanTask) (aim : Aim) where
+module _ (t : Case) (aim : Aim) where
   -- the text of a plan that keeps all budgets is the answer
-  kept_is : (verified : VerifiedPlan) (outcome : Result Answer CommandFault) → IsKept t aim verified → IsDocumentAnswer verified.planned.plan 0 outcome → IsDecisionAnswer t aim outcome
-  kept_is verified (Ok answer) is text = inl (record { verified = verified; is = is; text = text })
-  kept_is verified (Err (Instance fault)) is text = text
-  kept_is verified (Err Read) is text = text
-  kept_is verified (Err Write) is text = text
-  kept_is verified (Err InputTooLong) is text = text
-  kept_is verified (Err Log) is text = text
-  kept_is verified (Err LogInUse) is text = text
-  kept_is verified (Err (Plan fault)) is text = (text.0, record { verified = verified; is = inl is; unreadable = text.1 })
-  kept_is verified (Err Memory) is text = tt
+  kept_is : (plan : PlannedShop) (outcome : Result Answer CommandFault) → IsKept t aim plan → IsDocumentAnswer plan.plan 0 outcome → IsDecisionAnswer t aim outcome
+  kept_is plan (Ok answer) is text = inl (record { plan = plan; is = is; text = text })
+  kept_is plan (Err (Instance fault)) is text = text
+  kept_is plan (Err Read) is text = text
+  kept_is plan (Err Write) is text = text
+  kept_is plan (Err InputTooLong) is text = text
+  kept_is plan (Err Log) is text = text
+  kept_is plan (Err LogInUse) is text = text
+  kept_is plan (Err (Plan fault)) is text = (text.0, record { plan = plan; is = inl is; unreadable = text.1 })
+  kept_is plan (Err Memory) is text = tt
 
   -- so is that of the best plan, behind its line
-  best_is : (verified : VerifiedPlan) (within : Within) (outcome : Result Answer CommandFault) → IsBest t aim verified within → IsHeadedAnswer (within_line within) verified.planned.plan 0 outcome
+  best_is : (plan : PlannedShop) (within : Within) (outcome : Result Answer CommandFault) → IsBest t aim plan within → IsHeadedAnswer (within_line within) plan.plan 0 outcome
       → IsDecisionAnswer t aim outcome
-  best_is verified within (Ok answer) is text = inr (inl (record { verified = verified; within = within; is = is; text = text }))
-  best_is verified within (Err (Instance fault)) is text = text
-  best_is verified within (Err Read) is text = text
-  best_is verified within (Err Write) is text = text
-  best_is verified within (Err InputTooLong) is text = text
-  best_is verified within (Err Log) is text = text
-  best_is verified within (Err LogInUse) is text = text
-  best_is verified within (Err (Plan fault)) is text = (text.0, record { verified = verified; is = inr (within, is); unreadable = text.1 })
-  best_is verified within (Err Memory) is text = tt
+  best_is plan within (Ok answer) is text = inr (inl (record { plan = plan; within = within; is = is; text = text }))
+  best_is plan within (Err (Instance fault)) is text = text
+  best_is plan within (Err Read) is text = text
+  best_is plan within (Err Write) is text = text
+  best_is plan within (Err InputTooLong) is text = text
+  best_is plan within (Err Log) is text = text
+  best_is plan within (Err LogInUse) is text = text
+  best_is plan within (Err (Plan fault)) is text = (text.0, record { plan = plan; is = inr (within, is); unreadable = text.1 })
+  best_is plan within (Err Memory) is text = tt
 
   -- what is answered of a decision
-  pub decided_is : (decided : Decided) (outcome : Result Answer CommandFault) → OnKept (IsKept t aim) decided → OnBest (IsBest t aim) decided
+  pub decided_is : {K : Type 0} (planned : K → PlannedShop) (decided : Decided K) (outcome : Result Answer CommandFault) → OnKept (λ k. IsKept t aim (planned k)) decided → OnBest (λ k within. IsBest t aim (planned k) within) decided
       → OnNever (λ excluded back. AreExclusions (asked_for t aim) excluded) decided → OnOpen (λ back. NoneIsAlone (asked_for t aim)) decided
-      → IsDecidedAnswer decided outcome → IsDecisionAnswer t aim outcome
-  decided_is (Kept verified) outcome kept best never left_open text = kept_is verified outcome kept text
-  decided_is (Best verified within) outcome kept best never left_open text = best_is verified within outcome best text
-  decided_is (Never excluded back) (Ok answer) kept best never left_open text =
+      → IsDecidedAnswer planned decided outcome → IsDecisionAnswer t aim outcome
+  decided_is planned (Kept plan) outcome kept best never left_open text = kept_is (planned plan) outcome kept text
+  decided_is planned (Best plan within) outcome kept best never left_open text = best_is (planned plan) within outcome best text
+  decided_is planned (Never excluded back) (Ok answer) kept best never left_open text =
       inr (inr (inl (record { excluded = excluded.items; are = never; lines = text.0; refused = text.1 })))
-  decided_is (Never excluded back) (Err fault) kept best never left_open text = rw text tt
-  decided_is (Open back) (Ok answer) kept best never left_open text = inr (inr (inr (inl (record { none_alone = left_open; line = text.0; refused = text.1 }))))
-  decided_is (Open back) (Err fault) kept best never left_open text = rw text tt
+  decided_is planned (Never excluded back) (Err fault) kept best never left_open text = rw text tt
+  decided_is planned (Open back) (Ok answer) kept best never left_open text = inr (inr (inr (inl (record { none_alone = left_open; line = text.0; refused = text.1 }))))
+  decided_is planned (Open back) (Err fault) kept best never left_open text = rw text tt
 
 -- that a job isn't of the shop is told of one that is asked for
-pub can_be_told : (t : PlanTask) (aim : Aim) (fault : DecideFault) → IsDecideFault t aim fault → CanBeTold aim fault
+pub can_be_told : (t : Case) (aim : Aim) (fault : DecideFault) → IsDecideFault t aim fault → CanBeTold aim fault
 can_be_told t Promises JobOutOfRange is = is tt
 can_be_told t (Least Makespan) JobOutOfRange is = is tt
 can_be_told t (Least (Leaving j)) JobOutOfRange is = tt
 can_be_told t aim WantOfMemory is = tt
+can_be_told t aim (LogFault fault) is = absurd is
+can_be_told t aim (EarlierMoment last) is = absurd is
+can_be_told t aim MomentTooLarge is = absurd is
 
-outside : (j n : ℕ) → (j < n → ⊥) → n ≤ j
+pub outside : (j n : ℕ) → (j < n → ⊥) → n ≤ j
 outside j n isnt = omega (arith, isnt)
 
 -- what is answered where nothing is decided
-pub undecided_is : (t : PlanTask) (aim : Aim) (fault : DecideFault) (outcome : Result Answer CommandFault) → IsDecideFault t aim fault → IsUndecidedAnswer aim fault outcome
+pub undecided_is : (t : Case) (aim : Aim) (fault : DecideFault) (outcome : Result Answer CommandFault) → IsDecideFault t aim fault → IsUndecidedAnswer aim fault outcome
     → IsDecisionAnswer t aim outcome
 undecided_is t Promises JobOutOfRange outcome is text = absurd (is tt)
 undecided_is t (Least Makespan) JobOutOfRange outcome is text = absurd (is tt)
@@ -77,3 +80,6 @@ undecided_is t (Least (Leaving j)) JobOutOfRange (Ok answer) is text =
     inr (inr (inr (inr (record { job = j; aims = refl; outside = outside j (job_count t) is; line = text.0; refused = text.1 }))))
 undecided_is t (Least (Leaving j)) JobOutOfRange (Err fault) is text = rw text tt
 undecided_is t aim WantOfMemory outcome is text = rw text tt
+undecided_is t aim (LogFault fault) outcome is text = absurd is
+undecided_is t aim (EarlierMoment last) outcome is text = absurd is
+undecided_is t aim MomentTooLarge outcome is text = absurd is

@@ -10,3 +10,4 @@ pub mod PictureAnswers
 pub mod CellPlans
 pub mod BoundTexts
 pub mod DecideLines
+pub mod DecideRestLines

@@ -21,6 +21,7 @@ use Rattle.command_answers.specs.Timetables.{IsTimetable}
 use Rattle.command_answers.specs.BoundLines.{AreBounds}
 use Rattle.command_answers.specs.Deciding.{IsDecideAnswer}
 use Rattle.command_answers.specs.Shapes.{IsShapeLine, IsNotShapedLine, IsShapedOrNot}
+use Rattle.command_answers.specs.DecidingRests.{IsRestDecisionAnswer, IsUnfitLine}
 use Rattle.command_answers.specs.Search.{IsSearchAnswer}
 use Rattle.command_answers.specs.Improving.{IsImproveAnswer, ordered}
 use Rattle.command_answers.specs.declared.logs.Telling.{Telling}
@@ -125,6 +126,15 @@ module _ {W : Type 0} (gives : W → List ℕ → Result (List ℕ) CommandFault
   -- `improve` of the rest of a run: both are read, then its log where the plan is well shaped, and what the search from this plan comes to is answered, or from the serial plan where it has no orders at all
   abbrev pub WithRest : RestAsked → Option ℕ → ℕ → List ℕ → PlannedShop → W → Result Answer CommandFault → W → Type 0
   WithRest made at rounds = WithLogOf (λ p log. IsRestAnswer made at rounds (ended_lines log) p)
+
+  -- `decide` of the rest of a run: both are read, and then its log
+  abbrev pub WithRestDecision : Aim → Option ℕ → List ℕ → PlannedShop → W → Result Answer CommandFault → W → Type 0
+  WithRestDecision aim at path p before outcome after =
+      (IsWellShaped p × Then (Asks gives path) (λ log. Told (IsRestDecisionAnswer at (ended_lines log) p aim)) before outcome after)
+      ⊎ Told (IsOrMemory (IsUnfitLine p)) before outcome after
+
+  abbrev pub RunsDecideRest : Aim → Option ℕ → PairOfFiles → List ℕ → W → Result Answer CommandFault → W → Type 0
+  RunsDecideRest aim at pair log = WithBoth pair (λ p. WithRestDecision aim at log (ordered p))
 
   abbrev pub RunsImproveRest : RestAsked → Option ℕ → ℕ → PairOfFiles → List ℕ → W → Result Answer CommandFault → W → Type 0
   RunsImproveRest made at rounds pair log = WithBoth pair (λ p. WithRest made at rounds log (ordered p))

@@ -4,18 +4,18 @@ use Rattle.shop_base.specs.Plan.{PlannedShop, IsWellShaped}
 use Rattle.plan_text.specs.declared.plan_fault.PlanFault.TheVariants.{NotReadBack}
 use Rattle.plan_text.specs.Lines.{plan_lines}
 use Rattle.plan_text.specs.Documents.{IsPlanText}
-use Rattle.plan_verifier.specs.Accepted.{VerifiedPlan}
-use Rattle.plan_seek.specs.Tasks.{PlanTask, task_in}
 use Rattle.plan_decide.specs.declared.aim.Aim.{Aim}
 use Rattle.plan_decide.specs.declared.aim.Aim.TheVariants.{Promises, Least}
 use Rattle.plan_decide.specs.declared.aim.Objective.TheVariants.{Makespan, Leaving}
 use Rattle.plan_decide.specs.declared.decide_fault.DecideFault.{DecideFault}
-use Rattle.plan_decide.specs.declared.decide_fault.DecideFault.TheVariants.{JobOutOfRange, Memory as WantOfMemory}
+use Rattle.plan_decide.specs.declared.decide_fault.DecideFault.TheVariants.{JobOutOfRange, Log, Past, MomentTooLarge, Memory as WantOfMemory}
 use Rattle.plan_decide.specs.declared.decided.Decided.{Decided}
 use Rattle.plan_decide.specs.declared.decided.Decided.TheVariants.{Kept, Best, Never, Open}
 use Rattle.plan_decide.specs.declared.decided.Within.{Within}
 use Rattle.plan_decide.specs.declared.excluded.Excluded.{Excluded}
-use Rattle.plan_decide.specs.Promises.{asked_for, job_count}
+use Rattle.plan_decide.specs.Cases.{Case, job_count}
+use Rattle.plan_decide.specs.Pasts.{whole_case, HoldsAfter}
+use Rattle.plan_decide.specs.Promises.{asked_for}
 use Rattle.plan_decide.specs.Excluding.{AreExclusions, NoneIsAlone}
 use Rattle.plan_decide.specs.Decisions.{IsKept, IsBest}
 use Rattle.command_answers.specs.declared.answer.Answer.{Answer}
@@ -24,37 +24,39 @@ use Rattle.command_answers.specs.declared.command_fault.CommandFault.TheVariants
 use Rattle.command_answers.specs.BoundLines.{IsBadNumbersLine}
 use Rattle.command_answers.specs.DecisionLines.{never_lines, within_line}
 use Rattle.command_answers.specs.Documents.{IsDocumentOf, IsDocumentAnswer, IsHeadedBy, IsHeadedAnswer}
+use Rattle.command_answers.specs.LogLines.{IsFaultTold, IsLogRefused}
+use Rattle.command_answers.specs.Rests.{IsPastLine}
 use Rattle.command_answers.specs.Serial.{serially}
 use Rattle.command_answers.specs.Steps.{IsOrMemory}
 
 -- the text of an accepted plan that keeps all budgets
-pub record IsKeptText (t : PlanTask) (aim : Aim) (answer : Answer) : Type 0 where
-  pub verified : VerifiedPlan
-  pub is : IsKept t aim verified
-  pub text : IsDocumentOf verified.planned.plan 0 answer
+pub record IsKeptText (t : Case) (aim : Aim) (answer : Answer) : Type 0 where
+  pub plan : PlannedShop
+  pub is : IsKept t aim plan
+  pub text : IsDocumentOf plan.plan 0 answer
 
 -- the line of an objective, and then the text of an accepted plan with that value; no plan has one below what the line says
-pub record IsBestText (t : PlanTask) (aim : Aim) (answer : Answer) : Type 0 where
-  pub verified : VerifiedPlan
+pub record IsBestText (t : Case) (aim : Aim) (answer : Answer) : Type 0 where
+  pub plan : PlannedShop
   pub within : Within
-  pub is : IsBest t aim verified within
-  pub text : IsHeadedBy (within_line within) verified.planned.plan 0 answer
+  pub is : IsBest t aim plan within
+  pub text : IsHeadedBy (within_line within) plan.plan 0 answer
 
 -- the lines of jobs that exclude each other
-pub record AreNeverLines (t : PlanTask) (aim : Aim) (answer : Answer) : Type 0 where
+pub record AreNeverLines (t : Case) (aim : Aim) (answer : Answer) : Type 0 where
   pub excluded : List Excluded
   pub are : AreExclusions (asked_for t aim) excluded
   pub lines : answer.text.items ≡ never_lines excluded
   pub refused : answer.status ≡ 1
 
 -- the line of what isn't decided
-pub record IsOpenLine (t : PlanTask) (aim : Aim) (answer : Answer) : Type 0 where
+pub record IsOpenLine (t : Case) (aim : Aim) (answer : Answer) : Type 0 where
   pub none_alone : NoneIsAlone (asked_for t aim)
   pub line : answer.text.items ≡ codes "open\n"
   pub refused : answer.status ≡ 1
 
 -- the line of a job that isn't of the shop
-pub record IsOutOfRangeLine (t : PlanTask) (aim : Aim) (answer : Answer) : Type 0 where
+pub record IsOutOfRangeLine (t : Case) (aim : Aim) (answer : Answer) : Type 0 where
   pub job : ℕ
   pub aims : aim ≡ Least (Leaving job)
   pub outside : job_count t ≤ job
@@ -64,22 +66,22 @@ pub record IsOutOfRangeLine (t : PlanTask) (aim : Aim) (answer : Answer) : Type 
 -- the fault of a command that the decision's is, if memory ran out
 abbrev pub decide_command_fault : DecideFault → Option CommandFault
 decide_command_fault WantOfMemory = Some Memory
-decide_command_fault JobOutOfRange = None
+decide_command_fault fault = None
 
 -- what is printed where the numbers are sound
-abbrev pub IsDecisionText : PlanTask → Aim → Answer → Type 0
+abbrev pub IsDecisionText : Case → Aim → Answer → Type 0
 IsDecisionText t aim answer =
     IsKeptText t aim answer
     ⊎ (IsBestText t aim answer ⊎ (AreNeverLines t aim answer ⊎ (IsOpenLine t aim answer ⊎ IsOutOfRangeLine t aim answer)))
 
 -- a plan that was found has a text that isn't read as this plan
-pub record IsFoundUnread (t : PlanTask) (aim : Aim) : Type 0 where
-  pub verified : VerifiedPlan
-  pub is : IsKept t aim verified ⊎ ((within : Within) × IsBest t aim verified within)
-  pub unreadable : IsPlanText (plan_lines verified.planned.plan) verified.planned.plan → ⊥
+pub record IsFoundUnread (t : Case) (aim : Aim) : Type 0 where
+  pub plan : PlannedShop
+  pub is : IsKept t aim plan ⊎ ((within : Within) × IsBest t aim plan within)
+  pub unreadable : IsPlanText (plan_lines plan.plan) plan.plan → ⊥
 
 -- what is answered where the numbers are sound: that, or that the plan that was found isn't read back, or out of memory
-abbrev pub IsDecisionAnswer : PlanTask → Aim → Result Answer CommandFault → Type 0
+abbrev pub IsDecisionAnswer : Case → Aim → Result Answer CommandFault → Type 0
 IsDecisionAnswer t aim (Ok answer) = IsDecisionText t aim answer
 IsDecisionAnswer t aim (Err Memory) = Unit {0}
 IsDecisionAnswer t aim (Err (Plan fault)) = (fault ≡ NotReadBack) × IsFoundUnread t aim
@@ -88,18 +90,18 @@ IsDecisionAnswer t aim (Err other) = ⊥
 -- what is answered, whatever the plan's orders: the decision where its numbers are sound, else their first fault
 abbrev pub IsDecideAnswer : PlannedShop → Aim → Result Answer CommandFault → Type 0
 IsDecideAnswer p aim outcome =
-    (IsWellShaped (serially p) × IsDecisionAnswer (task_in p) aim outcome) ⊎ IsOrMemory (IsBadNumbersLine p) outcome
+    (IsWellShaped (serially p) × IsDecisionAnswer (whole_case p) aim outcome) ⊎ IsOrMemory (IsBadNumbersLine p) outcome
 
 -- these lines, which refuse
 abbrev pub IsLineRefused : List ℕ → Answer → Type 0
 IsLineRefused text answer = (answer.text.items ≡ text) × (answer.status ≡ 1)
 
 -- what is answered of a decision: its lines, its plan's text, that this isn't read as that plan, or that memory ran out
-abbrev pub IsDecidedAnswer : Decided → Result Answer CommandFault → Type 0
-IsDecidedAnswer (Kept verified) = IsDocumentAnswer verified.planned.plan 0
-IsDecidedAnswer (Best verified within) = IsHeadedAnswer (within_line within) verified.planned.plan 0
-IsDecidedAnswer (Never excluded back) = IsOrMemory (IsLineRefused (never_lines excluded.items))
-IsDecidedAnswer (Open back) = IsOrMemory (IsLineRefused (codes "open\n"))
+abbrev pub IsDecidedAnswer : {K : Type 0} → (K → PlannedShop) → Decided K → Result Answer CommandFault → Type 0
+IsDecidedAnswer planned (Kept plan) = IsDocumentAnswer (planned plan).plan 0
+IsDecidedAnswer planned (Best plan within) = IsHeadedAnswer (within_line within) (planned plan).plan 0
+IsDecidedAnswer planned (Never excluded back) = IsOrMemory (IsLineRefused (never_lines excluded.items))
+IsDecidedAnswer planned (Open back) = IsOrMemory (IsLineRefused (codes "open\n"))
 
 -- a job's leaving is asked for
 abbrev pub AsksForJob : Aim → Type 0
@@ -110,7 +112,8 @@ AsksForJob (Least (Leaving j)) = Unit {0}
 -- that the job isn't of the shop is told only of one that is asked for
 abbrev pub CanBeTold : Aim → DecideFault → Type 0
 CanBeTold aim JobOutOfRange = AsksForJob aim
-CanBeTold aim WantOfMemory = Unit {0}
+CanBeTold aim MomentTooLarge = ⊥
+CanBeTold aim fault = Unit {0}
 
 -- `bad numbers JobOutOfRange job J`
 abbrev pub out_of_range_line : Aim → List ℕ
@@ -118,7 +121,10 @@ out_of_range_line Promises = []
 out_of_range_line (Least Makespan) = []
 out_of_range_line (Least (Leaving j)) = codes "bad numbers JobOutOfRange job " ++ decimal j ++ codes "\n"
 
--- what is answered where nothing is decided: the line of a job that isn't of the shop, or that memory ran out
+-- what is answered where nothing is decided: the line of a job that isn't of the shop, of the log's first fault, or of a moment that is past; or that memory ran out
 abbrev pub IsUndecidedAnswer : Aim → DecideFault → Result Answer CommandFault → Type 0
 IsUndecidedAnswer aim JobOutOfRange outcome = IsOrMemory (IsLineRefused (out_of_range_line aim)) outcome
+IsUndecidedAnswer aim (Log fault) outcome = IsFaultTold fault outcome
+IsUndecidedAnswer aim (Past last) outcome = IsOrMemory (IsPastLine last) outcome
+IsUndecidedAnswer aim MomentTooLarge outcome = Unit {0}
 IsUndecidedAnswer aim WantOfMemory outcome = outcome ≡ Err Memory

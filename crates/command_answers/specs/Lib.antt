@@ -22,6 +22,7 @@ pub mod LogLines
 pub mod Rests
 pub mod ImprovingRests
 pub mod Revising
+pub mod DecidingRests
 pub mod Commands
 pub mod Pictures
 pub mod Cells

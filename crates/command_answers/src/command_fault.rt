@@ -152,7 +152,7 @@ impl From<DecideFault> for Unanswered {
     fn from(told: DecideFault) -> Unanswered {
         match told {
             DecideFault::Memory => Unanswered(Some(CommandFault::Memory)),
-            DecideFault::JobOutOfRange => Unanswered(None),
+            _ => Unanswered(None),
         }
     }
 }

@@ -1,8 +1,8 @@
 //! The command `decide`.
 
-ghost use Rattle.std.specs.Prelude.{◌≡◌, IfOk};
-ghost use Rattle.plan_seek.specs.Tasks.{task_in};
-ghost use Rattle.command_answers.specs.Deciding.{AsksForJob, CanBeTold, IsDecideAnswer, IsDecidedAnswer, IsDecisionAnswer, IsLineRefused, IsUndecidedAnswer, out_of_range_line};
+ghost use Rattle.std.specs.Prelude.{◌≡◌, IfOk, None};
+ghost use Rattle.plan_decide.specs.Pasts.{whole_case};
+ghost use Rattle.command_answers.specs.Deciding.{AsksForJob, CanBeTold, IsDecideAnswer, IsDecidedAnswer, IsDecisionAnswer, IsLineRefused, IsUndecidedAnswer, decide_command_fault, out_of_range_line};
 ghost use Rattle.command_answers.specs.DecisionLines.{never_lines, within_line};
 ghost use Rattle.command_answers.specs.Documents.{IsHeadedAnswer};
 ghost use Rattle.command_answers.specs.Commands.{RunsDecide};
@@ -12,10 +12,12 @@ use crate::both::{Both, Pair, read_both, serially};
 use crate::command_fault::Unanswered;
 use crate::decision_lines::{push_never_lines, push_within_line};
 use crate::lines::{document_answer, fault_answer, headed_answer, line_answer, push_fact};
+use crate::logs::fault_told;
+use crate::rests::past_answer;
 use crate::texts::Texts;
 use arc_choice::Choose;
 use plan_decide::{Aim, DecideFault, Decided, Excluded, Objective, Watch, Within, decide};
-use shop_base::{Plan, Shaped};
+use shop_base::{Plan, Planned, Shaped};
 use std::alloc::{AllocError, Global};
 
 /// Whether any plan with the releases, budgets and cleaning times of the one in a file keeps all budgets, for the
@@ -64,7 +66,7 @@ fn shaped_decided<C: Choose, W: Watch>(
     chooser: &mut C,
     watch: &mut W,
 ) -> Answered
-    ensures { IsDecisionAnswer (task_in shaped) aim result }
+    ensures { IsDecisionAnswer (whole_case shaped) aim result }
 {
     match decide(alloc, shaped, aim, choices, chooser, watch) {
         Ok(decided) => decided_answer(alloc, &decided),
@@ -73,12 +75,12 @@ fn shaped_decided<C: Choose, W: Watch>(
 }
 
 /// The text of a decision.
-fn decided_answer(alloc: Global, decided: &Decided) -> Answered
-    ensures { IsDecidedAnswer decided.now result }
+pub(crate) fn decided_answer<K: Planned>(alloc: Global, decided: &Decided<K>) -> Answered
+    ensures { IsDecidedAnswer (λ plan. K.planned plan) decided.now result }
 {
     match decided {
-        Decided::Kept(verified) => document_answer(alloc, verified.shaped().plan(), GOOD),
-        Decided::Best(verified, within) => best_answer(alloc, verified.shaped().plan(), *within),
+        Decided::Kept(kept) => document_answer(alloc, kept.shaped().plan(), GOOD),
+        Decided::Best(best, within) => best_answer(alloc, best.shaped().plan(), *within),
         Decided::Never(excluded, _) => Ok(never_answer(alloc, excluded)?),
         Decided::Open(_) => Ok(line_answer(alloc, b"open\n", REFUSED)?),
     }
@@ -102,14 +104,30 @@ fn never_answer(alloc: Global, excluded: &[Excluded]) -> Result<Answer, AllocErr
     Ok(Answer { text, status })
 }
 
-/// Why nothing is decided: the line of a job that isn't of the shop, or that memory ran out.
-fn undecided_answer(alloc: Global, aim: Aim, fault: DecideFault) -> Answered
+/// Why nothing is decided: the line of a job that isn't of the shop, of the log's first fault or of a moment that is past, or
+/// that memory ran out.
+pub(crate) fn undecided_answer(alloc: Global, aim: Aim, fault: DecideFault) -> Answered
     requires { CanBeTold aim fault }
     ensures { IsUndecidedAnswer aim fault result }
 {
     match Unanswered::from(fault).0 {
         Some(fault) => Err(fault),
-        None => Ok(out_of_range_answer(alloc, aim)?),
+        None => refused_answer(alloc, aim, fault),
+    }
+}
+
+/// The line that says why nothing is decided.
+fn refused_answer(alloc: Global, aim: Aim, fault: DecideFault) -> Answered
+    requires told { CanBeTold aim fault }
+    requires memory { decide_command_fault fault ≡ None }
+    ensures { IsUndecidedAnswer aim fault result }
+{
+    match fault {
+        DecideFault::JobOutOfRange => Ok(out_of_range_answer(alloc, aim)?),
+        DecideFault::Log(fault) => fault_told(alloc, fault),
+        DecideFault::Past { last } => Ok(past_answer(alloc, last)?),
+        DecideFault::MomentTooLarge => unreachable!(),
+        DecideFault::Memory => unreachable!(),
     }
 }
 

@@ -9,12 +9,14 @@ use Rattle.plan_verifier.specs.declared.verdict.Why.TheVariants.{Cycle, Late}
 use Rattle.shop_base.specs.Cell.{Cell}
 use Rattle.cell_tables.specs.declared.entry.Entry.{Entry}
 use Rattle.run_picture.specs.declared.visit.DrawnVisit.{DrawnVisit}
-use Rattle.plan_seek.specs.Tasks.{PlanTask, task_in}
+use Rattle.plan_seek.specs.Tasks.{task_in}
 use Rattle.plan_seek.specs.Turns.{PlanSearch}
 use Rattle.plan_seek.specs.declared.seek_fault.SeekFault.{SeekFault}
 use Rattle.plan_seek.specs.declared.seek_fault.SeekFault.TheVariants.{BadNumbers, Exhausted, TooManyRounds, Memory as NoMemory}
 use Rattle.plan_improve.specs.Runs.{Asked}
 use Rattle.plan_decide.specs.declared.aim.Aim.{Aim}
+use Rattle.plan_decide.specs.Cases.{Case}
+use Rattle.plan_decide.specs.Pasts.{whole_case}
 use Rattle.shop_base.specs.declared.shape_fault.ShapeFault.{ShapeFault}
 use Rattle.shop_base.specs.Shop.{JobShop}
 use Rattle.shop_base.specs.Plan.{PlannedShop, ShopPlan}
@@ -51,6 +53,7 @@ use Rattle.command_answers.specs.Explains.{IsExplanation}
 use Rattle.command_answers.specs.Timetables.{IsTimetable}
 use Rattle.command_answers.specs.BoundLines.{AreBounds, IsBadNumbersLine}
 use Rattle.command_answers.specs.Deciding.{IsDecideAnswer, IsDecisionAnswer, IsDecisionText}
+use Rattle.command_answers.specs.DecidingRests.{IsUnfitLine, IsRestDecisionText, IsRestDecisionAnswer}
 use Rattle.command_answers.specs.Improving.{IsStatusOf, IsBestAnswer, IsImproveAnswer, ordered}
 use Rattle.command_answers.specs.Search.{IsSearchLine, IsSearchAnswer, IsNoPlanLine}
 use Rattle.command_answers.specs.declared.logs.Telling.{Telling}
@@ -62,7 +65,7 @@ use Rattle.command_answers.specs.Rests.{IsPastLine, IsRestLine}
 use Rattle.command_answers.specs.declared.pictures.Drawn.{Drawn}
 use Rattle.command_answers.specs.declared.pictures.Drawn.TheVariants.{Picture, Line as LineDrawn}
 use Rattle.command_answers.specs.Pictures.{IsCellDrawn, IsLogDrawn, IsPlanDrawn, IsRestDrawing, IsRestDrawn, IsUnshapedDrawn, IsVerdictDrawn, WithDrawnLog, DrawsLog, DrawsRest, DrawsSchedule}
-use Rattle.command_answers.specs.Commands.{PairOfFiles, WithBoth, WithLog, WithLogOf, WithRest}
+use Rattle.command_answers.specs.Commands.{PairOfFiles, WithBoth, WithLog, WithLogOf, WithRest, WithRestDecision}
 use Rattle.command_answers.specs.Cells.{IsCellLine, AfterPlan, LoadsEach}
 use Rattle.command_answers.proofs.RestAnswers.{low_rest}
 use Rattle.command_run.specs.Streams.{Streams, Output}
@@ -73,6 +76,7 @@ use Rattle.command_run.specs.Hubs.{DrivesAll, end_of_hub}
 use Rattle.command_run.specs.Planners.{search_by_two, SeeksPlan}
 use Rattle.text_lines.specs.Lines.{ended_lines}
 use Rattle.command_answers.specs.ImprovingRests.{RestAsked, IsRestAnswer}
+use Rattle.command_run.specs.Choosers.{Decides}
 use Rattle.command_run.specs.Improvers.{AsksOne, AsksOneForRest, ImprovesPlan, ImprovesRest, Improves}
 use Rattle.command_run.specs.Tellings.{RunsTelling}
 use Rattle.command_run.specs.Program.{RunsCommand, aim_in, file_at, log_in, manner_in, name_in, pair_in, plans_in}
@@ -163,20 +167,30 @@ low_bounds p answer (inl sound) = elim sound.1.status [
 ]
 low_bounds p answer (inr bad) = one_low answer.status bad.line.refused
 
-low_decision : (t : PlanTask) (aim : Aim) (answer : Answer) → IsDecisionText t aim answer → answer.status ≤ 1
+low_decision : (t : Case) (aim : Aim) (answer : Answer) → IsDecisionText t aim answer → answer.status ≤ 1
 low_decision t aim answer (inl kept) = zero_low answer.status kept.text.ends
 low_decision t aim answer (inr (inl best)) = zero_low answer.status best.text.ends
 low_decision t aim answer (inr (inr (inl never))) = one_low answer.status never.refused
 low_decision t aim answer (inr (inr (inr (inl left_open)))) = one_low answer.status left_open.refused
 low_decision t aim answer (inr (inr (inr (inr outside)))) = one_low answer.status outside.refused
 
-low_decided : (t : PlanTask) (aim : Aim) (outcome : Result Answer CommandFault) → IsDecisionAnswer t aim outcome → IsLow outcome
+low_decided : (t : Case) (aim : Aim) (outcome : Result Answer CommandFault) → IsDecisionAnswer t aim outcome → IsLow outcome
 low_decided t aim (Ok answer) is = low_decision t aim answer is
 low_decided t aim (Err fault) is = tt
 
 low_decides : (p : PlannedShop) (aim : Aim) (outcome : Result Answer CommandFault) → IsDecideAnswer p aim outcome → IsLow outcome
-low_decides p aim outcome (inl sound) = low_decided (task_in p) aim outcome sound.1
+low_decides p aim outcome (inl sound) = low_decided (whole_case p) aim outcome sound.1
 low_decides p aim outcome (inr bad) = low_or (IsBadNumbersLine p) outcome (λ answer line. one_low answer.status line.line.refused) bad
+
+low_rest_decision : (at : Option ℕ) (lines : List (List ℕ)) (start : PlannedShop) (aim : Aim) (answer : Answer) → IsRestDecisionText at lines start aim answer → answer.status ≤ 1
+low_rest_decision at lines start aim answer (inl held) = low_decision _ aim answer held.says
+low_rest_decision at lines start aim answer (inr (inl outside)) = one_low answer.status outside.refused
+low_rest_decision at lines start aim answer (inr (inr (inl refused))) = one_low answer.status refused.line.1
+low_rest_decision at lines start aim answer (inr (inr (inr past))) = one_low answer.status past.line.1
+
+low_rest_decided : (at : Option ℕ) (lines : List (List ℕ)) (start : PlannedShop) (aim : Aim) (outcome : Result Answer CommandFault) → IsRestDecisionAnswer at lines start aim outcome → IsLow outcome
+low_rest_decided at lines start aim (Ok answer) is = low_rest_decision at lines start aim answer is
+low_rest_decided at lines start aim (Err fault) is = tt
 
 low_status : (best : PlannedShop) (status : ℕ) → IsStatusOf best status → status ≤ 1
 low_status best status (inl accepted) = zero_low status accepted.1
@@ -477,6 +491,20 @@ module _ {W : Type 0} (gives : W → List ℕ → Result (List ℕ) CommandFault
       (λ p. low_revised (printed_for file) named.description.items at run.changes (values_asked asked) p) log (record { shop = named.shop; plan = plan }) later outcome after goes) on) run.runs
   low_revises file at asked pair log texts outcome after (inr wanting) = subst IsLow (sym wanting.0) tt
 
+  low_with_decision : (aim : Aim) (at : Option ℕ) (log : List ℕ) (p : PlannedShop) (mid : W) (outcome : Result Answer CommandFault) (after : W)
+      → WithRestDecision gives aim at log p mid outcome after → IsLow outcome
+  low_with_decision aim at log p mid outcome after (inl (shaped, is)) =
+      held IsLow _ (λ text. Told (IsRestDecisionAnswer at (ended_lines text) p aim)) mid outcome after low_failed
+      (λ text later on. low_rest_decided at (ended_lines text) p aim outcome on.0) is
+  low_with_decision aim at log p mid outcome after (inr told) = low_or (IsUnfitLine p) outcome (λ answer line. one_low answer.status line.line.refused) told.0
+
+  low_all_decided : (aim : Aim) (at : Option ℕ) (pair : PairOfFiles) (log : Option (List ℕ)) (texts : W) (outcome : Result Answer CommandFault) (after : W)
+      → Decides gives aim at pair log texts outcome after → IsLow outcome
+  low_all_decided aim at pair None texts outcome after run =
+      low_both pair (λ p. Told (IsDecideAnswer p aim)) texts outcome after (λ p mid on. low_decides p aim outcome on.0) run
+  low_all_decided aim at pair (Some log) texts outcome after run =
+      low_both pair (λ p. WithRestDecision gives aim at log (ordered p)) texts outcome after (λ p mid on. low_with_decision aim at log (ordered p) mid outcome after on) run
+
   low_resumes : (manner : Manner) (at : Option ℕ) (log : List ℕ) (shaped : Result (Result PlannedShop ShapeFault) CommandFault) (texts : W) (before : Streams) (outcome : Result Answer CommandFault) (texts_after : W) (after : Streams)
       → Resumes gives manner at log shaped texts before outcome texts_after after → IsLow outcome
   low_resumes manner at log (Err fault) texts before outcome texts_after after is = subst IsLow (sym is.0) tt
@@ -501,8 +529,7 @@ module _ {W : Type 0} (gives : W → List ℕ → Result (List ℕ) CommandFault
   low Bounds chosen texts before outcome texts_after after run =
       low_both (pair_in chosen) (λ p. Told (IsOrMemory (AreBounds p))) texts outcome texts_after (λ p mid on. low_or (AreBounds p) outcome (low_bounds p) on.0) run.0
   low Plan chosen texts before outcome texts_after after run = low_seeks chosen.rounds _ texts outcome texts_after run.0
-  low Decide chosen texts before outcome texts_after after run =
-      low_both (pair_in chosen) (λ p. Told (IsDecideAnswer p (aim_in chosen))) texts outcome texts_after (λ p mid on. low_decides p (aim_in chosen) outcome on.0) run.0
+  low Decide chosen texts before outcome texts_after after run = low_all_decided (aim_in chosen) chosen.at (pair_in chosen) (log_in chosen) texts outcome texts_after run.0
   low Improve chosen texts before outcome texts_after after run = low_bettered chosen.at chosen.rounds (pair_in chosen) (log_in chosen) texts outcome texts_after run.0
   low Revise chosen texts before outcome texts_after after run = low_revises chosen.file chosen.at chosen.changes.items (pair_in chosen) (file_at chosen 2) texts outcome texts_after run.0
   low Drive chosen texts before outcome texts_after after run = low_drives (manner_in chosen) run.loaded before after outcome run.drives

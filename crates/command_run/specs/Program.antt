@@ -23,7 +23,7 @@ use Rattle.command_answers.specs.declared.command_fault.CommandFault.TheVariants
 use Rattle.command_answers.specs.declared.loading.Loaded.{Loaded}
 use Rattle.command_answers.specs.declared.logs.Telling.TheVariants.{Numbers}
 use Rattle.command_answers.specs.declared.rests.PlanTelling.TheVariants.{Verdict, Reasons}
-use Rattle.command_answers.specs.Commands.{PairOfFiles, RunsFacts, RunsShape, RunsBounds, RunsDecide, RunsLog, Loads, Shapes}
+use Rattle.command_answers.specs.Commands.{PairOfFiles, RunsFacts, RunsShape, RunsBounds, RunsLog, Loads, Shapes}
 use Rattle.command_answers.specs.Cells.{LoadsCells}
 use Rattle.command_run.specs.Streams.{Streams, Devices}
 use Rattle.command_run.specs.Inputs.{RunsInput}
@@ -31,6 +31,7 @@ use Rattle.command_run.specs.Tellings.{RunsTelling}
 use Rattle.command_run.specs.Pictures.{RunsTimetable, RunsDrawing}
 use Rattle.command_run.specs.Planners.{SeeksPlan}
 use Rattle.command_run.specs.Improvers.{Improves}
+use Rattle.command_run.specs.Choosers.{Decides}
 use Rattle.command_run.specs.Drives.{Drives}
 use Rattle.command_run.specs.Resumes.{Resumes}
 use Rattle.command_run.specs.Revisions.{Revises}
@@ -161,7 +162,7 @@ module _ {W : Type 0} (gives : W → List ℕ → Result (List ℕ) CommandFault
   RunsCommand Improve chosen texts before outcome texts_after after =
       Improves gives chosen.at chosen.rounds (pair_in chosen) (log_in chosen) texts outcome texts_after × (after ≡ before)
   RunsCommand Decide chosen texts before outcome texts_after after =
-      RunsDecide gives (aim_in chosen) (pair_in chosen) texts outcome texts_after × (after ≡ before)
+      Decides gives (aim_in chosen) chosen.at (pair_in chosen) (log_in chosen) texts outcome texts_after × (after ≡ before)
   RunsCommand Revise chosen texts before outcome texts_after after =
       Revises gives chosen.file chosen.at chosen.changes.items (pair_in chosen) (file_at chosen 2) texts outcome texts_after × (after ≡ before)
   RunsCommand Drive chosen texts before outcome texts_after after =

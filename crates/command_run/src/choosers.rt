@@ -1,12 +1,15 @@
 //! The command `decide`.
 
-ghost use Rattle.command_answers.specs.Commands.{RunsDecide};
+ghost use Rattle.std.specs.Prelude.{◌≤◌, IfSome};
+ghost use Rattle.shop_base.specs.declared.limits.TheConstants.{MAX_MOMENT};
+ghost use Rattle.command_answers.specs.Commands.{RunsDecide, RunsDecideRest};
 
 use crate::choice_progress::ChoiceProgress;
 use crate::devices::Screen;
 use arc_choice::LeastSlack;
-use command_answers::{Answered, Pair, Texts, decide_answer};
+use command_answers::{Answered, Pair, Texts, decide_answer, decide_rest_answer};
 use plan_decide::Aim;
+use shop_base::Moment;
 use std::alloc::Global;
 
 /// The decision by searches that choose by the least slack. How many choices a search has made is shown on the screen,
@@ -27,6 +30,37 @@ pub(crate) fn decision_answer<T: Texts, S: Screen>(
         alloc,
         texts,
         pair,
+        aim,
+        choices,
+        &mut chooser,
+        &mut progress,
+    );
+    progress.screen.show(b"");
+    answer
+}
+
+/// The same of the rest of the run in a log, from a moment on or else from its last one.
+pub(crate) fn rest_decision_answer<T: Texts, S: Screen>(
+    alloc: Global,
+    texts: &mut T,
+    pair: &Pair<'_>,
+    log: &str,
+    at: Option<Moment>,
+    aim: Aim,
+    choices: u32,
+    screen: &mut S,
+) -> Answered
+    requires { IfSome at (λ present. present ≤ MAX_MOMENT) }
+    ensures { RunsDecideRest T.gives aim at pair.now log.now texts.old result texts.new }
+{
+    let (mut chooser, choices) = (LeastSlack::new(alloc), u64::from(choices));
+    let mut progress = ChoiceProgress { screen };
+    let answer = decide_rest_answer(
+        alloc,
+        texts,
+        pair,
+        log,
+        at,
         aim,
         choices,
         &mut chooser,

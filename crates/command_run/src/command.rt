@@ -5,11 +5,12 @@ ghost use Rattle.std.specs.Option.{option_copied};
 ghost use Rattle.std.specs.String.{string_bytes};
 ghost use Rattle.shop_base.specs.declared.limits.TheConstants.{MAX_MOMENT};
 ghost use Rattle.command_words.specs.Choice.{IsWithin};
+ghost use Rattle.command_run.specs.Choosers.{Decides};
 ghost use Rattle.command_run.specs.Improvers.{Improves};
 ghost use Rattle.command_run.specs.Tellings.{RunsTelling};
 ghost use Rattle.command_run.specs.Program.{RunsCommand, aim_in, file_at, is_second, kept_log_in, log_in, manner_in, name_in, overall_aim, pair_in};
 
-use crate::choosers::decision_answer;
+use crate::choosers::{decision_answer, rest_decision_answer};
 use crate::devices::{Screen, Streams};
 use crate::drives::drive_answer;
 use crate::hubs::hub_answer;
@@ -139,6 +140,26 @@ fn bettered<T: Texts, S: Screen>(
     }
 }
 
+/// The decision whether any plan, or any for the rest of a run, keeps the promises.
+fn decided<T: Texts, S: Screen>(
+    alloc: Global,
+    chosen: &Chosen,
+    texts: &mut T,
+    screen: &mut S,
+) -> Answered
+    requires files { 1 < length chosen.now.files.items }
+    requires at { IfSome chosen.now.at (λ present. present ≤ MAX_MOMENT) }
+    ensures { Decides T.gives (aim_in chosen.now) chosen.now.at (pair_in chosen.now) (log_in chosen.now) texts.old result texts.new }
+{
+    let (pair, aim, choices) = (pair(chosen), aim(chosen), chosen.choices);
+    match rest_log(chosen) {
+        Some(log) => {
+            rest_decision_answer(alloc, texts, &pair, log, chosen.at, aim, choices, screen)
+        }
+        None => decision_answer(alloc, texts, &pair, aim, choices, screen),
+    }
+}
+
 /// What is to be decided besides the budgets.
 fn aim(chosen: &Chosen) -> Aim
     ensures { result ≡ aim_in chosen.now }
@@ -195,10 +216,7 @@ pub(crate) fn command<T: Texts, R: Source, W: Outlet, S: Screen>(
         CommandName::Bounds => bounds_answer(alloc, texts, &pair(chosen)),
         CommandName::Plan => seek_answer(alloc, texts, &pair(chosen), chosen.rounds),
         CommandName::Improve => bettered(alloc, chosen, texts, screen),
-        CommandName::Decide => {
-            let (aim, choices) = (aim(chosen), chosen.choices);
-            decision_answer(alloc, texts, &pair(chosen), aim, choices, screen)
-        }
+        CommandName::Decide => decided(alloc, chosen, texts, screen),
         CommandName::Revise => {
             let (pair, log) = (pair(chosen), file(chosen, 2));
             let changes = chosen.changes.as_slice();

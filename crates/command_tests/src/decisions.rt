@@ -7,6 +7,7 @@ use super::texts::{IN_TIME, TWO};
 use arc_choice::LeastSlack;
 use command_answers::decide_answer;
 use plan_decide::{Aim, Decided, Objective, Undecided, Watch, Within, decide};
+use plan_verifier::Verified;
 use shop_base::Shaped;
 use std::alloc::Global;
 
@@ -19,7 +20,11 @@ impl Watch for Nobody {
 }
 
 /// What is decided of a plan, within ten choices a search.
-pub(super) fn decided(alloc: Global, shaped: Shaped, aim: Aim) -> Result<Decided, Undecided> {
+pub(super) fn decided(
+    alloc: Global,
+    shaped: Shaped,
+    aim: Aim,
+) -> Result<Decided<Verified>, Undecided> {
     decide(
         alloc,
         shaped,

@@ -389,7 +389,7 @@ fn decided_at_last(
     rt: &(impl Abort + AllocGlobal + Eprint),
     plan: &[u8],
     aim: Aim,
-) -> Result<Result<Decided, Undecided>, Fail> {
+) -> Result<Result<Decided<Verified>, Undecided>, Fail> {
     let shaped = shaped(rt.alloc(), plan)?;
     asks(rt);
     let answer = decided(rt.alloc(), shaped, aim);
@@ -405,7 +405,7 @@ fn decided_at_last(
 }
 
 /// What is said of the promises.
-fn decision(decided: &Result<Decided, Undecided>) -> &'static str {
+fn decision(decided: &Result<Decided<Verified>, Undecided>) -> &'static str {
     match decided {
         Ok(Decided::Kept(_)) => "kept",
         Ok(Decided::Best(_, within)) if within.at_least == 10 && within.at_most == 10 => "best",

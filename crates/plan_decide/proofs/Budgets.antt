@@ -1,16 +1,32 @@
--- A plan with other budgets: its graph is the same.
-use Rattle.std.proofs.Common.{◌≡◌, ℕ, ◌+◌, ◌<◌, ◌≤◌, List, [], ◌∷◌, length, slice_index, set, arith, ap, ap₂, sym, subst, ◌∙◌, inl, inr}
-use Rattle.std.proofs.lemmas.Bool.{cases_eq}
-use Rattle.std.proofs.lemmas.List.{get_or-set_same, get_or-set_other, length-set, set-set, set-get_or}
+-- A plan with other budgets: its graph is the same, and so are its runs.
+use Rattle.std.proofs.Common.{◌≡◌, ℕ, ◌+◌, ◌<◌, ◌≤◌, ◌⊎◌, List, [], ◌∷◌, length, slice_index, zero, suc, arith, refl, sym, ap, subst, ◌∙◌, inl, inr}
 use Rattle.shop_base.specs.declared.node.Node.{Node}
 use Rattle.shop_base.specs.declared.limits.TheConstants.{MAX_MOMENT}
-use Rattle.shop_base.specs.Shop.{JobShop}
-use Rattle.shop_base.specs.Plan.{ShopPlan, PlannedShop, jobs, budget, Visits, Stands, IsOrder, IsWellShaped}
-use Rattle.shop_base.specs.Graph.{leaving, Arc, job_arc, blocking_arc, ArcsLead, Path, begins, follows, IsSimpleCycle}
-use Rattle.plan_verifier.specs.Accepted.{HasNoCycle, IsGreatest}
-use Rattle.plan_limits.specs.Limits.{IsOutBy}
-use Rattle.plan_seek.specs.Tasks.{task_in, with_order, IsAccepted}
-use Rattle.plan_decide.specs.Promises.{with_budgets, with_budget}
+use Rattle.shop_base.specs.declared.move_order.Spot.{Spot}
+use Rattle.shop_base.specs.declared.move_order.Spot.TheVariants.{Out, At}
+use Rattle.shop_base.specs.declared.move_order.MoveOrder.{MoveOrder}
+use Rattle.shop_base.specs.declared.report.Report.TheVariants.{Arrive, Finish, Clean}
+use Rattle.shop_base.specs.Plan.{PlannedShop, jobs, Visits, Stands, IsOrder, IsWellShaped}
+use Rattle.shop_base.specs.Cell.{Cell, made, start, IsOn, IsGone}
+use Rattle.shop_base.specs.Activity.{Activity, Arrival, Operation, Cleaning, GoesOn}
+use Rattle.shop_base.specs.Report.{ended}
+use Rattle.shop_base.specs.Move.{CanLeave, CanEnter, CanMove, CanObey, KeepsPlan, source, target, spot_after, after_leaving, with_entry, with_moved}
+use Rattle.shop_base.specs.Run.{Event, Reported, Moved, CanHappen, AreEvents, IsRun, after, after_all, ends_in}
+use Rattle.shop_base.specs.Graph.{leaving, Arc, job_arc, blocking_arc, ArcsLead, Path, begins, follows, IsSimpleCycle, IsNode}
+use Rattle.shop_base.specs.Ahead.{HoldsUp, PathAhead, now, held, onward}
+use Rattle.cell_tables.specs.Events.{events_of}
+use Rattle.cell_tables.specs.Moving.{IsSpotOf}
+use Rattle.cell_tables.specs.declared.entry.Entry.{Entry}
+use Rattle.cell_tables.specs.declared.entry.Entry.TheVariants.{Report as ReportEntry, Order as OrderEntry}
+use Rattle.event_lines.specs.LogLines.{IsEntryOf, LineTells, LinesTell}
+use Rattle.run_log.specs.Audits.{TellRun}
+use Rattle.alt_graph.specs.Solved.{HasCycle}
+use Rattle.plan_verifier.specs.Accepted.{HasNoCycle, IsGreatest, IsMakespan}
+use Rattle.plan_verifier.specs.Rest.{IsGreatestAhead}
+use Rattle.plan_improve.specs.RestCosts.{IsCellOf}
+use Rattle.plan_decide.specs.declared.aim.Objective.{Objective}
+use Rattle.plan_decide.specs.declared.aim.Objective.TheVariants.{Makespan, Leaving}
+use Rattle.plan_decide.specs.Cases.{Past, nothing, run_to, KeepsPast, IsOutWithin, IsGood, HasValue, IsAccepted, IsMakespanAhead, IsLeavingAhead}
 
 -- the plan with these budgets
 abbrev pub rebudgeted : PlannedShop → List ℕ → PlannedShop
@@ -76,47 +92,120 @@ module _ (p : PlannedShop) (budgets : List ℕ) where
   cycle_as_before [] cycle = cycle
   cycle_as_before (u ∷ us) (distinct, leads) = (distinct, leads_as_before u us u leads)
 
-  -- it is accepted where no path is longer than they allow
-  pub accepted_again : IsWellShaped p → length budgets ≡ jobs p → ((j : ℕ) → j < jobs p → slice_index budgets j ≤ MAX_MOMENT)
-      → HasNoCycle p → ((j : ℕ) → j < jobs p → IsOutBy p j (slice_index budgets j)) → IsAccepted (rebudgeted p budgets)
-  accepted_again shaped count few acyclic out = record {
-    shaped = shaped_again shaped count few;
-    acceptable = record {
-      acyclic = λ nodes cycle. acyclic nodes (cycle_as_before nodes cycle);
-      budgets = λ j inside nodes n path. out j inside nodes n (path_as_before nodes (leaving p j) n path);
-    };
+  -- it has no cycle either
+  pub acyclic_again : HasNoCycle p → HasNoCycle (rebudgeted p budgets)
+  acyclic_again acyclic nodes cycle = acyclic nodes (cycle_as_before nodes cycle)
+
+  -- ---- what happens hangs on no budget
+
+  on_again : (c : Cell) (j k m : ℕ) → IsOn p c j k m → IsOn (rebudgeted p budgets) c j k m
+  on_again c j k m is = record { entered = is.entered; visits = visits_again j k m is.visits }
+
+  on_as_before : (c : Cell) (j k m : ℕ) → IsOn (rebudgeted p budgets) c j k m → IsOn p c j k m
+  on_as_before c j k m is = record { entered = is.entered; visits = visits_as_before j k m is.visits }
+
+  goes_again : (c : Cell) (a : Activity) (due : ℕ) → GoesOn p c a due → GoesOn (rebudgeted p budgets) c a due
+  goes_again c (Arrival j) due is = record { outside = is.outside; not_ready = is.not_ready; is_due = is.is_due }
+  goes_again c (Operation j m) due (k, is) = (k, record { on = on_again c j k m is.on; not_ready = is.not_ready; is_due = is.is_due })
+  goes_again c (Cleaning m) due (from, is) = (from, record { is_cleaned = is.is_cleaned; is_due = is.is_due })
+
+  holds_again : (c : Cell) (a : Activity) (v : Node) → HoldsUp p c a v → HoldsUp (rebudgeted p budgets) c a v
+  holds_again c (Arrival j) v is = is
+  holds_again c (Operation j m) v is = is
+  holds_again c (Cleaning m) v is = stands_again m _ v.job v.place is
+
+  -- so the paths ahead are the same
+  pub ahead_again : (c : Cell) (t : ℕ) (nodes : List Node) (v : Node) (n : ℕ) → PathAhead p c t nodes v n → PathAhead (rebudgeted p budgets) c t nodes v n
+  ahead_again c t _ _ _ (now v is ahead) = now v (record { job = is.job; place = is.place }) ahead
+  ahead_again c t _ _ _ (held a due v going holds) = held a due v (goes_again c a due going) (holds_again c a v holds)
+  ahead_again c t _ _ _ (onward nodes u v n d path arc) = onward nodes u v n d (ahead_again c t nodes u n path) (arc_again u v d arc)
+
+  way_again : (c : Cell) (j : ℕ) → CanLeave p c j ⊎ ((m : ℕ) × CanEnter p c j m) → CanLeave (rebudgeted p budgets) c j ⊎ ((m : ℕ) × CanEnter (rebudgeted p budgets) c j m)
+  way_again c j (inl leaves) = inl leaves
+  way_again c j (inr (m, can)) = inr (m, record { next = visits_again j (made c j) m can.next; free = λ i k on. can.free i k (on_as_before c i k m on); is_clean = can.is_clean })
+
+  source_again : (j n : ℕ) → spot_after (rebudgeted p budgets) j n ≡ spot_after p j n
+  source_again j zero = refl
+  source_again j (suc k) = refl
+
+  left_again : (c : Cell) (s : Spot) (t : ℕ) → after_leaving (rebudgeted p budgets) c s t ≡ after_leaving p c s t
+  left_again c Out t = refl
+  left_again c (At m) t = refl
+
+  after_again : (c : Cell) (e : Event) → after (rebudgeted p budgets) c e ≡ after p c e
+  after_again c (Reported r) = refl
+  after_again c (Moved o) = ap (λ (x : Cell). with_moved (with_entry x o.job (target p c o.job)) o.job o.at)
+      (ap (λ (s : Spot). after_leaving (rebudgeted p budgets) c s o.at) (source_again o.job (made c o.job)) ∙ left_again c (source p c o.job) o.at)
+
+  happens_again : (c : Cell) (e : Event) → CanHappen p c e → CanHappen (rebudgeted p budgets) c e
+  happens_again c (Reported r) can = record { going = (can.going.0, goes_again c (ended r) can.going.0 can.going.1); moment = can.moment }
+  happens_again c (Moved o) (can, keeps) = (
+    record {
+      can = record { is_ready = can.can.is_ready; way = way_again c o.job can.can.way; moment = can.can.moment };
+      is_move = can.is_move ∙ ap (λ (s : Spot). let x : MoveOrder = record { job = o.job; source = s; target = target p c o.job; at = o.at } in x) (sym (source_again o.job (made c o.job)));
+    },
+    λ m visits. keeps m (visits_as_before o.job (made c o.job) m visits),
+  )
+
+  events_again : (c : Cell) (es : List Event) → AreEvents p c es → AreEvents (rebudgeted p budgets) c es
+  events_again c [] events = tt
+  events_again c (e ∷ es) (first, rest) = (happens_again c e first, subst (λ (x : Cell). AreEvents (rebudgeted p budgets) x es) (sym (after_again c e)) (events_again (after p c e) es rest))
+
+  all_again : (c : Cell) (es : List Event) → after_all (rebudgeted p budgets) c es ≡ after_all p c es
+  all_again c [] = refl
+  all_again c (e ∷ es) = ap (λ (x : Cell). after_all (rebudgeted p budgets) x es) (after_again c e) ∙ all_again (after p c e) es
+
+  spot_again : (s : Spot) → IsSpotOf p s → IsSpotOf (rebudgeted p budgets) s
+  spot_again Out is = tt
+  spot_again (At m) is = is
+
+  entry_again : (e : Entry) → IsEntryOf p e → IsEntryOf (rebudgeted p budgets) e
+  entry_again (ReportEntry (Arrive j at)) is = is
+  entry_again (ReportEntry (Finish j m at)) is = is
+  entry_again (ReportEntry (Clean m at)) is = is
+  entry_again (OrderEntry o) is = (is.0, spot_again o.source is.1, spot_again o.target is.2, is.3)
+
+  line_again : (line : List ℕ) (es : List Entry) → LineTells p line es → LineTells (rebudgeted p budgets) line es
+  line_again line [] is = is
+  line_again line (e ∷ []) is = (is.0, is.1, entry_again e is.2)
+  line_again line (e ∷ f ∷ es) is = is
+
+  lines_again : (lines : List (List ℕ)) (es : List Entry) → LinesTell p lines es → LinesTell (rebudgeted p budgets) lines es
+  lines_again [] es is = is
+  lines_again (line ∷ lines) es is = (is.0, is.1, line_again line is.0 is.2, lines_again lines is.1 is.3, is.4)
+
+  -- so lines tell a run of it too, and lead to the same cell
+  pub told_again : (lines : List (List ℕ)) → TellRun p lines → TellRun (rebudgeted p budgets) lines
+  told_again lines (told, tells, run) = (told, lines_again lines told tells, events_again (start p) (events_of told) run)
+
+  pub cell_again : (lines : List (List ℕ)) (c : Cell) → IsCellOf lines p c → IsCellOf lines (rebudgeted p budgets) c
+  cell_again lines c is = record {
+    told = is.told;
+    tells = lines_again lines is.told is.tells;
+    run = record { run = events_again (start p) (events_of is.told) is.run.run; cell = is.run.cell ∙ sym (all_again (start p) (events_of is.told)) };
   }
 
--- a plan with another budget of a job is well shaped
-pub shaped_with : (p : PlannedShop) (j n : ℕ) → IsWellShaped p → j < jobs p → n ≤ MAX_MOMENT → IsWellShaped (rebudgeted p (set p.plan.budget j n))
-shaped_with p j n shaped inside few = shaped_again p (set p.plan.budget j n) shaped (length-set p.plan.budget j n ∙ shaped.counts.budgets) within
-  where
-    within : (i : ℕ) → i < jobs p → slice_index (set p.plan.budget j n) i ≤ MAX_MOMENT
-    within i there = elim (cases_eq i j) [
-      | inl same ↦ (let at : slice_index (set p.plan.budget j n) i ≡ n = ap (slice_index (set p.plan.budget j n)) same ∙ get_or-set_same p.plan.budget j n 0 (omega (arith, inside, shaped.counts.budgets)) in omega (arith, at, few))
-      | inr apart ↦ (let at : slice_index (set p.plan.budget j n) i ≡ slice_index p.plan.budget i = get_or-set_other p.plan.budget j i n 0 apart in
-          let most : slice_index p.plan.budget i ≤ MAX_MOMENT = shaped.limits.budgets i there in omega (arith, at, most))
-    ]
+-- ---- what is said of a plan, and of one with other budgets
 
--- the same from its parts
-pub parts_shaped : (p : PlannedShop) (shop : JobShop) (parts plan : ShopPlan) (j n : ℕ) → shop ≡ p.shop → parts ≡ p.plan → plan.release ≡ parts.release → plan.budget ≡ set parts.budget j n → plan.order ≡ parts.order
-    → plan.clean ≡ parts.clean → IsWellShaped p → j < jobs p → n ≤ MAX_MOMENT → IsWellShaped (record { shop = shop; plan = plan })
-parts_shaped p shop parts plan j n shop_is parts_are release budget order clean shaped inside few =
-    let is : rebudgeted p (set p.plan.budget j n) ≡ record { shop = shop; plan = plan } = sym λ k. record {
-      shop = shop_is k;
-      plan = record {
-        release = (release ∙ ap (λ (s : ShopPlan). s.release) parts_are) k;
-        budget = (budget ∙ ap (λ (s : ShopPlan). set s.budget j n) parts_are) k;
-        order = (order ∙ ap (λ (s : ShopPlan). s.order) parts_are) k;
-        clean = (clean ∙ ap (λ (s : ShopPlan). s.clean) parts_are) k;
-      };
-    } in
-    subst IsWellShaped is (shaped_with p j n shaped inside few)
+pub keeps_again : (past : Past) (p : PlannedShop) (budgets : List ℕ) → KeepsPast past p → KeepsPast past (rebudgeted p budgets)
+keeps_again nothing p budgets keeps = tt
+keeps_again (run_to lines c present) p budgets keeps = told_again p budgets lines keeps
 
--- and a plan whose budget of a job is set back is as it was
-pub restored : (p q r : PlannedShop) (j n : ℕ) → task_in q ≡ with_budget (task_in p) j n → q.plan.order ≡ p.plan.order
-    → task_in r ≡ with_budget (task_in q) j (budget p j) → r.plan.order ≡ q.plan.order → r ≡ p
-restored p q r j n loose same back again =
-    let own : set (set p.plan.budget j n) j (budget p j) ≡ p.plan.budget = set-set p.plan.budget j n (budget p j) ∙ set-get_or p.plan.budget j 0 in
-    let task : task_in r ≡ task_in p = back ∙ ap (λ t. with_budget t j (budget p j)) loose ∙ ap (with_budgets (task_in p)) own in
-    ap₂ with_order task (again ∙ same)
+pub out_again : (past : Past) (p : PlannedShop) (budgets : List ℕ) (j n : ℕ) → IsOutWithin past p j n → IsOutWithin past (rebudgeted p budgets) j n
+out_again nothing p budgets j n is = λ nodes k path. is nodes k (path_as_before p budgets nodes (leaving p j) k path)
+out_again (run_to lines c present) p budgets j n is = λ nodes k path. is nodes k (ahead_again (rebudgeted p budgets) p.plan.budget c present nodes (leaving p j) k path)
+
+greatest_ahead_again : (p : PlannedShop) (budgets : List ℕ) (c : Cell) (t : ℕ) (v : Node) (n : ℕ) → IsGreatestAhead p c t v n → IsGreatestAhead (rebudgeted p budgets) c t v n
+greatest_ahead_again p budgets c t v n is = record {
+  reached = (is.reached.0, ahead_again p budgets c t is.reached.0 v n is.reached.1);
+  longest = λ nodes k path. is.longest nodes k (ahead_again (rebudgeted p budgets) p.plan.budget c t nodes v k path);
+}
+
+pub leaving_value_again : (past : Past) (p : PlannedShop) (budgets : List ℕ) (j n : ℕ) → HasValue past (Leaving j) p n → HasValue past (Leaving j) (rebudgeted p budgets) n
+leaving_value_again nothing p budgets j n is = greatest_again p budgets (leaving p j) n is
+leaving_value_again (run_to lines c present) p budgets j n is = record { left = is.left; ahead = λ here. greatest_ahead_again p budgets c present (leaving p j) n (is.ahead here) }
+
+-- what is out by a moment is out by a later one
+pub out_later : (past : Past) (p : PlannedShop) (j m n : ℕ) → m ≤ n → IsOutWithin past p j m → IsOutWithin past p j n
+out_later nothing p j m n le is = λ nodes k path. omega (arith, le, is nodes k path)
+out_later (run_to lines c present) p j m n le is = λ nodes k path. omega (arith, le, is nodes k path)

@@ -1,34 +1,79 @@
 -- What is decided by what is found.
-use Rattle.std.proofs.Common.{◌≡◌, sym, subst, refl}
-use Rattle.std.proofs.lemmas.List.{set-set}
+use Rattle.std.proofs.Common.{◌≡◌, ℕ, ◌<◌, ◌≤◌, List, Option, sym, subst, refl, arith}
+use Rattle.std.proofs.lemmas.List.{set-set, get_or-set_same}
 use Rattle.shop_base.specs.declared.limits.TheConstants.{MAX_MOMENT}
-use Rattle.plan_verifier.specs.Accepted.{VerifiedPlan}
-use Rattle.plan_seek.specs.Tasks.{PlanTask}
+use Rattle.shop_base.specs.Plan.{PlannedShop, IsWellShaped}
 use Rattle.plan_decide.specs.declared.aim.Aim.{Aim}
 use Rattle.plan_decide.specs.declared.aim.Aim.TheVariants.{Promises, Least}
 use Rattle.plan_decide.specs.declared.aim.Objective.{Objective}
 use Rattle.plan_decide.specs.declared.aim.Objective.TheVariants.{Makespan, Leaving}
+use Rattle.plan_decide.specs.declared.decided.Decided.{Decided}
+use Rattle.plan_decide.specs.declared.decided.Decided.TheVariants.{Kept as IsKeptOne, Best as IsBestOne, Never as IsNever, Open as IsOpen}
 use Rattle.plan_decide.specs.declared.decided.Within.{Within}
-use Rattle.plan_decide.specs.Promises.{asked_for, with_budgets}
-use Rattle.plan_decide.specs.Decisions.{IsAcceptedWith, IsKept, IsBest}
+use Rattle.plan_decide.specs.declared.kept.Kept.{Kept}
+use Rattle.plan_decide.specs.Cases.{Past, Case, with_budgets}
+use Rattle.plan_decide.specs.Pasts.{case_of, whole_case, IsPastOf, HoldsAfter}
+use Rattle.plan_decide.specs.Promises.{asked_for, IsInRange}
+use Rattle.plan_decide.specs.Decisions.{OnKept, OnBest, OnNever, OnOpen, IsAcceptedWith, IsKept, IsBest}
+use Rattle.plan_decide.specs.Excluding.{AreExclusions, NoneIsAlone}
+use Rattle.plan_decide.specs.Settings.{plan_of, free_in, freed}
 use Rattle.plan_decide.specs.Halves.{IsHalved}
-use Rattle.plan_decide.specs.Found.{IsBestFound}
+use Rattle.plan_decide.specs.Found.{IsReady, IsBestFound}
 
-pub found_kept : (t : PlanTask) (aim : Aim) (verified : VerifiedPlan) → (aim ≡ Promises) × IsAcceptedWith (asked_for t aim) verified.planned → IsKept t aim verified
-found_kept t aim verified (asked, plan) = record { asked = asked; plan = subst (λ a. IsAcceptedWith (asked_for t a) verified.planned) asked plan }
+pub found_kept : (t : Case) (aim : Aim) (p : PlannedShop) → aim ≡ Promises → IsAcceptedWith (asked_for t aim) p → IsKept t aim p
+found_kept t aim p asked plan = record { asked = asked; plan = subst (λ a. IsAcceptedWith (asked_for t a) p) asked plan }
 
-halved_best : (t : PlanTask) (objective : Objective) (verified : VerifiedPlan) (within : Within) → IsHalved (asked_for t (Least objective)) objective (verified, within) → IsBest t (Least objective) verified within
-halved_best t Makespan verified within is = record { objective = Makespan; asked = refl; plan = is.plan; value = is.value; least = is.least; apart = is.apart; exact = is.exact }
-halved_best t (Leaving j) verified within is = record {
+halved_best : (t : Case) (objective : Objective) (kept : Kept) (within : Within) → IsHalved (asked_for t (Least objective)) objective (kept, within) → IsBest t (Least objective) (plan_of kept) within
+halved_best t Makespan kept within is = record { objective = Makespan; asked = refl; plan = is.plan; value = is.value; least = is.least; apart = is.apart; exact = is.exact }
+halved_best t (Leaving j) kept within is = record {
   objective = Leaving j;
   asked = refl;
-  plan = subst (λ budgets. IsAcceptedWith (with_budgets t budgets) verified.planned) (set-set t.budget j MAX_MOMENT within.at_most) is.plan;
+  plan = subst (λ budgets. IsAcceptedWith (with_budgets t budgets) (plan_of kept)) (set-set t.task.budget j MAX_MOMENT within.at_most) is.plan;
   value = is.value;
   least = is.least;
   apart = is.apart;
   exact = is.exact;
 }
 
-pub found_best : (t : PlanTask) (aim : Aim) (verified : VerifiedPlan) (within : Within) → IsBestFound (asked_for t aim) aim (verified, within) → IsBest t aim verified within
-found_best t aim verified within is = subst (λ a. IsBest t a verified within) (sym is.asked)
-    (halved_best t is.objective verified within (subst (λ a. IsHalved (asked_for t a) is.objective (verified, within)) is.asked is.halved))
+pub found_best : (t : Case) (aim : Aim) (kept : Kept) (within : Within) → IsBestFound (asked_for t aim) aim (kept, within) → IsBest t aim (plan_of kept) within
+found_best t aim kept within is = subst (λ a. IsBest t a (plan_of kept) within) (sym is.asked)
+    (halved_best t is.objective kept within (subst (λ a. IsHalved (asked_for t a) is.objective (kept, within)) is.asked is.halved))
+
+-- the case that is asked for is that of the budgets that are
+pub asked_case : (p : PlannedShop) (past : Past) (aim : Aim) → with_budgets (case_of p past) (freed (free_in aim) p.plan.budget) ≡ asked_for (case_of p past) aim
+asked_case p past Promises = refl
+asked_case p past (Least Makespan) = refl
+asked_case p past (Least (Leaving j)) = refl
+
+-- and the job whose leaving is asked for has no promise in it
+pub asked_ready : (p : PlannedShop) (past : Past) (aim : Aim) → IsWellShaped p → IsInRange (whole_case p) aim → IsReady (asked_for (case_of p past) aim) aim
+asked_ready p past Promises shaped range = tt
+asked_ready p past (Least Makespan) shaped range = tt
+asked_ready p past (Least (Leaving j)) shaped range = (range, get_or-set_same p.plan.budget j MAX_MOMENT 0 (omega (arith, range, shaped.counts.budgets)))
+
+-- ---- what is decided after what has happened
+
+module _ {lines : List (List ℕ)} {at : Option ℕ} {p : PlannedShop} {past : Past} (aim : Aim) where
+  pub kept_after : (decided : Decided PlannedShop) → IsPastOf lines at p past → OnKept (λ plan. IsKept (case_of p past) aim plan) decided → OnKept (λ plan. HoldsAfter lines at p (λ t. IsKept t aim plan)) decided
+  kept_after (IsKeptOne plan) is says = record { past = past; is = is; says = says }
+  kept_after (IsBestOne plan within) is says = tt
+  kept_after (IsNever told back) is says = tt
+  kept_after (IsOpen back) is says = tt
+
+  pub best_after : (decided : Decided PlannedShop) → IsPastOf lines at p past → OnBest (λ plan within. IsBest (case_of p past) aim plan within) decided → OnBest (λ plan within. HoldsAfter lines at p (λ t. IsBest t aim plan within)) decided
+  best_after (IsKeptOne plan) is says = tt
+  best_after (IsBestOne plan within) is says = record { past = past; is = is; says = says }
+  best_after (IsNever told back) is says = tt
+  best_after (IsOpen back) is says = tt
+
+  pub never_after : (decided : Decided PlannedShop) → IsPastOf lines at p past → OnNever (λ told back. AreExclusions (asked_for (case_of p past) aim) told) decided → OnNever (λ told back. HoldsAfter lines at p (λ t. AreExclusions (asked_for t aim) told)) decided
+  never_after (IsKeptOne plan) is says = tt
+  never_after (IsBestOne plan within) is says = tt
+  never_after (IsNever told back) is says = record { past = past; is = is; says = says }
+  never_after (IsOpen back) is says = tt
+
+  pub open_after : (decided : Decided PlannedShop) → IsPastOf lines at p past → OnOpen (λ back. NoneIsAlone (asked_for (case_of p past) aim)) decided → OnOpen (λ back. HoldsAfter lines at p (λ t. NoneIsAlone (asked_for t aim))) decided
+  open_after (IsKeptOne plan) is says = tt
+  open_after (IsBestOne plan within) is says = tt
+  open_after (IsNever told back) is says = tt
+  open_after (IsOpen back) is says = record { past = past; is = is; says = says }

@@ -4,22 +4,22 @@ use Rattle.std.proofs.lemmas.Bool.{cases_eq, cases_lt}
 use Rattle.std.proofs.lemmas.List.{get_or_past, get_or-set_same, get_or-set_other, get_or-map, length-set, length-map}
 use Rattle.std.proofs.lemmas.List.Elements.{All-nil, All-push, All-weaker, All-contains, Contains-append_left, Contains-push}
 use Rattle.shop_base.specs.declared.limits.TheConstants.{MAX_MOMENT}
-use Rattle.shop_base.specs.Plan.{jobs}
+use Rattle.shop_base.specs.Plan.{PlannedShop, jobs}
 use Rattle.plan_bounds.specs.Bounds.{times_of}
-use Rattle.plan_limits.specs.Limits.{limit_of, NoPlanKeeps}
-use Rattle.plan_verifier.specs.Accepted.{VerifiedPlan}
-use Rattle.plan_seek.specs.Tasks.{PlanTask}
+use Rattle.plan_limits.specs.Limits.{limit_of}
 use Rattle.plan_decide.specs.declared.asked.Asked.TheVariants.{All as AllAsked}
 use Rattle.plan_decide.specs.declared.excluded.Excluded.TheVariants.{Several}
 use Rattle.plan_decide.specs.declared.leaving_out.Left.{Left}
-use Rattle.plan_decide.specs.Promises.{job_count, budget_in, times_in, with_budgets, IsPromised}
+use Rattle.plan_decide.specs.Cases.{Case, IsOutWithin, is_waiting, job_count, budget_in, times_in, with_budgets}
+use Rattle.plan_decide.specs.Promises.{IsPromised}
 use Rattle.plan_decide.specs.Excluding.{AreExcluded, HasPlanWithout, AreNeeded, IsSaidOf, IsExclusion}
 use Rattle.plan_decide.specs.Decisions.{IsAcceptedWith}
-use Rattle.plan_decide.specs.Asking.{AreLimits}
+use Rattle.plan_decide.specs.Asking.{AreLimits, NoPlanKeeps}
 use Rattle.plan_decide.specs.LeftOut.{cap, AreLimited, ArePromised, CanKeep, IsLeft}
 use Rattle.plan_decide.proofs.Limits.{promise_is}
 use Rattle.plan_decide.proofs.Pushing.{pairs_push}
-use Rattle.plan_decide.proofs.Budgets.{rebudgeted, accepted_again}
+use Rattle.plan_decide.proofs.Budgets.{rebudgeted, shaped_again, keeps_again, out_again, out_later, acyclic_again}
+use Rattle.plan_decide.proofs.Bounded.{good_acyclic, good_out, good_from}
 
 -- a job with a limit has a place in the list
 limit_inside : (limits : List (Option ℕ)) (j n : ℕ) → limit_of limits j ≡ Some n → j < length limits
@@ -41,7 +41,7 @@ limit_was limits k i n inside is =
     let apart : i ≢ k = λ same. true≢false (sym (ap is_some (sym (ap (limit_of (set limits k None)) same ∙ limit_gone limits k inside) ∙ is))) in
     (apart, sym (limit_stays limits k i apart) ∙ is)
 
-module _ (t : PlanTask) where
+module _ (t : Case) where
   -- all promises are limits of promised jobs
   pub all_promised : (n : ℕ) (limits : List (Option ℕ)) → n ≡ job_count t → AreLimits t AllAsked n limits → ArePromised t limits
   all_promised n limits all are = record {
@@ -49,7 +49,7 @@ module _ (t : PlanTask) where
     each = λ j k is. (
         let inside : j < n = omega (arith, are.count, limit_inside limits j k is) in
         let promise = promise_is t j k (sym (are.each j inside) ∙ is) in
-        (record { inside = omega (arith, inside, all); below = promise.0 }, promise.1));
+        (record { inside = omega (arith, inside, all); waits = promise.0; below = promise.1 }, promise.2));
   }
 
   fewer_promised : (limits : List (Option ℕ)) (k : ℕ) → k < job_count t → ArePromised t limits → ArePromised t (set limits k None)
@@ -72,7 +72,7 @@ module _ (t : PlanTask) where
     plan = can.plan;
     is = can.is;
     acyclic = can.acyclic;
-    out = λ j inside nodes k path. omega (arith, later j, can.out j inside nodes k path);
+    out = λ j inside waits. out_later t.past can.plan j (cap (limit_of xs j)) (cap (limit_of ys j)) (later j) (can.out j inside waits);
   }
 
   -- so one that keeps all but one limit keeps them when another is left out too
@@ -92,25 +92,26 @@ module _ (t : PlanTask) where
       ]
 
   -- a plan that is accepted with the budgets of limits keeps them
-  pub accepted_keeps : (limits : List (Option ℕ)) (v : VerifiedPlan) → length limits ≡ job_count t → IsAcceptedWith (with_budgets t (map cap limits)) v.planned → CanKeep t limits
-  accepted_keeps limits v count is = record {
-    plan = v.planned;
-    is = record { shaped = is.accepted.shaped; same = ap times_of is.same };
-    acyclic = is.accepted.acceptable.acyclic;
-    out = λ j inside nodes k path. (
-        let same : jobs v.planned ≡ job_count t = ap jobs is.same in
-        let budget : slice_index v.planned.plan.budget j ≡ cap (limit_of limits j) = ap (λ p. slice_index p.plan.budget j) is.same ∙ get_or-map cap limits j None 0 (omega (arith, inside, same, count)) in
-        omega (arith, budget, is.accepted.acceptable.budgets j inside nodes k path));
+  pub accepted_keeps : (limits : List (Option ℕ)) (p : PlannedShop) → length limits ≡ job_count t → IsAcceptedWith (with_budgets t (map cap limits)) p → CanKeep t limits
+  accepted_keeps limits p count is = record {
+    plan = p;
+    is = record { shaped = is.accepted.shaped; same = ap times_of is.same; keeps = is.accepted.keeps };
+    acyclic = good_acyclic t.past p is.accepted.acceptable;
+    out = λ j inside waits. (
+        let same : jobs p ≡ job_count t = ap jobs is.same in
+        let budget : slice_index p.plan.budget j ≡ cap (limit_of limits j) = ap (λ q. slice_index q.plan.budget j) is.same ∙ get_or-map cap limits j None 0 (omega (arith, inside, same, count)) in
+        let there : is_waiting (times_of p) t.past j ≡ true = ap (λ q. is_waiting (times_of q) t.past j) is.same ∙ waits in
+        out_later t.past p j (slice_index p.plan.budget j) (cap (limit_of limits j)) (omega (arith, budget)) (good_out t.past p j is.accepted.acceptable inside there));
   }
 
-  pub left_all : (left : Left) (n : ℕ) → n ≡ job_count t → ArePromised t left.limits.items → NoPlanKeeps (times_in t) left.limits.items → IsLeft t left n
+  pub left_all : (left : Left) (n : ℕ) → n ≡ job_count t → ArePromised t left.limits.items → NoPlanKeeps t left.limits.items → IsLeft t left n
   left_all left n all are none = record {
     promised = are;
     none = none;
     needed = λ _ j k past is. absurd (omega (arith, past, all, are.count, limit_inside left.limits.items j k is));
   }
 
-  pub left_out : (left more : Left) (k : ℕ) → k < job_count t → more.or_fewer ≡ left.or_fewer → more.limits.items ≡ set left.limits.items k None → NoPlanKeeps (times_in t) more.limits.items
+  pub left_out : (left more : Left) (k : ℕ) → k < job_count t → more.or_fewer ≡ left.or_fewer → more.limits.items ≡ set left.limits.items k None → NoPlanKeeps t more.limits.items
       → IsLeft t left (k + 1) → IsLeft t more k
   left_out left more k inside fewer is none known = record {
     promised = subst (ArePromised t) (sym is) (fewer_promised left.limits.items k inside known.promised);
@@ -136,7 +137,7 @@ module _ (t : PlanTask) where
   pub left_open : (left more : Left) (k : ℕ) → more.or_fewer ≡ true → more.limits.items ≡ left.limits.items → IsLeft t left (k + 1) → IsLeft t more k
   left_open left more k fewer is known = record {
     promised = subst (ArePromised t) (sym is) known.promised;
-    none = subst (NoPlanKeeps (times_in t)) (sym is) known.none;
+    none = subst (NoPlanKeeps t) (sym is) known.none;
     needed = λ closed. absurd (true≢false (sym fewer ∙ closed));
   }
 
@@ -165,12 +166,12 @@ module _ (t : PlanTask) where
         go (Some k) is = absurd (not_named (named.complete j k (omega (arith, all, are.count, limit_inside limits j k is)) is))
 
     -- the promises to all of them exclude each other
-    all_excluded : NoPlanKeeps (times_in t) limits → AreExcluded t js
-    all_excluded none p plan keeps = none p plan.shaped plan.same (record {
+    all_excluded : NoPlanKeeps t limits → AreExcluded t js
+    all_excluded none p plan keeps = none p plan (record {
       acyclic = keeps.acyclic;
-      jobs = λ j k inside is nodes m path. (
+      out = λ j k inside waits is. (
           let same : jobs p ≡ job_count t = ap (λ s. length s.shop.routes) plan.same in
-          omega (arith, (are.each j k is).1, keeps.out j (named.complete j k (omega (arith, inside, same, all)) is) nodes m path));
+          out_later t.past p j (budget_in t j) k (omega (arith, (are.each j k is).1)) (keeps.out j (named.complete j k (omega (arith, inside, same, all)) is)));
     })
 
     -- a job without which the others can be kept
@@ -187,17 +188,22 @@ module _ (t : PlanTask) where
         record {
           plan = rebudgeted p budgets;
           same = can.is.same;
-          accepted = accepted_again p budgets can.is.shaped (length-map fewer cap ∙ count ∙ sym same)
-              (λ i inside. omega (arith, budget i (omega (arith, inside, same)), few i))
-              can.acyclic
-              (λ i inside nodes k path. omega (arith, budget i (omega (arith, inside, same)), can.out i inside nodes k path));
+          accepted = record {
+            shaped = shaped_again p budgets can.is.shaped (length-map fewer cap ∙ count ∙ sym same) (λ i inside. omega (arith, budget i (omega (arith, inside, same)), few i));
+            keeps = keeps_again t.past p budgets can.is.keeps;
+            acceptable = good_from t.past (rebudgeted p budgets) (acyclic_again p budgets can.acyclic)
+                (λ i inside waits. (
+                let there : is_waiting (times_in t) t.past i ≡ true = sym (ap (λ x. is_waiting x t.past i) can.is.same) ∙ waits in
+                out_again t.past p budgets i (slice_index budgets i)
+                (out_later t.past p i (cap (limit_of fewer i)) (slice_index budgets i) (omega (arith, budget i (omega (arith, inside, same)))) (can.out i inside there))));
+          };
           others = λ i has_too apart. budget i (omega (arith, limit_inside limits i _ (named_limit i has_too), are.count)) ∙ ap cap (limit_stays limits j i apart ∙ named_limit i has_too);
           itself = budget j here ∙ ap cap (limit_gone limits j (omega (arith, here, are.count)));
           rest = λ i inside not_named. budget i (omega (arith, inside, same)) ∙ ap cap (limit_stays limits j i (λ is. not_named (subst (Contains js) (sym is) has)) ∙ unnamed_limit i not_named);
         }
 
     -- what is left
-    pub several : (jobs : Vec ℕ Global) (or_fewer : Bool) → jobs.items ≡ js → NoPlanKeeps (times_in t) limits
+    pub several : (jobs : Vec ℕ Global) (or_fewer : Bool) → jobs.items ≡ js → NoPlanKeeps t limits
         → (or_fewer ≡ false → (j k : ℕ) → 0 ≤ j → limit_of limits j ≡ Some k → CanKeep t (set limits j None)) → IsExclusion t (Several jobs or_fewer)
     several jobs or_fewer is none needed = record {
       promised = subst (All (IsPromised t)) (sym is) (All-weaker (λ j. IsSome (limit_of limits j)) (IsPromised t) some_promised js named.limited);

@@ -1,8 +1,10 @@
 mod Lawful
 mod Budgets
+mod Bounded
 mod Limits
 mod Telling
 mod Leaving
 mod Values
+mod Kepts
 mod Deciders
 mod Pushing

@@ -4,58 +4,33 @@ use Rattle.std.proofs.lemmas.Bool.{cases_eq}
 use Rattle.std.proofs.lemmas.List.{length_push, nil_from_length}
 use Rattle.std.proofs.lemmas.List.Elements.{All-nil, All-cons, All-push, All-weaker, Contains-append_left, Contains-push}
 use Rattle.std.proofs.lemmas.List.Kept.{AllPairs-cons}
-use Rattle.shop_base.specs.Plan.{PlannedShop, jobs, machines, route, IsWellShaped}
-use Rattle.shop_base.proofs.Bounds.{route_work-le}
-use Rattle.plan_bounds.specs.Bounds.{times_of, job_bound}
-use Rattle.plan_bounds.specs.Makespan.{IsLeastMakespan}
-use Rattle.plan_bounds.specs.declared.makespan.LeastMakespan.{LeastMakespan}
-use Rattle.plan_bounds.proofs.Bounded.{no_plan_is_sooner-holds}
-use Rattle.plan_seek.specs.Tasks.{PlanTask, task_in, with_order}
 use Rattle.plan_decide.specs.declared.excluded.Excluded.{Excluded}
 use Rattle.plan_decide.specs.declared.excluded.Excluded.TheVariants.{Alone, Pair, Several}
-use Rattle.plan_decide.specs.declared.aim.Objective.TheVariants.{Makespan, Leaving}
 use Rattle.plan_decide.specs.declared.asked.Asked.TheVariants.{Both}
-use Rattle.plan_decide.specs.Promises.{job_count, times_in, IsPromised}
+use Rattle.plan_decide.specs.Cases.{Case, job_count, budget_in}
+use Rattle.plan_decide.specs.Promises.{IsPromised}
 use Rattle.plan_decide.specs.Excluding.{AreExcluded, IsNeverInTime, IsInDoubt, IsExclusion, ComesBefore, AreExclusions, NoneIsAlone}
-use Rattle.plan_decide.specs.Objectives.{IsLeast}
 use Rattle.plan_decide.specs.Asking.{IsImpossible}
 use Rattle.plan_decide.specs.Told.{AreTold, AreToldBefore, AreAllAlone, AddsExclusions}
 use Rattle.plan_decide.proofs.Limits.{both_excluded}
+use Rattle.plan_decide.proofs.Bounded.{IsRooted, bound_le}
 use Rattle.plan_decide.proofs.Pushing.{pairs_push}
 
--- no plan has a makespan below the greatest bound
-pub least_makespan_least : (t : PlanTask) (least : LeastMakespan) → IsLeastMakespan (times_in t) least → IsLeast t Makespan least.at_least
-least_makespan_least t least is order value accepted reached =
-    let found = (no_plan_is_sooner-holds (with_order t order) accepted.shaped).1 least is in
-    omega (arith, found.2.long, reached.bound found.0 found.2.nodes found.2.size found.1 found.2.path)
+-- a job whose bound is past its budget excludes itself
+alone_excluded : (t : Case) (j : ℕ) → IsRooted t → IsNeverInTime t j → AreExcluded t (j ∷ [])
+alone_excluded t j rooted never p plan keeps =
+    let bound = bound_le t p j (budget_in t j) rooted plan never.promised.inside never.promised.waits (keeps.out j (0, omega arith, refl)) in
+    absurd (omega (arith, bound, never.late))
 
--- nor a leaving below its job's bound
-pub leaving_least : (t : PlanTask) (j : ℕ) → j < job_count t → IsLeast t (Leaving j) (job_bound (times_in t) j)
-leaving_least t j inside order value accepted reached =
-    let found = (no_plan_is_sooner-holds (with_order t order) accepted.shaped).0 j inside in
-    omega (arith, found.long, reached.longest found.nodes found.size found.path)
-
--- so a job whose bound is past its budget excludes itself
-alone_excluded : (t : PlanTask) (j : ℕ) → IsNeverInTime t j → AreExcluded t (j ∷ [])
-alone_excluded t j never p plan keeps =
-    let same : jobs p ≡ job_count t = ap (λ s. length s.shop.routes) plan.same in
-    let found = (no_plan_is_sooner-holds p plan.shaped).0 j (omega (arith, same, never.inside)) in
-    let bound : job_bound (times_of p) j ≡ job_bound (times_in t) j = ap (λ s. job_bound s j) plan.same in
-    absurd (omega (arith, bound, found.long, never.past, keeps.out j (0, omega arith, refl) found.nodes found.size found.path))
-
--- and it has a promise, since no bound is as late as the greatest budget
-pub never_promised : (p : PlannedShop) (j : ℕ) → IsWellShaped p → IsNeverInTime (task_in p) j → IsPromised (task_in p) j
-never_promised p j shaped never = record { inside = never.inside; below = omega (arith, never.past, route_work-le (machines p) (route p j) (shaped.shop.routes j never.inside), shaped.shop.counts.few_machines, shaped.limits.releases j never.inside) }
-
-alone_exclusion : (t : PlanTask) (j : ℕ) → IsPromised t j → IsNeverInTime t j → IsExclusion t (Alone j)
-alone_exclusion t j promised never = record {
-  promised = All-cons (IsPromised t) j [] promised (All-nil (IsPromised t));
+alone_exclusion : (t : Case) (j : ℕ) → IsRooted t → IsNeverInTime t j → IsExclusion t (Alone j)
+alone_exclusion t j rooted never = record {
+  promised = All-cons (IsPromised t) j [] never.promised (All-nil (IsPromised t));
   ascending = λ a b d one two. absurd (omega (arith, one, two));
-  excluded = alone_excluded t j never;
+  excluded = alone_excluded t j rooted never;
   said = never;
 }
 
-pub pair_exclusion : (t : PlanTask) (i j : ℕ) → i < j → IsInDoubt t i → IsInDoubt t j → IsImpossible t (Both i j) → IsExclusion t (Pair i j)
+pub pair_exclusion : (t : Case) (i j : ℕ) → i < j → IsInDoubt t i → IsInDoubt t j → IsImpossible t (Both i j) → IsExclusion t (Pair i j)
 pair_exclusion t i j below one other none = record {
   promised = All-cons (IsPromised t) i (j ∷ []) one.promised (All-cons (IsPromised t) j [] other.promised (All-nil (IsPromised t)));
   ascending = AllPairs-cons (λ a b. a < b) i (j ∷ []) (All-cons (λ b. i < b) j [] below (All-nil (λ b. i < b))) (λ a b d two three. absurd (omega (arith, two, three)));
@@ -84,7 +59,7 @@ before_pair (Pair a b) i j k l (inr (is, more)) (inl before) = inl (omega (arith
 before_pair (Pair a b) i j k l (inr (is, more)) (inr (same, before)) = inr (omega (arith, is, same), omega (arith, more, before))
 before_pair (Several js or_fewer) i j k l later before = before
 
-module _ (t : PlanTask) where
+module _ (t : Case) where
   pub told_none : (next : Excluded) → AreToldBefore t next []
   told_none next = record {
     told = record { each = All-nil (IsExclusion t); order = λ i j d one two. absurd (omega (arith, two)) };
@@ -106,9 +81,9 @@ module _ (t : PlanTask) where
   pub alone_none : AreAllAlone t 0 []
   alone_none = record { told = told_none (Alone 0); alone = λ j lt. absurd (omega (arith, lt)) }
 
-  pub alone_more : (n : ℕ) (es more : List Excluded) → more ≡ es ++ Alone n ∷ [] → IsPromised t n → IsNeverInTime t n → AreAllAlone t n es → AreAllAlone t (n + 1) more
-  alone_more n es more is promised never known = subst (AreAllAlone t (n + 1)) (sym is) (record {
-    told = told_more (Alone n) (Alone (n + 1)) es (alone_exclusion t n promised never) (λ e before. before_alone e n before) (omega arith) known.told;
+  pub alone_more : (n : ℕ) (es more : List Excluded) → more ≡ es ++ Alone n ∷ [] → IsRooted t → IsNeverInTime t n → AreAllAlone t n es → AreAllAlone t (n + 1) more
+  alone_more n es more is rooted never known = subst (AreAllAlone t (n + 1)) (sym is) (record {
+    told = told_more (Alone n) (Alone (n + 1)) es (alone_exclusion t n rooted never) (λ e before. before_alone e n before) (omega arith) known.told;
     alone = λ j lt never_there. elim (cases_eq j n) [
       | inl same ↦ subst (λ k. Contains (es ++ Alone n ∷ []) (Alone k)) (sym same) (Contains-push es (Alone n))
       | inr other ↦ Contains-append_left es (Alone n ∷ []) (Alone j) (known.alone j (omega (arith, lt, other)) never_there)
@@ -144,12 +119,12 @@ module _ (t : PlanTask) where
     some = omega (arith, some, adds.more);
     each = told.each;
     order = told.order;
-    alone = λ j never. adds.kept (Alone j) (known.alone j (omega (arith, all, never.inside)) never);
+    alone = λ j never. adds.kept (Alone j) (known.alone j (omega (arith, all, never.promised.inside)) never);
   }
 
   -- no job is alone where none is told
   pub none_alone : (n : ℕ) (es : List Excluded) → n ≡ job_count t → length es ≡ 0 → AreAllAlone t n es → NoneIsAlone t
-  none_alone n es all none known j never = (let has = known.alone j (omega (arith, all, never.inside)) never in omega (arith, none, has.1))
+  none_alone n es all none known j never = (let has = known.alone j (omega (arith, all, never.promised.inside)) never in omega (arith, none, has.1))
 
   -- what is told where none is
   pub told_others : (es : List Excluded) → 0 < length es → NoneIsAlone t → AreTold t es → AreExclusions t es

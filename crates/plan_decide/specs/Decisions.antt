@@ -1,75 +1,78 @@
 -- What a decision says.
 use Rattle.std.specs.Prelude.{◌≡◌, ℕ, ◌≤◌, List, false}
 use Rattle.shop_base.specs.Plan.{PlannedShop}
-use Rattle.plan_verifier.specs.Accepted.{VerifiedPlan}
-use Rattle.plan_seek.specs.Tasks.{PlanTask, with_order, IsAccepted}
+use Rattle.plan_seek.specs.Tasks.{with_order}
 use Rattle.plan_decide.specs.declared.aim.Aim.{Aim}
 use Rattle.plan_decide.specs.declared.aim.Aim.TheVariants.{Promises, Least}
 use Rattle.plan_decide.specs.declared.aim.Objective.{Objective}
 use Rattle.plan_decide.specs.declared.aim.Objective.TheVariants.{Makespan, Leaving}
 use Rattle.plan_decide.specs.declared.decide_fault.DecideFault.{DecideFault}
-use Rattle.plan_decide.specs.declared.decide_fault.DecideFault.TheVariants.{JobOutOfRange, Memory}
+use Rattle.plan_decide.specs.declared.decide_fault.DecideFault.TheVariants.{JobOutOfRange, Log, Past as EarlierMoment, MomentTooLarge, Memory}
 use Rattle.plan_decide.specs.declared.decided.Decided.{Decided}
 use Rattle.plan_decide.specs.declared.decided.Decided.TheVariants.{Kept, Best, Never, Open}
 use Rattle.plan_decide.specs.declared.decided.Within.{Within}
 use Rattle.plan_decide.specs.declared.excluded.Excluded.{Excluded}
-use Rattle.plan_decide.specs.Promises.{with_budget, asked_for, IsInRange}
-use Rattle.plan_decide.specs.Objectives.{IsValue, IsLeast}
+use Rattle.plan_decide.specs.Cases.{Case, IsAccepted, HasValue, with_budget}
+use Rattle.plan_decide.specs.Promises.{asked_for, IsInRange}
+use Rattle.plan_decide.specs.Objectives.{IsLeast}
 
 -- where all promises can be kept
-abbrev pub OnKept : (VerifiedPlan → Type 0) → Decided → Type 0
-OnKept P (Kept verified) = P verified
-OnKept P (Best verified within) = Unit {0}
+abbrev pub OnKept : {K : Type 0} → (K → Type 0) → Decided K → Type 0
+OnKept P (Kept plan) = P plan
+OnKept P (Best plan within) = Unit {0}
 OnKept P (Never excluded back) = Unit {0}
 OnKept P (Open back) = Unit {0}
 
 -- where the best plan that was found is given
-abbrev pub OnBest : (VerifiedPlan → Within → Type 0) → Decided → Type 0
-OnBest P (Kept verified) = Unit {0}
-OnBest P (Best verified within) = P verified within
+abbrev pub OnBest : {K : Type 0} → (K → Within → Type 0) → Decided K → Type 0
+OnBest P (Kept plan) = Unit {0}
+OnBest P (Best plan within) = P plan within
 OnBest P (Never excluded back) = Unit {0}
 OnBest P (Open back) = Unit {0}
 
 -- where they can't be kept
-abbrev pub OnNever : (List Excluded → PlannedShop → Type 0) → Decided → Type 0
-OnNever P (Kept verified) = Unit {0}
-OnNever P (Best verified within) = Unit {0}
+abbrev pub OnNever : {K : Type 0} → (List Excluded → PlannedShop → Type 0) → Decided K → Type 0
+OnNever P (Kept plan) = Unit {0}
+OnNever P (Best plan within) = Unit {0}
 OnNever P (Never excluded back) = P excluded.items back
 OnNever P (Open back) = Unit {0}
 
 -- where it isn't decided
-abbrev pub OnOpen : (PlannedShop → Type 0) → Decided → Type 0
-OnOpen P (Kept verified) = Unit {0}
-OnOpen P (Best verified within) = Unit {0}
+abbrev pub OnOpen : {K : Type 0} → (PlannedShop → Type 0) → Decided K → Type 0
+OnOpen P (Kept plan) = Unit {0}
+OnOpen P (Best plan within) = Unit {0}
 OnOpen P (Never excluded back) = Unit {0}
 OnOpen P (Open back) = P back
 
 -- the plan has these numbers, and is accepted
-pub record IsAcceptedWith (t : PlanTask) (p : PlannedShop) : Type 0 where
-  pub same : p ≡ with_order t p.plan.order
-  pub accepted : IsAccepted p
+pub record IsAcceptedWith (t : Case) (p : PlannedShop) : Type 0 where
+  pub same : p ≡ with_order t.task p.plan.order
+  pub accepted : IsAccepted t.past p
 
 -- all promises were asked for, and the plan keeps them
-pub record IsKept (t : PlanTask) (aim : Aim) (verified : VerifiedPlan) : Type 0 where
+pub record IsKept (t : Case) (aim : Aim) (p : PlannedShop) : Type 0 where
   pub asked : aim ≡ Promises
-  pub plan : IsAcceptedWith t verified.planned
+  pub plan : IsAcceptedWith t p
 
 -- the numbers of a plan whose objective is n: for the leaving of a job, that is its budget
-abbrev pub given_with : PlanTask → Objective → ℕ → PlanTask
+abbrev pub given_with : Case → Objective → ℕ → Case
 given_with t Makespan n = t
 given_with t (Leaving j) n = with_budget t j n
 
 -- the objective was asked for; the plan keeps all promises that are asked for and has at_most, and no such plan has less than at_least; the two are the same, where no search ended open
-pub record IsBest (t : PlanTask) (aim : Aim) (verified : VerifiedPlan) (within : Within) : Type 0 where
+pub record IsBest (t : Case) (aim : Aim) (p : PlannedShop) (within : Within) : Type 0 where
   pub objective : Objective
   pub asked : aim ≡ Least objective
-  pub plan : IsAcceptedWith (given_with t objective within.at_most) verified.planned
-  pub value : IsValue objective verified.planned within.at_most
+  pub plan : IsAcceptedWith (given_with t objective within.at_most) p
+  pub value : HasValue t.past objective p within.at_most
   pub least : IsLeast (asked_for t aim) objective within.at_least
   pub apart : within.at_least ≤ within.at_most
   pub exact : within.ended_open ≡ false → within.at_least ≡ within.at_most
 
--- why nothing is decided: the job isn't of the shop, or else out of memory
-abbrev pub IsDecideFault : PlanTask → Aim → DecideFault → Type 0
+-- why nothing is decided of whole plans: the job isn't of the shop, or else out of memory
+abbrev pub IsDecideFault : Case → Aim → DecideFault → Type 0
 IsDecideFault t aim JobOutOfRange = IsInRange t aim → ⊥
 IsDecideFault t aim Memory = IsInRange t aim
+IsDecideFault t aim (Log fault) = ⊥
+IsDecideFault t aim (EarlierMoment last) = ⊥
+IsDecideFault t aim MomentTooLarge = ⊥

@@ -1,8 +1,6 @@
 -- What is known of an objective while what lies between a bound and a plan is halved.
 use Rattle.std.specs.Prelude.{◌≡◌, ℕ, ◌+◌, ◌<◌, ◌≤◌, false}
 use Rattle.shop_base.specs.declared.limits.TheConstants.{MAX_MOMENT}
-use Rattle.plan_verifier.specs.Accepted.{VerifiedPlan}
-use Rattle.plan_seek.specs.Tasks.{PlanTask}
 use Rattle.plan_decide.specs.declared.aim.Objective.{Objective}
 use Rattle.plan_decide.specs.declared.aim.Objective.TheVariants.{Makespan, Leaving}
 use Rattle.plan_decide.specs.declared.decided.Within.{Within}
@@ -10,20 +8,23 @@ use Rattle.plan_decide.specs.declared.halving.Best.{Best}
 use Rattle.plan_decide.specs.declared.halving.Halfway.{Halfway}
 use Rattle.plan_decide.specs.declared.halving.Looked.{Looked}
 use Rattle.plan_decide.specs.declared.halving.Looked.TheVariants.{Better, Never, Open}
-use Rattle.plan_decide.specs.Promises.{job_count, budget_in}
-use Rattle.plan_decide.specs.Objectives.{IsValue, IsLeast}
+use Rattle.plan_decide.specs.Cases.{Case, HasValue, job_count, budget_in}
+use Rattle.plan_decide.specs.Objectives.{IsLeast}
+use Rattle.plan_decide.specs.declared.kept.Kept.{Kept}
+use Rattle.plan_decide.specs.Settings.{plan_of, FitsPast}
 use Rattle.plan_decide.specs.Decisions.{IsAcceptedWith, given_with}
 
 -- the job whose leaving is to be as early as it can be is of the shop, and has no promise
-abbrev pub IsFree : PlanTask → Objective → Type 0
+abbrev pub IsFree : Case → Objective → Type 0
 IsFree t Makespan = Unit {0}
 IsFree t (Leaving j) = (j < job_count t) × (budget_in t j ≡ MAX_MOMENT)
 
-module _ (t : PlanTask) (objective : Objective) where
+module _ (t : Case) (objective : Objective) where
   -- an accepted plan with its value
   pub record IsFoundWith (best : Best) : Type 0 where
-    pub plan : IsAcceptedWith (given_with t objective best.value) best.plan.planned
-    pub value : IsValue objective best.plan.planned best.value
+    pub plan : IsAcceptedWith (given_with t objective best.value) (plan_of best.plan)
+    pub fits : FitsPast t.past best.plan
+    pub value : HasValue t.past objective (plan_of best.plan) best.value
 
   -- what comes of looking for a plan with a value of at most the limit, below this value
   abbrev pub IsLooked : ℕ → ℕ → Looked → Type 0
@@ -38,9 +39,10 @@ module _ (t : PlanTask) (objective : Objective) where
     pub same : halfway.ended_open ≡ false → halfway.low ≡ halfway.at_least
 
   -- what is found in the end
-  pub record IsHalved (found : VerifiedPlan × Within) : Type 0 where
-    pub plan : IsAcceptedWith (given_with t objective found.1.at_most) found.0.planned
-    pub value : IsValue objective found.0.planned found.1.at_most
+  pub record IsHalved (found : Kept × Within) : Type 0 where
+    pub plan : IsAcceptedWith (given_with t objective found.1.at_most) (plan_of found.0)
+    pub fits : FitsPast t.past found.0
+    pub value : HasValue t.past objective (plan_of found.0) found.1.at_most
     pub least : IsLeast t objective found.1.at_least
     pub apart : found.1.at_least ≤ found.1.at_most
     pub exact : found.1.ended_open ≡ false → found.1.at_least ≡ found.1.at_most

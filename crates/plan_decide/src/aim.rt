@@ -1,5 +1,5 @@
 ghost use Rattle.std.specs.Prelude.{MatchBool};
-ghost use Rattle.plan_seek.specs.Tasks.{task_in};
+ghost use Rattle.plan_decide.specs.Pasts.{whole_case};
 ghost use Rattle.plan_decide.specs.Promises.{IsInRange};
 
 use shop_base::{JobNo, Shaped};
@@ -24,7 +24,7 @@ pub enum Objective {
 
 /// Whether the job whose leaving is asked for is of the shop.
 pub(crate) fn is_in_range(shaped: &Shaped, aim: Aim) -> bool
-    ensures { let t = task_in shaped.now in MatchBool result (IsInRange t aim) (IsInRange t aim → ⊥) }
+    ensures { let t = whole_case shaped.now in MatchBool result (IsInRange t aim) (IsInRange t aim → ⊥) }
 {
     match aim {
         Aim::Least(Objective::Leaving(job)) => job < shaped.job_count(),

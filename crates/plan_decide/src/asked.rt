@@ -2,13 +2,14 @@
 
 ghost use Rattle.std.specs.Prelude.{◌≡◌, ◌<◌, IfOk};
 ghost use Rattle.shop_base.specs.Plan.{jobs};
-ghost use Rattle.plan_seek.specs.Tasks.{task_in};
-ghost use Rattle.plan_decide.specs.Promises.{job_count};
+ghost use Rattle.plan_decide.specs.Cases.{job_count};
 ghost use Rattle.plan_decide.specs.Asking.{promise_in, limit_asked, AreLimits};
+ghost use Rattle.plan_decide.specs.Settings.{case_in};
 
 use crate::aim::Objective;
+use crate::setting::{Setting, budget_for, is_waiting};
 use shop_base::limits::MAX_MOMENT;
-use shop_base::{JobNo, Moment, Shaped};
+use shop_base::{JobNo, Moment};
 use std::alloc::{AllocError, Global};
 
 /// Which promises are asked for.
@@ -23,11 +24,14 @@ pub(crate) enum Asked {
 }
 
 /// The budget of a job that has a promise.
-pub(crate) fn promise_to(shaped: &Shaped, job: JobNo) -> Option<Moment>
-    requires { job < jobs shaped.now }
-    ensures { result ≡ promise_in (task_in shaped.now) job }
+pub(crate) fn promise_to(setting: &Setting<'_>, job: JobNo) -> Option<Moment>
+    requires { job < jobs setting.now.cell.plan }
+    ensures { result ≡ promise_in (case_in setting.now) job }
 {
-    let budget = shaped.budget_of(job);
+    if !is_waiting(setting, job) {
+        return None;
+    }
+    let budget = budget_for(setting, job);
     if budget < MAX_MOMENT {
         Some(budget)
     } else {
@@ -36,25 +40,25 @@ pub(crate) fn promise_to(shaped: &Shaped, job: JobNo) -> Option<Moment>
 }
 
 /// The limit of a job, if the job is asked for.
-fn limit_for(shaped: &Shaped, asked: Asked, job: JobNo) -> Option<Moment>
-    requires { job < jobs shaped.now }
-    ensures { result ≡ limit_asked (task_in shaped.now) asked job }
+fn limit_for(setting: &Setting<'_>, asked: Asked, job: JobNo) -> Option<Moment>
+    requires { job < jobs setting.now.cell.plan }
+    ensures { result ≡ limit_asked (case_in setting.now) asked job }
 {
     match asked {
-        Asked::All => promise_to(shaped, job),
+        Asked::All => promise_to(setting, job),
         Asked::Both(one, other) => {
             if job == one || job == other {
-                promise_to(shaped, job)
+                promise_to(setting, job)
             } else {
                 None
             }
         }
-        Asked::AtMost(Objective::Makespan, limit) => Some(shaped.budget_of(job).min(limit)),
+        Asked::AtMost(Objective::Makespan, limit) => { Some(budget_for(setting, job).min(limit)) },
         Asked::AtMost(Objective::Leaving(last), limit) => {
             if job == last {
                 Some(limit)
             } else {
-                promise_to(shaped, job)
+                promise_to(setting, job)
             }
         }
     }
@@ -63,14 +67,14 @@ fn limit_for(shaped: &Shaped, asked: Asked, job: JobNo) -> Option<Moment>
 /// The limits of all jobs.
 pub(crate) fn limits_for(
     alloc: Global,
-    shaped: &Shaped,
+    setting: &Setting<'_>,
     asked: Asked,
 ) -> Result<Vec<Option<Moment>>, AllocError>
-    ensures { let t = task_in shaped.now in IfOk result (λ limits. AreLimits t asked (job_count t) limits.items) }
+    ensures { let t = case_in setting.now in IfOk result (λ limits. AreLimits t asked (job_count t) limits.items) }
 {
     let mut limits = Vec::new(alloc);
-    for job in 0..shaped.job_count() {
-        limits.push(limit_for(shaped, asked, job))?;
+    for job in 0..setting.cell.job_count() {
+        limits.push(limit_for(setting, asked, job))?;
     }
     Ok(limits)
 }

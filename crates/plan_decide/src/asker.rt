@@ -2,18 +2,17 @@
 
 ghost use Rattle.std.specs.Prelude.{◌≡◌, IfOk, length};
 ghost use Rattle.shop_base.specs.Plan.{jobs};
-ghost use Rattle.plan_bounds.specs.Bounds.{times_of};
-ghost use Rattle.plan_limits.specs.Limits.{NoPlanKeeps};
 ghost use Rattle.plan_limits.specs.Answered.{OnNever};
-ghost use Rattle.plan_seek.specs.Tasks.{task_in};
-ghost use Rattle.plan_decide.specs.Asking.{IsImpossible};
+ghost use Rattle.plan_decide.specs.Asking.{IsImpossible, NoPlanKeeps};
+ghost use Rattle.plan_decide.specs.Settings.{IsSet, case_in};
 
 use crate::asked::{Asked, limits_for};
 use crate::decided::Within;
+use crate::setting::{Past, Setting};
 use crate::watch::Watch;
 use arc_choice::{Choose, Question, Side, State};
 use plan_limits::{Answer, ask};
-use shop_base::{Moment, Shaped};
+use shop_base::Moment;
 use std::alloc::{AllocError, Global};
 
 /// The most choices of a search for a plan that keeps the promises to two jobs, even where more are allowed.
@@ -56,20 +55,21 @@ impl<C: Choose, W: Watch> Asker<'_, C, W> {
     pub(crate) fn ask(
         &mut self,
         alloc: Global,
-        shaped: &Shaped,
+        setting: &Setting<'_>,
         asked: Asked,
     ) -> Result<Answer, AllocError>
-        ensures { IfOk result (OnNever (IsImpossible (task_in shaped.now) asked)) }
+        requires { IsSet setting.now }
+        ensures { IfOk result (OnNever (IsImpossible (case_in setting.now) asked)) }
     {
-        let limits = limits_for(alloc, shaped, asked)?;
+        let limits = limits_for(alloc, setting, asked)?;
         match asked {
             Asked::Both(_, _) => self.search(
                 alloc,
-                shaped,
+                setting,
                 &limits,
                 self.choices.min(PAIR_CHOICES),
             ),
-            _ => self.search(alloc, shaped, &limits, self.choices),
+            _ => self.search(alloc, setting, &limits, self.choices),
         }
     }
 
@@ -77,28 +77,35 @@ impl<C: Choose, W: Watch> Asker<'_, C, W> {
     pub(crate) fn ask_limits(
         &mut self,
         alloc: Global,
-        shaped: &Shaped,
+        setting: &Setting<'_>,
         limits: &[Option<Moment>],
     ) -> Result<Answer, AllocError>
-        requires { length limits.now ≡ jobs shaped.now }
-        ensures { IfOk result (OnNever (NoPlanKeeps (times_of shaped.now) limits.now)) }
+        requires count { length limits.now ≡ jobs setting.now.cell.plan }
+        requires set { IsSet setting.now }
+        ensures { IfOk result (OnNever (NoPlanKeeps (case_in setting.now) limits.now)) }
     {
-        self.search(alloc, shaped, limits, self.choices)
+        self.search(alloc, setting, limits, self.choices)
     }
 
     /// The same by at most so many choices.
     fn search(
         &mut self,
         alloc: Global,
-        shaped: &Shaped,
+        setting: &Setting<'_>,
         limits: &[Option<Moment>],
         choices: u64,
     ) -> Result<Answer, AllocError>
-        requires { length limits.now ≡ jobs shaped.now }
-        ensures { IfOk result (OnNever (NoPlanKeeps (times_of shaped.now) limits.now)) }
+        requires count { length limits.now ≡ jobs setting.now.cell.plan }
+        requires set { IsSet setting.now }
+        ensures { IfOk result (OnNever (NoPlanKeeps (case_in setting.now) limits.now)) }
     {
         self.limit = choices;
-        ask(alloc, shaped, limits, self, choices)
+        match setting.past {
+            Past::Nothing => ask(alloc, &setting.cell, 0, limits, self, choices),
+            Past::Run { log: _, present } => {
+                ask(alloc, &setting.cell, present, limits, self, choices)
+            }
+        }
     }
 }
 

@@ -1,3 +1,5 @@
+use run_log::AuditFault;
+use shop_base::Moment;
 use std::alloc::AllocError;
 use thiserror::Error;
 
@@ -7,6 +9,15 @@ pub enum DecideFault {
     /// The job whose leaving is asked for isn't of the shop.
     #[error("JobOutOfRange")]
     JobOutOfRange,
+    /// The log's whole lines record no run of the plan: the first fault of the first bad one.
+    #[error("Log {0}")]
+    Log(AuditFault),
+    /// The present moment is before the last one of the log.
+    #[error("Past {last}")]
+    Past { last: Moment },
+    /// The present moment is past the latest.
+    #[error("MomentTooLarge")]
+    MomentTooLarge,
     /// Out of memory, here or in the chooser.
     #[error("Memory")]
     Memory,
@@ -20,5 +31,19 @@ impl From<AllocError> for DecideFault {
 
     fn from(_error: AllocError) -> DecideFault {
         DecideFault::Memory
+    }
+}
+
+impl From<AuditFault> for DecideFault {
+    ghost use Rattle.std.specs.Prelude.{◌≡◌};
+    ghost use Rattle.plan_decide.specs.Pasts.{log_fault};
+
+    ghost from_gives = { λ told fault. fault ≡ log_fault told };
+
+    fn from(told: AuditFault) -> DecideFault {
+        match told {
+            AuditFault::Memory => DecideFault::Memory,
+            _ => DecideFault::Log(told),
+        }
     }
 }

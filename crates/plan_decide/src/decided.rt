@@ -1,15 +1,14 @@
 use crate::excluded::Excluded;
-use plan_verifier::Verified;
 use shop_base::{Moment, Shaped};
 
-/// What is decided.
+/// What is decided. A plan is given as `K`: a whole one as `Verified`, one for the rest of a run as `Shaped`.
 #[derive(Drop)]
-pub enum Decided {
+pub enum Decided<K> {
     /// All promises can be kept: an accepted plan.
-    Kept(Verified),
+    Kept(K),
     /// They can, and this is the best plan that was found, with what is known of the objective. Where the least leaving
     /// of a job was asked for, the plan has the job's leaving as its budget.
-    Best(Verified, Within),
+    Best(K, Within),
     /// They can't: the jobs that exclude each other, and the plan that was given.
     Never(Vec<Excluded>, Shaped),
     /// Whether they can isn't decided, within the choices that were allowed or since the question is too large. The

@@ -1,14 +1,16 @@
 //! The decision.
 
-ghost use Rattle.std.specs.Prelude.{◌≡◌, ◌<◌, IfOk, IfErr, OnOk};
-ghost use Rattle.shop_base.specs.Plan.{jobs};
-ghost use Rattle.plan_seek.specs.Tasks.{PlanTask, task_in};
+ghost use Rattle.std.specs.Prelude.{◌≡◌, IfOk, IfErr, OnOk};
+ghost use Rattle.shop_base.specs.Plan.{PlannedShop};
+ghost use Rattle.text_lines.specs.Lines.{ended_lines};
 ghost use Rattle.plan_decide.specs.declared.aim.Aim.{Aim};
 ghost use Rattle.plan_decide.specs.declared.aim.Aim.TheVariants.{Promises, Least};
-ghost use Rattle.plan_decide.specs.declared.aim.Objective.TheVariants.{Leaving};
+ghost use Rattle.plan_decide.specs.Cases.{Case};
+ghost use Rattle.plan_decide.specs.Pasts.{whole_case, HoldsAfter, IsBeginFault, IsDecideRestFault};
 ghost use Rattle.plan_decide.specs.Promises.{asked_for, IsInRange};
 ghost use Rattle.plan_decide.specs.Excluding.{AreExclusions, NoneIsAlone};
 ghost use Rattle.plan_decide.specs.Decisions.{OnKept, OnBest, OnNever, OnOpen, IsKept, IsBest, IsDecideFault};
+ghost use Rattle.plan_decide.specs.Settings.{IsSet, case_in};
 ghost use Rattle.plan_decide.specs.Found.{IsReady, IsFound, IsDecided};
 ghost use Rattle.plan_decide.specs.Halves.{IsFree};
 
@@ -19,21 +21,21 @@ use crate::decided::{Decided, Within};
 use crate::excluded::Excluded;
 use crate::halving::{halve, plan_by};
 use crate::judging::accepted_by;
+use crate::kept::Kept;
 use crate::promises::{Reply, ask_all};
-use crate::rebudgeting::with_budget;
+use crate::setting::{Setting, after_log, whole};
 use crate::undecided::Undecided;
 use crate::watch::Watch;
 use arc_choice::Choose;
 use plan_verifier::Verified;
-use shop_base::limits::MAX_MOMENT;
-use shop_base::{JobNo, Shaped};
+use shop_base::{JobNo, Moment, Shaped};
 use std::alloc::{AllocError, Global};
 
 /// What is found, before the plan that was given is handed back.
 #[derive(Drop)]
 pub(crate) enum Found {
-    Kept(Verified),
-    Best(Verified, Within),
+    Kept(Kept),
+    Best(Kept, Within),
     Never(Vec<Excluded>),
     Open,
 }
@@ -57,15 +59,15 @@ pub fn decide<C: Choose, W: Watch>(
     choices: u64,
     chooser: &mut C,
     watch: &mut W,
-) -> Result<Decided, Undecided>
-    ensures in_range { OnOk result (IsInRange (task_in shaped) aim) }
-    ensures kept { IfOk result (OnKept (IsKept (task_in shaped) aim)) }
-    ensures best { IfOk result (OnBest (IsBest (task_in shaped) aim)) }
-    ensures never { IfOk result (OnNever (λ told back. AreExclusions (asked_for (task_in shaped) aim) told)) }
-    ensures open { IfOk result (OnOpen (λ back. NoneIsAlone (asked_for (task_in shaped) aim))) }
+) -> Result<Decided<Verified>, Undecided>
+    ensures in_range { OnOk result (IsInRange (whole_case shaped) aim) }
+    ensures kept { IfOk result (OnKept (λ verified. IsKept (whole_case shaped) aim verified.planned)) }
+    ensures best { IfOk result (OnBest (λ verified within. IsBest (whole_case shaped) aim verified.planned within)) }
+    ensures never { IfOk result (OnNever (λ told back. AreExclusions (asked_for (whole_case shaped) aim) told)) }
+    ensures open { IfOk result (OnOpen (λ back. NoneIsAlone (asked_for (whole_case shaped) aim))) }
     ensures given_back { IfOk result (OnNever (λ told back. back ≡ shaped)) }
     ensures left_open { IfOk result (OnOpen (λ back. back ≡ shaped)) }
-    ensures refused { IfErr result (λ undecided. IsDecideFault (task_in shaped) aim undecided.fault) }
+    ensures refused { IfErr result (λ undecided. IsDecideFault (whole_case shaped) aim undecided.fault) }
     ensures handed_back { IfErr result (λ undecided. undecided.shaped ≡ shaped) }
 {
     if !is_in_range(&shaped, aim) {
@@ -74,54 +76,14 @@ pub fn decide<C: Choose, W: Watch>(
             shaped,
         });
     }
-    let mut asker = Asker::new(chooser, watch, choices);
-    match aim {
-        Aim::Least(Objective::Leaving(job)) => decide_leaving(alloc, shaped, job, &mut asker),
-        Aim::Least(Objective::Makespan) => decide_here(alloc, shaped, aim, &mut asker),
-        Aim::Promises => decide_here(alloc, shaped, aim, &mut asker),
-    }
-}
-
-/// The same where the plan's own promises are asked for.
-fn decide_here<C: Choose, W: Watch>(
-    alloc: Global,
-    shaped: Shaped,
-    aim: Aim,
-    asker: &mut Asker<'_, C, W>,
-) -> Result<Decided, Undecided>
-    requires own { asked_for (task_in shaped) aim ≡ task_in shaped }
-    requires ready { IsReady (task_in shaped) aim }
-    ensures { IsDecided (task_in shaped) aim shaped result }
-{
-    let found = find(alloc, &shaped, aim, asker);
-    hand_back(found, shaped)
-}
-
-/// The same of the earliest leaving of a job, while the plan has no promise to that job.
-fn decide_leaving<C: Choose, W: Watch>(
-    alloc: Global,
-    shaped: Shaped,
-    job: JobNo,
-    asker: &mut Asker<'_, C, W>,
-) -> Result<Decided, Undecided>
-    requires { job < jobs shaped }
-    ensures { IsDecided (task_in shaped) (Least (Leaving job)) shaped result }
-{
-    let own = shaped.budget_of(job);
-    let asked = with_budget(shaped, job, MAX_MOMENT);
-    let found = find(alloc, &asked, Aim::Least(Objective::Leaving(job)), asker);
-    hand_back(found, with_budget(asked, job, own))
-}
-
-/// What is found, with the plan that was given.
-fn hand_back(found: Result<Found, AllocError>, shaped: Shaped) -> Result<Decided, Undecided>
-    ensures { (t : PlanTask) (aim : Aim) → IfOk found (IsFound (asked_for t aim) aim) → IsDecided t aim shaped result }
-{
+    let found = find_whole(
+        alloc,
+        &shaped,
+        aim,
+        &mut Asker::new(chooser, watch, choices),
+    );
     match found {
-        Ok(Found::Kept(verified)) => Ok(Decided::Kept(verified)),
-        Ok(Found::Best(verified, within)) => Ok(Decided::Best(verified, within)),
-        Ok(Found::Never(told)) => Ok(Decided::Never(told, shaped)),
-        Ok(Found::Open) => Ok(Decided::Open(shaped)),
+        Ok(found) => Ok(whole_back(found, shaped)),
         Err(error) => Err(Undecided {
             fault: DecideFault::from(error),
             shaped,
@@ -129,33 +91,151 @@ fn hand_back(found: Result<Found, AllocError>, shaped: Shaped) -> Result<Decided
     }
 }
 
-/// What is found of the promises of this plan.
-fn find<C: Choose, W: Watch>(
+/// Decides the same of the rest of the run that the log's whole lines record by this plan, from a moment on, or else from
+/// its last one: of all plans with its releases and cleaning times of which they record a run too. Entries that were made
+/// stay, and jobs that are gone aren't asked for. What goes on ends when it is due, and what is overdue at the present
+/// moment. The bound of a job is then that moment, or the one at which what goes on with it is due, and its nominal times
+/// from there on. Where the log records no event and the moment is 0, that is what `decide` decides.
+pub fn decide_after<C: Choose, W: Watch>(
+    alloc: Global,
+    shaped: Shaped,
+    log: &[u8],
+    at: Option<Moment>,
+    aim: Aim,
+    choices: u64,
+    chooser: &mut C,
+    watch: &mut W,
+) -> Result<Decided<Shaped>, Undecided>
+    ensures in_range { OnOk result (IsInRange (whole_case shaped) aim) }
+    ensures kept { IfOk result (OnKept (λ plan. HoldsAfter (ended_lines log.now) at shaped (λ t. IsKept t aim plan))) }
+    ensures best { IfOk result (OnBest (λ plan within.
+        HoldsAfter (ended_lines log.now) at shaped (λ t. IsBest t aim plan within))) }
+    ensures never { IfOk result (OnNever (λ told back.
+        HoldsAfter (ended_lines log.now) at shaped (λ t. AreExclusions (asked_for t aim) told))) }
+    ensures open { IfOk result (OnOpen (λ back.
+        HoldsAfter (ended_lines log.now) at shaped (λ t. NoneIsAlone (asked_for t aim)))) }
+    ensures given_back { IfOk result (OnNever (λ told back. back ≡ shaped)) }
+    ensures left_open { IfOk result (OnOpen (λ back. back ≡ shaped)) }
+    ensures refused { IfErr result (λ undecided.
+        IsDecideRestFault (ended_lines log.now) at shaped aim undecided.fault) }
+    ensures handed_back { IfErr result (λ undecided. undecided.shaped ≡ shaped) }
+{
+    if !is_in_range(&shaped, aim) {
+        return Err(Undecided {
+            fault: DecideFault::JobOutOfRange,
+            shaped,
+        });
+    }
+    let found = find_after(
+        alloc,
+        &shaped,
+        log,
+        at,
+        aim,
+        &mut Asker::new(chooser, watch, choices),
+    );
+    match found {
+        Ok(found) => Ok(rest_back(found, shaped)),
+        Err(fault) => Err(Undecided { fault, shaped }),
+    }
+}
+
+/// What is found of whole plans.
+fn find_whole<C: Choose, W: Watch>(
     alloc: Global,
     shaped: &Shaped,
     aim: Aim,
     asker: &mut Asker<'_, C, W>,
 ) -> Result<Found, AllocError>
-    requires { IsReady (task_in shaped.now) aim }
-    ensures { IfOk result (IsFound (task_in shaped.now) aim) }
+    requires { IsInRange (whole_case shaped.now) aim }
+    ensures { IfOk result (IsFound (asked_for (whole_case shaped.now) aim) aim) }
 {
-    match ask_all(alloc, shaped, asker)? {
+    // Called for its clause alone: the plan is well shaped.
+    let _shop = shaped.shop();
+    let setting = whole(alloc, shaped, aim)?;
+    find(alloc, &setting, aim, asker)
+}
+
+/// What is found of plans for the rest of the run in a log.
+fn find_after<C: Choose, W: Watch>(
+    alloc: Global,
+    shaped: &Shaped,
+    log: &[u8],
+    at: Option<Moment>,
+    aim: Aim,
+    asker: &mut Asker<'_, C, W>,
+) -> Result<Found, DecideFault>
+    requires { IsInRange (whole_case shaped.now) aim }
+    ensures found { IfOk result (λ found.
+        HoldsAfter (ended_lines log.now) at shaped.now (λ t. IsFound (asked_for t aim) aim found)) }
+    ensures refused { IfErr result (IsBeginFault (ended_lines log.now) at shaped.now) }
+{
+    // Called for its clause alone: the plan is well shaped.
+    let _shop = shaped.shop();
+    let setting = after_log(alloc, shaped, log, at, aim)?;
+    Ok(find(alloc, &setting, aim, asker)?)
+}
+
+/// What is found of whole plans, with the plan that was given.
+fn whole_back(found: Found, shaped: Shaped) -> Decided<Verified>
+    ensures { (p : PlannedShop) (aim : Aim) → IsFound (asked_for (whole_case p) aim) aim found
+        → IsDecided (λ verified. verified.planned) (whole_case p) aim shaped result }
+{
+    match found {
+        Found::Kept(kept) => match kept.into_verified() {
+            Some(verified) => Decided::Kept(verified),
+            None => Decided::Open(shaped),
+        },
+        Found::Best(kept, within) => match kept.into_verified() {
+            Some(verified) => Decided::Best(verified, within),
+            None => Decided::Open(shaped),
+        },
+        Found::Never(told) => Decided::Never(told, shaped),
+        Found::Open => Decided::Open(shaped),
+    }
+}
+
+/// What is found of plans for the rest of a run, with the plan that was given.
+fn rest_back(found: Found, shaped: Shaped) -> Decided<Shaped>
+    ensures { (t : Case) (aim : Aim) → IsFound (asked_for t aim) aim found → IsDecided (λ plan. plan) t aim shaped result }
+{
+    match found {
+        Found::Kept(kept) => Decided::Kept(kept.into_shaped()),
+        Found::Best(kept, within) => Decided::Best(kept.into_shaped(), within),
+        Found::Never(told) => Decided::Never(told, shaped),
+        Found::Open => Decided::Open(shaped),
+    }
+}
+
+/// What is found of the promises of a setting.
+fn find<C: Choose, W: Watch>(
+    alloc: Global,
+    setting: &Setting<'_>,
+    aim: Aim,
+    asker: &mut Asker<'_, C, W>,
+) -> Result<Found, AllocError>
+    requires set { IsSet setting.now }
+    requires ready { IsReady (case_in setting.now) aim }
+    ensures { IfOk result (IsFound (case_in setting.now) aim) }
+{
+    match ask_all(alloc, setting, asker)? {
         Reply::Never(told) => Ok(Found::Never(told)),
         Reply::Open => Ok(Found::Open),
         Reply::Orders(order) => match aim {
-            Aim::Promises => keep(alloc, shaped, order),
-            Aim::Least(objective) => least(alloc, shaped, objective, asker, order),
+            Aim::Promises => keep(alloc, setting, order),
+            Aim::Least(objective) => least(alloc, setting, objective, asker, order),
         },
     }
 }
 
 /// The plan with these orders, if it is accepted.
-fn keep(alloc: Global, shaped: &Shaped, order: Vec<Vec<JobNo>>) -> Result<Found, AllocError>
-    requires { NoneIsAlone (task_in shaped.now) }
-    ensures { IfOk result (IsFound (task_in shaped.now) Promises) }
+fn keep(alloc: Global, setting: &Setting<'_>, order: Vec<Vec<JobNo>>) -> Result<Found, AllocError>
+    requires set { IsSet setting.now }
+    requires none_alone { NoneIsAlone (case_in setting.now) }
+    ensures { IfOk result (IsFound (case_in setting.now) Promises) }
 {
-    match accepted_by(alloc, shaped, order)? {
-        Some(verified) => Ok(Found::Kept(verified)),
+    match accepted_by(alloc, setting, order)? {
+        Some(kept) => Ok(Found::Kept(kept)),
         None => Ok(Found::Open),
     }
 }
@@ -163,19 +243,20 @@ fn keep(alloc: Global, shaped: &Shaped, order: Vec<Vec<JobNo>>) -> Result<Found,
 /// The best plan for the objective, where the one with these orders is accepted.
 fn least<C: Choose, W: Watch>(
     alloc: Global,
-    shaped: &Shaped,
+    setting: &Setting<'_>,
     objective: Objective,
     asker: &mut Asker<'_, C, W>,
     order: Vec<Vec<JobNo>>,
 ) -> Result<Found, AllocError>
-    requires free { IsFree (task_in shaped.now) objective }
-    requires none_alone { NoneIsAlone (task_in shaped.now) }
-    ensures { IfOk result (IsFound (task_in shaped.now) (Least objective)) }
+    requires set { IsSet setting.now }
+    requires free { IsFree (case_in setting.now) objective }
+    requires none_alone { NoneIsAlone (case_in setting.now) }
+    ensures { IfOk result (IsFound (case_in setting.now) (Least objective)) }
 {
-    match plan_by(alloc, shaped, objective, order)? {
+    match plan_by(alloc, setting, objective, order)? {
         Some(best) => {
-            let (verified, within) = halve(alloc, shaped, asker, objective, best)?;
-            Ok(Found::Best(verified, within))
+            let (kept, within) = halve(alloc, setting, asker, objective, best)?;
+            Ok(Found::Best(kept, within))
         }
         None => Ok(Found::Open),
     }

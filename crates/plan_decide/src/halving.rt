@@ -2,9 +2,9 @@
 
 ghost use Rattle.std.specs.Prelude.{◌≡◌, ◌-◌, ◌<◌, IfOk, IfSome};
 ghost use Rattle.shop_base.specs.Plan.{jobs};
-ghost use Rattle.plan_seek.specs.Tasks.{task_in};
-ghost use Rattle.plan_decide.specs.declared.aim.Objective.TheVariants.{Leaving};
+ghost use Rattle.plan_decide.specs.declared.aim.Objective.TheVariants.{Makespan, Leaving};
 ghost use Rattle.plan_decide.specs.Objectives.{IsLeast};
+ghost use Rattle.plan_decide.specs.Settings.{IsSet, case_in};
 ghost use Rattle.plan_decide.specs.Halves.{IsFree, IsFoundWith, IsLooked, IsHalfway, IsHalved};
 
 use crate::aim::Objective;
@@ -12,20 +12,22 @@ use crate::asked::Asked;
 use crate::asker::Asker;
 use crate::decided::Within;
 use crate::judging::{accepted_at, accepted_by};
+use crate::kept::{Kept, leaving_in, makespan_of};
+use crate::setting::{Past, Setting, bound_of_job, is_waiting};
 use crate::watch::Watch;
 use arc_choice::Choose;
-use plan_bounds::{job_bound, least_makespan};
+use plan_bounds::least_makespan;
 use plan_improve::copy_orders;
 use plan_limits::Answer;
-use plan_verifier::Verified;
+use plan_verifier::later;
 use shop_base::limits::MAX_MOMENT;
-use shop_base::{JobNo, Moment, Shaped};
+use shop_base::{JobNo, Moment};
 use std::alloc::{AllocError, Global};
 
 /// An accepted plan, with its value of the objective. Where that is a job's leaving, it is the job's budget.
 #[derive(Drop)]
 pub(crate) struct Best {
-    pub plan: Verified,
+    pub plan: Kept,
     pub value: Moment,
 }
 
@@ -39,56 +41,86 @@ pub(crate) enum Looked {
 }
 
 /// The moment below which no plan has a value.
-fn bound_of(shaped: &Shaped, objective: Objective) -> Moment
-    requires { IsFree (task_in shaped.now) objective }
-    ensures { IsLeast (task_in shaped.now) objective result }
+fn bound_of(setting: &Setting<'_>, objective: Objective) -> Moment
+    requires set { IsSet setting.now }
+    requires free { IsFree (case_in setting.now) objective }
+    ensures { IsLeast (case_in setting.now) objective result }
 {
     match objective {
-        Objective::Makespan => least_makespan(shaped).at_least,
-        Objective::Leaving(job) => job_bound(shaped, job),
+        Objective::Makespan => match setting.past {
+            Past::Nothing => least_makespan(setting.cell.shaped()).at_least,
+            Past::Run { log: _, present: _ } => latest_bound(setting),
+        },
+        Objective::Leaving(job) => earliest_out(setting, job),
+    }
+}
+
+/// The latest of the moments before which the jobs aren't out.
+fn latest_bound(setting: &Setting<'_>) -> Moment
+    requires { IsSet setting.now }
+    ensures { IsLeast (case_in setting.now) Makespan result }
+{
+    let mut bound = 0;
+    for job in 0..setting.cell.job_count() {
+        bound = later(bound, earliest_out(setting, job));
+    }
+    bound
+}
+
+/// Before which moment the job isn't out: its bound or, where it is gone, the moment at which it left.
+fn earliest_out(setting: &Setting<'_>, job: JobNo) -> Moment
+    requires job { job < jobs setting.now.cell.plan }
+    requires set { IsSet setting.now }
+    ensures leaving { IsLeast (case_in setting.now) (Leaving job) result }
+    ensures makespan { IsLeast (case_in setting.now) Makespan result }
+{
+    if is_waiting(setting, job) {
+        bound_of_job(setting, job)
+    } else {
+        setting.cell.job_state(job).since
     }
 }
 
 /// The plan with these orders, if it is accepted.
 pub(crate) fn plan_by(
     alloc: Global,
-    shaped: &Shaped,
+    setting: &Setting<'_>,
     objective: Objective,
     order: Vec<Vec<JobNo>>,
 ) -> Result<Option<Best>, AllocError>
-    requires { IsFree (task_in shaped.now) objective }
-    ensures { IfOk result (λ found. IfSome found (IsFoundWith (task_in shaped.now) objective)) }
+    requires set { IsSet setting.now }
+    requires free { IsFree (case_in setting.now) objective }
+    ensures { IfOk result (λ found. IfSome found (IsFoundWith (case_in setting.now) objective)) }
 {
     match objective {
-        Objective::Makespan => match accepted_by(alloc, shaped, order)? {
+        Objective::Makespan => match accepted_by(alloc, setting, order)? {
             Some(plan) => {
-                let value = plan.makespan();
+                let value = makespan_of(setting, &plan);
                 Ok(Some(Best { plan, value }))
             }
             None => Ok(None),
         },
-        Objective::Leaving(job) => plan_at(alloc, shaped, job, order),
+        Objective::Leaving(job) => plan_at(alloc, setting, job, order),
     }
 }
 
 /// The plan with these orders and the job's leaving as its budget, if it is accepted.
 fn plan_at(
     alloc: Global,
-    shaped: &Shaped,
+    setting: &Setting<'_>,
     job: JobNo,
     order: Vec<Vec<JobNo>>,
 ) -> Result<Option<Best>, AllocError>
-    requires { job < jobs shaped.now }
-    ensures { IfOk result (λ found. IfSome found (IsFoundWith (task_in shaped.now) (Leaving job))) }
+    requires set { IsSet setting.now }
+    requires job { job < jobs setting.now.cell.plan }
+    ensures { IfOk result (λ found. IfSome found (IsFoundWith (case_in setting.now) (Leaving job))) }
 {
     let same = copy_orders(alloc, &order)?;
-    let Some(loose) = accepted_at(alloc, shaped, job, MAX_MOMENT, same)? else {
+    let Some(loose) = accepted_at(alloc, setting, job, MAX_MOMENT, same)? else {
         return Ok(None);
     };
-    let Some(value) = loose.earliest_leave(job) else {
-        return Ok(None);
-    };
-    match accepted_at(alloc, shaped, job, value, order)? {
+    let value = leaving_in(setting, &loose, job);
+    match accepted_at(alloc, setting, job, value, order)? {
         Some(plan) => Ok(Some(Best { plan, value })),
         None => Ok(None),
     }
@@ -97,19 +129,20 @@ fn plan_at(
 /// Looks for a plan with a value of at most the limit, which is better than a plan with this value.
 fn look<C: Choose, W: Watch>(
     alloc: Global,
-    shaped: &Shaped,
+    setting: &Setting<'_>,
     asker: &mut Asker<'_, C, W>,
     objective: Objective,
     limit: Moment,
     value: Moment,
 ) -> Result<Looked, AllocError>
-    requires { IsFree (task_in shaped.now) objective }
-    ensures { IfOk result (IsLooked (task_in shaped.now) objective limit value) }
+    requires set { IsSet setting.now }
+    requires free { IsFree (case_in setting.now) objective }
+    ensures { IfOk result (IsLooked (case_in setting.now) objective limit value) }
 {
-    match asker.ask(alloc, shaped, Asked::AtMost(objective, limit))? {
+    match asker.ask(alloc, setting, Asked::AtMost(objective, limit))? {
         Answer::Never => Ok(Looked::Never),
         Answer::Open => Ok(Looked::Open),
-        Answer::Orders(order) => match plan_by(alloc, shaped, objective, order)? {
+        Answer::Orders(order) => match plan_by(alloc, setting, objective, order)? {
             Some(found) => {
                 if found.value < value {
                     Ok(Looked::Better(found))
@@ -135,16 +168,17 @@ pub(crate) struct Halfway {
 /// Halves what lies between the bound and the value of a plan, and gives the best plan that it finds.
 pub(crate) fn halve<C: Choose, W: Watch>(
     alloc: Global,
-    shaped: &Shaped,
+    setting: &Setting<'_>,
     asker: &mut Asker<'_, C, W>,
     objective: Objective,
     best: Best,
-) -> Result<(Verified, Within), AllocError>
-    requires free { IsFree (task_in shaped.now) objective }
-    requires best { IsFoundWith (task_in shaped.now) objective best }
-    ensures { IfOk result (IsHalved (task_in shaped.now) objective) }
+) -> Result<(Kept, Within), AllocError>
+    requires set { IsSet setting.now }
+    requires free { IsFree (case_in setting.now) objective }
+    requires best { IsFoundWith (case_in setting.now) objective best }
+    ensures { IfOk result (IsHalved (case_in setting.now) objective) }
 {
-    let at_least = bound_of(shaped, objective);
+    let at_least = bound_of(setting, objective);
     let mut halfway = Halfway {
         best,
         at_least,
@@ -153,7 +187,7 @@ pub(crate) fn halve<C: Choose, W: Watch>(
     };
     while halfway.low < halfway.best.value {
         asker.tell(known(&halfway));
-        halfway = halve_once(alloc, shaped, asker, objective, halfway)?;
+        halfway = halve_once(alloc, setting, asker, objective, halfway)?;
     }
     let within = known(&halfway);
     let Halfway { best, .. } = halfway;
@@ -177,19 +211,20 @@ fn known(halfway: &Halfway) -> Within
 /// Asks for the middle of what is left.
 fn halve_once<C: Choose, W: Watch>(
     alloc: Global,
-    shaped: &Shaped,
+    setting: &Setting<'_>,
     asker: &mut Asker<'_, C, W>,
     objective: Objective,
     halfway: Halfway,
 ) -> Result<Halfway, AllocError>
-    requires free { IsFree (task_in shaped.now) objective }
-    requires halfway { IsHalfway (task_in shaped.now) objective halfway }
+    requires set { IsSet setting.now }
+    requires free { IsFree (case_in setting.now) objective }
+    requires halfway { IsHalfway (case_in setting.now) objective halfway }
     requires more { halfway.low < halfway.best.value }
-    ensures halfway { IfOk result (IsHalfway (task_in shaped.now) objective) }
+    ensures halfway { IfOk result (IsHalfway (case_in setting.now) objective) }
     ensures less { IfOk result (λ next. next.best.value - next.low < halfway.best.value - halfway.low) }
 {
     let limit = halfway.low + (halfway.best.value - halfway.low) / 2;
-    match look(alloc, shaped, asker, objective, limit, halfway.best.value)? {
+    match look(alloc, setting, asker, objective, limit, halfway.best.value)? {
         Looked::Better(best) => Ok(Halfway { best, ..halfway }),
         Looked::Never => Ok(Halfway {
             at_least: limit + 1,

@@ -3,26 +3,39 @@
 ghost use Rattle.std.specs.Prelude.{◌≡◌, ◌<◌, IfOk, IfSome};
 ghost use Rattle.shop_base.specs.Plan.{jobs};
 ghost use Rattle.shop_base.specs.Vectors.{lists_of};
-ghost use Rattle.plan_seek.specs.Tasks.{task_in, IsAccepted};
-ghost use Rattle.plan_decide.specs.Promises.{with_budgets, with_budget};
+ghost use Rattle.plan_verifier.specs.Rest.{AreOrderedAhead};
+ghost use Rattle.plan_verifier.specs.RestVerdicts.{IsAcceptableAhead};
+ghost use Rattle.text_lines.specs.Lines.{ended_lines};
+ghost use Rattle.plan_bounds.specs.Bounds.{times_of};
+ghost use Rattle.shop_base.specs.Report.{IsNextMoment};
+ghost use Rattle.plan_decide.specs.Cases.{nothing, with_budgets, with_budget};
 ghost use Rattle.plan_decide.specs.Decisions.{IsAcceptedWith};
+ghost use Rattle.plan_decide.specs.Settings.{IsSet, case_in, plan_of, FitsPast, IsKeptAs, IsKeptAfter, IsTimely, AreTimesAfter};
 
 use crate::copying::{copy_cleanings, copy_moments, copy_shop};
-use plan_verifier::{Verdict, Verified, verify};
-use shop_base::{JobNo, Moment, Plan, Shaped, shape};
+use crate::kept::Kept;
+use crate::setting::{Past, Setting, budgets_of};
+use alt_graph::Times;
+use cell_tables::WorkCell;
+use plan_verifier::{Judged, Verdict, verify, verify_after};
+use run_log::run_if_told;
+use shop_base::{JobNo, Moment, Plan, Planned, Shaped, shape};
 use std::alloc::{AllocError, Global};
 
 /// The plan with these budgets and orders, if it is accepted.
 pub(crate) fn accepted_with(
     alloc: Global,
-    shaped: &Shaped,
+    setting: &Setting<'_>,
     budget: Vec<Moment>,
     order: Vec<Vec<JobNo>>,
-) -> Result<Option<Verified>, AllocError>
-    ensures accepted { let t = with_budgets (task_in shaped.now) budget.items in
-        IfOk result (λ found. IfSome found (λ verified. IsAcceptedWith t verified.planned)) }
-    ensures order { IfOk result (λ found. IfSome found (λ verified. verified.planned.plan.order ≡ lists_of order.items)) }
+) -> Result<Option<Kept>, AllocError>
+    requires { IsSet setting.now }
+    ensures accepted { let t = with_budgets (case_in setting.now) budget.items in
+        IfOk result (λ found. IfSome found (λ kept. IsAcceptedWith t (plan_of kept))) }
+    ensures fits { IfOk result (λ found. IfSome found (FitsPast (case_in setting.now).past)) }
+    ensures order { IfOk result (λ found. IfSome found (λ kept. (plan_of kept).plan.order ≡ lists_of order.items)) }
 {
+    let shaped = setting.cell.shaped();
     let shop = copy_shop(alloc, shaped)?;
     let plan = Plan {
         release: copy_moments(alloc, &shaped.plan().release)?,
@@ -31,48 +44,120 @@ pub(crate) fn accepted_with(
         clean: copy_cleanings(alloc, &shaped.plan().clean)?,
     };
     match shape(shop, plan) {
-        Ok(shaped) => accepted(alloc, shaped),
+        Ok(shaped) => accepted(alloc, setting, shaped),
         Err(_) => Ok(None),
     }
 }
 
 /// The plan, if it is accepted.
-fn accepted(alloc: Global, shaped: Shaped) -> Result<Option<Verified>, AllocError>
-    ensures { IfOk result (λ found. IfSome found (λ verified. (verified.planned ≡ shaped) × IsAccepted shaped)) }
+fn accepted(
+    alloc: Global,
+    setting: &Setting<'_>,
+    shaped: Shaped,
+) -> Result<Option<Kept>, AllocError>
+    requires set { IsSet setting.now }
+    requires same { times_of shaped ≡ times_of setting.now.cell.plan }
+    ensures { IfOk result (λ found. IfSome found (IsKeptAs (case_in setting.now).past shaped)) }
+{
+    // Called for its clause alone: the plan is well shaped.
+    let _shop = shaped.shop();
+    match setting.past {
+        Past::Nothing => accepted_whole(alloc, shaped),
+        Past::Run { log, present } => accepted_after(alloc, shaped, log, present),
+    }
+}
+
+/// The whole plan, if it is accepted.
+fn accepted_whole(alloc: Global, shaped: Shaped) -> Result<Option<Kept>, AllocError>
+    ensures { IfOk result (λ found. IfSome found (IsKeptAs nothing shaped)) }
 {
     match verify(alloc, shaped) {
-        Ok(Verdict::Accepted(verified)) => Ok(Some(verified)),
+        Ok(Verdict::Accepted(verified)) => Ok(Some(Kept::Whole(verified))),
         Ok(Verdict::Refused(_, _)) => Ok(None),
         Err((error, _)) => Err(error),
+    }
+}
+
+/// The plan, if the log records a run of it too and its rest is accepted.
+fn accepted_after(
+    alloc: Global,
+    shaped: Shaped,
+    log: &[u8],
+    present: Moment,
+) -> Result<Option<Kept>, AllocError>
+    requires { IsTimely (ended_lines log.now) present shaped }
+    ensures { IfOk result (λ found. IfSome found (IsKeptAfter (ended_lines log.now) present shaped)) }
+{
+    match times_after(alloc, &shaped, log, present)? {
+        Some(times) => Ok(Some(Kept::Rest(shaped, times))),
+        None => Ok(None),
+    }
+}
+
+/// The moments of the rest, if it is accepted.
+fn times_after(
+    alloc: Global,
+    shaped: &Shaped,
+    log: &[u8],
+    present: Moment,
+) -> Result<Option<Times>, AllocError>
+    requires { IsTimely (ended_lines log.now) present shaped.now }
+    ensures { IfOk result (λ found. IfSome found (AreTimesAfter (ended_lines log.now) present shaped.now)) }
+{
+    match run_if_told(alloc, shaped, log)? {
+        Some(run) => accepted_times(alloc, &run.cell, present),
+        None => Ok(None),
+    }
+}
+
+/// The moments from a cell on, if the rest from there is accepted.
+fn accepted_times<P: Planned>(
+    alloc: Global,
+    cell: &WorkCell<P>,
+    present: Moment,
+) -> Result<Option<Times>, AllocError>
+    requires { IsNextMoment cell.now.cell present }
+    ensures { let p = cell.now.plan in let c = cell.now.cell in
+        IfOk result (λ found. IfSome found (λ times. IsAcceptableAhead p c present × AreOrderedAhead p c present times)) }
+{
+    match verify_after(alloc, cell, present)? {
+        Judged::Accepted(times) => Ok(Some(times)),
+        Judged::Refused(_) => Ok(None),
     }
 }
 
 /// The plan with these orders, if it is accepted.
 pub(crate) fn accepted_by(
     alloc: Global,
-    shaped: &Shaped,
+    setting: &Setting<'_>,
     order: Vec<Vec<JobNo>>,
-) -> Result<Option<Verified>, AllocError>
-    ensures { IfOk result (λ found. IfSome found (λ verified. IsAcceptedWith (task_in shaped.now) verified.planned)) }
+) -> Result<Option<Kept>, AllocError>
+    requires { IsSet setting.now }
+    ensures accepted { IfOk result (λ found. IfSome found (λ kept. IsAcceptedWith (case_in setting.now) (plan_of kept))) }
+    ensures fits { IfOk result (λ found. IfSome found (FitsPast (case_in setting.now).past)) }
 {
-    let budget = copy_moments(alloc, &shaped.plan().budget)?;
-    accepted_with(alloc, shaped, budget, order)
+    let budget = budgets_of(alloc, setting)?;
+    accepted_with(alloc, setting, budget, order)
 }
 
 /// The plan with these orders and this budget of a job, if it is accepted.
 pub(crate) fn accepted_at(
     alloc: Global,
-    shaped: &Shaped,
+    setting: &Setting<'_>,
     job: JobNo,
     budget: Moment,
     order: Vec<Vec<JobNo>>,
-) -> Result<Option<Verified>, AllocError>
-    requires { job < jobs shaped.now }
-    ensures accepted { let t = with_budget (task_in shaped.now) job budget in
-        IfOk result (λ found. IfSome found (λ verified. IsAcceptedWith t verified.planned)) }
-    ensures order { IfOk result (λ found. IfSome found (λ verified. verified.planned.plan.order ≡ lists_of order.items)) }
+) -> Result<Option<Kept>, AllocError>
+    requires job { job < jobs setting.now.cell.plan }
+    requires set { IsSet setting.now }
+    ensures accepted { let t = with_budget (case_in setting.now) job budget in
+        IfOk result (λ found. IfSome found (λ kept. IsAcceptedWith t (plan_of kept))) }
+    ensures fits { IfOk result (λ found. IfSome found (FitsPast (case_in setting.now).past)) }
+    ensures order { IfOk result (λ found. IfSome found (λ kept. (plan_of kept).plan.order ≡ lists_of order.items)) }
 {
-    let mut budgets = copy_moments(alloc, &shaped.plan().budget)?;
+    // Called for its clause alone: there is a budget for each job.
+    let _plan = setting.cell.shaped();
+    let mut budgets = budgets_of(alloc, setting)?;
     budgets[job as usize] = budget;
-    accepted_with(alloc, shaped, budgets, order)
+    accepted_with(alloc, setting, budgets, order)
 }

@@ -2,20 +2,20 @@
 
 ghost use Rattle.std.specs.Prelude.{◌≡◌, ◌+◌, ◌<◌, IfOk, OnOk, length, map, slice_set, None};
 ghost use Rattle.shop_base.specs.Plan.{jobs};
-ghost use Rattle.plan_limits.specs.Limits.{NoPlanKeeps};
-ghost use Rattle.plan_seek.specs.Tasks.{task_in};
-ghost use Rattle.plan_decide.specs.Promises.{times_in};
+ghost use Rattle.plan_decide.specs.Asking.{NoPlanKeeps};
+ghost use Rattle.plan_decide.specs.Settings.{IsSet, case_in};
 ghost use Rattle.plan_decide.specs.Excluding.{IsExclusion};
 ghost use Rattle.plan_decide.specs.LeftOut.{ArePromised, IsSpared, IsLeft, AreLimited, cap};
 
 use crate::asker::Asker;
 use crate::excluded::Excluded;
 use crate::judging::accepted_with;
+use crate::setting::Setting;
 use crate::watch::Watch;
 use arc_choice::Choose;
 use plan_limits::Answer;
 use shop_base::limits::MAX_MOMENT;
-use shop_base::{JobNo, Moment, Shaped};
+use shop_base::{JobNo, Moment};
 use std::alloc::{AllocError, Global};
 
 /// What comes of the question whether a job can be left out.
@@ -41,39 +41,41 @@ pub(crate) struct Left {
 /// each is left out without which the others still do.
 pub(crate) fn leave_out<C: Choose, W: Watch>(
     alloc: Global,
-    shaped: &Shaped,
+    setting: &Setting<'_>,
     asker: &mut Asker<'_, C, W>,
     limits: Vec<Option<Moment>>,
 ) -> Result<Excluded, AllocError>
-    requires promised { ArePromised (task_in shaped.now) limits.items }
-    requires none { NoPlanKeeps (times_in (task_in shaped.now)) limits.items }
-    ensures { IfOk result (IsExclusion (task_in shaped.now)) }
+    requires set { IsSet setting.now }
+    requires promised { ArePromised (case_in setting.now) limits.items }
+    requires none { NoPlanKeeps (case_in setting.now) limits.items }
+    ensures { IfOk result (IsExclusion (case_in setting.now)) }
 {
     let mut left = Left {
         limits,
         or_fewer: false,
     };
-    for job in (0..shaped.job_count()).rev() {
-        left = leave_one(alloc, shaped, asker, left, job)?;
+    for job in (0..setting.cell.job_count()).rev() {
+        left = leave_one(alloc, setting, asker, left, job)?;
     }
     let Left { limits, or_fewer } = left;
-    let jobs = limited_jobs(alloc, shaped, &limits)?;
+    let jobs = limited_jobs(alloc, setting, &limits)?;
     Ok(Excluded::Several { jobs, or_fewer })
 }
 
 /// What is left once this job was asked about too.
 fn leave_one<C: Choose, W: Watch>(
     alloc: Global,
-    shaped: &Shaped,
+    setting: &Setting<'_>,
     asker: &mut Asker<'_, C, W>,
     left: Left,
     job: JobNo,
 ) -> Result<Left, AllocError>
-    requires job { job < jobs shaped.now }
-    requires left { IsLeft (task_in shaped.now) left (job + 1) }
-    ensures { IfOk result (λ left. IsLeft (task_in shaped.now) left job) }
+    requires job { job < jobs setting.now.cell.plan }
+    requires set { IsSet setting.now }
+    requires left { IsLeft (case_in setting.now) left (job + 1) }
+    ensures { IfOk result (λ left. IsLeft (case_in setting.now) left job) }
 {
-    match spare(alloc, shaped, asker, &left.limits, job)? {
+    match spare(alloc, setting, asker, &left.limits, job)? {
         Spared::LeftOut(limits) => Ok(Left {
             limits,
             or_fewer: left.or_fewer,
@@ -89,26 +91,27 @@ fn leave_one<C: Choose, W: Watch>(
 /// Whether the job can be left out. One without a limit already is.
 fn spare<C: Choose, W: Watch>(
     alloc: Global,
-    shaped: &Shaped,
+    setting: &Setting<'_>,
     asker: &mut Asker<'_, C, W>,
     limits: &[Option<Moment>],
     job: JobNo,
 ) -> Result<Spared, AllocError>
-    requires job { job < jobs shaped.now }
-    requires promised { ArePromised (task_in shaped.now) limits.now }
-    requires none { NoPlanKeeps (times_in (task_in shaped.now)) limits.now }
-    ensures { IfOk result (IsSpared (task_in shaped.now) limits.now job) }
+    requires job { job < jobs setting.now.cell.plan }
+    requires set { IsSet setting.now }
+    requires promised { ArePromised (case_in setting.now) limits.now }
+    requires none { NoPlanKeeps (case_in setting.now) limits.now }
+    ensures { IfOk result (IsSpared (case_in setting.now) limits.now job) }
 {
     let fewer = without(alloc, limits, job)?;
     if limits[job as usize].is_none() {
         return Ok(Spared::LeftOut(fewer));
     }
-    match asker.ask_limits(alloc, shaped, &fewer)? {
+    match asker.ask_limits(alloc, setting, &fewer)? {
         Answer::Never => Ok(Spared::LeftOut(fewer)),
         Answer::Open => Ok(Spared::Open),
         Answer::Orders(order) => {
             let budget = caps(alloc, &fewer)?;
-            match accepted_with(alloc, shaped, budget, order)? {
+            match accepted_with(alloc, setting, budget, order)? {
                 Some(_) => Ok(Spared::Needed),
                 None => Ok(Spared::Open),
             }
@@ -153,14 +156,14 @@ fn cap_of(limit: Option<Moment>) -> Moment
 /// The jobs that have limits, in ascending order.
 fn limited_jobs(
     alloc: Global,
-    shaped: &Shaped,
+    setting: &Setting<'_>,
     limits: &[Option<Moment>],
 ) -> Result<Vec<JobNo>, AllocError>
-    requires { length limits.now ≡ jobs shaped.now }
-    ensures { IfOk result (λ found. AreLimited limits.now (jobs shaped.now) found.items) }
+    requires { length limits.now ≡ jobs setting.now.cell.plan }
+    ensures { IfOk result (λ found. AreLimited limits.now (jobs setting.now.cell.plan) found.items) }
 {
     let mut found = Vec::new(alloc);
-    for job in 0..shaped.job_count() {
+    for job in 0..setting.cell.job_count() {
         add_limited(limits, job, &mut found)?;
     }
     Ok(found)

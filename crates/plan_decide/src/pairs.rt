@@ -2,19 +2,20 @@
 
 ghost use Rattle.std.specs.Prelude.{◌+◌, ◌<◌, OnOk};
 ghost use Rattle.shop_base.specs.Plan.{jobs};
-ghost use Rattle.plan_seek.specs.Tasks.{task_in};
 ghost use Rattle.plan_decide.specs.declared.excluded.Excluded.TheVariants.{Pair};
 ghost use Rattle.plan_decide.specs.Excluding.{IsInDoubt};
+ghost use Rattle.plan_decide.specs.Settings.{IsSet, case_in};
 ghost use Rattle.plan_decide.specs.Told.{AreTold, AreToldBefore, AddsExclusions};
 
 use crate::alone::is_in_doubt;
 use crate::asked::Asked;
 use crate::asker::Asker;
 use crate::excluded::Excluded;
+use crate::setting::Setting;
 use crate::watch::Watch;
 use arc_choice::Choose;
 use plan_limits::Answer;
-use shop_base::{JobNo, Shaped};
+use shop_base::JobNo;
 use std::alloc::{AllocError, Global};
 
 /// The most promised jobs of which each two are asked for together.
@@ -23,28 +24,31 @@ pub const PAIRED_JOBS: u32 = 64;
 /// Adds each pair of jobs that exclude each other, though neither is never in time by its bound.
 pub(crate) fn add_pairs<C: Choose, W: Watch>(
     alloc: Global,
-    shaped: &Shaped,
+    setting: &Setting<'_>,
     asker: &mut Asker<'_, C, W>,
     told: &mut Vec<Excluded>,
 ) -> Result<(), AllocError>
-    requires { AreToldBefore (task_in shaped.now) (Pair 0 0) told.old.items }
-    ensures told { OnOk result (AreTold (task_in shaped.now) told.new.items) }
+    requires set { IsSet setting.now }
+    requires told { AreToldBefore (case_in setting.now) (Pair 0 0) told.old.items }
+    ensures told { OnOk result (AreTold (case_in setting.now) told.new.items) }
     ensures adds { OnOk result (AddsExclusions told.old.items told.new.items) }
 {
-    if doubtful_jobs(shaped) > PAIRED_JOBS {
+    if doubtful_jobs(setting) > PAIRED_JOBS {
         return Ok(());
     }
-    for one in 0..shaped.job_count() {
-        add_pairs_of(alloc, shaped, asker, one, told)?;
+    for one in 0..setting.cell.job_count() {
+        add_pairs_of(alloc, setting, asker, one, told)?;
     }
     Ok(())
 }
 
 /// How many jobs have promises that their bounds leave possible.
-fn doubtful_jobs(shaped: &Shaped) -> u32 {
+fn doubtful_jobs(setting: &Setting<'_>) -> u32
+    requires { IsSet setting.now }
+{
     let mut count = 0;
-    for job in 0..shaped.job_count() {
-        if is_in_doubt(shaped, job) {
+    for job in 0..setting.cell.job_count() {
+        if is_in_doubt(setting, job) {
             count += 1;
         }
     }
@@ -54,22 +58,23 @@ fn doubtful_jobs(shaped: &Shaped) -> u32 {
 /// Adds each pair of the job with one of a greater number.
 fn add_pairs_of<C: Choose, W: Watch>(
     alloc: Global,
-    shaped: &Shaped,
+    setting: &Setting<'_>,
     asker: &mut Asker<'_, C, W>,
     one: JobNo,
     told: &mut Vec<Excluded>,
 ) -> Result<(), AllocError>
-    requires one { one < jobs shaped.now }
-    requires told { AreToldBefore (task_in shaped.now) (Pair one 0) told.old.items }
-    ensures told { OnOk result (AreToldBefore (task_in shaped.now) (Pair (one + 1) 0) told.new.items) }
+    requires one { one < jobs setting.now.cell.plan }
+    requires set { IsSet setting.now }
+    requires told { AreToldBefore (case_in setting.now) (Pair one 0) told.old.items }
+    ensures told { OnOk result (AreToldBefore (case_in setting.now) (Pair (one + 1) 0) told.new.items) }
     ensures adds { OnOk result (AddsExclusions told.old.items told.new.items) }
 {
-    if !is_in_doubt(shaped, one) {
+    if !is_in_doubt(setting, one) {
         return Ok(());
     }
-    let jobs = shaped.job_count();
+    let jobs = setting.cell.job_count();
     for other in one + 1..jobs {
-        add_pair(alloc, shaped, asker, one, other, told)?;
+        add_pair(alloc, setting, asker, one, other, told)?;
     }
     Ok(())
 }
@@ -77,23 +82,24 @@ fn add_pairs_of<C: Choose, W: Watch>(
 /// Adds the pair, if the other is in doubt too and the two exclude each other.
 fn add_pair<C: Choose, W: Watch>(
     alloc: Global,
-    shaped: &Shaped,
+    setting: &Setting<'_>,
     asker: &mut Asker<'_, C, W>,
     one: JobNo,
     other: JobNo,
     told: &mut Vec<Excluded>,
 ) -> Result<(), AllocError>
-    requires other { other < jobs shaped.now }
+    requires other { other < jobs setting.now.cell.plan }
+    requires set { IsSet setting.now }
     requires ascending { one < other }
-    requires doubt { IsInDoubt (task_in shaped.now) one }
-    requires told { AreToldBefore (task_in shaped.now) (Pair one other) told.old.items }
-    ensures told { OnOk result (AreToldBefore (task_in shaped.now) (Pair one (other + 1)) told.new.items) }
+    requires doubt { IsInDoubt (case_in setting.now) one }
+    requires told { AreToldBefore (case_in setting.now) (Pair one other) told.old.items }
+    ensures told { OnOk result (AreToldBefore (case_in setting.now) (Pair one (other + 1)) told.new.items) }
     ensures adds { OnOk result (AddsExclusions told.old.items told.new.items) }
 {
-    if !is_in_doubt(shaped, other) {
+    if !is_in_doubt(setting, other) {
         return Ok(());
     }
-    let Answer::Never = asker.ask(alloc, shaped, Asked::Both(one, other))? else {
+    let Answer::Never = asker.ask(alloc, setting, Asked::Both(one, other))? else {
         return Ok(());
     };
     told.push(Excluded::Pair(one, other))?;

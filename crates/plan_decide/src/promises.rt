@@ -1,9 +1,8 @@
 //! Whether all promises can be kept, and where they can't, which exclude each other.
 
 ghost use Rattle.std.specs.Prelude.{IfOk};
-ghost use Rattle.plan_limits.specs.Limits.{NoPlanKeeps};
-ghost use Rattle.plan_seek.specs.Tasks.{task_in};
-ghost use Rattle.plan_decide.specs.Promises.{times_in};
+ghost use Rattle.plan_decide.specs.Asking.{NoPlanKeeps};
+ghost use Rattle.plan_decide.specs.Settings.{IsSet, case_in};
 ghost use Rattle.plan_decide.specs.Excluding.{AreExclusions, NoneIsAlone};
 ghost use Rattle.plan_decide.specs.LeftOut.{ArePromised};
 ghost use Rattle.plan_decide.specs.Told.{IsReply};
@@ -14,10 +13,11 @@ use crate::asker::Asker;
 use crate::excluded::Excluded;
 use crate::leaving_out::leave_out;
 use crate::pairs::add_pairs;
+use crate::setting::Setting;
 use crate::watch::Watch;
 use arc_choice::Choose;
 use plan_limits::Answer;
-use shop_base::{JobNo, Moment, Shaped};
+use shop_base::{JobNo, Moment};
 use std::alloc::{AllocError, Global};
 
 /// What is found of all promises together.
@@ -34,41 +34,43 @@ pub(crate) enum Reply {
 /// Asks for all promises, if none is excluded by its job's bound; else for each pair of the others.
 pub(crate) fn ask_all<C: Choose, W: Watch>(
     alloc: Global,
-    shaped: &Shaped,
+    setting: &Setting<'_>,
     asker: &mut Asker<'_, C, W>,
 ) -> Result<Reply, AllocError>
-    ensures { IfOk result (IsReply (task_in shaped.now)) }
+    requires { IsSet setting.now }
+    ensures { IfOk result (IsReply (case_in setting.now)) }
 {
-    let mut told = all_alone(alloc, shaped)?;
+    let mut told = all_alone(alloc, setting)?;
     if !told.is_empty() {
-        add_pairs(alloc, shaped, asker, &mut told)?;
+        add_pairs(alloc, setting, asker, &mut told)?;
         return Ok(Reply::Never(told));
     }
-    let limits = limits_for(alloc, shaped, Asked::All)?;
-    match asker.ask_limits(alloc, shaped, &limits)? {
+    let limits = limits_for(alloc, setting, Asked::All)?;
+    match asker.ask_limits(alloc, setting, &limits)? {
         Answer::Orders(order) => Ok(Reply::Orders(order)),
         Answer::Open => Ok(Reply::Open),
-        Answer::Never => Ok(Reply::Never(exclusions(alloc, shaped, asker, limits)?)),
+        Answer::Never => Ok(Reply::Never(exclusions(alloc, setting, asker, limits)?)),
     }
 }
 
 /// The pairs that exclude each other where all promises do, or if there is none, those that are left of all.
 fn exclusions<C: Choose, W: Watch>(
     alloc: Global,
-    shaped: &Shaped,
+    setting: &Setting<'_>,
     asker: &mut Asker<'_, C, W>,
     limits: Vec<Option<Moment>>,
 ) -> Result<Vec<Excluded>, AllocError>
-    requires promised { ArePromised (task_in shaped.now) limits.items }
-    requires none { NoPlanKeeps (times_in (task_in shaped.now)) limits.items }
-    requires none_alone { NoneIsAlone (task_in shaped.now) }
-    ensures { IfOk result (λ told. AreExclusions (task_in shaped.now) told.items) }
+    requires set { IsSet setting.now }
+    requires promised { ArePromised (case_in setting.now) limits.items }
+    requires none { NoPlanKeeps (case_in setting.now) limits.items }
+    requires none_alone { NoneIsAlone (case_in setting.now) }
+    ensures { IfOk result (λ told. AreExclusions (case_in setting.now) told.items) }
 {
     let mut told = Vec::new(alloc);
-    add_pairs(alloc, shaped, asker, &mut told)?;
+    add_pairs(alloc, setting, asker, &mut told)?;
     if !told.is_empty() {
         return Ok(told);
     }
-    told.push(leave_out(alloc, shaped, asker, limits)?)?;
+    told.push(leave_out(alloc, setting, asker, limits)?)?;
     Ok(told)
 }

@@ -2,28 +2,29 @@
 use Rattle.std.proofs.Common.{◌≡◌, ℕ, ◌<◌, ◌≤◌, List, length, Option, arith, sym, ◌∙◌, subst}
 use Rattle.shop_base.specs.declared.node.Node.{Node}
 use Rattle.shop_base.specs.Plan.{PlannedShop, IsWellShaped}
+use Rattle.shop_base.specs.Cell.{Cell}
 use Rattle.arc_choice.specs.declared.question.Question.{Question}
 use Rattle.arc_choice.specs.declared.outcome.Outcome.{Outcome}
 use Rattle.arc_choice.specs.declared.outcome.Outcome.TheVariants.{Never, Chosen, Open}
 use Rattle.arc_choice.specs.Choices.{IsArc, IsSound, IsImpossible, arc_at, pair_at}
 use Rattle.arc_choice.specs.Outcomes.{OnNever}
-use Rattle.plan_bounds.specs.Bounds.{ShopTimes, times_of}
+use Rattle.plan_bounds.specs.Bounds.{times_of}
 use Rattle.plan_limits.specs.declared.sizes.TheConstants.{MAX_NODES}
-use Rattle.plan_limits.specs.Limits.{NoPlanKeeps}
-use Rattle.plan_limits.specs.LimitsLaw.{AreFineMoments, LeaveWithin}
-use Rattle.plan_limits.specs.Asked.{by_number, AreNumbered, AreFirst, AreLast, AreRouteArcs, AreMachinePairs, Asks}
-use Rattle.plan_limits.proofs.KeptArcs.{IsKeptArc, IsKeptPair, route_arc, machine_pair}
+use Rattle.plan_limits.specs.Stages.{Stage, stage_of, IsTimed}
+use Rattle.plan_limits.specs.Limits.{NoPlanKeepsFrom}
+use Rattle.plan_limits.specs.Asked.{by_number, AreNumbered, AreFirst, AreLast, AreFixedArcs, AreMachinePairs, Asks}
+use Rattle.plan_limits.proofs.KeptArcs.{IsKeptArc, IsKeptPair, fixed_arc, machine_pair}
 use Rattle.plan_limits.proofs.Farthest.{every_plan_gives_moments-holds}
 
-module _ (p : PlannedShop) (shaped : IsWellShaped p) (nodes : List Node) (limits : List (Option ℕ)) (q : Question)
-    (numbered : AreNumbered (times_of p) nodes) (few : length nodes ≤ MAX_NODES) (count : length q.first.items ≡ length nodes) (counts : length q.last.items ≡ length nodes)
-    (firsts : AreFirst (times_of p) nodes q.first.items) (lasts : AreLast (times_of p) nodes limits q.last.items)
-    (arcs : AreRouteArcs (times_of p) nodes q.arcs.items) (pairs : AreMachinePairs (times_of p) nodes q.pairs.items) where
-  abbrev arc : (a : ℕ) → a < length q.arcs.items → IsKeptArc (times_of p) nodes (arc_at q a)
-  arc a within = route_arc (times_of p) nodes (arc_at q a) numbered (arcs a within)
+module _ (p : PlannedShop) (c : Cell) (t : ℕ) (shaped : IsWellShaped p) (nodes : List Node) (limits : List (Option ℕ)) (q : Question)
+    (numbered : AreNumbered (times_of p) c nodes) (few : length nodes ≤ MAX_NODES) (count : length q.first.items ≡ length nodes) (counts : length q.last.items ≡ length nodes)
+    (firsts : AreFirst (stage_of p c t) nodes q.first.items) (lasts : AreLast (stage_of p c t) nodes limits q.last.items)
+    (arcs : AreFixedArcs (times_of p) c nodes q.arcs.items) (pairs : AreMachinePairs (times_of p) nodes q.pairs.items) where
+  abbrev arc : (a : ℕ) → a < length q.arcs.items → IsKeptArc (stage_of p c t) nodes (arc_at q a)
+  arc a within = fixed_arc (stage_of p c t) nodes q.arcs.items a numbered arcs within
 
-  abbrev pair : (a : ℕ) → a < length q.pairs.items → IsKeptPair (times_of p) nodes (pair_at q a)
-  pair a within = machine_pair p nodes (pair_at q a) shaped numbered (pairs a within)
+  abbrev pair : (a : ℕ) → a < length q.pairs.items → IsKeptPair (stage_of p c t) nodes (pair_at q a)
+  pair a within = machine_pair p c t nodes (pair_at q a) shaped numbered (pairs a within)
 
   pub question_sound : IsSound q
   question_sound = record {
@@ -34,7 +35,7 @@ module _ (p : PlannedShop) (shaped : IsWellShaped p) (nodes : List Node) (limits
     others = λ a within. subst (λ (n : ℕ). IsArc n (pair_at q a).other) (sym count) (pair a within).other;
   }
 
-  pub question_asks : Asks (times_of p) nodes limits q
+  pub question_asks : Asks (stage_of p c t) nodes limits q
   question_asks w fine leave = record {
     first = λ v within. firsts v within w fine;
     last = λ v within. lasts v (omega (arith, within, count, counts)) w fine leave;
@@ -49,7 +50,7 @@ at_never P (Chosen moments) is holds = absurd (cc)
 at_never P Open is holds = absurd (cc)
 
 -- where nothing answers the question no plan keeps the limits
-pub no_plan_keeps : (t : ShopTimes) (nodes : List Node) (limits : List (Option ℕ)) (q : Question) → Asks t nodes limits q → IsImpossible q → NoPlanKeeps t limits
-no_plan_keeps t nodes limits q asks impossible p shaped same keeps =
-    let found = every_plan_gives_moments-holds p limits shaped keeps in
-    impossible (by_number nodes found.0) (asks found.0 (subst (λ (s : ShopTimes). AreFineMoments s found.0) same found.1) (subst (λ (s : ShopTimes). LeaveWithin s limits found.0) same found.2))
+pub no_plan_keeps : (s : Stage) (nodes : List Node) (limits : List (Option ℕ)) (q : Question) → IsTimed s → Asks s nodes limits q → IsImpossible q → NoPlanKeepsFrom s limits
+no_plan_keeps s nodes limits q timed asks impossible p goes keeps =
+    let found = every_plan_gives_moments-holds s p limits timed goes keeps in
+    impossible (by_number nodes found.0) (asks found.0 found.1 found.2)

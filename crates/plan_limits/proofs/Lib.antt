@@ -1,8 +1,9 @@
 mod Between
 mod Counts
 mod Closed
+pub mod FirstPaths
 mod Farthest
-mod Acceptance
+pub mod Acceptance
 mod Numbered
 mod Spans
 mod Entries

@@ -1,16 +1,15 @@
 -- The nodes of jobs by number, as they are added one by one.
-use Rattle.std.proofs.Common.{◌≡◌, ℕ, ◌+◌, ◌<◌, ◌≤◌, ◌⊎◌, inl, inr, List, [], ◌∷◌, ◌++◌, length, get_or, Option, None, Some, Bool, not, false, arith, refl, sym, ap, ◌∙◌, subst}
-use Rattle.std.specs.Option.{is_some}
+use Rattle.std.proofs.Common.{◌≡◌, ℕ, ◌+◌, ◌<◌, ◌≤◌, ◌⊎◌, inl, inr, List, [], ◌∷◌, ◌++◌, length, get_or, arith, refl, sym, ap, ◌∙◌, subst}
 use Rattle.std.proofs.lemmas.Bool.{cases_lt}
 use Rattle.std.proofs.lemmas.List.{get_or_append_left, get_or_push, length_push}
 use Rattle.shop_base.specs.declared.node.Node.{Node}
+use Rattle.shop_base.specs.Cell.{Cell}
 use Rattle.shop_base.specs.Graph.{node}
 use Rattle.alt_graph.specs.Evidence.{IsNodeBefore}
 use Rattle.alt_graph.specs.Places.{node_at}
 use Rattle.alt_graph.proofs.NodeNumbers.{node_same}
 use Rattle.plan_bounds.specs.Bounds.{ShopTimes, job_count, route_in}
-use Rattle.plan_limits.specs.Limits.{limit_of}
-use Rattle.plan_limits.specs.Asked.{AreLimited, IsFollowed, IsLast, IsPlace, AreNumberedTo, AreNumbered}
+use Rattle.plan_limits.specs.Asked.{IsFollowed, IsLast, IsPlace, AreNumberedTo, AreNumbered}
 
 -- what holds of each item of a list still does with one more
 pub pushed : {A : Type 0} (P : ℕ → A → Type 0) (xs : List A) (x d : A) → ((n : ℕ) → n < length xs → P n (get_or xs n d)) → P (length xs) x
@@ -20,21 +19,12 @@ pushed P xs x d before here n within = elim (cases_lt n (length xs)) [
   | inr higher ↦ (let same : length xs ≡ n = omega (arith, length_push xs x) in subst (P n) (sym (get_or_push xs x d n same)) (subst (λ (k : ℕ). P k x) same here))
 ]
 
--- one more node of a job that has a limit
-pub limited_push : (limits : List (Option ℕ)) (nodes : List Node) (v : Node) (n : ℕ) → AreLimited limits nodes → limit_of limits v.job ≡ Some n → AreLimited limits (nodes ++ v ∷ [])
-limited_push limits nodes v n before limited = pushed (λ k u. (x : ℕ) × (limit_of limits u.job ≡ Some x)) nodes v (node 0 0) before (n, limited)
-
--- a job whose limit isn't none has one
-pub some_limit : (limit : Option ℕ) (none : Bool) → is_some limit ≡ not none → none ≡ false → (n : ℕ) × (limit ≡ Some n)
-some_limit None none is not_none = absurd (cc)
-some_limit (Some n) none is not_none = (n, refl)
-
-module _ (t : ShopTimes) where
-  module _ (j k : ℕ) (nodes : List Node) (are : AreNumberedTo t j k nodes) where
+module _ (t : ShopTimes) (c : Cell) where
+  module _ (j k : ℕ) (nodes : List Node) (are : AreNumberedTo t c j k nodes) where
     -- the job's next place is added
-    pub numbered_push : IsPlace t (node j k) → AreNumberedTo t j (k + 1) (nodes ++ node j k ∷ [])
+    pub numbered_push : IsPlace t c (node j k) → AreNumberedTo t c j (k + 1) (nodes ++ node j k ∷ [])
     numbered_push is = record {
-      inside = pushed (λ n v. IsPlace t v) nodes (node j k) (node 0 0) are.inside is;
+      inside = pushed (λ n v. IsPlace t c v) nodes (node j k) (node 0 0) are.inside is;
       before = pushed (λ n v. IsNodeBefore v (node j (k + 1))) nodes (node j k) (node 0 0) (λ n within. looser (node_at nodes n) (are.before n within)) (inr (refl, omega arith));
       sorted = λ n l less within. subst (λ (v : Node). IsNodeBefore v (node_at (nodes ++ node j k ∷ []) l)) (sym (at_old n (omega (arith, less, within, length_push nodes (node j k))))) (apart n l less within (cases_lt l (length nodes)));
       followed = λ n within place. follow n within place (cases_lt n (length nodes));
@@ -80,8 +70,25 @@ module _ (t : ShopTimes) where
               place = ap (λ (v : Node). v.place + 1) (at_new n same);
             })
 
+    -- places before the first that is added are passed over
+    pub numbered_from : (l : ℕ) → k ≡ 0 → AreNumberedTo t c j l nodes
+    numbered_from l none = record {
+      inside = are.inside;
+      before = λ n within. inl (earlier (node_at nodes n) (are.before n within));
+      sorted = are.sorted;
+      followed = λ n within place. inl (follow n (are.followed n within place));
+    }
+      where
+        earlier : (v : Node) → IsNodeBefore v (node j k) → v.job < j
+        earlier v (inl less) = less
+        earlier v (inr (same, less)) = absurd (omega (arith, less, none))
+
+        follow : (n : ℕ) → IsFollowed nodes n ⊎ IsLast j k nodes n → IsFollowed nodes n
+        follow n (inl followed) = followed
+        follow n (inr last) = absurd (omega (arith, last.place, none))
+
     -- the next job's turn comes, where all places of this one, or none, are numbered
-    pub numbered_on : (k ≡ 0) ⊎ (k ≡ length (route_in t j) + 1) → AreNumberedTo t (j + 1) 0 nodes
+    pub numbered_on : (k ≡ 0) ⊎ (k ≡ length (route_in t j) + 1) → AreNumberedTo t c (j + 1) 0 nodes
     numbered_on done = record {
       inside = are.inside;
       before = λ n within. inl (earlier (node_at nodes n) (are.before n within));
@@ -99,7 +106,7 @@ module _ (t : ShopTimes) where
         follow n place (inr all) (inr last) = absurd (omega (arith, last.place, all, place, ap (λ (i : ℕ). length (route_in t i)) last.job))
 
   -- of all nodes of some jobs, one that isn't a leaving is followed by its job's next place
-  pub followed_by : (nodes : List Node) (n : ℕ) → AreNumbered t nodes → n < length nodes → (node_at nodes n).place < length (route_in t (node_at nodes n).job) → IsFollowed nodes n
+  pub followed_by : (nodes : List Node) (n : ℕ) → AreNumbered t c nodes → n < length nodes → (node_at nodes n).place < length (route_in t (node_at nodes n).job) → IsFollowed nodes n
   followed_by nodes n are within place = go (are.followed n within place)
     where
       go : IsFollowed nodes n ⊎ IsLast (job_count t) 0 nodes n → IsFollowed nodes n

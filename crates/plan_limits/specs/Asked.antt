@@ -1,9 +1,10 @@
--- The nodes of the jobs that are asked for, by number, and what is asked of their moments.
-use Rattle.std.specs.Prelude.{◌≡◌, ℕ, ◌+◌, ◌*◌, ◌<◌, ◌≤◌, ◌⊎◌, List, [], length, slice_index, slice_index_or, Option, Some, Vec}
+-- The nodes ahead of the jobs that are asked for, by number, and what is asked of their moments.
+use Rattle.std.specs.Prelude.{◌≡◌, ℕ, ◌+◌, ◌*◌, ◌^◌, ◌<◌, ◌≤◌, ◌⊎◌, List, [], length, slice_index, slice_index_or, Option, Some, Vec}
 use Rattle.std.specs.declared.alloc.Global.{Global}
 use Rattle.shop_base.specs.declared.node.Node.{Node}
 use Rattle.shop_base.specs.Shop.{step_at}
 use Rattle.shop_base.specs.Plan.{clean_in}
+use Rattle.shop_base.specs.Cell.{Cell, made}
 use Rattle.shop_base.specs.Graph.{node}
 use Rattle.shop_base.specs.Vectors.{lists_of}
 use Rattle.alt_graph.specs.Evidence.{IsNodeBefore}
@@ -14,16 +15,13 @@ use Rattle.arc_choice.specs.declared.question.Question.{Question}
 use Rattle.arc_choice.specs.Choices.{Answers, no_arc, no_pair}
 use Rattle.plan_bounds.specs.Bounds.{ShopTimes, job_count, route_in, IsVisit}
 use Rattle.plan_limits.specs.declared.fine.TheConstants.{FINE}
+use Rattle.plan_limits.specs.Stages.{Stage}
 use Rattle.plan_limits.specs.Limits.{limit_of}
 use Rattle.plan_limits.specs.LimitsLaw.{AreFineMoments, LeaveWithin}
 
 -- the moments of nodes by number
 abbrev pub by_number : List Node → (Node → ℕ) → ℕ → ℕ
 by_number nodes w n = w (node_at nodes n)
-
--- each node is of a job that has a limit
-abbrev pub AreLimited : List (Option ℕ) → List Node → Type 0
-AreLimited limits nodes = (n : ℕ) → n < length nodes → (x : ℕ) × (limit_of limits (node_at nodes n).job ≡ Some x)
 
 -- number n is followed by its job's next place
 pub record IsFollowed (nodes : List Node) (n : ℕ) : Type 0 where
@@ -44,11 +42,17 @@ AreEmpty rows = (m : ℕ) → slice_index_or (lists_of rows) m [] ≡ []
 abbrev pub pair_between : ℕ → ℕ → ℕ → Pair
 pair_between one other n = record { one = record { from = one + 1; to = other; length = n }; other = record { from = other + 1; to = one; length = n } }
 
-module _ (t : ShopTimes) where
-  -- the node is of the shop
+-- a moment in fine units and of 64 bits, within the limit of job j where it has one
+pub record IsWithinLimit (limits : List (Option ℕ)) (j x : ℕ) : Type 0 where
+  pub small : x < 2 ^ 64
+  pub within : (n : ℕ) → limit_of limits j ≡ Some n → x < n * FINE + FINE
+
+module _ (t : ShopTimes) (c : Cell) where
+  -- the node is of the shop, and ahead
   pub record IsPlace (v : Node) : Type 0 where
     pub job : v.job < job_count t
     pub place : v.place ≤ length (route_in t v.job)
+    pub ahead : made c v.job ≤ v.place
 
   -- nodes before place k of job j are numbered, in their order, and of each of their jobs all up to there
   pub record AreNumberedTo (j k : ℕ) (nodes : List Node) : Type 0 where
@@ -57,54 +61,72 @@ module _ (t : ShopTimes) where
     pub sorted : (n l : ℕ) → n < l → l < length nodes → IsNodeBefore (node_at nodes n) (node_at nodes l)
     pub followed : (n : ℕ) → n < length nodes → (node_at nodes n).place < length (route_in t (node_at nodes n).job) → IsFollowed nodes n ⊎ IsLast j k nodes n
 
-  -- all nodes of some jobs are numbered
+  -- all nodes ahead of some jobs are numbered
   abbrev pub AreNumbered : List Node → Type 0
   AreNumbered nodes = AreNumberedTo (job_count t) 0 nodes
 
-  module _ (nodes : List Node) where
-    -- moments of the nodes that aren't after those that fit, whichever they are
-    abbrev pub AreFirst : List ℕ → Type 0
-    AreFirst first = (n : ℕ) → n < length first → (w : Node → ℕ) → AreFineMoments t w → slice_index first n ≤ by_number nodes w n
+  -- the node is that by which its job leaves machine m, on which it is
+  pub record IsHeld (m : ℕ) (v : Node) : Type 0 where
+    pub place : ℕ
+    pub is : v.place ≡ place + 1
+    pub visit : IsVisit t m v.job place
+    pub next : made c v.job ≡ v.place
 
-    -- moments that aren't before those that fit and leave within the limits
-    abbrev pub AreLast : List (Option ℕ) → List ℕ → Type 0
-    AreLast limits last = (n : ℕ) → n < length last → (w : Node → ℕ) → AreFineMoments t w → LeaveWithin t limits w → by_number nodes w n ≤ slice_index last n
+  -- the arc from the number by which a job leaves the machine that it is on to one by which another enters it, as long as its cleaning time
+  pub record IsHolderArc (nodes : List Node) (arc : Arc) : Type 0 where
+    pub machine : ℕ
+    pub leaves : ℕ
+    pub enters : ℕ
+    pub inside : (leaves < length nodes) × (enters < length nodes)
+    pub held : IsHeld machine (node_at nodes leaves)
+    pub visit : IsVisit t machine (node_at nodes enters).job (node_at nodes enters).place
+    pub is : arc ≡ record { from = leaves; to = enters; length = clean_in t.clean machine * FINE + 1 }
 
-    -- number e is one of the first n, and its job enters machine m there
-    pub record IsEntry (m n e : ℕ) : Type 0 where
-      pub inside : e < length nodes
-      pub earlier : e < n
-      pub visit : IsVisit t m (node_at nodes e).job (node_at nodes e).place
+module _ (s : Stage) (nodes : List Node) where
+  -- moments of the nodes that aren't after those that fit, whichever they are
+  abbrev pub AreFirst : List ℕ → Type 0
+  AreFirst first = (n : ℕ) → n < length first → (w : Node → ℕ) → AreFineMoments s w → slice_index first n ≤ by_number nodes w n
 
-    -- each machine's row has such numbers
-    pub record AreEntries (n : ℕ) (entries : List (Vec ℕ Global)) : Type 0 where
-      pub count : length entries ≡ t.shop.machines
-      pub rows : (m i : ℕ) → i < length (slice_index_or (lists_of entries) m []) → IsEntry m n (slice_index (slice_index_or (lists_of entries) m []) i)
+  -- moments that aren't before those that fit and leave within the limits
+  abbrev pub AreLast : List (Option ℕ) → List ℕ → Type 0
+  AreLast limits last = (n : ℕ) → n < length last → (w : Node → ℕ) → AreFineMoments s w → LeaveWithin s limits w → by_number nodes w n ≤ slice_index last n
 
-    -- the arc from a place to its job's next, as long as the step between them
-    pub record IsRouteArc (arc : Arc) : Type 0 where
-      pub number : ℕ
-      pub inside : number < length nodes
-      pub place : (node_at nodes number).place < length (route_in t (node_at nodes number).job)
-      pub is : arc ≡ record { from = number; to = number + 1; length = (step_at (route_in t (node_at nodes number).job) (node_at nodes number).place).nominal * FINE + 1 }
+  -- the question is answered by all moments that fit and leave within the limits
+  abbrev pub Asks : List (Option ℕ) → Question → Type 0
+  Asks limits q = (w : Node → ℕ) → AreFineMoments s w → LeaveWithin s limits w → Answers q (by_number nodes w)
 
-    -- the two arcs between two entries of a machine, as long as its cleaning time
-    pub record IsMachinePair (pair : Pair) : Type 0 where
-      pub machine : ℕ
-      pub one : ℕ
-      pub other : ℕ
-      pub earlier : IsEntry machine other one
-      pub later : IsEntry machine (other + 1) other
-      pub is : pair ≡ pair_between one other (clean_in t.clean machine * FINE + 1)
+module _ (t : ShopTimes) (nodes : List Node) where
+  -- number e is one of the first n, and its job enters machine m there
+  pub record IsEntry (m n e : ℕ) : Type 0 where
+    pub inside : e < length nodes
+    pub earlier : e < n
+    pub visit : IsVisit t m (node_at nodes e).job (node_at nodes e).place
 
-    -- each of these is one between two places of a job
-    abbrev pub AreRouteArcs : List Arc → Type 0
-    AreRouteArcs arcs = (a : ℕ) → a < length arcs → IsRouteArc (slice_index_or arcs a no_arc)
+  -- each machine's row has such numbers
+  pub record AreEntries (n : ℕ) (entries : List (Vec ℕ Global)) : Type 0 where
+    pub count : length entries ≡ t.shop.machines
+    pub rows : (m i : ℕ) → i < length (slice_index_or (lists_of entries) m []) → IsEntry m n (slice_index (slice_index_or (lists_of entries) m []) i)
 
-    -- each of these is one of two entries of a machine
-    abbrev pub AreMachinePairs : List Pair → Type 0
-    AreMachinePairs pairs = (a : ℕ) → a < length pairs → IsMachinePair (slice_index_or pairs a no_pair)
+  -- the arc from a place to its job's next, as long as the step between them
+  pub record IsRouteArc (arc : Arc) : Type 0 where
+    pub number : ℕ
+    pub inside : number < length nodes
+    pub place : (node_at nodes number).place < length (route_in t (node_at nodes number).job)
+    pub is : arc ≡ record { from = number; to = number + 1; length = (step_at (route_in t (node_at nodes number).job) (node_at nodes number).place).nominal * FINE + 1 }
 
-    -- the question is answered by all moments that fit and leave within the limits
-    abbrev pub Asks : List (Option ℕ) → Question → Type 0
-    Asks limits q = (w : Node → ℕ) → AreFineMoments t w → LeaveWithin t limits w → Answers q (by_number nodes w)
+  -- the two arcs between two entries of a machine, as long as its cleaning time
+  pub record IsMachinePair (pair : Pair) : Type 0 where
+    pub machine : ℕ
+    pub one : ℕ
+    pub other : ℕ
+    pub earlier : IsEntry machine other one
+    pub later : IsEntry machine (other + 1) other
+    pub is : pair ≡ pair_between one other (clean_in t.clean machine * FINE + 1)
+
+  -- each of these is one of two entries of a machine
+  abbrev pub AreMachinePairs : List Pair → Type 0
+  AreMachinePairs pairs = (a : ℕ) → a < length pairs → IsMachinePair (slice_index_or pairs a no_pair)
+
+-- each of these is one between two places of a job, or from a job that is on a machine to another's entry
+abbrev pub AreFixedArcs : ShopTimes → Cell → List Node → List Arc → Type 0
+AreFixedArcs t c nodes arcs = (a : ℕ) → a < length arcs → IsRouteArc t nodes (slice_index_or arcs a no_arc) ⊎ IsHolderArc t c nodes (slice_index_or arcs a no_arc)

@@ -1,4 +1,5 @@
 -- Reached by public clauses: to be read and believed.
+pub mod Stages
 pub mod Limits
 pub mod Answered
 pub mod LimitsLaw

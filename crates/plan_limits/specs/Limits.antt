@@ -2,9 +2,12 @@
 use Rattle.std.specs.Prelude.{◌≡◌, ℕ, ◌<◌, ◌≤◌, List, Option, None, Some, slice_index_or}
 use Rattle.shop_base.specs.declared.node.Node.{Node}
 use Rattle.shop_base.specs.Plan.{PlannedShop, jobs, IsWellShaped}
+use Rattle.shop_base.specs.Cell.{IsGone}
 use Rattle.shop_base.specs.Graph.{leaving, Path}
+use Rattle.shop_base.specs.Ahead.{PathAhead}
 use Rattle.plan_verifier.specs.Accepted.{HasNoCycle}
 use Rattle.plan_bounds.specs.Bounds.{ShopTimes, times_of}
+use Rattle.plan_limits.specs.Stages.{Stage, GoesOnFrom}
 
 -- the limit of job j; a job without one isn't asked for
 abbrev pub limit_of : List (Option ℕ) → ℕ → Option ℕ
@@ -22,3 +25,17 @@ pub record KeepsLimits (p : PlannedShop) (limits : List (Option ℕ)) : Type 0 w
 -- no well-shaped plan of this shop with these releases and cleaning times keeps the limits, whatever its orders and budgets
 abbrev pub NoPlanKeeps : ShopTimes → List (Option ℕ) → Type 0
 NoPlanKeeps t limits = (p : PlannedShop) → IsWellShaped p → times_of p ≡ t → KeepsLimits p limits → ⊥
+
+module _ (s : Stage) where
+  -- no path ahead to the leaving of job j is longer than n
+  abbrev pub IsOutByFrom : PlannedShop → ℕ → ℕ → Type 0
+  IsOutByFrom p j n = (nodes : List Node) (k : ℕ) → PathAhead p s.cell s.present nodes (leaving p j) k → k ≤ n
+
+  -- the plan's graph has no cycle, and of the jobs that aren't gone no path ahead to the leaving of one is longer than the limit that it has
+  pub record KeepsLimitsFrom (p : PlannedShop) (limits : List (Option ℕ)) : Type 0 where
+    pub acyclic : HasNoCycle p
+    pub jobs : (j n : ℕ) → j < jobs p → (IsGone p s.cell j → ⊥) → limit_of limits j ≡ Some n → IsOutByFrom p j n
+
+  -- no plan that goes on from there does
+  abbrev pub NoPlanKeepsFrom : List (Option ℕ) → Type 0
+  NoPlanKeepsFrom limits = (p : PlannedShop) → GoesOnFrom s p → KeepsLimitsFrom p limits → ⊥

@@ -1,45 +1,50 @@
-//! The arcs along the routes.
+//! The arcs that every plan has: those along the routes, and those behind a job that is on a machine.
 
-ghost use Rattle.std.specs.Prelude.{◌<◌, ◌≤◌, IfOk, OnOk, length};
-ghost use Rattle.plan_bounds.specs.Bounds.{times_of};
-ghost use Rattle.plan_limits.specs.Asked.{AreRouteArcs};
+ghost use Rattle.std.specs.Prelude.{◌<◌, ◌≤◌, IfOk, IfSome, OnOk, IsTrue, length};
+ghost use Rattle.shop_base.specs.Plan.{jobs};
+ghost use Rattle.plan_bounds.specs.Bounds.{times_of, IsVisit};
+ghost use Rattle.plan_limits.specs.Asked.{AreNumbered, AreFixedArcs, IsHeld};
 
 use crate::fine::FINE;
 use crate::sizes::MAX_NODES;
 use arc_choice::Arc;
-use shop_base::{Node, Shaped};
+use cell_tables::WorkCell;
+use shop_base::{MachineNo, Node, Planned};
 use std::alloc::{AllocError, Global};
 
-/// The arcs from each place of a job to its next, as long as the step's nominal time.
-pub(crate) fn job_arcs(
+/// The arcs from each place of a job to its next, as long as the step's nominal time, and those from the leaving of a job
+/// that is on a machine to the entries of the others, as long as its cleaning time.
+pub(crate) fn fixed_arcs<P: Planned>(
     alloc: Global,
-    shaped: &Shaped,
+    cell: &WorkCell<P>,
     nodes: &[Node],
 ) -> Result<Vec<Arc>, AllocError>
-    requires { length nodes.now ≤ MAX_NODES }
-    ensures { IfOk result (λ arcs. AreRouteArcs (times_of shaped.now) nodes.now arcs.items) }
+    requires few { length nodes.now ≤ MAX_NODES }
+    requires numbered { AreNumbered (times_of cell.now.plan) cell.now.cell nodes.now }
+    ensures { IfOk result (λ arcs. AreFixedArcs (times_of cell.now.plan) cell.now.cell nodes.now arcs.items) }
 {
     let mut arcs = Vec::new(alloc);
     for number in 0..nodes.len() {
-        add_arc(shaped, nodes, number as u32, &mut arcs)?;
+        add_arc(cell, nodes, number as u32, &mut arcs)?;
+        add_arcs_behind(cell, nodes, number as u32, &mut arcs)?;
     }
     Ok(arcs)
 }
 
 /// Adds the arc from a node to its job's next place, if there is one.
-fn add_arc(
-    shaped: &Shaped,
+fn add_arc<P: Planned>(
+    cell: &WorkCell<P>,
     nodes: &[Node],
     number: u32,
     arcs: &mut Vec<Arc>,
 ) -> Result<(), AllocError>
     requires few { length nodes.now ≤ MAX_NODES }
     requires number { number < length nodes.now }
-    requires arcs { AreRouteArcs (times_of shaped.now) nodes.now arcs.old.items }
-    ensures { OnOk result (AreRouteArcs (times_of shaped.now) nodes.now arcs.new.items) }
+    requires arcs { AreFixedArcs (times_of cell.now.plan) cell.now.cell nodes.now arcs.old.items }
+    ensures { OnOk result (AreFixedArcs (times_of cell.now.plan) cell.now.cell nodes.now arcs.new.items) }
 {
     let node = nodes[number as usize];
-    let Some(step) = shaped.step_of(node.job, node.place) else {
+    let Some(step) = cell.shaped().step_of(node.job, node.place) else {
         return Ok(());
     };
     arcs.push(Arc {
@@ -48,4 +53,57 @@ fn add_arc(
         length: step.nominal * FINE + 1,
     })?;
     Ok(())
+}
+
+/// Adds the arcs from a node to the entries of the machine that its job leaves by it, if the job is on one.
+fn add_arcs_behind<P: Planned>(
+    cell: &WorkCell<P>,
+    nodes: &[Node],
+    number: u32,
+    arcs: &mut Vec<Arc>,
+) -> Result<(), AllocError>
+    requires few { length nodes.now ≤ MAX_NODES }
+    requires numbered { AreNumbered (times_of cell.now.plan) cell.now.cell nodes.now }
+    requires number { number < length nodes.now }
+    requires arcs { AreFixedArcs (times_of cell.now.plan) cell.now.cell nodes.now arcs.old.items }
+    ensures { OnOk result (AreFixedArcs (times_of cell.now.plan) cell.now.cell nodes.now arcs.new.items) }
+{
+    let Some(machine) = machine_left(cell, nodes[number as usize]) else {
+        return Ok(());
+    };
+    let length = cell.shaped().clean_of(machine) * FINE + 1;
+    for enters in 0..nodes.len() {
+        if is_entry(cell, nodes[enters], machine) {
+            arcs.push(Arc {
+                from: number,
+                to: enters as u32,
+                length,
+            })?;
+        }
+    }
+    Ok(())
+}
+
+/// The machine that the node's job is on, and leaves by it.
+fn machine_left<P: Planned>(cell: &WorkCell<P>, node: Node) -> Option<MachineNo>
+    requires { node.job < jobs cell.now.plan }
+    ensures { IfSome result (λ m. IsHeld (times_of cell.now.plan) cell.now.cell m node) }
+{
+    if node.place == 0 {
+        return None;
+    }
+    if cell.job_state(node.job).made != node.place {
+        return None;
+    }
+    cell.machine_at(node.job, node.place - 1)
+}
+
+/// Whether the node's job enters the machine by it.
+fn is_entry<P: Planned>(cell: &WorkCell<P>, node: Node, machine: MachineNo) -> bool
+    ensures { IsTrue result → IsVisit (times_of cell.now.plan) machine node.job node.place }
+{
+    match cell.machine_at(node.job, node.place) {
+        Some(entered) => entered == machine,
+        None => false,
+    }
 }

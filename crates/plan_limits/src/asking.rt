@@ -1,9 +1,11 @@
 //! The question, and its answer.
 
-ghost use Rattle.std.specs.Prelude.{◌≡◌, IfOk, length};
+ghost use Rattle.std.specs.Prelude.{◌≡◌, ℕ, ◌≤◌, IfOk, length, Some};
+ghost use Rattle.shop_base.specs.declared.limits.TheConstants.{MAX_MOMENT};
 ghost use Rattle.shop_base.specs.Plan.{jobs};
-ghost use Rattle.plan_bounds.specs.Bounds.{times_of};
-ghost use Rattle.plan_limits.specs.Limits.{NoPlanKeeps};
+ghost use Rattle.shop_base.specs.Cell.{cleaning};
+ghost use Rattle.plan_limits.specs.Stages.{stage_of};
+ghost use Rattle.plan_limits.specs.Limits.{NoPlanKeepsFrom};
 ghost use Rattle.plan_limits.specs.Answered.{OnNever};
 
 use crate::answer::Answer;
@@ -12,39 +14,57 @@ use crate::orders::orders_by;
 use crate::questions::question_of;
 use crate::sizes::{MAX_NODES, MAX_PAIRS};
 use arc_choice::{Choose, Outcome, explore};
-use shop_base::{Moment, Shaped};
+use cell_tables::WorkCell;
+use shop_base::{Moment, Planned};
 use std::alloc::{AllocError, Global};
 
-/// Asks whether any plan of this shop, with these releases and cleaning times, has no cycle and has each job that has
-/// a limit out by it. A limit is a moment, in whole time units from moment 0; jobs without one aren't asked for. The
-/// orders and the budgets of `shaped` aren't used. At most so many choices are made: a pair of jobs on a machine that
-/// is decided one way and, where that fails, the other, is one. Where no job is asked for, the orders are the serial
-/// ones. More than 1,024 nodes (a job that is asked for has one for each step and its leaving) or 16,384 pairs of jobs
-/// that are asked for on a machine are answered by `Open` at once. The error is out of memory.
-pub fn ask<C: Choose>(
+/// Asks whether any plan of this shop, with these releases and cleaning times, of which some run has led to the cell, has
+/// no cycle and has each job that has a limit and isn't gone out by it, from the present moment on: what goes on ends when
+/// it is due, and what is overdue at the present moment. From the cell at the start and moment 0 on that is any whole
+/// plan. A limit is a moment, in whole time units from moment 0; jobs without one aren't asked for. Of the plan's orders
+/// only the jobs that have entered are used, and its budgets aren't. At most so many choices are made: a pair of jobs on
+/// a machine that is decided one way and, where that fails, the other, is one. Where no job is asked for and none is in
+/// the cell, the orders are the serial ones behind the entries made. More than 1,024 nodes ahead (a job that is asked for
+/// or in the cell has one for each step and its leaving) or 16,384 pairs of such jobs on a machine are answered by `Open`
+/// at once. The error is out of memory.
+pub fn ask<P: Planned, C: Choose>(
     alloc: Global,
-    shaped: &Shaped,
+    cell: &WorkCell<P>,
+    present: Moment,
     limits: &[Option<Moment>],
     chooser: &mut C,
     choices: u64,
 ) -> Result<Answer, AllocError>
-    requires { length limits.now ≡ jobs shaped.now }
-    ensures { IfOk result (OnNever (NoPlanKeeps (times_of shaped.now) limits.now)) }
+    requires count { length limits.now ≡ jobs cell.now.plan }
+    requires in_range { present ≤ MAX_MOMENT }
+    ensures { IfOk result (OnNever (NoPlanKeepsFrom (stage_of cell.now.plan cell.now.cell present) limits.now)) }
 {
-    let nodes = asked_nodes(alloc, shaped, limits)?;
+    cleanings_in_range(cell);
+    let nodes = asked_nodes(alloc, cell, limits)?;
     if nodes.len() > MAX_NODES {
         return Ok(Answer::Open);
     }
-    let question = question_of(alloc, shaped, limits, &nodes)?;
+    let question = question_of(alloc, cell, present, limits, &nodes)?;
     if question.pairs.len() > MAX_PAIRS {
         return Ok(Answer::Open);
     }
     match explore(alloc, &question, chooser, choices)? {
         Outcome::Never => Ok(Answer::Never),
         Outcome::Chosen(heads) => {
-            let orders = orders_by(alloc, shaped, limits, &nodes, &heads)?;
+            let orders = orders_by(alloc, cell, limits, &nodes, &heads)?;
             Ok(Answer::Orders(orders))
         }
         Outcome::Open => Ok(Answer::Open),
+    }
+}
+
+/// Each cleaning that goes on began at a moment within the limit. It does nothing.
+fn cleanings_in_range<P: Planned>(cell: &WorkCell<P>)
+    ensures { (m s : ℕ) → cleaning cell.now.cell m ≡ Some s → s ≤ MAX_MOMENT }
+{
+    // Called for its clause alone: the cell is sound.
+    let _plan = cell.shaped();
+    for machine in 0..cell.machine_count() {
+        let _from = cell.cleaned_since(machine);
     }
 }

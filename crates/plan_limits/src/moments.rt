@@ -1,56 +1,91 @@
 //! The first and the last moments of the nodes, in fine units.
 
-ghost use Rattle.std.specs.Prelude.{◌≡◌, ℕ, ◌+◌, ◌*◌, ◌^◌, ◌<◌, ◌≤◌, IfOk, length, Some};
+ghost use Rattle.std.specs.Prelude.{◌≡◌, ℕ, ◌+◌, ◌*◌, ◌^◌, ◌<◌, ◌≤◌, IfOk, length};
+ghost use Rattle.shop_base.specs.declared.limits.TheConstants.{MAX_MOMENT};
 ghost use Rattle.shop_base.specs.declared.node.Node.{Node};
 ghost use Rattle.shop_base.specs.Plan.{jobs};
 ghost use Rattle.plan_bounds.specs.Bounds.{times_of};
-ghost use Rattle.plan_limits.specs.Limits.{limit_of};
+ghost use Rattle.plan_limits.specs.Stages.{stage_of};
 ghost use Rattle.plan_limits.specs.LimitsLaw.{AreFineMoments};
-ghost use Rattle.plan_limits.specs.Asked.{IsPlace, AreLimited, AreNumbered, AreFirst, AreLast};
+ghost use Rattle.plan_limits.specs.Asked.{IsPlace, IsWithinLimit, AreNumbered, AreFirst, AreLast};
 
 use crate::fine::FINE;
-use shop_base::{JobNo, Moment, Node, Shaped};
+use cell_tables::WorkCell;
+use plan_verifier::later;
+use shop_base::{JobNo, Moment, Node, Planned};
 use std::alloc::{AllocError, Global};
 
 /// The first moments of the nodes.
-pub(crate) fn first_moments(
+pub(crate) fn first_moments<P: Planned>(
     alloc: Global,
-    shaped: &Shaped,
+    cell: &WorkCell<P>,
+    present: Moment,
     nodes: &[Node],
 ) -> Result<Vec<Moment>, AllocError>
-    requires { AreNumbered (times_of shaped.now) nodes.now }
-    ensures first { IfOk result (λ first. AreFirst (times_of shaped.now) nodes.now first.items) }
+    requires numbered { AreNumbered (times_of cell.now.plan) cell.now.cell nodes.now }
+    requires in_range { present ≤ MAX_MOMENT }
+    ensures first { IfOk result (λ first. AreFirst (stage_of cell.now.plan cell.now.cell present) nodes.now first.items) }
     ensures count { IfOk result (λ first. length first.items ≡ length nodes.now) }
 {
     let mut first = Vec::new(alloc);
     for node in nodes {
-        first.push(first_of(shaped, *node))?;
+        first.push(first_of(cell, present, *node))?;
     }
     Ok(first)
 }
 
-/// The first moment of a node: its job's release, or none.
-fn first_of(shaped: &Shaped, node: Node) -> Moment
-    requires { IsPlace (times_of shaped.now) node }
-    ensures { (w : Node → ℕ) → AreFineMoments (times_of shaped.now) w → result ≤ w node }
+/// The first moment of a node: the present one or that at which what goes on with its job is due, if it is the job's next
+/// node, and that at which the cleaning of the machine that its job enters by it is due.
+fn first_of<P: Planned>(cell: &WorkCell<P>, present: Moment, node: Node) -> Moment
+    requires place { IsPlace (times_of cell.now.plan) cell.now.cell node }
+    requires in_range { present ≤ MAX_MOMENT }
+    ensures { (w : Node → ℕ) → AreFineMoments (stage_of cell.now.plan cell.now.cell present) w → result ≤ w node }
 {
-    if node.place > 0 {
+    later(begun_of(cell, present, node), cleaned_of(cell, node))
+}
+
+/// The first moment of a job's next node, by what goes on with the job.
+fn begun_of<P: Planned>(cell: &WorkCell<P>, present: Moment, node: Node) -> Moment
+    requires place { IsPlace (times_of cell.now.plan) cell.now.cell node }
+    requires in_range { present ≤ MAX_MOMENT }
+    ensures { (w : Node → ℕ) → AreFineMoments (stage_of cell.now.plan cell.now.cell present) w → result ≤ w node }
+{
+    if cell.job_state(node.job).made < node.place {
         return 0;
     }
-    shaped.release_of(node.job) * FINE
+    match cell.job_due(node.job) {
+        Some(due) => later(present, due) * FINE,
+        None => present * FINE,
+    }
+}
+
+/// The first moment of an entry, by the cleaning of its machine.
+fn cleaned_of<P: Planned>(cell: &WorkCell<P>, node: Node) -> Moment
+    requires { IsPlace (times_of cell.now.plan) cell.now.cell node }
+    ensures { (present : ℕ) (w : Node → ℕ) → AreFineMoments (stage_of cell.now.plan cell.now.cell present) w → result ≤ w node }
+{
+    // Called for its clause alone: the plan is well shaped.
+    let _plan = cell.shaped();
+    let Some(machine) = cell.machine_at(node.job, node.place) else {
+        return 0;
+    };
+    match cell.cleaning_due(machine) {
+        Some(due) => due * FINE,
+        None => 0,
+    }
 }
 
 /// The last moments of the nodes.
-pub(crate) fn last_moments(
+pub(crate) fn last_moments<P: Planned>(
     alloc: Global,
-    shaped: &Shaped,
+    cell: &WorkCell<P>,
     limits: &[Option<Moment>],
     nodes: &[Node],
 ) -> Result<Vec<Moment>, AllocError>
-    requires count { length limits.now ≡ jobs shaped.now }
-    requires numbered { AreNumbered (times_of shaped.now) nodes.now }
-    requires limited { AreLimited limits.now nodes.now }
-    ensures last { IfOk result (λ last. AreLast (times_of shaped.now) nodes.now limits.now last.items) }
+    requires count { length limits.now ≡ jobs cell.now.plan }
+    requires numbered { AreNumbered (times_of cell.now.plan) cell.now.cell nodes.now }
+    ensures last { IfOk result (λ last. (present : ℕ)
+        → AreLast (stage_of cell.now.plan cell.now.cell present) nodes.now limits.now last.items) }
     ensures count { IfOk result (λ last. length last.items ≡ length nodes.now) }
 {
     let mut last = Vec::new(alloc);
@@ -60,15 +95,14 @@ pub(crate) fn last_moments(
     Ok(last)
 }
 
-/// The last moment of a job's nodes: that of its limit.
+/// The last moment of a job's nodes: that of its limit or, without one, the last one that there is.
 fn last_of(limits: &[Option<Moment>], job: JobNo) -> Moment
-    requires inside { job < length limits.now }
-    requires limited { (n : ℕ) × (limit_of limits.now job ≡ Some n) }
-    ensures { (n x : ℕ) → limit_of limits.now job ≡ Some n → x < n * FINE + FINE → x < 2 ^ 64 → x ≤ result }
+    requires { job < length limits.now }
+    ensures { (x : ℕ) → IsWithinLimit limits.now job x → x ≤ result }
 {
     match limits[job as usize] {
         Some(limit) => last_within(limit),
-        None => unreachable!(),
+        None => Moment::MAX,
     }
 }
 

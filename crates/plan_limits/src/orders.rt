@@ -3,27 +3,41 @@
 ghost use Rattle.std.specs.Prelude.{◌≡◌, ◌<◌, length};
 ghost use Rattle.shop_base.specs.Plan.{jobs};
 
-use crate::rows::empty_rows;
-use shop_base::{JobNo, Moment, Node, Shaped};
+use crate::numbering::is_asked;
+use cell_tables::WorkCell;
+use shop_base::{JobNo, Moment, Node, Planned, Shaped};
 use std::alloc::{AllocError, Global};
 
-/// The orders in which the jobs that are asked for enter the machines at these moments, the lesser job first where two
-/// are the same; the other jobs stand behind, in ascending order.
-pub(crate) fn orders_by(
+/// The orders in which the jobs that are asked for, and those in the cell, enter the machines at these moments, behind
+/// those that have entered, the lesser job first where two are the same; the other jobs stand behind, in ascending order.
+pub(crate) fn orders_by<P: Planned>(
     alloc: Global,
-    shaped: &Shaped,
+    cell: &WorkCell<P>,
     limits: &[Option<Moment>],
     nodes: &[Node],
     heads: &[Moment],
 ) -> Result<Vec<Vec<JobNo>>, AllocError>
-    requires { length limits.now ≡ jobs shaped.now }
+    requires { length limits.now ≡ jobs cell.now.plan }
 {
-    let mut orders = empty_rows(alloc, shaped.machine_count())?;
+    let mut orders = entered_rows(alloc, cell)?;
     for (_, job, place) in &by_head(alloc, nodes, heads)? {
-        add_entry(shaped, *job, *place, &mut orders)?;
+        add_entry(cell.shaped(), *job, *place, &mut orders)?;
     }
-    add_others(shaped, limits, &mut orders)?;
+    add_others(cell, limits, &mut orders)?;
     Ok(orders)
+}
+
+/// The jobs that have entered each machine, in order.
+fn entered_rows<P: Planned>(
+    alloc: Global,
+    cell: &WorkCell<P>,
+) -> Result<Vec<Vec<JobNo>>, AllocError> {
+    let mut rows = Vec::new(alloc);
+    for machine in 0..cell.machine_count() {
+        let entered = cell.entered(machine) as usize;
+        rows.push(cell.order_of(machine)[..entered].to_vec(alloc)?)?;
+    }
+    Ok(rows)
 }
 
 /// The places of the nodes, sorted by their heads and then by their jobs.
@@ -40,17 +54,17 @@ fn by_head(
     Ok(places)
 }
 
-/// Adds the jobs that aren't asked for to the orders of their machines.
-fn add_others(
-    shaped: &Shaped,
+/// Adds the jobs that aren't asked for, and haven't entered the cell, to the orders of their machines.
+fn add_others<P: Planned>(
+    cell: &WorkCell<P>,
     limits: &[Option<Moment>],
     orders: &mut Vec<Vec<JobNo>>,
 ) -> Result<(), AllocError>
-    requires { length limits.now ≡ jobs shaped.now }
+    requires { length limits.now ≡ jobs cell.now.plan }
 {
-    for job in 0..shaped.job_count() {
-        if limits[job as usize].is_none() {
-            add_job(shaped, job, orders)?;
+    for job in 0..cell.job_count() {
+        if !is_asked(cell, limits, job) {
+            add_job(cell.shaped(), job, orders)?;
         }
     }
     Ok(())

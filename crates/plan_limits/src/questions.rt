@@ -1,38 +1,42 @@
 //! The question that is put to the search.
 
 ghost use Rattle.std.specs.Prelude.{◌≡◌, ◌≤◌, IfOk, length};
+ghost use Rattle.shop_base.specs.declared.limits.TheConstants.{MAX_MOMENT};
 ghost use Rattle.shop_base.specs.Plan.{jobs};
 ghost use Rattle.arc_choice.specs.Choices.{IsSound};
 ghost use Rattle.plan_bounds.specs.Bounds.{times_of};
-ghost use Rattle.plan_limits.specs.Asked.{AreLimited, AreNumbered, Asks};
+ghost use Rattle.plan_limits.specs.Stages.{stage_of};
+ghost use Rattle.plan_limits.specs.Asked.{AreNumbered, Asks};
 
-use crate::arcs::job_arcs;
+use crate::arcs::fixed_arcs;
 use crate::moments::{first_moments, last_moments};
 use crate::pairs::machine_pairs;
 use crate::sizes::MAX_NODES;
 use arc_choice::Question;
-use shop_base::{Moment, Node, Shaped};
+use cell_tables::WorkCell;
+use shop_base::{Moment, Node, Planned};
 use std::alloc::{AllocError, Global};
 
 /// The question for these nodes. All moments that are looked for answer it, so `Never` is never wrong. A question from
 /// which an arc or a pair is missing would be so too: no contract sees one that is left out.
-pub(crate) fn question_of(
+pub(crate) fn question_of<P: Planned>(
     alloc: Global,
-    shaped: &Shaped,
+    cell: &WorkCell<P>,
+    present: Moment,
     limits: &[Option<Moment>],
     nodes: &[Node],
 ) -> Result<Question, AllocError>
-    requires count { length limits.now ≡ jobs shaped.now }
-    requires numbered { AreNumbered (times_of shaped.now) nodes.now }
-    requires limited { AreLimited limits.now nodes.now }
+    requires count { length limits.now ≡ jobs cell.now.plan }
+    requires numbered { AreNumbered (times_of cell.now.plan) cell.now.cell nodes.now }
     requires few { length nodes.now ≤ MAX_NODES }
+    requires in_range { present ≤ MAX_MOMENT }
     ensures sound { IfOk result IsSound }
-    ensures asks { IfOk result (Asks (times_of shaped.now) nodes.now limits.now) }
+    ensures asks { IfOk result (Asks (stage_of cell.now.plan cell.now.cell present) nodes.now limits.now) }
 {
-    let first = first_moments(alloc, shaped, nodes)?;
-    let last = last_moments(alloc, shaped, limits, nodes)?;
-    let arcs = job_arcs(alloc, shaped, nodes)?;
-    let pairs = machine_pairs(alloc, shaped, nodes)?;
+    let first = first_moments(alloc, cell, present, nodes)?;
+    let last = last_moments(alloc, cell, limits, nodes)?;
+    let arcs = fixed_arcs(alloc, cell, nodes)?;
+    let pairs = machine_pairs(alloc, cell.shaped(), nodes)?;
     Ok(Question {
         first,
         last,

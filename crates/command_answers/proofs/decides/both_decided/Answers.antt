@@ -1,7 +1,7 @@
 use Rattle.std.proofs.Common.{◌∙◌, inl, inr, subst}
 use Rattle.shop_base.specs.Plan.{PlannedShop, IsWellShaped}
 use Rattle.shop_base.specs.ShapeFault.{IsFirstShapeFault}
-use Rattle.plan_seek.specs.Tasks.{task_in}
+use Rattle.plan_decide.specs.Pasts.{whole_case}
 use Rattle.command_answers.specs.Deciding.{IsDecisionAnswer}
 use Rattle.command_answers.proofs.decides.both_decided.Goals as goal
 
@@ -10,7 +10,7 @@ returns-in-Ok g c =
     let same = c.in-Ok.ensures.shaped.0 ∙ c.in_ok-serially.ensures in
     inl (
       subst IsWellShaped c.in_ok-serially.ensures c.in-Ok.ensures.shaped.1,
-      subst (λ (p : PlannedShop). IsDecisionAnswer (task_in p) c.args.aim c.shaped_decided.result) same c.shaped_decided.ensures,
+      subst (λ (p : PlannedShop). IsDecisionAnswer (whole_case p) c.args.aim c.shaped_decided.result) same c.shaped_decided.ensures,
     )
 
 pub returns-in_ok-fault_answer-in-Err : goal.returns-in_ok-fault_answer-in-Err

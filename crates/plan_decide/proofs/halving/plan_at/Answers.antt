@@ -1,7 +1,7 @@
 use Rattle.std.proofs.Common.{sym, ap, ◌∙◌}
 use Rattle.shop_base.specs.declared.limits.TheConstants.{MAX_MOMENT}
 use Rattle.shop_base.specs.Vectors.{lists_of}
-use Rattle.plan_seek.specs.Tasks.{task_in}
+use Rattle.plan_decide.specs.Settings.{case_in, plan_of}
 use Rattle.plan_decide.proofs.Values.{leaving_again}
 use Rattle.plan_decide.proofs.halving.plan_at.Goals as goal
 
@@ -12,5 +12,6 @@ returns-in-Some-2 c =
     let same = (rw c.in-Some.is at c.in_ok-loose.ensures.order) ∙ c.in_ok-same.ensures ∙ ap lists_of c.deref.ensures.value ∙ sym (rw c.in-Some-2.is at c.in_ok-plan.ensures.order) in
     record {
       plan = plan;
-      value = leaving_again (task_in c.args.shaped.now) c.args.job MAX_MOMENT c.in-Some-earliest_leave.value c.in-Some.loose.planned c.in-Some-2.plan.planned loose plan same c.in-Some-earliest_leave.ensures.greatest.1;
+      fits = rw c.in-Some-2.is at c.in_ok-plan.ensures.fits;
+      value = leaving_again (case_in c.args.setting.now) c.args.job MAX_MOMENT c.leaving_in-value.result (plan_of c.in-Some.loose) (plan_of c.in-Some-2.plan) loose plan same c.leaving_in-value.ensures;
     }

@@ -1,14 +1,14 @@
 use Rattle.std.proofs.Common.{arith, refl, subst}
 use Rattle.shop_base.specs.Plan.{jobs}
-use Rattle.plan_seek.specs.Tasks.{task_in}
+use Rattle.plan_decide.specs.Settings.{case_in}
 use Rattle.plan_decide.specs.LeftOut.{AreLimited}
 use Rattle.plan_decide.proofs.Leaving.{several}
 use Rattle.plan_decide.proofs.leaving_out.leave_out.Goals as goal
 
 pub returns : goal.returns
 returns g c =
-    let t = task_in c.args.shaped.now in
-    let n = jobs c.args.shaped.now in
+    let t = case_in c.args.setting.now in
+    let n = jobs c.args.setting.now.cell.plan in
     let left = c.loop-job.left in
     let known = c.loop-job.invariant in
     let named = subst (λ limits. AreLimited limits n c.in_ok-jobs.jobs.items) c.deref.ensures.value c.in_ok-jobs.ensures in

@@ -1,19 +1,22 @@
-use Rattle.std.proofs.Common.{◌+◌, inl, arith, refl, sym, subst}
+use Rattle.std.proofs.Common.{◌+◌, arith, ap, sym, subst}
+use Rattle.shop_base.specs.declared.job_state.JobState.{JobState}
+use Rattle.shop_base.specs.Plan.{PlannedShop, steps}
 use Rattle.shop_base.specs.Graph.{node}
 use Rattle.plan_bounds.specs.Bounds.{times_of}
-use Rattle.plan_limits.specs.Asked.{AreLimited, IsPlace, AreNumberedTo}
-use Rattle.plan_limits.proofs.Numbered.{numbered_push, numbered_on, limited_push, some_limit}
+use Rattle.plan_limits.specs.Asked.{IsPlace, AreNumberedTo}
+use Rattle.plan_limits.proofs.Numbered.{numbered_push}
 use Rattle.plan_limits.proofs.numbering.add_job.Goals as goal
 
-pub returns-then-is_none : goal.returns-then-is_none
-returns-then-is_none c = record { numbered = numbered_on (times_of c.args.shaped.now) c.args.job 0 c.args.nodes.now.items c.requires.numbered (inl refl); limited = c.requires.limited }
-
 pub loop-place-preserved : goal.loop-place-preserved
-loop-place-preserved c =
-    let t = times_of c.args.shaped.now in
-    let is : IsPlace t (node c.args.job c.loop-place.place) = record { job = c.requires.job; place = omega (arith, c.loop-place-test.true, c.step_count-place-end.ensures.count) } in
-    let limited = some_limit _ c.is_none.result c.is_none.ensures c.if-is_none.false in
-    record {
-      numbered = subst (AreNumberedTo t c.args.job (c.loop-place.place + 1)) (sym c.in_ok-push.ensures.items) (numbered_push t c.args.job c.loop-place.place c.loop-place.nodes.items c.loop-place.invariant.numbered is);
-      limited = subst (AreLimited c.args.limits.now) (sym c.in_ok-push.ensures.items) (limited_push c.args.limits.now c.loop-place.nodes.items (node c.args.job c.loop-place.place) limited.0 c.loop-place.invariant.limited limited.1);
-    }
+loop-place-preserved g c =
+    let cell = c.args.cell.now in
+    let t = times_of cell.plan in
+    let j = c.args.job in
+    let k = c.loop-place.place in
+    let same = ap (λ (p : PlannedShop). steps p j) c.shaped-shaped.ensures.plan in
+    let is : IsPlace t cell.cell (node j k) = record {
+      job = c.requires.job;
+      place = omega (arith, c.loop-place-test.true, c.step_count-place-end.ensures.count, same);
+      ahead = omega (arith, c.loop-place.auto.place, ap (λ (s : JobState). s.made) c.job_state-place.ensures);
+    } in
+    subst (AreNumberedTo t cell.cell j (k + 1)) (sym c.in_ok-push.ensures.items) (numbered_push t cell.cell j k c.loop-place.nodes.items c.loop-place.invariant is)

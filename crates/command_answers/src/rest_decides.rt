@@ -1,0 +1,101 @@
+//! The command `decide` of the rest of a run.
+
+ghost use Rattle.std.specs.Prelude.{◌≡◌, ◌≤◌, IfOk, IfSome};
+ghost use Rattle.shop_base.specs.declared.limits.TheConstants.{MAX_MOMENT};
+ghost use Rattle.text_lines.specs.Lines.{ended_lines};
+ghost use Rattle.command_answers.specs.Shapes.{IsLineOfFault};
+ghost use Rattle.command_answers.specs.DecidingRests.{IsRestDecisionAnswer, refusal};
+ghost use Rattle.command_answers.specs.Commands.{RunsDecideRest, WithRestDecision};
+
+use crate::answer::{Answer, Answered};
+use crate::both::{Both, Pair, read_both};
+use crate::decides::{decided_answer, undecided_answer};
+use crate::improves::with_orders;
+use crate::lines::fault_answer;
+use crate::texts::Texts;
+use arc_choice::Choose;
+use plan_decide::{Aim, Watch, decide_after};
+use shop_base::{Moment, ShapeFault, Shaped};
+use std::alloc::{AllocError, Global};
+
+/// Whether any plan with the releases, budgets and cleaning times of the one in a file keeps all budgets of the jobs that
+/// aren't gone, for the rest of the run in the log of another file and the instance of a third, by complete searches of at
+/// most so many choices each. The orders of the given plan say only of what run that is a log; a plan without any orders is
+/// taken with the serial ones. What comes after the log's last line feed isn't looked at. Numbers that aren't sound are
+/// answered by `bad numbers`, orders that don't fit by `not shaped`, and a log or a moment as by `improve`.
+pub fn decide_rest_answer<T: Texts, C: Choose, W: Watch>(
+    alloc: Global,
+    texts: &mut T,
+    pair: &Pair<'_>,
+    log: &str,
+    at: Option<Moment>,
+    aim: Aim,
+    choices: u64,
+    chooser: &mut C,
+    watch: &mut W,
+) -> Answered
+    requires { IfSome at (λ present. present ≤ MAX_MOMENT) }
+    ensures { RunsDecideRest T.gives aim at pair.now log.now texts.old result texts.new }
+{
+    let both = read_both(alloc, texts, pair)?;
+    let both = with_orders(alloc, both)?;
+    both_rest_decided(alloc, texts, both, log, at, aim, choices, chooser, watch)
+}
+
+/// What is decided of the rest of the run in a log by a plan, if it is well shaped, else its first fault.
+fn both_rest_decided<T: Texts, C: Choose, W: Watch>(
+    alloc: Global,
+    texts: &mut T,
+    both: Both,
+    log: &str,
+    at: Option<Moment>,
+    aim: Aim,
+    choices: u64,
+    chooser: &mut C,
+    watch: &mut W,
+) -> Answered
+    requires { IfSome at (λ present. present ≤ MAX_MOMENT) }
+    ensures { WithRestDecision T.gives aim at log.now both texts.old result texts.new }
+{
+    match both.shaped() {
+        Ok(shaped) => {
+            let text = texts.text(alloc, log)?;
+            rest_decided(alloc, shaped, &text, at, aim, choices, chooser, watch)
+        }
+        Err(fault) => Ok(unfit_answer(alloc, fault)?),
+    }
+}
+
+/// What is decided of the rest of the run in a log.
+fn rest_decided<C: Choose, W: Watch>(
+    alloc: Global,
+    shaped: Shaped,
+    log: &[u8],
+    at: Option<Moment>,
+    aim: Aim,
+    choices: u64,
+    chooser: &mut C,
+    watch: &mut W,
+) -> Answered
+    requires { IfSome at (λ present. present ≤ MAX_MOMENT) }
+    ensures { IsRestDecisionAnswer at (ended_lines log.now) shaped aim result }
+{
+    match decide_after(alloc, shaped, log, at, aim, choices, chooser, watch) {
+        Ok(decided) => decided_answer(alloc, &decided),
+        Err(undecided) => undecided_answer(alloc, aim, undecided.fault),
+    }
+}
+
+/// The line of a plan that isn't well shaped, with its first fault.
+fn unfit_answer(alloc: Global, fault: ShapeFault) -> Result<Answer, AllocError>
+    ensures { IfOk result (IsLineOfFault (refusal fault)) }
+{
+    match fault {
+        ShapeFault::OrderCount
+        | ShapeFault::JobOutOfRange { .. }
+        | ShapeFault::NotOnRoute { .. }
+        | ShapeFault::JobTwice { .. }
+        | ShapeFault::JobMissing { .. } => fault_answer(alloc, b"not shaped ", fault),
+        _ => fault_answer(alloc, b"bad numbers ", fault),
+    }
+}

@@ -1,0 +1,199 @@
+-- What is known of all plans of a case: they lead to one cell, are out at their jobs' bounds at the earliest, and what each value says.
+use Rattle.std.proofs.Common.{◌≡◌, ℕ, max, zero, suc, ◌+◌, ◌-◌, ◌<◌, ◌≤◌, ◌⊎◌, inl, inr, Bool, true, false, nat_le, List, [], ◌∷◌, ◌++◌, drop, length, slice_index, Option, None, Some, arith, refl, sym, ap, subst, ◌∙◌, drop_of_length-le, le_refl, true≢false}
+use Rattle.std.proofs.lemmas.Bool.{cases_lt, leb-true, le-leb}
+use Rattle.std.proofs.lemmas.List.Sums.{sum_by-drop_more}
+use Rattle.shop_base.specs.declared.node.Node.{Node}
+use Rattle.shop_base.specs.declared.shop.Step.{Step}
+use Rattle.shop_base.specs.Shop.{no_step}
+use Rattle.shop_base.specs.Work.{route_work}
+use Rattle.shop_base.specs.Plan.{PlannedShop, jobs, steps, route, nominal, budget, IsWellShaped}
+use Rattle.shop_base.specs.Cell.{Cell, job_in, made, since, IsGone}
+use Rattle.shop_base.specs.Movers.{due_of_job}
+use Rattle.shop_base.specs.Sound.{IsSound}
+use Rattle.shop_base.specs.Graph.{node, leaving, job_arc}
+use Rattle.shop_base.specs.Ahead.{next_node, PathAhead, onward}
+use Rattle.shop_base.proofs.Keeping.{run-sound}
+use Rattle.cell_tables.specs.Events.{events_of}
+use Rattle.run_log.specs.Audits.{TellRun}
+use Rattle.plan_verifier.specs.Accepted.{HasNoCycle}
+use Rattle.plan_verifier.specs.Held.{later_than}
+use Rattle.plan_verifier.proofs.Tables.{later_is}
+use Rattle.plan_bounds.specs.Bounds.{ShopTimes, times_of, job_bound, route_in}
+use Rattle.plan_bounds.specs.Makespan.{IsLeastMakespan}
+use Rattle.plan_bounds.specs.declared.makespan.LeastMakespan.{LeastMakespan}
+use Rattle.plan_bounds.proofs.Bounded.{no_plan_is_sooner-holds}
+use Rattle.plan_limits.specs.Stages.{GoesOnFrom, stage_of}
+use Rattle.plan_limits.proofs.FirstPaths.{next_path}
+use Rattle.plan_seek.specs.Tasks.{with_order}
+use Rattle.plan_improve.specs.RestCosts.{IsCellOf}
+use Rattle.plan_improve.specs.Reordered.{IsReordered}
+use Rattle.plan_improve.proofs.OneCell.{one_cell}
+use Rattle.plan_decide.specs.declared.aim.Objective.{Objective}
+use Rattle.plan_decide.specs.declared.aim.Objective.TheVariants.{Makespan, Leaving}
+use Rattle.plan_decide.specs.Cases.{Past, nothing, run_to, Case, KeepsPast, IsOutWithin, IsGood, HasValue, IsPlanOf, IsAccepted, is_waiting, bound_in, job_count, times_in}
+use Rattle.plan_decide.specs.Objectives.{IsLeast}
+use Rattle.plan_decide.proofs.Budgets.{rebudgeted, cell_again}
+
+-- what has happened leads to its cell by some plan with these times
+abbrev pub IsRootedIn : ShopTimes → Past → Type 0
+IsRootedIn t nothing = Unit {0}
+IsRootedIn t (run_to lines c present) = (p : PlannedShop) × (times_of p ≡ t) × IsCellOf lines p c
+
+abbrev pub IsRooted : Case → Type 0
+IsRooted t = IsRootedIn (times_in t) t.past
+
+-- by all plans with the same times lines lead to one cell
+pub same_cell : (lines : List (List ℕ)) (p q : PlannedShop) (c d : Cell) → times_of p ≡ times_of q → IsCellOf lines p c → IsCellOf lines q d → c ≡ d
+same_cell lines p q c d same one other = one_cell lines p (rebudgeted q p.plan.budget) c d reordered one (cell_again q p.plan.budget lines d other)
+  where
+    reordered : IsReordered p (rebudgeted q p.plan.budget)
+    reordered = λ i. record {
+      shop = ap (λ (t : ShopTimes). t.shop) (sym same) i;
+      plan = record {
+        release = ap (λ (t : ShopTimes). t.release) (sym same) i;
+        budget = p.plan.budget;
+        order = q.plan.order;
+        clean = ap (λ (t : ShopTimes). t.clean) (sym same) i;
+      };
+    }
+
+pub cell_of_run : (lines : List (List ℕ)) (p q : PlannedShop) (c : Cell) → times_of p ≡ times_of q → IsCellOf lines p c → TellRun q lines → IsCellOf lines q c
+cell_of_run lines p q c same one (told, tells, run) =
+    let other : IsCellOf lines q _ = record { told = told; tells = tells; run = record { run = run; cell = refl } } in
+    subst (IsCellOf lines q) (sym (same_cell lines p q c _ same one other)) other
+
+-- a plan that keeps what has happened goes on from the cell
+pub goes_on : (lines : List (List ℕ)) (p q : PlannedShop) (c : Cell) (t : ℕ) → times_of p ≡ times_of q → IsCellOf lines p c → IsWellShaped q → TellRun q lines → GoesOnFrom (stage_of p c t) q
+goes_on lines p q c t same one shaped run =
+    let is = cell_of_run lines p q c same one run in
+    record { shaped = shaped; same = sym same; run = events_of is.told; is_run = is.run.run; cell = is.run.cell }
+
+pub sound_in : (lines : List (List ℕ)) (q : PlannedShop) (c : Cell) → IsWellShaped q → IsCellOf lines q c → IsSound q c
+sound_in lines q c shaped is = subst (IsSound q) (sym is.run.cell) (run-sound q (events_of is.told) shaped is.run.run)
+
+-- a job waits where it isn't gone
+pub waiting_here : (p : PlannedShop) (lines : List (List ℕ)) (c : Cell) (t j : ℕ) → is_waiting (times_of p) (run_to lines c t) j ≡ true → IsGone p c j → ⊥
+waiting_here p lines c t j waits gone = (let le = leb-true (made c j) (steps p j) waits in omega (arith, le, gone))
+
+pub here_waits : (p : PlannedShop) (lines : List (List ℕ)) (c : Cell) (t j : ℕ) → (IsGone p c j → ⊥) → is_waiting (times_of p) (run_to lines c t) j ≡ true
+here_waits p lines c t j here = elim (cases_lt (steps p j) (made c j)) [
+  | inl gone ↦ absurd (here gone)
+  | inr le ↦ le-leb (made c j) (steps p j) le
+]
+
+pub gone_unless : (p : PlannedShop) (lines : List (List ℕ)) (c : Cell) (t j : ℕ) → is_waiting (times_of p) (run_to lines c t) j ≡ false → IsGone p c j
+gone_unless p lines c t j not = elim (cases_lt (steps p j) (made c j)) [
+  | inl gone ↦ gone
+  | inr le ↦ absurd (true≢false (sym (le-leb (made c j) (steps p j) le) ∙ not))
+]
+
+-- ---- the bound of a job
+
+module _ (p : PlannedShop) (c : Cell) (t : ℕ) where
+  to_leaving : (d j k n : ℕ) (nodes : List Node) → k + d ≡ steps p j → PathAhead p c t nodes (node j k) n → (others : List Node) × PathAhead p c t others (leaving p j) (n + route_work (drop k (route p j)))
+  to_leaving zero j k n nodes is path =
+      let last : k ≡ steps p j = omega (arith, is) in
+      let none : route_work (drop k (route p j)) ≡ 0 = ap route_work (drop_of_length-le (route p j) (omega (arith, last))) in
+      let long : n ≡ n + route_work (drop k (route p j)) = omega (arith, none) in
+      (nodes, subst (λ (m : ℕ). PathAhead p c t nodes (leaving p j) m) long (subst (λ (l : ℕ). PathAhead p c t nodes (node j l) n) last path))
+  to_leaving (suc d) j k n nodes is path =
+      let on = onward nodes (node j k) (node j (k + 1)) n (nominal p j k) path (job_arc j k (omega (arith, is))) in
+      let more = sum_by-drop_more (λ (s : Step). s.nominal) (route p j) k no_step (omega (arith, is)) in
+      let found = to_leaving d j (k + 1) (n + nominal p j k) (nodes ++ node j (k + 1) ∷ []) (omega (arith, is)) on in
+      let long : n + nominal p j k + route_work (drop (k + 1) (route p j)) ≡ n + route_work (drop k (route p j)) = omega (arith, more) in
+      (found.0, subst (λ (m : ℕ). PathAhead p c t found.0 (leaving p j) m) long found.1)
+
+  -- some path ahead to the leaving of a job that isn't gone is as long as its bound
+  bound_path : (j : ℕ) → IsSound p c → j < jobs p → made c j ≤ steps p j → (nodes : List Node) × PathAhead p c t nodes (leaving p j) (later_than t (due_of_job p j (job_in c j)) + route_work (drop (made c j) (route p j)))
+  bound_path j sound inside here =
+      let first = later_than t (due_of_job p j (job_in c j)) in
+      let begun = next_path p c t sound (next_node c j) first (record { job = inside; place = here }) refl (later_is t (due_of_job p j (job_in c j))) in
+      to_leaving (steps p j - made c j) j (made c j) first (next_node c j ∷ []) (omega (arith, here)) begun
+
+-- so no plan has the job out before
+pub bound_le : (t : Case) (p : PlannedShop) (j n : ℕ) → IsRooted t → IsPlanOf t p → j < job_count t → is_waiting (times_in t) t.past j ≡ true → IsOutWithin t.past p j n → bound_in (times_in t) t.past j ≤ n
+bound_le t p j n rooted plan inside waits out = go t.past rooted plan.keeps waits out
+  where
+    same_jobs : jobs p ≡ job_count t
+    same_jobs = ap (λ (s : ShopTimes). length s.shop.routes) plan.same
+
+    here : j < jobs p
+    here = omega (arith, inside, same_jobs)
+
+    go : (past : Past) → IsRootedIn (times_in t) past → KeepsPast past p → is_waiting (times_in t) past j ≡ true → IsOutWithin past p j n → bound_in (times_in t) past j ≤ n
+    go nothing root keeps waiting is =
+        let found = (no_plan_is_sooner-holds p plan.shaped).0 j here in
+        let bound : job_bound (times_of p) j ≡ job_bound (times_in t) j = ap (λ (s : ShopTimes). job_bound s j) plan.same in
+        omega (arith, bound, found.long, is found.nodes found.size found.path)
+    go (run_to lines c present) (q, times, root) keeps waiting is =
+        let cell = cell_of_run lines q p c (times ∙ sym plan.same) root keeps in
+        let sound = sound_in lines p c plan.shaped cell in
+        let there : is_waiting (times_of p) (run_to lines c present) j ≡ true = ap (λ (s : ShopTimes). is_waiting s (run_to lines c present) j) plan.same ∙ waiting in
+        let le : made c j ≤ steps p j = leb-true (made c j) (steps p j) there in
+        let found = bound_path p c present j sound here le in
+        let bound : bound_in (times_of p) (run_to lines c present) j ≡ bound_in (times_in t) (run_to lines c present) j = ap (λ (s : ShopTimes). bound_in s (run_to lines c present) j) plan.same in
+        omega (arith, bound, is found.0 _ found.1)
+
+-- ---- what a value says
+
+pub makespan_out : (past : Past) (p : PlannedShop) (j n : ℕ) → j < jobs p → HasValue past Makespan p n → IsOutWithin past p j n
+makespan_out nothing p j n inside is = λ nodes k path. is.bound j nodes k inside path
+makespan_out (run_to lines c present) p j n inside is = λ nodes k path. is.bound j nodes k inside path
+
+pub leaving_out : (past : Past) (p : PlannedShop) (j n : ℕ) → is_waiting (times_of p) past j ≡ true → HasValue past (Leaving j) p n → IsOutWithin past p j n
+leaving_out nothing p j n waits is = λ nodes k path. is.longest nodes k path
+leaving_out (run_to lines c present) p j n waits is = λ nodes k path. (is.ahead (waiting_here p lines c present j waits)).longest nodes k path
+
+-- of a plan to be accepted
+pub good_acyclic : (past : Past) (p : PlannedShop) → IsGood past p → HasNoCycle p
+good_acyclic nothing p good = good.acyclic
+good_acyclic (run_to lines c present) p good = λ nodes cycle. good.acyclic (nodes, cycle)
+
+pub good_out : (past : Past) (p : PlannedShop) (j : ℕ) → IsGood past p → j < jobs p → is_waiting (times_of p) past j ≡ true → IsOutWithin past p j (budget p j)
+good_out nothing p j good inside waits = λ nodes k path. good.budgets j inside nodes k path
+good_out (run_to lines c present) p j good inside waits = λ nodes k path. good.budgets j inside (waiting_here p lines c present j waits) nodes k path
+
+pub good_from : (past : Past) (p : PlannedShop) → HasNoCycle p → ((j : ℕ) → j < jobs p → is_waiting (times_of p) past j ≡ true → IsOutWithin past p j (budget p j)) → IsGood past p
+good_from nothing p acyclic out = record { acyclic = acyclic; budgets = λ j inside nodes k path. out j inside refl nodes k path }
+good_from (run_to lines c present) p acyclic out = record {
+  acyclic = λ cycle. acyclic cycle.0 cycle.1;
+  budgets = λ j inside here nodes k path. out j inside (here_waits p lines c present j here) nodes k path;
+}
+
+-- a plan that is accepted is one of the case
+pub accepted_plan : (t : Case) (order : List (List ℕ)) → IsAccepted t.past (with_order t.task order) → IsPlanOf t (with_order t.task order)
+accepted_plan t order accepted = record { shaped = accepted.shaped; same = refl; keeps = accepted.keeps }
+
+-- ---- the least values
+
+-- no whole plan has a makespan below the greatest bound
+pub least_makespan_least : (t : Case) (least : LeastMakespan) → t.past ≡ nothing → IsLeastMakespan (times_in t) least → IsLeast t Makespan least.at_least
+least_makespan_least t least none is = λ order value accepted reached.
+    let found = (no_plan_is_sooner-holds (with_order t.task order) accepted.shaped).1 least is in
+    let out = subst (λ (past : Past). IsOutWithin past (with_order t.task order) found.0 value) none (makespan_out t.past (with_order t.task order) found.0 value found.1 reached) in
+    omega (arith, found.2.long, out found.2.nodes found.2.size found.2.path)
+
+-- none has a job that isn't gone out before its bound
+pub bound_least : (t : Case) (objective : Objective) (j : ℕ) → IsRooted t → j < job_count t → is_waiting (times_in t) t.past j ≡ true → (objective ≡ Makespan) ⊎ (objective ≡ Leaving j) → IsLeast t objective (bound_in (times_in t) t.past j)
+bound_least t objective j rooted inside waits which = λ order value accepted reached. bound_le t (with_order t.task order) j value rooted (accepted_plan t order accepted) inside waits (go (with_order t.task order) value inside waits reached which)
+  where
+    go : (p : PlannedShop) (value : ℕ) → j < jobs p → is_waiting (times_of p) t.past j ≡ true → HasValue t.past objective p value → (objective ≡ Makespan) ⊎ (objective ≡ Leaving j) → IsOutWithin t.past p j value
+    go p value here waiting reached (inl is) = makespan_out t.past p j value here (subst (λ (o : Objective). HasValue t.past o p value) is reached)
+    go p value here waiting reached (inr is) = leaving_out t.past p j value waiting (subst (λ (o : Objective). HasValue t.past o p value) is reached)
+
+-- and one that is gone left when it did
+pub gone_least : (t : Case) (lines : List (List ℕ)) (c : Cell) (present : ℕ) (objective : Objective) (j : ℕ) → t.past ≡ run_to lines c present → j < job_count t → is_waiting (times_in t) (run_to lines c present) j ≡ false
+    → (objective ≡ Makespan) ⊎ (objective ≡ Leaving j) → IsLeast t objective (since c j)
+gone_least t lines c present objective j past inside not which = λ order value accepted reached. go (with_order t.task order) value inside (gone_unless (with_order t.task order) lines c present j not) (subst (λ (x : Past). HasValue x objective (with_order t.task order) value) past reached) which
+  where
+    go : (p : PlannedShop) (value : ℕ) → j < jobs p → IsGone p c j → HasValue (run_to lines c present) objective p value → (objective ≡ Makespan) ⊎ (objective ≡ Leaving j) → since c j ≤ value
+    go p value here gone reached (inl is) = (subst (λ (o : Objective). HasValue (run_to lines c present) o p value) is reached).left j here gone
+    go p value here gone reached (inr is) = (let at = (subst (λ (o : Objective). HasValue (run_to lines c present) o p value) is reached).left gone in omega (arith, at))
+
+-- the later of two moments below which none is
+pub later_least : (t : Case) (objective : Objective) (m n k : ℕ) → k ≡ max m n → IsLeast t objective m → IsLeast t objective n → IsLeast t objective k
+later_least t objective m n k is one other = λ order value accepted reached. omega (arith, is, one order value accepted reached, other order value accepted reached)
+
+-- none is below 0
+pub none_below : (t : Case) (objective : Objective) → IsLeast t objective 0
+none_below t objective = λ order value accepted reached. omega arith

@@ -1,0 +1,194 @@
+-- Settings, and plans that are kept in them.
+use Rattle.std.proofs.Common.{◌≡◌, ◌≢◌, ℕ, ◌-◌, ◌<◌, ◌≤◌, ◌⊎◌, inl, inr, false, List, [], take, drop, length, slice_index, set, Option, None, Some, arith, refl, sym, ap, subst, ◌∙◌, true≢false}
+use Rattle.std.specs.Prelude.{Result, Ok, Err, IfOk, IfSome}
+use Rattle.std.proofs.lemmas.Bool.{cases_lt}
+use Rattle.std.proofs.lemmas.List.{get_or-set_same, get_or-set_other, length-set, nil_from_length, take_all, length-drop}
+use Rattle.std.proofs.lemmas.List.Sums.{sum_by-take-drop}
+use Rattle.shop_base.specs.declared.node.Node.{Node}
+use Rattle.shop_base.specs.declared.limits.TheConstants.{MAX_MOMENT}
+use Rattle.shop_base.specs.declared.shop.Step.{Step}
+use Rattle.shop_base.specs.Work.{route_work}
+use Rattle.shop_base.specs.Plan.{PlannedShop, jobs, machines, steps, route, IsWellShaped}
+use Rattle.shop_base.specs.Cell.{Cell, made, since, start, IsGone}
+use Rattle.shop_base.specs.Run.{ends_in}
+use Rattle.shop_base.proofs.Bounds.{route_work-le}
+use Rattle.cell_tables.specs.declared.entry.Entry.{Entry}
+use Rattle.cell_tables.specs.Events.{events_of}
+use Rattle.text_lines.specs.Lines.{ended_lines}
+use Rattle.event_lines.specs.LogLines.{LinesTell}
+use Rattle.run_log.specs.Audits.{IsTold}
+use Rattle.shop_base.specs.Report.{IsNextMoment}
+use Rattle.shop_base.specs.Graph.{leaving, IsNode}
+use Rattle.shop_base.specs.Ahead.{PathAhead}
+use Rattle.alt_graph.specs.Times.{NodeTimes, AreRanks, earliest_of}
+use Rattle.plan_verifier.specs.Accepted.{VerifiedPlan, IsGreatest, IsMakespan}
+use Rattle.plan_verifier.specs.Leavings.{leaves_in, IsLastLeaving}
+use Rattle.plan_verifier.specs.RestVerdicts.{IsAcceptableAhead}
+use Rattle.plan_bounds.specs.Bounds.{ShopTimes, times_of}
+use Rattle.plan_limits.specs.declared.answer.Answer.{Answer}
+use Rattle.plan_limits.specs.declared.answer.Answer.TheVariants.{Never, Orders, Open}
+use Rattle.plan_limits.specs.Stages.{stage_of}
+use Rattle.plan_limits.specs.Limits.{NoPlanKeepsFrom}
+use Rattle.plan_limits.specs.Answered.{OnNever}
+use Rattle.plan_improve.specs.RestCosts.{IsCellOf}
+use Rattle.plan_improve.specs.RestKeeping.{IsPresent}
+use Rattle.plan_improve.specs.Improved.{present_of}
+use Rattle.plan_improve.proofs.OneCell.{tells_run}
+use Rattle.plan_decide.specs.declared.aim.Objective.{Objective}
+use Rattle.plan_decide.specs.declared.aim.Objective.TheVariants.{Makespan, Leaving}
+use Rattle.plan_decide.specs.declared.kept.Kept.{Kept}
+use Rattle.plan_decide.specs.declared.kept.Kept.TheVariants.{Whole, Rest}
+use Rattle.plan_decide.specs.declared.setting.Past.{Past as Happened}
+use Rattle.plan_decide.specs.declared.setting.Past.TheVariants.{Nothing, Run}
+use Rattle.plan_decide.specs.Cases.{Past, nothing, run_to, Case, HasValue, is_waiting, times_in, job_count}
+use Rattle.plan_decide.specs.Pasts.{IsPastOf, unbegun, begun}
+use Rattle.plan_decide.specs.Objectives.{IsLeast}
+use Rattle.plan_decide.specs.declared.setting.Setting.{Setting}
+use Rattle.plan_decide.specs.Asking.{NoPlanKeeps}
+use Rattle.plan_decide.specs.Settings.{past_in, present_in, case_in, IsSet, HasLed, plan_of, FitsPast, IsKeptAs, IsKeptAfter, IsTimely, IsPastBy, freed}
+use Rattle.plan_decide.proofs.Bounded.{IsRootedIn, same_cell, gone_least}
+use Rattle.plan_decide.proofs.Limits.{IsReachedBy, none_keeps}
+
+-- what a setting has led to
+pub rooted : (happened : Happened) (p : PlannedShop) (c : Cell) → HasLed happened p c → IsRootedIn (times_of p) (past_in happened c)
+rooted Nothing p c led = tt
+rooted (Run log present) p c led = (p, refl, led.0)
+
+pub reached : (happened : Happened) (p : PlannedShop) (c : Cell) → HasLed happened p c → IsReachedBy p (past_in happened c) c (present_in happened)
+reached Nothing p c led = (led, refl)
+reached (Run log present) p c led = (led.0, refl, refl)
+
+-- a plan that is kept has ranks
+pub fits_ranks : (past : Past) (p : PlannedShop) (times : NodeTimes) → FitsPast past (Rest p times) → AreRanks p times
+fits_ranks nothing p times fits = absurd fits
+fits_ranks (run_to lines c present) p times fits = fits.ranks
+
+-- and its values
+pub whole_makespan : (past : Past) (v : VerifiedPlan) (n : ℕ) → FitsPast past (Whole v) → IsMakespan v.planned n → HasValue past Makespan v.planned n
+whole_makespan nothing v n fits is = is
+whole_makespan (run_to lines c present) v n fits is = absurd fits
+
+pub whole_leaving : (past : Past) (v : VerifiedPlan) (j n : ℕ) → FitsPast past (Whole v) → IsGreatest v.planned (leaving v.planned j) n → HasValue past (Leaving j) v.planned n
+whole_leaving nothing v j n fits is = is
+whole_leaving (run_to lines c present) v j n fits is = absurd fits
+
+pub rest_makespan : (past : Past) (p : PlannedShop) (times : NodeTimes) (n : ℕ) → FitsPast past (Rest p times) → IsLastLeaving p (leaves_in p times) n → HasValue past Makespan p n
+rest_makespan nothing p times n fits is = absurd fits
+rest_makespan (run_to lines c present) p times n fits is = record {
+  left = λ j inside gone. omega (arith, fits.left j inside gone, is.bound j inside);
+  bound = λ j nodes k inside path. omega (arith, fits.greatest nodes (leaving p j) k path, is.bound j inside);
+  reached = (is.reached.0, is.reached.1, at is.reached.0 is.reached.1 is.reached.2);
+}
+  where
+    at : (j : ℕ) → j < jobs p → earliest_of times (leaving p j) ≡ n → (IsGone p c j × (since c j ≡ n)) ⊎ ((nodes : List Node) × PathAhead p c present nodes (leaving p j) n)
+    at j inside same = elim (cases_lt (steps p j) (made c j)) [
+      | inl gone ↦ inl (gone, sym (fits.left j inside gone) ∙ same)
+      | inr here ↦ (let found = fits.reached (leaving p j) (record { job = inside; place = omega arith }) here in
+          inr (found.0, subst (λ (m : ℕ). PathAhead p c present found.0 (leaving p j) m) same found.1))
+    ]
+
+pub rest_leaving : (past : Past) (p : PlannedShop) (times : NodeTimes) (j n : ℕ) → FitsPast past (Rest p times) → j < jobs p → n ≡ earliest_of times (leaving p j) → HasValue past (Leaving j) p n
+rest_leaving nothing p times j n fits inside same = absurd fits
+rest_leaving (run_to lines c present) p times j n fits inside same = record {
+  left = λ gone. same ∙ fits.left j inside gone;
+  ahead = λ here. (
+      let ahead : made c j ≤ steps p j = not_gone here in
+      let found = fits.reached (leaving p j) (record { job = inside; place = omega arith }) ahead in
+      record {
+        reached = (found.0, subst (λ (m : ℕ). PathAhead p c present found.0 (leaving p j) m) (sym same) found.1);
+        longest = λ nodes k path. omega (arith, same, fits.greatest nodes (leaving p j) k path);
+      });
+}
+  where
+    not_gone : (IsGone p c j → ⊥) → made c j ≤ steps p j
+    not_gone here = elim (cases_lt (steps p j) (made c j)) [
+      | inl gone ↦ absurd (here gone)
+      | inr le ↦ le
+    ]
+
+-- a plan with the same times leads to the same cell
+pub timely : (lines : List (List ℕ)) (p q : PlannedShop) (c : Cell) (present : ℕ) → times_of q ≡ times_of p → IsCellOf lines p c → IsNextMoment c present → IsTimely lines present q
+timely lines p q c present same is next d other = subst (λ (x : Cell). IsNextMoment x present) (same_cell lines p q c d (sym same) is other) next
+
+pub kept_after : (lines : List (List ℕ)) (p q : PlannedShop) (c : Cell) (present : ℕ) (kept : Kept) → times_of q ≡ times_of p → IsCellOf lines p c → IsWellShaped q → IsKeptAfter lines present q kept → IsKeptAs (run_to lines c present) q kept
+kept_after lines p q c present kept same is shaped found =
+    let cell : found.cell ≡ c = sym (same_cell lines p q c found.cell (sym same) is found.run) in
+    record {
+      plan = found.plan;
+      accepted = record {
+        shaped = shaped;
+        keeps = tells_run lines q found.cell found.run;
+        acceptable = subst (λ (x : Cell). IsAcceptableAhead q x present) cell found.acceptable;
+      };
+      fits = subst (λ (x : Cell). FitsPast (run_to lines x present) kept) cell found.fits;
+    }
+
+-- the budgets that are asked for
+pub freed_there : (budget : List ℕ) (j : ℕ) → j < length budget → slice_index (freed (Some j) budget) j ≡ MAX_MOMENT
+freed_there budget j inside = get_or-set_same budget j MAX_MOMENT 0 inside
+
+pub freed_other : (budget : List ℕ) (i j : ℕ) → j ≢ i → slice_index (freed (Some i) budget) j ≡ slice_index budget j
+freed_other budget i j apart = get_or-set_other budget i j MAX_MOMENT 0 apart
+
+-- ---- of a setting
+
+pub in_range : (happened : Happened) (p : PlannedShop) (c : Cell) → HasLed happened p c → present_in happened ≤ MAX_MOMENT
+in_range Nothing p c led = omega arith
+in_range (Run log present) p c led = led.1.in_range
+
+-- where no plan that goes on from its cell keeps limits none of its case does
+pub asked_none : (s : Setting) (limits : List (Option ℕ)) (present : ℕ) → present ≡ present_in s.past → IsSet s → NoPlanKeepsFrom (stage_of s.cell.plan s.cell.cell present) limits → NoPlanKeeps (case_in s) limits
+asked_none s limits present same set none =
+    none_keeps s.cell.plan (past_in s.past s.cell.cell) (freed s.free s.cell.plan.plan.budget) limits s.cell.cell (present_in s.past) (reached s.past s.cell.plan s.cell.cell set)
+    (subst (λ (n : ℕ). NoPlanKeepsFrom (stage_of s.cell.plan s.cell.cell n) limits) same none)
+
+pub never_if : {E P Q : Type 0} (r : Result Answer E) → (P → Q) → IfOk r (OnNever P) → IfOk r (OnNever Q)
+never_if (Ok Never) follows says = follows says
+never_if (Ok (Orders orders)) follows says = tt
+never_if (Ok Open) follows says = tt
+never_if (Err e) follows says = tt
+
+-- what has happened by a log
+nothing_told : (told : List Entry) → length told ≡ 0 → told ≡ []
+nothing_told told none = nil_from_length told none
+
+pub past_set : (happened : Happened) (log : List ℕ) (at : Option ℕ) (p : PlannedShop) (c : Cell) (told : List Entry) (present events : ℕ) → IsPastBy log present events happened
+    → LinesTell p (ended_lines log) told → IsTold p c told → events ≡ length told → IsPresent at c.last present → HasLed happened p c × IsPastOf (ended_lines log) at p (past_in happened c)
+past_set Nothing log at p c told present events (none, zero) tells run count is =
+    let empty : told ≡ [] = nothing_told told (sym count ∙ none) in
+    let begins : c ≡ start p = run.cell ∙ ap (λ (es : List Entry). ends_in p (events_of es)) empty in
+    let last : c.last ≡ 0 = ap (λ (x : Cell). x.last) begins in
+    (begins, unbegun (subst (LinesTell p (ended_lines log)) empty tells) (ap (present_of at) (sym last) ∙ sym is.0 ∙ zero))
+past_set (Run text moment) log at p c told present events (same, is_present) tells run count is =
+    let here : IsCellOf (ended_lines log) p c = record { told = told; tells = tells; run = run } in
+    let next : IsNextMoment c present = record { in_order = is.1; in_range = is.2 } in (
+      (subst (λ (l : List ℕ). IsCellOf (ended_lines l) p c) (sym same) here, subst (IsNextMoment c) (sym is_present) next),
+      subst (λ (l : List ℕ). IsPastOf (ended_lines log) at p (run_to (ended_lines l) c moment)) (sym same)
+          (subst (λ (n : ℕ). IsPastOf (ended_lines log) at p (run_to (ended_lines log) c n)) (sym is.0 ∙ sym is_present) (begun c here (subst (IsNextMoment c) is.0 next))),
+    )
+
+-- a job that is gone left when it did
+pub gone_setting : (happened : Happened) (t : Case) (p : PlannedShop) (c : Cell) (objective : Objective) (j : ℕ) → t.past ≡ past_in happened c → times_in t ≡ times_of p → j < job_count t → is_waiting (times_of p) (past_in happened c) j ≡ false
+    → (objective ≡ Makespan) ⊎ (objective ≡ Leaving j) → IsLeast t objective (since c j)
+gone_setting Nothing t p c objective j past times inside not which = absurd (true≢false not)
+gone_setting (Run log present) t p c objective j past times inside not which =
+    gone_least t (ended_lines log.now) c present objective j past inside (ap (λ (s : ShopTimes). is_waiting s (run_to (ended_lines log.now) c present) j) times ∙ not) which
+
+-- what is kept after a log is kept
+pub kept_if : {E : Type 0} (r : Result (Option Kept) E) (IsOne IsOther : Kept → Type 0) → ((kept : Kept) → IsOne kept → IsOther kept) → IfOk r (λ found. IfSome found IsOne) → IfOk r (λ found. IfSome found IsOther)
+kept_if (Ok (Some kept)) IsOne IsOther follows is = follows kept is
+kept_if (Ok None) IsOne IsOther follows is = tt
+kept_if (Err e) IsOne IsOther follows is = tt
+
+-- there are as many budgets that are asked for
+pub freed_length : (free : Option ℕ) (budget : List ℕ) → length (freed free budget) ≡ length budget
+freed_length None budget = refl
+freed_length (Some j) budget = length-set budget j MAX_MOMENT
+
+-- the nominal times of a part of a route
+pub work_rest : (p : PlannedShop) (j k : ℕ) → IsWellShaped p → j < jobs p
+    → (route_work (take (length (route p j) - k) (drop k (route p j))) ≡ route_work (drop k (route p j))) × (route_work (drop k (route p j)) ≤ 100000000)
+work_rest p j k shaped inside = (
+  ap route_work (take_all (length (route p j) - k) (drop k (route p j)) (omega (arith, length-drop k (route p j)))),
+  omega (arith, route_work-le (machines p) (route p j) (shaped.shop.routes j inside), shaped.shop.counts.few_machines, sum_by-take-drop (λ (s : Step). s.nominal) (route p j) k),
+)

@@ -1,0 +1,10 @@
+use Rattle.std.proofs.Common.{Some, sym, subst, ap}
+use Rattle.text_lines.specs.Lines.{ended_lines}
+use Rattle.plan_improve.specs.RestCosts.{IsCellOf}
+use Rattle.plan_decide.proofs.judging.times_after.Goals as goal
+
+pub accepted_times-requires : goal.accepted_times-requires
+accepted_times-requires c =
+    let told = rw c.in-Some.is at c.in_ok-run.ensures.told in
+    let tells = rw c.in-Some.is at c.in_ok-run.ensures.tells in
+    c.requires c.in-Some.run'.cell.cell (record { told = c.in-Some.run'.entries.items; tells = tells; run = told })

@@ -1,0 +1,65 @@
+-- What a log tells of what has happened, and why nothing is decided.
+use Rattle.std.specs.Prelude.{◌≡◌, ℕ, ◌<◌, ◌≤◌, List, [], Option, Some}
+use Rattle.shop_base.specs.declared.limits.TheConstants.{MAX_MOMENT}
+use Rattle.shop_base.specs.Plan.{PlannedShop}
+use Rattle.shop_base.specs.Cell.{Cell}
+use Rattle.shop_base.specs.Report.{IsNextMoment}
+use Rattle.event_lines.specs.LogLines.{LinesTell}
+use Rattle.run_log.specs.declared.audit_fault.AuditFault.{AuditFault}
+use Rattle.run_log.specs.declared.audit_fault.AuditFault.TheVariants.{Memory as WantOfMemory}
+use Rattle.run_log.specs.Audits.{IsFirstBad}
+use Rattle.plan_seek.specs.Tasks.{task_in}
+use Rattle.plan_improve.specs.RestCosts.{IsCellOf}
+use Rattle.plan_improve.specs.Improved.{present_of}
+use Rattle.plan_decide.specs.declared.aim.Aim.{Aim}
+use Rattle.plan_decide.specs.declared.decide_fault.DecideFault.{DecideFault}
+use Rattle.plan_decide.specs.declared.decide_fault.DecideFault.TheVariants.{JobOutOfRange, Log, Past as EarlierMoment, MomentTooLarge, Memory}
+use Rattle.plan_decide.specs.Cases.{Past, nothing, run_to, Case}
+use Rattle.plan_decide.specs.Promises.{IsInRange}
+
+-- the case of a plan's numbers and what has happened
+abbrev pub case_of : PlannedShop → Past → Case
+case_of p past = record { task = task_in p; past = past }
+
+-- that of whole plans
+abbrev pub whole_case : PlannedShop → Case
+whole_case p = case_of p nothing
+
+-- what has happened by the lines of a log and a present moment, the one that is given or else the last one: where they tell no event and that moment is 0, nothing; and else their run, to its cell and that moment
+pub data IsPastOf (lines : List (List ℕ)) (at : Option ℕ) (p : PlannedShop) : Past → Type 0 where
+  unbegun : LinesTell p lines [] → present_of at 0 ≡ 0 → IsPastOf lines at p nothing
+  begun : (c : Cell) → IsCellOf lines p c → IsNextMoment c (present_of at c.last) → IsPastOf lines at p (run_to lines c (present_of at c.last))
+
+-- it is so of what has happened by the lines
+pub record HoldsAfter (lines : List (List ℕ)) (at : Option ℕ) (p : PlannedShop) (holds : Case → Type 0) : Type 0 where
+  pub past : Past
+  pub is : IsPastOf lines at p past
+  pub says : holds (case_of p past)
+
+-- the fault that one of a log is
+abbrev pub log_fault : AuditFault → DecideFault
+log_fault WantOfMemory = Memory
+log_fault fault = Log fault
+
+-- why the moment that is given can't be the present one after the last
+abbrev pub IsMomentFault : Option ℕ → ℕ → DecideFault → Type 0
+IsMomentFault (Some at) last (EarlierMoment moment) = (at < last) × (moment ≡ last)
+IsMomentFault (Some at) last MomentTooLarge = (last ≤ at) × (MAX_MOMENT < at)
+IsMomentFault at last fault = ⊥
+
+-- the same from the cell of the lines
+abbrev pub IsMomentFaultOf : List (List ℕ) → Option ℕ → PlannedShop → DecideFault → Type 0
+IsMomentFaultOf lines at p fault = (c : Cell) × IsCellOf lines p c × IsMomentFault at c.last fault
+
+-- why no rest is asked about: the first bad line of the log, or else the moment, or out of memory
+abbrev pub IsBeginFault : List (List ℕ) → Option ℕ → PlannedShop → DecideFault → Type 0
+IsBeginFault lines at p (Log fault) = IsFirstBad p lines fault
+IsBeginFault lines at p (EarlierMoment last) = IsMomentFaultOf lines at p (EarlierMoment last)
+IsBeginFault lines at p MomentTooLarge = IsMomentFaultOf lines at p MomentTooLarge
+IsBeginFault lines at p Memory = Unit {0}
+IsBeginFault lines at p JobOutOfRange = ⊥
+
+-- why nothing is decided: the job isn't of the shop, or else why no rest is asked about
+abbrev pub IsDecideRestFault : List (List ℕ) → Option ℕ → PlannedShop → Aim → DecideFault → Type 0
+IsDecideRestFault lines at p aim JobOutOfRange = IsInRange (whole_case p) aim → ⊥
+IsDecideRestFault lines at p aim fault = IsInRange (whole_case p) aim × IsBeginFault lines at p fault
