@@ -13,3 +13,4 @@ pub mod Written
 pub mod Downs
 pub mod Lifted
 pub mod Sooner
+pub mod StillAccepted

@@ -43,6 +43,7 @@ pub record IsAsideSound (s : Setting) (p : PlannedShop) : Type 0 where
   pub whole : (i k : ℕ) → Visits p i k s.plant → steps p i ≡ 1
   pub timeless : (i k : ℕ) → Visits p i k s.plant → nominal p i k ≡ 0
   pub uncleaned : clean p s.plant ≡ 0
+  pub unpromised : (i k : ℕ) → Visits p i k s.plant → budget p i ≡ no_promise
 
 -- ---- what is read the same
 
@@ -100,7 +101,7 @@ ended_fits c p j n q kept fit ends inside behind f = record { arcs = arcs; budge
 
 -- ---- changes that stop jobs
 
-first_stop : (change : Change) (changes : List Change) → AreStops (change ∷ changes) → AreStops (change ∷ []) × AreStops changes
+pub first_stop : (change : Change) (changes : List Change) → AreStops (change ∷ changes) → AreStops (change ∷ []) × AreStops changes
 first_stop (Until machine to) changes stops = absurd stops
 first_stop (Add words release budget) changes stops = absurd stops
 first_stop (Scrap j) changes stops = (tt, stops)
@@ -150,7 +151,7 @@ module _ (s : Setting) (is : IsSetting s) (c : Cell) (top : ℕ) (moved : (j : �
         let here : k ≡ 0 = omega (arith, ap length places.route_is) in
         (here, ap (nominal (put_aside s p j) j) here ∙ ap (λ (r : List Step). (step_at r 0).nominal) places.route_is)
 
-    aside_still : IsAsideSound s p → IsAsideSound s (put_aside s p j)
+    pub aside_still : IsAsideSound s p → IsAsideSound s (put_aside s p j)
     aside_still sound = record {
       whole = λ i k visits. elim (cases_eq i j) [
         | inl same ↦ ap (steps (put_aside s p j)) same ∙ ap length places.route_is
@@ -161,6 +162,10 @@ module _ (s : Setting) (is : IsSetting s) (c : Cell) (top : ℕ) (moved : (j : �
         | inr other ↦ ap (λ (r : List Step). (step_at r k).nominal) (aside_others s p j is revision inside outside room i other) ∙ sound.timeless i k (visit_before i k s.plant other visits)
       ];
       uncleaned = places.cleans s.plant ∙ ends.cleans s.plant ∙ first.cleans s.plant ∙ sound.uncleaned;
+      unpromised = λ i k visits. elim (cases_eq i j) [
+        | inl same ↦ ap (budget (put_aside s p j)) same ∙ places.budget_is
+        | inr other ↦ places.budgets i other ∙ ends.budgets i other ∙ ap (λ (xs : List ℕ). get_or xs i 0) first.budgets ∙ sound.unpromised i k (visit_before i k s.plant other visits)
+      ];
     }
 
     unmoved : made c j ≤ 0
@@ -224,13 +229,17 @@ module _ (s : Setting) (is : IsSetting s) (c : Cell) (top : ℕ) (moved : (j : �
   lifted_not : (p : PlannedShop) (kept : Node → ℕ) → AreFitting c p kept → IsAsideSound s p → IsLifted p kept p
   lifted_not p kept f sound = record { later = kept; fits = f; sound = sound; same = λ v free. refl }
 
-  ended_sound : (p : PlannedShop) (j n : ℕ) → IsFit p → j < jobs p → IsAsideSound s p → IsAsideSound s (ended p j n)
+  pub ended_sound : (p : PlannedShop) (j n : ℕ) → IsFit p → j < jobs p → IsAsideSound s p → IsAsideSound s (ended p j n)
   ended_sound p j n fit inside sound =
       let ends = ended-ends p j n fit inside in
       record {
         whole = λ i k visits. omega (arith, sound.whole i k (visits_before p j n (ended p j n) fit ends i k s.plant visits), steps_few p j n (ended p j n) fit ends i, visits.within);
         timeless = λ i k visits. ap (λ (x : Step). x.nominal) (step_before p j n (ended p j n) fit ends i k visits.within).1 ∙ sound.timeless i k (visits_before p j n (ended p j n) fit ends i k s.plant visits);
         uncleaned = ends.cleans s.plant ∙ sound.uncleaned;
+        unpromised = λ i k visits. elim (cases_eq i j) [
+          | inl same ↦ ap (budget (ended p j n)) same ∙ ends.unpromised
+          | inr other ↦ ends.budgets i other ∙ sound.unpromised i k (visits_before p j n (ended p j n) fit ends i k s.plant visits)
+        ];
       }
 
   stopped_lifted : (p : PlannedShop) (kept : Node → ℕ) (j n : ℕ) → IsRevision s p → j < jobs p → moves_made s j ≤ n → (moves_made s j ≡ 0 → HasRoom s p) → jobs p ≤ top → AreFitting c p kept → IsAsideSound s p → IsLifted p kept (stopped s p j n)
@@ -298,11 +307,12 @@ module _ (s : Setting) (is : IsSetting s) (c : Cell) (top : ℕ) (moved : (j : �
 
   pub given_sound : IsAsideSound s s.given
   given_sound = elim is.plant [
-    | inl aside ↦ record { whole = λ i k visits. (aside.visitors i k visits).whole; timeless = λ i k visits. timeless_first aside i k visits; uncleaned = aside.uncleaned }
+    | inl aside ↦ record { whole = λ i k visits. (aside.visitors i k visits).whole; timeless = λ i k visits. timeless_first aside i k visits; uncleaned = aside.uncleaned; unpromised = λ i k visits. (aside.visitors i k visits).unpromised }
     | inr whole ↦ record {
       whole = λ i k visits. absurd (omega (arith, visits_machine s.given i k s.plant is.shaped visits, whole.0));
       timeless = λ i k visits. absurd (omega (arith, visits_machine s.given i k s.plant is.shaped visits, whole.0));
       uncleaned = past s.given.plan.clean is.shaped.counts.cleanings (omega (arith, whole.0));
+      unpromised = λ i k visits. absurd (omega (arith, visits_machine s.given i k s.plant is.shaped visits, whole.0));
     }
   ]
     where

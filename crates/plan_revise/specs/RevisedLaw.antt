@@ -1,5 +1,6 @@
 -- The laws of revised plans: the run so far stays a run, no cycle comes, and nobody else is later.
 use Rattle.std.specs.Prelude.{ℕ, ◌<◌, ◌≤◌, List, [], ◌∷◌, ◌++◌}
+use Rattle.shop_base.specs.declared.limits.TheConstants.{MAX_MOMENT}
 use Rattle.shop_base.specs.declared.node.Node.{Node}
 use Rattle.shop_base.specs.Plan.{PlannedShop, jobs, Visits, IsWellShaped}
 use Rattle.shop_base.specs.Cell.{made}
@@ -8,6 +9,7 @@ use Rattle.shop_base.specs.Graph.{node, leaving, IsNode, RanksRise}
 use Rattle.shop_base.specs.Ahead.{PathAhead, IsAhead}
 use Rattle.shop_base.specs.Deadlines.{AreDeadlines}
 use Rattle.plan_verifier.specs.Accepted.{HasNoCycle}
+use Rattle.plan_verifier.specs.RestVerdicts.{IsAcceptableAhead}
 use Rattle.cell_control.specs.Carried.{IsCarried}
 use Rattle.plan_revise.specs.declared.change.Change.{Change}
 use Rattle.plan_revise.specs.declared.change.Change.TheVariants.{Until, Add, Scrap, Down}
@@ -78,3 +80,8 @@ abbrev pub NoDeadlineComesSooner : Type 0
 NoDeadlineComesSooner = (p q : PlannedShop) (es : List Event) (t : ℕ) (changes : List Change) → IsRevisedRun p es t changes q → AreStops changes
     → (plant : ℕ) (rank kept later : Node → ℕ) → IsPlant p plant → RanksRise q rank → AreDeadlines p (ends_in p es) kept → AreDeadlines q (ends_in q es) later
     → (v : Node) → IsNode p v → IsNode q v → IsAhead (ends_in q es) v → (IsPutAside plant q v.job → ⊥) → kept v ≤ later v
+
+-- where jobs are scrapped and machines are down, a rest that is to be accepted stays so
+abbrev pub AcceptedRestsStayAccepted : Type 0
+AcceptedRestsStayAccepted = (p q : PlannedShop) (es : List Event) (t : ℕ) (changes : List Change) → IsRevisedRun p es t changes q → AreStops changes → t ≤ MAX_MOMENT
+    → IsAcceptableAhead p (ends_in p es) t → IsAcceptableAhead q (ends_in q es) t

@@ -2,7 +2,7 @@
 
 // Nothing is done here: a function's contract is the law, so a check of this crate proves it.
 
-ghost use Rattle.plan_revise.specs.RevisedLaw.{TheRunSoFarStays, NoCycleComes, NobodyElseIsLater, NoPartComesToAMachineThatIsDown, NoDeadlineComesSooner};
+ghost use Rattle.plan_revise.specs.RevisedLaw.{TheRunSoFarStays, NoCycleComes, NobodyElseIsLater, NoPartComesToAMachineThatIsDown, NoDeadlineComesSooner, AcceptedRestsStayAccepted};
 
 use control_laws::laws::a_kept_run_is_one_of_the_other_plan;
 
@@ -37,6 +37,13 @@ pub fn no_part_comes_to_a_machine_that_is_down()
 /// Where jobs are scrapped and machines are down alone, no deadline of a job that isn't put aside comes sooner.
 pub fn no_deadline_comes_sooner()
     ensures { NoDeadlineComesSooner }
+{
+    a_kept_run_is_one_of_the_other_plan();
+}
+
+/// Where jobs are scrapped and machines are down alone, a rest that is to be accepted stays so.
+pub fn accepted_rests_stay_accepted()
+    ensures { AcceptedRestsStayAccepted }
 {
     a_kept_run_is_one_of_the_other_plan();
 }
