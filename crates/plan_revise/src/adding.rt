@@ -37,8 +37,8 @@ impl Draft {
         ensures refused { IfErr result (Tells (IsAddFault run.now self.old words.now release budget)) }
     {
         let steps = steps_of(alloc, words)?;
-        let release = or_else(release, run.present());
-        let budget = or_else(budget, NO_PROMISE);
+        let release = given_or(release, run.present());
+        let budget = given_or(budget, NO_PROMISE);
         if let Err(fault) = self.check_job(run, &steps, release, budget) {
             return Err(Refusal::Fault(fault));
         }
@@ -96,14 +96,17 @@ fn steps_of(alloc: Global, words: &[u8]) -> Result<Vec<Step>, Refusal>
 {
     match read_route(alloc, words) {
         Ok(steps) => Ok(steps),
-        Err(OrFault::OddWords { line: _ }) => Err(Refusal::Fault(ChangeFault::OddWords)),
-        Err(OrFault::BadNumber { line: _, word: _ }) => Err(Refusal::Fault(ChangeFault::BadNumber)),
-        Err(_) => Err(Refusal::Memory),
+        Err(fault) => match fault {
+            OrFault::OddWords { line: _ } => Err(Refusal::Fault(ChangeFault::OddWords)),
+            OrFault::Memory => Err(Refusal::Memory),
+            // A line that can't be read has no other fault.
+            _ => Err(Refusal::Fault(ChangeFault::BadNumber)),
+        },
     }
 }
 
 /// What is given, or else this.
-fn or_else(given: Option<Moment>, moment: Moment) -> Moment
+fn given_or(given: Option<Moment>, moment: Moment) -> Moment
     ensures { result ≡ given_or given moment }
 {
     match given {

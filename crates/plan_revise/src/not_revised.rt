@@ -1,4 +1,5 @@
 use crate::change_fault::ChangeFault;
+use std::alloc::AllocError;
 use thiserror::Error;
 
 /// Why a run isn't revised. What was given is as it was.
@@ -10,4 +11,15 @@ pub enum NotRevised {
     /// Out of memory.
     #[error("Memory")]
     Memory,
+}
+
+impl From<AllocError> for NotRevised {
+    ghost use Rattle.std.specs.Prelude.{◌≡◌};
+    ghost use Rattle.plan_revise.specs.declared.not_revised.NotRevised.TheVariants.{Memory};
+
+    ghost from_gives = { λ _ answer. answer ≡ Memory };
+
+    fn from(_error: AllocError) -> NotRevised {
+        NotRevised::Memory
+    }
 }

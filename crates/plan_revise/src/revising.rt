@@ -33,7 +33,7 @@ pub fn revise<P: Planned>(
     let run = RunSoFar::of(cell, present);
     match Draft::of(alloc, cell.shaped()) {
         Ok(draft) => draft.revised_by(alloc, &run, changes),
-        Err(_) => Err(NotRevised::Memory),
+        Err(error) => Err(NotRevised::from(error)),
     }
 }
 
