@@ -1,0 +1,4 @@
+pub mod Turns
+pub mod WentOn
+pub mod GoingOn
+pub mod OneList

@@ -1,0 +1,61 @@
+//! The moves, one after the other.
+
+ghost use Rattle.std.specs.Prelude.{◌≡◌, IfOk, IfErr, OnOk};
+ghost use Rattle.alt_graph.specs.Solved.{HasCycle};
+ghost use Rattle.cell_control.specs.Begun.{IsRestFault};
+ghost use Rattle.plan_moves.specs.MovesFrom.{AreMovesFrom};
+ghost use Rattle.plan_moves.specs.NextReports.{IsOver};
+ghost use Rattle.plan_moves.specs.RunsOn.{RunsOn, IsOnTime};
+
+use crate::next_report::next_report;
+use cell_control::{Dues, RestController, RestFault, TourneyDues};
+use cell_tables::WorkCell;
+use shop_base::{Moment, MoveOrder, Shaped};
+use std::alloc::{AllocError, Global};
+
+/// The moves from a cell and a present moment on, where every report comes when its activity is due, and what is overdue
+/// at the present moment ends at it, in the order in which a controller gives them. Of reports at one moment that of the
+/// least job comes first, and behind those of all jobs that of the least machine that is being cleaned. They end with the
+/// latest moment that a report may have. The plan must have no cycle; budgets aren't asked for. Of a whole plan the cell
+/// is the start and the present moment 0.
+pub fn moves_from(
+    alloc: Global,
+    cell: WorkCell<Shaped>,
+    present: Moment,
+) -> Result<Vec<MoveOrder>, RestFault>
+    ensures moves { IfOk result (λ moves. AreMovesFrom cell.plan cell.cell present moves.items) }
+    ensures acyclic { OnOk result (HasCycle cell.plan → ⊥) }
+    ensures fault { IfErr result (IsRestFault cell.plan cell.cell present) }
+{
+    match RestController::<TourneyDues>::begin(alloc, cell, present) {
+        Ok(mut controller) => {
+            let mut moves = Vec::new(alloc);
+            moves.extend_from_slice(controller.orders())?;
+            run_on(&mut controller, present, &mut moves)?;
+            Ok(moves)
+        }
+        Err((fault, _cell)) => Err(fault),
+    }
+}
+
+/// Reports what comes next until nothing does, and adds the moves that are ordered.
+fn run_on<D: Dues>(
+    controller: &mut RestController<D>,
+    present: Moment,
+    moves: &mut Vec<MoveOrder>,
+) -> Result<(), AllocError>
+    requires { IsOnTime controller.old.planned present controller.old.cell }
+    ensures plan { controller.new.planned ≡ controller.old.planned }
+    ensures over { OnOk result (IsOver controller.new.planned present controller.new.cell) }
+    ensures runs { OnOk result (RunsOn controller.old.planned present controller.old.cell moves.old.items controller.new.cell moves.new.items) }
+{
+    'next: while let Some(report) = next_report(controller, present) {
+        // Called for its clause alone: the plan is well shaped, the cell sound and at rest.
+        let _plan = controller.shaped();
+        match controller.report(report) {
+            Ok(_ack) => moves.extend_from_slice(controller.orders())?,
+            Err(_fault) => unreachable!(),
+        }
+    }
+    Ok(())
+}
