@@ -13,7 +13,7 @@ returns-then-not-begins c =
     let within : m < length c.args.new.now = omega (arith, here, c.if-new-rows.false) in
     let olds : get_or (lists_of c.args.old.now) m [] ≡ c.deref.result.now = list_at c.args.old.now c.index-old-machine.result m inside c.index-old-machine.is ∙ sym c.deref.ensures.value in
     let news : get_or (lists_of c.args.new.now) m [] ≡ c.deref-in-loop-machine.result.now =
-          list_at c.args.new.now c.index-new-machine.result m within c.index-new-machine.is ∙ sym c.deref-in-loop-machine.ensures.value in (
+    list_at c.args.new.now c.index-new-machine.result m within c.index-new-machine.is ∙ sym c.deref-in-loop-machine.ensures.value in (
       λ bad. absurd (cc bad),
       λ begin. sym c.if-not-begins.true ∙ c.begins.ensures.1
           (subst (λ new. IsPrefix (take (get_or c.args.rows.now m no_row).entered c.deref.result.now) new) news
@@ -28,7 +28,7 @@ loop-machine-preserved c =
     let within : m < length c.args.new.now = omega (arith, here, c.if-new-rows.false) in
     let olds : get_or (lists_of c.args.old.now) m [] ≡ c.deref.result.now = list_at c.args.old.now c.index-old-machine.result m inside c.index-old-machine.is ∙ sym c.deref.ensures.value in
     let news : get_or (lists_of c.args.new.now) m [] ≡ c.deref-in-loop-machine.result.now =
-          list_at c.args.new.now c.index-new-machine.result m within c.index-new-machine.is ∙ sym c.deref-in-loop-machine.ensures.value in
+    list_at c.args.new.now c.index-new-machine.result m within c.index-new-machine.is ∙ sym c.deref-in-loop-machine.ensures.value in
     below_more (λ j. IsPrefix (take (get_or c.args.rows.now j no_row).entered (get_or (lists_of c.args.old.now) j [])) (get_or (lists_of c.args.new.now) j [])) m c.loop-machine.invariant
     (subst (λ old. IsPrefix (take (get_or c.args.rows.now m no_row).entered old) (get_or (lists_of c.args.new.now) m [])) (sym olds)
     (subst (λ new. IsPrefix (take (get_or c.args.rows.now m no_row).entered c.deref.result.now) new) (sym news) (c.begins.ensures.0 c.if-not-begins.false)))
