@@ -1,4 +1,4 @@
-use Rattle.plan_schedule.proofs.StartSchedule.{at_once}
+use Rattle.plan_verifier.proofs.AtStart.{at_once}
 use Rattle.command_answers.proofs.pictures.plan_drawn.Goals as goal
 
 pub rest_drawn-requires : goal.rest_drawn-requires
