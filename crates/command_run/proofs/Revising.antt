@@ -1,5 +1,5 @@
 -- The changes that are asked for, one more of them at a time.
-use Rattle.std.proofs.Common.{◌≡◌, ◌∙◌, ◌++◌, ◌+◌, ◌<◌, ℕ, List, [], ◌∷◌, ap, sym, subst, length, map, drop, get_or, append_assoc, add-one}
+use Rattle.std.proofs.Common.{◌≡◌, ◌∙◌, ◌++◌, ◌+◌, ◌<◌, ℕ, suc, List, [], ◌∷◌, ap, sym, subst, length, map, drop, get_or, append_assoc, add-one}
 use Rattle.std.specs.String.{string_bytes}
 use Rattle.std.specs.Borrow.{Bor}
 use Rattle.std.proofs.Math.Seq.{drop-cons}
@@ -10,7 +10,7 @@ use Rattle.command_run.specs.Revisions.{AreChangesOf, IsChangeOf, values_asked}
 
 module _ (asked : List AskedChange) (i : ℕ) (one : AskedChange) (inside : i < length asked) (is : one ≡ get_or asked i one) where
   there : drop i asked ≡ one ∷ drop (i + 1) asked
-  there = rw add-one (drop-cons asked i one inside ∙ ap (λ (x : AskedChange). x ∷ drop (i + 1) asked) (sym is))
+  there = rw add-one (drop-cons asked i one inside ∙ ap (λ (x : AskedChange). x ∷ drop (suc i) asked) (sym is))
 
   pub next_change : (old new : List Change) (change : Change) → new ≡ old ++ change ∷ [] → IsChangeOf (string_bytes one.value) one.kind change
       → ((rest : List Change) → AreChangesOf (drop i asked) rest → AreChangesOf asked (old ++ rest))
