@@ -144,14 +144,16 @@ fn bettered<T: Texts, S: Screen>(
 fn decided<T: Texts, S: Screen>(
     alloc: Global,
     chosen: &Chosen,
+    aim: Aim,
     texts: &mut T,
     screen: &mut S,
 ) -> Answered
     requires files { 1 < length chosen.now.files.items }
     requires at { IfSome chosen.now.at (λ present. present ≤ MAX_MOMENT) }
-    ensures { Decides T.gives (aim_in chosen.now) chosen.now.at (pair_in chosen.now) (log_in chosen.now) texts.old result texts.new }
+    ensures { Decides T.gives aim chosen.now.at (pair_in chosen.now) (log_in chosen.now) texts.old result texts.new }
 {
-    let (pair, aim, choices) = (pair(chosen), aim(chosen), chosen.choices);
+    let pair = pair(chosen);
+    let choices = chosen.choices;
     match rest_log(chosen) {
         Some(log) => {
             rest_decision_answer(alloc, texts, &pair, log, chosen.at, aim, choices, screen)
@@ -216,7 +218,7 @@ pub(crate) fn command<T: Texts, R: Source, W: Outlet, S: Screen>(
         CommandName::Bounds => bounds_answer(alloc, texts, &pair(chosen)),
         CommandName::Plan => seek_answer(alloc, texts, &pair(chosen), chosen.rounds),
         CommandName::Improve => bettered(alloc, chosen, texts, screen),
-        CommandName::Decide => decided(alloc, chosen, texts, screen),
+        CommandName::Decide => decided(alloc, chosen, aim(chosen), texts, screen),
         CommandName::Revise => {
             let (pair, log) = (pair(chosen), file(chosen, 2));
             let changes = chosen.changes.as_slice();
