@@ -10,7 +10,7 @@ ghost use Rattle.command_run.specs.Improvers.{Improves};
 ghost use Rattle.command_run.specs.Tellings.{RunsTelling};
 ghost use Rattle.command_run.specs.Program.{RunsCommand, aim_in, file_at, is_second, kept_log_in, log_in, manner_in, name_in, overall_aim, pair_in};
 
-use crate::choosers::{decision_answer, rest_decision_answer};
+use crate::choosers::decided_answer;
 use crate::devices::{Screen, Streams};
 use crate::drives::drive_answer;
 use crate::hubs::hub_answer;
@@ -152,14 +152,17 @@ fn decided<T: Texts, S: Screen>(
     requires at { IfSome chosen.now.at (λ present. present ≤ MAX_MOMENT) }
     ensures { Decides T.gives aim chosen.now.at (pair_in chosen.now) (log_in chosen.now) texts.old result texts.new }
 {
-    let pair = pair(chosen);
-    let choices = chosen.choices;
-    match rest_log(chosen) {
-        Some(log) => {
-            rest_decision_answer(alloc, texts, &pair, log, chosen.at, aim, choices, screen)
-        }
-        None => decision_answer(alloc, texts, &pair, aim, choices, screen),
-    }
+    let (pair, choices) = (pair(chosen), chosen.choices);
+    decided_answer(
+        alloc,
+        texts,
+        &pair,
+        rest_log(chosen),
+        chosen.at,
+        aim,
+        choices,
+        screen,
+    )
 }
 
 /// What is to be decided besides the budgets.
