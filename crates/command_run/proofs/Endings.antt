@@ -322,7 +322,7 @@ module _ {W : Type 0} (gives : W → List ℕ → Result (List ℕ) CommandFault
   ends_told outcome mid ran (inr good) = inr (good.0, inl good.1)
 
   -- of a command
-  command_told : (chosen : Chosen) (taken : reasons_in words ≡ []) (is : IsChoiceOf (found_in words) chosen) (outcome : Result Answer CommandFault) (mid : Streams)
+  command_told : (chosen : Chosen) (taken : reasons_in words ≡ []) (is : IsChoiceOf words (found_in words) chosen) (outcome : Result Answer CommandFault) (mid : Streams)
       → RunsChosen gives (kept_log_in chosen) chosen before outcome mid after end
       → EndsWellBy (draws_in chosen) outcome after.streams.output before.errors after.errors status → EndsAsTold gives words before status after end
   command_told chosen taken is outcome mid runs (inl well) = ends_told outcome mid (ran chosen taken is outcome mid runs) well
