@@ -504,7 +504,7 @@ class Run:
                 self.cut(cell)
                 cell, told = self.start(2 * number)
             self.floor.serve(cell, told, lambda: change.is_due(self.floor, told))
-            if self.floor.is_done(told):
+            if self.floor.is_done(told) and self.floor.places == told.places:
                 break
             cell.kill()
             now = self.hand_over(cell.log, change)
